@@ -46,13 +46,13 @@ impl Address {
 
     /// Reads a URL, as `../a?b`, with this address as its base; a fragment is dropped (URL Standard,
     /// section 4.4). [`AddressFault`] has the condition of each refusal.
-    pub fn join(&self, text: &str) -> Result<Address, AddressFault>
-        ensures { Gives result (join_address self.now text.now) }
+    pub fn join(&self, link: &str) -> Result<Address, AddressFault>
+        ensures { Gives result (join_address self.now link.now) }
     {
-        if text.len() > MAX_ADDRESS {
+        if link.len() > MAX_ADDRESS {
             return Err(AddressFault::TooLong);
         }
-        Address::from_url(self.url.join(text)?)
+        Address::from_url(self.url.join(link)?)
     }
 
     fn from_url(url: Url) -> Result<Address, AddressFault>
