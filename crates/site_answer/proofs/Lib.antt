@@ -1,2 +1,4 @@
 pub mod Splits
 pub mod FormLaws
+pub mod MapLaws
+pub mod ReadingLaws

@@ -9,11 +9,14 @@ mod fetcher;
 mod field;
 mod input_fault;
 mod outcome;
+mod reading;
 mod map_line;
+mod map_site;
 
 pub use answer::{Answer, Body};
 pub use edge::{Edge, EdgeKind, Edges};
 pub use fault_kind::FaultKind;
 pub use fetcher::{Ask, Fetcher};
 pub use input_fault::InputFault;
+pub use map_site::MapSite;
 pub use outcome::Outcome;
