@@ -2,3 +2,4 @@ pub mod Splits
 pub mod FormLaws
 pub mod MapLaws
 pub mod ReadingLaws
+pub mod MapReads

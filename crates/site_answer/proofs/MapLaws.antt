@@ -1,12 +1,7 @@
 -- What a map says once one more line is read.
-use Rattle.std.proofs.Common.{◌≡◌, ◌≢◌, ℕ, ◌+◌, ◌<◌, ◌≤◌, ◌⊎◌, ◌++◌, Bool, true, false, List, [], ◌∷◌, Option, Some, None, refl, sym, ap, ◌∙◌, inl, inr, append_assoc, arith, length, take, cond, IsTrue, IsSome}
-use Rattle.std.specs.List.{All, AllZip, slice_get}
-use Rattle.std.specs.Map.{lookup}
-use Rattle.std.specs.Str.{bytes_eq}
+use Rattle.std.proofs.Common.{◌≡◌, ◌≢◌, ℕ, ◌⊎◌, ◌++◌, true, false, List, [], ◌∷◌, Some, refl, sym, ap, ◌∙◌, inl, inr, append_assoc, IsTrue}
+use Rattle.std.specs.List.{All}
 use Rattle.std.proofs.lemmas.List.Elements.{All-nil, All-head, All-tail, All-push, All-pop}
-use Rattle.std.proofs.lemmas.Grind.{common_steps}
-use Rattle.site_answer.specs.declared.edge.Edge.{Edge}
-use Rattle.site_answer.specs.declared.outcome.Outcome.{Outcome}
 use Rattle.site_answer.specs.declared.outcome.Outcome.TheVariants.{Page, Moved, Leaf, Fault}
 use Rattle.site_answer.specs.Lines.{Statement, skipped, page, edge, moved, leaf, fault}
 use Rattle.site_answer.specs.Maps.{named, edges_below, answers_of, is_between, HasPage}
@@ -129,24 +124,24 @@ last_between : (above : List Statement) (s : Statement) (higher : List Statement
     → ((above ≡ higher) × (s ≡ p)) ⊎ ((front : List Statement) × (between ≡ front ++ s ∷ []) × (above ≡ higher ++ p ∷ front))
 last_between above s higher p between e =
     elim (snoc_view between) [
-      inl none ↦ inl (snoc_same above higher s p (e ∙ ap (λ l. higher ++ p ∷ l) none))
-    | inr some ↦
-        let h = snoc_same above (higher ++ p ∷ some.0) s some.1 (e ∙ ap (λ l. higher ++ p ∷ l) some.2 ∙ sym (append_assoc higher (p ∷ some.0) (some.1 ∷ []))) in
-        inr (some.0, some.2 ∙ ap (λ x. some.0 ++ x ∷ []) (sym h.1), h.0)
+      | inl none ↦ inl (snoc_same above higher s p (e ∙ ap (λ l. higher ++ p ∷ l) none))
+      | inr some ↦
+          let h = snoc_same above (higher ++ p ∷ some.0) s some.1 (e ∙ ap (λ l. higher ++ p ∷ l) some.2 ∙ sym (append_assoc higher (p ∷ some.0) (some.1 ∷ []))) in
+          inr (some.0, some.2 ∙ ap (λ x. some.0 ++ x ∷ []) (sym h.1), h.0)
     ]
 
 -- an edge line or a skipped line brings no page above
 pub was_above : (above : List Statement) (s : Statement) → is_between s ≡ true → HasPage (above ++ s ∷ []) → HasPage above
 was_above above s h (higher, status, text, between, e, all) =
     elim (last_between above s higher (page status text) between e) [
-      inl same ↦ absurd (let k = ap is_between same.1 in cc)
-    | inr some ↦ (higher, status, text, some.0, some.2, (All-pop (λ x. IsTrue (is_between x)) between some.0 (Some s) some.1 all).0)
+      | inl same ↦ absurd (let k = ap is_between same.1 in cc)
+      | inr some ↦ (higher, status, text, some.0, some.2, (All-pop (λ x. IsTrue (is_between x)) between some.0 (Some s) some.1 all).0)
     ]
 
 -- another line is a page line or ends the edges
 pub ends_above : (above : List Statement) (s : Statement) → is_between s ≡ false → ((status : ℕ) (text : List ℕ) → s ≢ page status text) → ¬ HasPage (above ++ s ∷ [])
 ends_above above s h other (higher, status, text, between, e, all) =
     elim (last_between above s higher (page status text) between e) [
-      inl same ↦ other status text same.1
-    | inr some ↦ let k = (All-pop (λ x. IsTrue (is_between x)) between some.0 (Some s) some.1 all).1 in cc
+      | inl same ↦ other status text same.1
+      | inr some ↦ let k = (All-pop (λ x. IsTrue (is_between x)) between some.0 (Some s) some.1 all).1 in cc
     ]

@@ -1,11 +1,10 @@
 -- What is kept stands for the lines so far, once one more line is taken.
-use Rattle.std.proofs.Common.{◌≡◌, ◌≢◌, ℕ, ◌⊎◌, ◌++◌, Bool, true, false, List, [], ◌∷◌, Option, Some, None, Result, Ok, Err, refl, sym, ap, ◌∙◌, inl, inr, append_assoc, cond, IsTrue, IsSome, is_some, MatchResult}
+use Rattle.std.proofs.Common.{◌≡◌, ◌≢◌, ℕ, ◌⊎◌, ◌++◌, Bool, true, false, List, [], ◌∷◌, Some, None, Result, Ok, Err, refl, sym, ap, ◌∙◌, inl, inr, append_assoc, cond, IsTrue, IsSome, is_some, MatchResult}
 use Rattle.std.specs.List.{All}
 use Rattle.std.specs.Map.{lookup}
 use Rattle.std.specs.Str.{bytes_eq}
-use Rattle.std.specs.Result.{is_ok, result_unwrap_or}
 use Rattle.std.proofs.lemmas.List.{append-nil}
-use Rattle.std.proofs.lemmas.List.Elements.{All-nil, All-cons, All-head, All-push}
+use Rattle.std.proofs.lemmas.List.Elements.{All-nil, All-cons, All-push}
 use Rattle.std.proofs.lemmas.Slice.Eq.{bytes_eq-Decides}
 use Rattle.address.specs.Address.{read_address}
 use Rattle.site_answer.specs.declared.edge.EdgeKind.{EdgeKind}
@@ -18,7 +17,7 @@ use Rattle.site_answer.specs.declared.input_fault.LineFault.TheVariants.{Line, A
 use Rattle.site_answer.specs.declared.reading.OpenPage.{OpenPage}
 use Rattle.site_answer.specs.declared.reading.Reading.{Reading}
 use Rattle.site_answer.specs.Lines.{Statement, skipped, page, edge, moved, leaf, fault}
-use Rattle.site_answer.specs.Maps.{named, edges_below, answers_of, is_between, HasPage, IsInPlace, IsNamed, IsAnswered, IsRepeated, IsGood, texts_of}
+use Rattle.site_answer.specs.Maps.{named, edges_below, answers_of, is_between, HasPage, IsInPlace, IsNamed, IsRepeated, IsGood, texts_of}
 use Rattle.site_answer.specs.Readings.{opened, answers_in, IsFresh, Tells, IsWrong, Takes}
 use Rattle.site_answer.proofs.MapLaws.{snoc_same, edges_below-go, answers_of-append, answers_of-skipped, answers_of-open, page_above, still_above, was_above, ends_above}
 
@@ -157,13 +156,14 @@ pub takes_answer : {U : Type 0} (old new : Reading) (r : Result U LineFault) (s 
     → is_between s ≡ false → ((status : ℕ) (text : List ℕ) → s ≢ page status text) → answers_of (s ∷ []) ≡ (address, x) ∷ []
     → ((above : List Statement) → IsInPlace above s) → All IsNamed (texts_of s)
     → (IsFresh old → MatchResult r
-        (λ _. (new.page ≡ None) × (new.answers.entries ≡ answers_in old ++ (address, x) ∷ []) × (lookup (bytes_eq address) (answers_in old) ≡ None))
-        (λ f. (f ≡ Memory) ⊎ ((f ≡ Line) × IsSome (lookup (bytes_eq address) (answers_in old)))))
+    (λ _. (new.page ≡ None) × (new.answers.entries ≡ answers_in old ++ (address, x) ∷ []) × (lookup (bytes_eq address) (answers_in old) ≡ None))
+    (λ f. (f ≡ Memory) ⊎ ((f ≡ Line) × IsSome (lookup (bytes_eq address) (answers_in old)))))
     → Takes old s r new
 takes_answer old new (Ok u) s address x apart other shape place all h = λ above t.
-    let k = h t.fresh in
-    (record { in_place = place above; are_named = all; is_new = not_repeated above s address x shape (rw t.stated k.2) },
-     took_answer old new above s address x apart other shape t k.0 k.1)
+    let k = h t.fresh in (
+      record { in_place = place above; are_named = all; is_new = not_repeated above s address x shape (rw t.stated k.2) },
+      took_answer old new above s address x apart other shape t k.0 k.1,
+    )
 takes_answer old new (Err f) s address x apart other shape place all h = λ above t.
     claimed above s address x f (place above) all shape (rw t.stated (h t.fresh))
 
@@ -171,41 +171,41 @@ takes_answer old new (Err f) s address x apart other shape place all h = λ abov
 pub takes_moved : {U : Type 0} (old new : Reading) (r : Result U LineFault) (status : ℕ) (text target address to : List ℕ)
     → read_address text ≡ Ok address → read_address target ≡ Ok to
     → (IsFresh old → MatchResult r
-        (λ _. (new.page ≡ None) × (new.answers.entries ≡ answers_in old ++ (address, Moved status to) ∷ []) × (lookup (bytes_eq address) (answers_in old) ≡ None))
-        (λ f. (f ≡ Memory) ⊎ ((f ≡ Line) × IsSome (lookup (bytes_eq address) (answers_in old)))))
+    (λ _. (new.page ≡ None) × (new.answers.entries ≡ answers_in old ++ (address, Moved status to) ∷ []) × (lookup (bytes_eq address) (answers_in old) ≡ None))
+    (λ f. (f ≡ Memory) ⊎ ((f ≡ Line) × IsSome (lookup (bytes_eq address) (answers_in old)))))
     → Takes old (moved status text target) r new
 takes_moved old new r status text target address to reads leads h =
     let a = names text address reads in
     let b = names target to leads in
     let shape : answers_of (moved status text target ∷ []) ≡ (address, Moved status to) ∷ [] = (let x = a.1 in let y = b.1 in cc) in
     takes_answer old new r (moved status text target) address (Moved status to) refl (λ st t e. cc) shape (λ above. tt)
-        (All-cons IsNamed text (target ∷ []) a.0 (All-cons IsNamed target [] b.0 (All-nil IsNamed))) h
+    (All-cons IsNamed text (target ∷ []) a.0 (All-cons IsNamed target [] b.0 (All-nil IsNamed))) h
 
 -- a leaf line
 pub takes_leaf : {U : Type 0} (old new : Reading) (r : Result U LineFault) (status : ℕ) (text address : List ℕ)
     → read_address text ≡ Ok address
     → (IsFresh old → MatchResult r
-        (λ _. (new.page ≡ None) × (new.answers.entries ≡ answers_in old ++ (address, Leaf status) ∷ []) × (lookup (bytes_eq address) (answers_in old) ≡ None))
-        (λ f. (f ≡ Memory) ⊎ ((f ≡ Line) × IsSome (lookup (bytes_eq address) (answers_in old)))))
+    (λ _. (new.page ≡ None) × (new.answers.entries ≡ answers_in old ++ (address, Leaf status) ∷ []) × (lookup (bytes_eq address) (answers_in old) ≡ None))
+    (λ f. (f ≡ Memory) ⊎ ((f ≡ Line) × IsSome (lookup (bytes_eq address) (answers_in old)))))
     → Takes old (leaf status text) r new
 takes_leaf old new r status text address reads h =
     let a = names text address reads in
     let shape : answers_of (leaf status text ∷ []) ≡ (address, Leaf status) ∷ [] = (let x = a.1 in cc) in
     takes_answer old new r (leaf status text) address (Leaf status) refl (λ st t e. cc) shape (λ above. tt)
-        (All-cons IsNamed text [] a.0 (All-nil IsNamed)) h
+    (All-cons IsNamed text [] a.0 (All-nil IsNamed)) h
 
 -- a fault line
 pub takes_fault : {U : Type 0} (old new : Reading) (r : Result U LineFault) (kind : FaultKind) (text address : List ℕ)
     → read_address text ≡ Ok address
     → (IsFresh old → MatchResult r
-        (λ _. (new.page ≡ None) × (new.answers.entries ≡ answers_in old ++ (address, Fault kind) ∷ []) × (lookup (bytes_eq address) (answers_in old) ≡ None))
-        (λ f. (f ≡ Memory) ⊎ ((f ≡ Line) × IsSome (lookup (bytes_eq address) (answers_in old)))))
+    (λ _. (new.page ≡ None) × (new.answers.entries ≡ answers_in old ++ (address, Fault kind) ∷ []) × (lookup (bytes_eq address) (answers_in old) ≡ None))
+    (λ f. (f ≡ Memory) ⊎ ((f ≡ Line) × IsSome (lookup (bytes_eq address) (answers_in old)))))
     → Takes old (fault kind text) r new
 takes_fault old new r kind text address reads h =
     let a = names text address reads in
     let shape : answers_of (fault kind text ∷ []) ≡ (address, Fault kind) ∷ [] = (let x = a.1 in cc) in
     takes_answer old new r (fault kind text) address (Fault kind) refl (λ st t e. cc) shape (λ above. tt)
-        (All-cons IsNamed text [] a.0 (All-nil IsNamed)) h
+    (All-cons IsNamed text [] a.0 (All-nil IsNamed)) h
 
 -- a page line that is taken is good
 pub good_page : (above : List Statement) (status : ℕ) (text address : List ℕ) → read_address text ≡ Ok address

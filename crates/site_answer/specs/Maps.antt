@@ -111,7 +111,7 @@ abbrev pub IsBadLine : List Statement → List ℕ → Type 0
 IsBadLine above line =
     ((s : Statement) → ¬ HasForm line s)
     ⊎ ((s : Statement) × HasForm line s × (¬ IsInPlace above s
-        ⊎ (IsInPlace above s × All IsNamed (texts_of s) × IsRepeated above s)))
+    ⊎ (IsInPlace above s × All IsNamed (texts_of s) × IsRepeated above s)))
 
 -- the line has its form and its place, and one of its addresses is refused
 abbrev pub IsBadAddress : List Statement → List ℕ → Type 0

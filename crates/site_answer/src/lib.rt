@@ -8,10 +8,10 @@ mod fault_kind;
 mod fetcher;
 mod field;
 mod input_fault;
-mod outcome;
-mod reading;
 mod map_line;
 mod map_site;
+mod outcome;
+mod reading;
 
 pub use answer::{Answer, Body};
 pub use edge::{Edge, EdgeKind, Edges};

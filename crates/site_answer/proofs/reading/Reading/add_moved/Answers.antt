@@ -17,4 +17,4 @@ returns-in_err-target c = λ above t.
 pub returns : goal.returns
 returns c =
     takes_moved c.args.self.now c.add_answer.new.self c.add_answer.result c.args.status c.args.text.now c.args.target.now
-        c.in_ok-address.address c.in_ok-target.target c.in_ok-address.ensures c.in_ok-target.ensures c.add_answer.ensures
+    c.in_ok-address.address c.in_ok-target.target c.in_ok-address.ensures c.in_ok-target.ensures c.add_answer.ensures

@@ -12,6 +12,7 @@ returns-in_err-claim c = λ above t.
 pub returns : goal.returns
 returns c = λ above t.
     let (closed, kept, none) = c.in_ok-claim.ensures t.fresh in
-    let reads = c.in_ok-address.ensures in
-    (good_page above c.args.status c.args.text.now c.in_ok-address.address reads (rw t.stated none),
-     took_page c.args.self.now _ above c.args.status c.args.text.now _ t reads none refl c.new.ensures.items refl kept)
+    let reads = c.in_ok-address.ensures in (
+      good_page above c.args.status c.args.text.now c.in_ok-address.address reads (rw t.stated none),
+      took_page c.args.self.now _ above c.args.status c.args.text.now _ t reads none refl c.new.ensures.items refl kept,
+    )
