@@ -1,16 +1,13 @@
 -- Lines of a map and what they say, so that a wrong form doesn't check; and that a line says one thing.
-use Rattle.std.proofs.Common.{◌≡◌, ℕ, ◌==◌, lit≤, Bool, true, false, cond, List, [], ◌∷◌, Option, Some, None, refl, sym, ap, ◌∙◌, inl, inr, lit<, slice_index, if◌then◌else◌}
+use Rattle.std.proofs.Common.{◌≡◌, ℕ, lit≤, List, [], ◌∷◌, Option, Some, None, refl, sym, ap, ◌∙◌, inl, if◌then◌else◌}
 use Rattle.std.specs.Prelude.{codes}
-use Rattle.std.specs.List.{slice_split, onto_first}
 use Rattle.std.specs.Option.{option_map}
 use Rattle.std.specs.Str.{bytes_eq}
-use Rattle.std.proofs.lemmas.Slice.Eq.{bytes_eq-Decides}
 use Rattle.site_answer.specs.declared.edge.EdgeKind.TheVariants.{Link, Inline, Redirect}
 use Rattle.site_answer.specs.declared.fault_kind.FaultKind.{FaultKind}
 use Rattle.site_answer.specs.declared.fault_kind.FaultKind.TheVariants.{Connect, Device, Ended, Head, HeadLong, Length, Coding, Chunk, BodyLong}
 use Rattle.site_answer.specs.FaultWords.{word_of}
-use Rattle.site_answer.specs.Lines.{Statement, skipped, page, edge, moved, leaf, fault, fields, three_digits, IsForm, IsSkipped, HasForm}
-use Rattle.site_answer.proofs.Splits.{slice_split-first_part}
+use Rattle.site_answer.specs.Lines.{Statement, skipped, page, edge, moved, leaf, fault, fields, three_digits, IsForm}
 
 -- each form, with one line that has it
 pub record AreForms : Type 0 where
