@@ -56,16 +56,16 @@ abbrev pub Claims : {U : Type 0} → Reading → List ℕ → Result U LineFault
 Claims old at result new =
     IsFresh old
     → MatchResult result
-        (λ _. (new.page ≡ None) × (new.answers.entries ≡ answers_in old) × (lookup (bytes_eq at) (answers_in old) ≡ None))
-        (IsTaken old at)
+    (λ _. (new.page ≡ None) × (new.answers.entries ≡ answers_in old) × (lookup (bytes_eq at) (answers_in old) ≡ None))
+    (IsTaken old at)
 
 -- the same, and this outcome is stated for it
 abbrev pub Adds : {U : Type 0} → Reading → List ℕ → Outcome → Result U LineFault → Reading → Type 0
 Adds old at x result new =
     IsFresh old
     → MatchResult result
-        (λ _. (new.page ≡ None) × (new.answers.entries ≡ answers_in old ++ (at, x) ∷ []) × (lookup (bytes_eq at) (answers_in old) ≡ None))
-        (IsTaken old at)
+    (λ _. (new.page ≡ None) × (new.answers.entries ≡ answers_in old ++ (at, x) ∷ []) × (lookup (bytes_eq at) (answers_in old) ≡ None))
+    (IsTaken old at)
 
 -- the line is taken below the lines so far, or is refused for what is wrong with it
 abbrev pub Takes : {U : Type 0} → Reading → Statement → Result U LineFault → Reading → Type 0

@@ -46,7 +46,10 @@ fn a_map_says_what_its_lines_say(rt: HostRuntime) -> Result<(), Fail> {
     let mut site = MapSite::read(alloc, SITE.as_bytes())?;
     for (at, outcome) in ANSWERS {
         let answer = asked(&mut site, alloc, at)?;
-        assert!(rt; format!(in alloc; "{:?}", answer.outcome)?.as_str() == outcome, "at {at}");
+        assert!(rt;
+            format!(in alloc; "{:?}", answer.outcome)?.as_str() == outcome,
+            "at {at}"
+        );
         assert!(rt; answer.body.as_slice().is_empty());
     }
     assert_eq!(rt; site.asks().len(), 7);
@@ -74,15 +77,27 @@ const BAD: [(&str, InputFault); 24] = [
     ("\u{feff}page 200 http://h/", InputFault::Line(1)),
     // out of place
     ("link http://h/a", InputFault::Line(1)),
-    ("page 200 http://h/\nleaf 200 http://h/a\nlink a", InputFault::Line(3)),
+    (
+        "page 200 http://h/\nleaf 200 http://h/a\nlink a",
+        InputFault::Line(3),
+    ),
     // a refused address
     ("leaf 200 https://h/", InputFault::Address(1)),
     ("page 200 ", InputFault::Address(1)),
     ("page 200 http://h/\n\ninline a", InputFault::Address(3)),
-    ("leaf 200 http://h/\nmoved 301 http://h/ a", InputFault::Address(2)),
+    (
+        "leaf 200 http://h/\nmoved 301 http://h/ a",
+        InputFault::Address(2),
+    ),
     // a repetition
-    ("page 200 http://h/\nlink http://h/\nleaf 200 HTTP://H", InputFault::Line(3)),
-    ("leaf 200 http://h/\nleaf 404 http://h/\nx\nleaf 200 a", InputFault::Line(2)),
+    (
+        "page 200 http://h/\nlink http://h/\nleaf 200 HTTP://H",
+        InputFault::Line(3),
+    ),
+    (
+        "leaf 200 http://h/\nleaf 404 http://h/\nx\nleaf 200 a",
+        InputFault::Line(2),
+    ),
 ];
 
 fn fault_of(alloc: Global, text: &[u8]) -> Option<InputFault> {
@@ -95,7 +110,10 @@ fn fault_of(alloc: Global, text: &[u8]) -> Option<InputFault> {
 #[test]
 fn the_first_bad_line_is_named(rt: HostRuntime) {
     for (text, fault) in BAD {
-        assert!(rt; fault_of(rt.alloc(), text.as_bytes()) == Some(fault), "{text}");
+        assert!(rt;
+            fault_of(rt.alloc(), text.as_bytes()) == Some(fault),
+            "{text}"
+        );
     }
     assert!(rt; fault_of(rt.alloc(), b"\n# \xff\n") == Some(InputFault::Line(2)));
     assert!(rt; fault_of(rt.alloc(), b"").is_none());
