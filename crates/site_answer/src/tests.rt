@@ -128,7 +128,7 @@ fn outcomes_are_the_same_where_all_parts_are(rt: HostRuntime) -> Result<(), Fail
         for (other, _) in ANSWERS {
             let copy = asked(&mut site, alloc, at)?.outcome.try_clone()?;
             let same = copy.same(&asked(&mut site, alloc, other)?.outcome);
-            assert!(rt; same == (at == other), "{at} {other}");
+            assert!(rt; same == (at == other));
         }
     }
     assert!(rt; FaultKind::of_word("body-long") == Some(FaultKind::BodyLong));
