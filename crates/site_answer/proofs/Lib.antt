@@ -1,0 +1,6 @@
+pub mod Splits
+pub mod FormLaws
+pub mod MapLaws
+pub mod ReadingLaws
+pub mod MapReads
+pub mod StandardFacts

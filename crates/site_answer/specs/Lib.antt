@@ -1,3 +1,9 @@
 pub mod FaultWords
 pub mod Outcomes
 pub mod Logs
+pub mod Lines
+pub mod Said
+pub mod Faults
+pub mod Maps
+pub mod Readings
+pub mod MapSites
