@@ -3,6 +3,8 @@ use Rattle.std.specs.Prelude.{ℕ, Bool, ◌||◌, List, [], ◌∷◌, if◌the
 use Rattle.std.specs.Str.{bytes_eq}
 use Rattle.html_links.specs.Pieces.{Attribute, Tag}
 use Rattle.html_links.specs.Markup.{start_tags}
+use Rattle.html_links.specs.declared.asked.AskedName.{AskedName}
+use Rattle.html_links.specs.declared.asked.AskedName.TheVariants.{Href, Src, Background, Rel, Name, Content}
 use Rattle.html_links.specs.Links.{is_embedded, is_painted}
 
 -- elements that a rule names: those of the link table, `base` and `meta`
@@ -16,6 +18,15 @@ abbrev pub is_asked_attribute : List ℕ → Bool
 is_asked_attribute name =
     bytes_eq name (codes "href") || bytes_eq name (codes "src") || bytes_eq name (codes "background")
     || bytes_eq name (codes "rel") || bytes_eq name (codes "name") || bytes_eq name (codes "content")
+
+-- their names
+abbrev pub asked_name : AskedName → List ℕ
+asked_name Href = codes "href"
+asked_name Src = codes "src"
+asked_name Background = codes "background"
+asked_name Rel = codes "rel"
+asked_name Name = codes "name"
+asked_name Content = codes "content"
 
 -- those of a tag's attributes that a rule names
 abbrev pub asked_attributes : List Attribute → List Attribute

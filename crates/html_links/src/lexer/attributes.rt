@@ -1,28 +1,15 @@
 //! Attributes of tags (HTML Standard, sections 13.2.5.32 to 13.2.5.39).
-ghost use Rattle.std.specs.Prelude.{◌≡◌, ◌&&◌, ℕ, List, [], ◌∷◌, ◌++◌, IfOk, OnOk, length, ◌≤◌};
+ghost use Rattle.std.specs.Prelude.{◌≡◌, ◌&&◌, false, MatchOption, ℕ, List, [], ◌∷◌, ◌++◌, IfOk, OnOk, length, ◌≤◌};
 ghost use Rattle.html_links.specs.Pieces.{from, is, ends_attribute_name, ends_bare_value};
-ghost use Rattle.html_links.specs.Asked.{is_asked_attribute};
+ghost use Rattle.html_links.specs.Asked.{is_asked_attribute, asked_name};
 
-use crate::bytes::{
-    Span, ends_attribute_name, ends_bare_value, is_name, is_quote, is_white, split_at_byte,
-};
+use crate::asked::AskedName;
+use crate::bytes::{Span, ends_attribute_name, ends_bare_value, is_quote, is_white, split_at_byte};
 use crate::lexer::tags::push_lower;
 use crate::lexer::{Lexer, Mode};
 use crate::tag::Attribute;
 use std::alloc::AllocError;
 use std::mem;
-
-/// Whether a rule asks for attributes of that name in lower case.
-fn is_asked_attribute(name: &[u8]) -> bool
-    ensures { result ≡ is_asked_attribute name.now }
-{
-    is_name(name, b"href")
-        || is_name(name, b"src")
-        || is_name(name, b"background")
-        || is_name(name, b"rel")
-        || is_name(name, b"name")
-        || is_name(name, b"content")
-}
 
 impl Lexer {
     ghost use Rattle.html_links.specs.Markup.{attributes, value_behind, with_attribute};
@@ -60,13 +47,18 @@ impl Lexer {
     fn settle_attribute(&mut self)
         ensures { (rest : List ℕ) → tags_with self.old self.old.attributes.items (with_attribute self.old.attribute.items (value_behind rest) attributes) ≡ after_attribute_name self.new rest }
     {
-        self.keeps = self.asks_for_attribute();
+        self.keeps = self.asked_attribute();
     }
 
-    fn asks_for_attribute(&self) -> bool
-        ensures { result ≡ (self.now.asked && is_asked_attribute self.now.attribute.items) }
+    /// The attribute that is being read, where a rule asks for it.
+    fn asked_attribute(&self) -> Option<AskedName>
+        ensures { MatchOption result ((self.now.asked && is_asked_attribute self.now.attribute.items) ≡ false) (λ n. self.now.attribute.items ≡ asked_name n) }
     {
-        self.asked && is_asked_attribute(&self.attribute)
+        if self.asked {
+            AskedName::named(&self.attribute)
+        } else {
+            None
+        }
     }
 
     pub(crate) fn attribute_name_run<'a>(&mut self, text: &'a [u8]) -> Result<&'a [u8], AllocError>
@@ -164,7 +156,7 @@ impl Lexer {
         ensures same { OnOk result (self.new ≡ record self.old { value = self.new.value }) }
         ensures kept { OnOk result ((value : List ℕ) → kept_with self.old (self.new.value.items ++ value) ≡ kept_with self.old (self.old.value.items ++ (bytes.now ++ value))) }
     {
-        if self.keeps {
+        if self.keeps.is_some() {
             self.value.extend_from_slice(bytes)?;
         }
         Ok(())
@@ -174,8 +166,7 @@ impl Lexer {
     fn end_attribute(&mut self) -> Result<(), AllocError>
         ensures { OnOk result (HasRead self.old self.old.value.items self.new) }
     {
-        if self.keeps {
-            let name = mem::replace(&mut self.attribute, Vec::new(self.alloc));
+        if let Some(name) = self.keeps {
             let value = mem::replace(&mut self.value, Vec::new(self.alloc));
             self.attributes.push(Attribute { name, value })?;
         }

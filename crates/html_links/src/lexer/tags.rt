@@ -1,11 +1,11 @@
 //! Names and ends of tags (HTML Standard, sections 13.2.5.6 to 13.2.5.8).
 ghost use Rattle.std.specs.Prelude.{◌≡◌, ℕ, List, ◌∷◌, ◌++◌, IfOk, OnOk, length, ◌≤◌};
 ghost use Rattle.html_links.specs.Pieces.{from, lower, ends_tag_name};
-ghost use Rattle.html_links.specs.Asked.{is_asked_element, asked_tags};
+ghost use Rattle.html_links.specs.Asked.{asked_tags};
 
-use crate::bytes::{Span, ends_tag_name, is_name};
+use crate::asked::is_asked_element;
+use crate::bytes::{Span, ends_tag_name};
 use crate::lexer::{Lexer, Mode};
-use crate::links::{is_embedded, is_painted};
 use crate::raw_element::RawElement;
 use std::alloc::AllocError;
 
@@ -17,19 +17,6 @@ pub(crate) fn push_lower(name: &mut Vec<u8>, text: &[u8]) -> Result<(), AllocErr
         name.push(byte.to_ascii_lowercase())?;
     }
     Ok(())
-}
-
-/// Whether a rule asks for elements of that name in lower case.
-fn is_asked_element(name: &[u8]) -> bool
-    ensures { result ≡ is_asked_element name.now }
-{
-    is_name(name, b"a")
-        || is_name(name, b"area")
-        || is_name(name, b"link")
-        || is_name(name, b"base")
-        || is_name(name, b"meta")
-        || is_embedded(name)
-        || is_painted(name)
 }
 
 impl Lexer {
