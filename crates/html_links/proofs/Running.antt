@@ -2,9 +2,9 @@
 use Rattle.std.proofs.Common.{◌≡◌, ℕ, ◌<◌, zero, suc, Bool, true, false, List, [], ◌∷◌, ◌++◌, length, take, drop, drop-cons, take-suc, get_or, if◌then◌else◌, ◌==◌, refl, sym, ◌∙◌, ap, arith, append_assoc, append-nil}
 use Rattle.memchr.specs.Find.{Nowhere, is_byte, Passes}
 use Rattle.html_links.specs.Pieces.{until, from, beyond, lower, is, ends_tag_name, ends_attribute_name, ends_bare_value}
-use Rattle.html_links.specs.Markup.{beyond_comment, start_tag, attributes, value_behind, with_attribute}
+use Rattle.html_links.specs.Markup.{Value, beyond_comment, start_tag, attributes, value_behind}
 use Rattle.html_links.specs.Asked.{asked_tags}
-use Rattle.html_links.specs.Lexing.{tags_after, tags_with, kept_with, in_tag_name, in_attribute_name, in_quoted_value, in_bare_value, in_raw_text}
+use Rattle.html_links.specs.Lexing.{tags_after, tags_with, kept_with, with_named, in_tag_name, in_attribute_name, in_quoted_value, in_bare_value, in_raw_text}
 use Rattle.html_links.specs.declared.lexer.Lexer.{Lexer}
 use Rattle.html_links.specs.declared.raw_element.RawElement.{RawElement}
 use Rattle.std.proofs.lemmas.Bool.Decides.{nat_tests}
@@ -126,12 +126,16 @@ tag_name_over name text rest =
     ap (λ n. tags_after (start_tag n (attributes (from ends_tag_name (text ++ rest))))) (name_over ends_tag_name name text rest)
     ∙ ap (λ t. tags_after (start_tag ((name ++ lower (until ends_tag_name text)) ++ lower (until ends_tag_name (from ends_tag_name text ++ rest))) (attributes t))) (from_over ends_tag_name text rest)
 
-pub attribute_name_over : (l : Lexer) (text rest : List ℕ)
-    → in_attribute_name l (text ++ rest)
-    ≡ tags_with l l.attributes.items (with_attribute ((l.attribute.items ++ lower (until ends_attribute_name text)) ++ lower (until ends_attribute_name (from ends_attribute_name text ++ rest))) (value_behind (from ends_attribute_name (from ends_attribute_name text ++ rest))) attributes)
-attribute_name_over l text rest =
-    ap (λ n. tags_with l l.attributes.items (with_attribute n (value_behind (from ends_attribute_name (text ++ rest))) attributes)) (name_over ends_attribute_name l.attribute.items text rest)
-    ∙ ap (λ t. tags_with l l.attributes.items (with_attribute ((l.attribute.items ++ lower (until ends_attribute_name text)) ++ lower (until ends_attribute_name (from ends_attribute_name text ++ rest))) (value_behind t) attributes)) (from_over ends_attribute_name text rest)
+pub attribute_name_over : (l new : Lexer) (text rest : List ℕ) → new ≡ record l { attribute = new.attribute }
+    → ((name : List ℕ) (found : Value) → with_named l (new.attribute.items ++ name) found ≡ with_named l (l.attribute.items ++ (lower (until ends_attribute_name text) ++ name)) found)
+    → in_attribute_name l (text ++ rest) ≡ in_attribute_name new (from ends_attribute_name text ++ rest)
+attribute_name_over l new text rest same named =
+    let left = from ends_attribute_name text ++ rest in
+    let more = lower (until ends_attribute_name left) in
+    ap (λ n. with_named l n (value_behind (from ends_attribute_name (text ++ rest)))) (name_over ends_attribute_name l.attribute.items text rest ∙ append_assoc l.attribute.items (lower (until ends_attribute_name text)) more)
+    ∙ ap (λ t. with_named l (l.attribute.items ++ (lower (until ends_attribute_name text) ++ more)) (value_behind t)) (from_over ends_attribute_name text rest)
+    ∙ sym (named more (value_behind (from ends_attribute_name left)))
+    ∙ ap (λ (to : Lexer). with_named to (new.attribute.items ++ more) (value_behind (from ends_attribute_name left))) (sym same)
 
 -- a value goes on, as far as it is kept
 pub quoted_over : (quote : ℕ) (l new : Lexer) (text rest : List ℕ) → new ≡ record l { value = new.value }

@@ -1,6 +1,6 @@
 //! Attributes of tags (HTML Standard, sections 13.2.5.32 to 13.2.5.39).
 ghost use Rattle.std.specs.Prelude.{◌≡◌, ◌&&◌, false, MatchOption, ℕ, List, [], ◌∷◌, ◌++◌, IfOk, OnOk, length, ◌≤◌};
-ghost use Rattle.html_links.specs.Pieces.{from, is, ends_attribute_name, ends_bare_value};
+ghost use Rattle.html_links.specs.Pieces.{from, is, lower, ends_attribute_name, ends_bare_value};
 ghost use Rattle.html_links.specs.Asked.{is_asked_attribute, asked_name};
 
 use crate::asked::AskedName;
@@ -12,8 +12,8 @@ use std::alloc::AllocError;
 use std::mem;
 
 impl Lexer {
-    ghost use Rattle.html_links.specs.Markup.{attributes, value_behind, with_attribute};
-    ghost use Rattle.html_links.specs.Lexing.{HasRead, Gives, Leaves, tags_with, kept_with, before_attribute, in_attribute_name, after_attribute_name, before_value, in_quoted_value, in_bare_value};
+    ghost use Rattle.html_links.specs.Markup.{Value, attributes, value_behind, with_attribute};
+    ghost use Rattle.html_links.specs.Lexing.{HasRead, Gives, Leaves, with_named, tags_with, kept_with, before_attribute, in_attribute_name, after_attribute_name, before_value, in_quoted_value, in_bare_value};
 
     pub(crate) fn before_attribute(&mut self, byte: u8) -> Result<bool, AllocError>
         ensures { IfOk result (λ ends. Gives (before_attribute self.old) byte ends self.new) }
@@ -26,7 +26,7 @@ impl Lexer {
             return Ok(false);
         }
         self.attribute.clear();
-        self.attribute.push(byte.to_ascii_lowercase())?;
+        self.push_name(&[byte])?;
         self.mode = Mode::AttributeName;
         Ok(false)
     }
@@ -38,9 +38,20 @@ impl Lexer {
             self.settle_attribute();
             return self.after_attribute_name(byte);
         }
-        self.attribute.push(byte.to_ascii_lowercase())?;
+        self.push_name(&[byte])?;
         self.mode = Mode::AttributeName;
         Ok(false)
+    }
+
+    /// Puts bytes to the attribute's name, in a tag that a rule asks for.
+    fn push_name(&mut self, bytes: &[u8]) -> Result<(), AllocError>
+        ensures same { OnOk result (self.new ≡ record self.old { attribute = self.new.attribute }) }
+        ensures named { OnOk result ((name : List ℕ) → (found : Value) → with_named self.old (self.new.attribute.items ++ name) found ≡ with_named self.old (self.old.attribute.items ++ (lower bytes.now ++ name)) found) }
+    {
+        if self.asked {
+            push_lower(&mut self.attribute, bytes)?;
+        }
+        Ok(())
     }
 
     /// Settles behind the name of an attribute whether it is kept.
@@ -66,7 +77,7 @@ impl Lexer {
         ensures shorter { IfOk result (λ left. length left.now ≤ length text.now) }
     {
         let (name, left) = Span::AttributeName.split(text);
-        push_lower(&mut self.attribute, name)?;
+        self.push_name(name)?;
         self.mode = Mode::AttributeName;
         Ok(left)
     }
