@@ -15,6 +15,7 @@ impl fmt::Display for Memory {
 
 impl Error for Memory {}
 
+/// What `?` makes of a refused growth.
 impl From<AllocError> for Memory {
     fn from(_e: AllocError) -> Memory {
         Memory
