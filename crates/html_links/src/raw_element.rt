@@ -1,4 +1,4 @@
-//! Elements whose content is text (HTML Standard, sections 13.1.2.3 and 13.1.2.4).
+//! Elements whose content is text: raw text and escapable raw text (HTML Standard, sections 13.1.2 and 13.1.2.6).
 ghost use Rattle.std.specs.Prelude.{◌≡◌, false, MatchOption};
 ghost use Rattle.html_links.specs.Markup.{is_raw, closing_text};
 ghost use Rattle.html_links.specs.Lexing.{raw_name};
