@@ -1,7 +1,8 @@
 //! Paths and patterns in normal form, octet by octet.
-ghost use Rattle.std.specs.Prelude.{◌≡◌, ◌++◌, ◌∷◌, [], ℕ, Bool, List, ◌<◌};
-ghost use Rattle.robots_rules.specs.Octets.{normal, SplitsEscape, escape_if, is_unreserved, is_escaped};
+ghost use Rattle.std.specs.Prelude.{◌≡◌, ◌++◌, ◌∷◌, [], ℕ, Bool, List, ◌<◌, ◌≤◌, length, take, IfSome, IfNone};
+ghost use Rattle.robots_rules.specs.Octets.{normal, normal_path, SplitsEscape, escape_if, is_unreserved, is_escaped};
 
+use part_match::Text;
 use percent_encoding::percent_encode_byte;
 
 /// A path or a pattern in normal form: `ready`, and then the normal form of `rest`.
@@ -38,7 +39,7 @@ impl<'a> NormalText<'a> {
     }
 }
 
-impl part_match::Text for NormalText<'_> {
+impl Text for NormalText<'_> {
     ghost use Rattle.robots_rules.specs.NormalTextView.{octets_of_text};
 
     ghost octets = { octets_of_text };
@@ -110,4 +111,25 @@ fn is_escaped(in_path: bool, octet: u8) -> bool
     ensures { result ≡ is_escaped in_path octet }
 {
     octet >= 128 || octet == b'$' || in_path && octet == b'*'
+}
+
+/// How many octets of a path in normal form are kept at hand: three for each byte of an address of 8,192 bytes.
+pub(crate) const PATH_OCTETS: usize = 24_576;
+
+/// Writes a path in normal form into the buffer and gives its length, or `None` where it is longer than the buffer.
+pub(crate) fn write_path(buffer: &mut [u8], path: &str) -> Option<usize>
+    ensures written { IfSome result (λ len. (len ≤ length buffer.new) × (take len buffer.new ≡ normal_path path.now)) }
+    ensures longer { IfNone result (length buffer.old < length (normal_path path.now)) }
+{
+    let mut rest = NormalText::path(path);
+    let mut len = 0;
+    while let Some((octet, behind)) = rest.split_first() {
+        if len == buffer.len() {
+            return None;
+        }
+        buffer[len] = octet;
+        len += 1;
+        rest = behind;
+    }
+    Some(len)
 }

@@ -1,10 +1,9 @@
 //! A rule of a robots file (RFC 9309, section 2.2.2).
 ghost use Rattle.std.specs.Prelude.{◌≡◌, ◌↔◌, IsTrue};
-ghost use Rattle.robots_rules.specs.Octets.{normal_path};
 ghost use Rattle.robots_rules.specs.Access.{RulesAllow, rules_allow};
 
-use crate::octets::NormalText;
 use crate::pattern::{Part, kept_parts, normal_of};
+use part_match::Text;
 use std::alloc::{AllocError, Global};
 use std::marker::Model;
 
@@ -31,8 +30,7 @@ impl Model for Rule {
 
 impl Rule {
     ghost use Rattle.std.specs.Prelude.{◌≡◌, ◌↔◌, ◌==◌, ◌||◌, ◌&&◌, IsTrue, IfOk, length};
-    ghost use Rattle.robots_rules.specs.Octets.{normal_path};
-    ghost use Rattle.robots_rules.specs.Access.{Applies};
+        ghost use Rattle.robots_rules.specs.Access.{Applies};
     ghost use Rattle.robots_rules.specs.Groups.{rule_of};
 
     /// The rule that a line with this pattern states.
@@ -61,10 +59,11 @@ impl Rule {
         self.allows || is_allowed && self.octets() == longest
     }
 
-    fn applies(&self, path: &str) -> bool
-        ensures { IsTrue result ↔ Applies (normal_path path.now) self.now }
+    /// Whether the rule speaks of a path in normal form.
+    fn applies<T: Text>(&self, path: T) -> bool
+        ensures { IsTrue result ↔ Applies (T.octets path) self.now }
     {
-        0 < self.octets() && part_match::matches(&self.parts, NormalText::path(path))
+        0 < self.octets() && part_match::matches(&self.parts, path)
     }
 
     pub(crate) fn same(&self, other: &Rule) -> bool
@@ -84,16 +83,16 @@ impl Rule {
     }
 }
 
-/// Whether no rule applies, or an allow is among the longest that do.
-pub(crate) fn rules_allow(rules: &[Rule], path_query: &str) -> bool
-    ensures value { result ≡ rules_allow rules.now (normal_path path_query.now) }
-    ensures allowed { IsTrue result ↔ RulesAllow rules.now (normal_path path_query.now) }
+/// Whether no rule applies to a path in normal form, or an allow is among the longest that do.
+pub(crate) fn rules_allow<T: Text>(rules: &[Rule], path: T) -> bool
+    ensures value { result ≡ rules_allow rules.now (T.octets path) }
+    ensures allowed { IsTrue result ↔ RulesAllow rules.now (T.octets path) }
 {
     let mut longest = 0;
     let mut is_allowed = true;
     for rule in rules {
         let octets = rule.octets();
-        if longest <= octets && rule.applies(path_query) {
+        if longest <= octets && rule.applies(path) {
             is_allowed = rule.decides(longest, is_allowed);
             longest = octets;
         }

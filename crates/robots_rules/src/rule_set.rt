@@ -4,6 +4,7 @@ ghost use Rattle.robots_rules.specs.Groups.{rules_in};
 
 use crate::groups::rules_for_us;
 use crate::lines::lines_in;
+use crate::octets::{NormalText, PATH_OCTETS, write_path};
 use crate::rule::{Rule, rules_allow};
 use std::alloc::{AllocError, Global};
 use std::marker::Model;
@@ -70,7 +71,15 @@ impl RuleSet {
         ensures value { result ≡ is_allowed self.now path_query.now }
         ensures allowed { IsTrue result ↔ IsAllowed self.now path_query.now }
     {
-        !self.is_closed() && rules_allow(self.rules(), path_query)
+        if self.is_closed() {
+            return false;
+        }
+        // Each rule reads the path anew, so its normal form is written once where it fits.
+        let mut buffer = [0; PATH_OCTETS];
+        match write_path(&mut buffer, path_query) {
+            Some(len) => rules_allow(self.rules(), &buffer[..len]),
+            None => rules_allow(self.rules(), NormalText::path(path_query)),
+        }
     }
 
     /// Whether both have the same rules in the same order, or both allow everything or nothing outright.

@@ -8,8 +8,8 @@ use Rattle.robots_rules.proofs.rule.rules_allow.Goals as goal
 use Rattle.robots_rules.proofs.rule.rules_allow.Goals.{then-longest-octets+then-applies, else-longest-octets, else-longest-octets-via-then-longest-octets+else-applies, else-longest-octets-via-else-longest-octets}
 
 pub loop-rule-preserved : goal.loop-rule-preserved
-loop-rule-preserved c =
-    let text = normal_path c.args.path_query.now in
+loop-rule-preserved g c =
+    let text = g.T.Text.octets c.args.path in
     let rs = c.args.rules.now in
     let i = c.loop-rule.rule-index in
     let item = c.rule-item.result in
@@ -37,8 +37,8 @@ loop-rule-preserved c =
     ])
 
 pub returns : goal.returns
-returns c =
-    let text = normal_path c.args.path_query.now in
+returns g c =
+    let text = g.T.Text.octets c.args.path in
     let whole : take c.loop-rule.rule-index c.args.rules.now ≡ c.args.rules.now = take_all _ _ (omega arith) in
     let allowed : IsTrue c.loop-rule.is_allowed ↔ RulesAllow c.args.rules.now text =
     RulesAllow_from text c.args.rules.now c.loop-rule.longest c.loop-rule.is_allowed (rw (← whole) c.loop-rule.invariant) in

@@ -9,13 +9,12 @@ use Rattle.robots_rules.proofs.AccessLemmas.{applies_by_value}
 use Rattle.robots_rules.proofs.rule.Rule.applies.Goals as goal
 
 pub returns-then-octets-gt0 : goal.returns-then-octets-gt0
-returns-then-octets-gt0 c =
-    let text = normal_path c.args.path.now in
+returns-then-octets-gt0 g c =
+    let text = g.T.Text.octets c.args.path in
     let pattern : c.self.inside.pattern.items ≡ c.args.self.now.pattern = ap (λ (r : RuleValue). r.pattern) c.self.view_is in
     let kept : c.self.inside.parts.items ≡ kept_parts c.self.inside.pattern.items = c.self.invariant in
     let value : c.matches.result ≡ is_match is_run takes (parts_of c.args.self.now.pattern) text =
     c.matches.ensures.value
-    ∙ ap (is_match is_run takes c.deref.result.now) c.path.ensures
     ∙ ap (λ ps. is_match is_run takes ps text) (c.deref.ensures.value ∙ kept)
     ∙ kept_matches c.self.inside.pattern.items text
     ∙ ap (λ p. is_match is_run takes (parts_of p) text) pattern in
