@@ -30,7 +30,7 @@ impl Model for Rule {
 
 impl Rule {
     ghost use Rattle.std.specs.Prelude.{◌≡◌, ◌↔◌, ◌==◌, ◌||◌, ◌&&◌, IsTrue, IfOk, length};
-        ghost use Rattle.robots_rules.specs.Access.{Applies};
+    ghost use Rattle.robots_rules.specs.Access.{Applies};
     ghost use Rattle.robots_rules.specs.Groups.{rule_of};
 
     /// The rule that a line with this pattern states.
