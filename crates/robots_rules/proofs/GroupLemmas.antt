@@ -1,8 +1,8 @@
 -- Groups, read from the front.
-use Rattle.std.proofs.Common.{◌≡◌, ℕ, Bool, true, false, not, cond, ◌&&◌, ◌||◌, List, [], ◌∷◌, ◌++◌, sym, refl, ap, ◌∙◌}
+use Rattle.std.proofs.Common.{◌≡◌, ℕ, ◌≤◌, map, length, arith, Bool, true, false, not, cond, ◌&&◌, ◌||◌, List, [], ◌∷◌, ◌++◌, sym, refl, ap, ◌∙◌}
 use Rattle.std.specs.List.{list_any, flat_map, filter}
 use Rattle.robots_rules.specs.Lines.{Line, agent, rule, RuleLine}
-use Rattle.robots_rules.specs.Groups.{Group, Groups, joined, with_agent, groups_of, rules_naming}
+use Rattle.robots_rules.specs.Groups.{Group, Groups, joined, with_agent, groups_of, rules_naming, lines_of_group, EachStands, AreGroups}
 
 -- the rules behind a user agent that passes: whether one did in this group, and whether a rule stood since
 unfoldable pub collect : (List ℕ → Bool) → Bool → Bool → List Line → List RuleLine
@@ -151,3 +151,37 @@ some_agent-groups names (agent name ∷ agent next ∷ lines) =
 some_agent-groups names (agent name ∷ rule stated ∷ lines) =
     ap (λ b. names name || b) (some_agent-groups names (rule stated ∷ lines)) ∙ ap (λ b. b || some_group names (groups_of (rule stated ∷ lines)).groups) (sym (or_false (names name)))
 some_agent-groups names (rule stated ∷ lines) = some_agent-groups names lines
+
+-- ---- the groups are the lines
+
+joined-lines : (name : List ℕ) (groups : List Group) → flat_map lines_of_group (joined name groups) ≡ agent name ∷ flat_map lines_of_group groups
+unfolding joined
+joined-lines name [] = refl
+joined-lines name (group ∷ groups) = refl
+
+joined-stands : (name : List ℕ) (groups : List Group) → EachStands groups → EachStands (joined name groups)
+unfolding joined
+joined-stands name [] stand = omega arith
+joined-stands name (group ∷ []) stand = omega arith
+joined-stands name (group ∷ next ∷ groups) stand = (omega arith, stand.1, stand.2)
+
+one_more_stands : (group : Group) (groups : List Group) → 1 ≤ length group.agents → 1 ≤ length group.rules → EachStands groups → EachStands (group ∷ groups)
+one_more_stands group [] named ruled stand = named
+one_more_stands group (next ∷ groups) named ruled stand = (named, ruled, stand)
+
+-- every list of lines is read into its groups
+pub groups_read : (lines : List Line) → AreGroups lines (groups_of lines)
+unfolding groups_of with_agent
+groups_read [] = record { whole = refl; stand = tt }
+groups_read (rule stated ∷ lines) = let rest = groups_read lines in record { whole = ap (λ ls. rule stated ∷ ls) rest.whole; stand = rest.stand }
+groups_read (agent name ∷ []) = record { whole = refl; stand = omega arith }
+groups_read (agent name ∷ agent next ∷ lines) =
+    let rest = groups_read (agent next ∷ lines) in
+    let groups = (groups_of (agent next ∷ lines)).groups in
+    let alone : agent next ∷ lines ≡ flat_map lines_of_group groups = rest.whole ∙ ap (λ strays. map rule strays ++ flat_map lines_of_group groups) (strays_of_agent next lines) in
+    record { whole = ap (λ ls. agent name ∷ ls) alone ∙ sym (joined-lines name groups); stand = joined-stands name groups rest.stand }
+groups_read (agent name ∷ rule stated ∷ lines) =
+    let rest = groups_read (rule stated ∷ lines) in
+    let read = groups_of (rule stated ∷ lines) in
+    let group : Group = record { agents = name ∷ []; rules = read.strays } in
+    record { whole = ap (λ ls. agent name ∷ ls) rest.whole; stand = one_more_stands group read.groups (omega arith) (omega arith) rest.stand }

@@ -3,3 +3,4 @@ pub mod LinesLemmas
 pub mod Runs
 pub mod AccessLemmas
 pub mod GroupLemmas
+mod StandardFacts

@@ -1,5 +1,5 @@
 -- Which groups of a robots file speak to this agent (RFC 9309, section 2.2.1).
-use Rattle.std.specs.Prelude.{ℕ, Bool, false, not, ◌&&◌, ◌||◌, ◌==◌, List, [], ◌∷◌, map, filter, codes, if◌then◌else◌}
+use Rattle.std.specs.Prelude.{◌≡◌, ⊤, ◌≤◌, ◌++◌, length, ℕ, Bool, false, not, ◌&&◌, ◌||◌, ◌==◌, List, [], ◌∷◌, map, filter, codes, if◌then◌else◌}
 use Rattle.std.specs.List.{before_first, list_any, flat_map}
 use Rattle.std.specs.Str.{bytes_eq}
 use Rattle.std.specs.Char.{is_ascii_alphabetic}
@@ -34,6 +34,21 @@ unfoldable pub groups_of : List Line → Groups
 groups_of [] = record { strays = []; groups = [] }
 groups_of (agent name ∷ lines) = with_agent name lines (groups_of lines)
 groups_of (rule stated ∷ lines) = let rest = groups_of lines in record { strays = stated ∷ rest.strays; groups = rest.groups }
+
+-- the lines of a group: its user agents, and then its rules
+abbrev pub lines_of_group : Group → List Line
+lines_of_group group = map agent group.agents ++ map rule group.rules
+
+-- each group has a user agent, and each but the last has a rule
+abbrev pub EachStands : List Group → Type 0
+EachStands [] = ⊤
+EachStands (group ∷ []) = 1 ≤ length group.agents
+EachStands (group ∷ next ∷ groups) = (1 ≤ length group.agents) × (1 ≤ length group.rules) × EachStands (next ∷ groups)
+
+-- the lines are rules in no group, and then one group after another (section 2.2, robotstxt)
+pub record AreGroups (lines : List Line) (read : Groups) : Type 0 where
+  pub whole : lines ≡ map rule read.strays ++ flat_map lines_of_group read.groups
+  pub stand : EachStands read.groups
 
 -- ---- this agent
 

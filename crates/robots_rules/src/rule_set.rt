@@ -1,6 +1,7 @@
 //! The rules of one origin that speak to this agent (RFC 9309, section 2.2).
 ghost use Rattle.std.specs.Prelude.{◌≡◌, ◌↔◌, IsTrue, IfOk};
-ghost use Rattle.robots_rules.specs.Groups.{rules_in};
+ghost use Rattle.robots_rules.specs.Groups.{AreGroups, groups_of, rules_in};
+ghost use Rattle.robots_rules.specs.Lines.{lines_in};
 
 use crate::groups::rules_for_us;
 use crate::lines::lines_in;
@@ -35,7 +36,9 @@ impl Model for RuleSet {
 /// What a robots file says to this agent, `wget` (RFC 9309, section 2.2). Only the first 512,000 bytes of the file are used; where it is longer and they do
 /// not end with a line end, their last line is passed over. No file is refused: the only error is want of memory.
 pub fn parse(alloc: Global, file: &[u8]) -> Result<RuleSet, AllocError>
-    ensures { IfOk result (λ set. set ≡ rules_in file.now) }
+    ensures rules { IfOk result (λ set. set ≡ rules_in file.now) }
+    // the groups of the file's lines, of which `rules_in` speaks
+    ensures groups { let lines = lines_in file.now in AreGroups lines (groups_of lines) }
 {
     let lines = lines_in(alloc, file)?;
     let rules = rules_for_us(alloc, &lines)?;
