@@ -87,14 +87,14 @@ impl RuleSet {
 
     /// Whether both have the same rules in the same order, or both allow everything or nothing outright.
     pub fn same(&self, other: &RuleSet) -> bool
-        ensures { IsTrue result ↔ (self.now ≡ other.now) }
+        ensures same { IsTrue result ↔ (self.now ≡ other.now) }
     {
         self.is_closed() == other.is_closed() && same_rules(self.rules(), other.rules())
     }
 
     /// An equal rule set, or want of memory.
     pub fn try_clone(&self, alloc: Global) -> Result<RuleSet, AllocError>
-        ensures { IfOk result (λ copy. copy ≡ self.now) }
+        ensures copy { IfOk result (λ copy. copy ≡ self.now) }
     {
         let kept = match &self.kept {
             Kept::All => Kept::All,
