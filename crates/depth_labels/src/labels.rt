@@ -1,7 +1,7 @@
 //! The table of labels: addresses with the least depth offered, numbered in order of discovery.
-ghost use Rattle.std.specs.Prelude.{◌≡◌, ◌↔◌, ◌<◌, ℕ, nat_lt, [], ◌∷◌, ◌++◌, Some, None, length, slice_get, position, map, bytes_eq, IfOk, OnOk, OnErr, IsOk, IsSome, IsTrue, if◌then◌else◌};
+ghost use Rattle.std.specs.Prelude.{◌≡◌, ◌↔◌, ◌<◌, ℕ, false, nat_lt, [], ◌∷◌, ◌++◌, Some, None, length, slice_get, position, map, bytes_eq, IfOk, OnOk, OnErr, IsOk, IsSome, IsTrue, if◌then◌else◌};
 ghost use Rattle.indexmap.specs.IndexMap.{set_value_at};
-ghost use Rattle.depth_labels.specs.Depths.{depth_at, after_offer};
+ghost use Rattle.depth_labels.specs.Depths.{Text, depth_at, after_offer, lesser};
 ghost use Rattle.depth_labels.specs.Offers.{offer_of};
 
 use address::Address;
@@ -65,6 +65,10 @@ impl Labels {
     pub fn offer(&mut self, address: &Address, depth: u32) -> Result<Offer, LabelFault>
         ensures ok { IfOk result (λ offer. offer ≡ offer_of (depth_at self.old.depths address.now) depth) }
         ensures table { OnOk result (self.new ≡ record self.old { depths = after_offer self.old.depths address.now depth (depth_at self.old.depths address.now) }) }
+
+        // The address is then held at the lesser depth, and each other one as before.
+        ensures least { OnOk result (depth_at self.new.depths address.now ≡ Some (lesser (depth_at self.old.depths address.now) depth)) }
+        ensures others { (other : Text) → bytes_eq other address.now ≡ false → depth_at self.new.depths other ≡ depth_at self.old.depths other }
 
         ensures full { (result ≡ Err LabelFault.Full) ↔ ((depth_at self.old.depths address.now ≡ None) × (length self.old.depths ≡ self.old.most)) }
         ensures held { IsSome (depth_at self.old.depths address.now) → IsOk result }

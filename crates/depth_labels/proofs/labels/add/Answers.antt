@@ -1,4 +1,4 @@
-use Rattle.std.proofs.Common.{◌≡◌, ◌∙◌}
+use Rattle.std.proofs.Common.{◌∙◌}
 use Rattle.depth_labels.proofs.labels.add.Goals as goal
 use Rattle.depth_labels.proofs.LabelLemmas.{appended}
 
