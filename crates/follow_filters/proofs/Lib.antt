@@ -1,0 +1,3 @@
+pub mod TextLemmas
+pub mod PatternLemmas
+pub mod RulesLemmas
