@@ -1,10 +1,7 @@
 -- File names that may be followed whatever the accept and reject lists say (GNU Wget manual, section Types of Files).
 use Rattle.std.specs.Prelude.{◌≡◌, ◌⊎◌, ℕ, Bool, ◌||◌, List, [], ◌++◌, codes, nat_eq, bytes_eq}
 use Rattle.std.specs.List.{ends_with}
-
--- the text ends in the back
-abbrev pub EndsIn : List ℕ → List ℕ → Type 0
-EndsIn text back = (front : List ℕ) × (text ≡ front ++ back)
+use Rattle.follow_filters.specs.Texts.{EndsIn}
 
 -- the file name is empty or ends in `.htm` or `.html`
 abbrev pub IsExempt : List ℕ → Type 0
@@ -12,4 +9,4 @@ IsExempt file = (file ≡ []) ⊎ EndsIn file (codes ".htm") ⊎ EndsIn file (co
 
 -- the same as a test
 abbrev pub is_exempt : List ℕ → Bool
-is_exempt file = bytes_eq file [] || ends_with nat_eq file (codes ".htm") || ends_with nat_eq file (codes ".html")
+is_exempt file = bytes_eq file [] || (ends_with nat_eq file (codes ".htm") || ends_with nat_eq file (codes ".html"))

@@ -1,3 +1,4 @@
+pub mod Texts
 pub mod Limits
 pub mod Domains
 pub mod Directories

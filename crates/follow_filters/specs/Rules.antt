@@ -1,10 +1,11 @@
 -- The rules of following: each is a statement on an address and a plan (GNU Wget manual, chapter Following Links).
-use Rattle.std.specs.Prelude.{◌≡◌, ◌≢◌, ◌⊎◌, ℕ, Bool, true, false, not, ◌&&◌, ◌||◌, List, [], ◌∷◌, ◌++◌, codes, length, ◌==◌, nat_eq, bytes_eq, Option, Some, None, Result, Ok, Err}
-use Rattle.std.specs.List.{Any, Contains, starts_with, list_any, list_all, find}
+use Rattle.std.specs.Prelude.{◌≡◌, ◌≢◌, ◌↔◌, IsTrue, ◌⊎◌, ℕ, Bool, true, false, not, ◌&&◌, ◌||◌, List, [], ◌∷◌, ◌++◌, codes, length, ◌==◌, nat_eq, bytes_eq, Option, Some, None, Result, Ok, Err}
+use Rattle.std.specs.List.{All, Any, starts_with, list_any, list_all, find}
 use Rattle.address.specs.Address.{host_of, dir_of, file_of, path_query_of, is_robots_file}
 use Rattle.follow_filters.specs.declared.plan.Plan.{Plan}
 use Rattle.follow_filters.specs.declared.rule.Rule.{Rule}
 use Rattle.follow_filters.specs.declared.rule.Rule.TheVariants as rule
+use Rattle.follow_filters.specs.Texts.{BeginsWith}
 use Rattle.follow_filters.specs.Domains.{IsInDomain, is_in_domain}
 use Rattle.follow_filters.specs.Directories.{IsInDirectory, is_in_directory}
 use Rattle.follow_filters.specs.Exempt.{IsExempt, is_exempt}
@@ -24,7 +25,7 @@ HasStartHost plan address = host_of address ≡ host_of plan.start
 
 -- the address's directory is that of the plan's start or below it
 abbrev pub IsBelowStart : Plan → List ℕ → Type 0
-IsBelowStart plan address = (rest : List ℕ) × (dir_of address ≡ dir_of plan.start ++ rest)
+IsBelowStart plan address = BeginsWith (dir_of address) (dir_of plan.start)
 
 -- the address meets the rule
 abbrev pub Meets : Rule → Plan → List ℕ → Type 0
@@ -43,6 +44,12 @@ Meets rule.Rejected plan address =
 -- the address passes the filters: it meets each rule
 abbrev pub Passes : Plan → List ℕ → Type 0
 Passes plan address = (rule : Rule) → Meets rule plan address
+
+-- the first rule that the address doesn't meet: it meets those before it
+abbrev pub IsFirstUnmet : Plan → List ℕ → Rule → Type 0
+IsFirstUnmet plan address unmet =
+    (before after : List Rule) × (rules ≡ before ++ unmet ∷ after)
+    × All (λ rule. Meets rule plan address) before × (¬ Meets unmet plan address)
 
 -- ---- the same as tests
 
@@ -97,3 +104,7 @@ verdict_from (Some unmet) = Err unmet
 -- what `Plan::passes` answers
 abbrev pub verdict_of : Plan → List ℕ → Result (Unit {0}) Rule
 verdict_of plan address = verdict_from (first_unmet plan address)
+
+-- the tests say what the rules mean, of every plan and address
+abbrev pub PassingIsDecided : Type 0
+PassingIsDecided = (plan : Plan) (address : List ℕ) → IsTrue (passes_of plan address) ↔ Passes plan address
