@@ -1,15 +1,16 @@
 -- The tests of the rules say what the rules mean.
-use Rattle.std.proofs.Common.{zero, suc, ◌≡◌, ◌≢◌, ◌↔◌, ◌⊎◌, ◌∙◌, ℕ, ◌+◌, ◌-◌, ◌≤◌, ◌<◌, Bool, true, false, not, ◌&&◌, ◌||◌, cond, List, [], ◌∷◌, ◌++◌, take, drop, length, get_or, codes, find, nat_eq, bytes_eq, IsTrue, Option, Some, None, Result, Ok, Err, MatchResult, is_ok, refl, sym, ap, subst, inl, inr, ⊎_elim, arith, All}
-use Rattle.std.proofs.lemmas.Bool.{cases_Bool, both_ways, and_parts, and_from}
-use Rattle.std.proofs.lemmas.Bool.Decides.{Decides-not, Decides-or, Decides-like, Decides-eqb}
+use Rattle.std.proofs.Common.{◌≡◌, ◌∙◌, ℕ, ◌-◌, ◌<◌, Bool, true, false, not, ◌&&◌, ◌||◌, cond, List, [], ◌∷◌, ◌++◌, take, drop, length, get_or, codes, find, nat_eq, Option, Some, None, Result, MatchResult, is_ok, refl, sym, ap, subst, ⊎_elim, arith, All}
+use Rattle.std.proofs.lemmas.Bool.{cases_Bool, and_from}
+use Rattle.std.proofs.lemmas.Bool.Decides.{Decides-not, Decides-or, Decides-eqb}
 use Rattle.std.proofs.lemmas.Slice.Eq.{bytes_eq-Decides, starts_is, ends_is}
 use Rattle.std.proofs.lemmas.List.Folds.{Any-from_list_any, list_any-from_Any, list_all_at}
+use Rattle.std.proofs.lemmas.List.Elements.{All-nil, All-cons}
 use Rattle.std.specs.Bool.{Decides}
 use Rattle.std.specs.List.{Any, starts_with, ends_with, list_any, list_all}
 use Rattle.std.specs.Str.{str_to_ascii_lowercase}
-use Rattle.part_match.specs.Cuts.{Matches, is_match}
+use Rattle.part_match.specs.Cuts.{Matches}
 use Rattle.part_match.proofs.Decided.{is_match-cuts}
-use Rattle.address.specs.Address.{host_of, dir_of, file_of, path_query_of, is_robots_file}
+use Rattle.address.specs.Address.{host_of, dir_of, file_of, path_query_of}
 use Rattle.follow_filters.specs.declared.plan.Plan.{Plan}
 use Rattle.follow_filters.specs.declared.pattern.Part.{Part}
 use Rattle.follow_filters.specs.declared.rule.Rule.{Rule}
@@ -19,7 +20,7 @@ use Rattle.follow_filters.specs.Domains.{IsInDomain, is_in_domain}
 use Rattle.follow_filters.specs.Directories.{IsInDirectory, is_in_directory}
 use Rattle.follow_filters.specs.Exempt.{IsExempt, is_exempt}
 use Rattle.follow_filters.specs.Patterns.{MatchesFile, is_file_match, matches_read, read_pattern, is_run, takes}
-use Rattle.follow_filters.specs.Rules.{rules, HasStartHost, IsBelowStart, Meets, Passes, IsFirstUnmet, PassingIsDecided, has_start_host, is_in_some_domain, is_in_some_directory, matches_some, is_absent, meets, first_unmet, passes_of, verdict_from, verdict_of}
+use Rattle.follow_filters.specs.Rules.{rules, Meets, Passes, IsFirstUnmet, PassingIsDecided, is_absent, meets, first_unmet, passes_of, verdict_from, verdict_of}
 
 -- ---- fronts and backs of texts
 
@@ -39,7 +40,7 @@ is_in_domain-Decides : (domain host : List ℕ) → Decides (is_in_domain domain
 unfolding is_in_domain
 is_in_domain-Decides domain host =
     Decides-or _ _ (bytes_eq-Decides (str_to_ascii_lowercase host) (str_to_ascii_lowercase domain))
-        (ends_with-Decides (str_to_ascii_lowercase host) (codes "." ++ str_to_ascii_lowercase domain))
+    (ends_with-Decides (str_to_ascii_lowercase host) (codes "." ++ str_to_ascii_lowercase domain))
 
 is_in_directory-Decides : (element dir : List ℕ) → Decides (is_in_directory element dir) (IsInDirectory element dir)
 unfolding is_in_directory
@@ -61,11 +62,10 @@ is_file_match-Decides element file = matches_read-Decides (read_pattern element)
 
 -- some element of a list passes a test
 any-Decides : {X : Type 0} (p : X → Bool) (P : X → Type 0) → ((x : X) → Decides (p x) (P x)) → (xs : List X) → Decides (list_any p xs) (Any P xs)
-any-Decides p P each xs =
-    (
-      λ yes. let some = Any-from_list_any p xs yes in (some.0, some.1, some.2, some.3, (each some.1).0 some.4),
-      λ some. list_any-from_Any p xs (some.0, some.1, some.2, some.3, (each some.1).1 some.4),
-    )
+any-Decides p P each xs = (
+  λ yes. let some = Any-from_list_any p xs yes in (some.0, some.1, some.2, some.3, (each some.1).0 some.4),
+  λ some. list_any-from_Any p xs (some.0, some.1, some.2, some.3, (each some.1).1 some.4),
+)
 
 -- ---- rules
 
@@ -152,9 +152,56 @@ all_met plan address (r ∷ rs) each = and_from _ _ (each r) (all_met plan addre
 
 pub passes_of-is : PassingIsDecided
 unfolding passes_of
-passes_of-is plan address =
-    (
-      λ yes r. (meets-Decides r plan address).0
-          (subst (λ s. meets s plan address ≡ true) (listed r).1 (passed (λ s. meets s plan address) rules (place r) rule.Rejected (listed r).0 yes)),
-      λ pass. all_met plan address rules (λ r. (meets-Decides r plan address).1 (pass r)),
-    )
+passes_of-is plan address = (
+  λ yes r. (meets-Decides r plan address).0
+      (subst (λ s. meets s plan address ≡ true) (listed r).1 (passed (λ s. meets s plan address) rules (place r) rule.Rejected (listed r).0 yes)),
+  λ pass. all_met plan address rules (λ r. (meets-Decides r plan address).1 (pass r)),
+)
+
+-- ---- the first rule that isn't met
+
+-- no element fails a test just where all pass it
+find-list_all : (q : Rule → Bool) (rs : List Rule) → is_ok (verdict_from (find (λ r. not (q r)) rs)) ≡ list_all q rs
+find-list_all q [] = refl
+find-list_all q (r ∷ rs) =
+    let P : Bool → Type 0 = λ b. is_ok (verdict_from (cond (not b) (Some r) (find (λ s. not (q s)) rs))) ≡ (b && list_all q rs) in
+    let both : (b : Bool) → P b = elim [ true ↦ find-list_all q rs | false ↦ refl ] in
+    both (q r)
+
+pub verdict-passes : (plan : Plan) (address : List ℕ) → is_ok (verdict_of plan address) ≡ passes_of plan address
+unfolding passes_of first_unmet
+verdict-passes plan address = find-list_all (λ r. meets r plan address) rules
+
+-- what is found first stands behind what passes the test, and fails it
+find-split : (q : Rule → Bool) (rs : List Rule) (u : Rule) → find (λ r. not (q r)) rs ≡ Some u → (before after : List Rule) × (rs ≡ before ++ u ∷ after) × All (λ r. q r ≡ true) before × (q u ≡ false)
+find-split q [] u found = cc
+find-split q (r ∷ rs) u found =
+    ⊎_elim
+    (λ yes.
+    let later : find (λ s. not (q s)) rs ≡ Some u = rw yes at found in
+    let split = find-split q rs u later in
+    (r ∷ split.0, split.1, ap (λ xs. r ∷ xs) split.2, All-cons (λ s. q s ≡ true) r split.0 yes split.3, split.4))
+    (λ no.
+    let here : Some r ≡ Some u = rw no at found in
+    let same : r ≡ u = cc in
+    ([], rs, ap (λ s. s ∷ rs) same, All-nil (λ s. q s ≡ true), ap q (sym same) ∙ no))
+    (cases_Bool (q r))
+
+-- what the first unmet rule, or none, says of the rules
+means_from : (plan : Plan) (address : List ℕ) (found : Option Rule) → first_unmet plan address ≡ found → MatchResult (verdict_from found) (λ nothing. Passes plan address) (IsFirstUnmet plan address)
+unfolding first_unmet
+means_from plan address None none =
+    (passes_of-is plan address).0 (sym (verdict-passes plan address) ∙ ap (λ o. is_ok (verdict_from o)) none)
+means_from plan address (Some unmet) found =
+    let split = find-split (λ r. meets r plan address) rules unmet found in
+    (split.0, split.1, split.2, λ k d below. (meets-Decides (get_or split.0 k d) plan address).0 (split.3 k d below), λ met. let yes = (meets-Decides unmet plan address).1 met in let no = split.4 in cc)
+
+pub verdict-means : (plan : Plan) (address : List ℕ) → MatchResult (verdict_of plan address) (λ nothing. Passes plan address) (IsFirstUnmet plan address)
+verdict-means plan address = means_from plan address (first_unmet plan address) refl
+
+-- what an answer that is the verdict says
+pub told : (plan : Plan) (address : List ℕ) (answer : Result (Unit {0}) Rule) → answer ≡ verdict_of plan address → (is_ok answer ≡ passes_of plan address) × MatchResult answer (λ nothing. Passes plan address) (IsFirstUnmet plan address)
+told plan address answer is = (
+  ap is_ok is ∙ verdict-passes plan address,
+  subst (λ a. MatchResult a (λ nothing. Passes plan address) (IsFirstUnmet plan address)) (sym is) (verdict-means plan address),
+)

@@ -1,5 +1,5 @@
 -- What a pattern matches, as a test.
-use Rattle.std.proofs.Common.{◌≡◌, ℕ, List, Option, Some, ap}
+use Rattle.std.proofs.Common.{◌≡◌, ℕ, List, Some, ap}
 use Rattle.part_match.specs.Cuts.{is_match}
 use Rattle.follow_filters.specs.declared.pattern.Part.{Part}
 use Rattle.follow_filters.specs.Patterns.{is_run, takes, matches_read, is_file_match, read_pattern}

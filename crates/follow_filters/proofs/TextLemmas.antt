@@ -1,8 +1,8 @@
 -- Fronts and backs of texts.
-use Rattle.std.proofs.Common.{zero, suc, ◌≡◌, ◌∙◌, ℕ, ◌+◌, ◌-◌, ◌<◌, ◌==◌, Bool, true, false, ◌&&◌, cond, List, [], ◌∷◌, ◌++◌, map, take, drop, length, get_or, refl, sym, ap, arith, length-drop, ⊎_elim, ◌≤◌, codes, nat_eq, bytes_eq, nat_lt}
+use Rattle.std.proofs.Common.{suc, ◌≡◌, ◌∙◌, ℕ, ◌+◌, ◌-◌, ◌<◌, true, false, ◌&&◌, List, [], ◌∷◌, ◌++◌, take, drop, length, get_or, refl, sym, ap, arith, length-drop, ⊎_elim, ◌≤◌, codes, nat_eq, bytes_eq}
 use Rattle.std.proofs.Math.Bool.{and_assoc}
 use Rattle.std.proofs.lemmas.Bool.Decides.{nat_tests}
-use Rattle.std.proofs.lemmas.Bool.{cases_Bool, or_left, both_ways}
+use Rattle.std.proofs.lemmas.Bool.{cases_Bool, or_left}
 use Rattle.std.proofs.lemmas.List.{length-map, drop_more, drop-map}
 use Rattle.std.proofs.Math.Seq.{take-length}
 use Rattle.std.proofs.lemmas.Slice.Eq.{bytes_eq-Decides}
@@ -32,7 +32,7 @@ ends_with-dot host domain dot size =
     let at : length (str_to_ascii_lowercase host) - length (codes "." ++ str_to_ascii_lowercase domain) ≡ dot = simp length-map (omega arith) in
     let below : dot < length host = omega arith in
     let back : drop dot (str_to_ascii_lowercase host) ≡ to_ascii_lowercase (get_or host dot 0) ∷ str_to_ascii_lowercase (drop (dot + 1) host) =
-        drop-map to_ascii_lowercase dot host ∙ ap str_to_ascii_lowercase (drop_more host dot 0 below) in
+    drop-map to_ascii_lowercase dot host ∙ ap str_to_ascii_lowercase (drop_more host dot 0 below) in
     ap (λ k. bytes_eq (codes "." ++ str_to_ascii_lowercase domain) (drop k (str_to_ascii_lowercase host))) at
     ∙ ap (bytes_eq (codes "." ++ str_to_ascii_lowercase domain)) back
     ∙ ap (λ t. t && bytes_eq (str_to_ascii_lowercase domain) (str_to_ascii_lowercase (drop (dot + 1) host))) (lower_dot (get_or host dot 0))
@@ -42,9 +42,9 @@ pub ends_with-long : (host domain : List ℕ) → length host ≤ length domain 
 ends_with-long host domain long =
     let back = drop (length (str_to_ascii_lowercase host) - length (codes "." ++ str_to_ascii_lowercase domain)) (str_to_ascii_lowercase host) in
     ⊎_elim (λ yes.
-      let sizes : length (codes "." ++ str_to_ascii_lowercase domain) ≡ length back = ap length ((bytes_eq-Decides (codes "." ++ str_to_ascii_lowercase domain) back).0 yes) in
-      let size : suc (length domain) ≤ length host = omega (arith, simp (length-map, length-drop) at sizes) in
-      absurd (omega arith)) (λ no. no) (cases_Bool (ends_with nat_eq (str_to_ascii_lowercase host) (codes "." ++ str_to_ascii_lowercase domain)))
+    let sizes : length (codes "." ++ str_to_ascii_lowercase domain) ≡ length back = ap length ((bytes_eq-Decides (codes "." ++ str_to_ascii_lowercase domain) back).0 yes) in
+    let size : suc (length domain) ≤ length host = omega (arith, simp (length-map, length-drop) at sizes) in
+    absurd (omega arith)) (λ no. no) (cases_Bool (ends_with nat_eq (str_to_ascii_lowercase host) (codes "." ++ str_to_ascii_lowercase domain)))
 
 -- the host is the domain
 pub is_in_domain-same : (domain host : List ℕ) → str_to_ascii_lowercase host ≡ str_to_ascii_lowercase domain → is_in_domain domain host ≡ true

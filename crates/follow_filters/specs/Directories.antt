@@ -1,5 +1,5 @@
 -- Directories, and the directories below them (GNU Wget manual, section Directory-Based Limits).
-use Rattle.std.specs.Prelude.{◌≡◌, ℕ, Bool, List, ◌++◌, codes, nat_eq}
+use Rattle.std.specs.Prelude.{ℕ, Bool, List, ◌++◌, codes, nat_eq}
 use Rattle.std.specs.List.{starts_with}
 use Rattle.follow_filters.specs.Texts.{BeginsWith}
 

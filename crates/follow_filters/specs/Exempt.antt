@@ -1,5 +1,5 @@
 -- File names that may be followed whatever the accept and reject lists say (GNU Wget manual, section Types of Files).
-use Rattle.std.specs.Prelude.{◌≡◌, ◌⊎◌, ℕ, Bool, ◌||◌, List, [], ◌++◌, codes, nat_eq, bytes_eq}
+use Rattle.std.specs.Prelude.{◌≡◌, ◌⊎◌, ℕ, Bool, ◌||◌, List, [], codes, nat_eq, bytes_eq}
 use Rattle.std.specs.List.{ends_with}
 use Rattle.follow_filters.specs.Texts.{EndsIn}
 

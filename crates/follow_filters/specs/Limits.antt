@@ -1,5 +1,5 @@
 -- The maximum depth of a retrieval (GNU Wget manual, option `--level`).
-use Rattle.std.specs.Prelude.{◌≡◌, ℕ, Bool, true, nat_le}
+use Rattle.std.specs.Prelude.{Bool, true, nat_le}
 use Rattle.follow_filters.specs.declared.limit.Limit.{Limit}
 use Rattle.follow_filters.specs.declared.limit.Limit.TheVariants.{AtMost, Unlimited}
 use Rattle.follow_filters.specs.declared.limit.TheConstants.{MAX_LEVEL}

@@ -1,11 +1,11 @@
 -- Patterns of file names, and what they match (GNU Wget manual, section Types of Files).
-use Rattle.std.specs.Prelude.{◌≡◌, zero, suc, ℕ, Bool, true, false, not, ◌&&◌, ◌||◌, ◌==◌, List, [], ◌∷◌, map, length, Option, Some, None, option_map, is_none, if◌then◌else◌}
+use Rattle.std.specs.Prelude.{◌≡◌, zero, suc, ℕ, Bool, true, false, ◌||◌, ◌==◌, List, [], ◌∷◌, map, length, Option, Some, None, option_map, if◌then◌else◌}
 use Rattle.std.specs.Option.{option_and_then}
 use Rattle.std.specs.List.{list_any, before_first, after_first}
 use Rattle.part_match.specs.Cuts.{Matches, is_match}
 use Rattle.follow_filters.specs.declared.pattern.Part.{Part}
 use Rattle.follow_filters.specs.declared.pattern.Part.TheVariants as part
-use Rattle.follow_filters.specs.Classes.{ClassValue, class_takes, class_of}
+use Rattle.follow_filters.specs.Classes.{class_takes, class_of}
 
 -- the part matches any run of bytes
 abbrev pub is_run : Part → Bool
@@ -36,9 +36,9 @@ parts_within zero text = Some []
 parts_within (suc n) [] = Some []
 parts_within (suc n) (b ∷ text) =
     if b == 91 then
-        (if list_any (λ c. c == 93) text
-        then then_parts (option_map (λ c. part.Class c) (class_of (before_first (λ c. c == 93) text))) (parts_within n (after_first (λ c. c == 93) text))
-        else None)
+    (if list_any (λ c. c == 93) text
+    then then_parts (option_map (λ c. part.Class c) (class_of (before_first (λ c. c == 93) text))) (parts_within n (after_first (λ c. c == 93) text))
+    else None)
     else then_parts (Some (unit_of b)) (parts_within n text)
 
 -- the byte makes an element a pattern of the whole name

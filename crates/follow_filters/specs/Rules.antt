@@ -1,5 +1,5 @@
 -- The rules of following: each is a statement on an address and a plan (GNU Wget manual, chapter Following Links).
-use Rattle.std.specs.Prelude.{◌≡◌, ◌≢◌, ◌↔◌, IsTrue, ◌⊎◌, ℕ, Bool, true, false, not, ◌&&◌, ◌||◌, List, [], ◌∷◌, ◌++◌, codes, length, ◌==◌, nat_eq, bytes_eq, Option, Some, None, Result, Ok, Err}
+use Rattle.std.specs.Prelude.{◌≡◌, ◌≢◌, ◌↔◌, IsTrue, ℕ, Bool, true, false, not, ◌||◌, List, [], ◌∷◌, ◌++◌, codes, nat_eq, bytes_eq, Option, Some, None, Result, Ok, Err}
 use Rattle.std.specs.List.{All, Any, starts_with, list_any, list_all, find}
 use Rattle.address.specs.Address.{host_of, dir_of, file_of, path_query_of, is_robots_file}
 use Rattle.follow_filters.specs.declared.plan.Plan.{Plan}

@@ -40,19 +40,27 @@ fn is_in_some_domain(domains: &Elements<Domain>, host: &str) -> bool
 fn is_in_some_directory(directories: &Elements<Directory>, dir: &str) -> bool
     ensures { result ≡ list_any (λ d. is_in_directory d dir.now) directories.now }
 {
-    directories.as_slice().iter().any(|directory| directory.has(dir))
+    directories
+        .as_slice()
+        .iter()
+        .any(|directory| directory.has(dir))
 }
 
 // Whether a pattern of the list matches the file name.
 fn matches_some(patterns: &Elements<Pattern>, file: &str) -> bool
     ensures { result ≡ list_any (λ p. is_file_match p file.now) patterns.now }
 {
-    patterns.as_slice().iter().any(|pattern| pattern.matches(file))
+    patterns
+        .as_slice()
+        .iter()
+        .any(|pattern| pattern.matches(file))
 }
 
+ghost use Rattle.follow_filters.specs.Rules.{PassingIsDecided};
+
 impl Plan {
-    ghost use Rattle.std.specs.Prelude.{MatchResult, None, IsTrue, find};
-    ghost use Rattle.follow_filters.specs.Rules.{meets, first_unmet, verdict_of, rules, has_start_host};
+    ghost use Rattle.std.specs.Prelude.{MatchResult, None, IsTrue, find, is_ok};
+    ghost use Rattle.follow_filters.specs.Rules.{meets, first_unmet, verdict_of, passes_of, rules, has_start_host, Passes, IsFirstUnmet};
 
     // Whether the address has the start's host.
     fn has_start_host(&self, address: &Address) -> bool
@@ -138,7 +146,10 @@ impl Plan {
     /// Whether the address may be followed, or the first rule that it doesn't meet. Takes no memory.
     #[tactic(auto, unfolding(crate::specs::Rules::first_unmet))]
     pub fn passes(&self, address: &Address) -> Result<(), Rule>
-        ensures { result ≡ verdict_of self.now address.now }
+        ensures value { result ≡ verdict_of self.now address.now }
+        ensures passes { is_ok result ≡ passes_of self.now address.now }
+        ensures means { MatchResult result (λ _. Passes self.now address.now)
+            (IsFirstUnmet self.now address.now) }
     {
         match self.first_unmet(&RULES, address) {
             Some(rule) => Err(rule),
@@ -146,3 +157,9 @@ impl Plan {
         }
     }
 }
+
+/// That the test `passes_of` holds of an address just where it meets each of the nine rules, for every plan and every text: a law of the definitions,
+/// for callers whose own definitions take a test. Does nothing.
+pub fn passing_is_decided()
+    ensures { PassingIsDecided }
+{}

@@ -5,6 +5,7 @@
 pub use crate::directory::Directory;
 pub use crate::domain::Domain;
 pub use crate::elements::{ElementFault, Elements};
+pub use crate::following::passing_is_decided;
 pub use crate::limit::{Limit, MAX_LEVEL};
 pub use crate::pattern::Pattern;
 pub use crate::plan::{MAX_PER_HOST, MAX_URLS, Plan};
@@ -12,8 +13,8 @@ pub use crate::rule::Rule;
 
 mod directory;
 mod domain;
-mod elements;
 mod element_traits;
+mod elements;
 mod following;
 mod limit;
 mod pattern;

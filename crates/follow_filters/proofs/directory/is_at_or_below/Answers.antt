@@ -1,4 +1,4 @@
-use Rattle.std.proofs.Common.{◌≡◌, ◌∙◌, ℕ, List, Bool, true, ◌&&◌, codes, drop, length, sym, ap, nat_eq}
+use Rattle.std.proofs.Common.{◌≡◌, ◌∙◌, true, ◌&&◌, codes, drop, length, sym, ap, nat_eq}
 use Rattle.std.specs.List.{starts_with}
 use Rattle.follow_filters.proofs.TextLemmas.{drop_slice, is_in_directory-split}
 use Rattle.follow_filters.proofs.directory.is_at_or_below.Goals as goal

@@ -1,5 +1,5 @@
-use Rattle.std.proofs.Common.{◌≡◌, ◌∙◌, ℕ, ◌+◌, ◌-◌, Bool, true, false, ◌&&◌, drop, length, get_or, sym, ap, subst, arith, nat_eq, bytes_eq}
-use Rattle.std.proofs.lemmas.Bool.Decides.{nat_tests, Decides-eqb, same_from_decides, Decides-like}
+use Rattle.std.proofs.Common.{◌≡◌, ◌∙◌, ◌+◌, ◌-◌, true, false, ◌&&◌, drop, length, get_or, sym, ap, subst, arith, nat_eq, bytes_eq}
+use Rattle.std.proofs.lemmas.Bool.Decides.{nat_tests, Decides-eqb, same_from_decides}
 use Rattle.std.proofs.lemmas.Slice.Eq.{bytes_eq-Decides}
 use Rattle.std.specs.Str.{str_to_ascii_lowercase}
 use Rattle.follow_filters.proofs.TextLemmas.{drop_slice, ends_with-dot, ends_with-long}
@@ -18,7 +18,7 @@ returns-then-host-dot-eq46 c =
     let test = subst (λ xs. (c.eq_ignore_ascii_case.result ≡ true → str_to_ascii_lowercase xs ≡ str_to_ascii_lowercase domain) × (str_to_ascii_lowercase xs ≡ str_to_ascii_lowercase domain → c.eq_ignore_ascii_case.result ≡ true)) (drop_slice host (dot + 1)) c.eq_ignore_ascii_case.ensures.test in
     let eq = bytes_eq-Decides (str_to_ascii_lowercase domain) (str_to_ascii_lowercase (drop (dot + 1) host)) in
     let rest : c.eq_ignore_ascii_case.result ≡ bytes_eq (str_to_ascii_lowercase domain) (str_to_ascii_lowercase (drop (dot + 1) host)) =
-        same_from_decides c.eq_ignore_ascii_case.result _ test (λ yes. sym (eq.0 yes), λ same. eq.1 (sym same)) in
+    same_from_decides c.eq_ignore_ascii_case.result _ test (λ yes. sym (eq.0 yes), λ same. eq.1 (sym same)) in
     rest ∙ sym (ends_with-dot host domain dot (omega arith) ∙ ap (λ t. t && bytes_eq (str_to_ascii_lowercase domain) (str_to_ascii_lowercase (drop (dot + 1) host))) at)
 
 pub returns-else-host-dot-eq46 : goal.returns-else-host-dot-eq46

@@ -1,4 +1,4 @@
-use Rattle.std.proofs.Common.{◌≡◌, ◌∙◌, List, ℕ, Some, sym, ap}
+use Rattle.std.proofs.Common.{◌≡◌, ◌∙◌, Some, sym, ap}
 use Rattle.part_match.specs.Cuts.{is_match}
 use Rattle.follow_filters.specs.Patterns.{is_run, takes, read_pattern}
 use Rattle.follow_filters.proofs.PatternLemmas.{is_file_match-parts}

@@ -1,4 +1,4 @@
-use Rattle.std.proofs.Common.{◌≡◌, ◌∙◌, true, false, not, sym, ap}
+use Rattle.std.proofs.Common.{◌∙◌, not, sym, ap}
 use Rattle.follow_filters.specs.declared.rule.Rule.TheVariants as rule
 use Rattle.follow_filters.specs.Rules.{meets}
 use Rattle.follow_filters.proofs.RulesLemmas.{find-here, find-later, find-end}
