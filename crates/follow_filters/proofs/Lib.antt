@@ -2,3 +2,4 @@ pub mod TextLemmas
 pub mod PatternLemmas
 pub mod RulesLemmas
 pub mod Meaning
+pub mod ElementLemmas

@@ -1,5 +1,7 @@
 pub mod Texts
+pub mod Wildcards
 pub mod Limits
+pub mod Elements
 pub mod Domains
 pub mod Directories
 pub mod Classes

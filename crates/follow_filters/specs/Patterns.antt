@@ -1,10 +1,11 @@
 -- Patterns of file names, and what they match (GNU Wget manual, section Types of Files).
-use Rattle.std.specs.Prelude.{◌≡◌, zero, suc, ℕ, Bool, true, false, ◌||◌, ◌==◌, List, [], ◌∷◌, map, length, Option, Some, None, option_map, if◌then◌else◌}
+use Rattle.std.specs.Prelude.{◌≡◌, zero, suc, ℕ, Bool, true, false, ◌==◌, List, [], ◌∷◌, map, length, Option, Some, None, option_map, if◌then◌else◌}
 use Rattle.std.specs.Option.{option_and_then}
 use Rattle.std.specs.List.{list_any, before_first, after_first}
 use Rattle.part_match.specs.Cuts.{Matches, is_match}
 use Rattle.follow_filters.specs.declared.pattern.Part.{Part}
 use Rattle.follow_filters.specs.declared.pattern.Part.TheVariants as part
+use Rattle.follow_filters.specs.Wildcards.{is_wildcard}
 use Rattle.follow_filters.specs.Classes.{class_takes, class_of}
 
 -- the part matches any run of bytes
@@ -41,14 +42,10 @@ parts_within (suc n) (b ∷ text) =
     else None)
     else then_parts (Some (unit_of b)) (parts_within n text)
 
--- the byte makes an element a pattern of the whole name
-abbrev pub is_special : ℕ → Bool
-is_special b = b == 42 || b == 63 || b == 91 || b == 93
-
--- the parts of an element: those that it spells, or where no byte is special any run and its bytes
+-- the parts of an element: those that it spells, or where none of its bytes is a wildcard any run and its bytes
 unfoldable pub read_pattern : List ℕ → Option (List Part)
 read_pattern element =
-    if list_any is_special element then parts_within (length element) element
+    if list_any is_wildcard element then parts_within (length element) element
     else Some (part.Run ∷ map (λ b. part.Byte b) element)
 
 -- ---- what a pattern matches

@@ -21,3 +21,4 @@ mod pattern;
 mod plan;
 mod plan_copies;
 mod rule;
+mod wildcards;

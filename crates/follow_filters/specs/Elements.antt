@@ -1,0 +1,9 @@
+-- Elements of lists, as they are read.
+use Rattle.std.specs.Prelude.{◌≡◌, ◌⊎◌, ℕ, List, Option, Some, None, Result, MatchResult}
+use Rattle.follow_filters.specs.declared.elements.ElementFault.{ElementFault}
+use Rattle.follow_filters.specs.declared.elements.ElementFault.TheVariants.{Bad, Memory}
+
+-- the result is the expected element, or Bad where none is expected, unless memory ran out
+abbrev pub Reads : {X : Type 0} → Result X ElementFault → Option X → Type 0
+Reads result expected =
+    MatchResult result (λ element. expected ≡ Some element) (λ fault. ((fault ≡ Bad) × (expected ≡ None)) ⊎ (fault ≡ Memory))
