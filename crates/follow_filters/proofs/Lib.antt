@@ -3,3 +3,4 @@ pub mod PatternLemmas
 pub mod RulesLemmas
 pub mod Meaning
 pub mod ElementLemmas
+pub mod ClassLemmas

@@ -4,6 +4,7 @@ pub mod Limits
 pub mod Elements
 pub mod Domains
 pub mod Directories
+pub mod ClassValues
 pub mod Classes
 pub mod Patterns
 pub mod Exempt

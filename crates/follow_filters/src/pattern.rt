@@ -1,30 +1,8 @@
 //! Patterns of file names (GNU Wget manual, section Types of Files).
 ghost use Rattle.std.specs.Prelude.{◌≡◌};
 
+use crate::class::Class;
 use std::marker::Model;
-
-/// The bytes from `low` to `high`.
-#[derive(Clone, Copy, PartialEq, Eq)]
-pub struct Range {
-    low: u8,
-    high: u8,
-}
-
-/// A class of bytes, as `[a-c]` or `[!a-c]`.
-#[derive(Drop)]
-pub struct Class {
-    is_negated: bool,
-    ranges: Vec<Range>,
-}
-
-// Contracts see a class as whether it is negated, and its ranges.
-impl Model for Class {
-    ghost use Rattle.follow_filters.specs.Classes.{ClassValue};
-
-    ghost Value = { ClassValue };
-
-    ghost view = { λ c. record { is_negated = c.is_negated; ranges = c.ranges.items } };
-}
 
 /// A part of a pattern.
 #[derive(Drop)]
@@ -37,36 +15,6 @@ pub enum Part {
     Byte(u8),
     /// A byte that the class takes.
     Class(Class),
-}
-
-impl Range {
-    ghost use Rattle.follow_filters.specs.Classes.{is_in};
-
-    fn has(&self, byte: u8) -> bool
-        ensures { result ≡ is_in byte self.now }
-    {
-        self.low <= byte && byte <= self.high
-    }
-}
-
-impl Class {
-    ghost use Rattle.follow_filters.specs.Classes.{class_names, class_takes};
-
-    fn names(&self, byte: u8) -> bool
-        ensures { result ≡ class_names self.now byte }
-    {
-        self.ranges.iter().any(|range| range.has(byte))
-    }
-
-    fn takes(&self, byte: u8) -> bool
-        ensures { result ≡ class_takes self.now byte }
-    {
-        if self.is_negated {
-            !self.names(byte)
-        } else {
-            self.names(byte)
-        }
-    }
 }
 
 impl part_match::Part for Part {
