@@ -13,11 +13,9 @@ pub behind-more : {X : Type 0} (front : List X) (x : X) (rest : Option (List X))
 behind-more front x None = refl
 behind-more front x (Some xs) = ap Some (append_assoc front (x ∷ []) xs)
 
-pub behind-end : {X : Type 0} (front : List X) → behind front (Some []) ≡ Some front
-behind-end front = ap Some (append-nil front)
-
-pub behind-none : {X : Type 0} (front : List X) → behind front None ≡ None
-behind-none front = refl
+pub behind-nothing : {X : Type 0} (rest : Option (List X)) → behind [] rest ≡ rest
+behind-nothing None = refl
+behind-nothing (Some xs) = refl
 
 -- an item `x-y`
 pub ranges_of-span : (items : List ℕ) → 3 ≤ length items → get_or items 1 0 ≡ 45 → ranges_of items ≡ then_range (range (get_or items 0 0) (get_or items 2 0)) (ranges_of (drop 3 items))

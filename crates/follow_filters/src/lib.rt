@@ -22,4 +22,5 @@ mod pattern;
 mod plan;
 mod plan_copies;
 mod rule;
+mod spelling;
 mod wildcards;
