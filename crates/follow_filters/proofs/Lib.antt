@@ -4,3 +4,4 @@ pub mod RulesLemmas
 pub mod Meaning
 pub mod ElementLemmas
 pub mod ClassLemmas
+pub mod PlanLemmas
