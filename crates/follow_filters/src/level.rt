@@ -1,5 +1,6 @@
 //! Levels as they are written (GNU Wget manual, option `--level`).
-ghost use Rattle.std.specs.Prelude.{◌≡◌};
+ghost use Rattle.std.specs.Prelude.{◌≡◌, true, IfSome};
+ghost use Rattle.follow_filters.specs.Limits.{is_in_range};
 ghost use Rattle.follow_filters.specs.Levels.{number_in, limit_of_level};
 
 use crate::limit::{Limit, MAX_LEVEL};
@@ -12,7 +13,8 @@ fn number_in(text: &str) -> Option<u32>
 }
 
 fn limit_of_level(level: Option<u32>) -> Option<Limit>
-    ensures { result ≡ limit_of_level level }
+    ensures value { result ≡ limit_of_level level }
+    ensures in_range { IfSome result (λ limit. is_in_range limit ≡ true) }
 {
     match level? {
         0 => Some(Limit::Unlimited),
@@ -22,14 +24,16 @@ fn limit_of_level(level: Option<u32>) -> Option<Limit>
 }
 
 impl Limit {
-    ghost use Rattle.std.specs.Prelude.{◌≡◌};
+    ghost use Rattle.std.specs.Prelude.{◌≡◌, true, IfSome};
+    ghost use Rattle.follow_filters.specs.Limits.{is_in_range};
     ghost use Rattle.follow_filters.specs.Levels.{read_level};
 
     /// The limit that a level asks for: decimal digits up to 1,000,000, where 0 is no limit, or
     /// `inf`; `None` where the text is neither. Takes no memory.
     #[tactic(auto, unfolding(crate::specs::Levels::read_level))]
     pub fn read(text: &str) -> Option<Limit>
-        ensures { result ≡ read_level text.now }
+        ensures value { result ≡ read_level text.now }
+        ensures in_range { IfSome result (λ limit. is_in_range limit ≡ true) }
     {
         if text == "inf" {
             return Some(Limit::Unlimited);
