@@ -1,0 +1,9 @@
+pub mod TextLemmas
+pub mod PatternLemmas
+pub mod RulesLemmas
+pub mod Meaning
+pub mod ElementLemmas
+pub mod ClassLemmas
+pub mod PlanLemmas
+pub mod NumberLemmas
+pub mod ListLemmas

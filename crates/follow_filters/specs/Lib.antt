@@ -1,0 +1,14 @@
+pub mod Texts
+pub mod Wildcards
+pub mod Limits
+pub mod Elements
+pub mod Domains
+pub mod Directories
+pub mod ClassValues
+pub mod Classes
+pub mod Patterns
+pub mod Exempt
+pub mod Rules
+pub mod Plans
+pub mod Levels
+pub mod Lists

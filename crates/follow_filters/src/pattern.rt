@@ -1,0 +1,122 @@
+//! Patterns of file names (GNU Wget manual, section Types of Files).
+ghost use Rattle.std.specs.Prelude.{◌≡◌};
+
+use crate::class::Class;
+use crate::elements::ElementFault;
+use crate::spelling::read_parts;
+use std::alloc::{AllocError, Global};
+use std::marker::Model;
+
+/// A part of a pattern.
+#[derive(Drop)]
+pub enum Part {
+    /// `*`: any run of bytes.
+    Run,
+    /// `?`: any byte.
+    Any,
+    /// This byte.
+    Byte(u8),
+    /// A byte that the class takes.
+    Class(Class),
+}
+
+impl part_match::Part for Part {
+    ghost use Rattle.follow_filters.specs.Patterns.{is_run, takes};
+
+    ghost is_run = { is_run };
+
+    ghost takes = { takes };
+
+    fn is_run(&self) -> bool {
+        matches!(self, Part::Run)
+    }
+
+    #[tactic(auto, unfolding(crate::specs::Patterns::takes))]
+    fn takes(&self, byte: u8) -> bool {
+        match self {
+            Part::Run => false,
+            Part::Any => true,
+            Part::Byte(wanted) => byte == *wanted,
+            Part::Class(class) => class.takes(byte),
+        }
+    }
+}
+
+/// A pattern of file names.
+#[derive(Drop)]
+pub struct Pattern {
+    text: String,
+    parts: Vec<Part>,
+}
+
+// Contracts see a pattern as its text; its parts are what the text spells.
+impl Model for Pattern {
+    ghost use Rattle.std.specs.Prelude.{◌≡◌, List, ℕ, Some};
+    ghost use Rattle.std.specs.String.{string_bytes};
+    ghost use Rattle.follow_filters.specs.Patterns.{read_pattern};
+
+    ghost Value = { List ℕ };
+
+    ghost view = { λ p. string_bytes p.text };
+
+    ghost invariant = { λ p. read_pattern (string_bytes p.text) ≡ Some p.parts.items };
+}
+
+impl Pattern {
+    ghost use Rattle.std.specs.Prelude.{◌≡◌, IfOk};
+    ghost use Rattle.follow_filters.specs.Elements.{Reads};
+    ghost use Rattle.follow_filters.specs.Patterns.{is_file_match, read_element};
+
+    /// Reads a pattern of whole file names, or a suffix of them where the text has none of `*`, `?`,
+    /// `[` and `]`. A class that is empty, unclosed, or has a range with its greater byte first is
+    /// `Bad`.
+    pub fn read(alloc: Global, text: &str) -> Result<Pattern, ElementFault>
+        ensures { Reads result (read_element text.now) }
+    {
+        let parts = read_parts(alloc, text.as_bytes())?;
+        Ok(Pattern {
+            text: String::from_str(alloc, text)?,
+            parts,
+        })
+    }
+
+    /// Whether the pattern matches the file name. Takes no memory.
+    pub fn matches(&self, file: &str) -> bool
+        ensures { result ≡ is_file_match self.now file.now }
+    {
+        part_match::matches(self.parts.as_slice(), file.as_bytes())
+    }
+
+    /// The pattern as it was read. Takes no memory.
+    pub fn as_str(&self) -> &str
+        ensures { result.now ≡ self.now }
+    {
+        self.text.as_str()
+    }
+
+    // An equal pattern.
+    pub(crate) fn try_clone(&self) -> Result<Pattern, AllocError>
+        ensures { IfOk result (λ copy. copy ≡ self.now) }
+    {
+        match Pattern::read(*self.text.allocator(), self.as_str()) {
+            Ok(copy) => Ok(copy),
+            Err(_) => Err(AllocError),
+        }
+    }
+}
+
+impl Part {
+    ghost use Rattle.std.specs.Prelude.{◌≡◌};
+    ghost use Rattle.follow_filters.specs.Patterns.{unit_of};
+
+    // A byte that stands outside of a class.
+    pub(crate) fn of(byte: u8) -> Part
+        ensures { result ≡ unit_of byte }
+    {
+        match byte {
+            b'*' => Part::Run,
+            b'?' => Part::Any,
+            _ => Part::Byte(byte),
+        }
+    }
+}
