@@ -3,11 +3,12 @@ use Rattle.std.proofs.Common.{◌≡◌, ℕ, ◌+◌, ◌≤◌, ◌<◌, true,
 use Rattle.std.specs.Prelude.{Contains, All, slice_index_or}
 use Rattle.frontier_core.specs.Inner.{IsDistinct}
 use Rattle.frontier_core.specs.Tables.{Text, lookup, keys}
-use Rattle.frontier_core.specs.Routes.{Policy, edges, weight, admits, Route, IsCandidate, HasTooMany}
+use Rattle.frontier_core.specs.Routes.{Policy, weight, admits, Route, IsCandidate, HasTooMany}
+use Rattle.site_answer.specs.Outcomes.{edges}
 use Rattle.frontier_core.specs.Machine.{State, Slot, Answered, Turn, answers, slot, slot_outcome}
 use Rattle.frontier_core.specs.Invariants.{IsOverfull}
-use Rattle.frontier_core.specs.declared.answer.Edge.{Edge}
-use Rattle.frontier_core.specs.declared.answer.Outcome.{Outcome}
+use Rattle.site_answer.specs.declared.edge.Edge.{Edge}
+use Rattle.site_answer.specs.declared.outcome.Outcome.{Outcome}
 use Rattle.frontier_core.proofs.TableLaws.{same, other, compare_texts, not_among, once_keys}
 use Rattle.frontier_core.proofs.RouteLaws.{walk-snoc}
 use Rattle.frontier_core.proofs.Kept.{Good, Kept}

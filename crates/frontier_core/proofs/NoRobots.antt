@@ -5,7 +5,7 @@ use Rattle.frontier_core.specs.Plans.{policy}
 use Rattle.frontier_core.specs.Machine.{State, answers}
 use Rattle.frontier_core.specs.Lines.{IsReplay}
 use Rattle.frontier_core.specs.Traced.{HasRules}
-use Rattle.frontier_core.specs.declared.plan.Plan.{Plan}
+use Rattle.follow_filters.specs.declared.plan.Plan.{Plan}
 use Rattle.frontier_core.specs.declared.event.Event.{Event}
 use Rattle.frontier_core.proofs.FollowLaws.{exempt_without_robots}
 use Rattle.frontier_core.proofs.RouteLaws.{open_why, exempt}

@@ -1,10 +1,10 @@
 -- What inner calls of the table answer; no public contract speaks of these.
 use Rattle.std.specs.Prelude.{◌≡◌, ℕ, Bool, true, false, List, [], ◌∷◌, Option, Some, None, ◌==◌, zero, suc}
 use Rattle.frontier_core.specs.Tables.{Text, lookup}
-use Rattle.frontier_core.specs.Routes.{edges}
+use Rattle.site_answer.specs.Outcomes.{edges}
 use Rattle.frontier_core.specs.Machine.{State, Slot, Progress, Parked, Waiting, Out, Answered, Refused, Worker, Nobody, Turn, Due, Offered, slot_outcome}
-use Rattle.frontier_core.specs.declared.answer.Edge.{Edge}
-use Rattle.frontier_core.specs.declared.answer.Outcome.{Outcome}
+use Rattle.site_answer.specs.declared.edge.Edge.{Edge}
+use Rattle.site_answer.specs.declared.outcome.Outcome.{Outcome}
 
 -- the key that was discovered as number i
 abbrev pub key_at : {V : Type 0} → List (Text × V) → ℕ → Text

@@ -2,7 +2,7 @@
 use Rattle.std.specs.Prelude.{ℕ, Bool, true, false, Option, Some, None, List, map}
 use Rattle.frontier_core.specs.Tables.{Text}
 use Rattle.frontier_core.specs.Machine.{Slot, Progress, Parked, Waiting, Out, Answered, Refused, Holder, Worker, Nobody, Turn, Due, Offered, outcome_in}
-use Rattle.frontier_core.specs.declared.answer.Outcome.{Outcome}
+use Rattle.site_answer.specs.declared.outcome.Outcome.{Outcome}
 use Rattle.frontier_core.specs.declared.condition.Condition.{Condition}
 use Rattle.frontier_core.specs.declared.condition.Condition.TheVariants as condition
 use Rattle.frontier_core.specs.declared.entry.Stage.{Stage}

@@ -8,15 +8,15 @@ use Rattle.frontier_core.proofs.TableLaws.{same_text, text_same, at_place, place
 use Rattle.frontier_core.proofs.FindLaws.{out_to_is, is_out_to-out}
 use Rattle.frontier_core.proofs.board.Board.is_out_to.Goals as goal
 
-pub returns-then-is_same : goal.returns-then-is_same
-returns-then-is_same c =
+pub returns-then-eq : goal.returns-then-eq
+returns-then-eq c =
     let len = c.len.ensures in
     let within = c.if-number-len.false in
     let items = ap (λ (z : State). length z.entries) c.self.view_is in
     let distinct : IsDistinct c.args.self.now.entries = subst (λ (z : State). IsDistinct z.entries) c.self.view_is c.self.invariant in
     let lt : c.args.number < length c.args.self.now.entries = omega arith in
     let key : key_at c.args.self.now.entries c.args.number ≡ c.args.address.now =
-    sym c.address_at.ensures ∙ same_text c.address_at.result.now c.args.address.now (sym c.is_same.ensures ∙ c.if-is_same.true) in
+    sym c.address_at.ensures ∙ same_text c.address_at.result.now c.args.address.now (sym c.eq.ensures ∙ c.if-eq.true) in
     let held : lookup c.args.self.now.entries c.args.address.now ≡ Some c.slot_at.result.now =
     ap (λ z. lookup c.args.self.now.entries z) (sym key) ∙ c.slot_at.ensures in (
       λ yes_out.
@@ -32,13 +32,13 @@ returns-then-is_same c =
           c.is_out_to.ensures ∙ ap (λ (z : Slot). is_out_to c.args.worker z.progress) is ∙ is_out_to-out c.args.worker),
     )
 
-pub returns-else-is_same : goal.returns-else-is_same
-returns-else-is_same c =
-    let no_one : c.is_same.result ≡ false = c.if-is_same.false in (
+pub returns-else-eq : goal.returns-else-eq
+returns-else-eq c =
+    let no_one : c.eq.result ≡ false = c.if-eq.false in (
       λ yes_same. cc,
       λ (d, at).
           (let there = place_at c.args.self.now.entries c.args.number c.args.address.now (slot d (Out (Worker c.args.worker))) at in
           let key : c.address_at.result.now ≡ c.args.address.now = c.address_at.ensures ∙ there.1 in
-          let same : c.is_same.result ≡ true = c.is_same.ensures ∙ ap (λ z. bytes_eq z c.args.address.now) key ∙ text_same c.args.address.now in
+          let same : c.eq.result ≡ true = c.eq.ensures ∙ ap (λ z. bytes_eq z c.args.address.now) key ∙ text_same c.args.address.now in
           cc (same, no_one)),
     )
