@@ -1,0 +1,5 @@
+pub mod Limits
+pub mod Words
+pub mod Said
+pub mod Level
+pub mod Streams
