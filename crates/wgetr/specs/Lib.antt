@@ -3,3 +3,6 @@ pub mod Words
 pub mod Said
 pub mod Level
 pub mod Streams
+pub mod Report
+pub mod Rows
+pub mod OutcomeWord

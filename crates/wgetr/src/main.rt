@@ -5,6 +5,7 @@ mod input;
 mod interruption;
 mod level;
 mod output;
+mod report;
 mod words;
 
 fn main() {
