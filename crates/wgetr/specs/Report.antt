@@ -1,5 +1,5 @@
 -- The report: a line for each address, in the order of their texts, and the counts.
-use Rattle.std.specs.Prelude.{◌≡◌, ℕ, ◌+◌, Bool, true, List, [], ◌∷◌, ◌++◌, All, length, codes, count_by, nat_le}
+use Rattle.std.specs.Prelude.{◌≡◌, ◌≢◌, ℕ, ◌+◌, Bool, true, List, [], ◌∷◌, ◌++◌, AllPairs, length, codes, count_by, nat_le}
 use Rattle.std.specs.Cmp.Lexicographic.{slice_cmp}
 use Rattle.std.specs.Fmt.{decimal}
 use Rattle.std.specs.List.{flat_map}
@@ -48,5 +48,8 @@ IsBefore text other = is_lt (slice_cmp nat_cmp text other) ≡ true
 
 -- each address stands before every later one
 abbrev pub IsAscending : List Line → Type 0
-IsAscending [] = Unit {0}
-IsAscending (line ∷ lines) = All (λ later. IsBefore line.address later.address) lines × IsAscending lines
+IsAscending lines = AllPairs (λ line later. IsBefore line.address later.address) lines
+
+-- no address stands twice
+abbrev pub IsOnce : List Line → Type 0
+IsOnce lines = AllPairs (λ line later. line.address ≢ later.address) lines

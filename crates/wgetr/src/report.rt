@@ -1,6 +1,6 @@
 //! The report: a line for each address, and the counts.
-ghost use Rattle.std.specs.Prelude.{◌≡◌, ◌++◌, IfOk, OnOk, map, count_by, string_bytes};
-ghost use Rattle.wgetr.specs.Report.{outcome_word, is_failed, report_text, counts_text, line_text};
+ghost use Rattle.std.specs.Prelude.{◌≡◌, ◌++◌, IfOk, OnOk, map, count_by, IsPermutation, string_bytes};
+ghost use Rattle.wgetr.specs.Report.{outcome_word, is_failed, report_text, counts_text, line_text, IsOnce, IsAscending};
 ghost use Rattle.wgetr.specs.Rows.{line_of};
 ghost use Rattle.wgetr.specs.OutcomeWord.{word_text};
 
@@ -95,4 +95,13 @@ pub(crate) fn report_text(alloc: Global, rows: &[Row<'_>]) -> Result<String, All
     }
     push_counts(&mut text, rows.len(), failed_count(rows))?;
     Ok(text)
+}
+
+/// Sorts the rows by their addresses, none of which stands twice.
+pub(crate) fn sort_rows(rows: &mut [Row<'_>])
+    requires { IsOnce (map line_of rows.old) }
+    ensures permutation { IsPermutation (map line_of rows.old) (map line_of rows.new) }
+    ensures ascending { IsAscending (map line_of rows.new) }
+{
+    rows.sort_unstable_by_key(|row| row.address);
 }
