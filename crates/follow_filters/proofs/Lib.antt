@@ -1,0 +1,4 @@
+pub mod TextLemmas
+pub mod PatternLemmas
+pub mod RulesLemmas
+pub mod Meaning

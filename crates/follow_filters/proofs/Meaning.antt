@@ -1,0 +1,207 @@
+-- The tests of the rules say what the rules mean.
+use Rattle.std.proofs.Common.{◌≡◌, ◌∙◌, ℕ, ◌-◌, ◌<◌, Bool, true, false, not, ◌&&◌, ◌||◌, cond, List, [], ◌∷◌, ◌++◌, take, drop, length, get_or, codes, find, nat_eq, Option, Some, None, Result, MatchResult, is_ok, refl, sym, ap, subst, ⊎_elim, arith, All}
+use Rattle.std.proofs.lemmas.Bool.{cases_Bool, and_from}
+use Rattle.std.proofs.lemmas.Bool.Decides.{Decides-not, Decides-or, Decides-eqb}
+use Rattle.std.proofs.lemmas.Slice.Eq.{bytes_eq-Decides, starts_is, ends_is}
+use Rattle.std.proofs.lemmas.List.Folds.{Any-from_list_any, list_any-from_Any, list_all_at}
+use Rattle.std.proofs.lemmas.List.Elements.{All-nil, All-cons}
+use Rattle.std.specs.Bool.{Decides}
+use Rattle.std.specs.List.{Any, starts_with, ends_with, list_any, list_all}
+use Rattle.std.specs.Str.{str_to_ascii_lowercase}
+use Rattle.part_match.specs.Cuts.{Matches}
+use Rattle.part_match.proofs.Decided.{is_match-cuts}
+use Rattle.address.specs.Address.{host_of, dir_of, file_of, path_query_of}
+use Rattle.follow_filters.specs.declared.plan.Plan.{Plan}
+use Rattle.follow_filters.specs.declared.pattern.Part.{Part}
+use Rattle.follow_filters.specs.declared.rule.Rule.{Rule}
+use Rattle.follow_filters.specs.declared.rule.Rule.TheVariants as rule
+use Rattle.follow_filters.specs.Texts.{BeginsWith, EndsIn}
+use Rattle.follow_filters.specs.Domains.{IsInDomain, is_in_domain}
+use Rattle.follow_filters.specs.Directories.{IsInDirectory, is_in_directory}
+use Rattle.follow_filters.specs.Exempt.{IsExempt, is_exempt}
+use Rattle.follow_filters.specs.Patterns.{MatchesFile, is_file_match, matches_read, read_pattern, is_run, takes}
+use Rattle.follow_filters.specs.Rules.{rules, Meets, Passes, IsFirstUnmet, PassingIsDecided, is_absent, meets, first_unmet, passes_of, verdict_from, verdict_of}
+
+-- ---- fronts and backs of texts
+
+ends_with-Decides : (text back : List ℕ) → Decides (ends_with nat_eq text back) (EndsIn text back)
+ends_with-Decides text back =
+    let is = ends_is Decides-eqb text back (ends_with nat_eq text back) refl in
+    (λ yes. (take (length text - length back) text, is.0 yes), λ ends. is.1 ends.0 ends.1)
+
+starts_with-Decides : (text front : List ℕ) → Decides (starts_with nat_eq text front) (BeginsWith text front)
+starts_with-Decides text front =
+    let is = starts_is Decides-eqb text front (starts_with nat_eq text front) refl in
+    (λ yes. (drop (length front) text, is.0 yes), λ begins. is.1 begins.0 begins.1)
+
+-- ---- elements
+
+is_in_domain-Decides : (domain host : List ℕ) → Decides (is_in_domain domain host) (IsInDomain domain host)
+unfolding is_in_domain
+is_in_domain-Decides domain host =
+    Decides-or _ _ (bytes_eq-Decides (str_to_ascii_lowercase host) (str_to_ascii_lowercase domain))
+    (ends_with-Decides (str_to_ascii_lowercase host) (codes "." ++ str_to_ascii_lowercase domain))
+
+is_in_directory-Decides : (element dir : List ℕ) → Decides (is_in_directory element dir) (IsInDirectory element dir)
+unfolding is_in_directory
+is_in_directory-Decides element dir = starts_with-Decides dir (element ++ codes "/")
+
+is_exempt-Decides : (file : List ℕ) → Decides (is_exempt file) (IsExempt file)
+is_exempt-Decides file =
+    Decides-or _ _ (bytes_eq-Decides file []) (Decides-or _ _ (ends_with-Decides file (codes ".htm")) (ends_with-Decides file (codes ".html")))
+
+matches_read-Decides : (read : Option (List Part)) (file : List ℕ) → Decides (matches_read read file) ((parts : List Part) × (read ≡ Some parts) × Matches is_run takes parts file)
+matches_read-Decides None file = (λ yes. cc, λ match. let none = match.1 in cc)
+matches_read-Decides (Some parts) file =
+    let cut = is_match-cuts is_run takes parts file in
+    (λ yes. (parts, refl, cut.0 yes), λ match. cut.1 (subst (λ ps. Matches is_run takes ps file) (let same = match.1 in cc) match.2))
+
+is_file_match-Decides : (element file : List ℕ) → Decides (is_file_match element file) (MatchesFile element file)
+unfolding is_file_match
+is_file_match-Decides element file = matches_read-Decides (read_pattern element) file
+
+-- some element of a list passes a test
+any-Decides : {X : Type 0} (p : X → Bool) (P : X → Type 0) → ((x : X) → Decides (p x) (P x)) → (xs : List X) → Decides (list_any p xs) (Any P xs)
+any-Decides p P each xs = (
+  λ yes. let some = Any-from_list_any p xs yes in (some.0, some.1, some.2, some.3, (each some.1).0 some.4),
+  λ some. list_any-from_Any p xs (some.0, some.1, some.2, some.3, (each some.1).1 some.4),
+)
+
+-- ---- rules
+
+-- a list that is absent is empty
+is_absent-Decides : (elements : List (List ℕ)) → Decides (is_absent elements) (elements ≡ [])
+is_absent-Decides [] = (λ yes. refl, λ none. refl)
+is_absent-Decides (first ∷ others) = (λ yes. cc, λ none. cc)
+
+-- a fact unless a flag is set
+unless : {Q : Type 0} (x y : Bool) → Decides y Q → Decides (x || y) (x ≡ false → Q)
+unless true y q = (λ yes no. cc, λ all. refl)
+unless false y q = (λ yes no. q.0 yes, λ all. q.1 (all refl))
+
+-- a fact unless another holds
+unless_fact : {P Q : Type 0} (x y : Bool) → Decides x P → Decides y Q → Decides (x || y) (¬ P → Q)
+unless_fact true y p q = (λ yes no. absurd (no (p.0 refl)), λ all. refl)
+unless_fact false y p q = (λ yes no. q.0 yes, λ all. q.1 (all (λ h. let yes = p.1 h in cc)))
+
+-- a fact unless one of two others holds
+unless_facts : {P Q R : Type 0} (x y z : Bool) → Decides x P → Decides y Q → Decides z R → Decides (x || y || z) (¬ P → ¬ Q → R)
+unless_facts true y z p q r = (λ yes no none. absurd (no (p.0 refl)), λ all. refl)
+unless_facts false y z p q r =
+    let rest = unless_fact y z q r in
+    (λ yes no none. rest.0 yes none, λ all. rest.1 (λ none. all (λ h. let yes = p.1 h in cc) none))
+
+-- a fact where a flag is set and another fact holds
+where_both : {P Q : Type 0} (x y z : Bool) → Decides y P → Decides z Q → Decides (not x || not y || z) (x ≡ true → P → Q)
+where_both true true z p q = (λ yes set h. q.0 yes, λ all. q.1 (all refl (p.0 refl)))
+where_both true false z p q = (λ yes set h. let no = p.1 h in cc, λ all. refl)
+where_both false y z p q = (λ yes set h. cc, λ all. refl)
+
+pub meets-Decides : (r : Rule) (plan : Plan) (address : List ℕ) → Decides (meets r plan address) (Meets r plan address)
+unfolding meets
+meets-Decides rule.RobotsFile plan address = Decides-not _ (bytes_eq-Decides (path_query_of address) (codes "/robots.txt"))
+meets-Decides rule.Host plan address = unless _ _ (bytes_eq-Decides (host_of address) (host_of plan.start))
+meets-Decides rule.Parent plan address =
+    where_both _ _ _ (bytes_eq-Decides (host_of address) (host_of plan.start)) (starts_with-Decides (dir_of address) (dir_of plan.start))
+meets-Decides rule.Domain plan address =
+    unless_fact _ _ (is_absent-Decides plan.domains) (any-Decides _ _ (λ d. is_in_domain-Decides d (host_of address)) plan.domains)
+meets-Decides rule.ExcludedDomain plan address = Decides-not _ (any-Decides _ _ (λ d. is_in_domain-Decides d (host_of address)) plan.exclude_domains)
+meets-Decides rule.NotIncluded plan address =
+    unless_fact _ _ (is_absent-Decides plan.include_dirs) (any-Decides _ _ (λ d. is_in_directory-Decides d (dir_of address)) plan.include_dirs)
+meets-Decides rule.Excluded plan address = Decides-not _ (any-Decides _ _ (λ d. is_in_directory-Decides d (dir_of address)) plan.exclude_dirs)
+meets-Decides rule.NotAccepted plan address =
+    unless_facts _ _ _ (is_exempt-Decides (file_of address)) (is_absent-Decides plan.accept) (any-Decides _ _ (λ p. is_file_match-Decides p (file_of address)) plan.accept)
+meets-Decides rule.Rejected plan address =
+    unless_fact _ _ (is_exempt-Decides (file_of address)) (Decides-not _ (any-Decides _ _ (λ p. is_file_match-Decides p (file_of address)) plan.reject))
+
+-- ---- all rules
+
+-- a test that all elements pass is passed by each
+passed : {X : Type 0} (p : X → Bool) (xs : List X) (i : ℕ) (d : X) → i < length xs → list_all p xs ≡ true → p (get_or xs i d) ≡ true
+passed p xs i d below all = ⊎_elim (λ yes. yes) (λ no. let some = list_all_at p xs i d below no in cc) (cases_Bool (p (get_or xs i d)))
+
+-- where a rule stands among the rules
+place : Rule → ℕ
+place rule.RobotsFile = 0
+place rule.Host = 1
+place rule.Parent = 2
+place rule.Domain = 3
+place rule.ExcludedDomain = 4
+place rule.NotIncluded = 5
+place rule.Excluded = 6
+place rule.NotAccepted = 7
+place rule.Rejected = 8
+
+-- every rule is among the rules
+listed : (r : Rule) → (place r < length rules) × (get_or rules (place r) rule.Rejected ≡ r)
+unfolding place
+listed rule.RobotsFile = (omega arith, refl)
+listed rule.Host = (omega arith, refl)
+listed rule.Parent = (omega arith, refl)
+listed rule.Domain = (omega arith, refl)
+listed rule.ExcludedDomain = (omega arith, refl)
+listed rule.NotIncluded = (omega arith, refl)
+listed rule.Excluded = (omega arith, refl)
+listed rule.NotAccepted = (omega arith, refl)
+listed rule.Rejected = (omega arith, refl)
+
+-- what each rule of a list says, its tests say together
+all_met : (plan : Plan) (address : List ℕ) (rs : List Rule) → ((r : Rule) → meets r plan address ≡ true) → list_all (λ r. meets r plan address) rs ≡ true
+all_met plan address [] each = refl
+all_met plan address (r ∷ rs) each = and_from _ _ (each r) (all_met plan address rs each)
+
+pub passes_of-is : PassingIsDecided
+unfolding passes_of
+passes_of-is plan address = (
+  λ yes r. (meets-Decides r plan address).0
+      (subst (λ s. meets s plan address ≡ true) (listed r).1 (passed (λ s. meets s plan address) rules (place r) rule.Rejected (listed r).0 yes)),
+  λ pass. all_met plan address rules (λ r. (meets-Decides r plan address).1 (pass r)),
+)
+
+-- ---- the first rule that isn't met
+
+-- no element fails a test just where all pass it
+find-list_all : (q : Rule → Bool) (rs : List Rule) → is_ok (verdict_from (find (λ r. not (q r)) rs)) ≡ list_all q rs
+find-list_all q [] = refl
+find-list_all q (r ∷ rs) =
+    let P : Bool → Type 0 = λ b. is_ok (verdict_from (cond (not b) (Some r) (find (λ s. not (q s)) rs))) ≡ (b && list_all q rs) in
+    let both : (b : Bool) → P b = elim [ true ↦ find-list_all q rs | false ↦ refl ] in
+    both (q r)
+
+pub verdict-passes : (plan : Plan) (address : List ℕ) → is_ok (verdict_of plan address) ≡ passes_of plan address
+unfolding passes_of first_unmet
+verdict-passes plan address = find-list_all (λ r. meets r plan address) rules
+
+-- what is found first stands behind what passes the test, and fails it
+find-split : (q : Rule → Bool) (rs : List Rule) (u : Rule) → find (λ r. not (q r)) rs ≡ Some u → (before after : List Rule) × (rs ≡ before ++ u ∷ after) × All (λ r. q r ≡ true) before × (q u ≡ false)
+find-split q [] u found = cc
+find-split q (r ∷ rs) u found =
+    ⊎_elim
+    (λ yes.
+    let later : find (λ s. not (q s)) rs ≡ Some u = rw yes at found in
+    let split = find-split q rs u later in
+    (r ∷ split.0, split.1, ap (λ xs. r ∷ xs) split.2, All-cons (λ s. q s ≡ true) r split.0 yes split.3, split.4))
+    (λ no.
+    let here : Some r ≡ Some u = rw no at found in
+    let same : r ≡ u = cc in
+    ([], rs, ap (λ s. s ∷ rs) same, All-nil (λ s. q s ≡ true), ap q (sym same) ∙ no))
+    (cases_Bool (q r))
+
+-- what the first unmet rule, or none, says of the rules
+means_from : (plan : Plan) (address : List ℕ) (found : Option Rule) → first_unmet plan address ≡ found → MatchResult (verdict_from found) (λ nothing. Passes plan address) (IsFirstUnmet plan address)
+unfolding first_unmet
+means_from plan address None none =
+    (passes_of-is plan address).0 (sym (verdict-passes plan address) ∙ ap (λ o. is_ok (verdict_from o)) none)
+means_from plan address (Some unmet) found =
+    let split = find-split (λ r. meets r plan address) rules unmet found in
+    (split.0, split.1, split.2, λ k d below. (meets-Decides (get_or split.0 k d) plan address).0 (split.3 k d below), λ met. let yes = (meets-Decides unmet plan address).1 met in let no = split.4 in cc)
+
+pub verdict-means : (plan : Plan) (address : List ℕ) → MatchResult (verdict_of plan address) (λ nothing. Passes plan address) (IsFirstUnmet plan address)
+verdict-means plan address = means_from plan address (first_unmet plan address) refl
+
+-- what an answer that is the verdict says
+pub told : (plan : Plan) (address : List ℕ) (answer : Result (Unit {0}) Rule) → answer ≡ verdict_of plan address → (is_ok answer ≡ passes_of plan address) × MatchResult answer (λ nothing. Passes plan address) (IsFirstUnmet plan address)
+told plan address answer is = (
+  ap is_ok is ∙ verdict-passes plan address,
+  subst (λ a. MatchResult a (λ nothing. Passes plan address) (IsFirstUnmet plan address)) (sym is) (verdict-means plan address),
+)

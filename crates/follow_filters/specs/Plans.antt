@@ -1,0 +1,16 @@
+-- Plans of a retrieval.
+use Rattle.std.specs.Prelude.{◌≡◌, false, []}
+use Rattle.follow_filters.specs.declared.plan.Plan.{Plan}
+
+-- the plan has no filters beyond the start's host, robots files aren't honoured, and two requests may be out to a host
+pub record IsUnfiltered (plan : Plan) : Type 0 where
+  pub span_hosts : plan.span_hosts ≡ false
+  pub no_parent : plan.no_parent ≡ false
+  pub domains : plan.domains ≡ []
+  pub exclude_domains : plan.exclude_domains ≡ []
+  pub include_dirs : plan.include_dirs ≡ []
+  pub exclude_dirs : plan.exclude_dirs ≡ []
+  pub accept : plan.accept ≡ []
+  pub reject : plan.reject ≡ []
+  pub robots : plan.robots ≡ false
+  pub per_host : plan.per_host ≡ 2

@@ -1,0 +1,110 @@
+-- The rules of following: each is a statement on an address and a plan (GNU Wget manual, chapter Following Links).
+use Rattle.std.specs.Prelude.{◌≡◌, ◌≢◌, ◌↔◌, IsTrue, ℕ, Bool, true, false, not, ◌||◌, List, [], ◌∷◌, ◌++◌, codes, nat_eq, bytes_eq, Option, Some, None, Result, Ok, Err}
+use Rattle.std.specs.List.{All, Any, starts_with, list_any, list_all, find}
+use Rattle.address.specs.Address.{host_of, dir_of, file_of, path_query_of, is_robots_file}
+use Rattle.follow_filters.specs.declared.plan.Plan.{Plan}
+use Rattle.follow_filters.specs.declared.rule.Rule.{Rule}
+use Rattle.follow_filters.specs.declared.rule.Rule.TheVariants as rule
+use Rattle.follow_filters.specs.Texts.{BeginsWith}
+use Rattle.follow_filters.specs.Domains.{IsInDomain, is_in_domain}
+use Rattle.follow_filters.specs.Directories.{IsInDirectory, is_in_directory}
+use Rattle.follow_filters.specs.Exempt.{IsExempt, is_exempt}
+use Rattle.follow_filters.specs.Patterns.{MatchesFile, is_file_match}
+
+-- the rules, in the order in which they are asked
+abbrev pub rules : List Rule
+rules =
+    rule.RobotsFile ∷ rule.Host ∷ rule.Parent ∷ rule.Domain ∷ rule.ExcludedDomain
+    ∷ rule.NotIncluded ∷ rule.Excluded ∷ rule.NotAccepted ∷ rule.Rejected ∷ []
+
+-- ---- what the rules mean
+
+-- the address has the host of the plan's start; the port isn't compared
+abbrev pub HasStartHost : Plan → List ℕ → Type 0
+HasStartHost plan address = host_of address ≡ host_of plan.start
+
+-- the address's directory is that of the plan's start or below it
+abbrev pub IsBelowStart : Plan → List ℕ → Type 0
+IsBelowStart plan address = BeginsWith (dir_of address) (dir_of plan.start)
+
+-- the address meets the rule
+abbrev pub Meets : Rule → Plan → List ℕ → Type 0
+Meets rule.RobotsFile plan address = path_query_of address ≢ codes "/robots.txt"
+Meets rule.Host plan address = plan.span_hosts ≡ false → HasStartHost plan address
+Meets rule.Parent plan address = plan.no_parent ≡ true → HasStartHost plan address → IsBelowStart plan address
+Meets rule.Domain plan address = plan.domains ≢ [] → Any (λ d. IsInDomain d (host_of address)) plan.domains
+Meets rule.ExcludedDomain plan address = ¬ Any (λ d. IsInDomain d (host_of address)) plan.exclude_domains
+Meets rule.NotIncluded plan address = plan.include_dirs ≢ [] → Any (λ d. IsInDirectory d (dir_of address)) plan.include_dirs
+Meets rule.Excluded plan address = ¬ Any (λ d. IsInDirectory d (dir_of address)) plan.exclude_dirs
+Meets rule.NotAccepted plan address =
+    ¬ IsExempt (file_of address) → plan.accept ≢ [] → Any (λ p. MatchesFile p (file_of address)) plan.accept
+Meets rule.Rejected plan address =
+    ¬ IsExempt (file_of address) → ¬ Any (λ p. MatchesFile p (file_of address)) plan.reject
+
+-- the address passes the filters: it meets each rule
+abbrev pub Passes : Plan → List ℕ → Type 0
+Passes plan address = (rule : Rule) → Meets rule plan address
+
+-- the first rule that the address doesn't meet: it meets those before it
+abbrev pub IsFirstUnmet : Plan → List ℕ → Rule → Type 0
+IsFirstUnmet plan address unmet =
+    (before after : List Rule) × (rules ≡ before ++ unmet ∷ after)
+    × All (λ rule. Meets rule plan address) before × (¬ Meets unmet plan address)
+
+-- ---- the same as tests
+
+-- the address has the host of the plan's start
+abbrev pub has_start_host : Plan → List ℕ → Bool
+has_start_host plan address = bytes_eq (host_of address) (host_of plan.start)
+
+-- a domain of the list has the host
+abbrev pub is_in_some_domain : List (List ℕ) → List ℕ → Bool
+is_in_some_domain domains host = list_any (λ d. is_in_domain d host) domains
+
+-- the directory is one of the list or below one
+abbrev pub is_in_some_directory : List (List ℕ) → List ℕ → Bool
+is_in_some_directory directories dir = list_any (λ d. is_in_directory d dir) directories
+
+-- a pattern of the list matches the file name
+abbrev pub matches_some : List (List ℕ) → List ℕ → Bool
+matches_some patterns file = list_any (λ p. is_file_match p file) patterns
+
+-- the list wasn't given
+abbrev pub is_absent : List (List ℕ) → Bool
+is_absent [] = true
+is_absent (first ∷ others) = false
+
+-- the address meets the rule
+unfoldable pub meets : Rule → Plan → List ℕ → Bool
+meets rule.RobotsFile plan address = not (is_robots_file address)
+meets rule.Host plan address = plan.span_hosts || has_start_host plan address
+meets rule.Parent plan address =
+    not plan.no_parent || not (has_start_host plan address) || starts_with nat_eq (dir_of address) (dir_of plan.start)
+meets rule.Domain plan address = is_absent plan.domains || is_in_some_domain plan.domains (host_of address)
+meets rule.ExcludedDomain plan address = not (is_in_some_domain plan.exclude_domains (host_of address))
+meets rule.NotIncluded plan address = is_absent plan.include_dirs || is_in_some_directory plan.include_dirs (dir_of address)
+meets rule.Excluded plan address = not (is_in_some_directory plan.exclude_dirs (dir_of address))
+meets rule.NotAccepted plan address =
+    is_exempt (file_of address) || is_absent plan.accept || matches_some plan.accept (file_of address)
+meets rule.Rejected plan address = is_exempt (file_of address) || not (matches_some plan.reject (file_of address))
+
+-- the first rule that the address doesn't meet
+unfoldable pub first_unmet : Plan → List ℕ → Option Rule
+first_unmet plan address = find (λ r. not (meets r plan address)) rules
+
+-- the address passes the filters
+unfoldable pub passes_of : Plan → List ℕ → Bool
+passes_of plan address = list_all (λ r. meets r plan address) rules
+
+-- nothing where the address passes, else the first rule that it doesn't meet
+abbrev pub verdict_from : Option Rule → Result (Unit {0}) Rule
+verdict_from None = Ok tt
+verdict_from (Some unmet) = Err unmet
+
+-- what `Plan::passes` answers
+abbrev pub verdict_of : Plan → List ℕ → Result (Unit {0}) Rule
+verdict_of plan address = verdict_from (first_unmet plan address)
+
+-- the tests say what the rules mean, of every plan and address
+abbrev pub PassingIsDecided : Type 0
+PassingIsDecided = (plan : Plan) (address : List ℕ) → IsTrue (passes_of plan address) ↔ Passes plan address

@@ -1,0 +1,67 @@
+//! Domains (GNU Wget manual, section Spanning Hosts).
+ghost use Rattle.std.specs.Prelude.{◌≡◌, ◌++◌, codes, nat_eq, IfOk};
+ghost use Rattle.std.specs.List.{ends_with};
+ghost use Rattle.std.specs.Str.{str_to_ascii_lowercase};
+ghost use Rattle.follow_filters.specs.Domains.{is_in_domain};
+
+use std::alloc::AllocError;
+use std::marker::Model;
+
+/// A domain, as `foo.edu`: it has the host `foo.edu` and those that end in `.foo.edu`.
+#[derive(Drop)]
+pub struct Domain {
+    text: String,
+}
+
+// Contracts see a domain as its text, without a leading dot.
+impl Model for Domain {
+    ghost use Rattle.std.specs.Prelude.{List, ℕ};
+    ghost use Rattle.std.specs.String.{string_bytes};
+
+    ghost Value = { List ℕ };
+
+    ghost view = { λ d. string_bytes d.text };
+}
+
+impl Domain {
+    /// Whether the domain has the host, without regard to ASCII case.
+    pub fn has(&self, host: &str) -> bool
+        ensures { result ≡ is_in_domain self.now host.now }
+    {
+        is_at_or_below(host.as_bytes(), self.text.as_bytes())
+    }
+
+    /// The domain as it was read, without its leading dot. Takes no memory.
+    pub fn as_str(&self) -> &str
+        ensures { result.now ≡ self.now }
+    {
+        self.text.as_str()
+    }
+
+    // An equal domain.
+    pub(crate) fn try_clone(&self) -> Result<Domain, AllocError>
+        ensures { IfOk result (λ copy. copy ≡ self.now) }
+    {
+        Ok(Domain {
+            text: self.text.clone()?,
+        })
+    }
+}
+
+// Whether the host ends in a dot and the domain.
+fn is_below(host: &[u8], domain: &[u8]) -> bool
+    ensures { result ≡ ends_with nat_eq (str_to_ascii_lowercase host.now) (codes "." ++ str_to_ascii_lowercase domain.now) }
+{
+    if host.len() <= domain.len() {
+        return false;
+    }
+    let dot = host.len() - domain.len() - 1;
+    host[dot] == b'.' && host[dot + 1..].eq_ignore_ascii_case(domain)
+}
+
+// Whether the host is the domain or ends in a dot and the domain.
+fn is_at_or_below(host: &[u8], domain: &[u8]) -> bool
+    ensures { result ≡ is_in_domain domain.now host.now }
+{
+    host.eq_ignore_ascii_case(domain) || is_below(host, domain)
+}

@@ -1,0 +1,165 @@
+//! Which addresses a plan lets be followed (GNU Wget manual, chapter Following Links).
+ghost use Rattle.std.specs.Prelude.{◌≡◌, ◌||◌, not, ℕ, List, nat_eq};
+ghost use Rattle.std.specs.List.{starts_with, list_any};
+ghost use Rattle.follow_filters.specs.Domains.{is_in_domain};
+ghost use Rattle.follow_filters.specs.Directories.{is_in_directory};
+ghost use Rattle.follow_filters.specs.Patterns.{is_file_match};
+ghost use Rattle.follow_filters.specs.Exempt.{is_exempt};
+
+use crate::directory::Directory;
+use crate::domain::Domain;
+use crate::elements::Elements;
+use crate::pattern::Pattern;
+use crate::plan::Plan;
+use crate::rule::{RULES, Rule};
+use address::Address;
+
+// Whether the text begins with the front.
+fn begins(text: &str, front: &str) -> bool
+    ensures { result ≡ starts_with nat_eq text.now front.now }
+{
+    text.as_bytes().starts_with(front.as_bytes())
+}
+
+// Whether a file name meets the accept and reject lists in any case.
+fn is_exempt(file: &str) -> bool
+    ensures { result ≡ is_exempt file.now }
+{
+    let file = file.as_bytes();
+    file.is_empty() || file.ends_with(b".htm") || file.ends_with(b".html")
+}
+
+// Whether a domain of the list has the host.
+fn is_in_some_domain(domains: &Elements<Domain>, host: &str) -> bool
+    ensures { result ≡ list_any (λ d. is_in_domain d host.now) domains.now }
+{
+    domains.as_slice().iter().any(|domain| domain.has(host))
+}
+
+// Whether the directory is one of the list or below one.
+fn is_in_some_directory(directories: &Elements<Directory>, dir: &str) -> bool
+    ensures { result ≡ list_any (λ d. is_in_directory d dir.now) directories.now }
+{
+    directories
+        .as_slice()
+        .iter()
+        .any(|directory| directory.has(dir))
+}
+
+// Whether a pattern of the list matches the file name.
+fn matches_some(patterns: &Elements<Pattern>, file: &str) -> bool
+    ensures { result ≡ list_any (λ p. is_file_match p file.now) patterns.now }
+{
+    patterns
+        .as_slice()
+        .iter()
+        .any(|pattern| pattern.matches(file))
+}
+
+ghost use Rattle.follow_filters.specs.Rules.{PassingIsDecided};
+
+impl Plan {
+    ghost use Rattle.std.specs.Prelude.{MatchResult, None, IsTrue, find, is_ok};
+    ghost use Rattle.follow_filters.specs.Rules.{meets, first_unmet, verdict_of, passes_of, rules, has_start_host, Passes, IsFirstUnmet};
+
+    // Whether the address has the start's host.
+    fn has_start_host(&self, address: &Address) -> bool
+        ensures { result ≡ has_start_host self.now address.now }
+    {
+        address.host() == self.start.host()
+    }
+
+    #[tactic(auto, unfolding(crate::specs::Rules::meets))]
+    fn meets_host(&self, address: &Address) -> bool
+        ensures { result ≡ meets Rule.Host self.now address.now }
+    {
+        self.span_hosts || self.has_start_host(address)
+    }
+
+    #[tactic(auto, unfolding(crate::specs::Rules::meets))]
+    fn meets_parent(&self, address: &Address) -> bool
+        ensures { result ≡ meets Rule.Parent self.now address.now }
+    {
+        !self.no_parent || !self.has_start_host(address) || begins(address.dir(), self.start.dir())
+    }
+
+    #[tactic(auto, unfolding(crate::specs::Rules::meets))]
+    fn meets_domains(&self, address: &Address) -> bool
+        ensures { result ≡ meets Rule.Domain self.now address.now }
+    {
+        self.domains.is_empty() || is_in_some_domain(&self.domains, address.host())
+    }
+
+    #[tactic(auto, unfolding(crate::specs::Rules::meets))]
+    fn meets_included(&self, address: &Address) -> bool
+        ensures { result ≡ meets Rule.NotIncluded self.now address.now }
+    {
+        self.include_dirs.is_empty() || is_in_some_directory(&self.include_dirs, address.dir())
+    }
+
+    #[tactic(auto, unfolding(crate::specs::Rules::meets))]
+    fn meets_accept(&self, address: &Address) -> bool
+        ensures { result ≡ meets Rule.NotAccepted self.now address.now }
+    {
+        let file = address.file();
+        is_exempt(file) || self.accept.is_empty() || matches_some(&self.accept, file)
+    }
+
+    #[tactic(auto, unfolding(crate::specs::Rules::meets))]
+    fn meets_reject(&self, address: &Address) -> bool
+        ensures { result ≡ meets Rule.Rejected self.now address.now }
+    {
+        let file = address.file();
+        is_exempt(file) || !matches_some(&self.reject, file)
+    }
+
+    // Whether the address meets the rule.
+    #[tactic(auto, unfolding(crate::specs::Rules::meets))]
+    fn meets(&self, rule: Rule, address: &Address) -> bool
+        ensures { result ≡ meets rule self.now address.now }
+    {
+        match rule {
+            Rule::RobotsFile => !address.is_robots_file(),
+            Rule::Host => self.meets_host(address),
+            Rule::Parent => self.meets_parent(address),
+            Rule::Domain => self.meets_domains(address),
+            Rule::ExcludedDomain => !is_in_some_domain(&self.exclude_domains, address.host()),
+            Rule::NotIncluded => self.meets_included(address),
+            Rule::Excluded => !is_in_some_directory(&self.exclude_dirs, address.dir()),
+            Rule::NotAccepted => self.meets_accept(address),
+            Rule::Rejected => self.meets_reject(address),
+        }
+    }
+
+    // The first rule of the list that the address doesn't meet.
+    fn first_unmet(&self, rules: &[Rule], address: &Address) -> Option<Rule>
+        ensures { result ≡ find (λ r. not (meets r self.now address.now)) rules.now }
+    {
+        for rule in rules {
+            if !self.meets(*rule, address) {
+                return Some(*rule);
+            }
+        }
+        None
+    }
+
+    /// Whether the address may be followed, or the first rule that it doesn't meet. Takes no memory.
+    #[tactic(auto, unfolding(crate::specs::Rules::first_unmet))]
+    pub fn passes(&self, address: &Address) -> Result<(), Rule>
+        ensures value { result ≡ verdict_of self.now address.now }
+        ensures passes { is_ok result ≡ passes_of self.now address.now }
+        ensures means { MatchResult result (λ _. Passes self.now address.now)
+            (IsFirstUnmet self.now address.now) }
+    {
+        match self.first_unmet(&RULES, address) {
+            Some(rule) => Err(rule),
+            None => Ok(()),
+        }
+    }
+}
+
+/// That the test `passes_of` holds of an address just where it meets each of the nine rules, for every plan and every text: a law of the definitions,
+/// for callers whose own definitions take a test. Does nothing.
+pub fn passing_is_decided()
+    ensures { PassingIsDecided }
+{}

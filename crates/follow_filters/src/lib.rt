@@ -1,0 +1,23 @@
+//! What may be followed: the plan of a retrieval, and the rules that an address has to meet
+//! (GNU Wget manual, chapter Following Links). What the rules mean stands in `specs/Rules.antt`.
+#![tactic(auto)]
+
+pub use crate::directory::Directory;
+pub use crate::domain::Domain;
+pub use crate::elements::{ElementFault, Elements};
+pub use crate::following::passing_is_decided;
+pub use crate::limit::{Limit, MAX_LEVEL};
+pub use crate::pattern::Pattern;
+pub use crate::plan::{MAX_PER_HOST, MAX_URLS, Plan};
+pub use crate::rule::Rule;
+
+mod directory;
+mod domain;
+mod element_traits;
+mod elements;
+mod following;
+mod limit;
+mod pattern;
+mod plan;
+mod plan_copies;
+mod rule;

@@ -1,0 +1,56 @@
+//! The plan of a retrieval: where it starts, how far it goes and what it may follow
+//! (GNU Wget manual, chapters Recursive Download and Following Links).
+ghost use Rattle.std.specs.Prelude.{◌≡◌, ◌≤◌, true, false};
+ghost use Rattle.address.specs.Address.{is_robots_file};
+ghost use Rattle.follow_filters.specs.declared.plan.TheConstants.{MAX_URLS, MAX_PER_HOST};
+ghost use Rattle.follow_filters.specs.Limits.{is_in_range};
+
+use crate::directory::Directory;
+use crate::domain::Domain;
+use crate::elements::Elements;
+use crate::limit::Limit;
+use crate::pattern::Pattern;
+use address::Address;
+
+/// The most addresses that a retrieval may hold.
+pub const MAX_URLS: u32 = 1_000_000;
+
+/// The most requests that may be out to one host at a time.
+pub const MAX_PER_HOST: u32 = 16;
+
+/// What to retrieve. A list of elements that is empty counts as not given.
+#[derive(Drop)]
+pub struct Plan {
+    /// Where the retrieval starts. It isn't a robots file.
+    pub start: Address,
+    /// How many hops are followed, at most 1,000,000 or without limit.
+    pub limit: Limit,
+    /// Whether hosts other than the start's are followed.
+    pub span_hosts: bool,
+    /// Whether directories above the start's are left out.
+    pub no_parent: bool,
+    /// The domains whose hosts are followed.
+    pub domains: Elements<Domain>,
+    /// The domains whose hosts aren't followed.
+    pub exclude_domains: Elements<Domain>,
+    /// The directories that are followed.
+    pub include_dirs: Elements<Directory>,
+    /// The directories that aren't followed.
+    pub exclude_dirs: Elements<Directory>,
+    /// The patterns of the file names that are followed and kept.
+    pub accept: Elements<Pattern>,
+    /// The patterns of the file names that are neither followed nor kept.
+    pub reject: Elements<Pattern>,
+    /// Whether robots files are honoured.
+    pub robots: bool,
+    /// How many addresses may be held, 1 to 1,000,000.
+    pub max_urls: u32,
+    /// How many requests may be out to one host at a time, 1 to 16.
+    pub per_host: u32,
+    pub ghost starts_at_page: { is_robots_file start ≡ false },
+    pub ghost limit_in_range: { is_in_range limit ≡ true },
+    pub ghost some_urls: { 1 ≤ max_urls },
+    pub ghost max_urls_in_range: { max_urls ≤ MAX_URLS },
+    pub ghost some_per_host: { 1 ≤ per_host },
+    pub ghost per_host_in_range: { per_host ≤ MAX_PER_HOST },
+}

@@ -1,0 +1,38 @@
+//! The rules of following (GNU Wget manual, chapter Following Links).
+
+/// Why an address is not followed. The rules are asked in this order, and the first that the
+/// address does not meet is named.
+#[derive(Clone, Copy, PartialEq, Eq, Debug)]
+pub enum Rule {
+    /// The path with its query is `/robots.txt`.
+    RobotsFile,
+    /// The host isn't the start's, and hosts aren't spanned.
+    Host,
+    /// The directory isn't the start's or below it, and parents aren't followed.
+    Parent,
+    /// No domain of the list of domains has the host.
+    Domain,
+    /// A domain of the list of excluded domains has the host.
+    ExcludedDomain,
+    /// No directory of the list of included directories has the address's directory.
+    NotIncluded,
+    /// A directory of the list of excluded directories has the address's directory.
+    Excluded,
+    /// No pattern of the accept list matches the file name.
+    NotAccepted,
+    /// A pattern of the reject list matches the file name.
+    Rejected,
+}
+
+/// The rules, in the order in which they are asked.
+pub(crate) const RULES: [Rule; 9] = [
+    Rule::RobotsFile,
+    Rule::Host,
+    Rule::Parent,
+    Rule::Domain,
+    Rule::ExcludedDomain,
+    Rule::NotIncluded,
+    Rule::Excluded,
+    Rule::NotAccepted,
+    Rule::Rejected,
+];
