@@ -5,8 +5,8 @@ use Rattle.std.specs.Str.{bytes_eq}
 use Rattle.std.specs.Char.{is_ascii_digit}
 use Rattle.std.specs.List.{list_all}
 use Rattle.std.specs.Str.Parse.{digits_value}
-use Rattle.wgetr.specs.declared.level.Limit.{Limit}
-use Rattle.wgetr.specs.declared.level.Limit.TheVariants.{AtMost, Unlimited}
+use Rattle.follow_filters.specs.declared.limit.Limit.{Limit}
+use Rattle.follow_filters.specs.declared.limit.Limit.TheVariants.{AtMost, Unlimited}
 use Rattle.wgetr.specs.Limits.{max_level}
 
 -- the number that the text says in decimal digits, leading zeros among them, where it is no more than the greatest level

@@ -4,6 +4,7 @@
 mod input;
 mod interruption;
 mod level;
+mod line;
 mod output;
 mod report;
 mod words;
