@@ -25,5 +25,5 @@ refused text none = none_unless _ _ (λ h. none (tests _ _ _ h))
 on_err : {E : Type 0} (text : List ℕ) (e : E) → ParsesUnsigned 32 10 text (Err e) → list_all is_ascii_digit text ≡ true → level_of text ≡ None
 on_err {E} text e parsed digits = refused text (parse_digits own {E = E} 32 text (Err e) parsed digits)
 
-pub returns-in-Err : goal.returns-in-Err
-returns-in-Err c = sym (on_err c.args.text.now c.in-Err.field-0 c.in-Err.ensures.value.0 (search rules))
+pub returns-in-Err-clause-value : goal.returns-in-Err-clause-value
+returns-in-Err-clause-value c = sym (on_err c.args.text.now c.in-Err.field-0 c.in-Err.ensures.value.0 (search rules))
