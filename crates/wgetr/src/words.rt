@@ -1,5 +1,5 @@
 //! The words of a command line (GNU Wget manual, Recursive Retrieval Options).
-ghost use Rattle.std.specs.Prelude.{◌≡◌, map};
+ghost use Rattle.std.specs.Prelude.{◌≡◌, ◌↔◌, ℕ, List, Some, map};
 ghost use Rattle.wgetr.specs.Words.{Words, words_of, spelling};
 ghost use Rattle.std.specs.Option.{option_map};
 ghost use Rattle.wgetr.specs.Said.{said};
@@ -33,4 +33,10 @@ pub(crate) fn command_line<'a>(words: &[&'a str]) -> Option<CommandLine<'a>>
         }),
         _ => None,
     }
+}
+
+/// A law: what words say is what they spell, each command line once.
+pub fn lines_are_spelled()
+    ensures { (words : List (List ℕ)) (line : Words) → (words_of words ≡ Some line) ↔ (words ≡ spelling line) }
+{
 }
