@@ -27,7 +27,8 @@ pub enum FaultKind {
 }
 
 impl FaultKind {
-    ghost use Rattle.std.specs.Prelude.{◌≡◌};
+    ghost use Rattle.std.specs.Prelude.{◌≡◌, ◌≢◌, MatchOption};
+    ghost use Rattle.site_answer.specs.declared.fault_kind.FaultKind.{FaultKind};
     ghost use Rattle.site_answer.specs.FaultWords.{word_of};
 
     /// The fault's word, as maps and reports write it.
@@ -44,6 +45,24 @@ impl FaultKind {
             FaultKind::Coding => "coding",
             FaultKind::Chunk => "chunk",
             FaultKind::BodyLong => "body-long",
+        }
+    }
+
+    /// The fault of this word; other texts have none.
+    pub fn of_word(word: &str) -> Option<FaultKind>
+        ensures { MatchOption result ((kind : FaultKind) → word.now ≢ word_of kind) (λ kind. word.now ≡ word_of kind) }
+    {
+        match word {
+            "connect" => Some(FaultKind::Connect),
+            "device" => Some(FaultKind::Device),
+            "ended" => Some(FaultKind::Ended),
+            "head" => Some(FaultKind::Head),
+            "head-long" => Some(FaultKind::HeadLong),
+            "length" => Some(FaultKind::Length),
+            "coding" => Some(FaultKind::Coding),
+            "chunk" => Some(FaultKind::Chunk),
+            "body-long" => Some(FaultKind::BodyLong),
+            _ => None,
         }
     }
 }

@@ -6,10 +6,14 @@ mod answer;
 mod edge;
 mod fault_kind;
 mod fetcher;
+mod field;
+mod input_fault;
 mod outcome;
+mod map_line;
 
 pub use answer::{Answer, Body};
 pub use edge::{Edge, EdgeKind, Edges};
 pub use fault_kind::FaultKind;
 pub use fetcher::{Ask, Fetcher};
+pub use input_fault::InputFault;
 pub use outcome::Outcome;

@@ -1,0 +1,49 @@
+-- From the fields of a line to the line.
+use Rattle.std.proofs.Common.{◌≡◌, ℕ, List, [], ◌∷◌, Option, Some, None, MatchOption, ◌==◌, false, length, slice_index, inl, inr, arith}
+use Rattle.std.specs.Prelude.{IsUtf8}
+use Rattle.site_answer.specs.declared.map_line.MapLine.{MapLine}
+use Rattle.site_answer.specs.Lines.{Statement, skipped, page, edge, moved, leaf, fault, fields, IsForm, IsSkipped, HasForm}
+use Rattle.site_answer.specs.Said.{said}
+use Rattle.site_answer.specs.declared.edge.EdgeKind.TheVariants.{Link, Inline, Redirect}
+use Rattle.std.proofs.lemmas.Grind.{common_steps}
+
+-- no form has five fields or more
+pub five_fields : (a b c d e : List ℕ) (more : List (List ℕ)) (s : Statement) → ¬ IsForm (a ∷ b ∷ c ∷ d ∷ e ∷ more) s
+five_fields a b c d e more skipped h = h
+five_fields a b c d e more (page status text) h = let k = h.1 in cc
+five_fields a b c d e more (edge Link text) h = cc
+five_fields a b c d e more (edge Inline text) h = cc
+five_fields a b c d e more (edge Redirect text) h = h
+five_fields a b c d e more (moved status text target) h = let k = h.1 in cc
+five_fields a b c d e more (leaf status text) h = let k = h.1 in cc
+five_fields a b c d e more (fault kind text) h = cc
+
+-- a line that isn't empty and doesn't begin with `#` isn't skipped
+pub not_skipped : (line : List ℕ) → (length line == 0) ≡ false → (slice_index line 0 == 35) ≡ false → ¬ IsSkipped line
+not_skipped line e h (inl empty) = grind (arith, common_steps)
+not_skipped line e h (inr hash) = grind (arith, common_steps)
+
+-- a line that isn't skipped says what its fields say
+pub line_says : (line : List ℕ) (s : Statement) → IsUtf8 line → IsForm (fields line) s → HasForm line s
+line_says line skipped u h = absurd h
+line_says line (page status text) u h = (u, h)
+line_says line (edge kind text) u h = (u, h)
+line_says line (moved status text target) u h = (u, h)
+line_says line (leaf status text) u h = (u, h)
+line_says line (fault kind text) u h = (u, h)
+
+-- and nothing else
+pub fields_say : (line : List ℕ) (s : Statement) → ¬ IsSkipped line → HasForm line s → IsForm (fields line) s
+fields_say line skipped n h = absurd (n h.1)
+fields_say line (page status text) n h = h.1
+fields_say line (edge kind text) n h = h.1
+fields_say line (moved status text target) n h = h.1
+fields_say line (leaf status text) n h = h.1
+fields_say line (fault kind text) n h = h.1
+
+-- what is found of the fields is true of the line
+pub line_form : (line : List ℕ) (o : Option MapLine) → IsUtf8 line → ¬ IsSkipped line
+    → MatchOption o ((s : Statement) → ¬ IsForm (fields line) s) (λ s. IsForm (fields line) (said s))
+    → MatchOption o ((s : Statement) → ¬ HasForm line s) (λ s. HasForm line (said s))
+line_form line None u n h = λ s f. h s (fields_say line s n f)
+line_form line (Some s) u n h = line_says line (said s) u h

@@ -1,0 +1,62 @@
+-- What one line of a map says.
+use Rattle.std.specs.Prelude.{◌≡◌, ℕ, ◌+◌, ◌-◌, ◌*◌, ◌≤◌, ◌⊎◌, ◌==◌, ◌&&◌, List, [], ◌∷◌, Option, Some, None, slice_index, codes, IsUtf8, if◌then◌else◌}
+use Rattle.std.specs.List.{slice_split}
+use Rattle.std.specs.Char.{is_ascii_digit}
+use Rattle.site_answer.specs.declared.edge.EdgeKind.{EdgeKind}
+use Rattle.site_answer.specs.declared.edge.EdgeKind.TheVariants.{Link, Inline, Redirect}
+use Rattle.site_answer.specs.declared.fault_kind.FaultKind.{FaultKind}
+use Rattle.site_answer.specs.FaultWords.{word_of}
+
+-- what a line may say; an address is the text that stands there
+pub data Statement : Type 0 where
+  -- nothing
+  skipped : Statement
+  -- a page of this status has this address
+  page : ℕ → List ℕ → Statement
+  -- the page above has an edge of this kind to this address
+  edge : EdgeKind → List ℕ → Statement
+  -- the first address redirects to the second, with this status
+  moved : ℕ → List ℕ → List ℕ → Statement
+  -- the address has an answer of this status that leads nowhere
+  leaf : ℕ → List ℕ → Statement
+  -- the address has no response, for this reason
+  fault : FaultKind → List ℕ → Statement
+
+-- the fields of a line: what stands between its spaces
+abbrev pub fields : List ℕ → List (List ℕ)
+fields line = slice_split (λ b. b == 32) line
+
+-- the value of three decimal digits; other texts have none
+abbrev pub three_digits : List ℕ → Option ℕ
+three_digits (a ∷ b ∷ c ∷ []) =
+    if is_ascii_digit a && is_ascii_digit b && is_ascii_digit c
+    then Some (100 * (a - 48) + 10 * (b - 48) + (c - 48))
+    else None
+three_digits _ = None
+
+-- the statuses of redirects (RFC 9110, section 15.4)
+abbrev pub IsRedirect : ℕ → Type 0
+IsRedirect status = (status ≡ 301) ⊎ (status ≡ 302) ⊎ (status ≡ 303) ⊎ (status ≡ 307) ⊎ (status ≡ 308)
+
+-- the fields of a line that is neither empty nor a comment say this
+abbrev pub IsForm : List (List ℕ) → Statement → Type 0
+IsForm fs skipped = ⊥
+IsForm fs (page status text) =
+    (number : List ℕ) × (fs ≡ codes "page" ∷ number ∷ text ∷ []) × (three_digits number ≡ Some status) × (200 ≤ status) × (status ≤ 299)
+IsForm fs (edge Link text) = fs ≡ codes "link" ∷ text ∷ []
+IsForm fs (edge Inline text) = fs ≡ codes "inline" ∷ text ∷ []
+IsForm fs (edge Redirect text) = ⊥
+IsForm fs (moved status text target) =
+    (number : List ℕ) × (fs ≡ codes "moved" ∷ number ∷ text ∷ target ∷ []) × (three_digits number ≡ Some status) × IsRedirect status
+IsForm fs (leaf status text) =
+    (number : List ℕ) × (fs ≡ codes "leaf" ∷ number ∷ text ∷ []) × (three_digits number ≡ Some status) × (200 ≤ status)
+IsForm fs (fault kind text) = fs ≡ codes "fault" ∷ word_of kind ∷ text ∷ []
+
+-- the line is empty or begins with `#`
+abbrev pub IsSkipped : List ℕ → Type 0
+IsSkipped line = (line ≡ []) ⊎ (slice_index line 0 ≡ 35)
+
+-- the line is UTF-8 and says this
+abbrev pub HasForm : List ℕ → Statement → Type 0
+HasForm line skipped = IsUtf8 line × IsSkipped line
+HasForm line s = IsUtf8 line × IsForm (fields line) s

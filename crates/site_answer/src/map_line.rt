@@ -1,0 +1,103 @@
+//! Lines of a map: what each says by itself.
+use crate::edge::EdgeKind;
+use crate::fault_kind::FaultKind;
+use crate::field::{first_field, is_redirect, three_digits};
+
+/// What a line of a map says. Addresses are texts of the line, not read yet.
+#[derive(Drop, Debug)]
+pub(crate) enum MapLine<'a> {
+    /// Nothing: the line is empty or a comment.
+    Skipped,
+    /// A page of this status has this address.
+    Page(u16, &'a str),
+    /// The page above has an edge of this kind to this address.
+    Edge(EdgeKind, &'a str),
+    /// The first address redirects to the second, with this status.
+    Moved(u16, &'a str, &'a str),
+    /// The address has an answer of this status that leads nowhere.
+    Leaf(u16, &'a str),
+    /// The address has no response, for this reason.
+    Fault(FaultKind, &'a str),
+}
+
+impl<'a> MapLine<'a> {
+    ghost use Rattle.std.specs.Prelude.{◌≡◌, [], ◌∷◌, MatchOption};
+    ghost use Rattle.site_answer.specs.Lines.{Statement, fields, three_digits, IsForm, HasForm};
+    ghost use Rattle.site_answer.specs.Said.{said};
+
+    /// What a line says, or none where it has no form.
+    pub(crate) fn of(line: &'a str) -> Option<MapLine<'a>>
+        ensures { MatchOption result ((s : Statement) → ¬ HasForm line.now s) (λ s. HasForm line.now (said s)) }
+    {
+        if line.is_empty() || line.starts_with('#') {
+            return Some(MapLine::Skipped);
+        }
+        MapLine::of_fields(line)
+    }
+
+    // What the fields of a line say.
+    fn of_fields(line: &'a str) -> Option<MapLine<'a>>
+        ensures { MatchOption result ((s : Statement) → ¬ IsForm (fields line.now) s) (λ s. IsForm (fields line.now) (said s)) }
+    {
+        let (word, Some(rest)) = first_field(line) else {
+            return None;
+        };
+        match first_field(rest) {
+            (text, None) => MapLine::of_two(word, text),
+            (number, Some(rest)) => match first_field(rest) {
+                (text, None) => MapLine::of_three(word, number, text),
+                (text, Some(rest)) => match first_field(rest) {
+                    (target, None) => MapLine::of_four(word, number, text, target),
+                    (_, Some(_)) => None,
+                },
+            },
+        }
+    }
+
+    // What two fields say: an edge.
+    fn of_two(word: &str, text: &'a str) -> Option<MapLine<'a>>
+        ensures { let fs = word.now ∷ text.now ∷ [] in MatchOption result ((s : Statement) → ¬ IsForm fs s) (λ s. IsForm fs (said s)) }
+    {
+        match word {
+            "link" => Some(MapLine::Edge(EdgeKind::Link, text)),
+            "inline" => Some(MapLine::Edge(EdgeKind::Inline, text)),
+            _ => None,
+        }
+    }
+
+    // What three fields say: an answer with a status, or a fault.
+    fn of_three(word: &str, number: &str, text: &'a str) -> Option<MapLine<'a>>
+        ensures { let fs = word.now ∷ number.now ∷ text.now ∷ [] in MatchOption result ((s : Statement) → ¬ IsForm fs s) (λ s. IsForm fs (said s)) }
+    {
+        match word {
+            "page" => match three_digits(number) {
+                Some(status) if 200 <= status && status <= 299 => {
+                    Some(MapLine::Page(status, text))
+                }
+                _ => None,
+            },
+            "leaf" => match three_digits(number) {
+                Some(status) if 200 <= status => Some(MapLine::Leaf(status, text)),
+                _ => None,
+            },
+            "fault" => match FaultKind::of_word(number) {
+                Some(kind) => Some(MapLine::Fault(kind, text)),
+                None => None,
+            },
+            _ => None,
+        }
+    }
+
+    // What four fields say: a redirect.
+    fn of_four(word: &str, number: &str, text: &'a str, target: &'a str) -> Option<MapLine<'a>>
+        ensures { let fs = word.now ∷ number.now ∷ text.now ∷ target.now ∷ [] in MatchOption result ((s : Statement) → ¬ IsForm fs s) (λ s. IsForm fs (said s)) }
+    {
+        if word != "moved" {
+            return None;
+        }
+        match three_digits(number) {
+            Some(status) if is_redirect(status) => Some(MapLine::Moved(status, text, target)),
+            _ => None,
+        }
+    }
+}
