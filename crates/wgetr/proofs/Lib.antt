@@ -1,2 +1,5 @@
 pub mod RowLemmas
 pub mod WordLemmas
+pub mod TableLemmas
+pub mod TurnLaws
+pub mod RestLaws

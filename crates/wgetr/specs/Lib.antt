@@ -8,3 +8,5 @@ pub mod Streams
 pub mod Report
 pub mod Rows
 pub mod OutcomeWord
+pub mod Retrieval
+pub mod Turns

@@ -1,3 +1,4 @@
+use Rattle.wgetr.proofs.RestLaws as tl
 use Rattle.wgetr.proofs.WordLemmas.{spelling_law}
 use Rattle.wgetr.proofs.words.lines_are_spelled.Goals as goal
 
