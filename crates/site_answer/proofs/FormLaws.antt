@@ -1,9 +1,14 @@
 -- From the fields of a line to the line.
-use Rattle.std.proofs.Common.{◌≡◌, ℕ, List, [], ◌∷◌, Option, Some, None, MatchOption, ◌==◌, false, length, slice_index, inl, inr, arith}
+use Rattle.std.proofs.Common.{◌≡◌, ℕ, List, [], ◌∷◌, Option, Some, None, MatchOption, ◌==◌, false, length, slice_index, inl, inr, arith, Result, Ok, Err, MatchResult, ◌++◌}
 use Rattle.std.specs.Prelude.{IsUtf8}
 use Rattle.site_answer.specs.declared.map_line.MapLine.{MapLine}
 use Rattle.site_answer.specs.Lines.{Statement, skipped, page, edge, moved, leaf, fault, fields, IsForm, IsSkipped, HasForm}
 use Rattle.site_answer.specs.Said.{said}
+use Rattle.site_answer.specs.declared.input_fault.LineFault.{LineFault}
+use Rattle.site_answer.specs.declared.input_fault.LineFault.TheVariants.{Line, Address, Memory}
+use Rattle.site_answer.specs.declared.reading.Reading.{Reading}
+use Rattle.site_answer.specs.Maps.{IsGood}
+use Rattle.site_answer.specs.Readings.{Tells, Takes, IsBad}
 use Rattle.site_answer.specs.declared.edge.EdgeKind.TheVariants.{Link, Inline, Redirect}
 use Rattle.std.proofs.lemmas.Grind.{common_steps}
 
@@ -47,3 +52,12 @@ pub line_form : (line : List ℕ) (o : Option MapLine) → IsUtf8 line → ¬ Is
     → MatchOption o ((s : Statement) → ¬ HasForm line s) (λ s. HasForm line (said s))
 line_form line None u n h = λ s f. h s (fields_say line s n f)
 line_form line (Some s) u n h = line_says line (said s) u h
+
+-- a line that is taken, or refused, as what it says
+pub reads_line : {U : Type 0} (old new : Reading) (r : Result U LineFault) (line : List ℕ) (s : Statement) → HasForm line s → Takes old s r new
+    → (above : List Statement) → Tells old above
+    → MatchResult r (λ _. (s : Statement) × HasForm line s × IsGood above s × Tells new (above ++ s ∷ [])) (λ f. IsBad above line f)
+reads_line old new (Ok u) line s form takes above t = let h = takes above t in (s, form, h.0, h.1)
+reads_line old new (Err Line) line s form takes above t = inr (s, form, takes above t)
+reads_line old new (Err Address) line s form takes above t = let h = takes above t in (s, form, h.0, h.1)
+reads_line old new (Err Memory) line s form takes above t = tt

@@ -1,2 +1,5 @@
 pub mod Splits
 pub mod FormLaws
+pub mod MapLaws
+pub mod ReadingLaws
+pub mod MapReads

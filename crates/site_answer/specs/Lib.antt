@@ -3,4 +3,7 @@ pub mod Outcomes
 pub mod Logs
 pub mod Lines
 pub mod Said
+pub mod Faults
 pub mod Maps
+pub mod Readings
+pub mod MapSites

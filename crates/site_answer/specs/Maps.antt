@@ -1,9 +1,9 @@
 -- What the lines of a map say together, and the first bad line.
-use Rattle.std.specs.Prelude.{◌≡◌, ℕ, ◌+◌, ◌⊎◌, ◌==◌, ◌++◌, List, [], ◌∷◌, Option, Some, All, Contains, IsOk, IsTrue, Bool, true, false, map, take, slice_get, unwrap_or}
+use Rattle.std.specs.Prelude.{◌≡◌, ℕ, ◌+◌, ◌⊎◌, ◌==◌, ◌++◌, Bool, true, false, List, [], ◌∷◌, Some, All, IsOk, IsSome, IsTrue, take, slice_get, unwrap_or}
 use Rattle.std.specs.List.{slice_split, AllZip}
 use Rattle.std.specs.Result.{result_unwrap_or}
 use Rattle.std.specs.Map.{lookup}
-use Rattle.std.specs.Prelude.{bytes_eq}
+use Rattle.std.specs.Str.{bytes_eq}
 use Rattle.address.specs.Address.{read_address}
 use Rattle.site_answer.specs.declared.edge.Edge.{Edge}
 use Rattle.site_answer.specs.declared.outcome.Outcome.{Outcome}
@@ -85,13 +85,13 @@ texts_of (moved status text target) = text ∷ target ∷ []
 texts_of (leaf status text) = text ∷ []
 texts_of (fault kind text) = text ∷ []
 
--- the addresses for which these lines state an answer
-abbrev pub answered_by : List Statement → List (List ℕ)
-answered_by said = map (λ answer. answer.0) (answers_of said)
+-- these lines state an answer for the address
+abbrev pub IsAnswered : List Statement → List ℕ → Type 0
+IsAnswered said at = IsSome (lookup (bytes_eq at) (answers_of said))
 
 -- the line states an answer for an address for which these lines state one
 abbrev pub IsRepeated : List Statement → Statement → Type 0
-IsRepeated above s = (at : List ℕ) × Contains (answered_by (s ∷ [])) at × Contains (answered_by above) at
+IsRepeated above s = (at : List ℕ) × IsAnswered (s ∷ []) at × IsAnswered above at
 
 -- the line is good below these
 pub record IsGood (above : List Statement) (s : Statement) : Type 0 where
@@ -111,7 +111,7 @@ abbrev pub IsBadLine : List Statement → List ℕ → Type 0
 IsBadLine above line =
     ((s : Statement) → ¬ HasForm line s)
     ⊎ ((s : Statement) × HasForm line s × (¬ IsInPlace above s
-        ⊎ (IsInPlace above s × All IsNamed (texts_of s) × IsRepeated above s)))
+    ⊎ (IsInPlace above s × All IsNamed (texts_of s) × IsRepeated above s)))
 
 -- the line has its form and its place, and one of its addresses is refused
 abbrev pub IsBadAddress : List Statement → List ℕ → Type 0

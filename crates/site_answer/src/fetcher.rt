@@ -15,6 +15,29 @@ pub enum Ask {
     Page(Address),
 }
 
+impl Ask {
+    ghost use Rattle.std.specs.Prelude.{◌≡◌, IfOk};
+
+    /// An equal ask, or an error where memory ran out.
+    pub fn try_clone(&self) -> Result<Ask, AllocError>
+        ensures { IfOk result (λ copy. copy ≡ self.now) }
+    {
+        match self {
+            Ask::Page(address) => Ok(Ask::Page(address.try_clone()?)),
+        }
+    }
+}
+
+impl Clone for Ask {
+    ghost use Rattle.std.specs.Prelude.{◌≡◌};
+
+    ghost is_clone = { λ ask copy. copy ≡ ask };
+
+    fn clone(&self) -> Result<Ask, AllocError> {
+        self.try_clone()
+    }
+}
+
 /// Fetches addresses of one site. Each ask is logged before anything is asked of the site.
 pub trait Fetcher: Drop {
     /// What the site is, as far as its answers go.

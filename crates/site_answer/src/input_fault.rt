@@ -1,5 +1,5 @@
 //! Faults of an input that tells of a site: the first bad line.
-use std::alloc::AllocError;
+use std::alloc::{AllocError, AllocFailed};
 use std::fmt;
 
 /// Why a text tells of no site. Lines are counted from 1; the first bad line is named.
@@ -33,5 +33,54 @@ impl From<AllocError> for InputFault {
 
     fn from(_error: AllocError) -> InputFault {
         InputFault::Memory
+    }
+}
+
+/// What is wrong with a line.
+#[derive(Clone, Copy, Debug, PartialEq, Eq)]
+pub(crate) enum LineFault {
+    /// It isn't UTF-8, has no form, is out of place, or states something once more.
+    Line,
+    /// One of its addresses is refused.
+    Address,
+    /// Memory ran out.
+    Memory,
+}
+
+impl LineFault {
+    ghost use Rattle.std.specs.Prelude.{◌≡◌};
+    ghost use Rattle.site_answer.specs.Faults.{numbered};
+
+    // The fault of the line of this number.
+    pub(crate) fn at(self, number: usize) -> InputFault
+        ensures { result ≡ numbered self number }
+    {
+        match self {
+            LineFault::Line => InputFault::Line(number),
+            LineFault::Address => InputFault::Address(number),
+            LineFault::Memory => InputFault::Memory,
+        }
+    }
+}
+
+impl<T: Drop> From<AllocFailed<T>> for LineFault {
+    ghost use Rattle.std.specs.Prelude.{◌≡◌};
+    ghost use Rattle.site_answer.specs.declared.input_fault.LineFault.TheVariants.{Memory};
+
+    ghost from_gives = { λ _ fault. fault ≡ Memory };
+
+    fn from(_error: AllocFailed<T>) -> LineFault {
+        LineFault::Memory
+    }
+}
+
+impl From<AllocError> for LineFault {
+    ghost use Rattle.std.specs.Prelude.{◌≡◌};
+    ghost use Rattle.site_answer.specs.declared.input_fault.LineFault.TheVariants.{Memory};
+
+    ghost from_gives = { λ _ fault. fault ≡ Memory };
+
+    fn from(_error: AllocError) -> LineFault {
+        LineFault::Memory
     }
 }

@@ -8,12 +8,15 @@ mod fault_kind;
 mod fetcher;
 mod field;
 mod input_fault;
-mod outcome;
 mod map_line;
+mod map_site;
+mod outcome;
+mod reading;
 
 pub use answer::{Answer, Body};
 pub use edge::{Edge, EdgeKind, Edges};
 pub use fault_kind::FaultKind;
 pub use fetcher::{Ask, Fetcher};
 pub use input_fault::InputFault;
+pub use map_site::MapSite;
 pub use outcome::Outcome;

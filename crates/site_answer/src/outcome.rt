@@ -88,3 +88,13 @@ impl Outcome {
         }
     }
 }
+
+impl Clone for Outcome {
+    ghost use Rattle.std.specs.Prelude.{◌≡◌};
+
+    ghost is_clone = { λ outcome copy. copy ≡ outcome };
+
+    fn clone(&self) -> Result<Outcome, AllocError> {
+        self.try_clone()
+    }
+}

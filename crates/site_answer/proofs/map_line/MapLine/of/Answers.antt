@@ -1,5 +1,5 @@
 -- What the fields say, the line says.
-use Rattle.std.proofs.Common.{◌≡◌, ◌∙◌, sym, lit<}
+use Rattle.std.proofs.Common.{◌∙◌, sym, lit<}
 use Rattle.site_answer.proofs.FormLaws.{line_form, not_skipped}
 use Rattle.site_answer.proofs.map_line.MapLine.of.Goals as goal
 

@@ -1,0 +1,9 @@
+-- A site that is read from a map, as contracts see it.
+use Rattle.std.specs.Prelude.{ℕ, List}
+use Rattle.site_answer.specs.declared.fetcher.Ask.{Ask}
+use Rattle.site_answer.specs.declared.outcome.Outcome.{Outcome}
+
+-- the answers that the map states, in its order, and what was asked
+pub record MapValue : Type 0 where
+  pub answers : List (List ℕ × Outcome)
+  pub asks : List Ask

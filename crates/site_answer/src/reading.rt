@@ -1,0 +1,176 @@
+//! A map in mid-read: the answers that the lines so far state.
+ghost use Rattle.std.specs.Prelude.{◌≡◌, ◌≢◌, ◌⊎◌, ◌++◌, List, [], ◌∷◌, None, IsOk, IsSome, OnOk, MatchResult, is_some};
+ghost use Rattle.std.specs.Str.{bytes_eq};
+ghost use Rattle.std.specs.Map.{lookup};
+ghost use Rattle.address.specs.Address.{read_address};
+ghost use Rattle.site_answer.specs.declared.input_fault.LineFault.TheVariants as bad;
+ghost use Rattle.site_answer.specs.Lines.{Statement, page, edge, moved, leaf, fault, HasForm};
+ghost use Rattle.site_answer.specs.Said.{said};
+ghost use Rattle.site_answer.specs.Maps.{IsNamed, IsGood};
+ghost use Rattle.site_answer.specs.Readings.{answers_in, IsFresh, Tells, Takes, IsBad};
+
+use crate::edge::{Edge, EdgeKind, Edges};
+use crate::fault_kind::FaultKind;
+use crate::input_fault::LineFault;
+use crate::map_line::MapLine;
+use crate::outcome::Outcome;
+use address::{Address, AddressFault};
+use indexmap::IndexMap;
+use std::alloc::{AllocError, Global};
+use std::str;
+
+/// A page whose edge lines may still follow.
+#[derive(Drop)]
+pub(crate) struct OpenPage {
+    pub(crate) address: Address,
+    pub(crate) status: u16,
+    pub(crate) edges: Vec<Edge>,
+}
+
+/// What the lines read so far state.
+#[derive(Drop)]
+pub(crate) struct Reading {
+    pub(crate) alloc: Global,
+    pub(crate) answers: IndexMap<Address, Outcome>,
+    pub(crate) page: Option<OpenPage>,
+}
+
+impl Reading {
+    // Before the first line.
+    pub(crate) fn new(alloc: Global) -> Self
+        ensures { Tells result [] }
+    {
+        Reading {
+            alloc,
+            answers: IndexMap::new(alloc),
+            page: None,
+        }
+    }
+
+    // The address that a text names.
+    fn named(&self, text: &str) -> Result<Address, LineFault>
+        ensures { MatchResult result (λ address. read_address text.now ≡ Ok address) (λ f. (f ≡ bad.Memory) ⊎ ((f ≡ bad.Address) × ¬ IsNamed text.now)) }
+    {
+        match Address::read(self.alloc, text) {
+            Ok(address) => Ok(address),
+            Err(AddressFault::Memory) => Err(LineFault::Memory),
+            Err(_) => Err(LineFault::Address),
+        }
+    }
+
+    // Keeps the answer of the open page, if there is one: no edge line follows it any more.
+    pub(crate) fn close_page(&mut self) -> Result<(), AllocError>
+        ensures { IsFresh self.old → OnOk result ((self.new.page ≡ None) × (self.new.answers.entries ≡ answers_in self.old)) }
+    {
+        if let Some(page) = self.page.take() {
+            let OpenPage {
+                address,
+                status,
+                edges,
+            } = page;
+            self.answers
+                .insert(address, Outcome::Page(status, Edges::new(edges)))?;
+        }
+        Ok(())
+    }
+
+    // Closes the open page, and refuses an address for which an answer is stated.
+    fn claim(&mut self, address: &Address) -> Result<(), LineFault>
+        ensures { IsFresh self.old → MatchResult result (λ _. (self.new.page ≡ None) × (self.new.answers.entries ≡ answers_in self.old) × (lookup (bytes_eq address.now) (answers_in self.old) ≡ None)) (λ f. (f ≡ bad.Memory) ⊎ ((f ≡ bad.Line) × IsSome (lookup (bytes_eq address.now) (answers_in self.old)))) }
+    {
+        self.close_page()?;
+        if self.answers.contains_key(address) {
+            return Err(LineFault::Line);
+        }
+        Ok(())
+    }
+
+    // Keeps an answer for an address for which none is stated.
+    fn add_answer(&mut self, address: Address, outcome: Outcome) -> Result<(), LineFault>
+        ensures { IsFresh self.old → MatchResult result (λ _. (self.new.page ≡ None) × (self.new.answers.entries ≡ answers_in self.old ++ (address, outcome) ∷ []) × (lookup (bytes_eq address) (answers_in self.old) ≡ None)) (λ f. (f ≡ bad.Memory) ⊎ ((f ≡ bad.Line) × IsSome (lookup (bytes_eq address) (answers_in self.old)))) }
+    {
+        self.claim(&address)?;
+        self.answers.insert(address, outcome)?;
+        Ok(())
+    }
+
+    // Takes a page line.
+    fn add_page(&mut self, status: u16, text: &str) -> Result<(), LineFault>
+        ensures { Takes self.old (page status text.now) result self.new }
+    {
+        let address = self.named(text)?;
+        self.claim(&address)?;
+        self.page = Some(OpenPage {
+            address,
+            status,
+            edges: Vec::new(self.alloc),
+        });
+        Ok(())
+    }
+
+    // Takes an edge line.
+    fn add_edge(&mut self, kind: EdgeKind, text: &str) -> Result<(), LineFault>
+        ensures { Takes self.old (edge kind text.now) result self.new }
+    {
+        if self.page.is_none() {
+            return Err(LineFault::Line);
+        }
+        let target = self.named(text)?;
+        if let Some(page) = &mut self.page {
+            page.edges.push(Edge { target, kind })?;
+        }
+        Ok(())
+    }
+
+    // Takes a moved line.
+    fn add_moved(&mut self, status: u16, text: &str, target: &str) -> Result<(), LineFault>
+        ensures { Takes self.old (moved status text.now target.now) result self.new }
+    {
+        let address = self.named(text)?;
+        let target = self.named(target)?;
+        self.add_answer(address, Outcome::Moved(status, target))
+    }
+
+    // Takes a leaf line.
+    fn add_leaf(&mut self, status: u16, text: &str) -> Result<(), LineFault>
+        ensures { Takes self.old (leaf status text.now) result self.new }
+    {
+        let address = self.named(text)?;
+        self.add_answer(address, Outcome::Leaf(status))
+    }
+
+    // Takes a fault line.
+    fn add_fault(&mut self, kind: FaultKind, text: &str) -> Result<(), LineFault>
+        ensures { Takes self.old (fault kind text.now) result self.new }
+    {
+        let address = self.named(text)?;
+        self.add_answer(address, Outcome::Fault(kind))
+    }
+
+    // Takes what a line says.
+    fn add(&mut self, line: MapLine<'_>) -> Result<(), LineFault>
+        ensures { Takes self.old (said line.entry) result self.new }
+    {
+        match line {
+            MapLine::Skipped => Ok(()),
+            MapLine::Page(status, text) => self.add_page(status, text),
+            MapLine::Edge(kind, text) => self.add_edge(kind, text),
+            MapLine::Moved(status, text, target) => self.add_moved(status, text, target),
+            MapLine::Leaf(status, text) => self.add_leaf(status, text),
+            MapLine::Fault(kind, text) => self.add_fault(kind, text),
+        }
+    }
+
+    /// Takes one more line. An error says what is wrong with it; then nothing more may be read.
+    pub(crate) fn read_line(&mut self, line: &[u8]) -> Result<(), LineFault>
+        ensures { (above : List Statement) → Tells self.old above → MatchResult result (λ _. (s : Statement) × HasForm line.now s × IsGood above s × Tells self.new (above ++ s ∷ [])) (λ f. IsBad above line.now f) }
+    {
+        let Ok(text) = str::from_utf8(line) else {
+            return Err(LineFault::Line);
+        };
+        let Some(line) = MapLine::of(text) else {
+            return Err(LineFault::Line);
+        };
+        self.add(line)
+    }
+}
