@@ -3,3 +3,5 @@ pub mod WordLemmas
 pub mod TableLemmas
 pub mod TurnLaws
 pub mod RestLaws
+pub mod SiteLaws
+pub mod LineLaws

@@ -10,3 +10,5 @@ pub mod Rows
 pub mod OutcomeWord
 pub mod Retrieval
 pub mod Turns
+pub mod Site
+pub mod Entries

@@ -51,5 +51,5 @@ abbrev pub IsAscending : List Line → Type 0
 IsAscending lines = AllPairs (λ line later. IsBefore line.address later.address) lines
 
 -- no address stands twice
-abbrev pub IsOnce : List Line → Type 0
-IsOnce lines = AllPairs (λ line later. line.address ≢ later.address) lines
+abbrev pub AreApart : List Line → Type 0
+AreApart lines = AllPairs (λ line later. line.address ≢ later.address) lines

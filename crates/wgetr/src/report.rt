@@ -1,6 +1,6 @@
 //! The report: a line for each address, and the counts.
 ghost use Rattle.std.specs.Prelude.{◌≡◌, ◌++◌, IfOk, OnOk, map, count_by, IsPermutation, string_bytes};
-ghost use Rattle.wgetr.specs.Report.{outcome_word, is_failed, report_text, counts_text, line_text, IsOnce, IsAscending};
+ghost use Rattle.wgetr.specs.Report.{outcome_word, is_failed, report_text, counts_text, line_text, AreApart, IsAscending};
 ghost use Rattle.wgetr.specs.Rows.{line_of};
 ghost use Rattle.wgetr.specs.OutcomeWord.{word_text};
 
@@ -99,7 +99,7 @@ pub(crate) fn report_text(alloc: Global, rows: &[Row<'_>]) -> Result<String, All
 
 /// Sorts the rows by their addresses, none of which stands twice.
 pub(crate) fn sort_rows(rows: &mut [Row<'_>])
-    requires { IsOnce (map line_of rows.old) }
+    requires { AreApart (map line_of rows.old) }
     ensures permutation { IsPermutation (map line_of rows.old) (map line_of rows.new) }
     ensures ascending { IsAscending (map line_of rows.new) }
 {
