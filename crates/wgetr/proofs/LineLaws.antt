@@ -93,7 +93,7 @@ pairs_cons R x xs first rest (suc i) (suc j) d lt lj = rest i j d (omega arith) 
 
 -- no address has two lines
 pub lines_apart : (entries : List (Text × Slot)) → IsOnce (keys entries) → AreApart (lines_in entries)
-lines_apart [] once i j d lt lj = absurd (omega arith)
+lines_apart [] once = λ i j d lt lj. absurd (omega arith)
 lines_apart (entry ∷ entries) once = go (lines_apart entries once.1) (outcome_in entry.1.progress)
   where
     go : AreApart (lines_in entries) → (o : Option Outcome) → AreApart (line_before entry.0 entry.1.depth o (lines_in entries))
