@@ -1,8 +1,9 @@
 -- What inner calls of the table answer; no public contract speaks of these.
-use Rattle.std.specs.Prelude.{◌≡◌, ℕ, Bool, true, false, List, [], ◌∷◌, Option, Some, None, ◌==◌, zero, suc}
+use Rattle.std.specs.Prelude.{◌≡◌, ℕ, ◌+◌, count_by, Bool, true, false, List, [], ◌∷◌, Option, Some, None, ◌==◌, zero, suc}
 use Rattle.frontier_core.specs.Tables.{Text, lookup}
 use Rattle.site_answer.specs.Outcomes.{edges}
 use Rattle.frontier_core.specs.Machine.{State, Slot, Progress, Parked, Waiting, Out, Answered, Refused, Worker, Nobody, Turn, Due, Offered, slot_outcome}
+use Rattle.frontier_core.specs.declared.event.Cause.{Cause}
 use Rattle.site_answer.specs.declared.edge.Edge.{Edge}
 use Rattle.site_answer.specs.declared.outcome.Outcome.{Outcome}
 
@@ -59,3 +60,25 @@ spread_over Waiting = Waiting
 spread_over (Out holder) = Out holder
 spread_over (Answered x turn) = Answered x Offered
 spread_over Refused = Refused
+
+-- the address is out to a worker
+abbrev pub is_held : Progress → Bool
+is_held Parked = false
+is_held Waiting = false
+is_held (Out Nobody) = false
+is_held (Out (Worker worker)) = true
+is_held (Answered x turn) = false
+is_held Refused = false
+
+-- how many addresses are out to workers
+abbrev pub held_count : State → ℕ
+held_count s = count_by (λ entry. is_held entry.1.progress) s.entries
+
+-- one where nothing has stopped the frontier
+abbrev pub stop_count : Option Cause → ℕ
+stop_count None = 1
+stop_count (Some cause) = 0
+
+-- how many lines are still owed a place in the trace: the end of each permit, and the first stop
+abbrev pub owed : State → ℕ
+owed s = held_count s + stop_count s.cause

@@ -1,0 +1,98 @@
+//! What is read from a frontier: its held addresses and its record.
+
+ghost use Rattle.std.specs.Prelude.{◌≡◌, length, map};
+ghost use Rattle.std.specs.List.{filter_map};
+ghost use Rattle.std.specs.Iterator.{YieldsFirstBy, item_count, at_most};
+ghost use Rattle.frontier_core.specs.Machine.{State};
+ghost use Rattle.frontier_core.specs.Readers.{entry_of, record_of, item_entry, item_record};
+
+use crate::condition::Condition;
+use crate::entry::Slot;
+use address::Address;
+use site_answer::Outcome;
+use std::marker::Model;
+use std::slice;
+
+/// The held addresses in order of discovery, each with its label and its condition.
+#[derive(Drop)]
+pub struct Entries<'a> {
+    rest: slice::Iter<'a, (Address, Slot)>,
+}
+
+impl<'a> Model for Entries<'a> {
+    ghost use Rattle.std.specs.Prelude.{List, ℕ, map};
+    ghost use Rattle.std.specs.Slice.Iter.{iter_rest};
+    ghost use Rattle.frontier_core.specs.Tables.{Text};
+    ghost use Rattle.frontier_core.specs.Readers.{Entry, entry_of};
+
+    ghost Value = { List Entry };
+
+    ghost view = { λ a. map entry_of (iter_rest a.rest) };
+}
+
+impl<'a> Entries<'a> {
+    pub(crate) fn new(entries: &'a [(Address, Slot)]) -> Self
+        ensures { result ≡ map entry_of entries.now }
+    {
+        Entries {
+            rest: entries.iter(),
+        }
+    }
+}
+
+impl<'a> Iterator for Entries<'a> {
+    type Item = (&'a Address, u32, Condition);
+
+    ghost next_gives = { YieldsFirstBy item_entry (λ s. s) };
+
+    ghost remaining = { item_count (λ s. s) };
+
+    fn next(&mut self) -> Option<(&'a Address, u32, Condition)> {
+        let entry = self.rest.next()?;
+        Some((&entry.0, entry.1.depth(), entry.1.condition()))
+    }
+}
+
+/// The recorded addresses in order of discovery, each with its outcome.
+#[derive(Drop)]
+pub struct Records<'a> {
+    rest: slice::Iter<'a, (Address, Slot)>,
+}
+
+impl<'a> Model for Records<'a> {
+    ghost use Rattle.std.specs.Prelude.{List};
+    ghost use Rattle.std.specs.List.{filter_map};
+    ghost use Rattle.std.specs.Slice.Iter.{iter_rest};
+    ghost use Rattle.frontier_core.specs.Readers.{Recorded, record_of};
+
+    ghost Value = { List Recorded };
+
+    ghost view = { λ a. filter_map record_of (iter_rest a.rest) };
+}
+
+impl<'a> Records<'a> {
+    pub(crate) fn new(entries: &'a [(Address, Slot)]) -> Self
+        ensures { result ≡ filter_map record_of entries.now }
+    {
+        Records {
+            rest: entries.iter(),
+        }
+    }
+}
+
+impl<'a> Iterator for Records<'a> {
+    type Item = (&'a Address, &'a Outcome);
+
+    ghost next_gives = { YieldsFirstBy item_record (λ s. s) };
+
+    ghost remaining = { item_count (λ s. s) };
+
+    fn next(&mut self) -> Option<(&'a Address, &'a Outcome)> {
+        while let Some(entry) = self.rest.next() {
+            if let Some(outcome) = entry.1.outcome() {
+                return Some((&entry.0, outcome));
+            }
+        }
+        None
+    }
+}
