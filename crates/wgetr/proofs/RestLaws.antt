@@ -1,21 +1,28 @@
 -- A driver that holds no permit: each turn leads from rest to rest, and it is never told that others are busy.
-use Rattle.std.proofs.Common.{◌≡◌, ◌≢◌, ℕ, ◌+◌, ◌<◌, ◌≤◌, ◌⊎◌, inl, inr, Bool, true, false, List, [], ◌∷◌, ◌++◌, length, get_or, map, suc, Some, None, Option, refl, sym, ap, ◌∙◌, subst, arith, length-append}
+use Rattle.std.proofs.Common.{◌≡◌, ◌≢◌, ℕ, ◌+◌, ◌<◌, ◌≤◌, ◌⊎◌, inl, inr, Bool, true, false, List, [], ◌∷◌, ◌++◌, length, get_or, map, take, suc, Some, None, Option, refl, sym, ap, ◌∙◌, subst, arith, length-append, append_assoc}
 use Rattle.std.specs.Prelude.{Contains, IsSome, IsTrue, All, count_by, ◌&&◌}
 use Rattle.std.specs.Str.{bytes_eq}
 use Rattle.std.proofs.lemmas.Bool.{false≢true}
+use Rattle.std.proofs.lemmas.List.{map-append}
 use Rattle.std.proofs.lemmas.List.Elements.{Contains-append_left, Contains-push, Contains-push_cases}
 use Rattle.follow_filters.specs.declared.plan.Plan.{Plan}
 use Rattle.site_answer.specs.Outcomes.{edges}
 use Rattle.site_answer.specs.declared.outcome.Outcome.{Outcome}
 use Rattle.frontier_core.specs.Tables.{Text, lookup, put, keys, IsOnce}
-use Rattle.frontier_core.specs.Routes.{Policy}
+use Rattle.frontier_core.specs.Routes.{Policy, HasTooMany}
 use Rattle.frontier_core.specs.Plans.{policy}
 use Rattle.frontier_core.specs.Machine.{State, Slot, Progress, Parked, Waiting, Out, Answered, Refused, Turn, Due, Offered, Holder, Worker, TakePage, Answer, Spread, slot, answers, slot_outcome, outcome_in, with_entry, turn_of, opened, is_out, is_done, permits_out, asked_count, is_known, OriginRules, IsQuiet, IsRunning}
-use Rattle.frontier_core.specs.Traced.{Traced, Makes, SpreadsWhole, HasDue, HasPage}
-use Rattle.wgetr.specs.Retrieval.{IsTold, IsRecordOf}
+use Rattle.frontier_core.specs.Traced.{Traced, Makes, SpreadsWhole, SpreadsPart, Spreads, HasDue, HasPage}
+use Rattle.site_answer.specs.Logs.{GainedAtMost}
+use Rattle.site_answer.specs.declared.fetcher.Ask.{Ask}
+use Rattle.site_answer.specs.declared.fetcher.Ask.TheVariants as ask
+use Rattle.frontier_core.specs.declared.event.Cause.{Cause}
+use Rattle.frontier_core.specs.declared.event.Cause.TheVariants as why
+use Rattle.wgetr.specs.Retrieval.{IsTold, IsRecordOf, Gains, Finds, Stops}
+use Rattle.frontier_core.specs.Invariants.{IsComplete}
 use Rattle.wgetr.specs.Turns.{is_idle, IsIdle, AtRest}
 use Rattle.wgetr.proofs.TableLemmas.{Compared, same, other, compare_texts, found_put, other_put, found_entry, once_push}
-use Rattle.wgetr.proofs.TurnLaws.{Same, same_spread, outcome_there, outcome_elsewhere, idle_put}
+use Rattle.wgetr.proofs.TurnLaws.{Same, same_spread, same_follow_all, outcome_there, outcome_elsewhere, idle_put}
 
 none_is_some : IsSome {T = Outcome} None → ⊥
 none_is_some h = false≢true h
@@ -105,10 +112,10 @@ module _ (may_say : Text → Outcome → List ℕ → Type 0) (plan : Plan) wher
   twice_elsewhere s mid t u a b e f w apart =
       ap (λ (x : State). lookup x.entries w) f ∙ other_put mid.entries u b w apart ∙ ap (λ (x : State). lookup x.entries w) e ∙ other_put s.entries u a w apart
 
-  pub rest_page : (s mid t : Traced) (asked : List Text) (w : ℕ) (u : Text) (x : Outcome) (body : List ℕ) → AtRest may_say plan s asked
-      → Makes s (TakePage w u) mid → Makes mid (Answer w u x) t → may_say u x body
+  pub rest_page : (s mid t : Traced) (asked : List Text) (w v : ℕ) (u : Text) (x : Outcome) (body : List ℕ) → AtRest may_say plan s asked
+      → Makes s (TakePage w u) mid → Makes mid (Answer v u x) t → may_say u x body
       → AtRest may_say plan t (asked ++ u ∷ []) × (length t.trace ≡ length s.trace + 2)
-  rest_page s mid t asked w u x body rest takes answered said =
+  rest_page s mid t asked w v u x body rest takes answered said =
       let (d, waits, out) = takes.step.2 in
       let (e, was, done) = answered.step in
       let there = twice_there s.state mid.state t.state u (slot d (Out (Worker w))) (slot e (Answered x (turn_of (edges x)))) out done in
@@ -116,17 +123,17 @@ module _ (may_say : Text → Outcome → List ℕ → Type 0) (plan : Plan) wher
       (record {
         follows = answered.plan ∙ takes.plan ∙ rest.follows;
         running = ap (λ (y : State). y.cause) done ∙ ap (λ (y : State). y.cause) out ∙ rest.running;
-        idle = λ v f found. elim (compare_texts u v) [
+        idle = λ a f found. elim (compare_texts u a) [
           | same h r ↦ (let is : Some (slot e (Answered x (turn_of (edges x)))) ≡ Some f = sym there ∙ ap (λ (y : Text). lookup t.state.entries y) h ∙ found in
               let at : slot e (Answered x (turn_of (edges x))) ≡ f = cc in ap (λ (y : Slot). is_idle y.progress) (sym at))
-          | other h r ↦ rest.idle v f (sym (elsewhere v h) ∙ found) ];
+          | other h r ↦ rest.idle a f (sym (elsewhere a h) ∙ found) ];
         origins = ap (λ (y : State). y.origins) done ∙ ap (λ (y : State). y.origins) out ∙ rest.origins;
-        told = λ v y h. elim (compare_texts u v) [
+        told = λ a y h. elim (compare_texts u a) [
           | same g r ↦ (let is : Some x ≡ Some y = sym (ap slot_outcome there) ∙ ap (λ (z : Text). slot_outcome (lookup t.state.entries z)) g ∙ h in
-              let at : x ≡ y = cc in (body, subst (λ (z : Outcome). may_say v z body) at (subst (λ (z : Text). may_say z x body) g said)))
-          | other g r ↦ rest.told v y (sym (ap slot_outcome (elsewhere v g)) ∙ h) ];
+              let at : x ≡ y = cc in (body, subst (λ (z : Outcome). may_say a z body) at (subst (λ (z : Text). may_say z x body) g said)))
+          | other g r ↦ rest.told a y (sym (ap slot_outcome (elsewhere a g)) ∙ h) ];
         once = once_push asked u rest.once (fresh asked s.state u d rest.recorded waits);
-        recorded = gains_one asked s.state t.state u x (ap slot_outcome there) (λ v apart. ap slot_outcome (elsewhere v apart)) rest.recorded;
+        recorded = gains_one asked s.state t.state u x (ap slot_outcome there) (λ a apart. ap slot_outcome (elsewhere a apart)) rest.recorded;
       },
        ap length answered.lines ∙ length-append mid.trace _ ∙ ap (λ (n : ℕ). n + 1) (ap length takes.lines ∙ length-append s.trace _) ∙ omega arith)
 
@@ -174,3 +181,52 @@ module _ (may_say : Text → Outcome → List ℕ → Type 0) (plan : Plan) wher
         origins = subst (λ (x : List (Text × OriginRules)). All (λ origin. is_known origin.1 ≡ true) x) (sym rest.origins) (λ k d lt. absurd (omega arith));
         running = rest.running;
       }
+
+  -- ---- where it ends
+
+  pub rest_at : (s t : Traced) (asked : List Text) → AtRest may_say plan s asked → t ≡ s → AtRest may_say plan t asked
+  rest_at s t asked rest is = subst (λ (x : Traced). AtRest may_say plan x asked) (sym is) rest
+
+  pub finds : (t : Traced) (asked : List Text) → AtRest may_say plan t asked → IsQuiet t.state → IsComplete (policy t.plan) t.state → Finds may_say plan t asked
+  finds t asked rest quiet complete = record {
+    follows = rest.follows;
+    quiet = quiet;
+    complete = subst (λ (x : Plan). IsComplete (policy x) t.state) rest.follows complete;
+    told = rest.told;
+    once = rest.once;
+    recorded = rest.recorded;
+  }
+
+  -- ---- a turn
+
+  pub next_spread : (s t : Traced) (asked : List Text) → AtRest may_say plan s asked → IsRunning s.state × HasDue s.state → Spreads s t
+      → AtRest may_say plan t asked × (length t.trace ≡ length s.trace + 1)
+  next_spread s t asked rest due (inl whole) = rest_spread s t asked rest whole
+  next_spread s t asked rest due (inr nothing) = absurd (nothing.0 due)
+
+  -- ---- where it stops
+
+  same_part : (s t : Traced) → SpreadsPart s t → Same s.state t.state
+  same_part s t (d, u, k, makes) = subst (λ (x : State). Same s.state x) (sym makes.step.5) (same_follow_all (policy s.plan) d s.state (take k (edges makes.step.1)) refl)
+
+  pub stops_spread : (s t : Traced) (asked : List Text) → AtRest may_say plan s asked → (cause : Cause)
+      → (cause ≡ why.Full → HasTooMany (policy t.plan) (answers t.state) × SpreadsPart s t) → (cause ≡ why.Mismatch → ⊥) → Stops may_say plan cause
+  stops_spread s t asked rest why.Full full other_cause =
+      let (many, part) = full refl in
+      let kept = same_part s t part in
+      let (d, u, k, makes) = part in
+      (answers t.state, (λ v x h. rest.told v x (sym (kept.outcomes v) ∙ h)),
+       subst (λ (p : Plan). HasTooMany (policy p) (answers t.state)) (makes.plan ∙ rest.follows) many)
+  stops_spread s t asked rest why.Memory full other_cause = tt
+  stops_spread s t asked rest why.Mismatch full other_cause = other_cause refl
+
+pub gains_push : (old mid new : List Ask) (asked : List Text) (u : Text) → Gains old mid asked → new ≡ mid ++ ask.Page u ∷ [] → Gains old new (asked ++ u ∷ [])
+gains_push old mid new asked u gained more =
+    more ∙ ap (λ (x : List Ask). x ++ ask.Page u ∷ []) gained ∙ append_assoc old (map (λ address. ask.Page address) asked) (ask.Page u ∷ [])
+    ∙ ap (λ (x : List Ask). old ++ x) (sym (map-append (λ (address : Text). ask.Page address) asked (u ∷ [])))
+
+-- the addresses asked for, after an ask that may have failed
+pub gains_at_most : (old mid new : List Ask) (asked : List Text) (u : Text) → Gains old mid asked → GainedAtMost mid new (ask.Page u)
+    → IsOnce asked → (Contains asked u → ⊥) → (all : List Text) × Gains old new all × IsOnce all
+gains_at_most old mid new asked u gained (inl e) once new_one = (asked, e ∙ gained, once)
+gains_at_most old mid new asked u gained (inr e) once new_one = (asked ++ u ∷ [], gains_push old mid new asked u gained e, once_push asked u once new_one)

@@ -12,3 +12,5 @@ pub mod Retrieval
 pub mod Turns
 pub mod Site
 pub mod Entries
+pub mod Run
+pub mod Parts

@@ -3,8 +3,9 @@ use Rattle.std.specs.Prelude.{◌≡◌, Bool, true, false, List, [], ℕ, Some}
 use Rattle.follow_filters.specs.declared.plan.Plan.{Plan}
 use Rattle.site_answer.specs.declared.outcome.Outcome.{Outcome}
 use Rattle.frontier_core.specs.Tables.{Text, lookup, IsOnce}
-use Rattle.frontier_core.specs.Machine.{State, Slot, answers, IsRunning, Progress, Parked, Waiting, Out, Answered, Refused}
-use Rattle.frontier_core.specs.Traced.{Traced}
+use Rattle.frontier_core.specs.Machine.{State, Slot, Answer, answers, IsRunning, Progress, Parked, Waiting, Out, Answered, Refused}
+use Rattle.frontier_core.specs.Traced.{Traced, Makes}
+use Rattle.frontier_core.specs.Ticket.{Ticket}
 use Rattle.wgetr.specs.Retrieval.{IsTold, IsRecordOf}
 
 -- the address waits or is answered
@@ -28,3 +29,8 @@ pub record AtRest (may_say : Text → Outcome → List ℕ → Type 0) (plan : P
   pub told : IsTold may_say (answers frontier.state)
   pub once : IsOnce asked
   pub recorded : IsRecordOf asked (answers frontier.state)
+
+-- the address of a permit is answered by what the site may give
+abbrev pub IsServed : (Text → Outcome → List ℕ → Type 0) → Traced → Ticket → Traced → Type 0
+IsServed may_say old permit new =
+    (x : Outcome) × (body : List ℕ) × may_say permit.address x body × Makes old (Answer permit.worker permit.address x) new

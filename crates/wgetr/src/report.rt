@@ -2,8 +2,12 @@
 ghost use Rattle.std.specs.Prelude.{◌≡◌, ◌++◌, IfOk, OnOk, map, count_by, IsPermutation, string_bytes};
 ghost use Rattle.wgetr.specs.Report.{outcome_word, is_failed, report_text, counts_text, line_text, AreApart, IsAscending};
 ghost use Rattle.wgetr.specs.Rows.{line_of};
+ghost use Rattle.std.specs.List.{filter_map};
+ghost use Rattle.frontier_core.specs.Readers.{entry_of, record_of};
+ghost use Rattle.wgetr.specs.Entries.{lines_beside};
 ghost use Rattle.wgetr.specs.OutcomeWord.{word_text};
 
+use frontier_core::Frontier;
 use site_answer::{FaultKind, Outcome};
 use std::alloc::{AllocError, Global};
 use std::fmt;
@@ -104,4 +108,26 @@ pub(crate) fn sort_rows(rows: &mut [Row<'_>])
     ensures ascending { IsAscending (map line_of rows.new) }
 {
     rows.sort_unstable_by_key(|row| row.address);
+}
+
+/// The rows of a frontier in order of discovery: what is held, beside what is recorded.
+pub(crate) fn rows_of(alloc: Global, frontier: &Frontier) -> Result<Vec<Row<'_>>, AllocError>
+    ensures { IfOk result (λ rows. map line_of rows.items
+        ≡ lines_beside (map entry_of frontier.now.state.entries) (filter_map record_of frontier.now.state.entries)) }
+{
+    let mut rows = Vec::new(alloc);
+    let mut entries = frontier.entries();
+    let mut records = frontier.records();
+    'rows: while let Some((address, depth, _)) = entries.next() {
+        let Some((_, outcome)) = records.next() else {
+            break;
+        };
+        let address = address.as_str();
+        rows.push(Row {
+            address,
+            depth,
+            outcome,
+        })?;
+    }
+    Ok(rows)
 }
