@@ -1,5 +1,5 @@
 -- What the parts of a run come to.
-use Rattle.std.specs.Prelude.{◌≡◌, ◌≤◌, ◌<◌, ◌⊎◌, ℕ, List, length, Option}
+use Rattle.std.specs.Prelude.{◌≡◌, ◌≤◌, ◌<◌, ◌⊎◌, ◌++◌, ℕ, List, length, codes, Option}
 use Rattle.std.specs.Io.KnownBytes.{Appends}
 use Rattle.follow_filters.specs.declared.plan.Plan.{Plan}
 use Rattle.site_answer.specs.Lines.{Statement}
@@ -12,6 +12,7 @@ use Rattle.frontier_core.specs.Tables.{Text}
 use Rattle.frontier_core.specs.declared.event.Cause.{Cause}
 use Rattle.frontier_core.specs.declared.event.Cause.TheVariants as cause
 use Rattle.wgetr.specs.Limits.{max_input}
+use Rattle.wgetr.specs.Run.{fault_words, fault_status}
 use Rattle.wgetr.specs.Site.{record_of}
 use Rattle.wgetr.specs.Streams.{IsInput, AppendsFront}
 use Rattle.wgetr.specs.declared.fault.Fault.{Fault}
@@ -45,3 +46,9 @@ StopsAt plan site (fault.Stopped cause.Mismatch) = ⊥
 -- the writer gained the text and the status is this one, or the writer failed and the status is 1
 abbrev pub IsDelivered : Option (List ℕ) → Option (List ℕ) → List ℕ → ℕ → ℕ → Type 0
 IsDelivered old new text wanted status = ((status ≡ wanted) × Appends old new text) ⊎ ((status ≡ 1) × AppendsFront old new text)
+
+-- the line of the fault is delivered with its status, or that of want of memory
+abbrev pub IsRefusal : Option (List ℕ) → Option (List ℕ) → Fault → ℕ → Type 0
+IsRefusal old new wrong status =
+    IsDelivered old new (fault_words wrong ++ codes "\n") (fault_status wrong) status
+    ⊎ IsDelivered old new (codes "stopped memory\n") 1 status

@@ -2,10 +2,6 @@
 //! of following; the crates below do. What a run writes for its words and its input is stated in `specs/Run.antt`.
 #![tactic(auto)]
 
-use std::env;
-use std::io::Write;
-use std::process::ExitCode;
-
 mod fault;
 mod input;
 mod interruption;
@@ -17,13 +13,48 @@ mod retrieval;
 mod run;
 mod words;
 
-use run::run;
+use fault::Fault;
+use frontier_core::Cause;
+use line::LineFault;
+use run::{refuse, run};
+use std::alloc::{AllocError, Global};
+use std::io::ErrorKind;
+use std::process::ExitCode;
+use std::{env, io};
+
+// Runs on these words behind the program's name.
+fn run_words(rt: &HostRuntime, args: env::Args) -> Result<u8, AllocError> {
+    let mut owned = Vec::new(rt.alloc());
+    for word in args.skip(1) {
+        owned.push(word)?;
+    }
+    let mut words = Vec::new(rt.alloc());
+    for word in &owned {
+        words.push(word.as_str())?;
+    }
+    Ok(run(
+        rt.alloc(),
+        words.as_slice(),
+        &mut rt.stdin(),
+        &mut rt.stdout(),
+    ))
+}
+
+// Why the program has no words: one of them is no text, or memory ran out.
+fn words_fault(error: &io::Error) -> Fault {
+    match error.kind() {
+        ErrorKind::OutOfMemory => Fault::Stopped(Cause::Memory),
+        _ => Fault::Line(LineFault::Words),
+    }
+}
 
 fn main(rt: HostRuntime) -> ExitCode {
-    let alloc = rt.alloc();
-    let mut words = Vec::new(alloc);
-    let Ok(args) = env::args(&rt) else {
-        return ExitCode::from(2);
+    let status = match env::args(&rt) {
+        Ok(args) => match run_words(&rt, args) {
+            Ok(status) => status,
+            Err(_) => refuse(rt.alloc(), Fault::Stopped(Cause::Memory), &mut rt.stdout()),
+        },
+        Err(error) => refuse(rt.alloc(), words_fault(&error), &mut rt.stdout()),
     };
-    ExitCode::from(0)
+    ExitCode::from(status)
 }

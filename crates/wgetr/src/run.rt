@@ -4,7 +4,7 @@ ghost use Rattle.site_answer.specs.Maps.{outcome_in};
 ghost use Rattle.frontier_core.specs.Plans.{policy};
 ghost use Rattle.wgetr.specs.Report.{Line, report_text};
 ghost use Rattle.wgetr.specs.Site.{record_of, AreLines};
-ghost use Rattle.wgetr.specs.Parts.{TellsOf, TellsFault, StopsAt, IsDelivered};
+ghost use Rattle.wgetr.specs.Parts.{TellsOf, TellsFault, StopsAt, IsDelivered, IsRefusal};
 ghost use Rattle.wgetr.specs.Run.{EndsFor, Reported, Failed, Runs};
 
 use crate::fault::{Fault, fault_text};
@@ -65,6 +65,16 @@ fn deliver<W: Write>(writer: &mut W, text: &[u8], status: u8) -> u8
     }
 }
 
+/// Writes the line of a fault, and gives its status; where memory runs out, the line of that.
+pub(crate) fn refuse<W: Write>(alloc: Global, fault: Fault, writer: &mut W) -> u8
+    ensures { IsRefusal (W.contents writer.old) (W.contents writer.new) fault result }
+{
+    match fault_text(alloc, fault) {
+        Ok(text) => deliver(writer, text.as_bytes(), fault.status()),
+        Err(_) => deliver(writer, b"stopped memory\n", 1),
+    }
+}
+
 /// Runs the program: reads its words (an optional `-r`, an optional `-l N`, then `--map START`), then the whole input as a
 /// map, retrieves, and writes the report or one line of words. Answers the status: 0 for a report, 2 where the words or the
 /// input are wrong, 1 where the reader or the writer fails, more addresses are found than may be held, or memory runs out.
@@ -79,9 +89,6 @@ pub fn run<R: Read, W: Write>(
 {
     match report(alloc, words, reader) {
         Ok(text) => deliver(writer, text.as_bytes(), 0),
-        Err(fault) => match fault_text(alloc, fault) {
-            Ok(text) => deliver(writer, text.as_bytes(), fault.status()),
-            Err(_) => deliver(writer, b"stopped memory\n", 1),
-        },
+        Err(fault) => refuse(alloc, fault, writer),
     }
 }
