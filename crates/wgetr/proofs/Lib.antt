@@ -5,3 +5,5 @@ pub mod TurnLaws
 pub mod RestLaws
 pub mod SiteLaws
 pub mod LineLaws
+pub mod FoundLaws
+pub mod RunLaws

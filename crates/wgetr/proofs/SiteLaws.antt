@@ -22,7 +22,7 @@ or_true false true c off = absurd (false≢true (sym off))
 or_true false false c off = refl
 
 -- everything is open
-open_off : (p : Policy) (m : Answers) (u : Text) → p.robots ≡ false → IsTrue (is_open p m u)
+pub open_off : (p : Policy) (m : Answers) (u : Text) → p.robots ≡ false → IsTrue (is_open p m u)
 open_off p m u off = or_true (bytes_eq u p.start) p.robots (is_allowed p u (m.rules (p.origin u))) off
 
 -- a walk and one edge more

@@ -11,6 +11,8 @@ mod output;
 mod report;
 mod retrieval;
 mod run;
+#[cfg(test)]
+mod tests;
 mod words;
 
 use fault::Fault;

@@ -102,10 +102,10 @@ pub(crate) fn report_text(alloc: Global, rows: &[Row<'_>]) -> Result<String, All
 }
 
 /// Sorts the rows by their addresses, none of which stands twice.
-pub(crate) fn sort_rows(rows: &mut [Row<'_>])
-    requires { AreApart (map line_of rows.old) }
-    ensures permutation { IsPermutation (map line_of rows.old) (map line_of rows.new) }
-    ensures ascending { IsAscending (map line_of rows.new) }
+pub(crate) fn sort_rows(rows: &mut Vec<Row<'_>>)
+    requires { AreApart (map line_of rows.old.items) }
+    ensures permutation { IsPermutation (map line_of rows.old.items) (map line_of rows.new.items) }
+    ensures ascending { IsAscending (map line_of rows.new.items) }
 {
     rows.sort_unstable_by_key(|row| row.address);
 }

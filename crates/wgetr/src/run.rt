@@ -40,7 +40,7 @@ fn report_of(alloc: Global, plan: Plan, mut site: MapSite) -> Result<String, Fau
     let mut rows = rows_of(alloc, &frontier)?;
     // No address is held twice, nor more of them than the plan lets be.
     let _trace = frontier.trace();
-    sort_rows(rows.as_mut_slice());
+    sort_rows(&mut rows);
     Ok(report_text(alloc, rows.as_slice())?)
 }
 

@@ -31,5 +31,5 @@ pub returns-clause-ascending : goal.returns-clause-ascending
 returns-clause-ascending c =
     let moved = IsPermutation-map line_of _ _ c.sort_unstable_by_key.ensures.permutation in
     ascending (λ (line : Line). line.address) _
-    (sorted_lines c.sort_unstable_by_key.new.self (c.sort_unstable_by_key.ensures.sorted (λ (row : Row). row.address) (answers_always _ _ _ (λ f a r f' k. search rules))))
+    (sorted_lines c.sort_unstable_by_key.new.self.items (c.sort_unstable_by_key.ensures.sorted (λ (row : Row). row.address) (answers_always _ _ _ (λ f a r f' k. search rules))))
     (Apart-IsPermutation (λ (line : Line). line.address) _ _ moved (Apart-from_pairs (λ (line : Line). line.address) _ c.requires))

@@ -42,7 +42,7 @@ returns-in_err-serve-in-Ok-Page-clause-stopped g c =
     let asked = c.turns.invariant.asked in
     let rest = c.turns.invariant.rest in
     let (d, waits, out) = takes.3.step.2 in
-    let (all, gained, once) = gains_at_most _ _ _ asked _ c.turns.invariant.log c.in_err-serve-in-Ok-Page.ensures.err rest.once (fresh _ _ asked c.turns.frontier.state _ d rest.recorded waits) in
+    let (all, gained, once) = gains_at_most _ _ _ asked _ c.turns.invariant.log c.in_err-serve-in-Ok-Page.ensures.err rest.once (fresh (g.F.Fetcher.says (g.F.Fetcher.site c.args.fetcher.now)) c.args.plan asked c.turns.frontier.state _ d rest.recorded waits) in
     rw (p.1, p.2, c.in_err-serve-in-Ok-Page.ensures.cause) (all, gained, once, tt)
 
 pub unreachable-requires-in-Ok-Busy : goal.unreachable-requires-in-Ok-Busy
