@@ -1,5 +1,5 @@
 -- The parts of a run come to its ending.
-use Rattle.std.proofs.Common.{◌≡◌, ℕ, ◌⊎◌, inl, inr, List, [], Option, Some, None, Err, Ok, IsOk, refl, sym, ap, subst, ◌∙◌}
+use Rattle.std.proofs.Common.{◌≡◌, ℕ, ◌⊎◌, inl, inr, List, [], Option, Some, None, Err, Ok, IsOk, IfOk, IfErr, Result, refl, sym, ap, subst, ◌∙◌}
 use Rattle.follow_filters.specs.declared.plan.Plan.{Plan}
 use Rattle.site_answer.specs.Maps.{outcome_in}
 use Rattle.site_answer.specs.MapSites.{MapValue}
@@ -10,7 +10,7 @@ use Rattle.frontier_core.specs.declared.event.Cause.{Cause}
 use Rattle.frontier_core.specs.declared.event.Cause.TheVariants as why
 use Rattle.wgetr.specs.Order.{order_of, IsPlanned, IsRefused}
 use Rattle.wgetr.specs.Parts.{TellsOf, TellsFault, StopsAt}
-use Rattle.wgetr.specs.Report.{Line}
+use Rattle.wgetr.specs.Report.{Line, report_text}
 use Rattle.wgetr.specs.Retrieval.{Stops}
 use Rattle.wgetr.specs.Run.{Comes, Ends, EndsFor, Reported, Failed}
 use Rattle.wgetr.specs.Site.{record_of, AreLines}
@@ -80,3 +80,16 @@ ends_reported words known plan site lines planned (input, is, within, said, map_
 
 pub ends_memory : (words : List (List ℕ)) (known : Option (List ℕ)) → EndsFor words known (Failed (fault.Stopped why.Memory))
 ends_memory words known = let (input, is) = some_input known in (input, is, tt)
+
+-- ---- a run's report
+
+pub finish_ok : {X : Type 0} (bytes : X → List ℕ) (words : List (List ℕ)) (known : Option (List ℕ)) (plan : Plan) (site : MapValue) (r : Result X Fault) → IsPlanned words plan → TellsOf known site
+    → IfOk r (λ text. (lines : List Line) × AreLines (policy plan) (record_of (outcome_in site.answers)) lines × (bytes text ≡ report_text lines))
+    → IfOk r (λ text. (lines : List Line) × EndsFor words known (Reported lines) × (bytes text ≡ report_text lines))
+finish_ok bytes words known plan site (Ok text) planned told (lines, found, is) = (lines, ends_reported words known plan site lines planned told found, is)
+finish_ok bytes words known plan site (Err wrong) planned told h = tt
+
+pub finish_err : {X : Type 0} (words : List (List ℕ)) (known : Option (List ℕ)) (plan : Plan) (site : MapValue) (r : Result X Fault) → IsPlanned words plan → TellsOf known site
+    → IfErr r (StopsAt plan (outcome_in site.answers)) → IfErr r (λ wrong. EndsFor words known (Failed wrong))
+finish_err words known plan site (Ok text) planned told h = tt
+finish_err words known plan site (Err wrong) planned told stops = ends_stopped words known plan site wrong planned told stops

@@ -196,6 +196,7 @@ fn runs_write_what_was_worked_out(rt: HostRuntime) {
 }
 
 // A device that is interrupted so often, and then takes or gives nothing.
+#[derive(Drop)]
 struct Interrupted(u32);
 
 impl Read for Interrupted {
@@ -209,6 +210,7 @@ impl Read for Interrupted {
 }
 
 // A writer that is interrupted so often, and then takes one byte at a time, up to so many.
+#[derive(Drop)]
 struct Slow {
     interrupted: u32,
     room: u32,

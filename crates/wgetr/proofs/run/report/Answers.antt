@@ -1,7 +1,7 @@
 -- Each part's fault is the run's, and so is its report.
-use Rattle.std.proofs.Common.{◌≡◌, ap, refl}
-use Rattle.std.proofs.lemmas.Result.{err_from_is_err_and, IfOk-weaker, MatchResult-weaker}
-use Rattle.wgetr.proofs.RunLaws.{ends_line, ends_input, ends_stopped, ends_reported}
+use Rattle.std.proofs.Common.{◌≡◌, ℕ, List, map, Bor, string_bytes}
+use Rattle.std.proofs.lemmas.Result.{err_from_is_err_and}
+use Rattle.wgetr.proofs.RunLaws.{ends_line, ends_input, finish_ok, finish_err}
 use Rattle.wgetr.proofs.run.report.Goals as goal
 
 pub returns-in_err-plan-clause-err : goal.returns-in_err-plan-clause-err
@@ -16,8 +16,10 @@ returns-in_err-site-clause-err g c =
 
 pub returns-clause-ok : goal.returns-clause-ok
 returns-clause-ok g c =
-    IfOk-weaker _ _ _ (λ text h. (h.0, ends_reported _ _ _ _ h.0 c.in_ok-plan.ensures.planned c.in_ok-site.ensures.ok h.1, h.2)) c.report_of.ensures.ok
+    finish_ok string_bytes (map (λ (word : Bor (List ℕ)). word.now) c.args.words.now) (g.R.Read.remaining c.args.reader.now) c.in_ok-plan.plan c.in_ok-site.site
+    c.report_of.result c.in_ok-plan.ensures.planned c.in_ok-site.ensures.ok c.report_of.ensures.ok
 
 pub returns-clause-err : goal.returns-clause-err
 returns-clause-err g c =
-    MatchResult-weaker _ c.report_of.ensures.err (λ x h. h) (λ wrong h. ends_stopped _ _ _ _ wrong c.in_ok-plan.ensures.planned c.in_ok-site.ensures.ok h)
+    finish_err (map (λ (word : Bor (List ℕ)). word.now) c.args.words.now) (g.R.Read.remaining c.args.reader.now) c.in_ok-plan.plan c.in_ok-site.site
+    c.report_of.result c.in_ok-plan.ensures.planned c.in_ok-site.ensures.ok c.report_of.ensures.err

@@ -1,5 +1,5 @@
 -- What is delivered is the ending's text.
-use Rattle.std.proofs.Common.{◌≡◌, ◌⊎◌, inl, inr, ap, subst, ◌∙◌, List, ℕ}
+use Rattle.std.proofs.Common.{◌≡◌, ◌⊎◌, inl, inr, ap, subst, ◌∙◌, List, ℕ, map, Bor}
 use Rattle.wgetr.specs.Parts.{IsDelivered}
 use Rattle.wgetr.specs.Run.{Reported, Failed}
 use Rattle.frontier_core.specs.declared.event.Cause.TheVariants as why
@@ -21,4 +21,4 @@ pub returns-in-Err : goal.returns-in-Err
 returns-in-Err g c =
     elim c.refuse.ensures [
       inl told ↦ record { ending = Failed c.in-Err.fault; ends = c.in-Err.ensures.err; written = told }
-    | inr told ↦ record { ending = Failed (fault.Stopped why.Memory); ends = ends_memory _ _; written = told } ]
+    | inr told ↦ record { ending = Failed (fault.Stopped why.Memory); ends = ends_memory (map (λ (word : Bor (List ℕ)). word.now) c.args.words.now) (g.R.Read.remaining c.args.reader.now); written = told } ]
