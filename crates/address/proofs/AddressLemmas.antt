@@ -1,5 +1,5 @@
 -- What every address and every origin is.
-use Rattle.std.proofs.Common.{◌++◌, Ok, append_assoc, take, drop, get_or, ◌≢◌, ◌-◌, ◌⊎◌, ◌≡◌, ℕ, ◌≤◌, ◌<◌, List, [], length, All, sym, ap, ◌∙◌, subst, take-append-drop}
+use Rattle.std.proofs.Common.{Some, None, ◌++◌, Ok, append_assoc, take, drop, get_or, ◌≢◌, ◌-◌, ◌⊎◌, ◌≡◌, ℕ, ◌≤◌, ◌<◌, List, [], length, All, sym, ap, ◌∙◌, subst, take-append-drop}
 use Rattle.std.proofs.lemmas.List.{get_or_append_left}
 use Rattle.std.proofs.lemmas.List.Elements.{All-weaker, All-take, All-drop}
 use Rattle.std.specs.Prelude.{IfSome, unwrap_or, codes}
@@ -15,7 +15,7 @@ use Rattle.url.proofs.TextLemmas.{is_host_byte, host_and_port_bytes}
 use Rattle.url.proofs.ValidLemmas.{segment_list_kept}
 use Rattle.percent_encoding.specs.Percent.{IsKept}
 use Rattle.address.specs.declared.address.TheConstants.{MAX_HOST}
-use Rattle.address.specs.Address.{text_of, IsAddress, IsOrigin, IsAddressByte, IsAuthorityByte, IsOwnPort, origin_of, host_of, path_query_of, dir_len, port_text, join_address}
+use Rattle.address.specs.Address.{url_of, text_of, IsAddress, IsOrigin, IsAddressByte, IsAuthorityByte, IsOwnPort, origin_of, host_of, path_query_of, dir_len, port_text, join_address}
 use Rattle.address.specs.Layout.{IsHttp}
 use Rattle.address.proofs.UrlLemmas.{http_kind, read_own_text, origin_of-text_of, authority_of-text_of, host_of-text_of, port_of-text_of, path_query_of-text_of, dir_of-text_of, file_of-text_of, query_of-text_of}
 use Rattle.address.proofs.PartsLemmas.{normal, authority_is, authority_text, origin_text, own_port, text_split, plain_text, path_list, first_is_slash, no_question_mark, query_begins}
@@ -39,7 +39,8 @@ IsAddress-text_of url http =
     let query : IfSome url.query (All (IsKept SPECIAL_QUERY)) = subst (λ k. IfSome url.query (All (IsKept (query_set k)))) (http_kind url http.scheme) http.valid.query in
     let tail = text_between url AfterPath AfterQuery in
     record {
-      reads = read_own_text url http;
+      reads = read_own_text url None http;
+      joins = λ base. read_own_text url (Some (url_of base)) http;
       short = http.short;
       plain = subst (λ (u : Parts). All IsAddressByte (text_of u)) (sym parts.same) (plain_text parts.host url.port url.path url.query parts.is_host own (segment_list_kept SpecialNotFile url.path path.0) query);
       split = text_split url (authority_is url http) http.fragment ∙ (λ i. sym (origin_of-text_of url http) i ++ sym (path_query_of-text_of url http) i);

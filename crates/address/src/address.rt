@@ -1,5 +1,6 @@
 //! Addresses: http URLs without user name, password and fragment (URL Standard, section 4.1).
-ghost use Rattle.std.specs.Prelude.{◌≡◌, All, IsAscii, IfOk, Ok, unwrap_or};
+ghost use Rattle.std.specs.Prelude.{◌≡◌, ◌<◌, All, IsAscii, IfOk, Ok, Err, length, unwrap_or};
+ghost use Rattle.address.specs.declared.fault.AddressFault.TheVariants.{TooLong};
 ghost use Rattle.address.specs.Address.{Gives, address_of, is_robots_file, IsAddress, IsOrigin, read_address, join_address, origin_of, host_of, port_of, authority_of, dir_of, file_of, path_query_of};
 
 use crate::{AddressFault, http_url};
@@ -36,7 +37,8 @@ impl Address {
     /// Reads an absolute URL, as `http://h:81/a?b`; a fragment is dropped (URL Standard, section 4.4).
     /// [`AddressFault`] has the condition of each refusal.
     pub fn read(alloc: Global, text: &str) -> Result<Address, AddressFault>
-        ensures { Gives result (read_address text.now) }
+        ensures value { Gives result (read_address text.now) }
+        ensures long { MAX_ADDRESS < length text.now → result ≡ Err TooLong }
     {
         if text.len() > MAX_ADDRESS {
             return Err(AddressFault::TooLong);
@@ -46,13 +48,14 @@ impl Address {
 
     /// Reads a URL, as `../a?b`, with this address as its base; a fragment is dropped (URL Standard,
     /// section 4.4). [`AddressFault`] has the condition of each refusal.
-    pub fn join(&self, text: &str) -> Result<Address, AddressFault>
-        ensures { Gives result (join_address self.now text.now) }
+    pub fn join(&self, link: &str) -> Result<Address, AddressFault>
+        ensures value { Gives result (join_address self.now link.now) }
+        ensures long { MAX_ADDRESS < length link.now → result ≡ Err TooLong }
     {
-        if text.len() > MAX_ADDRESS {
+        if link.len() > MAX_ADDRESS {
             return Err(AddressFault::TooLong);
         }
-        Address::from_url(self.url.join(text)?)
+        Address::from_url(self.url.join(link)?)
     }
 
     fn from_url(url: Url) -> Result<Address, AddressFault>

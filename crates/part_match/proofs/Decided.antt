@@ -36,6 +36,11 @@ unfolding some_end
 some_end-twice f [] h = h
 some_end-twice f (x ∷ xs) h = elim (or_cases _ _ h) [ inl here ↦ here | inr later ↦ or_right _ _ (some_end-twice f xs later) ]
 
+pub some_end-once : (f : List ℕ → Bool) (xs : List ℕ) → some_end (some_end f) xs ≡ some_end f xs
+unfolding some_end
+some_end-once f [] = refl
+some_end-once f (x ∷ xs) = or_absorbs (some_end f (x ∷ xs)) (some_end (some_end f) xs) (λ h. or_right _ _ (some_end-twice f xs h))
+
 -- ---- the parts from the front
 
 pub is_match-run : {P : Type 0} (r : P → Bool) (t : P → ℕ → Bool) (p : P) (ps : List P) (text : List ℕ) → r p ≡ true → is_match r t (p ∷ ps) text ≡ some_end (is_match r t ps) text
@@ -176,7 +181,7 @@ later {P} r t parts octets at rest (Some back) within (n, reached, singles, left
 drop_here : {X : Type 0} (xs : List X) (i : ℕ) (x : X) → i < length xs → x ≡ get_or xs i x → drop i xs ≡ x ∷ drop (i + 1) xs
 drop_here xs i x below here = drop_more xs i x below ∙ ap (λ y. y ∷ drop (i + 1) xs) (sym here)
 
-some_end-same : (f g : List ℕ → Bool) → ((xs : List ℕ) → f xs ≡ g xs) → (xs : List ℕ) → some_end f xs ≡ some_end g xs
+pub some_end-same : (f g : List ℕ → Bool) → ((xs : List ℕ) → f xs ≡ g xs) → (xs : List ℕ) → some_end f xs ≡ some_end g xs
 unfolding some_end
 some_end-same f g same [] = same []
 some_end-same f g same (x ∷ xs) = rw (same (x ∷ xs), some_end-same f g same xs) refl

@@ -1,5 +1,5 @@
 -- From the fields of a line to the line.
-use Rattle.std.proofs.Common.{◌≡◌, ℕ, List, [], ◌∷◌, Option, Some, None, MatchOption, ◌==◌, false, length, slice_index, inl, inr, arith, Result, Ok, Err, MatchResult, ◌++◌}
+use Rattle.std.proofs.Common.{◌≡◌, ℕ, List, ◌∷◌, Option, Some, None, MatchOption, ◌==◌, false, length, slice_index, inl, inr, arith, Result, Ok, Err}
 use Rattle.std.specs.Prelude.{IsUtf8}
 use Rattle.site_answer.specs.declared.map_line.MapLine.{MapLine}
 use Rattle.site_answer.specs.Lines.{Statement, skipped, page, edge, moved, leaf, fault, fields, IsForm, IsSkipped, HasForm}
@@ -7,8 +7,7 @@ use Rattle.site_answer.specs.Said.{said}
 use Rattle.site_answer.specs.declared.input_fault.LineFault.{LineFault}
 use Rattle.site_answer.specs.declared.input_fault.LineFault.TheVariants.{Line, Address, Memory}
 use Rattle.site_answer.specs.declared.reading.Reading.{Reading}
-use Rattle.site_answer.specs.Maps.{IsGood}
-use Rattle.site_answer.specs.Readings.{Tells, Takes, IsBad}
+use Rattle.site_answer.specs.Readings.{Takes, Reads}
 use Rattle.site_answer.specs.declared.edge.EdgeKind.TheVariants.{Link, Inline, Redirect}
 use Rattle.std.proofs.lemmas.Grind.{common_steps}
 
@@ -55,8 +54,7 @@ line_form line (Some s) u n h = line_says line (said s) u h
 
 -- a line that is taken, or refused, as what it says
 pub reads_line : {U : Type 0} (old new : Reading) (r : Result U LineFault) (line : List ℕ) (s : Statement) → HasForm line s → Takes old s r new
-    → (above : List Statement) → Tells old above
-    → MatchResult r (λ _. (s : Statement) × HasForm line s × IsGood above s × Tells new (above ++ s ∷ [])) (λ f. IsBad above line f)
+    → Reads old line r new
 reads_line old new (Ok u) line s form takes above t = let h = takes above t in (s, form, h.0, h.1)
 reads_line old new (Err Line) line s form takes above t = inr (s, form, takes above t)
 reads_line old new (Err Address) line s form takes above t = let h = takes above t in (s, form, h.0, h.1)

@@ -3,3 +3,4 @@ pub mod FormLaws
 pub mod MapLaws
 pub mod ReadingLaws
 pub mod MapReads
+pub mod StandardFacts

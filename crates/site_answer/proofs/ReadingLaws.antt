@@ -1,5 +1,5 @@
 -- What is kept stands for the lines so far, once one more line is taken.
-use Rattle.std.proofs.Common.{◌≡◌, ◌≢◌, ℕ, ◌⊎◌, ◌++◌, Bool, true, false, List, [], ◌∷◌, Some, None, Result, Ok, Err, refl, sym, ap, ◌∙◌, inl, inr, append_assoc, cond, IsTrue, IsSome, is_some, MatchResult}
+use Rattle.std.proofs.Common.{◌≡◌, ◌≢◌, ℕ, ◌⊎◌, ◌++◌, Bool, true, false, List, [], ◌∷◌, Some, None, Result, Ok, Err, refl, sym, ap, ◌∙◌, inl, inr, append_assoc, cond, IsTrue, IsSome, is_some}
 use Rattle.std.specs.List.{All}
 use Rattle.std.specs.Map.{lookup}
 use Rattle.std.specs.Str.{bytes_eq}
@@ -18,7 +18,7 @@ use Rattle.site_answer.specs.declared.reading.OpenPage.{OpenPage}
 use Rattle.site_answer.specs.declared.reading.Reading.{Reading}
 use Rattle.site_answer.specs.Lines.{Statement, skipped, page, edge, moved, leaf, fault}
 use Rattle.site_answer.specs.Maps.{named, edges_below, answers_of, is_between, HasPage, IsInPlace, IsNamed, IsRepeated, IsGood, texts_of}
-use Rattle.site_answer.specs.Readings.{opened, answers_in, IsFresh, Tells, IsWrong, Takes}
+use Rattle.site_answer.specs.Readings.{opened, answers_in, Tells, IsWrong, Adds, Takes}
 use Rattle.site_answer.proofs.MapLaws.{snoc_same, edges_below-go, answers_of-append, answers_of-skipped, answers_of-open, page_above, still_above, was_above, ends_above}
 
 -- ---- answers for an address
@@ -155,9 +155,7 @@ claimed above s address x f place all shape (inr h) = rw h.0 (inr (place, all, r
 pub takes_answer : {U : Type 0} (old new : Reading) (r : Result U LineFault) (s : Statement) (address : List ℕ) (x : Outcome)
     → is_between s ≡ false → ((status : ℕ) (text : List ℕ) → s ≢ page status text) → answers_of (s ∷ []) ≡ (address, x) ∷ []
     → ((above : List Statement) → IsInPlace above s) → All IsNamed (texts_of s)
-    → (IsFresh old → MatchResult r
-    (λ _. (new.page ≡ None) × (new.answers.entries ≡ answers_in old ++ (address, x) ∷ []) × (lookup (bytes_eq address) (answers_in old) ≡ None))
-    (λ f. (f ≡ Memory) ⊎ ((f ≡ Line) × IsSome (lookup (bytes_eq address) (answers_in old)))))
+    → Adds old address x r new
     → Takes old s r new
 takes_answer old new (Ok u) s address x apart other shape place all h = λ above t.
     let k = h t.fresh in (
@@ -170,9 +168,7 @@ takes_answer old new (Err f) s address x apart other shape place all h = λ abov
 -- a moved line
 pub takes_moved : {U : Type 0} (old new : Reading) (r : Result U LineFault) (status : ℕ) (text target address to : List ℕ)
     → read_address text ≡ Ok address → read_address target ≡ Ok to
-    → (IsFresh old → MatchResult r
-    (λ _. (new.page ≡ None) × (new.answers.entries ≡ answers_in old ++ (address, Moved status to) ∷ []) × (lookup (bytes_eq address) (answers_in old) ≡ None))
-    (λ f. (f ≡ Memory) ⊎ ((f ≡ Line) × IsSome (lookup (bytes_eq address) (answers_in old)))))
+    → Adds old address (Moved status to) r new
     → Takes old (moved status text target) r new
 takes_moved old new r status text target address to reads leads h =
     let a = names text address reads in
@@ -184,9 +180,7 @@ takes_moved old new r status text target address to reads leads h =
 -- a leaf line
 pub takes_leaf : {U : Type 0} (old new : Reading) (r : Result U LineFault) (status : ℕ) (text address : List ℕ)
     → read_address text ≡ Ok address
-    → (IsFresh old → MatchResult r
-    (λ _. (new.page ≡ None) × (new.answers.entries ≡ answers_in old ++ (address, Leaf status) ∷ []) × (lookup (bytes_eq address) (answers_in old) ≡ None))
-    (λ f. (f ≡ Memory) ⊎ ((f ≡ Line) × IsSome (lookup (bytes_eq address) (answers_in old)))))
+    → Adds old address (Leaf status) r new
     → Takes old (leaf status text) r new
 takes_leaf old new r status text address reads h =
     let a = names text address reads in
@@ -197,9 +191,7 @@ takes_leaf old new r status text address reads h =
 -- a fault line
 pub takes_fault : {U : Type 0} (old new : Reading) (r : Result U LineFault) (kind : FaultKind) (text address : List ℕ)
     → read_address text ≡ Ok address
-    → (IsFresh old → MatchResult r
-    (λ _. (new.page ≡ None) × (new.answers.entries ≡ answers_in old ++ (address, Fault kind) ∷ []) × (lookup (bytes_eq address) (answers_in old) ≡ None))
-    (λ f. (f ≡ Memory) ⊎ ((f ≡ Line) × IsSome (lookup (bytes_eq address) (answers_in old)))))
+    → Adds old address (Fault kind) r new
     → Takes old (fault kind text) r new
 takes_fault old new r kind text address reads h =
     let a = names text address reads in

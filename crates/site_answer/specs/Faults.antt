@@ -1,5 +1,6 @@
--- The fault of a line, with the line's number.
-use Rattle.std.specs.Prelude.{ℕ}
+-- The fault of a line with its number, and how it is written.
+use Rattle.std.specs.Prelude.{ℕ, List, ◌++◌, codes}
+use Rattle.std.specs.Fmt.{decimal}
 use Rattle.site_answer.specs.declared.input_fault.InputFault.{InputFault}
 use Rattle.site_answer.specs.declared.input_fault.InputFault.TheVariants as input
 use Rattle.site_answer.specs.declared.input_fault.LineFault.{LineFault}
@@ -10,3 +11,9 @@ abbrev pub numbered : LineFault → ℕ → InputFault
 numbered Line number = input.Line number
 numbered Address number = input.Address number
 numbered Memory number = input.Memory
+
+-- the text of a fault
+abbrev pub fault_text : InputFault → List ℕ
+fault_text (input.Line number) = codes "line " ++ decimal number
+fault_text (input.Address number) = codes "address " ++ decimal number
+fault_text input.Memory = codes "memory"

@@ -13,12 +13,18 @@ pub enum InputFault {
     Memory,
 }
 
+/// Writes `line N`, `address N` or `memory`.
 impl fmt::Display for InputFault {
+    ghost use Rattle.std.specs.Prelude.{Some};
+    ghost use Rattle.site_answer.specs.Faults.{fault_text};
+
+    ghost output = { λ fault. Some (fault_text fault) };
+
     fn fmt<W: fmt::Write>(&self, f: &mut fmt::Formatter<W>) -> fmt::Result {
         match self {
-            InputFault::Line(number) => write!(f, "line {number} is no line of a map here"),
-            InputFault::Address(number) => write!(f, "an address of line {number} is refused"),
-            InputFault::Memory => write!(f, "out of memory"),
+            InputFault::Line(number) => write!(f, "line {number}"),
+            InputFault::Address(number) => write!(f, "address {number}"),
+            InputFault::Memory => write!(f, "memory"),
         }
     }
 }

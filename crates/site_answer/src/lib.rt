@@ -20,3 +20,6 @@ pub use fetcher::{Ask, Fetcher};
 pub use input_fault::InputFault;
 pub use map_site::MapSite;
 pub use outcome::Outcome;
+
+#[cfg(test)]
+mod tests;

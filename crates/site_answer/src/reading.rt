@@ -1,13 +1,8 @@
 //! A map in mid-read: the answers that the lines so far state.
-ghost use Rattle.std.specs.Prelude.{◌≡◌, ◌≢◌, ◌⊎◌, ◌++◌, List, [], ◌∷◌, None, IsOk, IsSome, OnOk, MatchResult, is_some};
-ghost use Rattle.std.specs.Str.{bytes_eq};
-ghost use Rattle.std.specs.Map.{lookup};
-ghost use Rattle.address.specs.Address.{read_address};
-ghost use Rattle.site_answer.specs.declared.input_fault.LineFault.TheVariants as bad;
-ghost use Rattle.site_answer.specs.Lines.{Statement, page, edge, moved, leaf, fault, HasForm};
+ghost use Rattle.std.specs.Prelude.{[], OnOk};
+ghost use Rattle.site_answer.specs.Lines.{page, edge, moved, leaf, fault};
 ghost use Rattle.site_answer.specs.Said.{said};
-ghost use Rattle.site_answer.specs.Maps.{IsNamed, IsGood};
-ghost use Rattle.site_answer.specs.Readings.{answers_in, IsFresh, Tells, Takes, IsBad};
+ghost use Rattle.site_answer.specs.Readings.{IsFresh, Tells, Names, Closes, Claims, Adds, Takes, Reads};
 
 use crate::edge::{Edge, EdgeKind, Edges};
 use crate::fault_kind::FaultKind;
@@ -49,7 +44,7 @@ impl Reading {
 
     // The address that a text names.
     fn named(&self, text: &str) -> Result<Address, LineFault>
-        ensures { MatchResult result (λ address. read_address text.now ≡ Ok address) (λ f. (f ≡ bad.Memory) ⊎ ((f ≡ bad.Address) × ¬ IsNamed text.now)) }
+        ensures { Names text.now result }
     {
         match Address::read(self.alloc, text) {
             Ok(address) => Ok(address),
@@ -60,7 +55,7 @@ impl Reading {
 
     // Keeps the answer of the open page, if there is one: no edge line follows it any more.
     pub(crate) fn close_page(&mut self) -> Result<(), AllocError>
-        ensures { IsFresh self.old → OnOk result ((self.new.page ≡ None) × (self.new.answers.entries ≡ answers_in self.old)) }
+        ensures { IsFresh self.old → OnOk result (Closes self.old self.new) }
     {
         if let Some(page) = self.page.take() {
             let OpenPage {
@@ -76,7 +71,7 @@ impl Reading {
 
     // Closes the open page, and refuses an address for which an answer is stated.
     fn claim(&mut self, address: &Address) -> Result<(), LineFault>
-        ensures { IsFresh self.old → MatchResult result (λ _. (self.new.page ≡ None) × (self.new.answers.entries ≡ answers_in self.old) × (lookup (bytes_eq address.now) (answers_in self.old) ≡ None)) (λ f. (f ≡ bad.Memory) ⊎ ((f ≡ bad.Line) × IsSome (lookup (bytes_eq address.now) (answers_in self.old)))) }
+        ensures { Claims self.old address.now result self.new }
     {
         self.close_page()?;
         if self.answers.contains_key(address) {
@@ -87,7 +82,7 @@ impl Reading {
 
     // Keeps an answer for an address for which none is stated.
     fn add_answer(&mut self, address: Address, outcome: Outcome) -> Result<(), LineFault>
-        ensures { IsFresh self.old → MatchResult result (λ _. (self.new.page ≡ None) × (self.new.answers.entries ≡ answers_in self.old ++ (address, outcome) ∷ []) × (lookup (bytes_eq address) (answers_in self.old) ≡ None)) (λ f. (f ≡ bad.Memory) ⊎ ((f ≡ bad.Line) × IsSome (lookup (bytes_eq address) (answers_in self.old)))) }
+        ensures { Adds self.old address outcome result self.new }
     {
         self.claim(&address)?;
         self.answers.insert(address, outcome)?;
@@ -163,7 +158,7 @@ impl Reading {
 
     /// Takes one more line. An error says what is wrong with it; then nothing more may be read.
     pub(crate) fn read_line(&mut self, line: &[u8]) -> Result<(), LineFault>
-        ensures { (above : List Statement) → Tells self.old above → MatchResult result (λ _. (s : Statement) × HasForm line.now s × IsGood above s × Tells self.new (above ++ s ∷ [])) (λ f. IsBad above line.now f) }
+        ensures { Reads self.old line.now result self.new }
     {
         let Ok(text) = str::from_utf8(line) else {
             return Err(LineFault::Line);

@@ -1,0 +1,101 @@
+-- What a lowered depth and an added address leave.
+use borrow.Author.Tests.{ltb-true, ltb-false}
+use Rattle.std.proofs.lemmas.Slice.Eq.{bytes_eq-Decides}
+use Rattle.std.proofs.Common.{◌<◌, ◌≤◌, min, ◌≡◌, ℕ, Bool, true, false, nat_lt, List, [], ◌∷◌, ◌++◌, map, slice_get, position, bytes_eq, Option, None, Some, is_some, refl, sym, ap, ◌∙◌, if◌then◌else◌, arith}
+use Rattle.indexmap.specs.IndexMap.{insert_entry, set_value_at}
+use Rattle.indexmap.proofs.MapLemmas.{Found-position, insert_entry-first, insert_entry-absent, absent_from_lookup}
+use Rattle.depth_labels.specs.Depths.{Text, after_offer, depth_at, lesser}
+
+-- a depth that is written at the place of its address is the table after the offer
+pub lowered : (depths new : List (Text × ℕ)) (address : Text) (depth number : ℕ)
+    → position (bytes_eq address) (map (λ entry. entry.0) depths) ≡ Some number
+    → slice_get (map (λ entry. entry.1) depths) number ≡ depth_at depths address
+    → is_some (depth_at depths address) ≡ true
+    → ((held : ℕ) → slice_get (map (λ entry. entry.1) depths) number ≡ Some held → new ≡ (if nat_lt depth held then set_value_at depths number depth else depths))
+    → new ≡ after_offer depths address depth (depth_at depths address)
+lowered depths new address depth number place value is writes = go (depth_at depths address) refl
+  where
+    split : (held : ℕ) (b : Bool) → (if b then set_value_at depths number depth else depths) ≡ (if b then insert_entry bytes_eq depths address depth else depths)
+    split held true = sym (insert_entry-first bytes_eq address depth depths number (Found-position (bytes_eq address) depths number place).first)
+    split held false = refl
+
+    go : (held : Option ℕ) → depth_at depths address ≡ held → new ≡ after_offer depths address depth held
+    go None e = cc
+    go (Some held) e = writes held (value ∙ e) ∙ split held (nat_lt depth held)
+
+-- an address that isn't held goes last
+pub appended : (depths : List (Text × ℕ)) (address : Text) (depth : ℕ) → depth_at depths address ≡ None → insert_entry bytes_eq depths address depth ≡ depths ++ (address, depth) ∷ []
+appended depths address depth none = insert_entry-absent bytes_eq address depth depths (absent_from_lookup (bytes_eq address) depths none)
+
+-- ---- what the table says after an offer
+
+same_text : (u : Text) → bytes_eq u u ≡ true
+same_text u = (bytes_eq-Decides u u).1 refl
+
+-- an added address is held at its depth
+pub at_added : (depths : List (Text × ℕ)) (u : Text) (d : ℕ) → depth_at depths u ≡ None → depth_at (depths ++ (u, d) ∷ []) u ≡ Some d
+at_added [] u d none = rw (same_text u) refl
+at_added (entry ∷ depths) u d none = go (bytes_eq u entry.0) refl (at_added depths u d)
+  where
+    go : (b : Bool) → bytes_eq u entry.0 ≡ b → (depth_at depths u ≡ None → depth_at (depths ++ (u, d) ∷ []) u ≡ Some d) → depth_at ((entry ∷ depths) ++ (u, d) ∷ []) u ≡ Some d
+    go true e later = let h : Some entry.1 ≡ None = rw e at none in cc
+    go false e later = rw e (later (rw e at none))
+
+-- and each other address stays as it was
+pub beside_added : (depths : List (Text × ℕ)) (u v : Text) (d : ℕ) → bytes_eq v u ≡ false → depth_at (depths ++ (u, d) ∷ []) v ≡ depth_at depths v
+beside_added [] u v d e = rw e refl
+beside_added (entry ∷ depths) u v d e = go (bytes_eq v entry.0) refl (beside_added depths u v d e)
+  where
+    go : (b : Bool) → bytes_eq v entry.0 ≡ b → depth_at (depths ++ (u, d) ∷ []) v ≡ depth_at depths v → depth_at ((entry ∷ depths) ++ (u, d) ∷ []) v ≡ depth_at (entry ∷ depths) v
+    go true h later = rw h refl
+    go false h later = rw h later
+
+-- a held address that is written is held at what was written
+at_written : (depths : List (Text × ℕ)) (u : Text) (d : ℕ) → depth_at (insert_entry bytes_eq depths u d) u ≡ Some d
+at_written [] u d = rw (same_text u) refl
+at_written (entry ∷ depths) u d = go (bytes_eq u entry.0) refl (at_written depths u d)
+  where
+    go : (b : Bool) → bytes_eq u entry.0 ≡ b → depth_at (insert_entry bytes_eq depths u d) u ≡ Some d → depth_at (insert_entry bytes_eq (entry ∷ depths) u d) u ≡ Some d
+    go true h later = rw h (rw h refl)
+    go false h later = rw h (rw h later)
+
+other_text : (u v : Text) → bytes_eq u v ≡ true → (w : Text) → bytes_eq w u ≡ false → bytes_eq w v ≡ false
+other_text u v e w f = rw (← (bytes_eq-Decides u v).0 e) f
+
+-- what two tables say alike they say alike behind an entry
+behind : (entry : Text × ℕ) (old new : List (Text × ℕ)) (v : Text) → depth_at new v ≡ depth_at old v → depth_at (entry ∷ new) v ≡ depth_at (entry ∷ old) v
+behind entry old new v e = go (bytes_eq v entry.0) refl
+  where
+    go : (b : Bool) → bytes_eq v entry.0 ≡ b → depth_at (entry ∷ new) v ≡ depth_at (entry ∷ old) v
+    go true k = rw k refl
+    go false k = rw k e
+
+-- and each other address stays as it was
+beside_written : (depths : List (Text × ℕ)) (u v : Text) (d : ℕ) → bytes_eq v u ≡ false → depth_at (insert_entry bytes_eq depths u d) v ≡ depth_at depths v
+beside_written [] u v d e = rw e refl
+beside_written (entry ∷ depths) u v d e = go (bytes_eq u entry.0) refl (behind entry depths (insert_entry bytes_eq depths u d) v (beside_written depths u v d e))
+  where
+    go : (b : Bool) → bytes_eq u entry.0 ≡ b → depth_at (entry ∷ insert_entry bytes_eq depths u d) v ≡ depth_at (entry ∷ depths) v → depth_at (insert_entry bytes_eq (entry ∷ depths) u d) v ≡ depth_at (entry ∷ depths) v
+    go true h later = rw h (rw (other_text u entry.0 h v e) refl)
+    go false h later = rw h later
+
+-- after an offer the address is held at the lesser depth
+pub least_at : (depths : List (Text × ℕ)) (u : Text) (d : ℕ) → depth_at (after_offer depths u d (depth_at depths u)) u ≡ Some (lesser (depth_at depths u) d)
+least_at depths u d = go (depth_at depths u) refl
+  where
+    less : (held : ℕ) → depth_at depths u ≡ Some held → (b : Bool) → nat_lt d held ≡ b → depth_at (if b then insert_entry bytes_eq depths u d else depths) u ≡ Some (min held d)
+    less held e true t = at_written depths u d ∙ ap Some (let h : d < held = ltb-true _ _ t in omega arith)
+    less held e false t = e ∙ ap Some (let h : held ≤ d = ltb-false _ _ t in omega arith)
+
+    go : (held : Option ℕ) → depth_at depths u ≡ held → depth_at (after_offer depths u d held) u ≡ Some (lesser held d)
+    go None e = at_added depths u d e
+    go (Some held) e = less held e (nat_lt d held) refl
+
+-- and each other one as before
+pub beside : (depths : List (Text × ℕ)) (u v : Text) (d : ℕ) (held : Option ℕ) → bytes_eq v u ≡ false → depth_at (after_offer depths u d held) v ≡ depth_at depths v
+beside depths u v d None e = beside_added depths u v d e
+beside depths u v d (Some held) e = go (nat_lt d held)
+  where
+    go : (b : Bool) → depth_at (if b then insert_entry bytes_eq depths u d else depths) v ≡ depth_at depths v
+    go true = beside_written depths u v d e
+    go false = refl

@@ -1,0 +1,186 @@
+//! Attributes of tags (HTML Standard, sections 13.2.5.32 to 13.2.5.39).
+ghost use Rattle.std.specs.Prelude.{◌≡◌, ◌&&◌, false, MatchOption, ℕ, List, [], ◌∷◌, ◌++◌, IfOk, OnOk, length, ◌≤◌};
+ghost use Rattle.html_links.specs.Pieces.{from, is, lower, ends_attribute_name, ends_bare_value};
+ghost use Rattle.html_links.specs.Asked.{is_asked_attribute, asked_name};
+
+use crate::asked::AskedName;
+use crate::bytes::{Span, ends_attribute_name, ends_bare_value, is_quote, is_white, split_at_byte};
+use crate::lexer::tags::push_lower;
+use crate::lexer::{Lexer, Mode};
+use crate::tag::Attribute;
+use std::alloc::AllocError;
+use std::mem;
+
+impl Lexer {
+    ghost use Rattle.html_links.specs.Markup.{Value, attributes, value_behind, with_attribute};
+    ghost use Rattle.html_links.specs.Lexing.{HasRead, Gives, Leaves, with_named, tags_with, kept_with, before_attribute, in_attribute_name, after_attribute_name, before_value, in_quoted_value, in_bare_value};
+
+    pub(crate) fn before_attribute(&mut self, byte: u8) -> Result<bool, AllocError>
+        ensures { IfOk result (λ ends. Gives (before_attribute self.old) byte ends self.new) }
+    {
+        if byte == b'>' {
+            return Ok(self.end_tag());
+        }
+        if is_white(byte) || byte == b'/' {
+            self.mode = Mode::BeforeAttribute;
+            return Ok(false);
+        }
+        self.attribute.clear();
+        self.push_name(&[byte])?;
+        self.mode = Mode::AttributeName;
+        Ok(false)
+    }
+
+    pub(crate) fn attribute_name(&mut self, byte: u8) -> Result<bool, AllocError>
+        ensures { IfOk result (λ ends. Gives (in_attribute_name self.old) byte ends self.new) }
+    {
+        if ends_attribute_name(byte) {
+            self.settle_attribute();
+            return self.after_attribute_name(byte);
+        }
+        self.push_name(&[byte])?;
+        self.mode = Mode::AttributeName;
+        Ok(false)
+    }
+
+    /// Puts bytes to the attribute's name, in a tag that a rule asks for.
+    fn push_name(&mut self, bytes: &[u8]) -> Result<(), AllocError>
+        ensures same { OnOk result (self.new ≡ record self.old { attribute = self.new.attribute }) }
+        ensures named { OnOk result ((name : List ℕ) → (found : Value) → with_named self.old (self.new.attribute.items ++ name) found ≡ with_named self.old (self.old.attribute.items ++ (lower bytes.now ++ name)) found) }
+    {
+        if self.asked {
+            push_lower(&mut self.attribute, bytes)?;
+        }
+        Ok(())
+    }
+
+    /// Settles behind the name of an attribute whether it is kept.
+    fn settle_attribute(&mut self)
+        ensures { (rest : List ℕ) → tags_with self.old self.old.attributes.items (with_attribute self.old.attribute.items (value_behind rest) attributes) ≡ after_attribute_name self.new rest }
+    {
+        self.keeps = self.asked_attribute();
+    }
+
+    /// The attribute that is being read, where a rule asks for it.
+    fn asked_attribute(&self) -> Option<AskedName>
+        ensures { MatchOption result ((self.now.asked && is_asked_attribute self.now.attribute.items) ≡ false) (λ n. self.now.attribute.items ≡ asked_name n) }
+    {
+        if self.asked {
+            AskedName::named(&self.attribute)
+        } else {
+            None
+        }
+    }
+
+    pub(crate) fn attribute_name_run<'a>(&mut self, text: &'a [u8]) -> Result<&'a [u8], AllocError>
+        ensures gives { IfOk result (λ left. Leaves (in_attribute_name self.old) text.now left.now self.new) }
+        ensures shorter { IfOk result (λ left. length left.now ≤ length text.now) }
+    {
+        let (name, left) = Span::AttributeName.split(text);
+        self.push_name(name)?;
+        self.mode = Mode::AttributeName;
+        Ok(left)
+    }
+
+    pub(crate) fn after_attribute_name(&mut self, byte: u8) -> Result<bool, AllocError>
+        ensures { IfOk result (λ ends. Gives (after_attribute_name self.old) byte ends self.new) }
+    {
+        if is_white(byte) {
+            self.mode = Mode::AfterAttributeName;
+            return Ok(false);
+        }
+        self.value.clear();
+        if byte == b'=' {
+            self.mode = Mode::BeforeValue;
+            return Ok(false);
+        }
+        self.end_attribute()?;
+        self.before_attribute(byte)
+    }
+
+    pub(crate) fn before_value(&mut self, byte: u8) -> Result<bool, AllocError>
+        ensures { IfOk result (λ ends. Gives (before_value self.old) byte ends self.new) }
+    {
+        if is_white(byte) {
+            self.mode = Mode::BeforeValue;
+            return Ok(false);
+        }
+        self.value.clear();
+        if is_quote(byte) {
+            self.mode = Mode::QuotedValue(byte);
+            return Ok(false);
+        }
+        self.bare_value(byte)
+    }
+
+    pub(crate) fn quoted_value(&mut self, quote: u8, byte: u8) -> Result<bool, AllocError>
+        ensures { IfOk result (λ ends. Gives (in_quoted_value quote self.old) byte ends self.new) }
+    {
+        if byte == quote {
+            self.end_attribute()?;
+            self.mode = Mode::BeforeAttribute;
+            return Ok(false);
+        }
+        self.push_value(&[byte])?;
+        self.mode = Mode::QuotedValue(quote);
+        Ok(false)
+    }
+
+    pub(crate) fn quoted_value_run<'a>(
+        &mut self,
+        quote: u8,
+        text: &'a [u8],
+    ) -> Result<&'a [u8], AllocError>
+        ensures gives { IfOk result (λ left. Leaves (in_quoted_value quote self.old) text.now left.now self.new) }
+        ensures shorter { IfOk result (λ left. length left.now ≤ length text.now) }
+    {
+        let (value, left) = split_at_byte(quote, text);
+        self.push_value(value)?;
+        self.mode = Mode::QuotedValue(quote);
+        Ok(left)
+    }
+
+    pub(crate) fn bare_value(&mut self, byte: u8) -> Result<bool, AllocError>
+        ensures { IfOk result (λ ends. Gives (in_bare_value self.old) byte ends self.new) }
+    {
+        if ends_bare_value(byte) {
+            self.end_attribute()?;
+            return self.before_attribute(byte);
+        }
+        self.push_value(&[byte])?;
+        self.mode = Mode::BareValue;
+        Ok(false)
+    }
+
+    pub(crate) fn bare_value_run<'a>(&mut self, text: &'a [u8]) -> Result<&'a [u8], AllocError>
+        ensures gives { IfOk result (λ left. Leaves (in_bare_value self.old) text.now left.now self.new) }
+        ensures shorter { IfOk result (λ left. length left.now ≤ length text.now) }
+    {
+        let (value, left) = Span::BareValue.split(text);
+        self.push_value(value)?;
+        self.mode = Mode::BareValue;
+        Ok(left)
+    }
+
+    /// Puts bytes to the value, where it is kept.
+    fn push_value(&mut self, bytes: &[u8]) -> Result<(), AllocError>
+        ensures same { OnOk result (self.new ≡ record self.old { value = self.new.value }) }
+        ensures kept { OnOk result ((value : List ℕ) → kept_with self.old (self.new.value.items ++ value) ≡ kept_with self.old (self.old.value.items ++ (bytes.now ++ value))) }
+    {
+        if self.keeps.is_some() {
+            self.value.extend_from_slice(bytes)?;
+        }
+        Ok(())
+    }
+
+    /// Puts the attribute that is being read to those of the tag, where it is kept.
+    fn end_attribute(&mut self) -> Result<(), AllocError>
+        ensures { OnOk result (HasRead self.old self.old.value.items self.new) }
+    {
+        if let Some(name) = self.keeps {
+            let value = mem::replace(&mut self.value, Vec::new(self.alloc));
+            self.attributes.push(Attribute { name, value })?;
+        }
+        Ok(())
+    }
+}

@@ -1,0 +1,40 @@
+//! Elements whose content is text: raw text and escapable raw text (HTML Standard, sections 13.1.2 and 13.1.2.6).
+ghost use Rattle.std.specs.Prelude.{◌≡◌, false, MatchOption};
+ghost use Rattle.html_links.specs.Markup.{is_raw, closing_text};
+ghost use Rattle.html_links.specs.Lexing.{raw_name};
+
+/// An element whose content is text up to its end tag.
+#[derive(Clone, Copy, Debug)]
+pub(crate) enum RawElement {
+    Script,
+    Style,
+    Title,
+    Textarea,
+}
+
+impl RawElement {
+    /// The element of that name in lower case.
+    pub(crate) fn named(name: &[u8]) -> Option<RawElement>
+        ensures { MatchOption result (is_raw name.now ≡ false) (λ e. name.now ≡ raw_name e) }
+    {
+        match name {
+            b"script" => Some(RawElement::Script),
+            b"style" => Some(RawElement::Style),
+            b"title" => Some(RawElement::Title),
+            b"textarea" => Some(RawElement::Textarea),
+            _ => None,
+        }
+    }
+
+    /// The front of the tag that ends the element's text.
+    pub(crate) fn closing(self) -> &'static [u8]
+        ensures { result.now ≡ closing_text (raw_name self) }
+    {
+        match self {
+            RawElement::Script => b"</script",
+            RawElement::Style => b"</style",
+            RawElement::Title => b"</title",
+            RawElement::Textarea => b"</textarea",
+        }
+    }
+}

@@ -1,0 +1,49 @@
+-- The examples of RFC 9309 and its own lists of octets hold of the definitions.
+use Rattle.std.proofs.Common.{◌≡◌, ℕ, Bool, true, false, List, [], ◌∷◌, ◌++◌, refl, filter}
+use Rattle.percent_encoding.specs.Percent.{percent_encode_byte}
+use Rattle.std.specs.Prelude.{codes}
+use Rattle.std.specs.List.{range_with_len, before_first}
+use Rattle.robots_rules.specs.Octets.{is_unreserved, normal, normal_path, normal_pattern}
+use Rattle.robots_rules.specs.Patterns.{normal_of}
+use Rattle.robots_rules.specs.Lines.{is_line_end, is_blank, trimmed, uncommented}
+use Rattle.robots_rules.specs.Groups.{is_in_token, token_of, names_all, names_us}
+
+-- the unreserved octets (RFC 3986, section 2.3)
+unreserved_octets : filter is_unreserved (range_with_len 0 256) ≡ codes "-.0123456789ABCDEFGHIJKLMNOPQRSTUVWXYZ_abcdefghijklmnopqrstuvwxyz~"
+unreserved_octets = refl
+
+-- the octets of a product token (RFC 9309, section 2.2.1)
+token_octets : filter is_in_token (range_with_len 0 256) ≡ codes "-ABCDEFGHIJKLMNOPQRSTUVWXYZ_abcdefghijklmnopqrstuvwxyz"
+token_octets = refl
+
+-- CR and LF, tab and space (RFC 9309, section 2.2)
+line_ends : filter is_line_end (range_with_len 0 256) ≡ 10 ∷ 13 ∷ []
+line_ends = refl
+
+blanks : filter is_blank (range_with_len 0 256) ≡ 9 ∷ 32 ∷ []
+blanks = refl
+
+-- RFC 9309, section 2.2.2: `/foo/bar/ツ` and `/foo/bar/%62%61%7A`
+above_ascii : normal_of (codes "/foo/bar/" ++ 227 ∷ 131 ∷ 132 ∷ []) ≡ codes "/foo/bar/%E3%83%84"
+unfolding normal percent_encode_byte
+above_ascii = refl
+
+unreserved_escapes : normal_path (codes "/foo/bar/%62%61%7A") ≡ codes "/foo/bar/baz"
+unfolding normal
+unreserved_escapes = refl
+
+-- RFC 9309, section 2.2.3: `*` and `$` that stand for themselves
+special_octets : normal_path (codes "/path/file-with-a-*.html") ≡ normal_of (codes "/path/file-with-a-%2a.html")
+unfolding normal percent_encode_byte
+special_octets = refl
+
+dollar_inside : normal_of (codes "/foo-$x$") ≡ codes "/foo-%24x$"
+unfolding normal percent_encode_byte
+dollar_inside = refl
+
+-- RFC 9309, section 2.2.1: a product token is a part of the identification
+tokens : token_of (codes "wget/1.21 (linux)") ≡ codes "wget"
+tokens = refl
+
+names : (names_us (codes "WGET2")) ∷ (names_us (codes "wgetr")) ∷ (names_us (codes "*")) ∷ (names_all (codes "* all")) ∷ (names_all (codes "*bot")) ∷ [] ≡ true ∷ false ∷ false ∷ true ∷ false ∷ []
+names = refl

@@ -1,0 +1,10 @@
+pub mod Octets
+pub mod Patterns
+pub mod KeptParts
+pub mod Access
+pub mod Lines
+pub mod Groups
+pub mod LineView
+pub mod AudienceView
+pub mod NormalTextView
+pub mod RuleSetView

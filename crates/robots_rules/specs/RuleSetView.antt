@@ -1,0 +1,11 @@
+-- What the code's own form of a rule set stands for.
+use Rattle.std.specs.Prelude.{true, false, []}
+use Rattle.robots_rules.specs.Access.{RuleSetValue}
+use Rattle.robots_rules.specs.declared.rule_set.Kept.{Kept}
+use Rattle.robots_rules.specs.declared.rule_set.Kept.TheVariants as kept
+
+-- the rule set as the definitions have it
+abbrev pub value_of : Kept → RuleSetValue
+value_of kept.All = record { closed = false; rules = [] }
+value_of kept.Nothing = record { closed = true; rules = [] }
+value_of (kept.Rules rules) = record { closed = false; rules = rules.items }

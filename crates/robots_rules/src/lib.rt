@@ -1,0 +1,14 @@
+//! Robots rules (RFC 9309): this crate knows which paths of an origin this agent may ask for. Its one idea is that a path and a rule's pattern meet in one normal
+//! form, octet by octet, and that the longest pattern that matches decides. The meaning is in `specs/`: `Lines`, `Groups`, `Octets`, `Patterns`, `Access`.
+#![tactic(auto)]
+
+mod groups;
+mod lines;
+mod octets;
+mod pattern;
+mod rule;
+mod rule_set;
+#[cfg(test)]
+mod tests;
+
+pub use rule_set::{RuleSet, parse};

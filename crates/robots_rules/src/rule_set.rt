@@ -1,0 +1,141 @@
+//! The rules of one origin that speak to this agent (RFC 9309, section 2.2).
+ghost use Rattle.std.specs.Prelude.{◌≡◌, ◌↔◌, IsTrue, IfOk};
+ghost use Rattle.robots_rules.specs.Groups.{AreGroups, groups_of, rules_in};
+ghost use Rattle.robots_rules.specs.Lines.{lines_in};
+
+use crate::groups::rules_for_us;
+use crate::lines::lines_in;
+use crate::octets::{NormalText, PATH_OCTETS, write_path};
+use crate::rule::{Rule, rules_allow};
+use std::alloc::{AllocError, Global};
+use std::marker::Model;
+
+/// The rules of an origin: everything is allowed, nothing is, or what the rules of its robots file say.
+#[derive(Drop)]
+pub struct RuleSet {
+    kept: Kept,
+}
+
+#[derive(Drop)]
+enum Kept {
+    All,
+    Nothing,
+    Rules(Vec<Rule>),
+}
+
+// Contracts see a rule set as whether all is refused, and its rules in the order of the file.
+impl Model for RuleSet {
+    ghost use Rattle.robots_rules.specs.Access.{RuleSetValue};
+    ghost use Rattle.robots_rules.specs.RuleSetView.{value_of};
+
+    ghost Value = { RuleSetValue };
+
+    ghost view = { λ set. value_of set.kept };
+}
+
+/// What a robots file says to this agent, `wget` (RFC 9309, section 2.2). Only the first 512,000 bytes of the file are used; where it is longer and they do
+/// not end with a line end, their last line is passed over. No file is refused: the only error is want of memory.
+pub fn parse(alloc: Global, file: &[u8]) -> Result<RuleSet, AllocError>
+    ensures rules { IfOk result (λ set. set ≡ rules_in file.now) }
+    // the groups of the file's lines, of which `rules_in` speaks
+    ensures groups { let lines = lines_in file.now in AreGroups lines (groups_of lines) }
+{
+    let lines = lines_in(alloc, file)?;
+    let rules = rules_for_us(alloc, &lines)?;
+    Ok(RuleSet {
+        kept: Kept::Rules(rules),
+    })
+}
+
+impl RuleSet {
+    ghost use Rattle.std.specs.Prelude.{◌≡◌, ◌↔◌, ℕ, List, [], true, false, IsTrue, IfOk};
+    ghost use Rattle.robots_rules.specs.Access.{IsAllowed, is_allowed};
+
+    /// The rules of an origin without a robots file: everything is allowed (section 2.3.1.3).
+    pub fn all() -> RuleSet
+        ensures value { result ≡ record { closed = false; rules = [] } }
+        ensures allows { (path : List ℕ) → IsAllowed result path }
+    {
+        RuleSet { kept: Kept::All }
+    }
+
+    /// The rules of an origin whose robots file can't be had: nothing is allowed (section 2.3.1.4).
+    pub fn none() -> RuleSet
+        ensures value { result ≡ record { closed = true; rules = [] } }
+        ensures refuses { (path : List ℕ) → ¬ IsAllowed result path }
+    {
+        RuleSet {
+            kept: Kept::Nothing,
+        }
+    }
+
+    /// Whether this agent may ask for a path with its query, as `/a?b`. The longest rule that matches decides, an allow at a tie (section 2.2.2). It takes no memory.
+    pub fn allows(&self, path_query: &str) -> bool
+        ensures value { result ≡ is_allowed self.now path_query.now }
+        ensures allowed { IsTrue result ↔ IsAllowed self.now path_query.now }
+    {
+        if self.is_closed() {
+            return false;
+        }
+        // Each rule reads the path anew, so its normal form is written once where it fits.
+        let mut buffer = [0; PATH_OCTETS];
+        match write_path(&mut buffer, path_query) {
+            Some(len) => rules_allow(self.rules(), &buffer[..len]),
+            None => rules_allow(self.rules(), NormalText::path(path_query)),
+        }
+    }
+
+    /// Whether both have the same rules in the same order, or both allow everything or nothing outright.
+    pub fn same(&self, other: &RuleSet) -> bool
+        ensures same { IsTrue result ↔ (self.now ≡ other.now) }
+    {
+        self.is_closed() == other.is_closed() && same_rules(self.rules(), other.rules())
+    }
+
+    /// An equal rule set, or want of memory.
+    pub fn try_clone(&self, alloc: Global) -> Result<RuleSet, AllocError>
+        ensures copy { IfOk result (λ copy. copy ≡ self.now) }
+    {
+        let kept = match &self.kept {
+            Kept::All => Kept::All,
+            Kept::Nothing => Kept::Nothing,
+            Kept::Rules(rules) => {
+                let mut copies = Vec::new(alloc);
+                for rule in rules {
+                    copies.push(rule.try_clone(alloc)?)?;
+                }
+                Kept::Rules(copies)
+            }
+        };
+        Ok(RuleSet { kept })
+    }
+
+    fn is_closed(&self) -> bool
+        ensures { result ≡ self.now.closed }
+    {
+        matches!(self.kept, Kept::Nothing)
+    }
+
+    fn rules(&self) -> &[Rule]
+        ensures { result.now ≡ self.now.rules }
+    {
+        match &self.kept {
+            Kept::All | Kept::Nothing => &[],
+            Kept::Rules(rules) => rules,
+        }
+    }
+}
+
+fn same_rules(rules: &[Rule], others: &[Rule]) -> bool
+    ensures { IsTrue result ↔ (rules.now ≡ others.now) }
+{
+    if rules.len() != others.len() {
+        return false;
+    }
+    for (rule, other) in rules.iter().zip(others) {
+        if !rule.same(other) {
+            return false;
+        }
+    }
+    true
+}

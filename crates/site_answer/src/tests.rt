@@ -1,0 +1,136 @@
+//! Maps in examples: what each line says, which line is bad, and each call once.
+use crate::{Answer, FaultKind, Fetcher, InputFault, MapSite};
+use address::Address;
+use std::alloc::Global;
+use std::test::Fail;
+
+const SITE: &str = "# a site
+page 200 http://h/
+link http://h/a
+
+# still the same page
+inline HTTP://h:80/i.gif#top
+link http://h/a
+moved 302 http://h/a http://k/
+page 203 http://h/b
+leaf 999 http://h/i.gif
+fault head-long http://k/
+page 200 http://h/c
+link http://h/a
+";
+
+// What the map of `SITE` says of each address; it doesn't name the last.
+const ANSWERS: [(&str, &str); 7] = [
+    (
+        "http://h/",
+        "Page(200, Edges { items: [Edge { target: \"http://h/a\", kind: Link }, Edge { target: \"http://h/i.gif\", kind: Inline }, Edge { target: \"http://h/a\", kind: Link }] })",
+    ),
+    ("http://h/a", "Moved(302, \"http://k/\")"),
+    ("http://h/b", "Page(203, Edges { items: [] })"),
+    ("http://h/i.gif", "Leaf(999)"),
+    ("http://k/", "Fault(HeadLong)"),
+    (
+        "http://h/c",
+        "Page(200, Edges { items: [Edge { target: \"http://h/a\", kind: Link }] })",
+    ),
+    ("http://h/z", "Leaf(404)"),
+];
+
+fn asked(site: &mut MapSite, alloc: Global, at: &str) -> Result<Answer, Fail> {
+    Ok(site.ask(&Address::read(alloc, at)?)?)
+}
+
+#[test]
+fn a_map_says_what_its_lines_say(rt: HostRuntime) -> Result<(), Fail> {
+    let alloc = rt.alloc();
+    let mut site = MapSite::read(alloc, SITE.as_bytes())?;
+    for (at, outcome) in ANSWERS {
+        let answer = asked(&mut site, alloc, at)?;
+        assert!(rt;
+            format!(in alloc; "{:?}", answer.outcome)?.as_str() == outcome,
+            "at {at}"
+        );
+        assert!(rt; answer.body.as_slice().is_empty());
+    }
+    assert_eq!(rt; site.asks().len(), 7);
+    Ok(())
+}
+
+// The first bad line of each text.
+const BAD: [(&str, InputFault); 24] = [
+    // no form
+    ("robots http://h/ none", InputFault::Line(1)),
+    ("page 200 http://h/\nallow /a", InputFault::Line(2)),
+    ("page 0200 http://h/", InputFault::Line(1)),
+    ("page 199 http://h/", InputFault::Line(1)),
+    ("page 300 http://h/", InputFault::Line(1)),
+    ("page +20 http://h/", InputFault::Line(1)),
+    ("leaf 199 http://h/", InputFault::Line(1)),
+    ("leaf 1000 http://h/", InputFault::Line(1)),
+    ("moved 304 http://h/ http://h/x", InputFault::Line(1)),
+    ("moved 301 http://h/", InputFault::Line(1)),
+    ("fault Connect http://h/", InputFault::Line(1)),
+    ("page  200 http://h/", InputFault::Line(1)),
+    ("page 200 http://h/ ", InputFault::Line(1)),
+    ("page", InputFault::Line(1)),
+    ("\r\n", InputFault::Line(1)),
+    ("\u{feff}page 200 http://h/", InputFault::Line(1)),
+    // out of place
+    ("link http://h/a", InputFault::Line(1)),
+    (
+        "page 200 http://h/\nleaf 200 http://h/a\nlink a",
+        InputFault::Line(3),
+    ),
+    // a refused address
+    ("leaf 200 https://h/", InputFault::Address(1)),
+    ("page 200 ", InputFault::Address(1)),
+    ("page 200 http://h/\n\ninline a", InputFault::Address(3)),
+    (
+        "leaf 200 http://h/\nmoved 301 http://h/ a",
+        InputFault::Address(2),
+    ),
+    // a repetition
+    (
+        "page 200 http://h/\nlink http://h/\nleaf 200 HTTP://H",
+        InputFault::Line(3),
+    ),
+    (
+        "leaf 200 http://h/\nleaf 404 http://h/\nx\nleaf 200 a",
+        InputFault::Line(2),
+    ),
+];
+
+fn fault_of(alloc: Global, text: &[u8]) -> Option<InputFault> {
+    match MapSite::read(alloc, text) {
+        Ok(_) => None,
+        Err(fault) => Some(fault),
+    }
+}
+
+#[test]
+fn the_first_bad_line_is_named(rt: HostRuntime) {
+    for (text, fault) in BAD {
+        assert!(rt;
+            fault_of(rt.alloc(), text.as_bytes()) == Some(fault),
+            "{text}"
+        );
+    }
+    assert!(rt; fault_of(rt.alloc(), b"\n# \xff\n") == Some(InputFault::Line(2)));
+    assert!(rt; fault_of(rt.alloc(), b"").is_none());
+    assert!(rt; fault_of(rt.alloc(), b"#\xc3\xa9\npage 200 http://h/\r\n").is_none());
+}
+
+#[test]
+fn outcomes_are_the_same_where_all_parts_are(rt: HostRuntime) -> Result<(), Fail> {
+    let alloc = rt.alloc();
+    let mut site = MapSite::read(alloc, SITE.as_bytes())?.try_clone()?;
+    for (at, _) in ANSWERS {
+        for (other, _) in ANSWERS {
+            let copy = asked(&mut site, alloc, at)?.outcome.try_clone()?;
+            let same = copy.same(&asked(&mut site, alloc, other)?.outcome);
+            assert!(rt; same == (at == other));
+        }
+    }
+    assert!(rt; FaultKind::of_word("body-long") == Some(FaultKind::BodyLong));
+    Ok(())
+}
