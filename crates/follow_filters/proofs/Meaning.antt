@@ -1,7 +1,7 @@
 -- The tests of the rules say what the rules mean.
-use Rattle.std.proofs.Common.{◌≡◌, ◌∙◌, ℕ, ◌-◌, ◌<◌, Bool, true, false, not, ◌&&◌, ◌||◌, cond, List, [], ◌∷◌, ◌++◌, take, drop, length, get_or, codes, find, nat_eq, Option, Some, None, Result, MatchResult, is_ok, refl, sym, ap, subst, ⊎_elim, arith, All}
+use Rattle.std.proofs.Common.{IsTrue, ◌↔◌, ◌≡◌, ◌∙◌, ℕ, ◌-◌, ◌<◌, Bool, true, false, not, ◌&&◌, ◌||◌, cond, List, [], ◌∷◌, ◌++◌, take, drop, length, get_or, codes, find, nat_eq, Option, Some, None, Result, MatchResult, is_ok, refl, sym, ap, subst, ⊎_elim, arith, All}
 use Rattle.std.proofs.lemmas.Bool.{cases_Bool, and_from}
-use Rattle.std.proofs.lemmas.Bool.Decides.{Decides-not, Decides-or, Decides-eqb}
+use Rattle.std.proofs.lemmas.Bool.Decides.{Decides-not, Decides-and, Decides-or, Decides-eqb}
 use Rattle.std.proofs.lemmas.Slice.Eq.{bytes_eq-Decides, starts_is, ends_is}
 use Rattle.std.proofs.lemmas.List.Folds.{Any-from_list_any, list_any-from_Any, list_all_at}
 use Rattle.std.proofs.lemmas.List.Elements.{All-nil, All-cons}
@@ -20,7 +20,7 @@ use Rattle.follow_filters.specs.Domains.{IsInDomain, is_in_domain}
 use Rattle.follow_filters.specs.Directories.{IsInDirectory, is_in_directory}
 use Rattle.follow_filters.specs.Exempt.{IsExempt, is_exempt}
 use Rattle.follow_filters.specs.Patterns.{MatchesFile, is_file_match, matches_read, read_pattern, is_run, takes}
-use Rattle.follow_filters.specs.Rules.{rules, Meets, Passes, IsFirstUnmet, PassingIsDecided, is_absent, meets, first_unmet, passes_of, verdict_from, verdict_of}
+use Rattle.follow_filters.specs.Rules.{rules, Meets, Passes, IsFirstUnmet, PassingIsDecided, is_absent, meets, first_unmet, passes_of, verdict_from, verdict_of, keeps_of, keeps_name, Keeps, kept_name}
 
 -- ---- fronts and backs of texts
 
@@ -205,3 +205,19 @@ told plan address answer is = (
   ap is_ok is ∙ verdict-passes plan address,
   subst (λ a. MatchResult a (λ nothing. Passes plan address) (IsFirstUnmet plan address)) (sym is) (verdict-means plan address),
 )
+
+-- ---- which pages are kept
+
+pub keeps_of-is : (plan : Plan) (address : List ℕ) → Decides (keeps_of plan address) (Keeps plan address)
+unfolding keeps_of
+keeps_of-is plan address =
+    Decides-and _ _
+        (unless_fact _ _ (is_absent-Decides plan.accept) (any-Decides _ _ (λ p. is_file_match-Decides p (kept_name address)) plan.accept))
+        (Decides-not _ (any-Decides _ _ (λ p. is_file_match-Decides p (kept_name address)) plan.reject))
+
+pub kept : (plan : Plan) (address name : List ℕ) (answer : Bool) → answer ≡ keeps_name plan name → name ≡ kept_name address → (answer ≡ keeps_of plan address) × (IsTrue answer ↔ Keeps plan address)
+unfolding keeps_of
+kept plan address name answer is named =
+    let value : answer ≡ keeps_of plan address = is ∙ ap (keeps_name plan) named in
+    let means = keeps_of-is plan address in
+    (value, (λ yes. means.0 (sym value ∙ yes), λ keeps. value ∙ means.1 keeps))

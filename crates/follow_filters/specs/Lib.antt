@@ -1,7 +1,10 @@
 pub mod Texts
+pub mod Wildcards
 pub mod Limits
+pub mod Elements
 pub mod Domains
 pub mod Directories
+pub mod ClassValues
 pub mod Classes
 pub mod Patterns
 pub mod Exempt

@@ -1,10 +1,11 @@
 -- Patterns of file names, and what they match (GNU Wget manual, section Types of Files).
-use Rattle.std.specs.Prelude.{◌≡◌, zero, suc, ℕ, Bool, true, false, ◌||◌, ◌==◌, List, [], ◌∷◌, map, length, Option, Some, None, option_map, if◌then◌else◌}
+use Rattle.std.specs.Prelude.{◌≡◌, zero, suc, ℕ, Bool, true, false, ◌==◌, List, [], ◌∷◌, map, take, drop, ◌+◌, length, Option, Some, None, option_map, if◌then◌else◌}
 use Rattle.std.specs.Option.{option_and_then}
-use Rattle.std.specs.List.{list_any, before_first, after_first}
+use Rattle.std.specs.List.{list_any, position}
 use Rattle.part_match.specs.Cuts.{Matches, is_match}
 use Rattle.follow_filters.specs.declared.pattern.Part.{Part}
 use Rattle.follow_filters.specs.declared.pattern.Part.TheVariants as part
+use Rattle.follow_filters.specs.Wildcards.{is_wildcard}
 use Rattle.follow_filters.specs.Classes.{class_takes, class_of}
 
 -- the part matches any run of bytes
@@ -21,35 +22,44 @@ takes (part.Class class) byte = class_takes class byte
 
 -- ---- how a pattern is written
 
--- a byte that stands for itself or for any byte or run of bytes
+-- a byte outside of a class: `*` is any run, `?` any byte, and any other byte is itself
 abbrev pub unit_of : ℕ → Part
-unit_of b = if b == 42 then part.Run else (if b == 63 then part.Any else part.Byte b)
+unit_of byte = if byte == 42 then part.Run else (if byte == 63 then part.Any else part.Byte byte)
 
--- a part and the parts behind it, where both are good
-abbrev pub then_parts : Option Part → Option (List Part) → Option (List Part)
-then_parts first others = option_and_then (λ p. option_map (λ ps. p ∷ ps) others) first
+-- the byte ends a class
+abbrev pub is_end : ℕ → Bool
+is_end byte = byte == 93
 
--- the parts that a text of at most so many bytes spells, none where it is bad: a `[` begins a
--- class, which goes to the next `]`, and any other byte is a part
+-- the class whose `]` stands at this place of the text, and what stands behind it; none where the class is bad or has no `]`
+abbrev pub class_to : List ℕ → Option ℕ → Option (Part × List ℕ)
+class_to text None = None
+class_to text (Some end) = option_map (λ class. (part.Class class, drop (end + 1) text)) (class_of (take end text))
+
+-- the part that a byte and the text behind it begin with, and what stands behind that part: a `[` begins a class, which goes
+-- to the next `]`
+abbrev pub first_part : ℕ → List ℕ → Option (Part × List ℕ)
+first_part byte text = if byte == 91 then class_to text (position is_end text) else Some (unit_of byte, text)
+
+-- the parts that a text of at most so many bytes spells: its first part and those behind it
 abbrev pub parts_within : ℕ → List ℕ → Option (List Part)
 parts_within zero text = Some []
-parts_within (suc n) [] = Some []
-parts_within (suc n) (b ∷ text) =
-    if b == 91 then
-    (if list_any (λ c. c == 93) text
-    then then_parts (option_map (λ c. part.Class c) (class_of (before_first (λ c. c == 93) text))) (parts_within n (after_first (λ c. c == 93) text))
-    else None)
-    else then_parts (Some (unit_of b)) (parts_within n text)
+parts_within (suc most) [] = Some []
+parts_within (suc most) (byte ∷ text) =
+    option_and_then (λ split. option_map (λ parts. split.0 ∷ parts) (parts_within most split.1)) (first_part byte text)
 
--- the byte makes an element a pattern of the whole name
-abbrev pub is_special : ℕ → Bool
-is_special b = b == 42 || b == 63 || b == 91 || b == 93
+-- the parts that a text spells, none where it is bad
+unfoldable pub parts_of : List ℕ → Option (List Part)
+parts_of text = parts_within (length text) text
 
--- the parts of an element: those that it spells, or where no byte is special any run and its bytes
+-- the parts of an element: those that it spells, or where none of its bytes is a wildcard any run and its bytes
 unfoldable pub read_pattern : List ℕ → Option (List Part)
 read_pattern element =
-    if list_any is_special element then parts_within (length element) element
+    if list_any is_wildcard element then parts_of element
     else Some (part.Run ∷ map (λ b. part.Byte b) element)
+
+-- the text, where it is an element: then contracts see the pattern as it
+abbrev pub read_element : List ℕ → Option (List ℕ)
+read_element element = option_map (λ parts. element) (read_pattern element)
 
 -- ---- what a pattern matches
 

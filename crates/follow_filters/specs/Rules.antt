@@ -1,5 +1,5 @@
 -- The rules of following: each is a statement on an address and a plan (GNU Wget manual, chapter Following Links).
-use Rattle.std.specs.Prelude.{◌≡◌, ◌≢◌, ◌↔◌, IsTrue, ℕ, Bool, true, false, not, ◌||◌, List, [], ◌∷◌, ◌++◌, codes, nat_eq, bytes_eq, Option, Some, None, Result, Ok, Err}
+use Rattle.std.specs.Prelude.{◌≡◌, ◌≢◌, ◌↔◌, IsTrue, ℕ, Bool, true, false, not, ◌&&◌, ◌||◌, ◌==◌, length, if◌then◌else◌, List, [], ◌∷◌, ◌++◌, codes, nat_eq, bytes_eq, Option, Some, None, Result, Ok, Err}
 use Rattle.std.specs.List.{All, Any, starts_with, list_any, list_all, find}
 use Rattle.address.specs.Address.{host_of, dir_of, file_of, path_query_of, is_robots_file}
 use Rattle.follow_filters.specs.declared.plan.Plan.{Plan}
@@ -104,6 +104,26 @@ verdict_from (Some unmet) = Err unmet
 -- what `Plan::passes` answers
 abbrev pub verdict_of : Plan → List ℕ → Result (Unit {0}) Rule
 verdict_of plan address = verdict_from (first_unmet plan address)
+
+-- ---- which pages are kept
+
+-- the name under which a page is kept: its file name, or `index.html` where that is empty
+abbrev pub kept_name : List ℕ → List ℕ
+kept_name address = if length (file_of address) == 0 then codes "index.html" else file_of address
+
+-- a page of this address is kept: its name meets the accept and the reject list; no name is exempt
+abbrev pub Keeps : Plan → List ℕ → Type 0
+Keeps plan address =
+    (plan.accept ≢ [] → Any (λ p. MatchesFile p (kept_name address)) plan.accept)
+    × (¬ Any (λ p. MatchesFile p (kept_name address)) plan.reject)
+
+-- the name meets the accept and the reject list
+abbrev pub keeps_name : Plan → List ℕ → Bool
+keeps_name plan name = (is_absent plan.accept || matches_some plan.accept name) && not (matches_some plan.reject name)
+
+-- a page of this address is kept, as a test
+unfoldable pub keeps_of : Plan → List ℕ → Bool
+keeps_of plan address = keeps_name plan (kept_name address)
 
 -- the tests say what the rules mean, of every plan and address
 abbrev pub PassingIsDecided : Type 0

@@ -1,8 +1,10 @@
 //! Directories (GNU Wget manual, section Directory-Based Limits).
 ghost use Rattle.std.specs.Prelude.{◌≡◌, ◌++◌, codes, nat_eq, IfOk};
-ghost use Rattle.follow_filters.specs.Directories.{is_in_directory};
+ghost use Rattle.follow_filters.specs.Directories.{is_in_directory, is_directory, without_closing_slashes};
 
-use std::alloc::AllocError;
+use crate::elements::ElementFault;
+use crate::wildcards::has_wildcard;
+use std::alloc::{AllocError, Global};
 use std::marker::Model;
 
 /// A directory, as `/a`: it has the directories `/a/` and those below it.
@@ -22,6 +24,22 @@ impl Model for Directory {
 }
 
 impl Directory {
+    ghost use Rattle.follow_filters.specs.Elements.{Reads};
+    ghost use Rattle.follow_filters.specs.Directories.{read_directory};
+
+    /// Reads a directory. It begins with a slash and has none of `*`, `?`, `[` and `]`, else `Bad`;
+    /// the slashes at its end are taken off.
+    pub fn read(alloc: Global, text: &str) -> Result<Directory, ElementFault>
+        ensures { Reads result (read_directory text.now) }
+    {
+        if !is_directory(text.as_bytes()) {
+            return Err(ElementFault::Bad);
+        }
+        Ok(Directory {
+            text: String::from_str(alloc, without_closing_slashes(text))?,
+        })
+    }
+
     /// Whether this is the directory `dir`, as `/a/b/`, or one above it.
     pub fn has(&self, dir: &str) -> bool
         ensures { result ≡ is_in_directory self.now dir.now }
@@ -51,4 +69,22 @@ fn is_at_or_below(dir: &[u8], element: &[u8]) -> bool
     ensures { result ≡ is_in_directory element.now dir.now }
 {
     dir.starts_with(element) && dir[element.len()..].starts_with(b"/")
+}
+
+// Whether the text begins with a slash and has no wildcard.
+fn is_directory(text: &[u8]) -> bool
+    ensures { result ≡ is_directory text.now }
+{
+    text.starts_with(b"/") && !has_wildcard(text)
+}
+
+// The text without the slashes at its end.
+fn without_closing_slashes(text: &str) -> &str
+    ensures { result.now ≡ without_closing_slashes text.now }
+{
+    let mut bare = text;
+    while let Some(front) = bare.strip_suffix('/') {
+        bare = front;
+    }
+    bare
 }

@@ -1,10 +1,11 @@
 //! Domains (GNU Wget manual, section Spanning Hosts).
 ghost use Rattle.std.specs.Prelude.{◌≡◌, ◌++◌, codes, nat_eq, IfOk};
-ghost use Rattle.std.specs.List.{ends_with};
+ghost use Rattle.std.specs.List.{ends_with, list_all};
 ghost use Rattle.std.specs.Str.{str_to_ascii_lowercase};
-ghost use Rattle.follow_filters.specs.Domains.{is_in_domain};
+ghost use Rattle.follow_filters.specs.Domains.{is_in_domain, is_domain, is_domain_byte, without_dot};
 
-use std::alloc::AllocError;
+use crate::elements::ElementFault;
+use std::alloc::{AllocError, Global};
 use std::marker::Model;
 
 /// A domain, as `foo.edu`: it has the host `foo.edu` and those that end in `.foo.edu`.
@@ -24,6 +25,23 @@ impl Model for Domain {
 }
 
 impl Domain {
+    ghost use Rattle.follow_filters.specs.Elements.{Reads};
+    ghost use Rattle.follow_filters.specs.Domains.{read_domain};
+
+    /// Reads a domain. One leading dot is taken off, and what remains is one or more letters and
+    /// digits of ASCII, `-`, `_` and `.`; else `Bad`.
+    pub fn read(alloc: Global, text: &str) -> Result<Domain, ElementFault>
+        ensures { Reads result (read_domain text.now) }
+    {
+        let bare = without_dot(text);
+        if !is_domain(bare.as_bytes()) {
+            return Err(ElementFault::Bad);
+        }
+        Ok(Domain {
+            text: String::from_str(alloc, bare)?,
+        })
+    }
+
     /// Whether the domain has the host, without regard to ASCII case.
     pub fn has(&self, host: &str) -> bool
         ensures { result ≡ is_in_domain self.now host.now }
@@ -64,4 +82,33 @@ fn is_at_or_below(host: &[u8], domain: &[u8]) -> bool
     ensures { result ≡ is_in_domain domain.now host.now }
 {
     host.eq_ignore_ascii_case(domain) || is_below(host, domain)
+}
+
+// The text without one leading dot.
+fn without_dot(text: &str) -> &str
+    ensures { result.now ≡ without_dot text.now }
+{
+    match text.strip_prefix('.') {
+        Some(bare) => bare,
+        None => text,
+    }
+}
+
+fn is_domain_byte(byte: u8) -> bool
+    ensures { result ≡ is_domain_byte byte }
+{
+    byte.is_ascii_alphanumeric() || byte == b'-' || byte == b'_' || byte == b'.'
+}
+
+// Whether the text is a domain.
+fn is_domain(text: &[u8]) -> bool
+    ensures { result ≡ is_domain text.now }
+{
+    !text.is_empty() && has_domain_bytes(text)
+}
+
+fn has_domain_bytes(text: &[u8]) -> bool
+    ensures { result ≡ list_all is_domain_byte text.now }
+{
+    text.iter().all(|byte| is_domain_byte(*byte))
 }

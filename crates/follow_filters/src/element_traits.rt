@@ -45,6 +45,25 @@ impl PartialEq for Directory {
     }
 }
 
+// A pattern's parts are what its text spells, so a copy is read anew.
+impl Clone for Pattern {
+    ghost is_clone = { λ pattern copy. copy ≡ pattern };
+
+    fn clone(&self) -> Result<Pattern, AllocError> {
+        self.try_clone()
+    }
+}
+
+impl PartialEq for Pattern {
+    ghost eq = { bytes_eq };
+
+    ghost laws = { partial_equiv_from_equiv nat_list_eq_equiv };
+
+    fn eq(&self, other: &Pattern) -> bool {
+        self.as_str() == other.as_str()
+    }
+}
+
 impl<T: Clone> Clone for Elements<T> {
     ghost is_clone = { λ elements copy. ((x y : T) → T.is_clone x y → y ≡ x) → copy ≡ elements };
 

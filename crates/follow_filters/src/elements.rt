@@ -1,7 +1,7 @@
 //! Lists of elements, as the filters are given in (GNU Wget manual, chapter Following Links).
 ghost use Rattle.std.specs.Prelude.{◌≡◌, [], IsTrue, ◌↔◌, IfOk};
 
-use std::alloc::{AllocError, Global};
+use std::alloc::{AllocError, AllocFailed, Global};
 use std::marker::Model;
 
 /// Why a text is no element of a list.
@@ -20,6 +20,17 @@ impl From<AllocError> for ElementFault {
     ghost from_gives = { λ e fault. fault ≡ Memory };
 
     fn from(_error: AllocError) -> ElementFault {
+        ElementFault::Memory
+    }
+}
+
+impl<T: Drop> From<AllocFailed<T>> for ElementFault {
+    ghost use Rattle.std.specs.Prelude.{◌≡◌};
+    ghost use Rattle.follow_filters.specs.declared.elements.ElementFault.TheVariants.{Memory};
+
+    ghost from_gives = { λ e fault. fault ≡ Memory };
+
+    fn from(_refused: AllocFailed<T>) -> ElementFault {
         ElementFault::Memory
     }
 }

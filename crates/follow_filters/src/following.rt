@@ -56,11 +56,19 @@ fn matches_some(patterns: &Elements<Pattern>, file: &str) -> bool
         .any(|pattern| pattern.matches(file))
 }
 
-ghost use Rattle.follow_filters.specs.Rules.{PassingIsDecided};
+ghost use Rattle.follow_filters.specs.Rules.{PassingIsDecided, kept_name};
+
+// The name under which a page of this address is kept.
+fn kept_name(address: &Address) -> &str
+    ensures { result.now ≡ kept_name address.now }
+{
+    let file = address.file();
+    if file.is_empty() { "index.html" } else { file }
+}
 
 impl Plan {
-    ghost use Rattle.std.specs.Prelude.{MatchResult, None, IsTrue, find, is_ok};
-    ghost use Rattle.follow_filters.specs.Rules.{meets, first_unmet, verdict_of, passes_of, rules, has_start_host, Passes, IsFirstUnmet};
+    ghost use Rattle.std.specs.Prelude.{◌↔◌, MatchResult, None, IsTrue, find, is_ok};
+    ghost use Rattle.follow_filters.specs.Rules.{meets, first_unmet, verdict_of, passes_of, rules, has_start_host, Passes, IsFirstUnmet, keeps_name, keeps_of, Keeps};
 
     // Whether the address has the start's host.
     fn has_start_host(&self, address: &Address) -> bool
@@ -155,6 +163,22 @@ impl Plan {
             Some(rule) => Err(rule),
             None => Ok(()),
         }
+    }
+
+    /// Whether a page of this address is kept: its file name, or `index.html` where that is empty,
+    /// meets the accept and the reject list. Takes no memory.
+    pub fn keeps(&self, address: &Address) -> bool
+        ensures value { result ≡ keeps_of self.now address.now }
+        ensures means { IsTrue result ↔ Keeps self.now address.now }
+    {
+        self.keeps_name(kept_name(address))
+    }
+
+    // Whether the name meets the accept and the reject list.
+    fn keeps_name(&self, name: &str) -> bool
+        ensures { result ≡ keeps_name self.now name.now }
+    {
+        (self.accept.is_empty() || matches_some(&self.accept, name)) && !matches_some(&self.reject, name)
     }
 }
 

@@ -11,6 +11,7 @@ pub use crate::pattern::Pattern;
 pub use crate::plan::{MAX_PER_HOST, MAX_URLS, Plan};
 pub use crate::rule::Rule;
 
+mod class;
 mod directory;
 mod domain;
 mod element_traits;
@@ -21,3 +22,5 @@ mod pattern;
 mod plan;
 mod plan_copies;
 mod rule;
+mod spelling;
+mod wildcards;

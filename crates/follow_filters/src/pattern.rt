@@ -1,30 +1,11 @@
 //! Patterns of file names (GNU Wget manual, section Types of Files).
 ghost use Rattle.std.specs.Prelude.{◌≡◌};
 
+use crate::class::Class;
+use crate::elements::ElementFault;
+use crate::spelling::read_parts;
+use std::alloc::{AllocError, Global};
 use std::marker::Model;
-
-/// The bytes from `low` to `high`.
-#[derive(Clone, Copy, PartialEq, Eq)]
-pub struct Range {
-    low: u8,
-    high: u8,
-}
-
-/// A class of bytes, as `[a-c]` or `[!a-c]`.
-#[derive(Drop)]
-pub struct Class {
-    is_negated: bool,
-    ranges: Vec<Range>,
-}
-
-// Contracts see a class as whether it is negated, and its ranges.
-impl Model for Class {
-    ghost use Rattle.follow_filters.specs.Classes.{ClassValue};
-
-    ghost Value = { ClassValue };
-
-    ghost view = { λ c. record { is_negated = c.is_negated; ranges = c.ranges.items } };
-}
 
 /// A part of a pattern.
 #[derive(Drop)]
@@ -37,36 +18,6 @@ pub enum Part {
     Byte(u8),
     /// A byte that the class takes.
     Class(Class),
-}
-
-impl Range {
-    ghost use Rattle.follow_filters.specs.Classes.{is_in};
-
-    fn has(&self, byte: u8) -> bool
-        ensures { result ≡ is_in byte self.now }
-    {
-        self.low <= byte && byte <= self.high
-    }
-}
-
-impl Class {
-    ghost use Rattle.follow_filters.specs.Classes.{class_names, class_takes};
-
-    fn names(&self, byte: u8) -> bool
-        ensures { result ≡ class_names self.now byte }
-    {
-        self.ranges.iter().any(|range| range.has(byte))
-    }
-
-    fn takes(&self, byte: u8) -> bool
-        ensures { result ≡ class_takes self.now byte }
-    {
-        if self.is_negated {
-            !self.names(byte)
-        } else {
-            self.names(byte)
-        }
-    }
 }
 
 impl part_match::Part for Part {
@@ -112,13 +63,60 @@ impl Model for Pattern {
 }
 
 impl Pattern {
-    ghost use Rattle.std.specs.Prelude.{◌≡◌};
-    ghost use Rattle.follow_filters.specs.Patterns.{is_file_match};
+    ghost use Rattle.std.specs.Prelude.{◌≡◌, IfOk};
+    ghost use Rattle.follow_filters.specs.Elements.{Reads};
+    ghost use Rattle.follow_filters.specs.Patterns.{is_file_match, read_element};
+
+    /// Reads a pattern of whole file names, or a suffix of them where the text has none of `*`, `?`,
+    /// `[` and `]`. A class that is empty, unclosed, or has a range with its greater byte first is
+    /// `Bad`.
+    pub fn read(alloc: Global, text: &str) -> Result<Pattern, ElementFault>
+        ensures { Reads result (read_element text.now) }
+    {
+        let parts = read_parts(alloc, text.as_bytes())?;
+        Ok(Pattern {
+            text: String::from_str(alloc, text)?,
+            parts,
+        })
+    }
 
     /// Whether the pattern matches the file name. Takes no memory.
     pub fn matches(&self, file: &str) -> bool
         ensures { result ≡ is_file_match self.now file.now }
     {
         part_match::matches(self.parts.as_slice(), file.as_bytes())
+    }
+
+    /// The pattern as it was read. Takes no memory.
+    pub fn as_str(&self) -> &str
+        ensures { result.now ≡ self.now }
+    {
+        self.text.as_str()
+    }
+
+    // An equal pattern.
+    pub(crate) fn try_clone(&self) -> Result<Pattern, AllocError>
+        ensures { IfOk result (λ copy. copy ≡ self.now) }
+    {
+        match Pattern::read(*self.text.allocator(), self.as_str()) {
+            Ok(copy) => Ok(copy),
+            Err(_) => Err(AllocError),
+        }
+    }
+}
+
+impl Part {
+    ghost use Rattle.std.specs.Prelude.{◌≡◌};
+    ghost use Rattle.follow_filters.specs.Patterns.{unit_of};
+
+    // A byte that stands outside of a class.
+    pub(crate) fn of(byte: u8) -> Part
+        ensures { result ≡ unit_of byte }
+    {
+        match byte {
+            b'*' => Part::Run,
+            b'?' => Part::Any,
+            _ => Part::Byte(byte),
+        }
     }
 }

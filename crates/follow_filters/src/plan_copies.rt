@@ -11,7 +11,7 @@ use address::Address;
 use std::alloc::{AllocError, Global};
 
 impl Plan {
-    ghost use Rattle.follow_filters.specs.Plans.{IsUnfiltered};
+    ghost use Rattle.follow_filters.specs.Plans.{IsUnfiltered, have_same_bounds, have_same_flags, have_same_lists, is_same_plan};
 
     /// A plan without filters: the start's host is followed but for its robots file, robots files
     /// aren't honoured, and two requests may be out to a host. Takes no memory.
@@ -40,5 +40,66 @@ impl Plan {
             max_urls,
             per_host: 2,
         }
+    }
+
+    /// An equal plan.
+    pub fn try_clone(&self) -> Result<Plan, AllocError>
+        ensures { IfOk result (λ copy. copy ≡ self.now) }
+    {
+        Ok(Plan {
+            start: self.start.try_clone()?,
+            limit: self.limit,
+            span_hosts: self.span_hosts,
+            no_parent: self.no_parent,
+            domains: self.domains.clone()?,
+            exclude_domains: self.exclude_domains.clone()?,
+            include_dirs: self.include_dirs.clone()?,
+            exclude_dirs: self.exclude_dirs.clone()?,
+            accept: self.accept.clone()?,
+            reject: self.reject.clone()?,
+            robots: self.robots,
+            max_urls: self.max_urls,
+            per_host: self.per_host,
+        })
+    }
+
+    /// Whether the plans are equal. Takes no memory.
+    pub fn same(&self, other: &Plan) -> bool
+        ensures { IsTrue result ↔ (self.now ≡ other.now) }
+    {
+        self.is_same(other)
+    }
+
+    #[tactic(auto, unfolding(crate::specs::Plans::is_same_plan))]
+    fn is_same(&self, other: &Plan) -> bool
+        ensures { result ≡ is_same_plan self.now other.now }
+    {
+        self.has_same_bounds(other) && self.has_same_flags(other) && self.has_same_lists(other)
+    }
+
+    fn has_same_bounds(&self, other: &Plan) -> bool
+        ensures { result ≡ have_same_bounds self.now other.now }
+    {
+        self.start == other.start
+            && self.limit == other.limit
+            && self.max_urls == other.max_urls
+            && self.per_host == other.per_host
+    }
+
+    fn has_same_flags(&self, other: &Plan) -> bool
+        ensures { result ≡ have_same_flags self.now other.now }
+    {
+        self.span_hosts == other.span_hosts && self.no_parent == other.no_parent && self.robots == other.robots
+    }
+
+    fn has_same_lists(&self, other: &Plan) -> bool
+        ensures { result ≡ have_same_lists self.now other.now }
+    {
+        self.domains == other.domains
+            && self.exclude_domains == other.exclude_domains
+            && self.include_dirs == other.include_dirs
+            && self.exclude_dirs == other.exclude_dirs
+            && self.accept == other.accept
+            && self.reject == other.reject
     }
 }

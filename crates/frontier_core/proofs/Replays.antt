@@ -23,12 +23,20 @@ replay_keeps p P start next trace s (actions, lines, run, is) = run_keeps p P ne
 
 run-snoc : (p : Policy) (actions : List Action) (s t v : State) (action : Action) (lines : List Event) → Run p s actions t lines → Step p t action v
     → Run p s (actions ++ action ∷ []) v (lines ++ lines_of t action)
-run-snoc p [] s t v action lines run step =
-    (v, [], subst (λ z. Step p z action v) run.0 step, (refl, refl),
-     ap (λ z. z ++ lines_of t action) run.1 ∙ ap (λ z. lines_of z action) run.0 ∙ sym (append-nil (lines_of s action)))
-run-snoc p (first ∷ actions) s t v action lines (between, rest, one, run, is) step =
-    (between, rest ++ lines_of t action, one, run-snoc p actions between t v action rest run step,
-     ap (λ z. z ++ lines_of t action) is ∙ append_assoc (lines_of s first) rest (lines_of t action))
+run-snoc p [] s t v action lines run step = (
+  v,
+  [],
+  subst (λ z. Step p z action v) run.0 step,
+  (refl, refl),
+  ap (λ z. z ++ lines_of t action) run.1 ∙ ap (λ z. lines_of z action) run.0 ∙ sym (append-nil (lines_of s action)),
+)
+run-snoc p (first ∷ actions) s t v action lines (between, rest, one, run, is) step = (
+  between,
+  rest ++ lines_of t action,
+  one,
+  run-snoc p actions between t v action rest run step,
+  ap (λ z. z ++ lines_of t action) is ∙ append_assoc (lines_of s first) rest (lines_of t action),
+)
 
 pub replay-snoc : (p : Policy) (trace : List Event) (s t : State) (action : Action) → IsReplay p trace s → Step p s action t → IsReplay p (trace ++ lines_of s action) t
 replay-snoc p trace s t action (actions, lines, run, is) step =

@@ -93,25 +93,25 @@ within_step p s (TakePage w u) t h (running, room, (d, held, is)) o =
     let new : Slot = slot d (Out (Worker w)) in
     let change : tally (is_out_of p o) (put s.entries u new) + 0 ≡ tally (is_out_of p o) s.entries + one (bytes_eq (p.origin u) o) = tally-put_held (is_out_of p o) s.entries u (slot d Waiting) new held in
     rw (entries_of is, origins_of is) (
-      elim (compare_texts (p.origin u) o) [
-        | same k e ↦
-            (let at : permits_out p s o < p.per_host = subst (λ z. permits_out p s z < p.per_host) k room in
-            let more : tally (is_out_of p o) (put s.entries u new) + 0 ≡ tally (is_out_of p o) s.entries + 1 = change ∙ ap (λ z. tally (is_out_of p o) s.entries + one z) e in
-            omega (arith, at, more))
-        | other k e ↦
-            (let was : permits_out p s o ≤ p.per_host = h o in
-            let more : tally (is_out_of p o) (put s.entries u new) + 0 ≡ tally (is_out_of p o) s.entries + 0 = change ∙ ap (λ z. tally (is_out_of p o) s.entries + one z) e in
-            omega (arith, was, more))
-      ])
+    elim (compare_texts (p.origin u) o) [
+      | same k e ↦
+          (let at : permits_out p s o < p.per_host = subst (λ z. permits_out p s z < p.per_host) k room in
+          let more : tally (is_out_of p o) (put s.entries u new) + 0 ≡ tally (is_out_of p o) s.entries + 1 = change ∙ ap (λ z. tally (is_out_of p o) s.entries + one z) e in
+          omega (arith, at, more))
+      | other k e ↦
+          (let was : permits_out p s o ≤ p.per_host = h o in
+          let more : tally (is_out_of p o) (put s.entries u new) + 0 ≡ tally (is_out_of p o) s.entries + 0 = change ∙ ap (λ z. tally (is_out_of p o) s.entries + one z) e in
+          omega (arith, was, more))
+    ])
 within_step p s (TakeRules w v) t h (running, room, none, parked, is) o =
     rw (entries_of is, origins_of is) (
-      elim (compare_texts o v) [
-        | same k e ↦
-            (let at : permits_out p s o < p.per_host = subst (λ z. permits_out p s z < p.per_host) (sym k) room in
-            let asked : asked_count (lookup (put s.origins v (Asked (Worker w))) o) ≡ 1 = rw k (ap asked_count (lookup-put_same s.origins v (Asked (Worker w)))) in
-            rw asked (omega (arith, at)))
-        | other k e ↦ rw (lookup-put_other s.origins v (Asked (Worker w)) o k) (h o)
-      ])
+    elim (compare_texts o v) [
+      | same k e ↦
+          (let at : permits_out p s o < p.per_host = subst (λ z. permits_out p s z < p.per_host) (sym k) room in
+          let asked : asked_count (lookup (put s.origins v (Asked (Worker w))) o) ≡ 1 = rw k (ap asked_count (lookup-put_same s.origins v (Asked (Worker w)))) in
+          rw asked (omega (arith, at)))
+      | other k e ↦ rw (lookup-put_other s.origins v (Asked (Worker w)) o k) (h o)
+    ])
 within_step p s (Answer w u x) t h (d, held, is) o = within_entry p s t u (slot d (Out (Worker w))) (slot d (Answered x (turn_of (edges x)))) h (entries_of is) (origins_of is) held (λ no. refl) o
 within_step p s (Rule w v r) t h (asked, is) o =
     fewer p s t o h
@@ -119,10 +119,10 @@ within_step p s (Rule w v r) t h (asked, is) o =
     (rw (tally-changed (is_out_of p o) (λ u old. slot old.depth (unparked p v r u old.progress)) (λ u e. ap (λ z. z && bytes_eq (p.origin u) o) (is_out-unparked p v r u e.progress)) s.entries)
     (le_refl (tally (is_out_of p o) s.entries))))
     (rw (origins_of is) (
-      elim (compare_texts o v) [
-        | same k e ↦ (let gone : asked_count (lookup (put s.origins v (Known r)) o) ≡ 0 = rw k (ap asked_count (lookup-put_same s.origins v (Known r))) in rw gone (omega arith))
-        | other k e ↦ rw (lookup-put_other s.origins v (Known r) o k) (le_refl (asked_count (lookup s.origins o)))
-      ]))
+    elim (compare_texts o v) [
+      | same k e ↦ (let gone : asked_count (lookup (put s.origins v (Known r)) o) ≡ 0 = rw k (ap asked_count (lookup-put_same s.origins v (Known r))) in rw gone (omega arith))
+      | other k e ↦ rw (lookup-put_other s.origins v (Known r) o k) (le_refl (asked_count (lookup s.origins o)))
+    ]))
 within_step p s (Spread d u k) t h (running, x, due, count, enough, is) o =
     let held : lookup (follow_all p d s (edges x)).entries u ≡ Some (slot d (Answered x Due)) = follow_all_slot p d (edges x) s u (slot d (Answered x Due)) due (le_refl d) in
     within_entry p (follow_all p d s (edges x)) t u (slot d (Answered x Due)) (slot d (Answered x Offered)) (within_follow_all p d (edges x) s h) (entries_of is) (origins_of is) held (λ no. cc) o
@@ -131,13 +131,13 @@ within_step p s (Abandon w u cause) t h (d, held, is) o = within_entry p s t u (
 within_step p s (AbandonRules w v cause) t h (asked, is) o =
     fewer p s t o h (rw (entries_of is) (le_refl (tally (is_out_of p o) s.entries)))
     (rw (origins_of is) (
-      elim (compare_texts o v) [
-        | same k e ↦
-            (let now : asked_count (lookup (put s.origins v (Asked Nobody)) o) ≡ 1 = rw k (ap asked_count (lookup-put_same s.origins v (Asked Nobody))) in
-            let was : asked_count (lookup s.origins o) ≡ 1 = rw k (ap asked_count asked) in
-            rw (now, was) (le_refl 1))
-        | other k e ↦ rw (lookup-put_other s.origins v (Asked Nobody) o k) (le_refl (asked_count (lookup s.origins o)))
-      ]))
+    elim (compare_texts o v) [
+      | same k e ↦
+          (let now : asked_count (lookup (put s.origins v (Asked Nobody)) o) ≡ 1 = rw k (ap asked_count (lookup-put_same s.origins v (Asked Nobody))) in
+          let was : asked_count (lookup s.origins o) ≡ 1 = rw k (ap asked_count asked) in
+          rw (now, was) (le_refl 1))
+      | other k e ↦ rw (lookup-put_other s.origins v (Asked Nobody) o k) (le_refl (asked_count (lookup s.origins o)))
+    ]))
 within_step p s (Stop cause) t h (running, is) o = rw (entries_of is, origins_of is) (h o)
 
 pub within_replay : (p : Policy) (trace : List Event) (s : State) → 1 ≤ p.per_host → IsReplay p trace s → (o : Text) → permits_out p s o ≤ p.per_host

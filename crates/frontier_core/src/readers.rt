@@ -9,34 +9,31 @@ ghost use Rattle.frontier_core.specs.Readers.{entry_of, record_of, item_entry, i
 use crate::condition::Condition;
 use crate::entry::Slot;
 use address::Address;
+use indexmap::map::Iter;
 use site_answer::Outcome;
 use std::marker::Model;
-use std::slice;
 
 /// The held addresses in order of discovery, each with its label and its condition.
 #[derive(Drop)]
 pub struct Entries<'a> {
-    rest: slice::Iter<'a, (Address, Slot)>,
+    rest: Iter<'a, Address, Slot>,
 }
 
 impl<'a> Model for Entries<'a> {
     ghost use Rattle.std.specs.Prelude.{List, ℕ, map};
-    ghost use Rattle.std.specs.Slice.Iter.{iter_rest};
     ghost use Rattle.frontier_core.specs.Tables.{Text};
     ghost use Rattle.frontier_core.specs.Readers.{Entry, entry_of};
 
     ghost Value = { List Entry };
 
-    ghost view = { λ a. map entry_of (iter_rest a.rest) };
+    ghost view = { λ a. map entry_of a.rest };
 }
 
 impl<'a> Entries<'a> {
-    pub(crate) fn new(entries: &'a [(Address, Slot)]) -> Self
-        ensures { result ≡ map entry_of entries.now }
+    pub(crate) fn new(entries: Iter<'a, Address, Slot>) -> Self
+        ensures { result ≡ map entry_of entries.entry }
     {
-        Entries {
-            rest: entries.iter(),
-        }
+        Entries { rest: entries }
     }
 }
 
@@ -48,35 +45,32 @@ impl<'a> Iterator for Entries<'a> {
     ghost remaining = { item_count (λ s. s) };
 
     fn next(&mut self) -> Option<(&'a Address, u32, Condition)> {
-        let entry = self.rest.next()?;
-        Some((&entry.0, entry.1.depth(), entry.1.condition()))
+        let (address, slot) = self.rest.next()?;
+        Some((address, slot.depth(), slot.condition()))
     }
 }
 
 /// The recorded addresses in order of discovery, each with its outcome.
 #[derive(Drop)]
 pub struct Records<'a> {
-    rest: slice::Iter<'a, (Address, Slot)>,
+    rest: Iter<'a, Address, Slot>,
 }
 
 impl<'a> Model for Records<'a> {
     ghost use Rattle.std.specs.Prelude.{List};
     ghost use Rattle.std.specs.List.{filter_map};
-    ghost use Rattle.std.specs.Slice.Iter.{iter_rest};
     ghost use Rattle.frontier_core.specs.Readers.{Recorded, record_of};
 
     ghost Value = { List Recorded };
 
-    ghost view = { λ a. filter_map record_of (iter_rest a.rest) };
+    ghost view = { λ a. filter_map record_of a.rest };
 }
 
 impl<'a> Records<'a> {
-    pub(crate) fn new(entries: &'a [(Address, Slot)]) -> Self
-        ensures { result ≡ filter_map record_of entries.now }
+    pub(crate) fn new(entries: Iter<'a, Address, Slot>) -> Self
+        ensures { result ≡ filter_map record_of entries.entry }
     {
-        Records {
-            rest: entries.iter(),
-        }
+        Records { rest: entries }
     }
 }
 
@@ -88,9 +82,9 @@ impl<'a> Iterator for Records<'a> {
     ghost remaining = { item_count (λ s. s) };
 
     fn next(&mut self) -> Option<(&'a Address, &'a Outcome)> {
-        while let Some(entry) = self.rest.next() {
-            if let Some(outcome) = entry.1.outcome() {
-                return Some((&entry.0, outcome));
+        while let Some((address, slot)) = self.rest.next() {
+            if let Some(outcome) = slot.outcome() {
+                return Some((address, outcome));
             }
         }
         None

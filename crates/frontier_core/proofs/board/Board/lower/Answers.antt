@@ -1,18 +1,19 @@
-use Rattle.std.proofs.Common.{◌<◌, length, Some, refl, sym, ap, subst, ◌∙◌}
+use Rattle.std.proofs.Common.{◌<◌, length, refl, sym, subst, ◌∙◌}
 use Rattle.frontier_core.specs.Inner.{key_at, IsDistinct}
-use Rattle.frontier_core.proofs.TableLaws.{lookup_at, set_is_put, distinct-put}
+use Rattle.frontier_core.proofs.TableLaws.{distinct-put}
+use Rattle.frontier_core.proofs.IndexLaws.{value_found, written}
 use Rattle.frontier_core.proofs.board.Board.lower.Goals as goal
 
 pub invariant_of-self : goal.invariant_of-self
 invariant_of-self c =
-    let lt : c.args.i < length c.self.inside.entries.items = rw (← c.self.view_is) at c.requires in
-    subst (λ z. IsDistinct z) (sym (set_is_put c.self.inside.entries.items c.args.i c.index_mut.result.now c.lower.new.self c.self.invariant lt c.index_mut.ensures.value))
-    (distinct-put c.self.inside.entries.items (key_at c.self.inside.entries.items c.args.i) c.lower.new.self c.self.invariant)
+    let lt : c.args.i < length c.self.inside.entries.entries = rw (← c.self.view_is) at c.requires in
+    subst (λ z. IsDistinct z) (sym (written c.self.inside.entries.entries c.args.i c.lower.new.self c.self.invariant lt))
+    (distinct-put c.self.inside.entries.entries (key_at c.self.inside.entries.entries c.args.i) c.lower.new.self c.self.invariant)
 
 pub returns : goal.returns
 returns c =
-    let lt : c.args.i < length c.self.inside.entries.items = rw (← c.self.view_is) at c.requires in (
-      c.index_mut.result.now.1,
-      rw (← c.self.view_is) (lookup_at c.self.inside.entries.items c.args.i c.index_mut.result.now c.self.invariant lt ∙ ap (λ z. Some z.1) (sym c.index_mut.ensures.value)),
-      rw (← c.self.view_is) (rw (set_is_put c.self.inside.entries.items c.args.i c.index_mut.result.now c.lower.new.self c.self.invariant lt c.index_mut.ensures.value) (rw c.lower.ensures refl)),
+    let lt : c.args.i < length c.self.inside.entries.entries = rw (← c.self.view_is) at c.requires in (
+      c.index_mut.result.now,
+      rw (← c.self.view_is) (value_found c.self.inside.entries.entries c.args.i c.index_mut.result.now c.self.invariant c.index_mut.ensures.value).1,
+      rw (← c.self.view_is) (rw (written c.self.inside.entries.entries c.args.i c.lower.new.self c.self.invariant lt) (rw c.lower.ensures refl)),
     )

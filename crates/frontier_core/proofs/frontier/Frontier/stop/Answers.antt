@@ -31,4 +31,4 @@ invariant_of-self c =
     (replay_makes (view c.self.inside) _ _ c.self.invariant.0 (makes c), omega (arith, owes, len, capacity, room))
 
 pub returns : goal.returns
-returns c = inl (rw (← c.self.view_is) (running c), rw (← c.self.view_is) (makes c))
+returns c = record { stops = inl (rw (← c.self.view_is) (running c), rw (← c.self.view_is) (makes c)) }

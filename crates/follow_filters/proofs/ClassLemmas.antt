@@ -1,0 +1,41 @@
+-- Reading the items of a class from the left.
+use Rattle.std.proofs.Common.{suc, ◌≡◌, ◌≢◌, ◌⊎◌, ⊎_elim, if◌then◌else◌, get_or, drop, length, ◌∙◌, ℕ, ◌<◌, ◌≤◌, ◌==◌, Bool, true, false, List, [], ◌∷◌, ◌++◌, Option, Some, None, option_map, nat_lt, refl, sym, ap, append_assoc, append-nil, arith}
+use Rattle.std.proofs.lemmas.Bool.Decides.{nat_tests, Decides-eqb}
+use Rattle.std.proofs.lemmas.Bool.{cases_Bool}
+use Rattle.follow_filters.specs.declared.class.Range.{Range}
+use Rattle.follow_filters.specs.Classes.{ranges_of, range, then_range}
+
+-- what is read so far, and what is still to be read
+abbrev pub behind : {X : Type 0} → List X → Option (List X) → Option (List X)
+behind front rest = option_map (λ xs. front ++ xs) rest
+
+pub behind-more : {X : Type 0} (front : List X) (x : X) (rest : Option (List X)) → behind (front ++ x ∷ []) rest ≡ behind front (option_map (λ xs. x ∷ xs) rest)
+behind-more front x None = refl
+behind-more front x (Some xs) = ap Some (append_assoc front (x ∷ []) xs)
+
+pub behind-nothing : {X : Type 0} (rest : Option (List X)) → behind [] rest ≡ rest
+behind-nothing None = refl
+behind-nothing (Some xs) = refl
+
+-- an item `x-y`
+pub ranges_of-span : (items : List ℕ) → 3 ≤ length items → get_or items 1 0 ≡ 45 → ranges_of items ≡ then_range (range (get_or items 0 0) (get_or items 2 0)) (ranges_of (drop 3 items))
+ranges_of-span [] long dash = absurd (omega arith)
+ranges_of-span (x ∷ []) long dash = absurd (omega arith)
+ranges_of-span (x ∷ d ∷ []) long dash = absurd (omega arith)
+ranges_of-span (x ∷ d ∷ y ∷ items) long dash = ap (λ b. if b then then_range (range x y) (ranges_of items) else then_range (range x x) (ranges_of (d ∷ y ∷ items))) ((Decides-eqb d 45).1 dash)
+
+-- any other item
+pub ranges_of-one : (items : List ℕ) → 1 ≤ length items → (length items < 3) ⊎ (get_or items 1 0 ≢ 45) → ranges_of items ≡ then_range (range (get_or items 0 0) (get_or items 0 0)) (ranges_of (drop 1 items))
+ranges_of-one [] long other = absurd (omega arith)
+ranges_of-one (x ∷ []) long other = refl
+ranges_of-one (x ∷ d ∷ []) long other = refl
+ranges_of-one (x ∷ d ∷ y ∷ items) long other =
+    let differs : (d == 45) ≡ false = ⊎_elim (λ short. absurd (omega arith)) (λ no. ⊎_elim (λ yes. absurd (no ((Decides-eqb d 45).0 yes))) (λ f. f) (cases_Bool (d == 45))) other in
+    ap (λ b. if b then then_range (range x y) (ranges_of items) else then_range (range x x) (ranges_of (d ∷ y ∷ items))) differs
+
+-- one more item is read
+pub ranges_of-more : (front : List Range) (first : Range) (items rest : List ℕ) → first.low ≤ first.high → ranges_of items ≡ then_range first (ranges_of rest) → behind (front ++ first ∷ []) (ranges_of rest) ≡ behind front (ranges_of items)
+ranges_of-more front first items rest ordered is =
+    let straight : nat_lt first.high first.low ≡ false = grind (arith, nat_tests) in
+    behind-more front first (ranges_of rest)
+    ∙ ap (behind front) (sym (is ∙ ap (λ b. if b then None else option_map (λ rs. first ∷ rs) (ranges_of rest)) straight))

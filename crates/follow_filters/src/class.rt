@@ -1,0 +1,119 @@
+//! Classes of bytes in a pattern, as `[a-c]` (GNU Wget manual, section Types of Files).
+ghost use Rattle.std.specs.Prelude.{◌≡◌, ◌<◌, [], length, Some, MatchOption, MatchResult};
+ghost use Rattle.follow_filters.specs.Classes.{ranges_of, then_range};
+ghost use Rattle.follow_filters.specs.Elements.{IsFaultOf};
+
+use crate::elements::ElementFault;
+use std::alloc::Global;
+use std::marker::Model;
+
+/// The bytes from `low` to `high`.
+#[derive(Clone, Copy, PartialEq, Eq)]
+pub(crate) struct Range {
+    low: u8,
+    high: u8,
+}
+
+/// A class of bytes, as `[a-c]` or `[!a-c]`.
+#[derive(Drop)]
+pub(crate) struct Class {
+    is_negated: bool,
+    ranges: Vec<Range>,
+}
+
+// Contracts see a class as whether it is negated, and its ranges.
+impl Model for Class {
+    ghost use Rattle.follow_filters.specs.ClassValues.{ClassValue};
+
+    ghost Value = { ClassValue };
+
+    ghost view = { λ c. record { is_negated = c.is_negated; ranges = c.ranges.items } };
+}
+
+impl Range {
+    ghost use Rattle.follow_filters.specs.Classes.{is_in};
+
+    fn has(&self, byte: u8) -> bool
+        ensures { result ≡ is_in byte self.now }
+    {
+        self.low <= byte && byte <= self.high
+    }
+}
+
+impl Class {
+    ghost use Rattle.follow_filters.specs.Classes.{class_names, class_takes, class_of};
+    ghost use Rattle.follow_filters.specs.Elements.{Reads};
+
+    /// Reads what stands between the brackets of a class: a `!` where one comes first, and one or
+    /// more items; `Bad` where there is none, or where one has its greater byte first.
+    pub(crate) fn read(alloc: Global, inner: &[u8]) -> Result<Class, ElementFault>
+        ensures { Reads result (class_of inner.now) }
+    {
+        let (is_negated, items) = match inner {
+            [b'!', items @ ..] => (true, items),
+            _ => (false, inner),
+        };
+        let ranges = read_ranges(alloc, items)?;
+        if ranges.is_empty() {
+            return Err(ElementFault::Bad);
+        }
+        Ok(Class { is_negated, ranges })
+    }
+
+    fn names(&self, byte: u8) -> bool
+        ensures { result ≡ class_names self.now byte }
+    {
+        self.ranges.iter().any(|range| range.has(byte))
+    }
+
+    pub(crate) fn takes(&self, byte: u8) -> bool
+        ensures { result ≡ class_takes self.now byte }
+    {
+        if self.is_negated {
+            !self.names(byte)
+        } else {
+            self.names(byte)
+        }
+    }
+}
+
+
+// The first item of a class, and the items behind it: `x-y` is a range, and any other byte stands for itself.
+fn split_item(items: &[u8]) -> Option<(Range, &[u8])>
+    ensures { MatchOption result (items.now ≡ []) (λ x. (ranges_of items.now ≡ then_range x.0 (ranges_of x.1.now))
+        × (length x.1.now < length items.now)) }
+{
+    match items {
+        [] => None,
+        [low, b'-', high, behind @ ..] => Some((
+            Range {
+                low: *low,
+                high: *high,
+            },
+            behind,
+        )),
+        [byte, behind @ ..] => Some((
+            Range {
+                low: *byte,
+                high: *byte,
+            },
+            behind,
+        )),
+    }
+}
+
+// The ranges that the items of a class spell.
+fn read_ranges(alloc: Global, items: &[u8]) -> Result<Vec<Range>, ElementFault>
+    ensures { MatchResult result (λ v. ranges_of items.now ≡ Some v.items) (IsFaultOf (ranges_of items.now)) }
+{
+    let mut ranges = Vec::new(alloc);
+    let mut rest = items;
+    while let Some((range, behind)) = split_item(rest) {
+        if range.high < range.low {
+            return Err(ElementFault::Bad);
+        }
+        ranges.push(range)?;
+        rest = behind;
+    }
+    Ok(ranges)
+}
