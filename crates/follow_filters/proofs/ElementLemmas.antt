@@ -1,9 +1,9 @@
 -- What is taken off the text of an element.
-use Rattle.std.proofs.Common.{zero, suc, ◌≡◌, ◌≢◌, ◌∙◌, ℕ, ◌+◌, ◌-◌, ◌≤◌, ◌<◌, ◌==◌, Bool, true, false, List, [], ◌∷◌, ◌++◌, take, drop, length, get_or, reverse, Option, Some, None, if◌then◌else◌, refl, sym, ap, ⊎_elim, arith, length-append, length-drop}
+use Rattle.std.proofs.Common.{◌≡◌, ◌≢◌, ◌∙◌, ℕ, ◌+◌, ◌-◌, ◌==◌, Bool, true, false, List, [], ◌∷◌, ◌++◌, take, length, get_or, Some, None, if◌then◌else◌, refl, sym, ap, ⊎_elim, arith, length-append}
 use Rattle.std.proofs.lemmas.Bool.{cases_Bool}
-use Rattle.std.proofs.lemmas.Bool.Decides.{Decides-eqb, nat_tests}
+use Rattle.std.proofs.lemmas.Bool.Decides.{Decides-eqb}
 use Rattle.std.proofs.lemmas.List.{take-append-le, take_more, reverse-append}
-use Rattle.std.proofs.lemmas.List.Sums.{suffix_len-take_no, suffix_len-le-length}
+use Rattle.std.proofs.lemmas.List.Sums.{suffix_len-take_no}
 use Rattle.std.proofs.Math.Seq.{take-length}
 use Rattle.std.specs.List.{suffix_len, prefix_len}
 use Rattle.follow_filters.specs.Domains.{without_dot, is_domain, read_domain}
@@ -26,7 +26,7 @@ closing-more front =
     let p : ℕ → Bool = λ b. b == 47 in
     let more : suffix_len p (front ++ 47 ∷ []) ≡ 1 + suffix_len p front = ap (prefix_len p) (reverse-append front (47 ∷ [])) in
     let size : length (front ++ 47 ∷ []) - suffix_len p (front ++ 47 ∷ []) ≡ length front - suffix_len p front =
-        simp length-append (omega (arith, more)) in
+    simp length-append (omega (arith, more)) in
     ap (λ n. take n (front ++ 47 ∷ [])) size ∙ take-append-le (length front - suffix_len p front) front (47 ∷ []) (omega arith)
 
 -- a text that doesn't
@@ -38,11 +38,11 @@ closing-none (b ∷ bs) bare =
     let p : ℕ → Bool = λ b. b == 47 in
     let last : ℕ = get_or text (length bs) 0 in
     let ends : text ≡ take (length bs) text ++ last ∷ [] =
-        sym (take-length text) ∙ ap (λ n. take n text) (let one : length text ≡ length bs + 1 = omega arith in one) ∙ take_more text (length bs) 0 (omega arith) in
+    sym (take-length text) ∙ ap (λ n. take n text) (let one : length text ≡ length bs + 1 = omega arith in one) ∙ take_more text (length bs) 0 (omega arith) in
     let differs : p last ≡ false =
-        ⊎_elim (λ yes. absurd (bare (take (length bs) text) (ends ∙ ap (λ l. take (length bs) text ++ l ∷ []) ((Decides-eqb last 47).0 yes)))) (λ no. no) (cases_Bool (p last)) in
+    ⊎_elim (λ yes. absurd (bare (take (length bs) text) (ends ∙ ap (λ l. take (length bs) text ++ l ∷ []) ((Decides-eqb last 47).0 yes)))) (λ no. no) (cases_Bool (p last)) in
     let none : suffix_len p text ≡ 0 =
-        ap (suffix_len p) (sym (take-length text)) ∙ suffix_len-take_no p text (length text) 0 (omega arith) (omega arith) (ap (λ n. p (get_or text n 0)) (let one : length text - 1 ≡ length bs = omega arith in one) ∙ differs) in
+    ap (suffix_len p) (sym (take-length text)) ∙ suffix_len-take_no p text (length text) 0 (omega arith) (omega arith) (ap (λ n. p (get_or text n 0)) (let one : length text - 1 ≡ length bs = omega arith in one) ∙ differs) in
     let whole : length text - suffix_len p text ≡ length text = omega (arith, none) in
     ap (λ n. take n text) whole ∙ take-length text
 

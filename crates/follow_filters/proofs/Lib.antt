@@ -5,3 +5,5 @@ pub mod Meaning
 pub mod ElementLemmas
 pub mod ClassLemmas
 pub mod PlanLemmas
+pub mod NumberLemmas
+pub mod ListLemmas

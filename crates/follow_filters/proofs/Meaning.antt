@@ -212,8 +212,8 @@ pub keeps_of-is : (plan : Plan) (address : List ℕ) → Decides (keeps_of plan 
 unfolding keeps_of
 keeps_of-is plan address =
     Decides-and _ _
-        (unless_fact _ _ (is_absent-Decides plan.accept) (any-Decides _ _ (λ p. is_file_match-Decides p (kept_name address)) plan.accept))
-        (Decides-not _ (any-Decides _ _ (λ p. is_file_match-Decides p (kept_name address)) plan.reject))
+    (unless_fact _ _ (is_absent-Decides plan.accept) (any-Decides _ _ (λ p. is_file_match-Decides p (kept_name address)) plan.accept))
+    (Decides-not _ (any-Decides _ _ (λ p. is_file_match-Decides p (kept_name address)) plan.reject))
 
 pub kept : (plan : Plan) (address name : List ℕ) (answer : Bool) → answer ≡ keeps_name plan name → name ≡ kept_name address → (answer ≡ keeps_of plan address) × (IsTrue answer ↔ Keeps plan address)
 unfolding keeps_of

@@ -1,5 +1,5 @@
 -- What a pattern matches, as a test, and how its parts are read from the left.
-use Rattle.std.proofs.Common.{zero, suc, ◌≡◌, ◌∙◌, ℕ, ◌≤◌, Bool, true, false, List, [], ◌∷◌, ◌++◌, map, length, Option, Some, None, option_map, if◌then◌else◌, refl, sym, ap, arith}
+use Rattle.std.proofs.Common.{zero, suc, ◌≡◌, ◌∙◌, ℕ, ◌≤◌, true, false, List, [], ◌∷◌, ◌++◌, map, length, Some, option_map, if◌then◌else◌, sym, ap, arith}
 use Rattle.std.specs.List.{list_any}
 use Rattle.std.specs.Option.{option_and_then}
 use Rattle.part_match.specs.Cuts.{is_match}
@@ -17,10 +17,12 @@ is_file_match-parts element file parts reads = ap (λ read. matches_read read fi
 -- one more part is read
 pub parts_within-more : (most : ℕ) (front : List Part) (first : ℕ) (rest : List ℕ) (p : Part) (after : List ℕ) → length (first ∷ rest) ≤ most → first_part first rest ≡ Some (p, after) → length after ≤ length rest → (m : ℕ) × (length after ≤ m) × (behind (front ++ p ∷ []) (parts_within m after) ≡ behind front (parts_within most (first ∷ rest)))
 parts_within-more zero front first rest p after within is shorter = absurd (omega arith)
-parts_within-more (suc m) front first rest p after within is shorter =
-    (m, omega arith,
-      behind-more front p (parts_within m after)
-      ∙ ap (λ split. behind front (option_and_then (λ s. option_map (λ ps. s.0 ∷ ps) (parts_within m s.1)) split)) (sym is))
+parts_within-more (suc m) front first rest p after within is shorter = (
+  m,
+  omega arith,
+  behind-more front p (parts_within m after)
+      ∙ ap (λ split. behind front (option_and_then (λ s. option_map (λ ps. s.0 ∷ ps) (parts_within m s.1)) split)) (sym is),
+)
 
 pub parts_of-within : (text : List ℕ) → behind [] (parts_within (length text) text) ≡ parts_of text
 unfolding parts_of

@@ -1,10 +1,8 @@
 -- When plans are equal.
-use Rattle.std.proofs.Common.{◌≡◌, ◌∙◌, ◌≤◌, ℕ, Bool, true, false, ◌&&◌, List, nat_eq, bytes_eq, refl, sym, ap, subst, rules, arith}
-use Rattle.std.proofs.Math.Bool.{beq}
+use Rattle.std.proofs.Common.{◌≡◌, ◌∙◌, ◌≤◌, ℕ, Bool, true, false, List, bytes_eq, refl, ap, subst}
 use Rattle.std.specs.Bool.{Decides}
 use Rattle.std.specs.Cmp.{booleans_Decides}
 use Rattle.std.specs.Cmp.Lexicographic.{pointwise}
-use Rattle.std.proofs.lemmas.Bool.{and_parts, and_from}
 use Rattle.std.proofs.lemmas.Bool.Decides.{Decides-eqb, Decides-and, Decides-like}
 use Rattle.std.proofs.lemmas.Slice.Eq.{bytes_eq-Decides, slice_eq-Decides}
 use Rattle.follow_filters.specs.declared.plan.Plan.{Plan}
@@ -38,12 +36,25 @@ facts_once start limit max_urls per_host = hlevel props
 -- the plan with another start and other numbers
 abbrev moved : Plan → (start : List ℕ) (limit : Limit) (max_urls per_host : ℕ) → Facts start limit max_urls per_host → Plan
 moved plan start limit max_urls per_host facts = record {
-  start = start; limit = limit;
-  span_hosts = plan.span_hosts; no_parent = plan.no_parent;
-  domains = plan.domains; exclude_domains = plan.exclude_domains; include_dirs = plan.include_dirs; exclude_dirs = plan.exclude_dirs;
-  accept = plan.accept; reject = plan.reject; robots = plan.robots;
-  max_urls = max_urls; per_host = per_host;
-  starts_at_page = facts.0; limit_in_range = facts.1; some_urls = facts.2; max_urls_in_range = facts.3; some_per_host = facts.4; per_host_in_range = facts.5;
+  start = start;
+  limit = limit;
+  span_hosts = plan.span_hosts;
+  no_parent = plan.no_parent;
+  domains = plan.domains;
+  exclude_domains = plan.exclude_domains;
+  include_dirs = plan.include_dirs;
+  exclude_dirs = plan.exclude_dirs;
+  accept = plan.accept;
+  reject = plan.reject;
+  robots = plan.robots;
+  max_urls = max_urls;
+  per_host = per_host;
+  starts_at_page = facts.0;
+  limit_in_range = facts.1;
+  some_urls = facts.2;
+  max_urls_in_range = facts.3;
+  some_per_host = facts.4;
+  per_host_in_range = facts.5;
 }
 
 facts_of : (plan : Plan) → Facts plan.start plan.limit plan.max_urls plan.per_host
@@ -62,12 +73,25 @@ moved_equal a start limit max_urls per_host facts e1 e2 e3 e4 =
 -- the plan with other filters
 abbrev filtered : Plan → (span_hosts no_parent : Bool) (domains exclude_domains include_dirs exclude_dirs accept reject : List (List ℕ)) (robots : Bool) → Plan
 filtered plan span_hosts no_parent domains exclude_domains include_dirs exclude_dirs accept reject robots = record {
-  start = plan.start; limit = plan.limit;
-  span_hosts = span_hosts; no_parent = no_parent;
-  domains = domains; exclude_domains = exclude_domains; include_dirs = include_dirs; exclude_dirs = exclude_dirs;
-  accept = accept; reject = reject; robots = robots;
-  max_urls = plan.max_urls; per_host = plan.per_host;
-  starts_at_page = plan.starts_at_page; limit_in_range = plan.limit_in_range; some_urls = plan.some_urls; max_urls_in_range = plan.max_urls_in_range; some_per_host = plan.some_per_host; per_host_in_range = plan.per_host_in_range;
+  start = plan.start;
+  limit = plan.limit;
+  span_hosts = span_hosts;
+  no_parent = no_parent;
+  domains = domains;
+  exclude_domains = exclude_domains;
+  include_dirs = include_dirs;
+  exclude_dirs = exclude_dirs;
+  accept = accept;
+  reject = reject;
+  robots = robots;
+  max_urls = plan.max_urls;
+  per_host = plan.per_host;
+  starts_at_page = plan.starts_at_page;
+  limit_in_range = plan.limit_in_range;
+  some_urls = plan.some_urls;
+  max_urls_in_range = plan.max_urls_in_range;
+  some_per_host = plan.some_per_host;
+  per_host_in_range = plan.per_host_in_range;
 }
 
 -- the plans have equal starts and numbers, equal flags, equal lists
@@ -113,8 +137,12 @@ pub same_plans : (a b : Plan) → Decides (is_same_plan a b) (a ≡ b)
 unfolding is_same_plan
 same_plans a b =
     Decides-like (is_same_plan a b)
-        (λ parts. plan_equal a b parts.0.0 parts.0.1 parts.1)
-        (λ same. (((((ap (λ p. p.start) same, ap (λ p. p.limit) same), ap (λ p. p.max_urls) same), ap (λ p. p.per_host) same),
-          ((ap (λ p. p.span_hosts) same, ap (λ p. p.no_parent) same), ap (λ p. p.robots) same)),
-          (((((ap (λ p. p.domains) same, ap (λ p. p.exclude_domains) same), ap (λ p. p.include_dirs) same), ap (λ p. p.exclude_dirs) same), ap (λ p. p.accept) same), ap (λ p. p.reject) same)))
-        (Decides-and _ _ (Decides-and _ _ (bounds-Decides a b) (flags-Decides a b)) (lists-same a b))
+    (λ parts. plan_equal a b parts.0.0 parts.0.1 parts.1)
+    (λ same. (
+      (
+        (((ap (λ p. p.start) same, ap (λ p. p.limit) same), ap (λ p. p.max_urls) same), ap (λ p. p.per_host) same),
+        ((ap (λ p. p.span_hosts) same, ap (λ p. p.no_parent) same), ap (λ p. p.robots) same),
+      ),
+      (((((ap (λ p. p.domains) same, ap (λ p. p.exclude_domains) same), ap (λ p. p.include_dirs) same), ap (λ p. p.exclude_dirs) same), ap (λ p. p.accept) same), ap (λ p. p.reject) same),
+    ))
+    (Decides-and _ _ (Decides-and _ _ (bounds-Decides a b) (flags-Decides a b)) (lists-same a b))

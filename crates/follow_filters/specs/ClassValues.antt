@@ -6,4 +6,3 @@ use Rattle.follow_filters.specs.declared.class.Range.{Range}
 pub record ClassValue : Type 0 where
   pub is_negated : Bool
   pub ranges : List Range
-

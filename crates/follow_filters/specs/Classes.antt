@@ -1,6 +1,6 @@
 -- Classes of bytes in a pattern, as `[a-c]` (GNU Wget manual, section Types of Files).
-use Rattle.std.specs.Prelude.{ℕ, Bool, true, false, not, ◌&&◌, ◌==◌, nat_le, nat_lt, List, [], ◌∷◌, drop, codes, nat_eq, Option, Some, None, option_map, if◌then◌else◌}
-use Rattle.std.specs.List.{list_any, starts_with}
+use Rattle.std.specs.Prelude.{ℕ, Bool, true, false, not, ◌&&◌, ◌==◌, nat_le, nat_lt, List, [], ◌∷◌, Option, Some, None, option_map, if◌then◌else◌}
+use Rattle.std.specs.List.{list_any}
 use Rattle.follow_filters.specs.declared.class.Range.{Range}
 use Rattle.follow_filters.specs.ClassValues.{ClassValue}
 

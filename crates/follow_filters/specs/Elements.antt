@@ -1,5 +1,5 @@
 -- Elements of lists, as they are read.
-use Rattle.std.specs.Prelude.{◌≡◌, ◌⊎◌, ℕ, List, Option, Some, None, Result, MatchResult}
+use Rattle.std.specs.Prelude.{◌≡◌, ◌⊎◌, Option, Some, None, Result, MatchResult}
 use Rattle.follow_filters.specs.declared.elements.ElementFault.{ElementFault}
 use Rattle.follow_filters.specs.declared.elements.ElementFault.TheVariants.{Bad, Memory}
 

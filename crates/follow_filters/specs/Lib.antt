@@ -10,3 +10,5 @@ pub mod Patterns
 pub mod Exempt
 pub mod Rules
 pub mod Plans
+pub mod Levels
+pub mod Lists

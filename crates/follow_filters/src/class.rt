@@ -77,7 +77,6 @@ impl Class {
     }
 }
 
-
 // The first item of a class, and the items behind it: `x-y` is a range, and any other byte stands for itself.
 fn split_item(items: &[u8]) -> Option<(Range, &[u8])>
     ensures { MatchOption result (items.now ≡ []) (λ x. (ranges_of items.now ≡ then_range x.0 (ranges_of x.1.now))

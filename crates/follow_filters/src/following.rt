@@ -178,7 +178,8 @@ impl Plan {
     fn keeps_name(&self, name: &str) -> bool
         ensures { result ≡ keeps_name self.now name.now }
     {
-        (self.accept.is_empty() || matches_some(&self.accept, name)) && !matches_some(&self.reject, name)
+        (self.accept.is_empty() || matches_some(&self.accept, name))
+            && !matches_some(&self.reject, name)
     }
 }
 

@@ -89,7 +89,9 @@ impl Plan {
     fn has_same_flags(&self, other: &Plan) -> bool
         ensures { result ≡ have_same_flags self.now other.now }
     {
-        self.span_hosts == other.span_hosts && self.no_parent == other.no_parent && self.robots == other.robots
+        self.span_hosts == other.span_hosts
+            && self.no_parent == other.no_parent
+            && self.robots == other.robots
     }
 
     fn has_same_lists(&self, other: &Plan) -> bool

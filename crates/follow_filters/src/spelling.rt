@@ -49,7 +49,11 @@ fn spelled_parts(alloc: Global, text: &[u8]) -> Result<Vec<Part>, ElementFault>
 }
 
 // The part that a byte and the text behind it begin with, and what stands behind that part.
-fn split_part<'a>(alloc: Global, first: u8, text: &'a [u8]) -> Result<(Part, &'a [u8]), ElementFault>
+fn split_part<'a>(
+    alloc: Global,
+    first: u8,
+    text: &'a [u8],
+) -> Result<(Part, &'a [u8]), ElementFault>
     ensures { MatchResult result (λ x. (first_part first text.now ≡ Some (x.0, x.1.now)) × (length x.1.now ≤ length text.now))
         (IsFaultOf (first_part first text.now)) }
 {

@@ -1,4 +1,4 @@
-use Rattle.std.proofs.Common.{◌≡◌, ◌∙◌, ap}
+use Rattle.std.proofs.Common.{◌∙◌, ap}
 use Rattle.follow_filters.specs.Classes.{ranges_of}
 use Rattle.follow_filters.proofs.ClassLemmas.{behind, ranges_of-more}
 use Rattle.follow_filters.proofs.class.read_ranges.Goals as goal

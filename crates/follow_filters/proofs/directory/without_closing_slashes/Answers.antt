@@ -1,4 +1,4 @@
-use Rattle.std.proofs.Common.{◌≡◌, ◌∙◌, sym, ap, arith, rules}
+use Rattle.std.proofs.Common.{◌∙◌, sym, ap, arith, rules}
 use Rattle.std.proofs.lemmas.Str.Pattern.{strip_suffix_char}
 use Rattle.follow_filters.specs.Directories.{without_closing_slashes}
 use Rattle.follow_filters.proofs.ElementLemmas.{closing-more, closing-none}

@@ -6,7 +6,7 @@ use Rattle.follow_filters.proofs.spelling.read_parts.Goals as goal
 pub returns-then-has_wildcard : goal.returns-then-has_wildcard
 returns-then-has_wildcard c =
     subst (λ read. MatchResult c.spelled_parts.result (λ v. read ≡ Some v.items) (IsFaultOf read))
-        (sym (read_pattern-spelled c.args.element.now (sym c.has_wildcard.ensures ∙ c.if-has_wildcard.true))) c.spelled_parts.ensures
+    (sym (read_pattern-spelled c.args.element.now (sym c.has_wildcard.ensures ∙ c.if-has_wildcard.true))) c.spelled_parts.ensures
 
 pub returns-in_ok-suffix_parts : goal.returns-in_ok-suffix_parts
 returns-in_ok-suffix_parts c =

@@ -1,5 +1,5 @@
-use Rattle.std.proofs.Common.{◌≡◌, ◌∙◌, ℕ, ◌≤◌, ◌∷◌, length, sym, ap, subst, arith}
-use Rattle.follow_filters.specs.Patterns.{parts_within, parts_of}
+use Rattle.std.proofs.Common.{◌≡◌, ◌∙◌, ◌≤◌, ◌∷◌, length, sym, ap, subst, arith}
+use Rattle.follow_filters.specs.Patterns.{parts_within}
 use Rattle.follow_filters.proofs.ClassLemmas.{behind}
 use Rattle.follow_filters.proofs.PatternLemmas.{parts_within-more, parts_of-within}
 use Rattle.follow_filters.proofs.spelling.spelled_parts.Goals as goal
@@ -16,9 +16,11 @@ loop-first-preserved c =
     let most = c.loop-first.invariant.0 in
     let cut : c.loop-first.rest.now ≡ first ∷ rest = c.in-Some.ensures.cases.0 in
     let within : length (first ∷ rest) ≤ most = subst (λ xs. length xs ≤ most) cut c.loop-first.invariant.1 in
-    let more = parts_within-more most front first rest c.in_ok-part.part c.in_ok-part.after.now within c.in_ok-part.ensures.0 c.in_ok-part.ensures.1 in
-    (more.0, more.1,
+    let more = parts_within-more most front first rest c.in_ok-part.part c.in_ok-part.after.now within c.in_ok-part.ensures.0 c.in_ok-part.ensures.1 in (
+      more.0,
+      more.1,
       ap (λ xs. behind xs (parts_within more.0 c.in_ok-part.after.now)) c.in_ok-push.ensures.items
-      ∙ more.2
-      ∙ ap (λ xs. behind front (parts_within most xs)) (sym cut)
-      ∙ c.loop-first.invariant.2)
+          ∙ more.2
+          ∙ ap (λ xs. behind front (parts_within most xs)) (sym cut)
+          ∙ c.loop-first.invariant.2,
+    )

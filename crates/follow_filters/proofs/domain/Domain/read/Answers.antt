@@ -6,11 +6,11 @@ use Rattle.follow_filters.proofs.domain.Domain.read.Goals as goal
 pub returns-then-not-is_domain : goal.returns-then-not-is_domain
 returns-then-not-is_domain c =
     let test : is_domain (without_dot c.args.text.now) ≡ false =
-        ap is_domain (sym (c.as_bytes.ensures.value ∙ c.without_dot-bare.ensures)) ∙ sym c.is_domain.ensures ∙ c.if-not-is_domain.true in
+    ap is_domain (sym (c.as_bytes.ensures.value ∙ c.without_dot-bare.ensures)) ∙ sym c.is_domain.ensures ∙ c.if-not-is_domain.true in
     inl (refl, read_domain-bad c.args.text.now test)
 
 pub returns : goal.returns
 returns c =
     let test : is_domain (without_dot c.args.text.now) ≡ true =
-        ap is_domain (sym (c.as_bytes.ensures.value ∙ c.without_dot-bare.ensures)) ∙ sym c.is_domain.ensures ∙ c.if-not-is_domain.false in
+    ap is_domain (sym (c.as_bytes.ensures.value ∙ c.without_dot-bare.ensures)) ∙ sym c.is_domain.ensures ∙ c.if-not-is_domain.false in
     read_domain-good c.args.text.now test ∙ ap Some (sym (c.in_ok-from_str.ensures.ok ∙ c.without_dot-bare.ensures))

@@ -1,0 +1,160 @@
+//! Elements, rules and copies as the GNU Wget manual and worked examples have them.
+use crate::{Directory, Domain, ElementFault, Elements, Limit, Pattern, Plan, Rule};
+use address::{Address, AddressFault};
+use std::alloc::Global;
+use std::test::Fail;
+
+// A plan without filters that starts at this page.
+fn plan_from(alloc: Global, start: &str) -> Result<Plan, AddressFault> {
+    let start = Address::read(alloc, start)?;
+    if start.is_robots_file() {
+        return Err(AddressFault::NotUrl);
+    }
+    Ok(Plan::unfiltered(alloc, start, Limit::Unlimited, 100))
+}
+
+fn patterns(alloc: Global, texts: &[&str]) -> Result<Elements<Pattern>, ElementFault> {
+    let mut items = Vec::new(alloc);
+    for text in texts {
+        items.push(Pattern::read(alloc, text)?)?;
+    }
+    Ok(Elements::of(items))
+}
+
+fn domains(alloc: Global, texts: &[&str]) -> Result<Elements<Domain>, ElementFault> {
+    let mut items = Vec::new(alloc);
+    for text in texts {
+        items.push(Domain::read(alloc, text)?)?;
+    }
+    Ok(Elements::of(items))
+}
+
+fn directories(alloc: Global, texts: &[&str]) -> Result<Elements<Directory>, ElementFault> {
+    let mut items = Vec::new(alloc);
+    for text in texts {
+        items.push(Directory::read(alloc, text)?)?;
+    }
+    Ok(Elements::of(items))
+}
+
+// How the plan's verdict on an address reads.
+fn verdict(alloc: Global, plan: &Plan, address: &str) -> Result<&'static str, AddressFault> {
+    Ok(match plan.passes(&Address::read(alloc, address)?) {
+        Ok(()) => "passes",
+        Err(Rule::RobotsFile) => "robots file",
+        Err(Rule::Host) => "host",
+        Err(Rule::Parent) => "parent",
+        Err(Rule::Domain) => "domain",
+        Err(Rule::ExcludedDomain) => "excluded domain",
+        Err(Rule::NotIncluded) => "not included",
+        Err(Rule::Excluded) => "excluded",
+        Err(Rule::NotAccepted) => "not accepted",
+        Err(Rule::Rejected) => "rejected",
+    })
+}
+
+#[test]
+fn patterns_match_as_the_shell_does(rt: HostRuntime) -> Result<(), Fail> {
+    for (pattern, file, matches) in [
+        ("gif", "pic.gif", true),
+        ("gif", "pic.GIF", false),
+        ("gif", "gif", true),
+        ("zelazny*196[0-9]*", "zelazny-1968.txt", true),
+        ("[!a-c]x*", "dx", true),
+        ("[!a-c]x*", "dxy", true),
+        ("[!a-c]x*", "ax", false),
+        ("[!a-c]x*", "x", false),
+        ("[a-]*", "-", true),
+        ("a]?", "a]b", true),
+        ("*", "", true),
+    ] {
+        let read = Pattern::read(rt.alloc(), pattern)?;
+        assert!(rt; read.matches(file) == matches, "{pattern} on {file}");
+    }
+    Ok(())
+}
+
+#[test]
+fn bad_elements_are_refused(rt: HostRuntime) {
+    for pattern in ["[a", "[]", "[!]", "[]a]", "[b-a]x"] {
+        assert!(rt;
+            matches!(Pattern::read(rt.alloc(), pattern), Err(ElementFault::Bad)),
+            "{pattern}"
+        );
+    }
+    for directory in ["a", "/a*", ""] {
+        assert!(rt;
+            matches!(
+                Directory::read(rt.alloc(), directory),
+                Err(ElementFault::Bad)
+            ),
+            "{directory}"
+        );
+    }
+    for domain in [".", "", "a/b", "bücher.de"] {
+        assert!(rt;
+            matches!(Domain::read(rt.alloc(), domain), Err(ElementFault::Bad)),
+            "{domain}"
+        );
+    }
+}
+
+#[test]
+fn hosts_and_domains_are_looked_at_in_order(rt: HostRuntime) -> Result<(), Fail> {
+    let alloc = rt.alloc();
+    let mut plan = plan_from(alloc, "http://foo.edu/")?;
+    plan.domains = domains(alloc, &[".foo.edu"])?;
+    assert!(rt; verdict(alloc, &plan, "http://foo.edu:81/a")? == "passes");
+    assert!(rt; verdict(alloc, &plan, "http://foo.edu/robots.txt")? == "robots file");
+    assert!(rt; verdict(alloc, &plan, "http://www.foo.edu/")? == "host");
+    plan.span_hosts = true;
+    assert!(rt; verdict(alloc, &plan, "http://www.foo.edu/")? == "passes");
+    assert!(rt; verdict(alloc, &plan, "http://barfoo.edu/")? == "domain");
+    plan.exclude_domains = domains(alloc, &["WWW.foo.edu"])?;
+    assert!(rt; verdict(alloc, &plan, "http://www.foo.edu/")? == "excluded domain");
+    Ok(())
+}
+
+#[test]
+fn directories_begin_with_an_element_and_a_slash(rt: HostRuntime) -> Result<(), Fail> {
+    let alloc = rt.alloc();
+    let mut plan = plan_from(alloc, "http://h/bar/")?;
+    plan.include_dirs = directories(alloc, &["/a/"])?;
+    assert!(rt; verdict(alloc, &plan, "http://h/a/b")? == "passes");
+    assert!(rt; verdict(alloc, &plan, "http://h/ab/c")? == "not included");
+    plan.include_dirs = directories(alloc, &["//"])?;
+    plan.exclude_dirs = directories(alloc, &["/x"])?;
+    assert!(rt; verdict(alloc, &plan, "http://h/x/y")? == "excluded");
+    assert!(rt; verdict(alloc, &plan, "http://h/x")? == "passes");
+    plan.no_parent = true;
+    assert!(rt; verdict(alloc, &plan, "http://h/x")? == "parent");
+    assert!(rt; verdict(alloc, &plan, "http://h/bar/x")? == "passes");
+    Ok(())
+}
+
+#[test]
+fn pages_are_followed_to_more_names_than_are_kept(rt: HostRuntime) -> Result<(), Fail> {
+    let alloc = rt.alloc();
+    let mut plan = plan_from(alloc, "http://h/")?;
+    plan.accept = patterns(alloc, &["gif"])?;
+    plan.reject = patterns(alloc, &["[xy]*"])?;
+    for (address, says, keeps) in [
+        ("http://h/", "passes", false),
+        ("http://h/page.html", "passes", false),
+        ("http://h/pic.gif", "passes", true),
+        ("http://h/pic.gif?x=1", "passes", true),
+        ("http://h/pic.GIF", "not accepted", false),
+        ("http://h/x.gif", "rejected", false),
+    ] {
+        assert!(rt; verdict(alloc, &plan, address)? == says, "{address}");
+        assert!(rt;
+            plan.keeps(&Address::read(alloc, address)?) == keeps,
+            "{address}"
+        );
+    }
+    let copy = plan.try_clone()?;
+    assert!(rt; copy.same(&plan));
+    plan.reject = Elements::none(alloc);
+    assert!(rt; !copy.same(&plan));
+    Ok(())
+}
