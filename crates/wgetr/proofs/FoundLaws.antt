@@ -50,9 +50,10 @@ are_lines p s site lines off once few complete told moved ascending = record {
       let line = get_or lines k d in
       let among = Contains-permutation lines (lines_in s.entries) line (IsPermutation-sym _ _ moved) (Contains-get_or lines k d lt) in
       let there = line_stands s.entries once line among in
-      let least = depth_up p s site off complete told line.address there.slot.depth (complete.depths line.address there.slot there.found) in
-      (subst (λ (n : ℕ). IsDepth p (record_of site) line.address n) there.depth least,
-       ap Some (sym (told line.address line.outcome (ap slot_outcome there.found ∙ there.outcome))));
+      let least = depth_up p s site off complete told line.address there.slot.depth (complete.depths line.address there.slot there.found) in (
+        subst (λ (n : ℕ). IsDepth p (record_of site) line.address n) there.depth least,
+        ap Some (sym (told line.address line.outcome (ap slot_outcome there.found ∙ there.outcome))),
+      );
   all = λ u candidate.
       let down = candidate_down p s site off complete told u candidate in
       let (e, found) = some_of (lookup s.entries u) ((complete.candidates u).1 down) in

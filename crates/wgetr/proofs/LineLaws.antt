@@ -42,12 +42,13 @@ has_line (entry ∷ entries) u e x found answered =
     before : (w : Text) (d : ℕ) (o : Option Outcome) (lines : List Line) (l : Line) → Contains lines l → Contains (line_before w d o lines) l
     before w d None lines l among = among
     before w d (Some y) lines l among = contains_tail (line w d y) l lines among
+
     first : (entry : Text × Slot) (lines : List Line) (u : Text) (e : Slot) (x : Outcome) → entry.0 ≡ u → entry.1 ≡ e → outcome_in e.progress ≡ Some x
         → Contains (line_before entry.0 entry.1.depth (outcome_in entry.1.progress) lines) (line u e.depth x)
     first entry lines u e x h is answered =
         let o : outcome_in entry.1.progress ≡ Some x = ap (λ (z : Slot). outcome_in z.progress) is ∙ answered in
         subst (λ (z : Option Outcome). Contains (line_before entry.0 entry.1.depth z lines) (line u e.depth x)) (sym o)
-            (zero, omega arith, (let d : entry.1.depth ≡ e.depth = ap (λ (z : Slot). z.depth) is in cc))
+        (zero, omega arith, (let d : entry.1.depth ≡ e.depth = ap (λ (z : Slot). z.depth) is in cc))
 
 -- what a line says stands in the table
 pub record Stands (entries : List (Text × Slot)) (l : Line) : Type 0 where
@@ -66,24 +67,28 @@ line_stands (entry ∷ entries) once l among = go (line_stands entries once.1 l)
           slot = there.slot;
           found = elim (compare_texts entry.0 l.address) [
             | same h t ↦ absurd (once.0 (subst (λ (z : Text). Contains (keys entries) z) (sym h) (found_key entries l.address there.slot there.found)))
-            | other h t ↦ rw t there.found ];
+            | other h t ↦ rw t there.found
+          ];
           depth = there.depth;
           outcome = there.outcome;
         }
+
     go : (Contains (lines_in entries) l → Stands entries l) → (o : Option Outcome) → outcome_in entry.1.progress ≡ o
         → Contains (line_before entry.0 entry.1.depth o (lines_in entries)) l → Stands (entry ∷ entries) l
     go rest None e among = later (rest among)
     go rest (Some x) e among =
         elim (contains_cases (line entry.0 entry.1.depth x) l (lines_in entries) among) [
-            inl is ↦ record {
-              slot = entry.1;
-              found = elim (compare_texts entry.0 l.address) [
-                | same h t ↦ rw t refl
-                | other h t ↦ absurd (h (ap (λ (z : Line). z.address) is)) ];
-              depth = ap (λ (z : Line). z.depth) is;
-              outcome = e ∙ ap (λ (z : Line). Some z.outcome) is;
-            }
-          | inr more ↦ later (rest more) ]
+          | inl is ↦ record {
+            slot = entry.1;
+            found = elim (compare_texts entry.0 l.address) [
+              | same h t ↦ rw t refl
+              | other h t ↦ absurd (h (ap (λ (z : Line). z.address) is))
+            ];
+            depth = ap (λ (z : Line). z.depth) is;
+            outcome = e ∙ ap (λ (z : Line). Some z.outcome) is;
+          }
+          | inr more ↦ later (rest more)
+        ]
 
 pairs_cons : {X : Type 0} (R : X → X → Type 0) (x : X) (xs : List X) → ((y : X) → Contains xs y → R x y) → AllPairs R xs → AllPairs R (x ∷ xs)
 pairs_cons R x xs first rest zero zero d lt lj = absurd (omega arith)
@@ -100,7 +105,7 @@ lines_apart (entry ∷ entries) once = go (lines_apart entries once.1) (outcome_
     go rest None = rest
     go rest (Some x) = pairs_cons (λ (a b : Line). a.address ≢ b.address) (line entry.0 entry.1.depth x) (lines_in entries)
         (λ l among h. (let there = line_stands entries once.1 l among in
-            once.0 (subst (λ (z : Text). Contains (keys entries) z) (sym h) (found_key entries l.address there.slot there.found))))
+        once.0 (subst (λ (z : Text). Contains (keys entries) z) (sym h) (found_key entries l.address there.slot there.found))))
         rest
 
 -- there are no more lines than entries

@@ -81,9 +81,10 @@ module _ (may_say : Text → Outcome → List ℕ → Type 0) (plan : Plan) wher
 
   pub rest_spread : (s t : Traced) (asked : List Text) → AtRest may_say plan s asked → SpreadsWhole s t
       → AtRest may_say plan t asked × (length t.trace ≡ length s.trace + 1)
-  rest_spread s t asked rest (d, u, k, makes) =
-      (rest_same s t asked rest makes.plan (subst (λ (x : State). Same s.state x) (sym makes.step.5) (same_spread (policy s.plan) d s.state u makes.step.1 refl makes.step.2)),
-       ap length makes.lines ∙ length-append s.trace _)
+  rest_spread s t asked rest (d, u, k, makes) = (
+    rest_same s t asked rest makes.plan (subst (λ (x : State). Same s.state x) (sym makes.step.5) (same_spread (policy s.plan) d s.state u makes.step.1 refl makes.step.2)),
+    ap length makes.lines ∙ length-append s.trace _,
+  )
 
   -- ---- a page that is taken and answered
 
@@ -92,12 +93,14 @@ module _ (may_say : Text → Outcome → List ℕ → Type 0) (plan : Plan) wher
       → ((w : Text) → u ≢ w → (answers n).outcome w ≡ (answers m).outcome w) → IsRecordOf asked (answers m) → IsRecordOf (asked ++ u ∷ []) (answers n)
   gains_one asked m n u x there elsewhere recorded w =
       elim (compare_texts u w) [
-        | same h t ↦
-            ((λ among. subst (λ (y : Text). IsSome ((answers n).outcome y)) h (subst IsSome (sym there) refl)),
-             (λ some. subst (λ (y : Text). Contains (asked ++ u ∷ []) y) h (Contains-push asked u)))
-        | other h t ↦
-            ((λ among. subst IsSome (sym (elsewhere w h)) ((recorded w).0 (elim (Contains-push_cases asked u w among) [ inl before ↦ before | inr is ↦ absurd (h is) ]))),
-             (λ some. Contains-append_left asked (u ∷ []) w ((recorded w).1 (subst IsSome (elsewhere w h) some))))
+        | same h t ↦ (
+          (λ among. subst (λ (y : Text). IsSome ((answers n).outcome y)) h (subst IsSome (sym there) refl)),
+          (λ some. subst (λ (y : Text). Contains (asked ++ u ∷ []) y) h (Contains-push asked u)),
+        )
+        | other h t ↦ (
+          (λ among. subst IsSome (sym (elsewhere w h)) ((recorded w).0 (elim (Contains-push_cases asked u w among) [ inl before ↦ before | inr is ↦ absurd (h is) ]))),
+          (λ some. Contains-append_left asked (u ∷ []) w ((recorded w).1 (subst IsSome (elsewhere w h) some))),
+        )
       ]
 
   -- who waits wasn't asked for
@@ -119,23 +122,26 @@ module _ (may_say : Text → Outcome → List ℕ → Type 0) (plan : Plan) wher
       let (d, waits, out) = takes.step.2 in
       let (e, was, done) = answered.step in
       let there = twice_there s.state mid.state t.state u (slot d (Out (Worker w))) (slot e (Answered x (turn_of (edges x)))) out done in
-      let elsewhere = twice_elsewhere s.state mid.state t.state u (slot d (Out (Worker w))) (slot e (Answered x (turn_of (edges x)))) out done in
-      (record {
-        follows = answered.plan ∙ takes.plan ∙ rest.follows;
-        running = ap (λ (y : State). y.cause) done ∙ ap (λ (y : State). y.cause) out ∙ rest.running;
-        idle = λ a f found. elim (compare_texts u a) [
-          | same h r ↦ (let is : Some (slot e (Answered x (turn_of (edges x)))) ≡ Some f = sym there ∙ ap (λ (y : Text). lookup t.state.entries y) h ∙ found in
-              let at : slot e (Answered x (turn_of (edges x))) ≡ f = cc in ap (λ (y : Slot). is_idle y.progress) (sym at))
-          | other h r ↦ rest.idle a f (sym (elsewhere a h) ∙ found) ];
-        origins = ap (λ (y : State). y.origins) done ∙ ap (λ (y : State). y.origins) out ∙ rest.origins;
-        told = λ a y h. elim (compare_texts u a) [
-          | same g r ↦ (let is : Some x ≡ Some y = sym (ap slot_outcome there) ∙ ap (λ (z : Text). slot_outcome (lookup t.state.entries z)) g ∙ h in
-              let at : x ≡ y = cc in (body, subst (λ (z : Outcome). may_say a z body) at (subst (λ (z : Text). may_say z x body) g said)))
-          | other g r ↦ rest.told a y (sym (ap slot_outcome (elsewhere a g)) ∙ h) ];
-        once = once_push asked u rest.once (fresh asked s.state u d rest.recorded waits);
-        recorded = gains_one asked s.state t.state u x (ap slot_outcome there) (λ a apart. ap slot_outcome (elsewhere a apart)) rest.recorded;
-      },
-       ap length answered.lines ∙ length-append mid.trace _ ∙ ap (λ (n : ℕ). n + 1) (ap length takes.lines ∙ length-append s.trace _) ∙ omega arith)
+      let elsewhere = twice_elsewhere s.state mid.state t.state u (slot d (Out (Worker w))) (slot e (Answered x (turn_of (edges x)))) out done in (
+        record {
+          follows = answered.plan ∙ takes.plan ∙ rest.follows;
+          running = ap (λ (y : State). y.cause) done ∙ ap (λ (y : State). y.cause) out ∙ rest.running;
+          idle = λ a f found. elim (compare_texts u a) [
+            | same h r ↦ (let is : Some (slot e (Answered x (turn_of (edges x)))) ≡ Some f = sym there ∙ ap (λ (y : Text). lookup t.state.entries y) h ∙ found in
+                let at : slot e (Answered x (turn_of (edges x))) ≡ f = cc in ap (λ (y : Slot). is_idle y.progress) (sym at))
+            | other h r ↦ rest.idle a f (sym (elsewhere a h) ∙ found)
+          ];
+          origins = ap (λ (y : State). y.origins) done ∙ ap (λ (y : State). y.origins) out ∙ rest.origins;
+          told = λ a y h. elim (compare_texts u a) [
+            | same g r ↦ (let is : Some x ≡ Some y = sym (ap slot_outcome there) ∙ ap (λ (z : Text). slot_outcome (lookup t.state.entries z)) g ∙ h in
+                let at : x ≡ y = cc in (body, subst (λ (z : Outcome). may_say a z body) at (subst (λ (z : Text). may_say z x body) g said)))
+            | other g r ↦ rest.told a y (sym (ap slot_outcome (elsewhere a g)) ∙ h)
+          ];
+          once = once_push asked u rest.once (fresh asked s.state u d rest.recorded waits);
+          recorded = gains_one asked s.state t.state u x (ap slot_outcome there) (λ a apart. ap slot_outcome (elsewhere a apart)) rest.recorded;
+        },
+        ap length answered.lines ∙ length-append mid.trace _ ∙ ap (λ (n : ℕ). n + 1) (ap length takes.lines ∙ length-append s.trace _) ∙ omega arith,
+      )
 
   -- ---- nobody is busy
 
@@ -156,7 +162,7 @@ module _ (may_say : Text → Outcome → List ℕ → Type 0) (plan : Plan) wher
   no_permits : (p : Policy) (s : State) (o : Text) → IsOnce (keys s.entries) → IsIdle s → s.origins ≡ [] → permits_out p s o ≡ 0
   no_permits p s o once idle origins =
       let none : count_by (λ entry. is_out entry.1.progress && bytes_eq (p.origin entry.0) o) s.entries ≡ 0 =
-          none_counted _ s.entries (λ k d lt. not_and (is_out (get_or s.entries k d).1.progress) _ (idle_not_out _ (idle _ _ (found_entry s.entries once k d lt)))) in
+      none_counted _ s.entries (λ k d lt. not_and (is_out (get_or s.entries k d).1.progress) _ (idle_not_out _ (idle _ _ (found_entry s.entries once k d lt)))) in
       let asked : asked_count (lookup s.origins o) ≡ 0 = ap (λ (x : List (Text × OriginRules)). asked_count (lookup x o)) origins in
       omega (arith, none, asked)
 
@@ -214,9 +220,11 @@ module _ (may_say : Text → Outcome → List ℕ → Type 0) (plan : Plan) wher
   stops_spread s t asked rest why.Full full other_cause =
       let (many, part) = full refl in
       let kept = same_part s t part in
-      let (d, u, k, makes) = part in
-      (answers t.state, (λ v x h. rest.told v x (sym (kept.outcomes v) ∙ h)),
-       subst (λ (p : Plan). HasTooMany (policy p) (answers t.state)) (makes.plan ∙ rest.follows) many)
+      let (d, u, k, makes) = part in (
+        answers t.state,
+        (λ v x h. rest.told v x (sym (kept.outcomes v) ∙ h)),
+        subst (λ (p : Plan). HasTooMany (policy p) (answers t.state)) (makes.plan ∙ rest.follows) many,
+      )
   stops_spread s t asked rest why.Memory full other_cause = tt
   stops_spread s t asked rest why.Mismatch full other_cause = other_cause refl
 

@@ -21,10 +21,12 @@ place : {X : Type 0} (xs : List X) (i j : ℕ) (d : X) → i < length xs → j <
 place xs i j d li lj k =
     let moved = swapped_from_swap xs (swap xs i j) i j d li lj refl in
     elim (cases_eq k i) [
-      inl e ↦ first e (ap (λ (n : ℕ). get_or (swap xs i j) n d) e ∙ moved.0)
-    | inr ne ↦ elim (cases_eq k j) [
-        inl e ↦ second e (ap (λ (n : ℕ). get_or (swap xs i j) n d) e ∙ moved.1)
-      | inr nf ↦ other ne nf (moved.2 k ne nf) ] ]
+      | inl e ↦ first e (ap (λ (n : ℕ). get_or (swap xs i j) n d) e ∙ moved.0)
+      | inr ne ↦ elim (cases_eq k j) [
+        | inl e ↦ second e (ap (λ (n : ℕ). get_or (swap xs i j) n d) e ∙ moved.1)
+        | inr nf ↦ other ne nf (moved.2 k ne nf)
+      ]
+    ]
 
 module _ {X K : Type 0} (key : X → K) where
   -- no two places have one key
@@ -53,8 +55,9 @@ module _ {X K : Type 0} (key : X → K) where
   pub Apart-from_pairs : (xs : List X) → AllPairs (λ x y. key x ≢ key y) xs → Apart xs
   Apart-from_pairs xs pairs a b d la lb same =
       elim (cases_order a b) [
-        inl e ↦ e
-      | inr order ↦ elim order [ inl lt ↦ absurd (pairs a b d lt lb same) | inr gt ↦ absurd (pairs b a d gt la (sym same)) ] ]
+        | inl e ↦ e
+        | inr order ↦ elim order [ inl lt ↦ absurd (pairs a b d lt lb same) | inr gt ↦ absurd (pairs b a d gt la (sym same)) ]
+      ]
 
   pub pairs_from_apart : (xs : List X) → Apart xs → AllPairs (λ x y. key x ≢ key y) xs
   pairs_from_apart xs apart i j d lt lj same = absurd (omega (arith, apart i j d (omega arith) lj same))

@@ -58,9 +58,13 @@ walk_down p s site off complete told u n route here (edge ∷ walk) v d w =
     let opens = open_off p (answers s) u off in
     let (x, recorded) = some_of ((answers s).outcome u) ((complete.wanted u).1 ((route, n, here), opens)) in
     let same : y ≡ x = (let said = told u x recorded in cc) in
-    let has : HasEdge (answers s) u edge = (x, recorded, subst (λ (z : Outcome). Contains (edges z) edge) same contains) in
-    (opens, has, w.2, walk_down p s site off complete told edge.target (n + weight edge.kind) (route ++ edge ∷ [])
-        (walk-snoc p (answers s) p.start 0 route u n edge here opens has w.2) walk v d w.3)
+    let has : HasEdge (answers s) u edge = (x, recorded, subst (λ (z : Outcome). Contains (edges z) edge) same contains) in (
+      opens,
+      has,
+      w.2,
+      walk_down p s site off complete told edge.target (n + weight edge.kind) (route ++ edge ∷ [])
+          (walk-snoc p (answers s) p.start 0 route u n edge here opens has w.2) walk v d w.3,
+    )
 
 pub candidate_down : (p : Policy) (s : State) (site : Text → Outcome) → p.robots ≡ false → IsComplete p s → IsOf site (answers s)
     → (u : Text) → IsCandidate p (record_of site) u → IsCandidate p (answers s) u
@@ -77,7 +81,7 @@ depth_up p s site off complete told u d least =
     let up = walk_up p (answers s) site off told p.start 0 in
     record {
       reached = (let (route, walk) = least.reached in (route, up route u d walk));
-      least = (λ route n walk. least.least route n (down route u n walk))
+      least = (λ route n walk. least.least route n (down route u n walk));
     }
 
 pub too_many_up : (p : Policy) (m : Answers) (site : Text → Outcome) → p.robots ≡ false → IsOf site m → HasTooMany p m → HasTooMany p (record_of site)

@@ -36,13 +36,13 @@ other_put [] u v w apart =
 other_put (entry ∷ entries) u v w apart =
     elim (compare_texts entry.0 u) [
       | same h e ↦ rw e (elim (compare_texts entry.0 w) [
-          | same k f ↦ absurd (apart (sym h ∙ k))
-          | other k f ↦ rw f refl
-        ])
+        | same k f ↦ absurd (apart (sym h ∙ k))
+        | other k f ↦ rw f refl
+      ])
       | other h e ↦ rw e (elim (compare_texts entry.0 w) [
-          | same k f ↦ rw f refl
-          | other k f ↦ rw f (other_put entries u v w apart)
-        ])
+        | same k f ↦ rw f refl
+        | other k f ↦ rw f (other_put entries u v w apart)
+      ])
     ]
 
 abbrev key_of : {V : Type 0} → Text × V → Text
@@ -62,8 +62,10 @@ found_entry (entry ∷ entries) once (suc k) d lt =
 -- one more at the end, that isn't among the others
 pub once_push : (xs : List Text) (u : Text) → IsOnce xs → (Contains xs u → ⊥) → IsOnce (xs ++ u ∷ [])
 once_push [] u once fresh = ((λ h. let (k, lt, is) = h in absurd (omega arith)), tt)
-once_push (x ∷ xs) u once fresh =
-    ((λ h. elim (Contains-push_cases xs u x h) [
-        inl among ↦ once.0 among
-      | inr is ↦ fresh (zero, omega arith, sym is) ]),
-     once_push xs u once.1 (λ h. let (k, lt, is) = h in fresh (suc k, omega arith, is)))
+once_push (x ∷ xs) u once fresh = (
+  (λ h. elim (Contains-push_cases xs u x h) [
+    | inl among ↦ once.0 among
+    | inr is ↦ fresh (zero, omega arith, sym is)
+  ]),
+  once_push xs u once.1 (λ h. let (k, lt, is) = h in fresh (suc k, omega arith, is)),
+)

@@ -49,7 +49,8 @@ same_entry : (s : State) (u : Text) (e : Slot) → outcome_in e.progress ≡ (an
 same_entry s u e recorded idle = record {
   outcomes = λ w. elim (compare_texts u w) [
     | same h t ↦ ap (λ (x : Text). (answers (with_entry s u e)).outcome x) (sym h) ∙ outcome_there s u e ∙ recorded ∙ ap (λ (x : Text). (answers s).outcome x) h
-    | other h t ↦ outcome_elsewhere s u e w h ];
+    | other h t ↦ outcome_elsewhere s u e w h
+  ];
   idle = λ all. idle_put s u e (idle all) all;
   origins = refl;
   cause = refl;
@@ -104,4 +105,4 @@ pub same_spread : (p : Policy) (d : ℕ) (s : State) (u : Text) (x : Outcome) �
 same_spread p d s u x off held =
     let followed = same_follow_all p d s (edges x) off in
     same_trans s (follow_all p d s (edges x)) _ followed
-        (same_entry (follow_all p d s (edges x)) u (slot d (Answered x Offered)) (sym (followed.outcomes u ∙ ap slot_outcome held)) (λ all. refl))
+    (same_entry (follow_all p d s (edges x)) u (slot d (Answered x Offered)) (sym (followed.outcomes u ∙ ap slot_outcome held)) (λ all. refl))

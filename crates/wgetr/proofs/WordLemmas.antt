@@ -39,18 +39,22 @@ map_spelled r l [] w h = cc
 map_spelled r l (a ∷ []) w h = cc
 map_spelled r l (a ∷ b ∷ []) w h =
     let p = picked (bytes_eq a (codes "--map")) (Some (record { is_recursive = r; level = l; start = b })) w h in
-    let e : record { is_recursive = r; level = l; start = b } ≡ w = cc in
-    (sym (ap (λ (x : Words). x.is_recursive) e), sym (ap (λ (x : Words). x.level) e),
-     ap (λ (x : List ℕ). x ∷ b ∷ []) (same a (codes "--map") p.0) ∙ ap (λ (x : Words). map_spelling x.start) e)
+    let e : record { is_recursive = r; level = l; start = b } ≡ w = cc in (
+      sym (ap (λ (x : Words). x.is_recursive) e),
+      sym (ap (λ (x : Words). x.level) e),
+      ap (λ (x : List ℕ). x ∷ b ∷ []) (same a (codes "--map") p.0) ∙ ap (λ (x : Words). map_spelling x.start) e,
+    )
 map_spelled r l (a ∷ b ∷ c ∷ d) w h = cc
 
 level_spelled : (r : Bool) (a b : List ℕ) (rest : List (List ℕ)) (w : Words)
     → Branch (bytes_eq a (codes "-l")) (map_words r (Some b) rest) (map_words r None (a ∷ b ∷ rest)) w
     → (w.is_recursive ≡ r) × (a ∷ b ∷ rest ≡ level_words w.level ++ map_spelling w.start)
 level_spelled r a b rest w (first t h) =
-    let (e, f, g) = map_spelled r (Some b) rest w h in
-    (e, ap (λ (x : List ℕ). x ∷ b ∷ rest) (same a (codes "-l") t) ∙ ap (λ (x : List (List ℕ)). codes "-l" ∷ b ∷ x) g
-        ∙ sym (ap (λ (x : Option (List ℕ)). level_words x ++ map_spelling w.start) f))
+    let (e, f, g) = map_spelled r (Some b) rest w h in (
+      e,
+      ap (λ (x : List ℕ). x ∷ b ∷ rest) (same a (codes "-l") t) ∙ ap (λ (x : List (List ℕ)). codes "-l" ∷ b ∷ x) g
+          ∙ sym (ap (λ (x : Option (List ℕ)). level_words x ++ map_spelling w.start) f),
+    )
 level_spelled r a b rest w (second h) =
     let (e, f, g) = map_spelled r None (a ∷ b ∷ rest) w h in
     (e, g ∙ sym (ap (λ (x : Option (List ℕ)). level_words x ++ map_spelling w.start) f))

@@ -33,7 +33,11 @@ impl From<AllocError> for ReadFault {
 const PIECE: usize = 65_536;
 
 /// Reads all there is. What was read of a reader that failed, or has too much, is let go.
-pub(crate) fn read_input<R: Read>(alloc: Global, reader: &mut R, limit: usize) -> Result<Vec<u8>, ReadFault>
+pub(crate) fn read_input<R: Read>(
+    alloc: Global,
+    reader: &mut R,
+    limit: usize,
+) -> Result<Vec<u8>, ReadFault>
     ensures whole { IfOk result (λ input. IsInput (R.remaining reader.old) input.items) }
     ensures within { IfOk result (λ input. length input.items ≤ limit) }
     ensures long { result ≡ Err ReadFault.Long → (input : List ℕ) × IsInput (R.remaining reader.old) input × (limit < length input) }

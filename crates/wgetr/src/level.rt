@@ -58,5 +58,9 @@ pub(crate) fn limit_for(is_recursive: bool, level: Option<&str>) -> Option<Limit
         Some(text) => limit_of(text)?,
         None => Limit::AtMost(DEFAULT_LEVEL),
     };
-    if is_recursive { Some(limit) } else { Some(Limit::AtMost(0)) }
+    if is_recursive {
+        Some(limit)
+    } else {
+        Some(Limit::AtMost(0))
+    }
 }

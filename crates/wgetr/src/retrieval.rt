@@ -32,11 +32,7 @@ fn spread(frontier: &mut Frontier) -> Result<(), Cause>
 }
 
 // Asks for the page of a permit. Where memory runs out the frontier stops.
-fn serve<F: Fetcher>(
-    frontier: &mut Frontier,
-    fetcher: &mut F,
-    permit: Permit,
-) -> Result<(), Cause>
+fn serve<F: Fetcher>(frontier: &mut Frontier, fetcher: &mut F, permit: Permit) -> Result<(), Cause>
     requires { IsOutTo frontier.old.state permit.number permit.worker permit.address }
     ensures site { F.site fetcher.new ≡ F.site fetcher.old }
     ensures ok { OnOk result (IsServed (F.says (F.site fetcher.old)) frontier.old permit frontier.new) }

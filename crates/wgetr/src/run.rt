@@ -79,12 +79,7 @@ pub(crate) fn refuse<W: Write>(alloc: Global, fault: Fault, writer: &mut W) -> u
 /// map, retrieves, and writes the report or one line of words. Answers the status: 0 for a report, 2 where the words or the
 /// input are wrong, 1 where the reader or the writer fails, more addresses are found than may be held, or memory runs out.
 /// Where the writer fails a front of the text may be written.
-pub fn run<R: Read, W: Write>(
-    alloc: Global,
-    words: &[&str],
-    reader: &mut R,
-    writer: &mut W,
-) -> u8
+pub fn run<R: Read, W: Write>(alloc: Global, words: &[&str], reader: &mut R, writer: &mut W) -> u8
     ensures { Runs (map (λ word. word.now) words.now) (R.remaining reader.old) (W.contents writer.old) (W.contents writer.new) result }
 {
     match report(alloc, words, reader) {

@@ -14,11 +14,13 @@ struct Case {
     status: u8,
 }
 
-const MANUAL: &str = "page 200 http://h/1.html\ninline http://h/1.gif\nlink http://h/2.html\nleaf 200 http://h/1.gif\n\
+const MANUAL: &str =
+    "page 200 http://h/1.html\ninline http://h/1.gif\nlink http://h/2.html\nleaf 200 http://h/1.gif\n\
 page 200 http://h/2.html\ninline http://h/2.gif\nlink http://h/3.html\nleaf 200 http://h/2.gif\n\
 page 200 http://h/3.html\ninline http://h/3.gif\nleaf 200 http://h/3.gif\n";
 
-const MANUAL_WHOLE: &str = "1 200 http://h/1.gif -\n0 200 http://h/1.html -\n2 200 http://h/2.gif -\n1 200 http://h/2.html -\n\
+const MANUAL_WHOLE: &str =
+    "1 200 http://h/1.gif -\n0 200 http://h/1.html -\n2 200 http://h/2.gif -\n1 200 http://h/2.html -\n\
 3 200 http://h/3.gif -\n2 200 http://h/3.html -\nfetched 6 kept 0 refused 0 failed 0\n";
 
 const CASES: [Case; 22] = [
@@ -237,11 +239,20 @@ impl Write for Slow {
 #[test]
 fn interrupted_reads_are_made_again_up_to_a_thousand(rt: HostRuntime) {
     for (interrupted, text, status) in [
-        (999, "0 404 http://h/ -\nfetched 1 kept 0 refused 0 failed 1\n", 0),
+        (
+            999,
+            "0 404 http://h/ -\nfetched 1 kept 0 refused 0 failed 1\n",
+            0,
+        ),
         (1000, "input read\n", 1),
     ] {
         let mut written: Vec<u8> = Vec::new(rt.alloc());
-        let answer = run(rt.alloc(), &["--map", "http://h/"], &mut Interrupted(interrupted), &mut written);
+        let answer = run(
+            rt.alloc(),
+            &["--map", "http://h/"],
+            &mut Interrupted(interrupted),
+            &mut written,
+        );
         assert!(rt; written.as_slice() == text.as_bytes(), "{interrupted}");
         assert!(rt; answer == status, "{interrupted}");
     }

@@ -38,5 +38,4 @@ pub(crate) fn command_line<'a>(words: &[&'a str]) -> Option<CommandLine<'a>>
 /// A law: what words say is what they spell, each command line once.
 pub fn lines_are_spelled()
     ensures { (words : List (List ℕ)) (line : Words) → (words_of words ≡ Some line) ↔ (words ≡ spelling line) }
-{
-}
+{}

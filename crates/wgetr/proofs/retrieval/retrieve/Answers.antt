@@ -9,7 +9,7 @@ use Rattle.wgetr.proofs.retrieval.retrieve.Goals as goal
 
 pub turns-init : goal.turns-init
 turns-init g c =
-    let is = c.in-Ok.ensures in
+    let is = c.in-Ok.ensures.ok in
     record {
       asked = [];
       rest = rest_opened _ _ c.in-Ok.frontier (ap (λ (x : Traced). x.plan) is) (ap (λ (x : Traced). x.state) is);
@@ -32,8 +32,12 @@ returns-in_err-spread-in-Ok-Spread-clause-stopped g c =
     let takes = rw c.in-Ok-Spread.field-0-is at c.in-Ok-Spread.ensures.ok in
     let asked = c.turns.invariant.asked in
     let rest = rest_at _ _ c.turns.frontier c.take.new.self asked c.turns.invariant.rest takes.2 in
-    rw (p.1, p.2) (asked, c.turns.invariant.log, c.turns.invariant.rest.once,
-        stops_spread _ _ c.take.new.self c.spread.new.frontier asked rest _ (λ e. c.in_err-spread-in-Ok-Spread.ensures.full (ap Err e)) c.in_err-spread-in-Ok-Spread.ensures.cause)
+    rw (p.1, p.2) (
+      asked,
+      c.turns.invariant.log,
+      c.turns.invariant.rest.once,
+      stops_spread _ _ c.take.new.self c.spread.new.frontier asked rest _ (λ e. c.in_err-spread-in-Ok-Spread.ensures.full (ap Err e)) c.in_err-spread-in-Ok-Spread.ensures.cause,
+    )
 
 pub returns-in_err-serve-in-Ok-Page-clause-stopped : goal.returns-in_err-serve-in-Ok-Page-clause-stopped
 returns-in_err-serve-in-Ok-Page-clause-stopped g c =

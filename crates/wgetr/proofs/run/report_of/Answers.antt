@@ -32,7 +32,8 @@ returns-clause-ok c =
     let found = c.in_ok-frontier.ensures.found.2 in
     let all = all_answered (policy c.args.plan) s refl once found.complete in
     let moved = subst (λ (lines : List Line). IsPermutation lines (map line_of c.sort_rows.new.rows.items)) (c.in_ok-rows.ensures ∙ beside_all s.entries all) c.sort_rows.ensures.permutation in
-    let few = subst (λ (plan : Plan). length s.entries ≤ plan.max_urls) found.follows c.trace-trace.ensures.sound.few in
-    (map line_of c.sort_rows.new.rows.items,
-     are_lines (policy c.args.plan) s (outcome_in c.args.site.answers) (map line_of c.sort_rows.new.rows.items) refl once few found.complete (λ u x h. (found.told u x h).1.0) moved c.sort_rows.ensures.ascending,
-     c.in_ok-report_text.ensures ∙ ap (λ (rows : List Row). report_text (map line_of rows)) c.as_slice.ensures.value)
+    let few = subst (λ (plan : Plan). length s.entries ≤ plan.max_urls) found.follows c.trace-trace.ensures.sound.few in (
+      map line_of c.sort_rows.new.rows.items,
+      are_lines (policy c.args.plan) s (outcome_in c.args.site.answers) (map line_of c.sort_rows.new.rows.items) refl once few found.complete (λ u x h. (found.told u x h).1.0) moved c.sort_rows.ensures.ascending,
+      c.in_ok-report_text.ensures ∙ ap (λ (rows : List Row). report_text (map line_of rows)) c.as_slice.ensures.value,
+    )

@@ -20,5 +20,6 @@ returns-in-Ok g c =
 pub returns-in-Err : goal.returns-in-Err
 returns-in-Err g c =
     elim c.refuse.ensures [
-      inl told ↦ record { ending = Failed c.in-Err.fault; ends = c.in-Err.ensures.err; written = told }
-    | inr told ↦ record { ending = Failed (fault.Stopped why.Memory); ends = ends_memory (map (λ (word : Bor (List ℕ)). word.now) c.args.words.now) (g.R.Read.remaining c.args.reader.now); written = told } ]
+      | inl told ↦ record { ending = Failed c.in-Err.fault; ends = c.in-Err.ensures.err; written = told }
+      | inr told ↦ record { ending = Failed (fault.Stopped why.Memory); ends = ends_memory (map (λ (word : Bor (List ℕ)). word.now) c.args.words.now) (g.R.Read.remaining c.args.reader.now); written = told }
+    ]

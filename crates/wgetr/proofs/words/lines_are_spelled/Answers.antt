@@ -1,6 +1,3 @@
-use Rattle.wgetr.proofs.RestLaws as tl
-use Rattle.wgetr.proofs.SiteLaws as tm
-use Rattle.wgetr.proofs.LineLaws as tn
 use Rattle.wgetr.proofs.WordLemmas.{spelling_law}
 use Rattle.wgetr.proofs.words.lines_are_spelled.Goals as goal
 
