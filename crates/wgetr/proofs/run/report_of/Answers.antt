@@ -37,3 +37,11 @@ returns-clause-ok c =
       are_lines (policy c.args.plan) s (outcome_in c.args.site.answers) (map line_of c.sort_rows.new.rows.items) refl once few found.complete (λ u x h. (found.told u x h).1.0) moved c.sort_rows.ensures.ascending,
       c.in_ok-report_text.ensures ∙ ap (λ (rows : List Row). report_text (map line_of rows)) c.as_slice.ensures.value,
     )
+
+pub returns-in_err-rows-clause-err : goal.returns-in_err-rows-clause-err
+returns-in_err-rows-clause-err c =
+    let p = err_from_is_err_and c.from_residual-in_err-rows.result c.from_residual-in_err-rows.ensures.1 in rw (p.1, p.2) tt
+
+pub returns-in_err-report_text-clause-err : goal.returns-in_err-report_text-clause-err
+returns-in_err-report_text-clause-err c =
+    let p = err_from_is_err_and c.from_residual-in_err-report_text.result c.from_residual-in_err-report_text.ensures.1 in rw (p.1, p.2) tt
