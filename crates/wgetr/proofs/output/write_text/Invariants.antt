@@ -1,0 +1,16 @@
+-- What is gone from the rest was appended; each turn writes a byte or counts an interruption.
+use Rattle.std.proofs.Common.{◌≡◌, ◌<◌, List, ℕ, ◌++◌, length, ◌+◌, ◌-◌}
+use Rattle.std.specs.Io.KnownBytes.{Appends}
+use Rattle.wgetr.specs.Limits.{max_interrupted}
+use Rattle.wgetr.proofs.output.write_text.Given as goal
+
+abbrev pub invariant-pieces : goal.invariant-pieces
+invariant-pieces g l = record {
+  few : l.interrupted < max_interrupted;
+  done : List ℕ;
+  split : l.text ≡ done ++ l.rest;
+  appended : Appends (g.W.Write.contents l.initial.writer) (g.W.Write.contents l.writer) done;
+}
+
+abbrev pub decreases-pieces : goal.decreases-pieces
+decreases-pieces g l = length l.rest + (max_interrupted - l.interrupted)

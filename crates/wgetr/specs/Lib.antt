@@ -1,0 +1,16 @@
+pub mod Limits
+pub mod Words
+pub mod Said
+pub mod Level
+pub mod Order
+pub mod LineFaults
+pub mod Streams
+pub mod Report
+pub mod Rows
+pub mod OutcomeWord
+pub mod Retrieval
+pub mod Turns
+pub mod Site
+pub mod Entries
+pub mod Run
+pub mod Parts

@@ -1,0 +1,54 @@
+-- What the parts of a run come to.
+use Rattle.std.specs.Prelude.{◌≡◌, ◌≤◌, ◌<◌, ◌⊎◌, ◌++◌, ℕ, List, length, codes, Option}
+use Rattle.std.specs.Io.KnownBytes.{Appends}
+use Rattle.follow_filters.specs.declared.plan.Plan.{Plan}
+use Rattle.site_answer.specs.Lines.{Statement}
+use Rattle.site_answer.specs.Maps.{lines_of, IsMap, IsFault, answers_of}
+use Rattle.site_answer.specs.MapSites.{MapValue}
+use Rattle.site_answer.specs.declared.outcome.Outcome.{Outcome}
+use Rattle.frontier_core.specs.Plans.{policy}
+use Rattle.frontier_core.specs.Routes.{HasTooMany}
+use Rattle.frontier_core.specs.Tables.{Text}
+use Rattle.frontier_core.specs.declared.event.Cause.{Cause}
+use Rattle.frontier_core.specs.declared.event.Cause.TheVariants as cause
+use Rattle.wgetr.specs.Limits.{max_input}
+use Rattle.wgetr.specs.Run.{fault_words, fault_status}
+use Rattle.wgetr.specs.Site.{record_of}
+use Rattle.wgetr.specs.Streams.{IsInput, AppendsFront}
+use Rattle.wgetr.specs.declared.fault.Fault.{Fault}
+use Rattle.wgetr.specs.declared.fault.Fault.TheVariants as fault
+use Rattle.wgetr.specs.declared.input.ReadFault.TheVariants as reading
+
+-- what the reader has left is a map, and the site has its answers
+abbrev pub TellsOf : Option (List ℕ) → MapValue → Type 0
+TellsOf known site =
+    (input : List ℕ) × IsInput known input × (length input ≤ max_input)
+    × (said : List Statement) × IsMap (lines_of input) said × (site.answers ≡ answers_of said)
+
+-- what the reader has left comes to this fault
+abbrev pub TellsFault : Option (List ℕ) → Fault → Type 0
+TellsFault known (fault.Line wrong) = ⊥
+TellsFault known (fault.Read reading.Long) = (input : List ℕ) × IsInput known input × (max_input < length input)
+TellsFault known (fault.Read reading.Failed) = Unit {0}
+TellsFault known (fault.Read reading.Memory) = Unit {0}
+TellsFault known (fault.Map wrong) = (input : List ℕ) × IsInput known input × (length input ≤ max_input) × IsFault input wrong
+TellsFault known (fault.Stopped why) = ⊥
+
+-- the retrieval of a site stops for this fault
+abbrev pub StopsAt : Plan → (Text → Outcome) → Fault → Type 0
+StopsAt plan site (fault.Line wrong) = ⊥
+StopsAt plan site (fault.Read wrong) = ⊥
+StopsAt plan site (fault.Map wrong) = ⊥
+StopsAt plan site (fault.Stopped cause.Full) = HasTooMany (policy plan) (record_of site)
+StopsAt plan site (fault.Stopped cause.Memory) = Unit {0}
+StopsAt plan site (fault.Stopped cause.Mismatch) = ⊥
+
+-- the writer gained the text and the status is this one, or the writer failed and the status is 1
+abbrev pub IsDelivered : Option (List ℕ) → Option (List ℕ) → List ℕ → ℕ → ℕ → Type 0
+IsDelivered old new text wanted status = ((status ≡ wanted) × Appends old new text) ⊎ ((status ≡ 1) × AppendsFront old new text)
+
+-- the line of the fault is delivered with its status, or that of want of memory
+abbrev pub IsRefusal : Option (List ℕ) → Option (List ℕ) → Fault → ℕ → Type 0
+IsRefusal old new wrong status =
+    IsDelivered old new (fault_words wrong ++ codes "\n") (fault_status wrong) status
+    ⊎ IsDelivered old new (codes "stopped memory\n") 1 status

@@ -1,0 +1,14 @@
+-- What a reader gives and a writer holds.
+use Rattle.std.specs.Prelude.{◌≡◌, ℕ, List, ◌++◌, Option, IfSome}
+use Rattle.std.specs.Io.KnownBytes.{Appends}
+
+-- the bytes are all that a reader has left, where it tells them
+abbrev pub IsInput : Option (List ℕ) → List ℕ → Type 0
+IsInput known input = IfSome known (λ bytes. bytes ≡ input)
+
+-- a writer that tells its bytes has gained a front of the text
+pub record AppendsFront (old new : Option (List ℕ)) (text : List ℕ) : Type 0 where
+  pub front : List ℕ
+  pub rest : List ℕ
+  pub parts : text ≡ front ++ rest
+  pub appended : Appends old new front

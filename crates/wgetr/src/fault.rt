@@ -1,0 +1,167 @@
+//! Faults of a run: the line that is written in place of a report, and the status.
+ghost use Rattle.std.specs.Prelude.{◌≡◌, ◌++◌, IfOk, codes, string_bytes};
+ghost use Rattle.wgetr.specs.Run.{start_words, line_words, reading_words, stop_words, fault_words};
+
+use crate::input::ReadFault;
+use crate::line::LineFault;
+use address::AddressFault;
+use frontier_core::Cause;
+use site_answer::InputFault;
+use std::alloc::{AllocError, Global};
+
+/// Why a run has no report.
+#[derive(Clone, Copy)]
+pub(crate) enum Fault {
+    /// The words are no command line.
+    Line(LineFault),
+    /// The input can't be had.
+    Read(ReadFault),
+    /// The input is no map.
+    Map(InputFault),
+    /// The retrieval stopped, or memory ran out.
+    Stopped(Cause),
+}
+
+impl Fault {
+    ghost use Rattle.std.specs.Prelude.{◌≡◌};
+    ghost use Rattle.wgetr.specs.Run.{fault_status};
+
+    /// The status with which a run ends: 2 for what the words or the input say, else 1.
+    pub(crate) fn status(&self) -> u8
+        ensures { result ≡ fault_status self.now }
+    {
+        match self {
+            Fault::Line(LineFault::Memory | LineFault::Start(AddressFault::Memory)) => 1,
+            Fault::Line(_) | Fault::Read(ReadFault::Long) => 2,
+            Fault::Read(ReadFault::Failed | ReadFault::Memory) => 1,
+            Fault::Map(InputFault::Memory) => 1,
+            Fault::Map(InputFault::Line(_) | InputFault::Address(_)) => 2,
+            Fault::Stopped(_) => 1,
+        }
+    }
+}
+
+// The words for a start that is no address.
+fn start_words(refused: AddressFault) -> &'static str
+    ensures { result.now ≡ start_words refused }
+{
+    match refused {
+        AddressFault::TooLong => "line start too-long",
+        AddressFault::NotUrl => "line start not-url",
+        AddressFault::NotHttp => "line start not-http",
+        AddressFault::UserInfo => "line start user-info",
+        AddressFault::Memory => "stopped memory",
+    }
+}
+
+// The words for what is wrong with a command line.
+fn line_words(wrong: LineFault) -> &'static str
+    ensures { result.now ≡ line_words wrong }
+{
+    match wrong {
+        LineFault::Words => "line words",
+        LineFault::Depth => "line depth",
+        LineFault::Start(refused) => start_words(refused),
+        LineFault::StartIsRobots => "line start-robots",
+        LineFault::Memory => "stopped memory",
+    }
+}
+
+// The words for an input that can't be had.
+fn reading_words(wrong: ReadFault) -> &'static str
+    ensures { result.now ≡ reading_words wrong }
+{
+    match wrong {
+        ReadFault::Long => "input long",
+        ReadFault::Failed => "input read",
+        ReadFault::Memory => "stopped memory",
+    }
+}
+
+// The words for why a retrieval stopped.
+fn stop_words(cause: Cause) -> &'static str
+    ensures { result.now ≡ stop_words cause }
+{
+    match cause {
+        Cause::Full => "stopped full",
+        Cause::Memory => "stopped memory",
+        Cause::Mismatch => "stopped mismatch",
+    }
+}
+
+/// The line of a fault.
+pub(crate) fn fault_text(alloc: Global, fault: Fault) -> Result<String, AllocError>
+    ensures { IfOk result (λ text. string_bytes text ≡ fault_words fault ++ codes "\n") }
+{
+    match fault {
+        Fault::Line(wrong) => with_newline(alloc, line_words(wrong)),
+        Fault::Read(wrong) => with_newline(alloc, reading_words(wrong)),
+        Fault::Map(InputFault::Line(number)) => format!(in alloc; "input line {number}\n"),
+        Fault::Map(InputFault::Address(number)) => format!(in alloc; "input address {number}\n"),
+        Fault::Map(InputFault::Memory) => with_newline(alloc, "stopped memory"),
+        Fault::Stopped(cause) => with_newline(alloc, stop_words(cause)),
+    }
+}
+
+// One line of words.
+fn with_newline(alloc: Global, words: &str) -> Result<String, AllocError>
+    ensures { IfOk result (λ text. string_bytes text ≡ words.now ++ codes "\n") }
+{
+    format!(in alloc; "{words}\n")
+}
+
+impl From<LineFault> for Fault {
+    ghost use Rattle.std.specs.Prelude.{◌≡◌};
+    ghost use Rattle.wgetr.specs.declared.fault.Fault.TheVariants.{Line};
+
+    ghost from_gives = { λ wrong fault. fault ≡ Line wrong };
+
+    fn from(wrong: LineFault) -> Fault {
+        Fault::Line(wrong)
+    }
+}
+
+impl From<ReadFault> for Fault {
+    ghost use Rattle.std.specs.Prelude.{◌≡◌};
+    ghost use Rattle.wgetr.specs.declared.fault.Fault.TheVariants.{Read};
+
+    ghost from_gives = { λ wrong fault. fault ≡ Read wrong };
+
+    fn from(wrong: ReadFault) -> Fault {
+        Fault::Read(wrong)
+    }
+}
+
+impl From<InputFault> for Fault {
+    ghost use Rattle.std.specs.Prelude.{◌≡◌};
+    ghost use Rattle.wgetr.specs.declared.fault.Fault.TheVariants.{Map};
+
+    ghost from_gives = { λ wrong fault. fault ≡ Map wrong };
+
+    fn from(wrong: InputFault) -> Fault {
+        Fault::Map(wrong)
+    }
+}
+
+impl From<Cause> for Fault {
+    ghost use Rattle.std.specs.Prelude.{◌≡◌};
+    ghost use Rattle.wgetr.specs.declared.fault.Fault.TheVariants.{Stopped};
+
+    ghost from_gives = { λ cause fault. fault ≡ Stopped cause };
+
+    fn from(cause: Cause) -> Fault {
+        Fault::Stopped(cause)
+    }
+}
+
+impl From<AllocError> for Fault {
+    ghost use Rattle.std.specs.Prelude.{◌≡◌};
+    ghost use Rattle.frontier_core.specs.declared.event.Cause.TheVariants.{Memory};
+    ghost use Rattle.wgetr.specs.declared.fault.Fault.TheVariants.{Stopped};
+
+    ghost from_gives = { λ _ fault. fault ≡ Stopped Memory };
+
+    fn from(_: AllocError) -> Fault {
+        Fault::Stopped(Cause::Memory)
+    }
+}

@@ -1,0 +1,278 @@
+//! Runs on worked sites, on wrong words and maps, and over readers and writers that fail.
+use crate::input::{ReadFault, read_input};
+use crate::run::run;
+use std::io;
+use std::io::{Error, ErrorKind, Read, Write};
+use std::test::Fail;
+
+// A run: its words, its input, what it writes and its status.
+struct Case {
+    name: &'static str,
+    words: &'static [&'static str],
+    input: &'static str,
+    text: &'static str,
+    status: u8,
+}
+
+const MANUAL: &str =
+    "page 200 http://h/1.html\ninline http://h/1.gif\nlink http://h/2.html\nleaf 200 http://h/1.gif\n\
+page 200 http://h/2.html\ninline http://h/2.gif\nlink http://h/3.html\nleaf 200 http://h/2.gif\n\
+page 200 http://h/3.html\ninline http://h/3.gif\nleaf 200 http://h/3.gif\n";
+
+const MANUAL_WHOLE: &str =
+    "1 200 http://h/1.gif -\n0 200 http://h/1.html -\n2 200 http://h/2.gif -\n1 200 http://h/2.html -\n\
+3 200 http://h/3.gif -\n2 200 http://h/3.html -\nfetched 6 kept 0 refused 0 failed 0\n";
+
+const CASES: [Case; 22] = [
+    Case {
+        name: "one page",
+        words: &["--map", "http://h/"],
+        input: "page 200 http://h/",
+        text: "0 200 http://h/ -\nfetched 1 kept 0 refused 0 failed 0\n",
+        status: 0,
+    },
+    Case {
+        name: "two paths, the shorter found later",
+        words: &["-r", "-l", "3", "--map", "http://h/"],
+        input: "page 200 http://h/\nlink http://h/a\nlink http://h/z\npage 200 http://h/a\nlink http://h/b\n\
+page 200 http://h/b\nlink http://h/d\npage 200 http://h/z\nlink http://h/d\n\
+page 200 http://h/d\nlink http://h/e\npage 200 http://h/e\nlink http://h/f\n",
+        text: "0 200 http://h/ -\n1 200 http://h/a -\n2 200 http://h/b -\n2 200 http://h/d -\n3 200 http://h/e -\n\
+1 200 http://h/z -\nfetched 6 kept 0 refused 0 failed 0\n",
+        status: 0,
+    },
+    Case {
+        name: "two redirects in a ring",
+        words: &["--map", "http://h/"],
+        input: "moved 301 http://h/ http://h/x\nmoved 302 http://h/x http://h/\n",
+        text: "0 301 http://h/ -\n0 302 http://h/x -\nfetched 2 kept 0 refused 0 failed 0\n",
+        status: 0,
+    },
+    Case {
+        name: "a redirect is no hop",
+        words: &["-r", "-l", "1", "--map", "http://h/"],
+        input: "page 200 http://h/\nlink http://h/m\nmoved 301 http://h/m http://h/n\npage 200 http://h/n\nlink http://h/o\n",
+        text: "0 200 http://h/ -\n1 301 http://h/m -\n1 200 http://h/n -\nfetched 3 kept 0 refused 0 failed 0\n",
+        status: 0,
+    },
+    Case {
+        name: "the manual's site, not recursive",
+        words: &["--map", "http://h/1.html"],
+        input: MANUAL,
+        text: "0 200 http://h/1.html -\nfetched 1 kept 0 refused 0 failed 0\n",
+        status: 0,
+    },
+    Case {
+        name: "the manual's site, not recursive, with a level",
+        words: &["-l", "3", "--map", "http://h/1.html"],
+        input: MANUAL,
+        text: "0 200 http://h/1.html -\nfetched 1 kept 0 refused 0 failed 0\n",
+        status: 0,
+    },
+    Case {
+        name: "the manual's site, one level",
+        words: &["-r", "-l", "1", "--map", "http://h/1.html"],
+        input: MANUAL,
+        text: "1 200 http://h/1.gif -\n0 200 http://h/1.html -\n1 200 http://h/2.html -\nfetched 3 kept 0 refused 0 failed 0\n",
+        status: 0,
+    },
+    Case {
+        name: "the manual's site, level 0 is no limit",
+        words: &["-r", "-l", "0", "--map", "http://h/1.html"],
+        input: MANUAL,
+        text: MANUAL_WHOLE,
+        status: 0,
+    },
+    Case {
+        name: "the manual's site, no limit",
+        words: &["-r", "-l", "inf", "--map", "http://h/1.html"],
+        input: MANUAL,
+        text: MANUAL_WHOLE,
+        status: 0,
+    },
+    Case {
+        name: "a start that the map doesn't name",
+        words: &["--map", "http://h/"],
+        input: "",
+        text: "0 404 http://h/ -\nfetched 1 kept 0 refused 0 failed 1\n",
+        status: 0,
+    },
+    Case {
+        name: "a fault, and a page that isn't there",
+        words: &["-r", "--map", "http://h/"],
+        input: "page 200 http://h/\nlink http://h/a\nlink http://h/b\nfault connect http://h/a\n",
+        text: "0 200 http://h/ -\n1 connect http://h/a -\n1 404 http://h/b -\nfetched 3 kept 0 refused 0 failed 2\n",
+        status: 0,
+    },
+    Case {
+        name: "five levels where none is given",
+        words: &["-r", "--map", "http://h/0"],
+        input: "page 200 http://h/0\nlink http://h/1\npage 200 http://h/1\nlink http://h/2\npage 200 http://h/2\nlink http://h/3\n\
+page 200 http://h/3\nlink http://h/4\npage 200 http://h/4\nlink http://h/5\npage 200 http://h/5\nlink http://h/6\n",
+        text: "0 200 http://h/0 -\n1 200 http://h/1 -\n2 200 http://h/2 -\n3 200 http://h/3 -\n4 200 http://h/4 -\n\
+5 200 http://h/5 -\nfetched 6 kept 0 refused 0 failed 0\n",
+        status: 0,
+    },
+    Case {
+        name: "an edge without a page",
+        words: &["--map", "http://h/"],
+        input: "link http://h/a\n",
+        text: "input line 1\n",
+        status: 2,
+    },
+    Case {
+        name: "an address that is refused",
+        words: &["--map", "http://h/"],
+        input: "leaf 200 https://h/\n",
+        text: "input address 1\n",
+        status: 2,
+    },
+    Case {
+        name: "words in another order",
+        words: &["-l", "1", "-r", "--map", "http://h/"],
+        input: "",
+        text: "line words\n",
+        status: 2,
+    },
+    Case {
+        name: "a level that is no number, before the start",
+        words: &["-l", "+1", "--map", "https://h/"],
+        input: "",
+        text: "line depth\n",
+        status: 2,
+    },
+    Case {
+        name: "a level above the greatest",
+        words: &["-l", "1000001", "--map", "http://h/"],
+        input: "",
+        text: "line depth\n",
+        status: 2,
+    },
+    Case {
+        name: "the greatest level, with a zero before it",
+        words: &["-r", "-l", "01000000", "--map", "http://h/"],
+        input: "leaf 200 http://h/",
+        text: "0 200 http://h/ -\nfetched 1 kept 0 refused 0 failed 0\n",
+        status: 0,
+    },
+    Case {
+        name: "an empty start",
+        words: &["--map", ""],
+        input: "",
+        text: "line start not-url\n",
+        status: 2,
+    },
+    Case {
+        name: "another scheme",
+        words: &["--map", "https://h/"],
+        input: "",
+        text: "line start not-http\n",
+        status: 2,
+    },
+    Case {
+        name: "a user name",
+        words: &["--map", "http://u@h/"],
+        input: "",
+        text: "line start user-info\n",
+        status: 2,
+    },
+    Case {
+        name: "a robots file",
+        words: &["--map", "http://h/robots.txt"],
+        input: "",
+        text: "line start-robots\n",
+        status: 2,
+    },
+];
+
+#[test]
+fn runs_write_what_was_worked_out(rt: HostRuntime) {
+    for case in &CASES {
+        let name = case.name;
+        let mut reader = case.input.as_bytes();
+        let mut written: Vec<u8> = Vec::new(rt.alloc());
+        let status = run(rt.alloc(), case.words, &mut reader, &mut written);
+        assert!(rt; written.as_slice() == case.text.as_bytes(), "{name}");
+        assert!(rt; status == case.status, "{name}");
+    }
+}
+
+// A device that is interrupted so often, and then takes or gives nothing.
+#[derive(Drop)]
+struct Interrupted(u32);
+
+impl Read for Interrupted {
+    fn read(&mut self, _room: &mut [u8]) -> io::Result<usize> {
+        if self.0 > 0 {
+            self.0 -= 1;
+            return Err(Error::from(ErrorKind::Interrupted));
+        }
+        Ok(0)
+    }
+}
+
+// A writer that is interrupted so often, and then takes one byte at a time, up to so many.
+#[derive(Drop)]
+struct Slow {
+    interrupted: u32,
+    room: u32,
+}
+
+impl Write for Slow {
+    fn write(&mut self, text: &[u8]) -> io::Result<usize> {
+        if self.interrupted > 0 {
+            self.interrupted -= 1;
+            return Err(Error::from(ErrorKind::Interrupted));
+        }
+        if self.room > 0 && !text.is_empty() {
+            self.room -= 1;
+            return Ok(1);
+        }
+        Ok(0)
+    }
+
+    fn flush(&mut self) -> io::Result<()> {
+        Ok(())
+    }
+}
+
+#[test]
+fn interrupted_reads_are_made_again_up_to_a_thousand(rt: HostRuntime) {
+    for (interrupted, text, status) in [
+        (
+            999,
+            "0 404 http://h/ -\nfetched 1 kept 0 refused 0 failed 1\n",
+            0,
+        ),
+        (1000, "input read\n", 1),
+    ] {
+        let mut written: Vec<u8> = Vec::new(rt.alloc());
+        let answer = run(
+            rt.alloc(),
+            &["--map", "http://h/"],
+            &mut Interrupted(interrupted),
+            &mut written,
+        );
+        assert!(rt; written.as_slice() == text.as_bytes(), "{interrupted}");
+        assert!(rt; answer == status, "{interrupted}");
+    }
+}
+
+#[test]
+fn a_writer_that_fails_or_takes_nothing_ends_with_status_1(rt: HostRuntime) {
+    // The line has 11 bytes.
+    for (interrupted, room, status) in [(999, 11, 2), (1000, 11, 1), (0, 10, 1), (0, 0, 1)] {
+        let mut writer = Slow { interrupted, room };
+        let answer = run(rt.alloc(), &[], &mut b"".as_slice(), &mut writer);
+        assert!(rt; answer == status, "{interrupted} {room}");
+    }
+}
+
+#[test]
+fn an_input_above_its_limit_is_long(rt: HostRuntime) -> Result<(), Fail> {
+    let long = read_input(rt.alloc(), &mut b"abc".as_slice(), 2);
+    assert!(rt; long.err() == Some(ReadFault::Long));
+    let input = read_input(rt.alloc(), &mut b"abc".as_slice(), 3)?;
+    assert!(rt; input.as_slice() == b"abc".as_slice());
+    Ok(())
+}
