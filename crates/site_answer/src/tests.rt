@@ -1,5 +1,5 @@
 //! Maps in examples: what each line says, which line is bad, and each call once.
-use crate::{Answer, FaultKind, Fetcher, InputFault, MapSite};
+use crate::{Answer, Ask, Body, FaultKind, Fetcher, InputFault, MapSite};
 use address::Address;
 use std::alloc::Global;
 use std::test::Fail;
@@ -132,5 +132,18 @@ fn outcomes_are_the_same_where_all_parts_are(rt: HostRuntime) -> Result<(), Fail
         }
     }
     assert!(rt; FaultKind::of_word("body-long") == Some(FaultKind::BodyLong));
+    Ok(())
+}
+
+#[test]
+fn parts_come_back_as_they_were(rt: HostRuntime) -> Result<(), Fail> {
+    let alloc = rt.alloc();
+    let bytes = Body::new([7, 8].to_vec(alloc)?).into_vec();
+    assert!(rt; bytes.as_slice() == [7, 8].as_slice());
+    let Ask::Page(address) = Ask::Page(Address::read(alloc, "http://h/")?).try_clone()?;
+    assert!(rt; address.as_str() == "http://h/");
+    assert!(rt; FaultKind::HeadLong.word() == "head-long");
+    let fault = InputFault::Address(12);
+    assert!(rt; format!(in alloc; "{fault}")?.as_str() == "address 12");
     Ok(())
 }
