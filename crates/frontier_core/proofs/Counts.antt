@@ -1,11 +1,10 @@
 -- How many held addresses pass a test, after a change.
-use Rattle.std.proofs.Common.{◌≡◌, ℕ, ◌+◌, ◌≤◌, Bool, true, false, ◌&&◌, List, [], ◌∷◌, Some, None, Option, refl, sym, ap, ◌∙◌, subst, arith}
+use Rattle.std.proofs.Common.{◌≡◌, ℕ, ◌+◌, Bool, true, false, List, [], ◌∷◌, Some, None, Option, refl, ap, ◌∙◌, arith}
 use Rattle.std.specs.Prelude.{cond, count_by, nat_lt, if◌then◌else◌}
 use Rattle.std.proofs.lemmas.List.Sums.{sum_by-cons}
 use Rattle.frontier_core.specs.Tables.{Text, lookup, put, changed}
-use Rattle.site_answer.specs.Outcomes.{edges}
 use Rattle.frontier_core.specs.Routes.{Policy, weight, admits, is_exempt}
-use Rattle.frontier_core.specs.Machine.{State, Slot, Progress, Parked, Waiting, Out, Answered, Refused, slot, with_entry, again, settled, arrival, rules_in, offered, follow, follow_all}
+use Rattle.frontier_core.specs.Machine.{State, Slot, Progress, Parked, Waiting, Refused, slot, with_entry, again, settled, arrival, rules_in, offered, follow, follow_all}
 use Rattle.frontier_core.specs.RobotsRules.{RuleSet}
 use Rattle.site_answer.specs.declared.edge.Edge.{Edge}
 use Rattle.frontier_core.proofs.TableLaws.{same, other, compare_texts}

@@ -1,6 +1,6 @@
 -- Without robots no rules are wanted.
 use Rattle.std.proofs.Common.{◌≡◌, true, false, List}
-use Rattle.frontier_core.specs.Routes.{is_exempt, is_open}
+use Rattle.frontier_core.specs.Routes.{is_open}
 use Rattle.frontier_core.specs.Plans.{policy}
 use Rattle.frontier_core.specs.Machine.{State, answers}
 use Rattle.frontier_core.specs.Lines.{IsReplay}

@@ -1,16 +1,16 @@
 -- No address has two `page` lines, and no origin two `rules` lines.
-use Rattle.std.proofs.Common.{◌≡◌, ◌≢◌, ℕ, ◌+◌, Bool, true, false, List, [], ◌∷◌, ◌++◌, take, Some, None, Option, refl, sym, ap, ◌∙◌, inl, inr, subst, arith}
-use Rattle.std.specs.Prelude.{Contains, IsTrue, nat_lt, if◌then◌else◌}
+use Rattle.std.proofs.Common.{◌≡◌, ℕ, ◌+◌, Bool, true, false, List, [], ◌∷◌, ◌++◌, take, Some, None, Option, refl, sym, ap, ◌∙◌, inl, inr, subst, arith}
+use Rattle.std.specs.Prelude.{Contains, nat_lt, if◌then◌else◌}
 use Rattle.frontier_core.specs.Tables.{Text, lookup, put, IsOnce}
 use Rattle.frontier_core.specs.Routes.{Policy, weight, admits}
 use Rattle.site_answer.specs.Outcomes.{edges}
-use Rattle.frontier_core.specs.Machine.{State, Slot, Progress, Parked, Waiting, Out, Answered, Refused, Worker, Nobody, Turn, Due, Offered, OriginRules, Asked, Known, Action, TakePage, TakeRules, Answer, Rule, Spread, Part, Abandon, AbandonRules, Stop, slot, with_entry, again, arrival, offered, follow, follow_all, unparked, halted, turn_of, Step, opened}
+use Rattle.frontier_core.specs.Machine.{State, Slot, Progress, Parked, Waiting, Out, Answered, Refused, Worker, Nobody, Offered, OriginRules, Asked, Known, Action, TakePage, TakeRules, Answer, Rule, Spread, Part, Abandon, AbandonRules, Stop, slot, with_entry, again, arrival, offered, follow, follow_all, unparked, halted, turn_of, Step, opened}
 use Rattle.frontier_core.specs.Lines.{stop_line, lines_of, Run, IsReplay, pages, rule_asks, IsAskedOnce}
 use Rattle.site_answer.specs.declared.edge.Edge.{Edge}
 use Rattle.frontier_core.specs.RobotsRules.{RuleSet}
 use Rattle.frontier_core.specs.declared.event.Cause.{Cause}
 use Rattle.frontier_core.specs.declared.event.Event.{Event}
-use Rattle.frontier_core.proofs.TableLaws.{Compared, same, other, compare_texts, lookup-put_same, lookup-put_other, lookup-changed}
+use Rattle.frontier_core.proofs.TableLaws.{same, other, compare_texts, lookup-put_same, lookup-put_other, lookup-changed}
 use Rattle.frontier_core.proofs.RouteLaws.{contains_cases}
 
 -- out, or answered

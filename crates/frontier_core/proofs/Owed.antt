@@ -1,17 +1,17 @@
 -- How many lines are owed a place after each step.
-use Rattle.std.proofs.Common.{◌≡◌, ℕ, ◌+◌, ◌≤◌, Bool, true, false, List, [], take, Some, None, Option, refl, sym, ap, ◌∙◌, le_refl, arith, length, ◌++◌, ◌∷◌}
+use Rattle.std.proofs.Common.{◌≡◌, ℕ, ◌+◌, ◌≤◌, Bool, true, false, List, [], take, Some, None, Option, refl, ap, ◌∙◌, le_refl, arith, length, ◌∷◌}
 use Rattle.std.specs.Prelude.{nat_lt, if◌then◌else◌}
 use Rattle.std.proofs.lemmas.List.Sums.{count_by-le-length}
 use Rattle.frontier_core.specs.Tables.{Text, lookup, put}
 use Rattle.site_answer.specs.Outcomes.{edges}
 use Rattle.frontier_core.specs.Routes.{Policy, weight, admits}
-use Rattle.frontier_core.specs.Machine.{State, Slot, Progress, Parked, Waiting, Out, Answered, Refused, Worker, Nobody, Due, Offered, TakePage, Answer, Spread, Part, Abandon, Stop, slot, again, first_cause, with_entry, offered, follow, follow_all, halted, turn_of, Step, IsRunning}
+use Rattle.frontier_core.specs.Machine.{State, Slot, Progress, Parked, Waiting, Out, Answered, Refused, Worker, Nobody, Due, Offered, TakePage, Answer, Spread, Part, Abandon, Stop, slot, again, first_cause, with_entry, offered, follow, follow_all, halted, turn_of, Step}
 use Rattle.frontier_core.specs.Inner.{is_held, held_count, stop_count, owed}
 use Rattle.frontier_core.specs.Lines.{stop_line}
 use Rattle.frontier_core.specs.declared.event.Cause.{Cause}
 use Rattle.site_answer.specs.declared.edge.Edge.{Edge}
 use Rattle.site_answer.specs.declared.outcome.Outcome.{Outcome}
-use Rattle.frontier_core.proofs.Counts.{one, tally, tally-put_held, IsSteady, tally-follow_all}
+use Rattle.frontier_core.proofs.Counts.{one, tally-put_held, IsSteady, tally-follow_all}
 use Rattle.frontier_core.proofs.FollowLaws.{follow_all_slot}
 
 -- out to a worker

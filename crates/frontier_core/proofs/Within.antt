@@ -1,19 +1,19 @@
 -- At most as many permits of an origin are out as the plan allows.
-use Rattle.std.proofs.Common.{◌≡◌, ◌≢◌, ℕ, ◌+◌, ◌≤◌, ◌<◌, Bool, true, false, ◌&&◌, List, [], ◌∷◌, take, Some, None, Option, refl, sym, ap, ◌∙◌, subst, le_refl, arith}
-use Rattle.std.specs.Prelude.{cond, if◌then◌else◌}
+use Rattle.std.proofs.Common.{◌≡◌, ℕ, ◌+◌, ◌≤◌, ◌<◌, Bool, true, false, ◌&&◌, List, take, Some, refl, sym, ap, ◌∙◌, subst, le_refl, arith}
+use Rattle.std.specs.Prelude.{if◌then◌else◌}
 use Rattle.std.specs.Str.{bytes_eq}
 use Rattle.frontier_core.specs.Tables.{Text, lookup, put}
 use Rattle.site_answer.specs.Outcomes.{edges}
 use Rattle.frontier_core.specs.Routes.{Policy}
-use Rattle.frontier_core.specs.Machine.{State, Slot, Progress, Parked, Waiting, Out, Answered, Refused, Holder, Worker, Nobody, Turn, Due, Offered, OriginRules, Asked, Known, Action, TakePage, TakeRules, Answer, Rule, Spread, Part, Abandon, AbandonRules, Stop, slot, is_out, asked_count, permits_out, again, unparked, follow_all, halted, turn_of, Step, opened}
+use Rattle.frontier_core.specs.Machine.{State, Slot, Progress, Parked, Waiting, Out, Answered, Refused, Worker, Nobody, Due, Offered, Asked, Known, Action, TakePage, TakeRules, Answer, Rule, Spread, Part, Abandon, AbandonRules, Stop, slot, is_out, asked_count, permits_out, again, unparked, follow_all, turn_of, Step}
 use Rattle.frontier_core.specs.Lines.{IsReplay}
 use Rattle.frontier_core.specs.RobotsRules.{RuleSet}
 use Rattle.frontier_core.specs.declared.event.Event.{Event}
 use Rattle.site_answer.specs.declared.edge.Edge.{Edge}
-use Rattle.frontier_core.proofs.TableLaws.{Compared, same, other, compare_texts, lookup-put_same, lookup-put_other}
+use Rattle.frontier_core.proofs.TableLaws.{same, other, compare_texts, lookup-put_same, lookup-put_other}
 use Rattle.frontier_core.proofs.FollowLaws.{follow_all_slot}
 use Rattle.frontier_core.proofs.Once.{origins-follow_all}
-use Rattle.frontier_core.proofs.Counts.{one, tally, tally-cons, tally-put_held, tally-changed, IsSteady, tally-follow_all}
+use Rattle.frontier_core.proofs.Counts.{one, tally, tally-put_held, tally-changed, IsSteady, tally-follow_all}
 use Rattle.frontier_core.proofs.Replays.{replay_keeps}
 
 -- out, and of the origin

@@ -2,7 +2,7 @@
 use Rattle.std.specs.Prelude.{◌≡◌, ℕ, ◌+◌, count_by, Bool, true, false, List, [], ◌∷◌, Option, Some, None, ◌==◌, zero, suc}
 use Rattle.frontier_core.specs.Tables.{Text, lookup}
 use Rattle.site_answer.specs.Outcomes.{edges}
-use Rattle.frontier_core.specs.Machine.{State, Slot, Progress, Parked, Waiting, Out, Answered, Refused, Worker, Nobody, Turn, Due, Offered, slot_outcome}
+use Rattle.frontier_core.specs.Machine.{State, Progress, Parked, Waiting, Out, Answered, Refused, Worker, Nobody, Due, Offered, slot_outcome}
 use Rattle.frontier_core.specs.declared.event.Cause.{Cause}
 use Rattle.site_answer.specs.declared.edge.Edge.{Edge}
 use Rattle.site_answer.specs.declared.outcome.Outcome.{Outcome}

@@ -1,5 +1,5 @@
 -- What is read from a frontier's state: its entries, each as a caller sees it, and its record.
-use Rattle.std.specs.Prelude.{ℕ, List, Option, Some, None}
+use Rattle.std.specs.Prelude.{ℕ, Option, Some, None}
 use Rattle.std.specs.Borrow.{Bor}
 use Rattle.frontier_core.specs.Tables.{Text}
 use Rattle.frontier_core.specs.Machine.{Slot, outcome_in}

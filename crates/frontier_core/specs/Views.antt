@@ -1,8 +1,6 @@
 -- How the code's own types are seen: what they keep stands for a slot of the machine.
-use Rattle.std.specs.Prelude.{ℕ, Bool, true, false, Option, Some, None, List, map}
-use Rattle.frontier_core.specs.Tables.{Text}
-use Rattle.frontier_core.specs.Machine.{Slot, Progress, Parked, Waiting, Out, Answered, Refused, Holder, Worker, Nobody, Turn, Due, Offered, outcome_in}
-use Rattle.site_answer.specs.declared.outcome.Outcome.{Outcome}
+use Rattle.std.specs.Prelude.{ℕ, Bool, true, false, Option, Some, None}
+use Rattle.frontier_core.specs.Machine.{Progress, Parked, Waiting, Out, Answered, Refused, Holder, Worker, Nobody, Turn, Due, Offered}
 use Rattle.frontier_core.specs.declared.condition.Condition.{Condition}
 use Rattle.frontier_core.specs.declared.condition.Condition.TheVariants as condition
 use Rattle.frontier_core.specs.declared.entry.Stage.{Stage}

@@ -1,4 +1,4 @@
-use Rattle.std.proofs.Common.{◌<◌, length, refl, sym, subst, ◌∙◌}
+use Rattle.std.proofs.Common.{◌<◌, length, refl, sym, subst}
 use Rattle.frontier_core.specs.Inner.{key_at, IsDistinct}
 use Rattle.frontier_core.proofs.TableLaws.{distinct-put}
 use Rattle.frontier_core.proofs.IndexLaws.{value_found, written}
