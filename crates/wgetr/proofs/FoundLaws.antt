@@ -1,13 +1,13 @@
 -- The lines of a frontier that found everything are those of the whole site.
-use Rattle.std.proofs.Common.{◌≡◌, ℕ, ◌+◌, ◌<◌, ◌≤◌, List, [], ◌∷◌, Option, Some, None, IsSome, length, get_or, map, zero, suc, refl, sym, ap, subst, ◌∙◌, arith}
-use Rattle.std.specs.Prelude.{Contains, Any, All, false}
+use Rattle.std.proofs.Common.{◌≡◌, ℕ, ◌<◌, ◌≤◌, List, [], ◌∷◌, Some, IsSome, length, get_or, map, zero, suc, refl, sym, ap, subst, ◌∙◌, arith}
+use Rattle.std.specs.Prelude.{false}
 use Rattle.std.specs.List.{filter_map}
 use Rattle.std.specs.List.Sorted.{IsPermutation}
 use Rattle.std.proofs.lemmas.List.Elements.{Contains-get_or}
 use Rattle.std.proofs.lemmas.List.Sorted.{Contains-permutation, IsPermutation-sym, length_permutation}
 use Rattle.site_answer.specs.declared.outcome.Outcome.{Outcome}
 use Rattle.frontier_core.specs.Tables.{Text, lookup, keys, IsOnce}
-use Rattle.frontier_core.specs.Routes.{Policy, IsCandidate, IsDepth}
+use Rattle.frontier_core.specs.Routes.{Policy, IsDepth}
 use Rattle.frontier_core.specs.Machine.{State, Slot, answers, slot_outcome, outcome_in}
 use Rattle.frontier_core.specs.Invariants.{IsComplete}
 use Rattle.frontier_core.specs.Readers.{entry_of, record_of as recorded_of}
@@ -15,7 +15,7 @@ use Rattle.wgetr.specs.Report.{Line, IsAscending}
 use Rattle.wgetr.specs.Entries.{lines_in, lines_beside}
 use Rattle.wgetr.specs.Site.{record_of, AreLines}
 use Rattle.wgetr.proofs.TableLemmas.{found_entry}
-use Rattle.wgetr.proofs.LineLaws.{Stands, line_stands, has_line, length-lines_in}
+use Rattle.wgetr.proofs.LineLaws.{line_stands, has_line, length-lines_in}
 use Rattle.wgetr.proofs.SiteLaws.{IsOf, open_off, some_of, candidate_down, depth_up}
 
 -- each entry has an outcome

@@ -1,14 +1,13 @@
 -- The lines of a table's answered entries.
-use Rattle.std.proofs.Common.{◌≡◌, ◌≢◌, ℕ, ◌+◌, ◌<◌, ◌≤◌, ◌⊎◌, inl, inr, List, [], ◌∷◌, Option, Some, None, length, get_or, zero, suc, refl, sym, ◌∙◌, ap, subst, arith}
-use Rattle.std.specs.Prelude.{Contains, AllPairs, All}
-use Rattle.std.specs.Str.{bytes_eq}
+use Rattle.std.proofs.Common.{◌≡◌, ◌≢◌, ℕ, ◌≤◌, ◌⊎◌, inl, inr, List, [], ◌∷◌, Option, Some, None, length, get_or, zero, suc, refl, sym, ◌∙◌, ap, subst, arith}
+use Rattle.std.specs.Prelude.{Contains, AllPairs}
 use Rattle.std.proofs.lemmas.List.Elements.{Contains-get_or}
 use Rattle.site_answer.specs.declared.outcome.Outcome.{Outcome}
 use Rattle.frontier_core.specs.Tables.{Text, lookup, keys, IsOnce}
 use Rattle.frontier_core.specs.Machine.{Slot, outcome_in}
 use Rattle.wgetr.specs.Report.{Line, AreApart}
 use Rattle.wgetr.specs.Entries.{lines_in, line_before}
-use Rattle.wgetr.proofs.TableLemmas.{Compared, same, other, compare_texts}
+use Rattle.wgetr.proofs.TableLemmas.{same, other, compare_texts}
 
 abbrev line : Text → ℕ → Outcome → Line
 line u d x = record { address = u; depth = d; outcome = x }

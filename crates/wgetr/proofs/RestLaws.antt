@@ -1,6 +1,6 @@
 -- A driver that holds no permit: each turn leads from rest to rest, and it is never told that others are busy.
-use Rattle.std.proofs.Common.{◌≡◌, ◌≢◌, ℕ, ◌+◌, ◌<◌, ◌≤◌, ◌⊎◌, inl, inr, Bool, true, false, List, [], ◌∷◌, ◌++◌, length, get_or, map, take, suc, Some, None, Option, refl, sym, ap, ◌∙◌, subst, arith, length-append, append_assoc}
-use Rattle.std.specs.Prelude.{Contains, IsSome, IsTrue, All, count_by, ◌&&◌}
+use Rattle.std.proofs.Common.{◌≡◌, ◌≢◌, ℕ, ◌+◌, ◌<◌, ◌≤◌, inl, inr, Bool, true, false, List, [], ◌∷◌, ◌++◌, length, get_or, map, take, suc, Some, None, refl, sym, ap, ◌∙◌, subst, arith, length-append, append_assoc}
+use Rattle.std.specs.Prelude.{Contains, IsSome, All, count_by, ◌&&◌}
 use Rattle.std.specs.Str.{bytes_eq}
 use Rattle.std.proofs.lemmas.Bool.{false≢true}
 use Rattle.std.proofs.lemmas.List.{map-append}
@@ -8,21 +8,21 @@ use Rattle.std.proofs.lemmas.List.Elements.{Contains-append_left, Contains-push,
 use Rattle.follow_filters.specs.declared.plan.Plan.{Plan}
 use Rattle.site_answer.specs.Outcomes.{edges}
 use Rattle.site_answer.specs.declared.outcome.Outcome.{Outcome}
-use Rattle.frontier_core.specs.Tables.{Text, lookup, put, keys, IsOnce}
+use Rattle.frontier_core.specs.Tables.{Text, lookup, keys, IsOnce}
 use Rattle.frontier_core.specs.Routes.{Policy, HasTooMany}
 use Rattle.frontier_core.specs.Plans.{policy}
-use Rattle.frontier_core.specs.Machine.{State, Slot, Progress, Parked, Waiting, Out, Answered, Refused, Turn, Due, Offered, Holder, Worker, TakePage, Answer, Spread, slot, answers, slot_outcome, outcome_in, with_entry, turn_of, opened, is_out, is_done, permits_out, asked_count, is_known, OriginRules, IsQuiet, IsRunning}
+use Rattle.frontier_core.specs.Machine.{State, Slot, Progress, Parked, Waiting, Out, Answered, Refused, Due, Offered, Worker, TakePage, Answer, slot, answers, slot_outcome, with_entry, turn_of, opened, is_out, is_done, permits_out, asked_count, is_known, OriginRules, IsQuiet, IsRunning}
 use Rattle.frontier_core.specs.Traced.{Traced, Makes, SpreadsWhole, SpreadsPart, Spreads, HasDue, HasPage}
 use Rattle.site_answer.specs.Logs.{GainedAtMost}
 use Rattle.site_answer.specs.declared.fetcher.Ask.{Ask}
 use Rattle.site_answer.specs.declared.fetcher.Ask.TheVariants as ask
 use Rattle.frontier_core.specs.declared.event.Cause.{Cause}
 use Rattle.frontier_core.specs.declared.event.Cause.TheVariants as why
-use Rattle.wgetr.specs.Retrieval.{IsTold, IsRecordOf, Gains, Finds, Stops}
+use Rattle.wgetr.specs.Retrieval.{IsRecordOf, Gains, Finds, Stops}
 use Rattle.frontier_core.specs.Invariants.{IsComplete}
 use Rattle.wgetr.specs.Turns.{is_idle, IsIdle, AtRest}
-use Rattle.wgetr.proofs.TableLemmas.{Compared, same, other, compare_texts, found_put, other_put, found_entry, once_push}
-use Rattle.wgetr.proofs.TurnLaws.{Same, same_spread, same_follow_all, outcome_there, outcome_elsewhere, idle_put}
+use Rattle.wgetr.proofs.TableLemmas.{same, other, compare_texts, found_put, other_put, found_entry, once_push}
+use Rattle.wgetr.proofs.TurnLaws.{Same, same_spread, same_follow_all}
 
 none_is_some : IsSome {T = Outcome} None → ⊥
 none_is_some h = false≢true h

@@ -1,5 +1,5 @@
 -- The parts of a run come to its ending.
-use Rattle.std.proofs.Common.{◌≡◌, ℕ, ◌⊎◌, inl, inr, List, [], Option, Some, None, Err, Ok, IsOk, IfOk, IfErr, Result, refl, sym, ap, subst, ◌∙◌}
+use Rattle.std.proofs.Common.{◌≡◌, ℕ, inl, inr, List, [], Option, Some, None, Err, Ok, IsOk, IfOk, IfErr, Result, refl, sym, ap, subst}
 use Rattle.follow_filters.specs.declared.plan.Plan.{Plan}
 use Rattle.site_answer.specs.Maps.{outcome_in}
 use Rattle.site_answer.specs.MapSites.{MapValue}
@@ -12,7 +12,7 @@ use Rattle.wgetr.specs.Order.{order_of, IsPlanned, IsRefused}
 use Rattle.wgetr.specs.Parts.{TellsOf, TellsFault, StopsAt}
 use Rattle.wgetr.specs.Report.{Line, report_text}
 use Rattle.wgetr.specs.Retrieval.{Stops}
-use Rattle.wgetr.specs.Run.{Comes, Ends, EndsFor, Reported, Failed}
+use Rattle.wgetr.specs.Run.{Comes, EndsFor, Reported, Failed}
 use Rattle.wgetr.specs.Site.{record_of, AreLines}
 use Rattle.wgetr.specs.Streams.{IsInput}
 use Rattle.wgetr.specs.declared.fault.Fault.{Fault}

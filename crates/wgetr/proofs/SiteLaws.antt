@@ -1,6 +1,6 @@
 -- What a quiet frontier recorded is enough to find what the whole site has, where robots rules aren't honoured.
-use Rattle.std.proofs.Common.{◌≡◌, ℕ, ◌+◌, ◌≤◌, Bool, true, false, List, [], ◌∷◌, ◌++◌, Option, Some, None, IsSome, IsTrue, refl, sym, ◌∙◌, ap, subst}
-use Rattle.std.specs.Prelude.{Contains, not, ◌||◌, ◌&&◌, All}
+use Rattle.std.proofs.Common.{◌≡◌, ℕ, ◌+◌, Bool, true, false, List, [], ◌∷◌, ◌++◌, Option, Some, None, IsSome, IsTrue, refl, sym, ap, subst}
+use Rattle.std.specs.Prelude.{Contains, not, ◌||◌}
 use Rattle.std.specs.Str.{bytes_eq}
 use Rattle.std.proofs.lemmas.Bool.{false≢true}
 use Rattle.site_answer.specs.Outcomes.{edges}

@@ -1,15 +1,15 @@
 -- What a turn of a driver keeps, where robots rules aren't honoured.
-use Rattle.std.proofs.Common.{◌≡◌, ◌≢◌, ℕ, ◌+◌, ◌<◌, ◌≤◌, ◌⊎◌, inl, inr, Bool, true, false, List, [], ◌∷◌, ◌++◌, length, map, Some, None, Option, refl, sym, ap, ◌∙◌, subst, arith}
-use Rattle.std.specs.Prelude.{not, ◌||◌, Contains, nat_lt, if◌then◌else◌, IsSome, IsTrue}
+use Rattle.std.proofs.Common.{◌≡◌, ◌≢◌, ℕ, ◌+◌, Bool, true, false, List, [], ◌∷◌, Some, None, Option, refl, sym, ap, ◌∙◌}
+use Rattle.std.specs.Prelude.{not, ◌||◌, nat_lt, if◌then◌else◌}
 use Rattle.std.specs.Str.{bytes_eq}
 use Rattle.site_answer.specs.Outcomes.{edges}
 use Rattle.site_answer.specs.declared.edge.Edge.{Edge}
 use Rattle.site_answer.specs.declared.outcome.Outcome.{Outcome}
 use Rattle.frontier_core.specs.Tables.{Text, lookup, put}
-use Rattle.frontier_core.specs.Routes.{Policy, admits, weight, is_exempt}
-use Rattle.frontier_core.specs.Machine.{State, Slot, Progress, Parked, Waiting, Out, Answered, Refused, Turn, Due, Offered, Holder, slot, answers, slot_outcome, outcome_in, with_entry, arrival, again, offered, offer, follow, follow_all, settled, rules_in}
+use Rattle.frontier_core.specs.Routes.{Policy, admits, weight}
+use Rattle.frontier_core.specs.Machine.{State, Slot, Progress, Parked, Waiting, Out, Answered, Refused, Due, Offered, slot, answers, slot_outcome, outcome_in, with_entry, arrival, again, offered, offer, follow, follow_all}
 use Rattle.wgetr.specs.Turns.{is_idle, IsIdle}
-use Rattle.wgetr.proofs.TableLemmas.{Compared, same, other, compare_texts, found_put, other_put}
+use Rattle.wgetr.proofs.TableLemmas.{same, other, compare_texts, found_put, other_put}
 
 -- what is recorded stays as it was, and so does who is idle; no origin is asked for, and nothing stops
 pub record Same (s t : State) : Type 0 where

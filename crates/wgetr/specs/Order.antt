@@ -1,5 +1,5 @@
 -- What a command line orders, or the first thing that is wrong with it.
-use Rattle.std.specs.Prelude.{◌≡◌, ◌⊎◌, ℕ, true, List, Option, Some, None, Result, Ok, Err, if◌then◌else◌}
+use Rattle.std.specs.Prelude.{◌≡◌, ◌⊎◌, ℕ, List, Option, Some, None, Result, Ok, Err, if◌then◌else◌}
 use Rattle.address.specs.Address.{read_address, is_robots_file}
 use Rattle.address.specs.declared.fault.AddressFault.{AddressFault}
 use Rattle.follow_filters.specs.declared.limit.Limit.{Limit}

@@ -9,7 +9,6 @@ use Rattle.site_answer.specs.declared.outcome.Outcome.{Outcome}
 use Rattle.frontier_core.specs.Plans.{policy}
 use Rattle.frontier_core.specs.Routes.{HasTooMany}
 use Rattle.frontier_core.specs.Tables.{Text}
-use Rattle.frontier_core.specs.declared.event.Cause.{Cause}
 use Rattle.frontier_core.specs.declared.event.Cause.TheVariants as cause
 use Rattle.wgetr.specs.Limits.{max_input}
 use Rattle.wgetr.specs.Run.{fault_words, fault_status}

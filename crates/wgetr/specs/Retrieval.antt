@@ -1,5 +1,5 @@
 -- What a retrieval on one thread asks for and finds.
-use Rattle.std.specs.Prelude.{◌≡◌, ◌↔◌, ℕ, Bool, true, false, List, [], ◌++◌, map, Option, Some, Contains, IsSome, IsTrue, All}
+use Rattle.std.specs.Prelude.{◌≡◌, ◌↔◌, ℕ, List, ◌++◌, map, Some, Contains, IsSome}
 use Rattle.follow_filters.specs.declared.plan.Plan.{Plan}
 use Rattle.site_answer.specs.declared.fetcher.Ask.{Ask}
 use Rattle.site_answer.specs.declared.fetcher.Ask.TheVariants as ask
@@ -7,7 +7,7 @@ use Rattle.site_answer.specs.declared.outcome.Outcome.{Outcome}
 use Rattle.frontier_core.specs.Tables.{Text, IsOnce}
 use Rattle.frontier_core.specs.Routes.{Answers, HasTooMany}
 use Rattle.frontier_core.specs.Machine.{answers, IsQuiet}
-use Rattle.frontier_core.specs.Invariants.{IsSound, IsComplete}
+use Rattle.frontier_core.specs.Invariants.{IsComplete}
 use Rattle.frontier_core.specs.Plans.{policy}
 use Rattle.frontier_core.specs.Traced.{Traced}
 use Rattle.frontier_core.specs.declared.event.Cause.{Cause}

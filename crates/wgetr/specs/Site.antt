@@ -1,5 +1,5 @@
 -- The report of a whole site.
-use Rattle.std.specs.Prelude.{◌≡◌, ℕ, ◌≤◌, List, Option, Some, None, All, Any, length}
+use Rattle.std.specs.Prelude.{◌≡◌, ◌≤◌, List, Some, None, All, Any, length}
 use Rattle.site_answer.specs.declared.outcome.Outcome.{Outcome}
 use Rattle.frontier_core.specs.Tables.{Text}
 use Rattle.frontier_core.specs.Routes.{Policy, Answers, IsCandidate, IsDepth}

@@ -1,5 +1,5 @@
 -- What was read is part of all that the reader had.
-use Rattle.std.proofs.Common.{◌≡◌, ◌<◌, ◌+◌, ℕ, List, ◌++◌, Option, None, Some, Err, length, take, length-append, length-take, rules, arith, refl}
+use Rattle.std.proofs.Common.{◌<◌, ℕ, List, Option, None, Some, length, length-append, arith, refl}
 use Rattle.std.specs.Io.KnownBytes.{Consumes}
 use Rattle.std.proofs.KnownBytes.{Consumes-trans}
 use Rattle.wgetr.specs.Streams.{IsInput}

@@ -1,5 +1,5 @@
 -- Sorted rows ascend, since no address stands twice.
-use Rattle.std.proofs.Common.{Bool, ◌≡◌, ℕ, ◌+◌, ◌<◌, ◌≤◌, false, List, [], ◌∷◌, map, length, get_or, arith, rules, sym, ap, ◌∙◌}
+use Rattle.std.proofs.Common.{Bool, ◌+◌, ◌<◌, List, [], ◌∷◌, map, length, get_or, arith, rules, ap, ◌∙◌}
 use Rattle.std.proofs.lemmas.List.{length-map, get_or-map}
 use Rattle.std.proofs.lemmas.List.Sorted.{answers_always, IsPermutation-map}
 use Rattle.std.specs.Cmp.Lexicographic.{slice_cmp}

@@ -1,5 +1,5 @@
 -- Each turn leads from rest to rest; what is quiet is complete.
-use Rattle.std.proofs.Common.{◌≡◌, ◌<◌, ◌≤◌, ◌+◌, ℕ, List, [], ◌∷◌, ◌++◌, length, arith, rules, sym, ap, subst, ◌∙◌, refl, append-nil, Err}
+use Rattle.std.proofs.Common.{[], ◌∷◌, ◌++◌, length, arith, sym, ap, subst, ◌∙◌, refl, append-nil, Err}
 use Rattle.std.proofs.lemmas.Result.{err_from_is_err_and}
 use Rattle.frontier_core.specs.Machine.{IsQuiet, IsRunning}
 use Rattle.frontier_core.specs.Tables.{IsOnce, keys}

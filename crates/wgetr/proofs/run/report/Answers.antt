@@ -1,5 +1,5 @@
 -- Each part's fault is the run's, and so is its report.
-use Rattle.std.proofs.Common.{◌≡◌, ℕ, List, map, Bor, string_bytes}
+use Rattle.std.proofs.Common.{ℕ, List, map, Bor, string_bytes}
 use Rattle.std.proofs.lemmas.Result.{err_from_is_err_and}
 use Rattle.wgetr.proofs.RunLaws.{ends_line, ends_input, finish_ok, finish_err}
 use Rattle.wgetr.proofs.run.report.Goals as goal

@@ -1,5 +1,5 @@
 -- What was found is what the site has.
-use Rattle.std.proofs.Common.{◌≡◌, sym, ap, subst, ◌∙◌, refl, map, List, IsPermutation, length, ◌≤◌}
+use Rattle.std.proofs.Common.{sym, ap, subst, ◌∙◌, refl, map, List, IsPermutation, length, ◌≤◌}
 use Rattle.std.proofs.lemmas.Result.{err_from_is_err_and}
 use Rattle.follow_filters.specs.declared.plan.Plan.{Plan}
 use Rattle.site_answer.specs.Maps.{outcome_in}

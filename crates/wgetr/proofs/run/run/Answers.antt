@@ -1,5 +1,5 @@
 -- What is delivered is the ending's text.
-use Rattle.std.proofs.Common.{◌≡◌, ◌⊎◌, inl, inr, ap, subst, ◌∙◌, List, ℕ, map, Bor}
+use Rattle.std.proofs.Common.{inl, inr, subst, ◌∙◌, List, ℕ, map, Bor}
 use Rattle.wgetr.specs.Parts.{IsDelivered}
 use Rattle.wgetr.specs.Run.{Reported, Failed}
 use Rattle.frontier_core.specs.declared.event.Cause.TheVariants as why
