@@ -1,9 +1,8 @@
 -- The order of what is found for each option, stage by stage.
-use Rattle.std.proofs.Common.{◌≡◌, ◌≢◌, subst, ◌⊎◌, ◌∙◌, ℕ, Bool, true, false, not, List, [], ◌∷◌, length, ◌==◌, Option, Some, None, is_none, if◌then◌else◌, codes, refl, sym, ap, inl, inr, ⊎_elim}
+use Rattle.std.proofs.Common.{◌≡◌, ◌≢◌, subst, ◌⊎◌, ◌∙◌, ℕ, Bool, true, false, List, [], ◌∷◌, Some, None, if◌then◌else◌, codes, refl, sym, ap, inl, inr, ⊎_elim}
 use Rattle.std.specs.Prelude.{Result, Ok, Err, MatchResult}
 use Rattle.clap.specs.Walk.{Row, Text}
-use Rattle.clap.specs.Words.{HasKind, IsAmong, kind_of}
-use Rattle.clap.specs.declared.Error.{Error}
+use Rattle.clap.specs.Words.{IsAmong}
 use Rattle.clap.specs.declared.error.ErrorKind.{ErrorKind}
 use Rattle.clap.specs.declared.error.ErrorKind.TheVariants as kinds
 use Rattle.options.specs.declared.order.Order.{Order}
@@ -119,19 +118,19 @@ started found read (Ok a) gives page =
     (starts-at found a is page.1, page.1)
 started found read (Err f) gives page =
     ⊎_elim
-      (λ robots.
-        let is : start_of found ≡ Ok robots.0 = rw robots.1 at gives in
-        inl (subst (FailsToStart found) (sym robots.3) (fails-robots found robots.0 is robots.2)))
-      (λ rest. ⊎_elim
-        (λ bad.
-          let known : (start_of found ≡ Err bad.0) ⊎ (bad.0 ≡ address_fault.Memory) = rw bad.1 at gives in
-          ⊎_elim
-            (λ is. inl (subst (FailsToStart found) (sym bad.3) (fails-why found bad.0 is)))
-            (λ memory. absurd (bad.2 memory))
-            known)
-        (λ memory. inr memory)
-        rest)
-      page
+    (λ robots.
+    let is : start_of found ≡ Ok robots.0 = rw robots.1 at gives in
+    inl (subst (FailsToStart found) (sym robots.3) (fails-robots found robots.0 is robots.2)))
+    (λ rest. ⊎_elim
+    (λ bad.
+    let known : (start_of found ≡ Err bad.0) ⊎ (bad.0 ≡ address_fault.Memory) = rw bad.1 at gives in
+    ⊎_elim
+    (λ is. inl (subst (FailsToStart found) (sym bad.3) (fails-why found bad.0 is)))
+    (λ memory. absurd (bad.2 memory))
+    known)
+    (λ memory. inr memory)
+    rest)
+    page
 
 -- what a parse that succeeds answers
 pub answers-taken : (words : List Text) (found : List Row) (r : Result Order LineFault) → refusals words ≡ [] → found ≡ rows words → Answers r (order_of_rows found) → Answers r (order_of words)
@@ -162,7 +161,7 @@ pub answers-refused : (words : List Text) (kind : ErrorKind) (f : LineFault) →
 answers-refused words kind f is fails = ⊎_elim
     (λ memory. inr (is ∙ ap fault_of_kind memory))
     (λ among. ⊎_elim
-      (λ refused. inl (order_of-refused words kind among ∙ ap Err (sym (ap without_kind is ∙ refused))))
-      (λ memory. inr (is ∙ ap fault_of_kind memory))
-      (fault_kind kind))
+    (λ refused. inl (order_of-refused words kind among ∙ ap Err (sym (ap without_kind is ∙ refused))))
+    (λ memory. inr (is ∙ ap fault_of_kind memory))
+    (fault_kind kind))
     fails

@@ -1,5 +1,5 @@
 -- The command line, as `clap` sees it: the rule of each option, and what the words match (GNU Wget manual, chapter Invoking).
-use Rattle.std.specs.Prelude.{◌≡◌, ℕ, List, [], ◌∷◌, fold, codes, Some, pos, true, map}
+use Rattle.std.specs.Prelude.{ℕ, List, [], ◌∷◌, fold, codes, Some, pos, true}
 use Rattle.clap.specs.declared.builder.ArgAction.TheVariants.{SetTrue}
 use Rattle.clap.specs.declared.builder.ValueParser.TheVariants as value
 use Rattle.clap.specs.Simple.{App, matches_of, new_app, new_rule, on_top, with_rule}
@@ -68,7 +68,7 @@ source_rules = long_flag (codes "map") ∷ long_flag (codes "record") ∷ long_f
 unfoldable pub line : App
 line =
     fold with_rule (fold with_rule (fold with_rule (fold with_rule (fold with_rule no_options recursion_rules) place_rules) name_rules) number_rules)
-        source_rules
+    source_rules
 
 -- what is found for each option
 unfoldable pub rows : List Text → List Row

@@ -1,6 +1,6 @@
 -- What the words order, or why they are refused: one function of the words.
-use Rattle.std.specs.Prelude.{◌≡◌, ◌⊎◌, ◌==◌, ℕ, length, option_and_then, Bool, true, false, not, ◌&&◌, ◌||◌, List, [], ◌∷◌, codes, Option, Some, None, is_some, is_none, unwrap_or, bytes_eq, option_map, Result, Ok, Err, MatchResult, if◌then◌else◌}
-use Rattle.std.specs.Option.{option_eq, option_map_or}
+use Rattle.std.specs.Prelude.{◌≡◌, ◌⊎◌, ℕ, option_and_then, Bool, true, false, not, ◌&&◌, ◌||◌, List, [], ◌∷◌, codes, Option, Some, None, is_some, unwrap_or, bytes_eq, option_map, Result, Ok, Err, MatchResult, if◌then◌else◌}
+use Rattle.std.specs.Option.{option_eq}
 use Rattle.clap.specs.Kinds.{Kinds}
 use Rattle.clap.specs.Walk.{Row, Text, first_of}
 use Rattle.clap.specs.declared.error.ErrorKind.{ErrorKind}
@@ -95,7 +95,7 @@ pub record Counts : Type 0 where
 unfoldable pub counts_of : List Row → Option Counts
 counts_of found =
     option_and_then (λ w. option_and_then (λ p. option_map (λ u. record { workers = w; per_host = p; max_urls = u })
-        (number_of (codes "max-urls") 1000000 100000 found)) (number_of (codes "per-host") 16 2 found)) (number_of (codes "workers") 64 4 found)
+    (number_of (codes "max-urls") 1000000 100000 found)) (number_of (codes "per-host") 16 2 found)) (number_of (codes "workers") 64 4 found)
 
 -- the start, or why it is no address
 unfoldable pub start_of : List Row → Result (List ℕ) AddressFault

@@ -11,3 +11,6 @@ mod read;
 pub use crate::fault::LineFault;
 pub use crate::order::{MAX_WORKERS, Order, Prefix, Source};
 pub use crate::read::read_order;
+
+#[cfg(test)]
+mod tests;

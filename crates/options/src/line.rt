@@ -38,7 +38,10 @@ fn add_long_flag<'a>(
 ) -> Result<Command<'a>, AllocError>
     ensures { IfOk result (λ c. app_of c ≡ with_rule (app_of command.entry) (spec.long_flag name.entry.now)) }
 {
-    add(command, Arg::new(alloc, name).long(name).action(ArgAction::SetTrue))
+    add(
+        command,
+        Arg::new(alloc, name).long(name).action(ArgAction::SetTrue),
+    )
 }
 
 fn add_option<'a>(
@@ -52,13 +55,22 @@ fn add_option<'a>(
     add(command, Arg::new(alloc, name).short(short).long(name))
 }
 
-fn add_long_option<'a>(command: Command<'a>, alloc: Global, name: &'a str) -> Result<Command<'a>, AllocError>
+fn add_long_option<'a>(
+    command: Command<'a>,
+    alloc: Global,
+    name: &'a str,
+) -> Result<Command<'a>, AllocError>
     ensures { IfOk result (λ c. app_of c ≡ with_rule (app_of command.entry) (spec.long_option name.entry.now)) }
 {
     add(command, Arg::new(alloc, name).long(name))
 }
 
-fn add_short_option<'a>(command: Command<'a>, alloc: Global, short: char, name: &'a str) -> Result<Command<'a>, AllocError>
+fn add_short_option<'a>(
+    command: Command<'a>,
+    alloc: Global,
+    short: char,
+    name: &'a str,
+) -> Result<Command<'a>, AllocError>
     ensures { IfOk result (λ c. app_of c ≡ with_rule (app_of command.entry) (spec.short_option short name.entry.now)) }
 {
     add(command, Arg::new(alloc, name).short(short))
@@ -173,7 +185,7 @@ fn command<'a>(alloc: Global) -> Result<Command<'a>, AllocError>
 pub(crate) fn parse<'a>(alloc: Global, words: &'a [&'a str]) -> Result<ArgMatches<'a>, Error>
     ensures { MatchResult result
         (λ m. (refusals (map (λ w. w.now) words.now) ≡ [])
-            × (rows_of (found_of m) ≡ rows (map (λ w. w.now) words.now)))
+        × (rows_of (found_of m) ≡ rows (map (λ w. w.now) words.now)))
         (HasKind (refusals (map (λ w. w.now) words.now))) }
 {
     command(alloc)?.try_get_matches_from(words)

@@ -94,7 +94,12 @@ fn read_counts(matches: &ArgMatches) -> Option<Counts>
 }
 
 // The elements of an option's list; `bad` where one is bad.
-fn elements<T: Element>(alloc: Global, matches: &ArgMatches, id: &str, bad: LineFault) -> Result<Elements<T>, LineFault>
+fn elements<T: Element>(
+    alloc: Global,
+    matches: &ArgMatches,
+    id: &str,
+    bad: LineFault,
+) -> Result<Elements<T>, LineFault>
     ensures { MatchResult result (λ es. list_of T.read_of id.now (rows_of (found_of matches.now)) ≡ Some es)
         (λ f. ((f ≡ bad) × (list_of T.read_of id.now (rows_of (found_of matches.now)) ≡ None)) ⊎ (f ≡ fault.Memory)) }
 {
@@ -106,7 +111,13 @@ fn elements<T: Element>(alloc: Global, matches: &ArgMatches, id: &str, bad: Line
 }
 
 // The elements of two options' lists; `bad` where one is bad.
-fn read_lists<T: Element>(alloc: Global, matches: &ArgMatches, id: &str, opposite: &str, bad: LineFault) -> Result<Lists<T>, LineFault>
+fn read_lists<T: Element>(
+    alloc: Global,
+    matches: &ArgMatches,
+    id: &str,
+    opposite: &str,
+    bad: LineFault,
+) -> Result<Lists<T>, LineFault>
     ensures { MatchResult result
         (λ l. both (list_of T.read_of id.now (rows_of (found_of matches.now))) (list_of T.read_of opposite.now (rows_of (found_of matches.now))) ≡ Some (l.given, l.excluded))
         (λ f. ((f ≡ bad) × (both (list_of T.read_of id.now (rows_of (found_of matches.now))) (list_of T.read_of opposite.now (rows_of (found_of matches.now))) ≡ None)) ⊎ (f ≡ fault.Memory)) }
@@ -137,7 +148,7 @@ fn page_of(read: Result<Address, AddressFault>) -> Result<Address, LineFault>
     ensures { MatchResult result
         (λ a. (read ≡ Ok a) × (is_robots_file a ≡ false))
         (λ f. ((a : List ℕ) × (read ≡ Ok a) × (is_robots_file a ≡ true) × (f ≡ fault.StartIsRobots))
-            ⊎ ((why : AddressFault) × (read ≡ Err why) × (why ≢ address_fault.Memory) × (f ≡ fault.Start why)) ⊎ (f ≡ fault.Memory)) }
+        ⊎ ((why : AddressFault) × (read ≡ Err why) × (why ≢ address_fault.Memory) × (f ≡ fault.Start why)) ⊎ (f ≡ fault.Memory)) }
 {
     match read {
         Ok(start) => {
@@ -197,15 +208,33 @@ fn order_of_matches(alloc: Global, matches: &ArgMatches) -> Result<Order, LineFa
     let Some(level) = level(matches) else {
         return Err(LineFault::Depth);
     };
-    let names: Lists<Pattern> = match read_lists(alloc, matches, "accept", "reject", LineFault::Pattern) {
+    let names: Lists<Pattern> = match read_lists(
+        alloc,
+        matches,
+        "accept",
+        "reject",
+        LineFault::Pattern,
+    ) {
         Ok(names) => names,
         Err(fault) => return Err(fault),
     };
-    let places: Lists<Directory> = match read_lists(alloc, matches, "include-directories", "exclude-directories", LineFault::Directory) {
+    let places: Lists<Directory> = match read_lists(
+        alloc,
+        matches,
+        "include-directories",
+        "exclude-directories",
+        LineFault::Directory,
+    ) {
         Ok(places) => places,
         Err(fault) => return Err(fault),
     };
-    let hosts: Lists<Domain> = match read_lists(alloc, matches, "domains", "exclude-domains", LineFault::Domain) {
+    let hosts: Lists<Domain> = match read_lists(
+        alloc,
+        matches,
+        "domains",
+        "exclude-domains",
+        LineFault::Domain,
+    ) {
         Ok(hosts) => hosts,
         Err(fault) => return Err(fault),
     };

@@ -1,6 +1,6 @@
 use Rattle.std.proofs.Common.{◌∙◌, codes}
 use Rattle.std.proofs.lemmas.Result.{IfOk-weaker}
-use Rattle.options.specs.Line.{flag, long_flag, option, long_option, short_option, number, start_rule}
+use Rattle.options.specs.Line.{number}
 use Rattle.options.proofs.LineLemmas.{with_same}
 use Rattle.options.proofs.line.add_numbers.Goals as goal
 
