@@ -1,0 +1,167 @@
+-- The order of what is found for each option, stage by stage.
+use Rattle.std.proofs.Common.{◌≡◌, ◌≢◌, subst, ◌⊎◌, ◌∙◌, ℕ, Bool, true, false, List, [], ◌∷◌, Some, None, if◌then◌else◌, codes, refl, sym, ap, inl, inr, ⊎_elim}
+use Rattle.std.specs.Prelude.{Result, Ok, Err, MatchResult}
+use Rattle.clap.specs.Walk.{Row, Text}
+use Rattle.clap.specs.Words.{IsAmong}
+use Rattle.clap.specs.declared.error.ErrorKind.{ErrorKind}
+use Rattle.clap.specs.declared.error.ErrorKind.TheVariants as kinds
+use Rattle.options.specs.declared.order.Order.{Order}
+use Rattle.address.specs.Address.{is_robots_file}
+use Rattle.address.specs.declared.fault.AddressFault.{AddressFault}
+use Rattle.address.specs.declared.fault.AddressFault.TheVariants as address_fault
+use Rattle.address.specs.Address.{Gives}
+use Rattle.options.specs.declared.fault.LineFault.{LineFault}
+use Rattle.options.specs.declared.fault.LineFault.TheVariants as fault
+use Rattle.options.specs.Line.{rows, refusals}
+use Rattle.follow_filters.specs.declared.limit.Limit.{Limit}
+use Rattle.options.specs.Given.{level_of, is_set}
+use Rattle.options.specs.declared.order.Source.{Source}
+use Rattle.options.specs.Order.{Ordered, Counts, start_of, started_at, StartsAt, FailsToStart, are_good, counts_of, patterns_of, directories_of, domains_of, order_of_rows, order_of, are_taken, words_refused, Answers, without_kind, fault_of_kind, limit_within, has_no_parent, honours_robots, source_of, prefix_of}
+
+pub starts-at : (found : List Row) (start : List ℕ) → start_of found ≡ Ok start → is_robots_file start ≡ false → StartsAt found start
+starts-at found start is page next =
+    ap (λ r. started_at r next) is ∙ ap (λ b. if b then Err fault.StartIsRobots else next start) page
+
+pub fails-robots : (found : List Row) (start : List ℕ) → start_of found ≡ Ok start → is_robots_file start ≡ true → FailsToStart found fault.StartIsRobots
+fails-robots found start is robots =
+    (refl, λ next. ap (λ r. started_at r next) is ∙ ap (λ b. if b then Err fault.StartIsRobots else next start) robots)
+
+pub fails-why : (found : List Row) (why : AddressFault) → start_of found ≡ Err why → FailsToStart found (fault.Start why)
+fails-why found why is = (refl, λ next. ap (λ r. started_at r next) is)
+
+-- ---- the stages of an order
+
+pub bad-words : (found : List Row) → are_good found ≡ false → order_of_rows found ≡ Err words_refused
+unfolding order_of_rows
+bad-words found words = rw words refl
+
+pub bad-counts : (found : List Row) → are_good found ≡ true → counts_of found ≡ None → order_of_rows found ≡ Err words_refused
+unfolding order_of_rows
+bad-counts found words counts = rw (words, counts) refl
+
+pub bad-level : (found : List Row) (n : Counts) → are_good found ≡ true → counts_of found ≡ Some n → level_of found ≡ None → order_of_rows found ≡ Err fault.Depth
+unfolding order_of_rows
+bad-level found n words counts level = rw (words, counts, level) refl
+
+pub bad-patterns : (found : List Row) (n : Counts) (l : Limit) → are_good found ≡ true → counts_of found ≡ Some n → level_of found ≡ Some l → patterns_of found ≡ None → order_of_rows found ≡ Err fault.Pattern
+unfolding order_of_rows
+bad-patterns found n l words counts level patterns = rw (words, counts, level, patterns) refl
+
+pub bad-directories : (found : List Row) (n : Counts) (l : Limit) (p : List (List ℕ) × List (List ℕ)) → are_good found ≡ true → counts_of found ≡ Some n → level_of found ≡ Some l → patterns_of found ≡ Some p → directories_of found ≡ None → order_of_rows found ≡ Err fault.Directory
+unfolding order_of_rows
+bad-directories found n l p words counts level patterns directories = rw (words, counts, level, patterns, directories) refl
+
+pub bad-domains : (found : List Row) (n : Counts) (l : Limit) (p d : List (List ℕ) × List (List ℕ)) → are_good found ≡ true → counts_of found ≡ Some n → level_of found ≡ Some l → patterns_of found ≡ Some p → directories_of found ≡ Some d → domains_of found ≡ None → order_of_rows found ≡ Err fault.Domain
+unfolding order_of_rows
+bad-domains found n l p d words counts level patterns directories domains = rw (words, counts, level, patterns, directories, domains) refl
+
+pub bad-start : (found : List Row) (n : Counts) (l : Limit) (p d h : List (List ℕ) × List (List ℕ)) (why : LineFault) → are_good found ≡ true → counts_of found ≡ Some n → level_of found ≡ Some l → patterns_of found ≡ Some p → directories_of found ≡ Some d → domains_of found ≡ Some h → FailsToStart found why → order_of_rows found ≡ Err why
+unfolding order_of_rows
+bad-start found n l p d h why words counts level patterns directories domains fails = rw (words, counts, level, patterns, directories, domains) (fails.1 _)
+
+-- the order of these parts
+abbrev pub filled : Counts → (p d h : List (List ℕ) × List (List ℕ)) → (start : List ℕ) (limit : Limit) (span_hosts no_parent robots : Bool) (source : Source) (trace : Bool) (prefix : List ℕ) → Result Ordered LineFault
+filled n p d h start limit span_hosts no_parent robots source trace prefix = Ok (record {
+  start = start;
+  limit = limit;
+  span_hosts = span_hosts;
+  no_parent = no_parent;
+  domains = h.0;
+  exclude_domains = h.1;
+  include_dirs = d.0;
+  exclude_dirs = d.1;
+  accept = p.0;
+  reject = p.1;
+  robots = robots;
+  max_urls = n.max_urls;
+  per_host = n.per_host;
+  workers = n.workers;
+  source = source;
+  trace = trace;
+  prefix = prefix;
+})
+
+pub good-order : (found : List Row) (n : Counts) (l : Limit) (p d h : List (List ℕ) × List (List ℕ)) (start : List ℕ) → are_good found ≡ true → counts_of found ≡ Some n → level_of found ≡ Some l → patterns_of found ≡ Some p → directories_of found ≡ Some d → domains_of found ≡ Some h → StartsAt found start → order_of_rows found ≡ filled n p d h start (limit_within l found) (is_set (codes "span-hosts") found) (has_no_parent found) (honours_robots found) (source_of found) (is_set (codes "trace") found) (prefix_of found)
+unfolding order_of_rows
+good-order found n l p d h start words counts level patterns directories domains starts = rw (words, counts, level, patterns, directories, domains) (starts _)
+
+-- parts that are equal fill equal orders
+pub filled-same : (n : Counts) (p d h : List (List ℕ) × List (List ℕ)) (start : List ℕ) (l l' : Limit) (s s' np np' r r' : Bool) (src src' : Source) (t t' : Bool) (x x' : List ℕ) → l' ≡ l → s' ≡ s → np' ≡ np → r' ≡ r → src' ≡ src → t' ≡ t → x' ≡ x → filled n p d h start l s np r src t x ≡ filled n p d h start l' s' np' r' src' t' x'
+filled-same n p d h start l l' s s' np np' r r' src src' t t' x x' e1 e2 e3 e4 e5 e6 e7 =
+    ap (λ v. filled n p d h start v s np r src t x) (sym e1)
+    ∙ ap (λ v. filled n p d h start l' v np r src t x) (sym e2)
+    ∙ ap (λ v. filled n p d h start l' s' v r src t x) (sym e3)
+    ∙ ap (λ v. filled n p d h start l' s' np' v src t x) (sym e4)
+    ∙ ap (λ v. filled n p d h start l' s' np' r' v t x) (sym e5)
+    ∙ ap (λ v. filled n p d h start l' s' np' r' src' v x) (sym e6)
+    ∙ ap (λ v. filled n p d h start l' s' np' r' src' t' v) (sym e7)
+
+-- ---- refused words
+
+no_kinds : (kind : ErrorKind) (kinds : List ErrorKind) → IsAmong kind kinds → are_taken kinds ≡ false
+no_kinds kind [] among = absurd among
+no_kinds kind (k ∷ kinds) among = refl
+
+pub order_of-refused : (words : List Text) (kind : ErrorKind) → IsAmong kind (refusals words) → order_of words ≡ Err words_refused
+unfolding order_of
+order_of-refused words kind among = rw (no_kinds kind (refusals words) among) refl
+
+pub order_of-taken : (words : List Text) (found : List Row) → refusals words ≡ [] → found ≡ rows words → order_of words ≡ order_of_rows found
+unfolding order_of
+order_of-taken words found none same = rw none (ap order_of_rows (sym same))
+
+-- ---- the start
+
+pub started : (found : List Row) (read : Result (List ℕ) AddressFault) (r : Result (List ℕ) LineFault) → Gives read (start_of found) → MatchResult r (λ a. (read ≡ Ok a) × (is_robots_file a ≡ false)) (λ f. ((a : List ℕ) × (read ≡ Ok a) × (is_robots_file a ≡ true) × (f ≡ fault.StartIsRobots)) ⊎ ((why : AddressFault) × (read ≡ Err why) × (why ≢ address_fault.Memory) × (f ≡ fault.Start why)) ⊎ (f ≡ fault.Memory)) → MatchResult r (λ a. StartsAt found a × (is_robots_file a ≡ false)) (λ f. FailsToStart found f ⊎ (f ≡ fault.Memory))
+started found read (Ok a) gives page =
+    let is : start_of found ≡ Ok a = rw page.0 at gives in
+    (starts-at found a is page.1, page.1)
+started found read (Err f) gives page =
+    ⊎_elim
+    (λ robots.
+    let is : start_of found ≡ Ok robots.0 = rw robots.1 at gives in
+    inl (subst (FailsToStart found) (sym robots.3) (fails-robots found robots.0 is robots.2)))
+    (λ rest. ⊎_elim
+    (λ bad.
+    let known : (start_of found ≡ Err bad.0) ⊎ (bad.0 ≡ address_fault.Memory) = rw bad.1 at gives in
+    ⊎_elim
+    (λ is. inl (subst (FailsToStart found) (sym bad.3) (fails-why found bad.0 is)))
+    (λ memory. absurd (bad.2 memory))
+    known)
+    (λ memory. inr memory)
+    rest)
+    page
+
+-- what a parse that succeeds answers
+pub answers-taken : (words : List Text) (found : List Row) (r : Result Order LineFault) → refusals words ≡ [] → found ≡ rows words → Answers r (order_of_rows found) → Answers r (order_of words)
+answers-taken words found r none same says = subst (Answers r) (sym (order_of-taken words found none same)) says
+
+-- the fault of a kind
+fault_kind : (kind : ErrorKind) → (without_kind (fault_of_kind kind) ≡ words_refused) ⊎ (kind ≡ kinds.OutOfMemory)
+fault_kind kinds.InvalidValue = inl refl
+fault_kind kinds.UnknownArgument = inl refl
+fault_kind kinds.InvalidSubcommand = inl refl
+fault_kind kinds.NoEquals = inl refl
+fault_kind kinds.ValueValidation = inl refl
+fault_kind kinds.TooManyValues = inl refl
+fault_kind kinds.TooFewValues = inl refl
+fault_kind kinds.WrongNumberOfValues = inl refl
+fault_kind kinds.ArgumentConflict = inl refl
+fault_kind kinds.MissingRequiredArgument = inl refl
+fault_kind kinds.MissingSubcommand = inl refl
+fault_kind kinds.DisplayHelp = inl refl
+fault_kind kinds.DisplayHelpOnMissingArgumentOrSubcommand = inl refl
+fault_kind kinds.DisplayVersion = inl refl
+fault_kind kinds.Io = inl refl
+fault_kind kinds.Format = inl refl
+fault_kind kinds.OutOfMemory = inr refl
+
+-- what a parse that fails answers
+pub answers-refused : (words : List Text) (kind : ErrorKind) (f : LineFault) → f ≡ fault_of_kind kind → (kind ≡ kinds.OutOfMemory) ⊎ IsAmong kind (refusals words) → (order_of words ≡ Err (without_kind f)) ⊎ (f ≡ fault.Memory)
+answers-refused words kind f is fails = ⊎_elim
+    (λ memory. inr (is ∙ ap fault_of_kind memory))
+    (λ among. ⊎_elim
+    (λ refused. inl (order_of-refused words kind among ∙ ap Err (sym (ap without_kind is ∙ refused))))
+    (λ memory. inr (is ∙ ap fault_of_kind memory))
+    (fault_kind kind))
+    fails

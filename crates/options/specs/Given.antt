@@ -1,0 +1,31 @@
+-- What is found for an option: flags, levels, numbers and lists.
+use Rattle.std.specs.Prelude.{ℕ, Bool, ◌&&◌, List, [], nat_lt, nat_le, codes, Option, Some, None, unwrap_or, bytes_eq, if◌then◌else◌}
+use Rattle.std.specs.Option.{option_eq, option_map_or}
+use Rattle.clap.specs.Walk.{Row, Text, first_of}
+use Rattle.follow_filters.specs.declared.limit.Limit.{Limit}
+use Rattle.follow_filters.specs.declared.limit.Limit.TheVariants.{AtMost}
+use Rattle.follow_filters.specs.Levels.{number_in, read_level}
+use Rattle.follow_filters.specs.Lists.{read_list}
+
+-- the flag is given
+abbrev pub is_set : Text → List Row → Bool
+is_set id found = option_eq bytes_eq (first_of id found) (Some (codes "true"))
+
+-- the limit that the option asks for, 5 where it isn't given; none where it is no level
+unfoldable pub level_of : List Row → Option Limit
+level_of found = option_map_or read_level (first_of (codes "level") found) (Some (AtMost 5))
+
+-- ---- numbers
+
+-- the number, from 1 to the most
+abbrev pub within : ℕ → Option ℕ → Option ℕ
+within most None = None
+within most (Some n) = if nat_lt 0 n && nat_le n most then Some n else None
+
+-- the number that an option gives, or the default where it isn't given; none where it is no number from 1 to the most
+unfoldable pub number_of : Text → ℕ → ℕ → List Row → Option ℕ
+number_of id most default found = option_map_or (λ text. within most (number_in text)) (first_of id found) (Some default)
+
+-- what the elements of an option's list read as; an option that isn't given has none
+unfoldable pub list_of : {X : Type 0} → (Text → Option X) → Text → List Row → Option (List X)
+list_of read id found = read_list read (unwrap_or (first_of id found) [])

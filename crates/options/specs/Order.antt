@@ -1,0 +1,220 @@
+-- What the words order, or why they are refused: one function of the words.
+use Rattle.std.specs.Prelude.{◌≡◌, ◌⊎◌, ℕ, option_and_then, Bool, true, false, not, ◌&&◌, ◌||◌, List, [], ◌∷◌, codes, Option, Some, None, is_some, unwrap_or, bytes_eq, option_map, Result, Ok, Err, MatchResult, if◌then◌else◌}
+use Rattle.std.specs.Option.{option_eq}
+use Rattle.clap.specs.Kinds.{Kinds}
+use Rattle.clap.specs.Walk.{Row, Text, first_of}
+use Rattle.clap.specs.declared.error.ErrorKind.{ErrorKind}
+use Rattle.clap.specs.declared.error.ErrorKind.TheVariants.{InvalidValue, OutOfMemory}
+use Rattle.address.specs.Address.{read_address, is_robots_file}
+use Rattle.address.specs.declared.fault.AddressFault.{AddressFault}
+use Rattle.follow_filters.specs.declared.limit.Limit.{Limit}
+use Rattle.follow_filters.specs.declared.limit.Limit.TheVariants.{AtMost}
+use Rattle.follow_filters.specs.Domains.{read_domain}
+use Rattle.follow_filters.specs.Directories.{read_directory}
+use Rattle.follow_filters.specs.Patterns.{read_element}
+use Rattle.options.specs.declared.order.Source.{Source}
+use Rattle.options.specs.declared.order.Source.TheVariants.{Map, Recorded, Live}
+use Rattle.options.specs.declared.order.Order.{Order}
+use Rattle.options.specs.declared.fault.LineFault.{LineFault}
+use Rattle.options.specs.declared.fault.LineFault.TheVariants as fault
+use Rattle.options.specs.Line.{rows, refusals}
+use Rattle.options.specs.Given.{is_set, level_of, number_of, list_of}
+
+-- ---- words that `clap` takes and that are refused all the same
+
+-- `-n` isn't given, or its value is `p`
+abbrev pub is_parent_value : Option Text → Bool
+is_parent_value None = true
+is_parent_value (Some value) = bytes_eq value (codes "p")
+
+-- `-e` isn't given, or its value is `robots=off` or `robots=on`
+abbrev pub is_robots_value : Option Text → Bool
+is_robots_value None = true
+is_robots_value (Some value) = bytes_eq value (codes "robots=off") || bytes_eq value (codes "robots=on")
+
+-- `-n` and `-e` have values that they may have, and `-np` doesn't stand beside `--no-parent`, which is the same option
+unfoldable pub are_good : List Row → Bool
+are_good found =
+    is_parent_value (first_of (codes "n") found)
+    && not (is_some (first_of (codes "n") found) && is_set (codes "no-parent") found)
+    && is_robots_value (first_of (codes "execute") found)
+
+-- ---- the order
+
+-- what an order says, field by field
+pub record Ordered : Type 0 where
+  pub start : List ℕ
+  pub limit : Limit
+  pub span_hosts : Bool
+  pub no_parent : Bool
+  pub domains : List (List ℕ)
+  pub exclude_domains : List (List ℕ)
+  pub include_dirs : List (List ℕ)
+  pub exclude_dirs : List (List ℕ)
+  pub accept : List (List ℕ)
+  pub reject : List (List ℕ)
+  pub robots : Bool
+  pub max_urls : ℕ
+  pub per_host : ℕ
+  pub workers : ℕ
+  pub source : Source
+  pub trace : Bool
+  pub prefix : List ℕ
+
+-- the value that was found, or the fault, and what follows from it
+abbrev pub found_or : {X Y : Type 0} → Option X → LineFault → (X → Result Y LineFault) → Result Y LineFault
+found_or None unless next = Err unless
+found_or (Some x) unless next = next x
+
+-- both values, where both were found
+abbrev pub both : {X Y : Type 0} → Option X → Option Y → Option (X × Y)
+both None second = None
+both (Some x) None = None
+both (Some x) (Some y) = Some (x, y)
+
+-- the patterns of the accept and the reject list
+unfoldable pub patterns_of : List Row → Option (List (List ℕ) × List (List ℕ))
+patterns_of found = both (list_of read_element (codes "accept") found) (list_of read_element (codes "reject") found)
+
+-- the directories that are included and excluded
+unfoldable pub directories_of : List Row → Option (List (List ℕ) × List (List ℕ))
+directories_of found =
+    both (list_of read_directory (codes "include-directories") found) (list_of read_directory (codes "exclude-directories") found)
+
+-- the domains that are followed and excluded
+unfoldable pub domains_of : List Row → Option (List (List ℕ) × List (List ℕ))
+domains_of found = both (list_of read_domain (codes "domains") found) (list_of read_domain (codes "exclude-domains") found)
+
+-- the numbers of workers, requests out to a host, and addresses
+pub record Counts : Type 0 where
+  pub workers : ℕ
+  pub per_host : ℕ
+  pub max_urls : ℕ
+
+-- these numbers, 4, 2 and 100,000 where they aren't given
+unfoldable pub counts_of : List Row → Option Counts
+counts_of found =
+    option_and_then (λ w. option_and_then (λ p. option_map (λ u. record { workers = w; per_host = p; max_urls = u })
+    (number_of (codes "max-urls") 1000000 100000 found)) (number_of (codes "per-host") 16 2 found)) (number_of (codes "workers") 64 4 found)
+
+-- the start, or why it is no address
+unfoldable pub start_of : List Row → Result (List ℕ) AddressFault
+start_of found = read_address (unwrap_or (first_of (codes "start") found) [])
+
+-- the start, and what follows from it
+abbrev pub started_at : {Y : Type 0} → Result (List ℕ) AddressFault → (List ℕ → Result Y LineFault) → Result Y LineFault
+started_at (Err why) next = Err (fault.Start why)
+started_at (Ok start) next = if is_robots_file start then Err fault.StartIsRobots else next start
+
+-- where the site is: a map before a record, and the network where neither is asked for
+abbrev pub source_of : List Row → Source
+source_of found = if is_set (codes "map") found then Map else (if is_set (codes "record") found then Recorded else Live)
+
+-- `-np` or `--no-parent` is given
+abbrev pub has_no_parent : List Row → Bool
+has_no_parent found = is_some (first_of (codes "n") found) || is_set (codes "no-parent") found
+
+-- robots files are turned off
+abbrev pub has_robots_off : List Row → Bool
+has_robots_off found = option_eq bytes_eq (first_of (codes "execute") found) (Some (codes "robots=off"))
+
+-- robots files are honoured: links are followed, and they aren't turned off
+abbrev pub honours_robots : List Row → Bool
+honours_robots found = is_set (codes "recursive") found && not (has_robots_off found)
+
+-- the limit of the level, or no hop where links aren't followed
+abbrev pub limit_within : Limit → List Row → Limit
+limit_within level found = if is_set (codes "recursive") found then level else AtMost 0
+
+-- the folder below which files are put, `.` where none is given
+abbrev pub prefix_of : List Row → List ℕ
+prefix_of found = unwrap_or (first_of (codes "directory-prefix") found) (codes ".")
+
+-- words that are refused, of whatever kind
+abbrev pub words_refused : LineFault
+words_refused = fault.Words InvalidValue
+
+-- what the options order, or the lowest fault; without `-r` no link is followed and no robots file is honoured
+unfoldable pub order_of_rows : List Row → Result Ordered LineFault
+order_of_rows found =
+    if not (are_good found) then Err words_refused
+    else found_or (counts_of found) words_refused (λ counts.
+    found_or (level_of found) fault.Depth (λ level.
+    found_or (patterns_of found) fault.Pattern (λ patterns.
+    found_or (directories_of found) fault.Directory (λ directories.
+    found_or (domains_of found) fault.Domain (λ domains.
+    started_at (start_of found) (λ start. Ok (record {
+      start = start;
+      limit = limit_within level found;
+      span_hosts = is_set (codes "span-hosts") found;
+      no_parent = has_no_parent found;
+      domains = domains.0;
+      exclude_domains = domains.1;
+      include_dirs = directories.0;
+      exclude_dirs = directories.1;
+      accept = patterns.0;
+      reject = patterns.1;
+      robots = honours_robots found;
+      max_urls = counts.max_urls;
+      per_host = counts.per_host;
+      workers = counts.workers;
+      source = source_of found;
+      trace = is_set (codes "trace") found;
+      prefix = prefix_of found;
+    })))))))
+
+-- words with no kind of refusal are taken
+abbrev pub are_taken : Kinds → Bool
+are_taken [] = true
+are_taken (kind ∷ kinds) = false
+
+-- what the words order, or the lowest fault
+unfoldable pub order_of : List Text → Result Ordered LineFault
+order_of words = if are_taken (refusals words) then order_of_rows (rows words) else Err words_refused
+
+-- ---- what `read_order` answers
+
+-- what an order says
+abbrev pub said_by : Order → Ordered
+said_by order = record {
+  start = order.plan.start;
+  limit = order.plan.limit;
+  span_hosts = order.plan.span_hosts;
+  no_parent = order.plan.no_parent;
+  domains = order.plan.domains;
+  exclude_domains = order.plan.exclude_domains;
+  include_dirs = order.plan.include_dirs;
+  exclude_dirs = order.plan.exclude_dirs;
+  accept = order.plan.accept;
+  reject = order.plan.reject;
+  robots = order.plan.robots;
+  max_urls = order.plan.max_urls;
+  per_host = order.plan.per_host;
+  workers = order.workers;
+  source = order.source;
+  trace = order.trace;
+  prefix = order.prefix;
+}
+
+-- the fault, but for the kind of refused words
+abbrev pub without_kind : LineFault → LineFault
+without_kind (fault.Words kind) = words_refused
+without_kind other = other
+
+-- the result is the expected order, or the expected fault, unless memory ran out
+abbrev pub Answers : Result Order LineFault → Result Ordered LineFault → Type 0
+Answers result expected =
+    MatchResult result (λ order. expected ≡ Ok (said_by order)) (λ f. (expected ≡ Err (without_kind f)) ⊎ (f ≡ fault.Memory))
+
+-- the options start at this address
+abbrev pub StartsAt : List Row → List ℕ → Type 0
+StartsAt found start = (next : List ℕ → Result Ordered LineFault) → started_at (start_of found) next ≡ next start
+
+-- the options start nowhere, for this fault
+abbrev pub FailsToStart : List Row → LineFault → Type 0
+FailsToStart found why = (without_kind why ≡ why) × ((next : List ℕ → Result Ordered LineFault) → started_at (start_of found) next ≡ Err why)
+
+-- want of memory, or the kind of what is wrong with the words
+abbrev pub fault_of_kind : ErrorKind → LineFault
+fault_of_kind OutOfMemory = fault.Memory
+fault_of_kind kind = fault.Words kind

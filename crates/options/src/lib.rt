@@ -1,0 +1,16 @@
+//! The command line of the retriever: words in, an order or the lowest fault out. What an order is
+//! stands in `specs/Order.antt`.
+#![tactic(auto)]
+
+mod fault;
+mod given;
+mod line;
+mod order;
+mod read;
+
+pub use crate::fault::LineFault;
+pub use crate::order::{MAX_WORKERS, Order, Prefix, Source};
+pub use crate::read::read_order;
+
+#[cfg(test)]
+mod tests;

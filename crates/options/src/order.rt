@@ -1,0 +1,70 @@
+//! What the words order.
+ghost use Rattle.std.specs.Prelude.{◌≡◌, ◌<◌, ◌≤◌, IfOk};
+
+use follow_filters::Plan;
+use std::alloc::{AllocError, Global};
+use std::marker::Model;
+
+/// The most workers of a retrieval.
+pub const MAX_WORKERS: u32 = 64;
+
+/// Where the site is.
+#[derive(Clone, Copy, PartialEq, Eq, Debug)]
+pub enum Source {
+    /// A map of it stands on standard input.
+    Map,
+    /// A record of it stands on standard input.
+    Recorded,
+    /// On the network.
+    Live,
+}
+
+/// The folder below which files are put, as `.`.
+#[derive(Drop)]
+pub struct Prefix {
+    path: String,
+}
+
+// Contracts see the folder as its path.
+impl Model for Prefix {
+    ghost use Rattle.std.specs.Prelude.{List, ℕ};
+    ghost use Rattle.std.specs.String.{string_bytes};
+
+    ghost Value = { List ℕ };
+
+    ghost view = { λ p. string_bytes p.path };
+}
+
+impl Prefix {
+    pub(crate) fn of(alloc: Global, path: &str) -> Result<Prefix, AllocError>
+        ensures { IfOk result (λ prefix. prefix ≡ path.now) }
+    {
+        Ok(Prefix {
+            path: String::from_str(alloc, path)?,
+        })
+    }
+
+    /// The path of the folder, as it was given. Takes no memory.
+    pub fn as_str(&self) -> &str
+        ensures { result.now ≡ self.now }
+    {
+        self.path.as_str()
+    }
+}
+
+/// What to retrieve, from where, and what to do with it.
+#[derive(Drop)]
+pub struct Order {
+    /// What is retrieved.
+    pub plan: Plan,
+    /// How many workers retrieve it, 1 to 64.
+    pub workers: u32,
+    /// Where the site is.
+    pub source: Source,
+    /// Whether the trace is shown before the report.
+    pub trace: bool,
+    /// The folder below which files are put.
+    pub prefix: Prefix,
+    pub ghost some_workers: { 0 < workers },
+    pub ghost workers_in_range: { workers ≤ 64 },
+}

@@ -1,0 +1,306 @@
+//! Words are read as an order, or refused by the lowest fault.
+ghost use Rattle.std.specs.Prelude.{◌≡◌, ◌≢◌, ◌⊎◌, ℕ, List, true, ◌<◌, ◌≤◌, false, not, is_none, option_map, if◌then◌else◌, Some, None, Ok, Err, map, IfOk, MatchOption, MatchResult};
+ghost use Rattle.clap.specs.Words.{found_of, rows_of, first_of, kind_of};
+ghost use Rattle.address.specs.Address as address;
+ghost use Rattle.address.specs.Address.{is_robots_file};
+ghost use Rattle.address.specs.declared.fault.AddressFault.{AddressFault};
+ghost use Rattle.address.specs.declared.fault.AddressFault.TheVariants as address_fault;
+ghost use Rattle.options.specs.declared.fault.LineFault.TheVariants as fault;
+ghost use Rattle.follow_filters.specs.Limits.{is_in_range};
+ghost use Rattle.follow_filters.specs.declared.limit.Limit.TheVariants.{AtMost};
+ghost use Rattle.options.specs.Given.{level_of, list_of};
+ghost use Rattle.options.specs.Order.{Answers, order_of, order_of_rows, are_good, is_parent_value, is_robots_value, both, counts_of, start_of, StartsAt, FailsToStart, source_of, has_no_parent, has_robots_off, honours_robots, limit_within, prefix_of, fault_of_kind};
+
+use crate::fault::LineFault;
+use crate::given::{given, is_set, level, list, number};
+use crate::line::parse;
+use crate::order::{Order, Prefix, Source};
+use address::{Address, AddressFault};
+use clap::error::ErrorKind;
+use clap::{ArgMatches, Error};
+use follow_filters::{Directory, Domain, Element, ElementFault, Elements, Limit, Pattern, Plan};
+use std::alloc::{AllocError, Global};
+
+// The numbers of workers, requests out to a host, and addresses.
+#[derive(Drop)]
+struct Counts {
+    workers: u32,
+    per_host: u32,
+    max_urls: u32,
+    ghost some_workers: { 0 < workers },
+    ghost workers_in_range: { workers ≤ 64 },
+    ghost some_per_host: { 0 < per_host },
+    ghost per_host_in_range: { per_host ≤ 16 },
+    ghost some_urls: { 0 < max_urls },
+    ghost max_urls_in_range: { max_urls ≤ 1000000 },
+}
+
+// The lists of an option and of its opposite.
+#[derive(Drop)]
+struct Lists<T> {
+    given: Elements<T>,
+    excluded: Elements<T>,
+}
+
+// Whether the value of `-n` is one that it may have.
+fn is_parent_value(value: Option<&str>) -> bool
+    ensures { result ≡ is_parent_value (option_map (λ s. s.now) value.entry) }
+{
+    match value {
+        Some(value) => value == "p",
+        None => true,
+    }
+}
+
+// Whether the value of `-e` is one that it may have.
+fn is_robots_value(value: Option<&str>) -> bool
+    ensures { result ≡ is_robots_value (option_map (λ s. s.now) value.entry) }
+{
+    match value {
+        Some(value) => value == "robots=off" || value == "robots=on",
+        None => true,
+    }
+}
+
+// What is wrong with words that `clap` takes: `-np` stands beside `--no-parent`, which is the same
+// option, or `-n` or `-e` has another value than it may have.
+#[tactic(auto, unfolding(crate::specs::Order::are_good))]
+fn word_fault(matches: &ArgMatches) -> Option<ErrorKind>
+    ensures { is_none result ≡ are_good (rows_of (found_of matches.now)) }
+{
+    let n = given(matches, "n");
+    if !is_parent_value(n) {
+        return Some(ErrorKind::InvalidValue);
+    }
+    if n.is_some() && is_set(matches, "no-parent") {
+        return Some(ErrorKind::ArgumentConflict);
+    }
+    if !is_robots_value(given(matches, "execute")) {
+        return Some(ErrorKind::InvalidValue);
+    }
+    None
+}
+
+#[tactic(auto, unfolding(crate::specs::Order::counts_of))]
+fn read_counts(matches: &ArgMatches) -> Option<Counts>
+    ensures { MatchOption result (counts_of (rows_of (found_of matches.now)) ≡ None)
+        (λ c. counts_of (rows_of (found_of matches.now)) ≡ Some (record { workers = c.workers; per_host = c.per_host; max_urls = c.max_urls })) }
+{
+    Some(Counts {
+        workers: number(matches, "workers", 64, 4)?,
+        per_host: number(matches, "per-host", 16, 2)?,
+        max_urls: number(matches, "max-urls", 1_000_000, 100_000)?,
+    })
+}
+
+// The elements of an option's list; `bad` where one is bad.
+fn elements<T: Element>(
+    alloc: Global,
+    matches: &ArgMatches,
+    id: &str,
+    bad: LineFault,
+) -> Result<Elements<T>, LineFault>
+    ensures { MatchResult result (λ es. list_of T.read_of id.now (rows_of (found_of matches.now)) ≡ Some es)
+        (λ f. ((f ≡ bad) × (list_of T.read_of id.now (rows_of (found_of matches.now)) ≡ None)) ⊎ (f ≡ fault.Memory)) }
+{
+    match list(alloc, matches, id) {
+        Ok(elements) => Ok(elements),
+        Err(ElementFault::Bad) => Err(bad),
+        Err(ElementFault::Memory) => Err(LineFault::Memory),
+    }
+}
+
+// The elements of two options' lists; `bad` where one is bad.
+fn read_lists<T: Element>(
+    alloc: Global,
+    matches: &ArgMatches,
+    id: &str,
+    opposite: &str,
+    bad: LineFault,
+) -> Result<Lists<T>, LineFault>
+    ensures { MatchResult result
+        (λ l. both (list_of T.read_of id.now (rows_of (found_of matches.now))) (list_of T.read_of opposite.now (rows_of (found_of matches.now))) ≡ Some (l.given, l.excluded))
+        (λ f. ((f ≡ bad) × (both (list_of T.read_of id.now (rows_of (found_of matches.now))) (list_of T.read_of opposite.now (rows_of (found_of matches.now))) ≡ None)) ⊎ (f ≡ fault.Memory)) }
+{
+    let given = elements(alloc, matches, id, bad)?;
+    let excluded = elements(alloc, matches, opposite, bad)?;
+    Ok(Lists { given, excluded })
+}
+
+// The start, which is an address and no robots file.
+fn start(alloc: Global, matches: &ArgMatches) -> Result<Address, LineFault>
+    ensures { MatchResult result
+        (λ a. StartsAt (rows_of (found_of matches.now)) a × (is_robots_file a ≡ false))
+        (λ f. FailsToStart (rows_of (found_of matches.now)) f ⊎ (f ≡ fault.Memory)) }
+{
+    page_of(read_start(alloc, matches))
+}
+
+#[tactic(auto, unfolding(crate::specs::Order::start_of))]
+fn read_start(alloc: Global, matches: &ArgMatches) -> Result<Address, AddressFault>
+    ensures { address.Gives result (start_of (rows_of (found_of matches.now))) }
+{
+    Address::read(alloc, given(matches, "start").unwrap_or(""))
+}
+
+// The address, unless it is a robots file or why there is none.
+fn page_of(read: Result<Address, AddressFault>) -> Result<Address, LineFault>
+    ensures { MatchResult result
+        (λ a. (read ≡ Ok a) × (is_robots_file a ≡ false))
+        (λ f. ((a : List ℕ) × (read ≡ Ok a) × (is_robots_file a ≡ true) × (f ≡ fault.StartIsRobots))
+        ⊎ ((why : AddressFault) × (read ≡ Err why) × (why ≢ address_fault.Memory) × (f ≡ fault.Start why)) ⊎ (f ≡ fault.Memory)) }
+{
+    match read {
+        Ok(start) => {
+            if start.is_robots_file() {
+                return Err(LineFault::StartIsRobots);
+            }
+            Ok(start)
+        }
+        Err(AddressFault::Memory) => Err(LineFault::Memory),
+        Err(why) => Err(LineFault::Start(why)),
+    }
+}
+
+fn source(matches: &ArgMatches) -> Source
+    ensures { result ≡ source_of (rows_of (found_of matches.now)) }
+{
+    if is_set(matches, "map") {
+        Source::Map
+    } else if is_set(matches, "record") {
+        Source::Recorded
+    } else {
+        Source::Live
+    }
+}
+
+fn has_no_parent(matches: &ArgMatches) -> bool
+    ensures { result ≡ has_no_parent (rows_of (found_of matches.now)) }
+{
+    given(matches, "n").is_some() || is_set(matches, "no-parent")
+}
+
+fn has_robots_off(matches: &ArgMatches) -> bool
+    ensures { result ≡ has_robots_off (rows_of (found_of matches.now)) }
+{
+    given(matches, "execute") == Some("robots=off")
+}
+
+fn fault_of(error: &Error) -> LineFault
+    ensures { result ≡ fault_of_kind (kind_of error.now) }
+{
+    match error.kind() {
+        ErrorKind::OutOfMemory => LineFault::Memory,
+        kind => LineFault::Words(kind),
+    }
+}
+
+// The order of what is found for each option, or the lowest fault.
+fn order_of_matches(alloc: Global, matches: &ArgMatches) -> Result<Order, LineFault>
+    ensures { Answers result (order_of_rows (rows_of (found_of matches.now))) }
+{
+    if let Some(kind) = word_fault(matches) {
+        return Err(LineFault::Words(kind));
+    }
+    let Some(counts) = read_counts(matches) else {
+        return Err(LineFault::Words(ErrorKind::InvalidValue));
+    };
+    let Some(level) = level(matches) else {
+        return Err(LineFault::Depth);
+    };
+    let names: Lists<Pattern> = match read_lists(
+        alloc,
+        matches,
+        "accept",
+        "reject",
+        LineFault::Pattern,
+    ) {
+        Ok(names) => names,
+        Err(fault) => return Err(fault),
+    };
+    let places: Lists<Directory> = match read_lists(
+        alloc,
+        matches,
+        "include-directories",
+        "exclude-directories",
+        LineFault::Directory,
+    ) {
+        Ok(places) => places,
+        Err(fault) => return Err(fault),
+    };
+    let hosts: Lists<Domain> = match read_lists(
+        alloc,
+        matches,
+        "domains",
+        "exclude-domains",
+        LineFault::Domain,
+    ) {
+        Ok(hosts) => hosts,
+        Err(fault) => return Err(fault),
+    };
+    let page = match start(alloc, matches) {
+        Ok(page) => page,
+        Err(fault) => return Err(fault),
+    };
+    let Ok(prefix) = prefix(alloc, matches) else {
+        return Err(LineFault::Memory);
+    };
+    Ok(Order {
+        plan: Plan {
+            start: page,
+            limit: limit_within(matches, level),
+            span_hosts: is_set(matches, "span-hosts"),
+            no_parent: has_no_parent(matches),
+            domains: hosts.given,
+            exclude_domains: hosts.excluded,
+            include_dirs: places.given,
+            exclude_dirs: places.excluded,
+            accept: names.given,
+            reject: names.excluded,
+            robots: honours_robots(matches),
+            max_urls: counts.max_urls,
+            per_host: counts.per_host,
+        },
+        workers: counts.workers,
+        source: source(matches),
+        trace: is_set(matches, "trace"),
+        prefix,
+    })
+}
+
+// The limit of the level, or no hop where links aren't followed.
+fn limit_within(matches: &ArgMatches, level: Limit) -> Limit
+    requires { is_in_range level ≡ true }
+    ensures value { result ≡ limit_within level (rows_of (found_of matches.now)) }
+    ensures in_range { is_in_range result ≡ true }
+{
+    if is_set(matches, "recursive") {
+        level
+    } else {
+        Limit::AtMost(0)
+    }
+}
+
+fn honours_robots(matches: &ArgMatches) -> bool
+    ensures { result ≡ honours_robots (rows_of (found_of matches.now)) }
+{
+    is_set(matches, "recursive") && !has_robots_off(matches)
+}
+
+// The folder below which files are put.
+fn prefix(alloc: Global, matches: &ArgMatches) -> Result<Prefix, AllocError>
+    ensures { IfOk result (λ p. p ≡ prefix_of (rows_of (found_of matches.now))) }
+{
+    Prefix::of(alloc, given(matches, "directory-prefix").unwrap_or("."))
+}
+
+/// Reads the words of a command line, without the program's name. Of several faults the lowest is
+/// named, in the order of `LineFault`, want of memory aside.
+pub fn read_order(alloc: Global, words: &[&str]) -> Result<Order, LineFault>
+    ensures { Answers result (order_of (map (λ w. w.now) words.now)) }
+{
+    match parse(alloc, words) {
+        Ok(matches) => order_of_matches(alloc, &matches),
+        Err(error) => Err(fault_of(&error)),
+    }
+}
