@@ -1,9 +1,12 @@
 -- What is handed on of a body, from the buffer.
-use Rattle.std.proofs.Common.{◌≡◌, ℕ, ◌+◌, ◌-◌, ◌<◌, ◌≤◌, List, [], ◌∷◌, ◌++◌, length, take, drop, refl, sym, ap, ◌∙◌, subst, arith, append_assoc, append-nil, length-append, length-take, Option, Some, None}
+use Rattle.std.proofs.Common.{◌≢◌, ◌⊎◌, inl, inr, ◌≡◌, ℕ, ◌+◌, ◌-◌, ◌<◌, ◌≤◌, List, [], ◌∷◌, ◌++◌, length, take, drop, refl, sym, ap, ◌∙◌, subst, arith, append_assoc, append-nil, length-append, length-take, Option, Some, None}
 use Rattle.std.proofs.lemmas.List.{take-append-drop, length-take-le}
 use Rattle.std.specs.Io.KnownBytes.{Consumes, IsAtEnd, prepend_known}
-use Rattle.response_reader.specs.Wire.{Tells, Told}
-use Rattle.response_reader.specs.Passes.{Passed, Passes}
+use Rattle.response_reader.specs.Wire.{Tells, OfBytes}
+use Rattle.response_reader.specs.Passes.{Adds, Passed, PassedFront, Passes}
+use Rattle.response_reader.specs.Fields.{HeadParts}
+use Rattle.response_reader.specs.declared.fault.ReadFault.{ReadFault}
+use Rattle.response_reader.specs.declared.fault.ReadFault.TheVariants.{Device, Memory}
 use Rattle.response_reader.proofs.WireLemmas.{consumes_trans, consumes_same, ahead_used, tells_before}
 
 -- with nothing unread, the end of the wire is the end
@@ -49,7 +52,7 @@ passed_more a b c First Second Both m n join x y = record {
 }
 
 pub told_short : (a b : Option (List ℕ)) (Adds : List ℕ → Type 0) (m len : ℕ) → Passed a b Adds m → IsAtEnd b → m < len
-    → Told a (λ bytes. length bytes < len)
+    → OfBytes a (λ bytes. length bytes < len)
 told_short a b Adds m len x end short =
     (x.piece ++ [], tells_before a b x.piece [] x.bytes (tells_end b end),
      omega (arith, append-nil x.piece, ap (λ (l : List ℕ). length l) (append-nil x.piece), x.count_is))
@@ -59,11 +62,19 @@ told_short a b Adds m len x end short =
     tells_end (Some z) e = e
 
 -- what a sink took, and took again, it took in a row
-pub adds_join : (H : Type 0) (T U V : H → List ℕ → Type 0) (p q : List ℕ)
-    → ((h : H) (body : List ℕ) → T h body → U h (body ++ p)) → ((h : H) (body : List ℕ) → U h body → V h (body ++ q))
-    → (h : H) (body : List ℕ) → T h body → V h (body ++ (p ++ q))
-adds_join H T U V p q first second h body t =
-    subst (λ (l : List ℕ). V h l) (append_assoc body p q) (second h (body ++ p) (first h body t))
+pub adds_join : (T U V : Option HeadParts → List ℕ → Type 0) (p q : List ℕ) → Adds T U p → Adds U V q → Adds T V (p ++ q)
+adds_join T U V p q first second h body t =
+    subst (λ (l : List ℕ). V (Some h) l) (append_assoc body p q) (second h (body ++ p) (first h body t))
+
+-- a sink that took nothing
+pub adds_none : (T : Option HeadParts → List ℕ → Type 0) → Adds T T []
+adds_none T h body t = subst (λ (l : List ℕ). T (Some h) l) (sym (append-nil body)) t
+
+-- one more step
+pub passed_step : (a b c : Option (List ℕ)) (T U V : Option HeadParts → List ℕ → Type 0) (m n k : ℕ) → m + n ≡ k
+    → Passed a b (Adds T U) m → Passed b c (Adds U V) n → Passed a c (Adds T V) k
+passed_step a b c T U V m n k e x y =
+    subst (λ (i : ℕ). Passed a c (Adds T V) i) e (passed_more a b c (Adds T U) (Adds U V) (Adds T V) m n (adds_join T U V) x y)
 
 -- the bytes of a wire, or some where they aren't known
 pub told_some : (o : Option (List ℕ)) → (bytes : List ℕ) × Tells o bytes
@@ -72,8 +83,23 @@ told_some (Some x) = (x, refl)
 
 -- what was handed on is a part of what was ahead
 pub told_long : (a b : Option (List ℕ)) (Adds : List ℕ → Type 0) (m most : ℕ) → Passed a b Adds m → most < m
-    → Told a (λ bytes. most < length bytes)
+    → OfBytes a (λ bytes. most < length bytes)
 told_long a b Adds m most x long =
     let later = told_some b in
     (x.piece ++ later.0, tells_before a b x.piece later.0 x.bytes later.1,
      omega (arith, length-append x.piece later.0, x.count_is))
+
+-- what was handed on is a front of what was ahead
+pub told_front : (a b : Option (List ℕ)) (P : List ℕ → Type 0) (m most : ℕ) → Passed a b P m → m ≤ most → OfBytes a (PassedFront P most)
+told_front a b P m most x few =
+    let later = told_some b in
+    (x.piece ++ later.0, tells_before a b x.piece later.0 x.bytes later.1,
+     record { piece = x.piece; more = later.0; text = refl; few = omega (arith, x.count_is); adds = x.adds })
+
+-- what was handed on where a step failed, which left the sink as it was unless memory ran out
+pub handed_err : (S : Type 0) (took : S → Option HeadParts → List ℕ → Type 0) (first now last : S) (a b : Option (List ℕ)) (m most : ℕ) (f : ReadFault)
+    → Passed a b (Adds (took first) (took now)) m → m ≤ most → (f ≡ Device) ⊎ (f ≡ Memory) → (f ≡ Device → last ≡ now) → f ≢ Memory
+    → OfBytes a (PassedFront (Adds (took first) (took last)) most)
+handed_err S took first now last a b m most f x few (inl is) kept ne =
+    told_front a b (Adds (took first) (took last)) m most (subst (λ (s : S). Passed a b (Adds (took first) (took s)) m) (sym (kept is)) x) few
+handed_err S took first now last a b m most f x few (inr is) kept ne = absurd (ne is)

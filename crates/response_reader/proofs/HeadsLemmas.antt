@@ -2,7 +2,7 @@
 use Rattle.std.proofs.Common.{◌≡◌, ℕ, ◌+◌, ◌<◌, ◌≤◌, ◌⊎◌, List, [], ◌∷◌, ◌++◌, length, refl, sym, ap, ◌∙◌, subst, arith, inl, inr, append_assoc, append-nil}
 use Rattle.httparse.specs.Grammar.{ResponseHead, ReadsResponse, HasNoResponse, NeverHasResponse, status_code}
 use Rattle.httparse.proofs.GrammarLemmas.{response_unique, ReadsResponse-append}
-use Rattle.response_reader.specs.Heads.{IsInterimStatus, IsRefusedStatus, IsInterim, ReadsInterims, IsHeadDue, ReadsHeads, HasBadHead, LacksHeads}
+use Rattle.response_reader.specs.Heads.{IsInterimStatus, IsRefusedStatus, IsInterim, ReadsInterims, IsHeadDue, ReadsHeads, HasBadHead}
 
 -- no interim head begins the text
 pub record HasNoInterim (text : List ℕ) : Type 0 where
@@ -55,6 +55,10 @@ no_interim_never text never = record { none = λ h rest x interim. never h rest 
 
 pub never_is_none : (text : List ℕ) → NeverHasResponse text → HasNoResponse text
 never_is_none text never h rest x = never [] h rest (subst (λ (t : List ℕ). ReadsResponse t h rest) (sym (append-nil text)) x)
+
+-- the bytes don't begin with whole heads within the limits
+abbrev pub LacksHeads : List ℕ → Type 0
+LacksHeads bytes = (h : ResponseHead) (after : List ℕ) → ReadsHeads bytes h after → ⊥
 
 -- a text with a bad head has no heads
 pub bad_head_lacks : (bytes : List ℕ) → HasBadHead bytes → LacksHeads bytes

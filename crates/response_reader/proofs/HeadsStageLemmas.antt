@@ -8,10 +8,10 @@ use Rattle.httparse.specs.Spans.{AreFieldsAt, header_bytes, name_and_value}
 use Rattle.httparse.proofs.GrammarLemmas.{response_unique, print_response-append}
 use Rattle.response_reader.specs.declared.fault.ReadFault.{ReadFault}
 use Rattle.response_reader.specs.declared.fault.ReadFault.TheVariants.{Device, Ended, Head, HeadLong, Length, Coding, Chunk, BodyLong, Memory}
-use Rattle.response_reader.specs.Wire.{Told}
-use Rattle.response_reader.specs.Heads.{IsInterim, IsInterimStatus, ReadsInterims, IsHeadDue, ReadsHeads, HasBadHead, LacksHeads, max_heads_len, max_fields}
-use Rattle.response_reader.specs.HeadStage.{HeadStage, LacksHeadWithin}
-use Rattle.response_reader.specs.HeadsStage.{EndsInHead, HeadsFault, PassedInterims}
+use Rattle.response_reader.specs.Wire.{OfBytes}
+use Rattle.response_reader.specs.Heads.{IsInterim, IsInterimStatus, ReadsInterims, IsHeadDue, max_heads_len, max_fields}
+use Rattle.response_reader.specs.HeadStage.{HeadStage}
+use Rattle.response_reader.specs.HeadsStage.{HeadsFault, PassedInterims}
 use Rattle.response_reader.proofs.HeadsLemmas.{final_is_not_interim}
 use Rattle.response_reader.proofs.WireLemmas.{told_before, consumes_trans, consumes_same, ahead_used}
 
@@ -52,28 +52,33 @@ head_at_tail (g ∷ hs) (k ∷ ks) bytes tail last h after x y read final few =
 
 -- what holds where a head is due, of the whole text
 pub heads_fault : (f : ReadFault) (text tail : List ℕ) (hs : List ResponseHead) (most : ℕ)
-    → ReadsInterims hs (text ++ tail) tail → length text + most ≡ max_heads_len
+    → ((t : List ℕ) → ReadsInterims hs (text ++ t) t) → length text + most ≡ max_heads_len
     → HeadStage most f tail → HeadsFault f (text ++ tail)
 heads_fault Device text tail hs most x len fault = tt
-heads_fault Ended text tail hs most x len fault = record { tail = tail; due = (hs, x); none = fault.0; unfinished = fault.1 }
-heads_fault Head text tail hs most x len fault = record { tail = tail; due = (hs, x); bad = inl fault }
-heads_fault HeadLong text tail hs most x len fault = λ h after y.
-    let found = head_at_tail hs y.due.0 (text ++ tail) tail y.tail h after x y.due.1 y.reads y.final y.fields in
-    let long = fault found.0 found.1 found.2 found.3 in
-    let within = y.within in
-    let behind = found.4 in
-    absurd (omega (arith, length-append text tail))
+heads_fault Ended text tail hs most x len fault = record {
+  ends = record { tail = tail; due = (hs, x tail); none = fault.0; unfinished = fault.1 };
+  short = let short = fault.2 in omega (arith, length-append text tail);
+}
+heads_fault Head text tail hs most x len fault = record { tail = tail; due = (hs, x tail); bad = inl fault }
+heads_fault HeadLong text tail hs most x len (inl full) = inl (record {
+  front = text ++ full.front;
+  more = full.more;
+  text = ap (λ (l : List ℕ). text ++ l) full.text ∙ sym (append_assoc text full.front full.more);
+  full = let short = full.full in omega (arith, length-append text full.front);
+  ends = record { tail = full.front; due = (hs, x full.front); none = full.none; unfinished = full.unfinished };
+})
+heads_fault HeadLong text tail hs most x len (inr many) = inr (record { tail = tail; due = (hs, x tail); exceeds = many.0; all = many.1 })
 heads_fault Length text tail hs most x len fault = absurd fault
 heads_fault Coding text tail hs most x len fault = absurd fault
 heads_fault Chunk text tail hs most x len fault = absurd fault
 heads_fault BodyLong text tail hs most x len fault = absurd fault
 heads_fault Memory text tail hs most x len fault = absurd fault
 
-pub told_heads_fault : (f : ReadFault) (before after : Option (List ℕ)) (most : ℕ) → PassedInterims before after most
-    → Told after (HeadStage most f) → Told before (HeadsFault f)
-told_heads_fault f before after most passed told =
+pub told_heads_fault : (f : ReadFault) (before after : Option (List ℕ)) (used most : ℕ) → PassedInterims before after used
+    → used + most ≡ max_heads_len → OfBytes after (HeadStage most f) → OfBytes before (HeadsFault f)
+told_heads_fault f before after used most passed whole told =
     told_before before after passed.text (HeadStage most f) (HeadsFault f) passed.bytes
-      (λ tail fault. heads_fault f passed.text tail passed.heads most (passed.reads tail) passed.len fault) told
+      (λ tail fault. heads_fault f passed.text tail passed.heads most passed.reads (let len = passed.len in omega arith) fault) told
 
 -- a head whose fields were written to so many spans has at most so many
 pub few_fields : (buf : List ℕ) (spans : List HeaderSpan) (count : ℕ) (fields : List Field) → length spans ≡ max_fields
@@ -88,12 +93,12 @@ interims_push [] h bytes middle tail x read interim = (tail, subst (λ (t : List
 interims_push (g ∷ hs) h bytes middle tail x read interim = (x.0, x.1, x.2, interims_push hs h x.0 middle tail x.3 read interim)
 
 -- no interim head yet
-pub passed_no_interims : (a : Option (List ℕ)) → PassedInterims a a max_heads_len
+pub passed_no_interims : (a : Option (List ℕ)) → PassedInterims a a 0
 passed_no_interims a = record { text = []; heads = []; reads = λ tail. refl; bytes = consumes_same a; len = refl }
 
 -- the bytes ahead were moved
-pub passed_kept : (a b c : Option (List ℕ)) (most : ℕ) → PassedInterims a b most → Consumes b c [] → PassedInterims a c most
-passed_kept a b c most p same = record {
+pub passed_kept : (a b c : Option (List ℕ)) (used : ℕ) → PassedInterims a b used → Consumes b c [] → PassedInterims a c used
+passed_kept a b c used p same = record {
   text = p.text;
   heads = p.heads;
   reads = p.reads;
@@ -102,10 +107,10 @@ passed_kept a b c most p same = record {
 }
 
 -- one more interim head
-pub passed_interim : (a known : Option (List ℕ)) (unread rest : List ℕ) (most : ℕ) (h : ResponseHead)
-    → PassedInterims a (prepend_known unread known) most → ReadsResponse unread h rest → IsInterim h → length unread ≤ most
-    → PassedInterims a (prepend_known rest known) (most - length (print_response h))
-passed_interim a known unread rest most h p read interim held = record {
+pub passed_interim : (a known : Option (List ℕ)) (unread rest : List ℕ) (used : ℕ) (h : ResponseHead)
+    → PassedInterims a (prepend_known unread known) used → ReadsResponse unread h rest → IsInterim h
+    → PassedInterims a (prepend_known rest known) (used + length (print_response h))
+passed_interim a known unread rest used h p read interim = record {
   text = p.text ++ print_response h;
   heads = p.heads ++ h ∷ [];
   reads = λ tail. interims_push p.heads h ((p.text ++ print_response h) ++ tail) (print_response h ++ tail) tail
@@ -115,5 +120,5 @@ passed_interim a known unread rest most h p read interim held = record {
   bytes = consumes_trans a (prepend_known unread known) (prepend_known rest known) p.text (print_response h) p.bytes
       (subst (λ (l : List ℕ). Consumes (prepend_known l known) (prepend_known rest known) (print_response h)) (sym read.1)
         (ahead_used (print_response h) rest known));
-  len = omega (arith, length-append p.text (print_response h), p.len, response_len unread h rest read);
+  len = omega (arith, length-append p.text (print_response h), p.len);
 }

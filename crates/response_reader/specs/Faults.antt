@@ -1,9 +1,9 @@
 -- Faults of a wire, and those planned for one in memory.
-use Rattle.std.specs.Prelude.{ℕ, Bool, true, false, Option, Some, None}
+use Rattle.std.specs.Prelude.{ℕ, Bool, true, false, List, [], ◌∷◌, Option, Some, None, if◌then◌else◌, ◌==◌, length}
+use Rattle.std.specs.List.{list_all}
 use Rattle.response_reader.specs.declared.wire.WireFault.{WireFault}
 use Rattle.response_reader.specs.declared.wire.WireFault.TheVariants.{Interrupted, Failed}
 use Rattle.response_reader.specs.declared.memory_wire.PlannedFault.{PlannedFault}
-use Rattle.response_reader.specs.Wire.{counted}
 
 -- the fault lets the call be made again
 abbrev pub may_retry : WireFault → Bool
@@ -14,7 +14,15 @@ may_retry Failed = false
 abbrev pub is_interruption : PlannedFault → Bool
 is_interruption f = may_retry f.fault
 
--- the count after a call that may have failed
-abbrev pub counted_if : Option WireFault → ℕ → ℕ
-counted_if None n = n
-counted_if (Some f) n = counted n 1
+-- the fault that is planned for a call, the first where there are several
+abbrev pub planned : List PlannedFault → ℕ → Option WireFault
+planned [] call = None
+planned (p ∷ ps) call = if p.call == call then Some p.fault else planned ps call
+
+-- no fault is planned but interruptions
+abbrev pub only_interrupts : List PlannedFault → Bool
+only_interrupts faults = list_all is_interruption faults
+
+-- no fault is planned
+abbrev pub plans_none : List PlannedFault → Bool
+plans_none faults = length faults == 0

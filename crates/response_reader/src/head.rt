@@ -1,19 +1,19 @@
-//! The heads of a response.
-ghost use Rattle.std.specs.Prelude.{◌≡◌, ℕ, List, [], ◌++◌, ◌+◌, ◌-◌, ◌<◌, ◌≤◌, ◌⊎◌, length, take, drop, IfOk, IfErr, IfSome, IfNone, OnOk, OnErr, All, Err};
-ghost use Rattle.std.specs.Io.KnownBytes.{Consumes, prepend_known};
+//! The heads of a response (RFC 9112, sections 2 to 5; RFC 9110, section 15.2).
+ghost use Rattle.std.specs.Prelude.{◌≡◌, ℕ, List, [], ◌++◌, ◌+◌, ◌-◌, ◌<◌, ◌≤◌, ◌⊎◌, length, take, drop, IfOk, IfErr, IfSome, IfNone, OnOk, OnErr, All, Err, IsTrue, IsFalse};
+ghost use Rattle.std.specs.Io.KnownBytes.{Consumes, IsAtEnd, prepend_known};
 ghost use Rattle.httparse.specs.Grammar.{HasNoResponse, NeverHasResponse, MayBecomeResponse};
-ghost use Rattle.httparse.specs.Spans.{IsResponseWithin, IsResponseOf, ResponseOverflows};
-ghost use Rattle.response_reader.specs.Wire.{tally, Told};
+ghost use Rattle.httparse.specs.Spans.{IsResponseWithin, IsResponseOf, ResponseOverflows, ResponseExceeds};
+ghost use Rattle.response_reader.specs.Wire.{tally, OfBytes};
 ghost use Rattle.response_reader.specs.Reads.{Counts};
 ghost use Rattle.response_reader.specs.HeadStage.{HeadStage};
-ghost use Rattle.response_reader.specs.Heads.{IsInterimStatus, IsRefusedStatus};
-ghost use Rattle.response_reader.specs.HeadsStage.{HeadsFault, PassedInterims, ReachesHead, FramesAhead};
+ghost use Rattle.response_reader.specs.HeadsStage.{HeadsFault, PassedInterims, FramesAhead};
 ghost use Rattle.response_reader.specs.Passes.{head_parts};
 ghost use Rattle.response_reader.specs.Kinds.{IsKindOf, IsFinalOrRefused};
 
 use crate::fault::ReadFault;
+use crate::fields::{Framing, describe};
 use crate::incoming::{Incoming, ROOM};
-use crate::fields::{Described, describe};
+use crate::sink::Head;
 use crate::wire::Wire;
 use std::alloc::Global;
 use http::StatusCode;
@@ -30,6 +30,7 @@ fn head_at(buf: &[u8], spans: &mut [HeaderSpan]) -> Result<Option<ResponseSpans>
     ensures none { IfOk result (λ o. IfNone o (HasNoResponse buf.now)) }
     ensures unfinished { IfOk result (λ o. IfNone o (MayBecomeResponse buf.now)) }
     ensures head { IfErr result (λ f. f ≡ ReadFault.Head → NeverHasResponse buf.now) }
+    ensures exceeds { IfErr result (λ f. f ≡ ReadFault.HeadLong → ResponseExceeds (length spans.old) buf.now) }
     ensures long { IfErr result (λ f. f ≡ ReadFault.HeadLong → ResponseOverflows (length spans.old) buf.now) }
     ensures only { IfErr result (λ f. (f ≡ ReadFault.Head) ⊎ (f ≡ ReadFault.HeadLong)) }
 {
@@ -41,7 +42,8 @@ fn head_at(buf: &[u8], spans: &mut [HeaderSpan]) -> Result<Option<ResponseSpans>
     }
 }
 
-/// Looks for a whole head at the front, of at most `most` bytes, and reads once more where there is none.
+/// Looks for a whole head at the front, of at most `most` bytes. Where there is none, it reads on to
+/// the end of a line, so that a head that comes byte by byte isn't looked at again at each byte.
 fn look_for_head<W: Wire>(
     wire: &mut W,
     incoming: &mut Incoming,
@@ -57,22 +59,23 @@ fn look_for_head<W: Wire>(
     ensures held { OnOk result (length incoming.new.unread ≤ most) }
     ensures bytes { OnOk result (Consumes (prepend_known incoming.old.unread (W.incoming wire.old))
         (prepend_known incoming.new.unread (W.incoming wire.new)) []) }
-    ensures fault { IfErr result (λ f. Told (prepend_known incoming.old.unread (W.incoming wire.old)) (HeadStage most f)) }
+    ensures fault { IfErr result (λ f. OfBytes (prepend_known incoming.old.unread (W.incoming wire.old)) (HeadStage most f)) }
     ensures counts { Counts
-        (tally (W.failed wire.old) (W.reads_never_fail wire.old) incoming.old.interrupted)
-        (tally (W.failed wire.new) (W.reads_never_fail wire.new) incoming.new.interrupted) result }
+        (tally (W.failed wire.old) (W.reads_never_fail wire.old) (W.never_errs wire.old) (W.outgoing wire.old) incoming.old.interrupted)
+        (tally (W.failed wire.new) (W.reads_never_fail wire.new) (W.never_errs wire.new) (W.outgoing wire.new) incoming.new.interrupted) result }
 {
     if let Some(head) = head_at(incoming.unread(), spans)? {
         return Ok(Some(head));
     }
-    let held = incoming.unread().len();
-    if held == most {
+    if incoming.unread().len() == most {
         return Err(ReadFault::HeadLong);
     }
-    if incoming.fill(wire, most - held)? {
-        Ok(None)
-    } else {
-        Err(ReadFault::Ended)
+    if incoming.read_line(wire, most)? {
+        return Ok(None);
+    }
+    match head_at(incoming.unread(), spans)? {
+        Some(head) => Ok(Some(head)),
+        None => Err(ReadFault::Ended),
     }
 }
 
@@ -91,10 +94,10 @@ fn next_head<W: Wire>(
     ensures held { OnOk result (length incoming.new.unread ≤ most) }
     ensures bytes { OnOk result (Consumes (prepend_known incoming.old.unread (W.incoming wire.old))
         (prepend_known incoming.new.unread (W.incoming wire.new)) []) }
-    ensures fault { IfErr result (λ f. Told (prepend_known incoming.old.unread (W.incoming wire.old)) (HeadStage most f)) }
+    ensures fault { IfErr result (λ f. OfBytes (prepend_known incoming.old.unread (W.incoming wire.old)) (HeadStage most f)) }
     ensures counts { Counts
-        (tally (W.failed wire.old) (W.reads_never_fail wire.old) incoming.old.interrupted)
-        (tally (W.failed wire.new) (W.reads_never_fail wire.new) incoming.new.interrupted) result }
+        (tally (W.failed wire.old) (W.reads_never_fail wire.old) (W.never_errs wire.old) (W.outgoing wire.old) incoming.old.interrupted)
+        (tally (W.failed wire.new) (W.reads_never_fail wire.new) (W.never_errs wire.new) (W.outgoing wire.new) incoming.new.interrupted) result }
 {
     'reads: loop {
         if let Some(head) = look_for_head(wire, incoming, spans, most)? {
@@ -124,33 +127,49 @@ fn kind_of(code: u16) -> Kind
     }
 }
 
+/// The head after the interim ones, and how many bytes those had.
+#[derive(Clone, Copy)]
+struct LastHead {
+    head: ResponseSpans,
+    passed: usize,
+}
+
 /// Passes over interim heads, until another stands at the front.
 fn pass_interims<W: Wire>(
     wire: &mut W,
     incoming: &mut Incoming,
     spans: &mut [HeaderSpan],
-) -> Result<ResponseSpans, ReadFault>
+) -> Result<LastHead, ReadFault>
     requires fields { length spans.old ≡ MAX_FIELDS }
     requires none { incoming.old.unread ≡ [] }
-    ensures within { IfOk result (IsResponseWithin incoming.new.unread spans.new) }
-    ensures whole { IfOk result (IsResponseOf incoming.new.unread spans.new) }
-    ensures kind { IfOk result (λ head. IsFinalOrRefused head.code) }
-    ensures reaches { OnOk result (ReachesHead (prepend_known incoming.old.unread (W.incoming wire.old))
-        (prepend_known incoming.new.unread (W.incoming wire.new)) incoming.new.unread) }
-    ensures fault { IfErr result (λ f. Told (prepend_known incoming.old.unread (W.incoming wire.old)) (HeadsFault f)) }
+    ensures within { IfOk result (λ last. IsResponseWithin incoming.new.unread spans.new last.head) }
+    ensures whole { IfOk result (λ last. IsResponseOf incoming.new.unread spans.new last.head) }
+    ensures kind { IfOk result (λ last. IsFinalOrRefused last.head.code) }
+    ensures held { IfOk result (λ last. last.passed + length incoming.new.unread ≤ ROOM) }
+    ensures passed { IfOk result (λ last. PassedInterims (prepend_known incoming.old.unread (W.incoming wire.old))
+        (prepend_known incoming.new.unread (W.incoming wire.new)) last.passed) }
+    ensures fault { IfErr result (λ f. OfBytes (prepend_known incoming.old.unread (W.incoming wire.old)) (HeadsFault f)) }
     ensures counts { Counts
-        (tally (W.failed wire.old) (W.reads_never_fail wire.old) incoming.old.interrupted)
-        (tally (W.failed wire.new) (W.reads_never_fail wire.new) incoming.new.interrupted) result }
+        (tally (W.failed wire.old) (W.reads_never_fail wire.old) (W.never_errs wire.old) (W.outgoing wire.old) incoming.old.interrupted)
+        (tally (W.failed wire.new) (W.reads_never_fail wire.new) (W.never_errs wire.new) (W.outgoing wire.new) incoming.new.interrupted) result }
 {
-    let mut most = ROOM;
+    let mut passed = 0;
     'heads: loop {
-        let head = next_head(wire, incoming, spans, most)?;
+        let head = next_head(wire, incoming, spans, ROOM - passed)?;
         if kind_of(head.code) != Kind::Interim {
-            return Ok(head);
+            return Ok(LastHead { head, passed });
         }
         incoming.consume(head.len);
-        most -= head.len;
+        passed += head.len;
     }
+}
+
+/// What was read of the heads: how many bytes they had, what is handed on, and how the body ends.
+#[derive(Drop)]
+pub(crate) struct ReadHeads {
+    pub len: usize,
+    pub head: Head,
+    pub framing: Framing,
 }
 
 /// Reads the heads, and what the last one says.
@@ -158,21 +177,26 @@ pub(crate) fn final_head<W: Wire>(
     alloc: Global,
     wire: &mut W,
     incoming: &mut Incoming,
-) -> Result<Described, ReadFault>
+) -> Result<ReadHeads, ReadFault>
     requires none { incoming.old.unread ≡ [] }
     ensures frames { IfOk result (λ d. FramesAhead (prepend_known incoming.old.unread (W.incoming wire.old))
-        (prepend_known incoming.new.unread (W.incoming wire.new)) (head_parts d.head) d.framing) }
-    ensures fault { IfErr result (λ f. Told (prepend_known incoming.old.unread (W.incoming wire.old)) (HeadsFault f)) }
+        (prepend_known incoming.new.unread (W.incoming wire.new)) (head_parts d.head) d.framing d.len) }
+    ensures fault { IfErr result (λ f. OfBytes (prepend_known incoming.old.unread (W.incoming wire.old)) (HeadsFault f)) }
     ensures counts { Counts
-        (tally (W.failed wire.old) (W.reads_never_fail wire.old) incoming.old.interrupted)
-        (tally (W.failed wire.new) (W.reads_never_fail wire.new) incoming.new.interrupted) result }
+        (tally (W.failed wire.old) (W.reads_never_fail wire.old) (W.never_errs wire.old) (W.outgoing wire.old) incoming.old.interrupted)
+        (tally (W.failed wire.new) (W.reads_never_fail wire.new) (W.never_errs wire.new) (W.outgoing wire.new) incoming.new.interrupted) result }
 {
     let mut spans = [EMPTY_HEADER_SPAN; MAX_FIELDS];
-    let head = pass_interims(wire, incoming, &mut spans)?;
-    if kind_of(head.code) == Kind::Refused {
+    let last = pass_interims(wire, incoming, &mut spans)?;
+    let code = last.head.code;
+    if kind_of(code) == Kind::Refused {
         return Err(ReadFault::Head);
     }
-    let found = describe(alloc, head.code, incoming.unread(), &spans[..head.headers])?;
-    incoming.consume(head.len);
-    Ok(found)
+    let found = describe(alloc, code, incoming.unread(), &spans[..last.head.headers])?;
+    incoming.consume(last.head.len);
+    Ok(ReadHeads {
+        len: last.passed + last.head.len,
+        head: found.head,
+        framing: found.framing,
+    })
 }

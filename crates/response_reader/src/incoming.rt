@@ -1,5 +1,5 @@
 //! The bytes of a response between the wire and their use.
-ghost use Rattle.std.specs.Prelude.{◌-◌, ◌≡◌, ℕ, List, [], ◌++◌, ◌+◌, ◌<◌, ◌≤◌, length, take, drop, slice_range, IfOk, IfErr, OnOk, OnErr, MatchBool, ⊤};
+ghost use Rattle.std.specs.Prelude.{IsTrue, IsFalse, ◌-◌, ◌≡◌, ℕ, List, [], ◌++◌, ◌+◌, ◌<◌, ◌≤◌, length, take, drop, slice_range, IfOk, IfErr, OnOk, OnErr, MatchBool, ⊤};
 ghost use Rattle.std.specs.Io.KnownBytes.{Consumes, IsAtEnd, prepend_known};
 ghost use Rattle.response_reader.specs.Wire.{tally, GoesOn, GivesUp};
 ghost use Rattle.response_reader.specs.Fills.{Fills};
@@ -24,7 +24,7 @@ pub(crate) struct Incoming {
 }
 
 impl Model for Incoming {
-    ghost use Rattle.std.specs.Prelude.{◌≡◌, ◌≤◌, slice_range, vec_len};
+    ghost use Rattle.std.specs.Prelude.{◌≡◌, ◌≤◌, ◌<◌, slice_range, vec_len};
     ghost use Rattle.response_reader.specs.Held.{Held};
 
     ghost Value = { Held };
@@ -36,7 +36,7 @@ impl Model for Incoming {
         ordered : s.start ≤ s.end;
         within : s.end ≤ vec_len s.room;
         room : vec_len s.room ≡ 65536;
-        few : s.interrupted ≤ 1000 } };
+        few : s.interrupted < 1000 } };
 }
 
 impl Incoming {
@@ -73,8 +73,8 @@ impl Incoming {
         requires room { length self.old.unread + most ≤ ROOM }
         ensures fills { IfOk result (Fills self.old.unread self.new.unread (W.incoming wire.old) (W.incoming wire.new) most) }
         ensures counts { Counts
-            (tally (W.failed wire.old) (W.reads_never_fail wire.old) self.old.interrupted)
-            (tally (W.failed wire.new) (W.reads_never_fail wire.new) self.new.interrupted) result }
+            (tally (W.failed wire.old) (W.reads_never_fail wire.old) (W.never_errs wire.old) (W.outgoing wire.old) self.old.interrupted)
+            (tally (W.failed wire.new) (W.reads_never_fail wire.new) (W.never_errs wire.new) (W.outgoing wire.new) self.new.interrupted) result }
         ensures device { IfErr result (λ f. f ≡ ReadFault.Device) }
     {
         let place = Place {
@@ -86,6 +86,39 @@ impl Incoming {
         self.end = got.place.end;
         self.interrupted = got.interrupted;
         Ok(got.more)
+    }
+
+    /// Reads at least once, and on until a line ends, `most` bytes are there or the input has ended.
+    /// `false` means that it has ended.
+    pub(crate) fn read_line<W: Wire>(
+        &mut self,
+        wire: &mut W,
+        most: usize,
+    ) -> Result<bool, ReadFault>
+        requires some { length self.old.unread < most }
+        requires room { most ≤ ROOM }
+        ensures held { OnOk result (length self.new.unread ≤ most) }
+        ensures more { IfOk result (λ more. IsTrue more → length self.old.unread < length self.new.unread) }
+        ensures short { IfOk result (λ more. IsFalse more → length self.new.unread < most) }
+        ensures end { IfOk result (λ more. IsFalse more → IsAtEnd (W.incoming wire.new)) }
+        ensures bytes { OnOk result (Consumes (prepend_known self.old.unread (W.incoming wire.old))
+            (prepend_known self.new.unread (W.incoming wire.new)) []) }
+        ensures counts { Counts
+            (tally (W.failed wire.old) (W.reads_never_fail wire.old) (W.never_errs wire.old) (W.outgoing wire.old) self.old.interrupted)
+            (tally (W.failed wire.new) (W.reads_never_fail wire.new) (W.never_errs wire.new) (W.outgoing wire.new) self.new.interrupted) result }
+        ensures device { IfErr result (λ f. f ≡ ReadFault.Device) }
+    {
+        let mut held = self.unread().len();
+        'lines: while held < most {
+            if !self.fill(wire, most - held)? {
+                return Ok(false);
+            }
+            if self.unread()[held..].contains(&b'\n') {
+                return Ok(true);
+            }
+            held = self.unread().len();
+        }
+        Ok(true)
     }
 }
 
@@ -116,24 +149,20 @@ fn fill_room<W: Wire>(
     requires ordered { place.start ≤ place.end }
     requires within { place.end ≤ length room.old }
     requires room { place.end - place.start + most ≤ length room.old }
-    requires few { interrupted ≤ MAX_INTERRUPTED }
+    requires few { interrupted < MAX_INTERRUPTED }
     ensures ordered { IfOk result (λ to. to.place.start ≤ to.place.end) }
     ensures within { IfOk result (λ to. to.place.end ≤ length room.new) }
     ensures fills { IfOk result (λ to. Fills (slice_range room.old place.start place.end) (slice_range room.new to.place.start to.place.end) (W.incoming wire.old) (W.incoming wire.new) most to.more) }
-    ensures few { IfOk result (λ to. to.interrupted ≤ MAX_INTERRUPTED) }
+    ensures few { IfOk result (λ to. to.interrupted < MAX_INTERRUPTED) }
     ensures counts { IfOk result (λ to. GoesOn
-        (tally (W.failed wire.old) (W.reads_never_fail wire.old) interrupted)
-        (tally (W.failed wire.new) (W.reads_never_fail wire.new) to.interrupted)) }
+        (tally (W.failed wire.old) (W.reads_never_fail wire.old) (W.never_errs wire.old) (W.outgoing wire.old) interrupted)
+        (tally (W.failed wire.new) (W.reads_never_fail wire.new) (W.never_errs wire.new) (W.outgoing wire.new) to.interrupted)) }
     ensures device { IfErr result (λ f. f ≡ ReadFault.Device) }
     ensures gives_up { OnErr result ((after : ℕ) → GivesUp
-        (tally (W.failed wire.old) (W.reads_never_fail wire.old) interrupted)
-        (tally (W.failed wire.new) (W.reads_never_fail wire.new) after)) }
+        (tally (W.failed wire.old) (W.reads_never_fail wire.old) (W.never_errs wire.old) (W.outgoing wire.old) interrupted)
+        (tally (W.failed wire.new) (W.reads_never_fail wire.new) (W.never_errs wire.new) (W.outgoing wire.new) after)) }
 {
-    let Place { start, end } = if place.end + most > room.len() {
-        move_to_front(room, place)
-    } else {
-        place
-    };
+    let Place { start, end } = make_room(room, place, most);
     let got = read_behind(wire, room, end, most, interrupted)?;
     Ok(Filled {
         place: Place {
@@ -145,20 +174,24 @@ fn fill_room<W: Wire>(
     })
 }
 
-// Moves the unread bytes to the front.
-#[tactic(auto, using(crate::proofs::RangeLemmas::range_rotated))]
-fn move_to_front(room: &mut [u8], place: Place) -> Place
+// Where the unread bytes stand once so many more fit behind them.
+#[tactic(auto, using(crate::proofs::RangeLemmas::range_copied))]
+fn make_room(room: &mut [u8], place: Place, most: usize) -> Place
     requires ordered { place.start ≤ place.end }
     requires within { place.end ≤ length room.old }
-    ensures start { result.start ≡ 0 }
-    ensures end { result.end ≡ place.end - place.start }
+    requires room { place.end - place.start + most ≤ length room.old }
+    ensures ordered { result.start ≤ result.end }
+    ensures fits { result.end + most ≤ length room.new }
     ensures same { slice_range room.new result.start result.end ≡ slice_range room.old place.start place.end }
 {
-    room.rotate_left(place.start);
-    Place {
-        start: 0,
-        end: place.end - place.start,
+    if most <= room.len() - place.end {
+        return place;
     }
+    let len = place.end - place.start;
+    if len > 0 {
+        room.copy_within(place.start..place.end, 0);
+    }
+    Place { start: 0, end: len }
 }
 
 // One read into the part of the room that begins at `end`.
@@ -170,19 +203,19 @@ fn read_behind<W: Wire>(
     interrupted: u32,
 ) -> Result<Got, ReadFault>
     requires within { end + most ≤ length room.old }
-    requires few { interrupted ≤ MAX_INTERRUPTED }
+    requires few { interrupted < MAX_INTERRUPTED }
     ensures front { take end room.new ≡ take end room.old }
     ensures bound { IfOk result (λ got. got.len ≤ most) }
     ensures bytes { IfOk result (λ got. Consumes (W.incoming wire.old) (W.incoming wire.new) (slice_range room.new end (end + got.len))) }
     ensures end { IfOk result (λ got. got.len ≡ 0 → 0 < most → IsAtEnd (W.incoming wire.new)) }
-    ensures few { IfOk result (λ got. got.interrupted ≤ MAX_INTERRUPTED) }
+    ensures few { IfOk result (λ got. got.interrupted < MAX_INTERRUPTED) }
     ensures counts { IfOk result (λ got. GoesOn
-        (tally (W.failed wire.old) (W.reads_never_fail wire.old) interrupted)
-        (tally (W.failed wire.new) (W.reads_never_fail wire.new) got.interrupted)) }
+        (tally (W.failed wire.old) (W.reads_never_fail wire.old) (W.never_errs wire.old) (W.outgoing wire.old) interrupted)
+        (tally (W.failed wire.new) (W.reads_never_fail wire.new) (W.never_errs wire.new) (W.outgoing wire.new) got.interrupted)) }
     ensures device { IfErr result (λ f. f ≡ ReadFault.Device) }
     ensures gives_up { OnErr result ((after : ℕ) → GivesUp
-        (tally (W.failed wire.old) (W.reads_never_fail wire.old) interrupted)
-        (tally (W.failed wire.new) (W.reads_never_fail wire.new) after)) }
+        (tally (W.failed wire.old) (W.reads_never_fail wire.old) (W.never_errs wire.old) (W.outgoing wire.old) interrupted)
+        (tally (W.failed wire.new) (W.reads_never_fail wire.new) (W.never_errs wire.new) (W.outgoing wire.new) after)) }
 {
     read_again(wire, &mut room[end..end + most], interrupted)
 }

@@ -1,14 +1,16 @@
 //! A wire that is kept in memory.
-ghost use Rattle.std.specs.Prelude.{◌≡◌, ◌≢◌, ℕ, ◌+◌, ◌-◌, ◌<◌, ◌≤◌, Option, Some, None, true, IsTrue, List, [], ◌++◌, length, take, drop, Err, IfOk, IfSome, min, All, vec_len};
-ghost use Rattle.std.specs.List.{list_all};
+ghost use Rattle.std.specs.Prelude.{◌≡◌, ◌≢◌, ℕ, ◌+◌, ◌-◌, ◌<◌, ◌≤◌, Option, Some, None, true, IsTrue, IsOk, List, [], ◌++◌, length, take, drop, Err, Ok, IfOk, IfErr, IfSome, IfNone, min, All, vec_len};
 ghost use Rattle.std.specs.Io.{ReadsAtMost, WritesAtMost};
-ghost use Rattle.response_reader.specs.Faults.{is_interruption, counted_if};
+ghost use Rattle.std.specs.Io.KnownBytes.{ReadConsumes, WriteAppends, Keeps};
+ghost use Rattle.response_reader.specs.Faults.{planned, only_interrupts, plans_none};
+ghost use Rattle.response_reader.specs.Memory.{piece_len, called, after_read, after_write};
+ghost use Rattle.response_reader.specs.Wire.{CountsFault};
 
 use crate::wire::{Wire, WireFault};
 use std::alloc::Global;
 use std::marker::Model;
 
-/// A call that is to fail, the first being number 0.
+/// A call that is to fail. Calls are counted from 0, reads and writes together.
 #[derive(Clone, Copy, Debug, PartialEq, Eq)]
 pub struct PlannedFault {
     pub call: u64,
@@ -30,9 +32,7 @@ pub struct MemoryWire {
 
 impl Model for MemoryWire {
     ghost use Rattle.std.specs.Prelude.{◌≤◌, drop, vec_len};
-    ghost use Rattle.std.specs.List.{list_all};
     ghost use Rattle.response_reader.specs.Memory.{Conversation};
-    ghost use Rattle.response_reader.specs.Faults.{is_interruption, counted_if};
 
     ghost Value = { Conversation };
 
@@ -40,14 +40,19 @@ impl Model for MemoryWire {
         incoming = drop w.at w.bytes.items;
         outgoing = w.written.items;
         failed = w.failed;
-        unfailing = list_all is_interruption w.faults.items } };
+        calls = w.calls;
+        faults = w.faults.items;
+        pieces = drop w.next_piece w.pieces.items } };
 
-    ghost invariant = { λ w. w.at ≤ vec_len w.bytes };
+    ghost invariant = { λ w. record {
+        told : w.at ≤ vec_len w.bytes;
+        gone : w.next_piece ≤ vec_len w.pieces } };
 }
 
 impl MemoryWire {
-    /// Tells the bytes. The piece at k is the most that the read k gives, but at least one byte; later
-    /// reads give what there is room for.
+    /// Tells the bytes. The piece at k is the most that the k-th read that doesn't fail gives, but at
+    /// least one byte; later reads give what there is room for. A call with a planned fault answers
+    /// the first that is planned for it, and does nothing else. A write takes all its bytes.
     pub fn new(
         alloc: Global,
         bytes: Vec<u8>,
@@ -57,7 +62,9 @@ impl MemoryWire {
         ensures tells { result.incoming ≡ bytes.items }
         ensures untouched { result.outgoing ≡ [] }
         ensures none_failed { result.failed ≡ 0 }
-        ensures steady { result.unfailing ≡ list_all is_interruption faults.items }
+        ensures none_made { result.calls ≡ 0 }
+        ensures faults { result.faults ≡ faults.items }
+        ensures pieces { result.pieces ≡ pieces.items }
     {
         MemoryWire {
             bytes,
@@ -78,17 +85,13 @@ impl MemoryWire {
         &self.written
     }
 
-    // The fault of this call, if one is planned for it.
+    // Counts a call, and gives the fault that is planned for it.
     fn next_fault(&mut self) -> Option<WireFault>
-        ensures incoming { self.new.incoming ≡ self.old.incoming }
-        ensures outgoing { self.new.outgoing ≡ self.old.outgoing }
-        ensures unfailing { self.new.unfailing ≡ self.old.unfailing }
-        ensures kind { IfSome result (λ f. IsTrue self.old.unfailing → f ≢ WireFault.Failed) }
-        ensures counted { self.new.failed ≡ counted_if result self.old.failed }
+        ensures fault { result ≡ planned self.old.faults self.old.calls }
+        ensures after { self.new ≡ called self.old result }
     {
-        let call = self.calls;
-        self.calls = call.saturating_add(1);
-        let fault = planned_fault(&self.faults, call);
+        let fault = planned_fault(&self.faults, self.calls);
+        self.calls = self.calls.saturating_add(1);
         if fault.is_some() {
             self.failed = self.failed.saturating_add(1);
         }
@@ -97,19 +100,23 @@ impl MemoryWire {
 
     // How many bytes the next read gives into so much room.
     fn next_len(&mut self, room: usize) -> usize
-        ensures same { self.new ≡ self.old }
-        ensures room { result ≤ room }
-        ensures there { result ≤ length self.old.incoming }
-        ensures some { result ≡ 0 → 0 < room → self.old.incoming ≡ [] }
+        ensures value { result ≡ piece_len self.old room }
+        ensures after { self.new ≡ record self.old { pieces = drop 1 self.old.pieces } }
     {
-        let most = self.pieces.get(self.next_piece).copied().unwrap_or(room);
-        self.next_piece = self.next_piece.saturating_add(1);
+        let most = match self.pieces.get(self.next_piece) {
+            Some(most) => {
+                let most = *most;
+                self.next_piece += 1;
+                most
+            }
+            None => room,
+        };
         room.min(self.bytes.len() - self.at).min(most.max(1))
     }
 }
 
 fn planned_fault(faults: &[PlannedFault], call: u64) -> Option<WireFault>
-    ensures { IfSome result (λ fault. IsTrue (list_all is_interruption faults.now) → fault ≢ WireFault.Failed) }
+    ensures { result ≡ planned faults.now call }
 {
     for planned in faults {
         if planned.call == call {
@@ -126,9 +133,25 @@ impl Wire for MemoryWire {
 
     ghost failed = { λ w. w.failed };
 
-    ghost reads_never_fail = { λ w. w.unfailing };
+    ghost reads_never_fail = { λ w. only_interrupts w.faults };
 
-    fn read(&mut self, room: &mut [u8]) -> Result<usize, WireFault> {
+    ghost never_errs = { λ w. plans_none w.faults };
+
+    fn read(&mut self, room: &mut [u8]) -> Result<usize, WireFault>
+        ensures bound { ReadsAtMost result room.new }
+        ensures bytes { ReadConsumes (Some self.old.incoming) (Some self.new.incoming) result room.new }
+        ensures written { Keeps (Some self.old.outgoing) (Some self.new.outgoing) }
+        ensures counted { CountsFault self.old.failed self.new.failed result }
+        ensures steady { IsTrue (only_interrupts self.old.faults) → IsTrue (only_interrupts self.new.faults) }
+        ensures unfailing { IsTrue (only_interrupts self.old.faults) → result ≢ Err WireFault.Failed }
+        ensures quiet { IsTrue (plans_none self.old.faults) → IsTrue (plans_none self.new.faults) }
+        ensures unerring { IsTrue (plans_none self.old.faults) → IsOk result }
+
+        // A planned fault comes, and without one the next piece.
+        ensures planned { IfSome (planned self.old.faults self.old.calls) (λ f. result ≡ Err f) }
+        ensures given { IfNone (planned self.old.faults self.old.calls) (result ≡ Ok (piece_len self.old (length room.old))) }
+        ensures after { self.new ≡ after_read self.old result }
+    {
         if let Some(fault) = self.next_fault() {
             return Err(fault);
         }
@@ -138,7 +161,21 @@ impl Wire for MemoryWire {
         Ok(n)
     }
 
-    fn write(&mut self, bytes: &[u8]) -> Result<usize, WireFault> {
+    fn write(&mut self, bytes: &[u8]) -> Result<usize, WireFault>
+        ensures bound { WritesAtMost result bytes.now }
+        ensures some { IfOk result (λ n. 0 < length bytes.now → 0 < n) }
+        ensures bytes { WriteAppends (Some self.old.outgoing) (Some self.new.outgoing) result bytes.now }
+        ensures read { Keeps (Some self.old.incoming) (Some self.new.incoming) }
+        ensures counted { CountsFault self.old.failed self.new.failed result }
+        ensures steady { IsTrue (only_interrupts self.old.faults) → IsTrue (only_interrupts self.new.faults) }
+        ensures quiet { IsTrue (plans_none self.old.faults) → IsTrue (plans_none self.new.faults) }
+
+        // A planned fault comes, and without one all is taken or memory ran out.
+        ensures planned { IfSome (planned self.old.faults self.old.calls) (λ f. result ≡ Err f) }
+        ensures taken { IfOk result (λ n. n ≡ length bytes.now) }
+        ensures memory { IfNone (planned self.old.faults self.old.calls) (IfErr result (λ f. f ≡ WireFault.Failed)) }
+        ensures after { self.new ≡ after_write self.old bytes.now result }
+    {
         if let Some(fault) = self.next_fault() {
             return Err(fault);
         }
@@ -151,7 +188,9 @@ impl Wire for MemoryWire {
         }
     }
 
-    fn failures(&self) -> u64 {
+    fn failures(&self) -> u64
+        ensures { result ≡ self.now.failed }
+    {
         self.failed
     }
 }

@@ -1,12 +1,11 @@
-//! One whole response, read from a wire into a sink.
-ghost use Rattle.std.specs.Prelude.{◌≡◌, ℕ, List, [], ◌++◌, Option, Some, None, ◌<◌, ◌≤◌, length, IfOk, IfErr, OnOk, OnErr, IsErrOf, IsTrue};
-ghost use Rattle.std.specs.Io.KnownBytes.{Consumes, prepend_known};
-ghost use Rattle.response_reader.specs.Bodies.{ReadsBody};
+//! One whole response, read from a wire into a sink (RFC 9112, section 6.3).
+ghost use Rattle.std.specs.Prelude.{◌≡◌, ◌≢◌, ℕ, List, [], ◌++◌, ◌+◌, Option, Some, None, ◌<◌, ◌≤◌, length, IfOk, IfErr, OnOk, OnErr, IsErrOf, IsTrue, Err};
+ghost use Rattle.std.specs.Io.KnownBytes.{Consumes, Keeps, prepend_known};
 ghost use Rattle.response_reader.specs.Fields.{HeadParts};
-ghost use Rattle.response_reader.specs.Passes.{head_parts, TakesBody};
-ghost use Rattle.response_reader.specs.Response.{HandsOn, BodyFault, IsResponseOf};
+ghost use Rattle.response_reader.specs.Passes.{Adds, head_parts, TakesBody, TakesFront};
+ghost use Rattle.response_reader.specs.Response.{HandsOn, HandsFront, BodyFault, BeginsWith, CanBeGiven};
 ghost use Rattle.response_reader.specs.ReadFaults.{IsFault};
-ghost use Rattle.response_reader.specs.Wire.{tally, Told, HasRisen, counted};
+ghost use Rattle.response_reader.specs.Wire.{tally, OfBytes, HasRisen, counted};
 ghost use Rattle.response_reader.specs.Reads.{Counts};
 ghost use Rattle.response_reader.specs.Whole.{response_parts};
 
@@ -14,24 +13,28 @@ use crate::body::{MAX_BODY, body_until_close, sized_body};
 use crate::fault::ReadFault;
 use crate::fields::Framing;
 use crate::head::final_head;
-use crate::incoming::Incoming;
+use crate::incoming::{Incoming, ROOM};
 use crate::sink::{Gather, Sink};
 use crate::wire::Wire;
 use std::alloc::Global;
 
-/// Hands on a body that is framed so.
+/// Hands on a body that is framed so, after heads of `used` bytes.
 fn body<W: Wire, S: Sink>(
     wire: &mut W,
     incoming: &mut Incoming,
     sink: &mut S,
     framing: Framing,
+    used: usize,
 ) -> Result<(), ReadFault>
-    ensures body { OnOk result (Told (prepend_known incoming.old.unread (W.incoming wire.old))
-        (TakesBody framing (λ p. (h : HeadParts) (body : List ℕ) → S.took sink.old (Some h) body → S.took sink.new (Some h) (body ++ p)))) }
-    ensures fault { IfErr result (λ f. Told (prepend_known incoming.old.unread (W.incoming wire.old)) (BodyFault framing f)) }
+    requires { used ≤ ROOM }
+    ensures body { OnOk result (OfBytes (prepend_known incoming.old.unread (W.incoming wire.old))
+        (TakesBody used framing (Adds (S.took sink.old) (S.took sink.new)))) }
+    ensures fault { IfErr result (λ f. OfBytes (prepend_known incoming.old.unread (W.incoming wire.old)) (BodyFault used framing f)) }
+    ensures handed { IfErr result (λ f. f ≢ ReadFault.Memory
+        → OfBytes (prepend_known incoming.old.unread (W.incoming wire.old)) (TakesFront framing (Adds (S.took sink.old) (S.took sink.new)))) }
     ensures counts { Counts
-        (tally (W.failed wire.old) (W.reads_never_fail wire.old) incoming.old.interrupted)
-        (tally (W.failed wire.new) (W.reads_never_fail wire.new) incoming.new.interrupted) result }
+        (tally (W.failed wire.old) (W.reads_never_fail wire.old) (W.never_errs wire.old) (W.outgoing wire.old) incoming.old.interrupted)
+        (tally (W.failed wire.new) (W.reads_never_fail wire.new) (W.never_errs wire.new) (W.outgoing wire.new) incoming.new.interrupted) result }
 {
     match framing {
         Framing::NoBody => Ok(()),
@@ -49,24 +52,32 @@ fn chunked_body() -> Result<(), ReadFault>
     Err(ReadFault::Memory)
 }
 
-/// Reads a response: its head, and then the bytes of its body in order.
+/// Reads one response from a wire: its head goes to the sink, and then the bytes of its body in
+/// order, in the pieces in which they came. What follows the response is left unread or dropped.
+/// After a fault the wire isn't to be used again, and the sink has taken nothing or the head and a
+/// front of the body, unless memory ran out; that is answered also where the sink found none.
 pub fn read_into<W: Wire, S: Sink>(
     alloc: Global,
     wire: &mut W,
     sink: &mut S,
 ) -> Result<(), ReadFault>
-    requires fresh { S.took sink.old None [] }
+    // The wire's bytes begin with a response, however they were cut, and a sink that was fresh has taken it.
+    ensures response { OnOk result (OfBytes (W.incoming wire.old)
+        (HandsOn (λ r. S.took sink.old None [] → S.took sink.new (Some r.head) r.body))) }
 
-    // What was handed on is the response that begins the wire's bytes, however they were cut.
-    ensures response { OnOk result (Told (W.incoming wire.old) (HandsOn (λ r. S.took sink.new (Some r.head) r.body))) }
+    // A fault other than Device and Memory is one of the wire's bytes. A wire that doesn't tell them
+    // may give any.
+    ensures fault { IfErr result (λ f. OfBytes (W.incoming wire.old) (IsFault f)) }
+    ensures handed { IfErr result (λ f. f ≢ ReadFault.Memory → OfBytes (W.incoming wire.old)
+        (HandsFront (λ head front. S.took sink.old None [] → S.took sink.new head front))) }
 
-    // A fault is one of the wire's bytes, and then they begin with no response.
-    ensures fault { IfErr result (λ f. Told (W.incoming wire.old) (IsFault f)) }
-
-    // A read failed, or too many were interrupted.
+    // A read failed, or 1,000 were interrupted; fewer do no harm.
     ensures device { IsErrOf result ReadFault.Device → HasRisen (W.failed wire.old) (W.failed wire.new) }
     ensures interrupted { IsErrOf result ReadFault.Device → IsTrue (W.reads_never_fail wire.old)
         → W.failed wire.new ≡ counted (W.failed wire.old) 1000 }
+    ensures few { result ≢ Err ReadFault.Device → W.failed wire.new < W.failed wire.old + 1000 }
+    ensures unerring { IsTrue (W.never_errs wire.old) → result ≢ Err ReadFault.Device }
+    ensures written { Keeps (W.outgoing wire.old) (W.outgoing wire.new) }
 {
     let mut incoming = Incoming::new(alloc)?;
     read_through(alloc, wire, &mut incoming, sink)?;
@@ -81,47 +92,59 @@ fn read_through<W: Wire, S: Sink>(
     sink: &mut S,
 ) -> Result<(), ReadFault>
     requires none { incoming.old.unread ≡ [] }
-    requires fresh { S.took sink.old None [] }
-    ensures response { OnOk result (Told (prepend_known incoming.old.unread (W.incoming wire.old)) (HandsOn (λ r. S.took sink.new (Some r.head) r.body))) }
-    ensures fault { IfErr result (λ f. Told (prepend_known incoming.old.unread (W.incoming wire.old)) (IsFault f)) }
+    ensures response { OnOk result (OfBytes (prepend_known incoming.old.unread (W.incoming wire.old))
+        (HandsOn (λ r. S.took sink.old None [] → S.took sink.new (Some r.head) r.body))) }
+    ensures fault { IfErr result (λ f. OfBytes (prepend_known incoming.old.unread (W.incoming wire.old)) (IsFault f)) }
+    ensures handed { IfErr result (λ f. f ≢ ReadFault.Memory → OfBytes (prepend_known incoming.old.unread (W.incoming wire.old))
+        (HandsFront (λ head front. S.took sink.old None [] → S.took sink.new head front))) }
     ensures counts { Counts
-        (tally (W.failed wire.old) (W.reads_never_fail wire.old) incoming.old.interrupted)
-        (tally (W.failed wire.new) (W.reads_never_fail wire.new) incoming.new.interrupted) result }
+        (tally (W.failed wire.old) (W.reads_never_fail wire.old) (W.never_errs wire.old) (W.outgoing wire.old) incoming.old.interrupted)
+        (tally (W.failed wire.new) (W.reads_never_fail wire.new) (W.never_errs wire.new) (W.outgoing wire.new) incoming.new.interrupted) result }
 {
-    let found = final_head(alloc, wire, incoming)?;
-    let framing = found.framing;
-    sink.head(found.head)?;
-    body(wire, incoming, sink, framing)?;
+    let heads = final_head(alloc, wire, incoming)?;
+    sink.head(&heads.head)?;
+    body(wire, incoming, sink, heads.framing, heads.len)?;
     Ok(())
 }
 
-/// A whole response.
+/// A whole response. Field values have no blanks at their ends.
 #[derive(Drop)]
 pub struct Response {
+    /// The status code, 200 to 999.
     pub status: u16,
+    /// The value of the first Content-Type field (RFC 9110, section 8.3).
     pub content_type: Option<Vec<u8>>,
-    /// The body has a content coding.
+    /// Whether the body has a content coding other than `identity` (RFC 9110, section 8.4).
     pub coded: bool,
+    /// The value of the first Location field (RFC 9110, section 10.2.2).
     pub location: Option<Vec<u8>>,
+    /// At most 16,777,216 bytes.
     pub body: Vec<u8>,
 }
 
-/// Reads a response and keeps it.
+/// Reads one response from a wire, as `read_into` does, and keeps it.
 pub fn read_response<W: Wire>(alloc: Global, wire: &mut W) -> Result<Response, ReadFault>
-    ensures response { IfOk result (λ r. Told (W.incoming wire.old) (IsResponseOf (response_parts r))) }
-    ensures fault { IfErr result (λ f. Told (W.incoming wire.old) (IsFault f)) }
+    ensures response { IfOk result (λ r. OfBytes (W.incoming wire.old) (BeginsWith (response_parts r))) }
+    ensures given { IfOk result (λ r. CanBeGiven (response_parts r)) }
+    ensures fault { IfErr result (λ f. OfBytes (W.incoming wire.old) (IsFault f)) }
     ensures device { IsErrOf result ReadFault.Device → HasRisen (W.failed wire.old) (W.failed wire.new) }
     ensures interrupted { IsErrOf result ReadFault.Device → IsTrue (W.reads_never_fail wire.old)
         → W.failed wire.new ≡ counted (W.failed wire.old) 1000 }
+    ensures few { result ≢ Err ReadFault.Device → W.failed wire.new < W.failed wire.old + 1000 }
+    ensures unerring { IsTrue (W.never_errs wire.old) → result ≢ Err ReadFault.Device }
+    ensures written { Keeps (W.outgoing wire.old) (W.outgoing wire.new) }
 {
     let mut gather = Gather::new(alloc);
     read_into(alloc, wire, &mut gather)?;
     let (head, body) = gather.into_parts();
-    Ok(Response {
-        status: head.status,
-        content_type: head.content_type,
-        coded: head.coded,
-        location: head.location,
-        body,
-    })
+    match head {
+        Some(head) => Ok(Response {
+            status: head.status,
+            content_type: head.content_type,
+            coded: head.coded,
+            location: head.location,
+            body,
+        }),
+        None => unreachable!(),
+    }
 }

@@ -1,7 +1,6 @@
 use Rattle.std.proofs.Common.{◌≡◌, ◌+◌, ◌-◌, ◌≤◌, ◌++◌, List, ℕ, [], length, Some}
 use Rattle.std.specs.Io.KnownBytes.{Consumes, prepend_known}
-use Rattle.response_reader.specs.Fields.{HeadParts}
-use Rattle.response_reader.specs.Passes.{Passed}
+use Rattle.response_reader.specs.Passes.{Adds, Passed}
 use Rattle.response_reader.specs.Wire.{tally, GoesOn}
 use Rattle.response_reader.proofs.body.sized_body.Given as goal
 
@@ -10,10 +9,10 @@ invariant-loop-left g l = record {
   within : l.left ≤ l.len;
   passed : Passed (prepend_known l.fn.incoming.unread (g.W.Wire.incoming l.fn.wire))
       (prepend_known l.incoming.unread (g.W.Wire.incoming l.wire))
-      (λ p. (h : HeadParts) (body : List ℕ) → g.S.Sink.took l.fn.sink (Some h) body → g.S.Sink.took l.sink (Some h) (body ++ p)) (l.len - l.left);
+      (Adds (g.S.Sink.took l.fn.sink) (g.S.Sink.took l.sink)) (l.len - l.left);
   counts : GoesOn
-      (tally (g.W.Wire.failed l.fn.wire) (g.W.Wire.reads_never_fail l.fn.wire) l.fn.incoming.interrupted)
-      (tally (g.W.Wire.failed l.wire) (g.W.Wire.reads_never_fail l.wire) l.incoming.interrupted);
+      (tally (g.W.Wire.failed l.fn.wire) (g.W.Wire.reads_never_fail l.fn.wire) (g.W.Wire.never_errs l.fn.wire) (g.W.Wire.outgoing l.fn.wire) l.fn.incoming.interrupted)
+      (tally (g.W.Wire.failed l.wire) (g.W.Wire.reads_never_fail l.wire) (g.W.Wire.never_errs l.wire) (g.W.Wire.outgoing l.wire) l.incoming.interrupted);
 }
 
 abbrev pub decreases-loop-left : goal.decreases-loop-left

@@ -1,4 +1,4 @@
-use Rattle.std.proofs.Common.{◌≡◌, ◌≤◌, ◌-◌, ℕ, List, length, drop, subst, sym, ap, arith, rules, length-drop}
+use Rattle.std.proofs.Common.{◌≡◌, ◌≤◌, ◌-◌, ◌+◌, ℕ, List, length, drop, subst, sym, ap, arith, rules, length-drop}
 use Rattle.std.proofs.lemmas.Result.{err_from_is_err_and}
 use Rattle.std.specs.Io.KnownBytes.{prepend_known}
 use Rattle.httparse.specs.Grammar.{status_code, print_response, ReadsResponse}
@@ -9,27 +9,27 @@ use Rattle.response_reader.specs.HeadsStage.{PassedInterims}
 use Rattle.response_reader.specs.Wire.{tally, GoesOn}
 use Rattle.response_reader.specs.Kinds.{IsKindOf}
 use Rattle.response_reader.proofs.HeadsStageLemmas.{passed_no_interims, told_heads_fault, head_has_bytes, response_len, passed_interim, passed_kept, few_fields}
-use Rattle.response_reader.proofs.WireLemmas.{goes_on_trans}
+use Rattle.response_reader.proofs.WireLemmas.{goes_on_trans, goes_on_same}
 use Rattle.response_reader.proofs.head.pass_interims.Goals as goal
 
 pub heads-init : goal.heads-init
 heads-init g c = record {
   fields = c.requires.fields;
-  within = omega arith;
   held = omega (arith, ap (λ (l : List ℕ). length l) c.requires.none);
   passed = passed_no_interims (prepend_known c.args.incoming.now.unread (g.W.Wire.incoming c.args.wire.now));
-  counts = record { all = λ base h. h; steady = λ h. h };
+  counts = goes_on_same _;
 }
 
 pub returns-in_err-head-clause-fault : goal.returns-in_err-head-clause-fault
 returns-in_err-head-clause-fault g c =
     let p = err_from_is_err_and c.from_residual.result c.from_residual.ensures.1 in
-    rw (p.1, p.2) (told_heads_fault c.in_err-head.field-0.0 _ _ _ c.heads.invariant.passed c.in_err-head.ensures.fault)
+    let whole : c.heads.passed + (65536 - c.heads.passed) ≡ 65536 = omega (arith, c.heads.invariant.held) in
+    rw (p.1, p.2) (told_heads_fault c.in_err-head.field-0.0 _ _ _ _ c.heads.invariant.passed whole c.in_err-head.ensures.fault)
 
 pub heads-smaller : goal.heads-smaller
 heads-smaller g c =
     let found = c.in_ok-head.ensures.whole in
-    omega (arith, found.1.len, head_has_bytes found.0, c.in_ok-head.ensures.held, response_len _ found.0 _ found.1.reads)
+    omega (arith, found.1.len, head_has_bytes found.0, c.in_ok-head.ensures.held, c.heads.invariant.held, response_len _ found.0 _ found.1.reads)
 
 pub heads-preserved : goal.heads-preserved
 heads-preserved g c =
@@ -46,14 +46,13 @@ heads-preserved g c =
     let first = prepend_known c.args.incoming.now.unread (g.W.Wire.incoming c.args.wire.now) in
     let read : ReadsResponse unread h c.consume.new.self.unread =
         subst (λ (l : List ℕ). ReadsResponse unread h l) (sym c.consume.ensures.rest) e.whole.1.reads in
-    let after = passed_interim first known unread c.consume.new.self.unread c.heads.most h before read interim e.held in
+    let after = passed_interim first known unread c.consume.new.self.unread c.heads.passed h before read interim in
     let gone = goes_on_trans _ _ _ c.heads.invariant.counts e.counts in
     record {
       fields = fields;
-      within = search rules;
-      held = omega (arith, ap (λ (l : List ℕ). length l) c.consume.ensures.rest, length-drop c.in_ok-head.head.len unread, e.held);
-      passed = subst (λ (n : ℕ). PassedInterims first (prepend_known c.consume.new.self.unread known) (c.heads.most - n)) (sym e.whole.1.len) after;
+      held = omega (arith, ap (λ (l : List ℕ). length l) c.consume.ensures.rest, length-drop c.in_ok-head.head.len unread, e.held, e.whole.1.len, response_len unread h _ read, c.heads.invariant.held);
+      passed = subst (λ (n : ℕ). PassedInterims first (prepend_known c.consume.new.self.unread known) (c.heads.passed + n)) (sym e.whole.1.len) after;
       counts = subst (λ (n : ℕ). GoesOn
-          (tally (g.W.Wire.failed c.args.wire.now) (g.W.Wire.reads_never_fail c.args.wire.now) c.args.incoming.now.interrupted)
-          (tally (g.W.Wire.failed c.next_head.new.wire) (g.W.Wire.reads_never_fail c.next_head.new.wire) n)) (sym c.consume.ensures.interrupted) gone;
+          (tally (g.W.Wire.failed c.args.wire.now) (g.W.Wire.reads_never_fail c.args.wire.now) (g.W.Wire.never_errs c.args.wire.now) (g.W.Wire.outgoing c.args.wire.now) c.args.incoming.now.interrupted)
+          (tally (g.W.Wire.failed c.next_head.new.wire) (g.W.Wire.reads_never_fail c.next_head.new.wire) (g.W.Wire.never_errs c.next_head.new.wire) (g.W.Wire.outgoing c.next_head.new.wire) n)) (sym c.consume.ensures.interrupted) gone;
     }
