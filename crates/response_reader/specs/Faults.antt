@@ -1,6 +1,6 @@
 -- Faults of a wire, and those planned for one in memory.
-use Rattle.std.specs.Prelude.{ℕ, Bool, true, false, List, [], ◌∷◌, Option, Some, None, if◌then◌else◌, ◌==◌, length}
-use Rattle.std.specs.List.{list_all}
+use Rattle.std.specs.Prelude.{ℕ, Bool, true, false, List, [], ◌∷◌, Option, option_map, ◌==◌, length}
+use Rattle.std.specs.List.{list_all, find}
 use Rattle.response_reader.specs.declared.wire.WireFault.{WireFault}
 use Rattle.response_reader.specs.declared.wire.WireFault.TheVariants.{Interrupted, Failed}
 use Rattle.response_reader.specs.declared.memory_wire.PlannedFault.{PlannedFault}
@@ -16,8 +16,7 @@ is_interruption f = may_retry f.fault
 
 -- the fault that is planned for a call, the first where there are several
 abbrev pub planned : List PlannedFault → ℕ → Option WireFault
-planned [] call = None
-planned (p ∷ ps) call = if p.call == call then Some p.fault else planned ps call
+planned faults call = option_map (λ (p : PlannedFault). p.fault) (find (λ (p : PlannedFault). p.call == call) faults)
 
 -- no fault is planned but interruptions
 abbrev pub only_interrupts : List PlannedFault → Bool

@@ -118,12 +118,10 @@ impl MemoryWire {
 fn planned_fault(faults: &[PlannedFault], call: u64) -> Option<WireFault>
     ensures { result ≡ planned faults.now call }
 {
-    for planned in faults {
-        if planned.call == call {
-            return Some(planned.fault);
-        }
-    }
-    None
+    faults
+        .iter()
+        .find(|planned| planned.call == call)
+        .map(|planned| planned.fault)
 }
 
 impl Wire for MemoryWire {
