@@ -2,6 +2,8 @@
 use Rattle.std.specs.Prelude.{ℕ, ◌^◌, Bool, true, false, not, ◌&&◌, ◌||◌, List, [], ◌∷◌, map, length, filter, flat_map, Option, Some, None, Result, Ok, Err, if◌then◌else◌, nat_lt, nat_le, ◌==◌, codes, bytes_eq}
 use Rattle.std.specs.List.{list_all, list_any}
 use Rattle.std.specs.Char.{is_ascii_digit}
+use Rattle.std.specs.Borrow.{Bor}
+use Rattle.std.specs.Option.{option_copied}
 use Rattle.std.specs.Str.{str_eq_ignore_ascii_case}
 use Rattle.std.specs.Str.Parse.{digits_value}
 use Rattle.httparse.specs.Ascii.{comma}
@@ -46,24 +48,40 @@ elements value = map trim_ows (split_commas value)
 abbrev pub is_number : List ℕ → Bool
 is_number e = nat_lt 0 (length e) && (list_all is_ascii_digit e && nat_lt (digits_value 10 e) (2 ^ 64))
 
--- the elements of all Content-Length fields: each a number, and all the same text
-abbrev pub length_of : List (List ℕ) → Result Framing ReadFault
-length_of [] = Ok UntilClose
-length_of (e ∷ es) =
-    if is_number e && list_all (bytes_eq e) es then Ok (Sized (digits_value 10 e)) else Err Length
+-- the digits that each element is, if there is one: a number, and all the same text
+abbrev pub lengths_of : List (List ℕ) → Result (Option (List ℕ)) ReadFault
+lengths_of [] = Ok None
+lengths_of (e ∷ es) = if is_number e && list_all (bytes_eq e) es then Ok (Some e) else Err Length
 
--- one coding, which is `chunked`; without any the length decides
-abbrev pub framing_by : List (List ℕ) → List (List ℕ) → Result Framing ReadFault
-framing_by [] lengths = length_of lengths
-framing_by (v ∷ []) lengths = if str_eq_ignore_ascii_case v (codes "chunked") then Ok Chunked else Err Coding
-framing_by (v ∷ w ∷ vs) lengths = Err Coding
+-- the digits as contracts see them
+abbrev pub digits_of : Result (Option (Bor (List ℕ))) ReadFault → Result (Option (List ℕ)) ReadFault
+digits_of (Ok o) = Ok (option_copied o)
+digits_of (Err f) = Err f
+
+-- the body has the length that the digits give, or without any ends with the input
+abbrev pub length_by : Result (Option (List ℕ)) ReadFault → Result Framing ReadFault
+length_by (Ok None) = Ok UntilClose
+length_by (Ok (Some digits)) = Ok (Sized (digits_value 10 digits))
+length_by (Err f) = Err f
+
+-- there is a coding: it is one, and it is `chunked`
+abbrev pub chunked_of : List (List ℕ) → Result Bool ReadFault
+chunked_of [] = Ok false
+chunked_of (v ∷ []) = if str_eq_ignore_ascii_case v (codes "chunked") then Ok true else Err Coding
+chunked_of (v ∷ w ∷ vs) = Err Coding
+
+-- a body in chunks, where there is a coding; else the length decides
+abbrev pub framing_by : Result Bool ReadFault → Result Framing ReadFault → Result Framing ReadFault
+framing_by (Ok true) length = Ok Chunked
+framing_by (Ok false) length = length
+framing_by (Err f) length = Err f
 
 -- how the body of a response with this status and these fields ends
 unfoldable pub framing_of : ℕ → List Pair → Result Framing ReadFault
 framing_of status fields =
     if status == 204 || status == 304 then Ok NoBody
-    else framing_by (values_named (codes "transfer-encoding") fields)
-      (flat_map elements (values_named (codes "content-length") fields))
+    else framing_by (chunked_of (values_named (codes "transfer-encoding") fields))
+      (length_by (lengths_of (flat_map elements (values_named (codes "content-length") fields))))
 
 -- a content coding that changes the bytes
 abbrev pub changes_content : List ℕ → Bool
