@@ -98,6 +98,7 @@ impl Incoming {
         requires some { length self.old.unread < most }
         requires room { most ≤ ROOM }
         ensures held { OnOk result (length self.new.unread ≤ most) }
+        ensures grows { OnOk result (length self.old.unread ≤ length self.new.unread) }
         ensures more { IfOk result (λ more. IsTrue more → length self.old.unread < length self.new.unread) }
         ensures short { IfOk result (λ more. IsFalse more → length self.new.unread < most) }
         ensures end { IfOk result (λ more. IsFalse more → IsAtEnd (W.incoming wire.new)) }
