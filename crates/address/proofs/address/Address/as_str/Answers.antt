@@ -1,0 +1,12 @@
+use Rattle.std.proofs.Common.{subst}
+use Rattle.address.specs.Address.{IsAddress, IsOrigin, origin_of}
+use Rattle.address.proofs.AddressLemmas.{IsAddress-text_of, IsOrigin-text_of}
+use Rattle.address.proofs.address.Address.as_str.Goals as goal
+
+pub returns-clause-address : goal.returns-clause-address
+returns-clause-address c =
+    subst IsAddress c.self.view_is (IsAddress-text_of c.self.inside.url c.self.invariant)
+
+pub returns-clause-origin : goal.returns-clause-origin
+returns-clause-origin c =
+    subst (λ t. IsOrigin (origin_of t)) c.self.view_is (IsOrigin-text_of c.self.inside.url c.self.invariant)

@@ -1,0 +1,8 @@
+use Rattle.std.proofs.Common.{ap, sym, ◌∙◌}
+use Rattle.address.specs.Address.{authority_of}
+use Rattle.address.proofs.UrlLemmas.{authority_of-text_of}
+use Rattle.address.proofs.address.Address.authority.Goals as goal
+
+pub returns-clause-value : goal.returns-clause-value
+returns-clause-value c =
+    c.slice.ensures.value ∙ sym (authority_of-text_of c.self.inside.url c.self.invariant) ∙ ap authority_of c.self.view_is

@@ -1,0 +1,185 @@
+//! Addresses: http URLs without user name, password and fragment (URL Standard, section 4.1).
+ghost use Rattle.std.specs.Prelude.{◌≡◌, ◌<◌, All, IsAscii, IfOk, Ok, Err, length, unwrap_or};
+ghost use Rattle.address.specs.declared.fault.AddressFault.TheVariants.{TooLong};
+ghost use Rattle.address.specs.Address.{Gives, address_of, is_robots_file, IsAddress, IsOrigin, read_address, join_address, origin_of, host_of, port_of, authority_of, dir_of, file_of, path_query_of};
+
+use crate::{AddressFault, http_url};
+use std::alloc::{AllocError, Global};
+use std::marker::Model;
+use url::{Position, Url};
+
+/// The most bytes of a text that is read, and of an address.
+pub const MAX_ADDRESS: usize = 8192;
+
+/// The most bytes of an address's host. With it, each origin's `/robots.txt` is an address too.
+pub const MAX_HOST: usize = 255;
+
+/// An http URL without user name, password and fragment, of at most [`MAX_ADDRESS`] bytes, its host
+/// of at most [`MAX_HOST`]. Equality, order and hash are those of its text, by bytes.
+#[derive(Drop)]
+pub struct Address {
+    url: Url,
+}
+
+// Contracts see an address as its text.
+impl Model for Address {
+    ghost use Rattle.address.specs.Address.{AddressText, text_of};
+    ghost use Rattle.address.specs.Layout.{IsHttp};
+
+    ghost Value = { AddressText };
+
+    ghost view = { λ a. text_of a.url };
+
+    ghost invariant = { λ a. IsHttp a.url };
+}
+
+impl Address {
+    /// Reads an absolute URL, as `http://h:81/a?b`; a fragment is dropped (URL Standard, section 4.4).
+    /// [`AddressFault`] has the condition of each refusal.
+    pub fn read(alloc: Global, text: &str) -> Result<Address, AddressFault>
+        ensures value { Gives result (read_address text.now) }
+        ensures long { MAX_ADDRESS < length text.now → result ≡ Err TooLong }
+    {
+        if text.len() > MAX_ADDRESS {
+            return Err(AddressFault::TooLong);
+        }
+        Address::from_url(Url::parse(alloc, text)?)
+    }
+
+    /// Reads a URL, as `../a?b`, with this address as its base; a fragment is dropped (URL Standard,
+    /// section 4.4). [`AddressFault`] has the condition of each refusal.
+    pub fn join(&self, link: &str) -> Result<Address, AddressFault>
+        ensures value { Gives result (join_address self.now link.now) }
+        ensures long { MAX_ADDRESS < length link.now → result ≡ Err TooLong }
+    {
+        if link.len() > MAX_ADDRESS {
+            return Err(AddressFault::TooLong);
+        }
+        Address::from_url(self.url.join(link)?)
+    }
+
+    fn from_url(url: Url) -> Result<Address, AddressFault>
+        ensures { Gives result (address_of url) }
+    {
+        if url.scheme() != "http" {
+            return Err(AddressFault::NotHttp);
+        }
+        if http_url::has_credentials(&url) {
+            return Err(AddressFault::UserInfo);
+        }
+        let url = http_url::without_fragment(url)?;
+        if http_url::is_too_long(&url) {
+            return Err(AddressFault::TooLong);
+        }
+        Ok(Address { url })
+    }
+
+    // `join` of a path that every address can be joined with: only memory can be wanting.
+    pub(crate) fn join_path(&self, path: &str) -> Result<Address, AllocError>
+        ensures { IfOk result (λ address. join_address self.now path.now ≡ Ok address) }
+    {
+        match self.join(path) {
+            Ok(address) => Ok(address),
+            Err(_) => Err(AllocError),
+        }
+    }
+
+    /// An equal address. The error is that memory is wanting.
+    pub fn try_clone(&self) -> Result<Address, AllocError>
+        ensures { IfOk result (λ copy. copy ≡ self.now) }
+    {
+        Ok(Address {
+            url: self.url.clone()?,
+        })
+    }
+
+    /// The text of the address, as `http://h:81/a?b`. Reading it gives this address again.
+    pub fn as_str(&self) -> &str
+        ensures value { result.now ≡ self.now }
+        ensures ascii { IsAscii result.now }
+
+        // What every address is, for callers to use.
+        ensures address { IsAddress self.now }
+        ensures origin { IsOrigin (origin_of self.now) }
+    {
+        http_url::text(&self.url)
+    }
+
+    /// Scheme, host and port, as `http://h:81`; the port is left out where it is 80 (URL Standard,
+    /// section 4.7).
+    pub fn origin(&self) -> &str
+        ensures value { result.now ≡ origin_of self.now }
+        ensures ascii { IsAscii result.now }
+    {
+        self.url.slice(Position::BeforeScheme, Position::AfterPort)
+    }
+
+    /// The host, as the address writes it: a domain in lower case, or an IP address (URL Standard,
+    /// section 3).
+    pub fn host(&self) -> &str
+        ensures value { result.now ≡ host_of self.now }
+        ensures ascii { IsAscii result.now }
+    {
+        http_url::host(&self.url)
+    }
+
+    /// The port, 80 where the address names none (RFC 9110, section 4.2.1).
+    pub fn port(&self) -> u16
+        ensures { result ≡ unwrap_or (port_of self.now) 80 }
+    {
+        self.url.port().unwrap_or(80)
+    }
+
+    /// Host and port, as `h:81`: what the Host field of a request holds (RFC 9110, section 7.2). The
+    /// port is left out where it is 80.
+    pub fn authority(&self) -> &str
+        ensures value { result.now ≡ authority_of self.now }
+        ensures ascii { IsAscii result.now }
+    {
+        self.url.slice(Position::BeforeHost, Position::AfterPort)
+    }
+
+    /// The path up to and with its last `/`, as `/a/` of `http://h/a/b?c`.
+    pub fn dir(&self) -> &str
+        ensures value { result.now ≡ dir_of self.now }
+        ensures ascii { IsAscii result.now }
+    {
+        let path = self.url.path();
+        &path[..http_url::dir_len(path)]
+    }
+
+    /// The path after its last `/`, as `b` of `http://h/a/b?c`; it may be empty.
+    pub fn file(&self) -> &str
+        ensures value { result.now ≡ file_of self.now }
+        ensures ascii { IsAscii result.now }
+    {
+        let path = self.url.path();
+        &path[http_url::dir_len(path)..]
+    }
+
+    /// The path, and the query with its `?`, as `/a/b?c`: what a request asks for (RFC 9112,
+    /// section 3.2.1).
+    pub fn path_query(&self) -> &str
+        ensures value { result.now ≡ path_query_of self.now }
+        ensures ascii { IsAscii result.now }
+    {
+        self.url.slice(Position::BeforePath, Position::AfterQuery)
+    }
+
+    /// Whether path and query are exactly `/robots.txt`, the place of the origin's robots file
+    /// (RFC 9309, section 2.3).
+    pub fn is_robots_file(&self) -> bool
+        ensures { result ≡ is_robots_file self.now }
+    {
+        self.path_query() == "/robots.txt"
+    }
+}
+
+/// Tells the caller's proof that each of these texts is an address. It does nothing else.
+pub fn all_addresses(addresses: &[Address])
+    ensures { All IsAddress addresses.now }
+{
+    for address in addresses {
+        let _text = address.as_str();
+    }
+}

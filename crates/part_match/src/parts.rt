@@ -1,0 +1,37 @@
+//! The parts of a pattern, and the texts that they match.
+ghost use Rattle.std.specs.Prelude.{◌≡◌, ◌∷◌, [], ℕ, Bool, List, MatchOption};
+
+/// A part of a pattern: a run takes any piece of the text, any other part takes one octet.
+pub trait Part {
+    ghost is_run: { Self → Bool };
+
+    ghost takes: { Self → ℕ → Bool };
+
+    /// Whether the part takes any piece, the empty one too.
+    fn is_run(&self) -> bool
+        ensures { result ≡ is_run self.now };
+
+    /// Whether a part that is no run takes the octet. What a run answers here counts for nothing.
+    fn takes(&self, octet: u8) -> bool
+        ensures { result ≡ takes self.now octet };
+}
+
+/// A text that is read octet by octet, and can be read again from any place that was reached.
+pub trait Text: Copy {
+    ghost octets: { Self → List ℕ };
+
+    /// The first octet and the text behind it, or `None` at the end.
+    fn split_first(self) -> Option<(u8, Self)>
+        ensures { MatchOption result (octets self ≡ []) (λ x. octets self ≡ x.0 ∷ octets x.1) };
+}
+
+impl Text for &[u8] {
+    ghost octets = { λ text. text.now };
+
+    fn split_first(self) -> Option<(u8, Self)> {
+        match self {
+            [first, behind @ ..] => Some((*first, behind)),
+            [] => None,
+        }
+    }
+}

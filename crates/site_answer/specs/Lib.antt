@@ -1,0 +1,3 @@
+pub mod FaultWords
+pub mod Outcomes
+pub mod Logs
