@@ -67,14 +67,14 @@ keeps_same (Some x) = refl
 
 -- nothing was read
 pub goes_on_same : (a : Tally) → GoesOn a a
-goes_on_same a = record { all = λ base h. h; unfailing = λ h. h; unerring = λ h. h; written = keeps_same a.written; few = λ h. h }
+goes_on_same a = record { all = λ base h. h; unfailing = λ h. h; unerring = λ h. h; kept = keeps_same a.kept; few = λ h. h }
 
 pub goes_on_trans : (a b c : Tally) → GoesOn a b → GoesOn b c → GoesOn a c
 goes_on_trans a b c x y = record {
   all = λ base h. y.all base (x.all base h);
   unfailing = λ h. y.unfailing (x.unfailing h);
   unerring = λ h. y.unerring (x.unerring h);
-  written = keeps_trans a.written b.written c.written x.written y.written;
+  kept = keeps_trans a.kept b.kept c.kept x.kept y.kept;
   few = λ h. y.few (x.few h);
 }
 
@@ -83,5 +83,5 @@ gives_up_after a b c x y = record {
   risen = λ base h. y.risen base (x.all base h);
   only = λ unfailing base h. y.only (x.unfailing unfailing) base (x.all base h);
   erred = λ h. y.erred (x.unerring h);
-  written = keeps_trans a.written b.written c.written x.written y.written;
+  kept = keeps_trans a.kept b.kept c.kept x.kept y.kept;
 }

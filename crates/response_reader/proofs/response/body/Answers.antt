@@ -32,9 +32,14 @@ returns-in-Sized-2-clause-fault g c =
       (λ f stop ended. fault_sized (prepend_known c.args.incoming.now.unread (g.W.Wire.incoming c.args.wire.now)) c.args.used c.in-Sized-2.len f few stop ended)
       c.sized_body.ensures.only c.sized_body.ensures.ended)
 
+pub returns-in-Chunked-clause-body : goal.returns-in-Chunked-clause-body
+returns-in-Chunked-clause-body g c = rw c.in-Chunked.is c.chunked_body.ensures.body
+
 pub returns-in-Chunked-clause-fault : goal.returns-in-Chunked-clause-fault
-returns-in-Chunked-clause-fault g c =
-    rw c.chunked_body.ensures (told_quiet (prepend_known c.args.incoming.now.unread (g.W.Wire.incoming c.args.wire.now)) (BodyFault c.args.used c.args.framing Memory) (λ bytes. tt))
+returns-in-Chunked-clause-fault g c = rw c.in-Chunked.is c.chunked_body.ensures.fault
+
+pub returns-in-Chunked-clause-handed : goal.returns-in-Chunked-clause-handed
+returns-in-Chunked-clause-handed g c = rw c.in-Chunked.is c.chunked_body.ensures.handed
 
 pub returns-in-UntilClose-clause-fault : goal.returns-in-UntilClose-clause-fault
 returns-in-UntilClose-clause-fault g c =
