@@ -11,9 +11,10 @@ use Rattle.response_reader.specs.Bodies.{ReadsSize, ReadsChunk, ReadsChunks, Rea
 
 -- two fronts of one length are one
 pub front_unique : (a b : List ℕ) (n : ℕ) (r q : List ℕ) → length a ≡ n → length b ≡ n → a ++ r ≡ b ++ q → (a ≡ b) × (r ≡ q)
-front_unique a b n r q la lb e =
-    (sym (take_at a r n la) ∙ ap (λ (t : List ℕ). Rattle.std.proofs.Common.take n t) e ∙ take_at b q n lb,
-     sym (drop_at a r n la) ∙ ap (λ (t : List ℕ). Rattle.std.proofs.Common.drop n t) e ∙ drop_at b q n lb)
+front_unique a b n r q la lb e = (
+  sym (take_at a r n la) ∙ ap (λ (t : List ℕ). Rattle.std.proofs.Common.take n t) e ∙ take_at b q n lb,
+  sym (drop_at a r n la) ∙ ap (λ (t : List ℕ). Rattle.std.proofs.Common.drop n t) e ∙ drop_at b q n lb,
+)
 
 pub size_unique : (bytes : List ℕ) (m n : ℕ) (r q : List ℕ) → ReadsSize bytes m r → ReadsSize bytes n q → (m ≡ n) × (r ≡ q)
 size_unique bytes m n r q x y =
@@ -52,9 +53,10 @@ trailers_unique bytes r q x y =
 pub chunked_unique : (bytes b c r q : List ℕ) → ReadsChunked bytes b r → ReadsChunked bytes c q → (b ≡ c) × (r ≡ q)
 chunked_unique bytes b c r q x y =
     let same = chunks_unique x.pieces y.pieces bytes x.tail y.tail x.after y.after x.chunks y.chunks x.last y.last in
-    let next = size_unique y.tail 0 0 x.after y.after (subst (λ (t : List ℕ). ReadsSize t 0 x.after) same.1 x.last) y.last in
-    (x.body_is ∙ ap joined same.0 ∙ sym y.body_is,
-     trailers_unique y.after r q (subst (λ (t : List ℕ). ReadsTrailers t r) next.1 x.trailers) y.trailers)
+    let next = size_unique y.tail 0 0 x.after y.after (subst (λ (t : List ℕ). ReadsSize t 0 x.after) same.1 x.last) y.last in (
+      x.body_is ∙ ap joined same.0 ∙ sym y.body_is,
+      trailers_unique y.after r q (subst (λ (t : List ℕ). ReadsTrailers t r) next.1 x.trailers) y.trailers,
+    )
 
 pub body_unique : (f : Framing) (bytes b c r q : List ℕ) → ReadsBody f bytes b r → ReadsBody f bytes c q → (b ≡ c) × (r ≡ q)
 body_unique NoBody bytes b c r q x y = (x.0 ∙ sym y.0, sym x.1 ∙ y.1)

@@ -22,11 +22,11 @@ passes_by before known unread rest n Adds kept there left adds none end = record
   passed = record {
     piece = take n unread;
     bytes =
-      let whole = take-append-drop n unread in
-      let used : Consumes (prepend_known unread known) (prepend_known (drop n unread) known) (take n unread) =
-          subst (λ (l : List ℕ). Consumes (prepend_known l known) (prepend_known (drop n unread) known) (take n unread)) whole
-            (ahead_used (take n unread) (drop n unread) known) in
-      subst (λ (l : List ℕ). Consumes before (prepend_known l known) (take n unread)) (sym left)
+        let whole = take-append-drop n unread in
+        let used : Consumes (prepend_known unread known) (prepend_known (drop n unread) known) (take n unread) =
+        subst (λ (l : List ℕ). Consumes (prepend_known l known) (prepend_known (drop n unread) known) (take n unread)) whole
+        (ahead_used (take n unread) (drop n unread) known) in
+        subst (λ (l : List ℕ). Consumes before (prepend_known l known) (take n unread)) (sym left)
         (consumes_trans before (prepend_known unread known) (prepend_known (drop n unread) known) [] (take n unread) kept used);
     count_is = length-take-le n unread there;
     adds = adds;
@@ -53,9 +53,11 @@ passed_more a b c First Second Both m n join x y = record {
 
 pub told_short : (a b : Option (List ℕ)) (Adds : List ℕ → Type 0) (m len : ℕ) → Passed a b Adds m → IsAtEnd b → m < len
     → OfBytes a (λ bytes. length bytes < len)
-told_short a b Adds m len x end short =
-    (x.piece ++ [], tells_before a b x.piece [] x.bytes (tells_end b end),
-     omega (arith, append-nil x.piece, ap (λ (l : List ℕ). length l) (append-nil x.piece), x.count_is))
+told_short a b Adds m len x end short = (
+  x.piece ++ [],
+  tells_before a b x.piece [] x.bytes (tells_end b end),
+  omega (arith, append-nil x.piece, ap (λ (l : List ℕ). length l) (append-nil x.piece), x.count_is),
+)
   where
     tells_end : (o : Option (List ℕ)) → IsAtEnd o → Tells o []
     tells_end None e = tt
@@ -85,16 +87,20 @@ told_some (Some x) = (x, refl)
 pub told_long : (a b : Option (List ℕ)) (Adds : List ℕ → Type 0) (m most : ℕ) → Passed a b Adds m → most < m
     → OfBytes a (λ bytes. most < length bytes)
 told_long a b Adds m most x long =
-    let later = told_some b in
-    (x.piece ++ later.0, tells_before a b x.piece later.0 x.bytes later.1,
-     omega (arith, length-append x.piece later.0, x.count_is))
+    let later = told_some b in (
+      x.piece ++ later.0,
+      tells_before a b x.piece later.0 x.bytes later.1,
+      omega (arith, length-append x.piece later.0, x.count_is),
+    )
 
 -- what was handed on is a front of what was ahead
 pub told_front : (a b : Option (List ℕ)) (P : List ℕ → Type 0) (m most : ℕ) → Passed a b P m → m ≤ most → OfBytes a (PassedFront P most)
 told_front a b P m most x few =
-    let later = told_some b in
-    (x.piece ++ later.0, tells_before a b x.piece later.0 x.bytes later.1,
-     record { piece = x.piece; more = later.0; text = refl; few = omega (arith, x.count_is); adds = x.adds })
+    let later = told_some b in (
+      x.piece ++ later.0,
+      tells_before a b x.piece later.0 x.bytes later.1,
+      record { piece = x.piece; more = later.0; text = refl; few = omega (arith, x.count_is); adds = x.adds },
+    )
 
 -- what was handed on where a step failed, which left the sink as it was unless memory ran out
 pub handed_err : (S : Type 0) (took : S → Option HeadParts → List ℕ → Type 0) (first now last : S) (a b : Option (List ℕ)) (m most : ℕ) (f : ReadFault)

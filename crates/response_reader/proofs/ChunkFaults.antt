@@ -40,8 +40,16 @@ open_chunk_lacks taken tail left body rest x (at_chunk d next chunk few further)
     let text = ap (λ (l : List ℕ). length l) x.text in
     let lacks = x.lacks in
     let len = x.size_is in
-    omega (arith, size, after, text, chunk_len (tail ++ left) d next chunk, length-append x.after left, length-append x.after x.more,
-           length-append x.content crlf_bytes)
+    omega (
+      arith,
+      size,
+      after,
+      text,
+      chunk_len (tail ++ left) d next chunk,
+      length-append x.after left,
+      length-append x.after x.more,
+      length-append x.content crlf_bytes,
+    )
 
 open_trailers_lack : (tail left body rest : List ℕ) → IsOpenTrailers tail → Behind (tail ++ left) body rest → length left ≤ length rest → ⊥
 open_trailers_lack tail left body rest x (at_end after line trailers) short =
@@ -59,8 +67,10 @@ ends_lack front left body rest x reads short = by x.lacks
   where
     here : GoesOnChunked (x.tail ++ left) body rest x.pieces
     here = chunked_behind x.pieces (front ++ left) (x.tail ++ left) body rest (chunks_append x.pieces front x.tail left x.chunks) reads
+
     on : Behind (x.tail ++ left) here.later rest
     on = behind (x.tail ++ left) here.later rest here.reads
+
     by : IsOpenLine x.tail ⊎ IsOpenChunk (length (joined x.pieces)) x.tail ⊎ IsOpenTrailers x.tail → ⊥
     by (inl line) = line_lacks x.tail left rest line.0 (line_of_behind (x.tail ++ left) here.later rest on) short
     by (inr (inl chunk)) = open_chunk_lacks (length (joined x.pieces)) x.tail left here.later rest chunk on short
@@ -76,7 +86,7 @@ past_lacks used bytes body rest x reads len =
     let text = ap (λ (l : List ℕ). length l) x.text in
     let full = x.full in
     ends_lack x.front x.more body rest x.ends (subst (λ (b : List ℕ). ReadsChunked b body rest) x.text reads)
-      (omega (arith, text, full, length-append x.front x.more))
+    (omega (arith, text, full, length-append x.front x.more))
 
 announced_lacks : (used : ℕ) (bytes body rest : List ℕ) → AnnouncesLong used bytes → ReadsChunked bytes body rest
     → length body ≤ max_body_len → used + length bytes ≤ length rest + max_response_len → ⊥
@@ -84,6 +94,7 @@ announced_lacks used bytes body rest x reads few len = by (behind x.tail here.la
   where
     here : GoesOnChunked x.tail body rest x.pieces
     here = chunked_behind x.pieces bytes x.tail body rest x.chunks reads
+
     by : Behind x.tail here.later rest → ⊥
     by (at_end after line trailers) =
         let same = size_unique x.tail x.size 0 x.after after x.line line in
@@ -94,6 +105,7 @@ announced_lacks used bytes body rest x reads few len = by (behind x.tail here.la
       where
         same : (x.size ≡ length d) × (x.after ≡ chunk.after)
         same = size_unique x.tail x.size (length d) x.after chunk.after x.line chunk.line
+
         by_size : (max_body_len < length (joined x.pieces) + x.size) ⊎ (max_response_len + length x.after < used + length bytes + x.size + 2) → ⊥
         by_size (inl long) =
             let size = same.0 in
@@ -138,7 +150,7 @@ bad_trailers : (tail body rest : List ℕ) → HasBadTrailers tail → Behind ta
 bad_trailers tail body rest b (at_end after line trailers) =
     let same = size_unique tail 0 0 b.0 after b.1 line in
     b.2 [] trailers.fields trailers.last rest
-      (subst (λ (t : List ℕ). ReadsSection t trailers.fields trailers.last rest) (sym (append-nil b.0 ∙ same.1)) trailers.reads)
+    (subst (λ (t : List ℕ). ReadsSection t trailers.fields trailers.last rest) (sym (append-nil b.0 ∙ same.1)) trailers.reads)
 bad_trailers tail body rest b (at_chunk d next chunk few further) =
     let same = size_unique tail 0 (length d) b.0 chunk.after b.1 chunk.line in
     let none = same.0 in
@@ -150,8 +162,10 @@ bad_lacks bytes body rest x reads = by x.bad
   where
     here : GoesOnChunked x.tail body rest x.pieces
     here = chunked_behind x.pieces bytes x.tail body rest x.chunks reads
+
     on : Behind x.tail here.later rest
     on = behind x.tail here.later rest here.reads
+
     by : NeverHasChunkLine x.tail ⊎ IsLongLine x.tail ⊎ LacksCrlf x.tail ⊎ HasBadTrailers x.tail → ⊥
     by (inl never) = never_line x.tail rest never (line_of_behind x.tail here.later rest on)
     by (inr (inl long)) = long_line x.tail rest long (line_of_behind x.tail here.later rest on)
@@ -164,7 +178,7 @@ full_lacks after rest l x =
     let full = l.full in
     let within = x.within in
     section_lacks l.front l.more rest l.none (subst (λ (t : List ℕ). ReadsTrailers t rest) l.text x)
-      (omega (arith, text, full, within, length-append l.front l.more))
+    (omega (arith, text, full, within, length-append l.front l.more))
 
 many_lacks : (after rest : List ℕ) → SectionOverflows max_fields after → ReadsTrailers after rest → ⊥
 many_lacks after rest over x =
@@ -177,6 +191,7 @@ long_trailers_lack bytes body rest x reads = by (behind x.tail here.later rest h
   where
     here : GoesOnChunked x.tail body rest x.pieces
     here = chunked_behind x.pieces bytes x.tail body rest x.chunks reads
+
     by : Behind x.tail here.later rest → ⊥
     by (at_chunk d next chunk few further) =
         let same = size_unique x.tail 0 (length d) x.after chunk.after x.last chunk.line in
@@ -187,6 +202,7 @@ long_trailers_lack bytes body rest x reads = by (behind x.tail here.later rest h
       where
         here_too : ReadsTrailers x.after rest
         here_too = subst (λ (t : List ℕ). ReadsTrailers t rest) (sym (size_unique x.tail 0 0 x.after after x.last line).1) trailers
+
         by_kind : IsFullOfTrailers x.after ⊎ (Rattle.httparse.specs.Spans.SectionExceeds max_fields x.after × SectionOverflows max_fields x.after) → ⊥
         by_kind (inl full) = full_lacks x.after rest full here_too
         by_kind (inr many) = many_lacks x.after rest many.1 here_too

@@ -31,7 +31,7 @@ front_whole u left n = ap (λ (l : List ℕ). l ++ left) (sym (take-append-drop 
 pub never_line_ahead : (u left : List ℕ) (n : ℕ) → NeverHasChunkLine (take n u) → NeverHasChunkLine (u ++ left)
 never_line_ahead u left n never more l rest x =
     never ((drop n u ++ left) ++ more) l rest
-      (subst (λ (t : List ℕ). ReadsChunkLine t l rest) (ap (λ (t : List ℕ). t ++ more) (front_whole u left n) ∙ append_assoc (take n u) (drop n u ++ left) more) x)
+    (subst (λ (t : List ℕ). ReadsChunkLine t l rest) (ap (λ (t : List ℕ). t ++ more) (front_whole u left n) ∙ append_assoc (take n u) (drop n u ++ left) more) x)
 
 pub has_line : (u : List ℕ) (held most len size : ℕ) (l : ChunkLine) → held ≤ most → IsChunkLineAt (take held u) len size l → HasLine most u len size
 has_line u held most len size l small x =
@@ -70,7 +70,7 @@ pub line_ended : (u : List ℕ) (known : Option (List ℕ)) (held most : ℕ) �
 line_ended u known held most is ne none may end =
     let whole = take_held u held most is ne in
     told_end u known (LineStage most Ended) end
-      (subst (λ (t : List ℕ). HasNoChunkLine t) whole none, subst (λ (t : List ℕ). MayBecomeChunkLine t) whole may, omega arith)
+    (subst (λ (t : List ℕ). HasNoChunkLine t) whole none, subst (λ (t : List ℕ). MayBecomeChunkLine t) whole may, omega arith)
 
 pub full_line_ahead : (most : ℕ) (u left : List ℕ) → IsFullOfLine most u → IsFullOfLine most (u ++ left)
 full_line_ahead most u left x = record {
@@ -101,7 +101,7 @@ pub told_full_line : (a known : Option (List ℕ)) (u : List ℕ) (most n : ℕ)
     → OfBytes a (IsFullOfLine n)
 told_full_line a known u most n same moved full =
     moved_back a (prepend_known u known) (IsFullOfLine n) moved
-      (told_ahead u known (IsFullOfLine n) (λ left. full_line_ahead n u left (subst (λ (k : ℕ). IsFullOfLine k u) same full)))
+    (told_ahead u known (IsFullOfLine n) (λ left. full_line_ahead n u left (subst (λ (k : ℕ). IsFullOfLine k u) same full)))
 
 -- content that the input's end cuts short
 pub content_short : (size : ℕ) (tail : List ℕ) → length tail < size → EndsInContent size tail
@@ -130,7 +130,10 @@ told_content_stop a size f (inr (inr is)) ended =
 content_crlf : (size : ℕ) (f : ReadFault) (content tail : List ℕ) → length content ≡ size → CrlfStage f tail → ContentStage size f (content ++ tail)
 content_crlf size Device content tail len x = tt
 content_crlf size Ended content tail len x = record {
-  content = content; more = x.0; size_is = len; lacks = x.1;
+  content = content;
+  more = x.0;
+  size_is = len;
+  lacks = x.1;
   text = append_assoc content tail x.0 ∙ ap (λ (l : List ℕ). content ++ l) x.2;
 }
 content_crlf size Chunk content tail len x = record { content = content; rest = tail; size_is = len; text = refl; never = x }
@@ -153,30 +156,35 @@ pub told_never_crlf : (a known : Option (List ℕ)) (u : List ℕ) (f : ReadFaul
     → OfBytes a (CrlfStage f)
 told_never_crlf a known u f moved bad =
     subst (λ (e : ReadFault). OfBytes a (CrlfStage e)) (sym bad.0)
-      (moved_back a (prepend_known u known) NeverHasCrlf moved (told_ahead u known NeverHasCrlf (λ left. never_crlf_ahead u left bad.1)))
+    (moved_back a (prepend_known u known) NeverHasCrlf moved (told_ahead u known NeverHasCrlf (λ left. never_crlf_ahead u left bad.1)))
 
 pub told_never_line : (a known : Option (List ℕ)) (u : List ℕ) (held most : ℕ) (f : ReadFault) → Consumes a (prepend_known u known) []
     → (f ≡ Chunk) × NeverHasChunkLine (take held u) → OfBytes a (LineStage most f)
 told_never_line a known u held most f moved bad =
     subst (λ (e : ReadFault). OfBytes a (LineStage most e)) (sym bad.0)
-      (moved_back a (prepend_known u known) NeverHasChunkLine moved (told_ahead u known NeverHasChunkLine (λ left. never_line_ahead u left held bad.1)))
+    (moved_back a (prepend_known u known) NeverHasChunkLine moved (told_ahead u known NeverHasChunkLine (λ left. never_line_ahead u left held bad.1)))
 
 -- ---- trailers
 
 never_section_ahead : (u left : List ℕ) (n : ℕ) → NeverHasSection (take n u) → NeverHasSection (u ++ left)
 never_section_ahead u left n never more fields last rest x =
     never ((drop n u ++ left) ++ more) fields last rest
-      (subst (λ (t : List ℕ). ReadsSection t fields last rest) (ap (λ (t : List ℕ). t ++ more) (front_whole u left n) ∙ append_assoc (take n u) (drop n u ++ left) more) x)
+    (subst (λ (t : List ℕ). ReadsSection t fields last rest) (ap (λ (t : List ℕ). t ++ more) (front_whole u left n) ∙ append_assoc (take n u) (drop n u ++ left) more) x)
 
 overflow_ahead : (u left : List ℕ) (n : ℕ) → SectionOverflows max_fields (take n u) → SectionOverflows max_fields (u ++ left)
 overflow_ahead u left n over more fields last rest x =
     over ((drop n u ++ left) ++ more) fields last rest
-      (subst (λ (t : List ℕ). ReadsSection t fields last rest) (ap (λ (t : List ℕ). t ++ more) (front_whole u left n) ∙ append_assoc (take n u) (drop n u ++ left) more) x)
+    (subst (λ (t : List ℕ). ReadsSection t fields last rest) (ap (λ (t : List ℕ). t ++ more) (front_whole u left n) ∙ append_assoc (take n u) (drop n u ++ left) more) x)
 
 exceeds_ahead : (u left : List ℕ) (n : ℕ) → SectionExceeds max_fields (take n u) → SectionExceeds max_fields (u ++ left)
-exceeds_ahead u left n x =
-    (x.0, x.1 ++ (drop n u ++ left),
-     front_whole u left n ∙ ap (λ (l : List ℕ). l ++ (drop n u ++ left)) x.2 ∙ append_assoc x.0 x.1 (drop n u ++ left), x.3, x.4, x.5)
+exceeds_ahead u left n x = (
+  x.0,
+  x.1 ++ (drop n u ++ left),
+  front_whole u left n ∙ ap (λ (l : List ℕ). l ++ (drop n u ++ left)) x.2 ∙ append_assoc x.0 x.1 (drop n u ++ left),
+  x.3,
+  x.4,
+  x.5,
+)
 
 -- what the parser's error says
 pub told_section_error : (a known : Option (List ℕ)) (u : List ℕ) (held most : ℕ) (f : ReadFault) → Consumes a (prepend_known u known) []
@@ -184,11 +192,11 @@ pub told_section_error : (a known : Option (List ℕ)) (u : List ℕ) (held most
     → (f ≡ HeadLong → SectionOverflows max_fields (take held u)) → OfBytes a (SectionStage most f)
 told_section_error a known u held most f moved (inl is) never exceeds over =
     subst (λ (e : ReadFault). OfBytes a (SectionStage most e)) (sym is)
-      (moved_back a (prepend_known u known) NeverHasSection moved (told_ahead u known NeverHasSection (λ left. never_section_ahead u left held (never is))))
+    (moved_back a (prepend_known u known) NeverHasSection moved (told_ahead u known NeverHasSection (λ left. never_section_ahead u left held (never is))))
 told_section_error a known u held most f moved (inr is) never exceeds over =
     subst (λ (e : ReadFault). OfBytes a (SectionStage most e)) (sym is)
-      (moved_back a (prepend_known u known) (SectionStage most HeadLong) moved
-        (told_ahead u known (SectionStage most HeadLong) (λ left. (exceeds_ahead u left held (exceeds is), overflow_ahead u left held (over is)))))
+    (moved_back a (prepend_known u known) (SectionStage most HeadLong) moved
+    (told_ahead u known (SectionStage most HeadLong) (λ left. (exceeds_ahead u left held (exceeds is), overflow_ahead u left held (over is)))))
 
 pub has_section : (u : List ℕ) (held most len : ℕ) → held ≤ most → HasSection (length (take held u)) (take held u) len → HasSection most u len
 has_section u held most len small x =
@@ -199,7 +207,7 @@ has_section u held most len small x =
     let there = x.there in
     let whole = ap (λ (t : List ℕ). length t) x.reads.1 in
     let is : length text ≡ len =
-        omega (arith, whole, length-append text (drop len (take held u)), Rattle.std.proofs.Common.length-drop len (take held u)) in
+    omega (arith, whole, length-append text (drop len (take held u)), Rattle.std.proofs.Common.length-drop len (take held u)) in
     let left : rest ≡ drop len u = sym (ap (λ (t : List ℕ). drop len t) here.1 ∙ drop_at text rest len is) in
     record {
       fields = x.fields;
@@ -226,7 +234,7 @@ pub section_ended : (u : List ℕ) (known : Option (List ℕ)) (held most : ℕ)
 section_ended u known held most is ne none may end =
     let whole = take_held u held most is ne in
     told_end u known (SectionStage most Ended) end
-      (subst (λ (t : List ℕ). HasNoSection t) whole none, subst (λ (t : List ℕ). MayBecomeSection t) whole may, omega arith)
+    (subst (λ (t : List ℕ). HasNoSection t) whole none, subst (λ (t : List ℕ). MayBecomeSection t) whole may, omega arith)
 
 full_section_ahead : (most : ℕ) (u left : List ℕ) → IsFullOfSection most u → IsFullOfSection most (u ++ left)
 full_section_ahead most u left x = record {
@@ -242,7 +250,7 @@ pub told_full_section : (a known : Option (List ℕ)) (u : List ℕ) (most n : �
     → OfBytes a (IsFullOfSection n)
 told_full_section a known u most n same moved full =
     moved_back a (prepend_known u known) (IsFullOfSection n) moved
-      (told_ahead u known (IsFullOfSection n) (λ left. full_section_ahead n u left (subst (λ (k : ℕ). IsFullOfSection k u) same full)))
+    (told_ahead u known (IsFullOfSection n) (λ left. full_section_ahead n u left (subst (λ (k : ℕ). IsFullOfSection k u) same full)))
 
 pub trailers_of_section : (room : ℕ) (f : ReadFault) (tail : List ℕ) → SectionStage (min room max_heads_len) f tail → TrailersStage room f tail
 trailers_of_section room Device tail x = tt
@@ -265,9 +273,9 @@ pub told_line_end : (a known left : Option (List ℕ)) (old new : List ℕ) (k h
 told_line_end a known left old new k held most more moved fills ended is ne none may =
     let same = fills.unread ∙ ap (λ (l : List ℕ). old ++ l) (fills.none ended) ∙ append-nil old in
     moved_back a (prepend_known old known) (LineStage most Ended) moved
-      (moved_back (prepend_known old known) (prepend_known new left) (LineStage most Ended) (fills_ahead old new known left k more fills)
-        (subst (λ (u : List ℕ). OfBytes (prepend_known u left) (LineStage most Ended)) (sym same)
-          (line_ended old left held most is ne none may (fills.end ended))))
+    (moved_back (prepend_known old known) (prepend_known new left) (LineStage most Ended) (fills_ahead old new known left k more fills)
+    (subst (λ (u : List ℕ). OfBytes (prepend_known u left) (LineStage most Ended)) (sym same)
+    (line_ended old left held most is ne none may (fills.end ended))))
 
 -- a line has bytes
 pub line_has_bytes : (l : ChunkLine) → 0 < length (print_chunk_line l)
@@ -290,8 +298,8 @@ took_line a known u rest most len size moved small x left = record {
   text = print_chunk_line x.line;
   bytes = consumes_trans a (prepend_known u known) (prepend_known rest known) [] (print_chunk_line x.line) moved
       (subst (λ (l : List ℕ). Consumes (prepend_known l known) (prepend_known rest known) (print_chunk_line x.line))
-        (sym (x.reads.1 ∙ ap (λ (l : List ℕ). print_chunk_line x.line ++ l) (sym left)))
-        (ahead_used (print_chunk_line x.line) rest known));
+      (sym (x.reads.1 ∙ ap (λ (l : List ℕ). print_chunk_line x.line ++ l) (sym left)))
+      (ahead_used (print_chunk_line x.line) rest known));
   len_is = sym x.len_is;
   reads = size_of_has_line u [] most len size small x;
 }
@@ -308,8 +316,8 @@ took_trailers a known u rest most room len moved small x left =
       text = text;
       bytes = consumes_trans a (prepend_known u known) (prepend_known rest known) [] text moved
           (subst (λ (l : List ℕ). Consumes (prepend_known l known) (prepend_known rest known) text)
-            (sym (x.reads.1 ∙ ap (λ (l : List ℕ). text ++ l) (sym left)))
-            (ahead_used text rest known));
+          (sym (x.reads.1 ∙ ap (λ (l : List ℕ). text ++ l) (sym left)))
+          (ahead_used text rest known));
       fits = omega arith;
       reads = λ tail. record {
         fields = x.fields;

@@ -39,8 +39,12 @@ size_fault text tail used response body Ended b x =
 size_fault text tail used response body Chunk b (inl never) =
     record { pieces = b.pieces; tail = tail; chunks = b.reads tail; bad = inl never }
 size_fault text tail used response body Chunk b (inr full) =
-    record { pieces = b.pieces; tail = tail; chunks = b.reads tail;
-             bad = inr (inl (record { front = full.front; more = full.more; text = full.text; full = full.full; none = full.none; unfinished = full.unfinished })) }
+    record {
+      pieces = b.pieces;
+      tail = tail;
+      chunks = b.reads tail;
+      bad = inr (inl (record { front = full.front; more = full.more; text = full.text; full = full.full; none = full.none; unfinished = full.unfinished }));
+    }
 size_fault text tail used response body BodyLong b x =
     let full = x.1 in
     let few = b.taken in
@@ -52,8 +56,13 @@ size_fault text tail used response body BodyLong b x =
       more = full.more;
       text = ap (λ (l : List ℕ). text ++ l) full.text ∙ sym (append_assoc text full.front full.more);
       full = omega (arith, length-append text full.front);
-      ends = record { pieces = b.pieces; tail = full.front; chunks = b.reads full.front; few = omega arith;
-                      lacks = inl (full.none, full.unfinished, omega arith) };
+      ends = record {
+        pieces = b.pieces;
+        tail = full.front;
+        chunks = b.reads full.front;
+        few = omega arith;
+        lacks = inl (full.none, full.unfinished, omega arith);
+      };
     })
 size_fault text tail used response body Head b x = absurd x
 size_fault text tail used response body HeadLong b x = absurd x
@@ -75,16 +84,42 @@ content_fault text line tail used response body size Ended b reads some fits few
     let whole = ap (λ (l : List ℕ). length l) x.text in
     record {
       ends = record {
-        pieces = b.pieces; tail = line ++ tail; chunks = b.reads (line ++ tail); few = omega arith;
-        lacks = inr (inl (record { size = size; after = tail; line = reads tail; some = some; few = omega arith; content = x.content; more = x.more;
-                                   size_is = x.size_is; lacks = x.lacks; text = x.text }));
+        pieces = b.pieces;
+        tail = line ++ tail;
+        chunks = b.reads (line ++ tail);
+        few = omega arith;
+        lacks = inr (inl (record {
+          size = size;
+          after = tail;
+          line = reads tail;
+          some = some;
+          few = omega arith;
+          content = x.content;
+          more = x.more;
+          size_is = x.size_is;
+          lacks = x.lacks;
+          text = x.text;
+        }));
       };
       short = omega (arith, length-append text (line ++ tail), length-append line tail, whole, length-append tail x.more, length-append x.content crlf_bytes);
     }
 content_fault text line tail used response body size Chunk b reads some fits few x =
-    record { pieces = b.pieces; tail = line ++ tail; chunks = b.reads (line ++ tail);
-             bad = inr (inr (inl (record { size = size; after = tail; line = reads tail; some = some; content = x.content; rest = x.rest;
-                                           size_is = x.size_is; text = x.text; never = x.never }))) }
+    record {
+      pieces = b.pieces;
+      tail = line ++ tail;
+      chunks = b.reads (line ++ tail);
+      bad = inr (inr (inl (record {
+        size = size;
+        after = tail;
+        line = reads tail;
+        some = some;
+        content = x.content;
+        rest = x.rest;
+        size_is = x.size_is;
+        text = x.text;
+        never = x.never;
+      })));
+    }
 content_fault text line tail used response body size Head b reads some fits few x = absurd x
 content_fault text line tail used response body size HeadLong b reads some fits few x = absurd x
 content_fault text line tail used response body size Length b reads some fits few x = absurd x
@@ -103,7 +138,10 @@ trailers_fault text line tail used response body room Ended b reads fits x =
     let low = x.3 in
     record {
       ends = record {
-        pieces = b.pieces; tail = line ++ tail; chunks = b.reads (line ++ tail); few = omega arith;
+        pieces = b.pieces;
+        tail = line ++ tail;
+        chunks = b.reads (line ++ tail);
+        few = omega arith;
         lacks = inr (inr (record { after = tail; line = reads tail; none = x.0; unfinished = x.1; short = x.2 }));
       };
       short = omega (arith, length-append text (line ++ tail), length-append line tail);
@@ -111,8 +149,14 @@ trailers_fault text line tail used response body room Ended b reads fits x =
 trailers_fault text line tail used response body room Chunk b reads fits x =
     record { pieces = b.pieces; tail = line ++ tail; chunks = b.reads (line ++ tail); bad = inr (inr (inr (tail, reads tail, x))) }
 trailers_fault text line tail used response body room HeadLong b reads fits (inl full) =
-    record { pieces = b.pieces; tail = line ++ tail; chunks = b.reads (line ++ tail); after = tail; last = reads tail;
-             long = inl (record { front = full.front; more = full.more; text = full.text; full = full.full; none = full.none; unfinished = full.unfinished }) }
+    record {
+      pieces = b.pieces;
+      tail = line ++ tail;
+      chunks = b.reads (line ++ tail);
+      after = tail;
+      last = reads tail;
+      long = inl (record { front = full.front; more = full.more; text = full.text; full = full.full; none = full.none; unfinished = full.unfinished });
+    }
 trailers_fault text line tail used response body room HeadLong b reads fits (inr many) =
     record { pieces = b.pieces; tail = line ++ tail; chunks = b.reads (line ++ tail); after = tail; last = reads tail; long = inr many }
 trailers_fault text line tail used response body room BodyLong b reads fits x =
@@ -128,7 +172,10 @@ trailers_fault text line tail used response body room BodyLong b reads fits x =
           ∙ sym (append_assoc text (line ++ full.front) full.more);
       full = omega (arith, length-append text (line ++ full.front), length-append line full.front);
       ends = record {
-        pieces = b.pieces; tail = line ++ full.front; chunks = b.reads (line ++ full.front); few = omega arith;
+        pieces = b.pieces;
+        tail = line ++ full.front;
+        chunks = b.reads (line ++ full.front);
+        few = omega arith;
         lacks = inr (inr (record { after = full.front; line = reads full.front; none = full.none; unfinished = full.unfinished; short = omega arith }));
       };
     })
@@ -139,7 +186,11 @@ trailers_fault text line tail used response body room Coding b reads fits x = ab
 pub before_of : (a b : Option (List ℕ)) (P : List ℕ → Type 0) (used room response body : ℕ) → room + used ≡ max_response_len
     → (p : PassedChunks a b P room response max_body_len body) → Before p.text used response body
 before_of a b P used room response body whole p = record {
-  pieces = p.pieces; reads = p.reads; total = (let is = p.used in omega arith); taken = p.taken }
+  pieces = p.pieces;
+  reads = p.reads;
+  total = (let is = p.used in omega arith);
+  taken = p.taken;
+}
 
 -- nothing was used yet
 pub passed_no_chunks : (a : Option (List ℕ)) (P : List ℕ → Type 0) (room most : ℕ) → P [] → PassedChunks a a P room room most most
@@ -150,7 +201,7 @@ pub told_size_fault : (a b : Option (List ℕ)) (P : List ℕ → Type 0) (used 
     → PassedChunks a b P room response max_body_len body → OfBytes b (SizeStage response f) → OfBytes a (BodyFault used Chunked f)
 told_size_fault a b P used room response body f whole p told =
     told_before a b p.text (SizeStage response f) (BodyFault used Chunked f) p.bytes
-      (λ tail x. size_fault p.text tail used response body f (before_of a b P used room response body whole p) x) told
+    (λ tail x. size_fault p.text tail used response body f (before_of a b P used room response body whole p) x) told
 
 -- the text of the chunks and of a line behind them
 line_bytes : (a b c : Option (List ℕ)) (P : List ℕ → Type 0) (room response most body len size : ℕ) → (p : PassedChunks a b P room response most body)
@@ -161,18 +212,27 @@ pub told_announced : (a b c : Option (List ℕ)) (P : List ℕ → Type 0) (used
     → PassedChunks a b P room response max_body_len body → TookLine b c len size → size ≢ 0
     → (f ≡ BodyLong) × ((body < size) ⊎ (response < len + size + 2)) → OfBytes a (BodyFault used Chunked f)
 told_announced a b c P used room response body len size f whole p l some bad =
-    subst (λ (e : ReadFault). OfBytes a (BodyFault used Chunked e)) (sym bad.0)
-      (later-text ++ later.0, tells_before a c later-text later.0 (line_bytes a b c P room response max_body_len body len size p l) later.1,
-       inl (record {
-         pieces = p.pieces; tail = l.text ++ later.0;
-         chunks = subst (λ (t : List ℕ). ReadsChunks p.pieces t (l.text ++ later.0)) (sym (append_assoc p.text l.text later.0)) (p.reads (l.text ++ later.0));
-         size = size; after = later.0; line = l.reads later.0; some = omega arith; long = by bad.1;
-       }))
+    subst (λ (e : ReadFault). OfBytes a (BodyFault used Chunked e)) (sym bad.0) (
+      later-text ++ later.0,
+      tells_before a c later-text later.0 (line_bytes a b c P room response max_body_len body len size p l) later.1,
+      inl (record {
+        pieces = p.pieces;
+        tail = l.text ++ later.0;
+        chunks = subst (λ (t : List ℕ). ReadsChunks p.pieces t (l.text ++ later.0)) (sym (append_assoc p.text l.text later.0)) (p.reads (l.text ++ later.0));
+        size = size;
+        after = later.0;
+        line = l.reads later.0;
+        some = omega arith;
+        long = by bad.1;
+      }),
+    )
   where
     later : (bytes : List ℕ) × Rattle.response_reader.specs.Wire.Tells c bytes
     later = told_some c
+
     later-text : List ℕ
     later-text = p.text ++ l.text
+
     by : (body < size) ⊎ (response < len + size + 2)
         → (max_body_len < length (joined p.pieces) + size) ⊎ (max_response_len + length later.0 < used + length (later-text ++ later.0) + size + 2)
     by (inl long) = let taken = p.taken in inl (omega arith)
@@ -187,8 +247,8 @@ pub told_content_fault : (a b c : Option (List ℕ)) (P : List ℕ → Type 0) (
 told_content_fault a b c P used room response body len size next left f whole p l some fits few told =
     let line = l.len_is in
     told_before a c (p.text ++ l.text) (ContentStage size f) (BodyFault used Chunked f) (line_bytes a b c P room response max_body_len body len size p l)
-      (λ tail x. subst (λ (t : List ℕ). BodyFault used Chunked f t) (sym (append_assoc p.text l.text tail))
-        (content_fault p.text l.text tail used response body size f (before_of a b P used room response body whole p) l.reads (omega arith) (omega arith) (omega arith) x)) told
+    (λ tail x. subst (λ (t : List ℕ). BodyFault used Chunked f t) (sym (append_assoc p.text l.text tail))
+    (content_fault p.text l.text tail used response body size f (before_of a b P used room response body whole p) l.reads (omega arith) (omega arith) (omega arith) x)) told
 
 pub told_trailers_fault : (a b c : Option (List ℕ)) (P : List ℕ → Type 0) (used room response body len size : ℕ) (f : ReadFault)
     → room + used ≡ max_response_len → PassedChunks a b P room response max_body_len body → TookLine b c len size → size ≡ 0 → len ≤ response
@@ -196,9 +256,9 @@ pub told_trailers_fault : (a b c : Option (List ℕ)) (P : List ℕ → Type 0) 
 told_trailers_fault a b c P used room response body len size f whole p l none fits told =
     let line = l.len_is in
     told_before a c (p.text ++ l.text) (TrailersStage (response - len) f) (BodyFault used Chunked f) (line_bytes a b c P room response max_body_len body len size p l)
-      (λ tail x. subst (λ (t : List ℕ). BodyFault used Chunked f t) (sym (append_assoc p.text l.text tail))
-        (trailers_fault p.text l.text tail used response body (response - len) f (before_of a b P used room response body whole p)
-          (λ t. subst (λ (n : ℕ). ReadsSize (l.text ++ t) n t) none (l.reads t)) (omega arith) x)) told
+    (λ tail x. subst (λ (t : List ℕ). BodyFault used Chunked f t) (sym (append_assoc p.text l.text tail))
+    (trailers_fault p.text l.text tail used response body (response - len) f (before_of a b P used room response body whole p)
+    (λ t. subst (λ (n : ℕ). ReadsSize (l.text ++ t) n t) none (l.reads t)) (omega arith) x)) told
 
 -- the last line and the trailers end the body
 pub chunked_whole : (a b c d : Option (List ℕ)) (P : List ℕ → Type 0) (used room response body len size : ℕ) → room + used ≡ max_response_len
@@ -212,21 +272,27 @@ chunked_whole a b c d P used room response body len size whole p l none fits t =
     let taken = p.taken in
     let is = p.used in
     let line = l.len_is in
-    let few = t.fits in
-    (p.text ++ tail,
-     subst (λ (u : List ℕ). Rattle.response_reader.specs.Wire.Tells a u) (append_assoc p.text l.text after)
-       (tells_before a c text after (line_bytes a b c P room response max_body_len body len size p l) (tells_before c d t.text rest.0 t.bytes rest.1)),
-     record {
-       body = joined p.pieces;
-       rest = rest.0;
-       reads = record {
-         pieces = p.pieces; tail = tail; after = after; chunks = p.reads tail; body_is = refl;
-         last = subst (λ (n : ℕ). ReadsSize tail n after) none (l.reads after); trailers = t.reads rest.0;
-       };
-       few = omega arith;
-       len = omega (arith, length-append p.text tail, length-append l.text after, length-append t.text rest.0);
-       adds = p.adds;
-     })
+    let few = t.fits in (
+      p.text ++ tail,
+      subst (λ (u : List ℕ). Rattle.response_reader.specs.Wire.Tells a u) (append_assoc p.text l.text after)
+          (tells_before a c text after (line_bytes a b c P room response max_body_len body len size p l) (tells_before c d t.text rest.0 t.bytes rest.1)),
+      record {
+        body = joined p.pieces;
+        rest = rest.0;
+        reads = record {
+          pieces = p.pieces;
+          tail = tail;
+          after = after;
+          chunks = p.reads tail;
+          body_is = refl;
+          last = subst (λ (n : ℕ). ReadsSize tail n after) none (l.reads after);
+          trailers = t.reads rest.0;
+        };
+        few = omega arith;
+        len = omega (arith, length-append p.text tail, length-append l.text after, length-append t.text rest.0);
+        adds = p.adds;
+      },
+    )
 
 -- one more chunk
 pub passed_chunk : (a b c d : Option (List ℕ)) (T U V : Option HeadParts → List ℕ → Type 0) (room response most body len size next left : ℕ)
@@ -248,7 +314,7 @@ passed_chunk a b c d T U V room response most body len size next left p l some f
           (record {
             after = t.content ++ (crlf_bytes ++ tail);
             line = subst (λ (n : ℕ). ReadsSize (chunk ++ tail) n (t.content ++ (crlf_bytes ++ tail))) (sym t.size_is)
-              (subst (λ (u : List ℕ). ReadsSize u size (t.content ++ (crlf_bytes ++ tail)))
+                (subst (λ (u : List ℕ). ReadsSize u size (t.content ++ (crlf_bytes ++ tail)))
                 (ap (λ (u : List ℕ). l.text ++ u) (sym (append_assoc t.content crlf_bytes tail)) ∙ sym (append_assoc l.text (t.content ++ crlf_bytes) tail))
                 (l.reads (t.content ++ (crlf_bytes ++ tail))));
             some = omega arith;
@@ -263,11 +329,15 @@ passed_chunk a b c d T U V room response most body len size next left p l some f
 pub chunks_front : (a b : Option (List ℕ)) (P : List ℕ → Type 0) (room response most body : ℕ) → PassedChunks a b P room response most body
     → OfBytes a (TakesFront Chunked P)
 chunks_front a b P room response most body p =
-    let later = told_some b in
-    (p.text ++ later.0, tells_before a b p.text later.0 p.bytes later.1,
-     (joined p.pieces,
-      record { pieces = p.pieces; tail = later.0; chunks = p.reads later.0; part = []; body_is = sym (append-nil (joined p.pieces)); next = inl refl },
-      p.adds))
+    let later = told_some b in (
+      p.text ++ later.0,
+      tells_before a b p.text later.0 p.bytes later.1,
+      (
+        joined p.pieces,
+        record { pieces = p.pieces; tail = later.0; chunks = p.reads later.0; part = []; body_is = sym (append-nil (joined p.pieces)); next = inl refl },
+        p.adds,
+      ),
+    )
 
 -- whole chunks and a part of the next one were handed on
 pub content_front : (a b c : Option (List ℕ)) (T U V : Option HeadParts → List ℕ → Type 0) (room response most body len size : ℕ)
@@ -275,11 +345,20 @@ pub content_front : (a b c : Option (List ℕ)) (T U V : Option HeadParts → Li
     → OfBytes a (TakesFront Chunked (Adds T V))
 content_front a b c T U V room response most body len size p l told =
     let part = told.2 in
-    let tail = l.text ++ told.0 in
-    (p.text ++ tail,
-     subst (λ (u : List ℕ). Rattle.response_reader.specs.Wire.Tells a u) (append_assoc p.text l.text told.0)
-       (tells_before a c (p.text ++ l.text) told.0 (line_bytes a b c (Adds T U) room response most body len size p l) told.1),
-     (joined p.pieces ++ part.piece,
-      record { pieces = p.pieces; tail = tail; chunks = p.reads tail; part = part.piece; body_is = refl;
-               next = inr (size, told.0, part.more, l.reads told.0, part.text, part.few) },
-      adds_join T U V (joined p.pieces) part.piece p.adds part.adds))
+    let tail = l.text ++ told.0 in (
+      p.text ++ tail,
+      subst (λ (u : List ℕ). Rattle.response_reader.specs.Wire.Tells a u) (append_assoc p.text l.text told.0)
+          (tells_before a c (p.text ++ l.text) told.0 (line_bytes a b c (Adds T U) room response most body len size p l) told.1),
+      (
+        joined p.pieces ++ part.piece,
+        record {
+          pieces = p.pieces;
+          tail = tail;
+          chunks = p.reads tail;
+          part = part.piece;
+          body_is = refl;
+          next = inr (size, told.0, part.more, l.reads told.0, part.text, part.few);
+        },
+        adds_join T U V (joined p.pieces) part.piece p.adds part.adds,
+      ),
+    )

@@ -18,8 +18,15 @@ pub chunked_at : (ds cs : List (List ℕ)) (bytes tail last after rest : List �
     → GoesOnChunked tail (joined cs) rest ds
 chunked_at [] cs bytes tail last after rest x y end trailers = record {
   later = joined cs;
-  reads = record { pieces = cs; tail = last; after = after; chunks = subst (λ (b : List ℕ). ReadsChunks cs b last) x y;
-                   body_is = refl; last = end; trailers = trailers };
+  reads = record {
+    pieces = cs;
+    tail = last;
+    after = after;
+    chunks = subst (λ (b : List ℕ). ReadsChunks cs b last) x y;
+    body_is = refl;
+    last = end;
+    trailers = trailers;
+  };
   body_is = refl;
 }
 chunked_at (d ∷ ds) [] bytes tail last after rest x y end trailers =
@@ -38,7 +45,7 @@ pub chunked_behind : (ds : List (List ℕ)) (bytes tail body rest : List ℕ) �
     → GoesOnChunked tail body rest ds
 chunked_behind ds bytes tail body rest x y =
     subst (λ (b : List ℕ). GoesOnChunked tail b rest ds) (sym y.body_is)
-      (chunked_at ds y.pieces bytes tail y.tail y.after rest x y.chunks y.last y.trailers)
+    (chunked_at ds y.pieces bytes tail y.tail y.after rest x y.chunks y.last y.trailers)
 
 -- a chunked body begins with a chunk line, behind which at least the rest is left
 pub record BeginsWithLine (tail rest : List ℕ) : Type 0 where
@@ -80,7 +87,7 @@ behind_of [] tail last after rest x end trailers =
     at_end after (subst (λ (t : List ℕ). ReadsSize t 0 after) (sym x) end) trailers
 behind_of (d ∷ ds) tail last after rest x end trailers =
     at_chunk d x.0 x.1 (omega (arith, length-append d (joined ds)))
-      (omega (arith, chunks_shorter ds x.0 last x.2, size_len last 0 after end, trailers_shorter after rest trailers))
+    (omega (arith, chunks_shorter ds x.0 last x.2, size_len last 0 after end, trailers_shorter after rest trailers))
 
 pub behind : (tail body rest : List ℕ) → ReadsChunked tail body rest → Behind tail body rest
 behind tail body rest x =

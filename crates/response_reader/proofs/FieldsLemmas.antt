@@ -213,7 +213,7 @@ lengths_seen_fail buf name xs i d f inside named fails =
     ap (λ (l : List (List ℕ)). lengths_of (flat_map elements l)) (seen_around buf name xs i d inside named)
     ∙ ap lengths_of (flat_map-append elements (before ++ v ∷ []) later)
     ∙ lengths_fail (flat_map elements (before ++ v ∷ [])) (flat_map elements later) f
-        (ap lengths_of (elements_more before v) ∙ fails)
+    (ap lengths_of (elements_more before v) ∙ fails)
 
 -- elements behind those seen
 pub lengths_by_steps : (seen es rest : List (List ℕ)) (o p : Option (List ℕ)) → lengths_of seen ≡ Ok o
@@ -232,8 +232,10 @@ framing_of_errs code fields f e = by (code == 204 || code == 304) e
   where
     chunked : Result Bool ReadFault
     chunked = chunked_of (values_named (codes "transfer-encoding") fields)
+
     lengths : List (List ℕ)
     lengths = flat_map elements (values_named (codes "content-length") fields)
+
     by : (b : Bool) → ◌≡◌ {A = Result Framing ReadFault} (cond b (Ok NoBody) (framing_by chunked (length_by (lengths_of lengths)))) (Err f) → (f ≡ Length) ⊎ (f ≡ Coding)
     by true e = cc
     by false e = framing_errs chunked lengths f (chunked_errs (values_named (codes "transfer-encoding") fields)) e
@@ -241,19 +243,19 @@ framing_of_errs code fields f e = by (code == 204 || code == 304) e
 -- how a body ends unless the status says so
 pub framing_else : (code : ℕ) (fields : List Pair) → (code == 204) ≡ false → (code == 304) ≡ false
     → framing_of code fields ≡ framing_by (chunked_of (values_named (codes "transfer-encoding") fields))
-        (length_by (lengths_of (flat_map elements (values_named (codes "content-length") fields))))
+    (length_by (lengths_of (flat_map elements (values_named (codes "content-length") fields))))
 unfolding framing_of
 framing_else code fields a b =
     ap (λ (t : Bool). cond (t || code == 304) (Ok NoBody) (framing_by (chunked_of (values_named (codes "transfer-encoding") fields))
-        (length_by (lengths_of (flat_map elements (values_named (codes "content-length") fields)))))) a
+    (length_by (lengths_of (flat_map elements (values_named (codes "content-length") fields)))))) a
     ∙ ap (λ (t : Bool). cond t (Ok NoBody) (framing_by (chunked_of (values_named (codes "transfer-encoding") fields))
-        (length_by (lengths_of (flat_map elements (values_named (codes "content-length") fields)))))) b
+    (length_by (lengths_of (flat_map elements (values_named (codes "content-length") fields)))))) b
 
 pub framing_none : (code : ℕ) (fields : List Pair) → (code == 204 || code == 304) ≡ true → framing_of code fields ≡ Ok NoBody
 unfolding framing_of
 framing_none code fields is =
     ap (λ (t : Bool). cond t (Ok NoBody) (framing_by (chunked_of (values_named (codes "transfer-encoding") fields))
-        (length_by (lengths_of (flat_map elements (values_named (codes "content-length") fields)))))) is
+    (length_by (lengths_of (flat_map elements (values_named (codes "content-length") fields)))))) is
 
 -- an element that is no number, where no digits came before
 pub step_no_number : (e : List ℕ) (n : ℕ) (r : Option ℕ) → r ≡ cond (is_number e) (Some n) None → is_some r ≡ false → step (Ok None) e ≡ Err Length

@@ -23,8 +23,11 @@ frames_by a b unread rest used h head r p read held final few is framed tail = r
   last = h;
   heads = record {
     tail = print_response h ++ tail;
-    due = (p.heads, subst (λ (l : List ℕ). Rattle.response_reader.specs.Heads.ReadsInterims p.heads l (print_response h ++ tail))
-        (sym (append_assoc p.text (print_response h) tail)) (p.reads (print_response h ++ tail)));
+    due = (
+      p.heads,
+      subst (λ (l : List ℕ). Rattle.response_reader.specs.Heads.ReadsInterims p.heads l (print_response h ++ tail))
+          (sym (append_assoc p.text (print_response h) tail)) (p.reads (print_response h ++ tail)),
+    );
     reads = (read.0, refl);
     final = final;
     fields = few;
@@ -42,7 +45,7 @@ frames_ahead a known unread rest used h head framing p read held final few is fr
   text = p.text ++ print_response h;
   bytes = consumes_trans a (prepend_known unread known) (prepend_known rest known) p.text (print_response h) p.bytes
       (subst (λ (l : List ℕ). Consumes (prepend_known l known) (prepend_known rest known) (print_response h)) (sym read.1)
-        (ahead_used (print_response h) rest known));
+      (ahead_used (print_response h) rest known));
   len = omega (arith, length-append p.text (print_response h), p.len);
   few = omega (arith, response_len unread h rest read);
   frames = frames_by a (prepend_known unread known) unread rest used h head (Ok framing) p read held final few is framed;
@@ -60,30 +63,43 @@ told_framing_fault a known unread rest used h f p read held final few (inr fault
   where
     later : (bytes : List ℕ) × Tells (prepend_known rest known) bytes
     later = told_some (prepend_known rest known)
+
     text : List ℕ
     text = p.text ++ print_response h
+
     tells : Tells a (text ++ later.0)
     tells = tells_before a (prepend_known rest known) text later.0
-      (consumes_trans a (prepend_known unread known) (prepend_known rest known) p.text (print_response h) p.bytes
+        (consumes_trans a (prepend_known unread known) (prepend_known rest known) p.text (print_response h) p.bytes
         (subst (λ (l : List ℕ). Consumes (prepend_known l known) (prepend_known rest known) (print_response h)) (sym read.1)
-          (ahead_used (print_response h) rest known))) later.1
+        (ahead_used (print_response h) rest known))) later.1
+
     frames : Frames (text ++ later.0) (parts_of (status_code h) (fields_of h)) (Err f) later.0
     frames = frames_by a (prepend_known unread known) unread rest used h (parts_of (status_code h) (fields_of h)) (Err f) p read held final few refl fault.1 later.0
+
     by : (f ≡ Length) ⊎ (f ≡ Coding) → OfBytes a (HeadsFault f)
-    by (inl is) = (text ++ later.0, tells, subst (λ (e : ReadFault). HeadsFault e (text ++ later.0)) (sym is)
-        (parts_of (status_code h) (fields_of h), later.0, subst (λ (e : ReadFault). Frames (text ++ later.0) (parts_of (status_code h) (fields_of h)) (Err e) later.0) is frames))
-    by (inr is) = (text ++ later.0, tells, subst (λ (e : ReadFault). HeadsFault e (text ++ later.0)) (sym is)
-        (parts_of (status_code h) (fields_of h), later.0, subst (λ (e : ReadFault). Frames (text ++ later.0) (parts_of (status_code h) (fields_of h)) (Err e) later.0) is frames))
+    by (inl is) = (
+      text ++ later.0,
+      tells,
+      subst (λ (e : ReadFault). HeadsFault e (text ++ later.0)) (sym is)
+          (parts_of (status_code h) (fields_of h), later.0, subst (λ (e : ReadFault). Frames (text ++ later.0) (parts_of (status_code h) (fields_of h)) (Err e) later.0) is frames),
+    )
+    by (inr is) = (
+      text ++ later.0,
+      tells,
+      subst (λ (e : ReadFault). HeadsFault e (text ++ later.0)) (sym is)
+          (parts_of (status_code h) (fields_of h), later.0, subst (λ (e : ReadFault). Frames (text ++ later.0) (parts_of (status_code h) (fields_of h)) (Err e) later.0) is frames),
+    )
 
 -- a refused status
 pub told_refused : (a known : Option (List ℕ)) (unread rest : List ℕ) (used : ℕ) (h : ResponseHead)
     → PassedInterims a (prepend_known unread known) used → ReadsResponse unread h rest → IsRefusedStatus (status_code h) → OfBytes a (HeadsFault Head)
 told_refused a known unread rest used h p read refused =
     let later = told_some (prepend_known rest known) in
-    let tail = print_response h ++ later.0 in
-    (p.text ++ tail,
-     tells_before a (prepend_known unread known) p.text tail p.bytes
-       (tells_before (prepend_known unread known) (prepend_known rest known) (print_response h) later.0
-         (subst (λ (l : List ℕ). Consumes (prepend_known l known) (prepend_known rest known) (print_response h)) (sym read.1)
-           (ahead_used (print_response h) rest known)) later.1),
-     record { tail = tail; due = (p.heads, p.reads tail); bad = inr (h, later.0, (read.0, refl), refused) })
+    let tail = print_response h ++ later.0 in (
+      p.text ++ tail,
+      tells_before a (prepend_known unread known) p.text tail p.bytes
+          (tells_before (prepend_known unread known) (prepend_known rest known) (print_response h) later.0
+          (subst (λ (l : List ℕ). Consumes (prepend_known l known) (prepend_known rest known) (print_response h)) (sym read.1)
+          (ahead_used (print_response h) rest known)) later.1),
+      record { tail = tail; due = (p.heads, p.reads tail); bad = inr (h, later.0, (read.0, refl), refused) },
+    )

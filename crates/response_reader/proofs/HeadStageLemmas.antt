@@ -16,7 +16,7 @@ use Rattle.response_reader.proofs.WireLemmas.{told_ahead, told_before}
 pub front_in : (p r a b : List ℕ) → p ++ r ≡ a ++ b → length p ≤ length a → (q : List ℕ) × (a ≡ p ++ q)
 front_in p r a b e h =
     let same : take (length p) a ≡ p =
-        sym (take-append-le (length p) a b h) ∙ sym (ap (λ (l : List ℕ). take (length p) l) e) ∙ take_at p r (length p) refl in
+    sym (take-append-le (length p) a b h) ∙ sym (ap (λ (l : List ℕ). take (length p) l) e) ∙ take_at p r (length p) refl in
     (drop (length p) a, sym (take-append-drop (length p) a) ∙ ap (λ (l : List ℕ). l ++ drop (length p) a) same)
 
 never_append : (unread : List ℕ) → NeverHasResponse unread → (left : List ℕ) → NeverHasResponse (unread ++ left)
@@ -39,8 +39,10 @@ stage_of_error unread most room f fields (inl bad) head exceeds long left =
     subst (λ (e : ReadFault). HeadStage most e (unread ++ left)) (sym bad) (never_append unread (head bad) left)
 stage_of_error unread most room f fields (inr over) head exceeds long left =
     subst (λ (e : ReadFault). HeadStage most e (unread ++ left)) (sym over)
-      (inr (exceeds_append unread max_fields (subst (λ (n : ℕ). ResponseExceeds n unread) fields (exceeds over)) left,
-            overflow_append unread max_fields (subst (λ (n : ℕ). ResponseOverflows n unread) fields (long over)) left))
+    (inr (
+      exceeds_append unread max_fields (subst (λ (n : ℕ). ResponseExceeds n unread) fields (exceeds over)) left,
+      overflow_append unread max_fields (subst (λ (n : ℕ). ResponseOverflows n unread) fields (long over)) left,
+    ))
 
 -- the bytes that wait are as many as may be
 pub stage_of_full : (unread : List ℕ) (most : ℕ) → HasNoResponse unread → MayBecomeResponse unread → length unread ≡ most

@@ -45,8 +45,8 @@ pub heads_unique : (bytes : List ℕ) (h k : ResponseHead) (a b : List ℕ)
     → ReadsHeads bytes h a → ReadsHeads bytes k b → (h ≡ k) × (a ≡ b)
 heads_unique bytes h k a b x y =
     let same = due_unique x.due.0 y.due.0 bytes x.tail y.tail x.due.1 y.due.1
-      (no_interim_at x.tail h a x.reads (final_is_not_interim (status_code h) x.final))
-      (no_interim_at y.tail k b y.reads (final_is_not_interim (status_code k) y.final)) in
+    (no_interim_at x.tail h a x.reads (final_is_not_interim (status_code h) x.final))
+    (no_interim_at y.tail k b y.reads (final_is_not_interim (status_code k) y.final)) in
     response_unique x.tail h k a b x.reads (subst (λ (t : List ℕ). ReadsResponse t k b) (sym same) y.reads)
 
 -- a text with no head at its front
@@ -66,8 +66,10 @@ bad_head_lacks bytes bad h after x = bad_at bad.bad
   where
     quiet : HasNoInterim x.tail
     quiet = no_interim_at x.tail h after x.reads (final_is_not_interim (status_code h) x.final)
+
     here : HasNoInterim bad.tail → x.tail ≡ bad.tail
     here none = due_unique x.due.0 bad.due.0 bytes x.tail bad.tail x.due.1 bad.due.1 quiet none
+
     bad_at : NeverHasResponse bad.tail
         ⊎ ((k : ResponseHead) × (rest : List ℕ) × ReadsResponse bad.tail k rest × IsRefusedStatus (status_code k)) → ⊥
     bad_at (inl never) =
@@ -76,6 +78,6 @@ bad_head_lacks bytes bad h after x = bad_at bad.bad
     bad_at (inr refused) =
         let quiet_too = no_interim_at bad.tail refused.0 refused.1 refused.2 (refused_is_not_interim (status_code refused.0) refused.3) in
         let same = response_unique bad.tail refused.0 h refused.1 after refused.2
-          (subst (λ (t : List ℕ). ReadsResponse t h after) (here quiet_too) x.reads) in
+        (subst (λ (t : List ℕ). ReadsResponse t h after) (here quiet_too) x.reads) in
         let status : IsRefusedStatus (status_code h) = subst (λ (g : ResponseHead). IsRefusedStatus (status_code g)) same.0 refused.3 in
         final_is_not_refused (status_code h) x.final status

@@ -22,8 +22,13 @@ head_has_bytes h =
     let after = h.digits ++ (print_reason h.reason ++ (print_end h.line_end ++ (print_section h.fields h.last ++ []))) in
     let text = print_response-append h [] in
     let len : length (print_response h ++ []) ≡ length (blank ++ (print_version h.minor ++ 32 ∷ after)) = ap (λ (l : List ℕ). length l) text in
-    omega (arith, len, ap (λ (l : List ℕ). length l) (append-nil (print_response h)), length-append blank (print_version h.minor ++ 32 ∷ after),
-           length-append (print_version h.minor) (32 ∷ after))
+    omega (
+      arith,
+      len,
+      ap (λ (l : List ℕ). length l) (append-nil (print_response h)),
+      length-append blank (print_version h.minor ++ 32 ∷ after),
+      length-append (print_version h.minor) (32 ∷ after),
+    )
 
 pub response_len : (bytes : List ℕ) (h : ResponseHead) (rest : List ℕ) → ReadsResponse bytes h rest
     → length bytes ≡ length (print_response h) + length rest
@@ -39,13 +44,17 @@ pub head_at_tail : (hs ks : List ResponseHead) (bytes tail last : List ℕ) (h :
     → (k : ResponseHead) × (rest : List ℕ) × ReadsResponse tail k rest × (length k.fields ≤ max_fields) × (length after ≤ length rest)
 head_at_tail [] [] bytes tail last h after x y read final few =
     (h, after, subst (λ (t : List ℕ). ReadsResponse t h after) (sym y ∙ x) read, few, omega arith)
-head_at_tail [] (k ∷ ks) bytes tail last h after x y read final few =
-    (k, y.0, subst (λ (t : List ℕ). ReadsResponse t k y.0) x y.1, y.2.fields,
-     omega (arith, response_len last h after read, interims_shorter ks y.0 last y.3))
+head_at_tail [] (k ∷ ks) bytes tail last h after x y read final few = (
+  k,
+  y.0,
+  subst (λ (t : List ℕ). ReadsResponse t k y.0) x y.1,
+  y.2.fields,
+  omega (arith, response_len last h after read, interims_shorter ks y.0 last y.3),
+)
 head_at_tail (g ∷ hs) [] bytes tail last h after x y read final few =
     let same = response_unique bytes h g after x.0 (subst (λ (t : List ℕ). ReadsResponse t h after) (sym y) read) x.1 in
     absurd (final_is_not_interim (status_code h) final
-      (subst (λ (k : ResponseHead). IsInterimStatus (status_code k)) (sym same.0) x.2.status))
+    (subst (λ (k : ResponseHead). IsInterimStatus (status_code k)) (sym same.0) x.2.status))
 head_at_tail (g ∷ hs) (k ∷ ks) bytes tail last h after x y read final few =
     let same = response_unique bytes k g y.0 x.0 y.1 x.1 in
     head_at_tail hs ks x.0 tail last h after x.3 (subst (λ (t : List ℕ). ReadsInterims ks t last) same.1 y.3) read final few
@@ -78,7 +87,7 @@ pub told_heads_fault : (f : ReadFault) (before after : Option (List ℕ)) (used 
     → used + most ≡ max_heads_len → OfBytes after (HeadStage most f) → OfBytes before (HeadsFault f)
 told_heads_fault f before after used most passed whole told =
     told_before before after passed.text (HeadStage most f) (HeadsFault f) passed.bytes
-      (λ tail fault. heads_fault f passed.text tail passed.heads most passed.reads (let len = passed.len in omega arith) fault) told
+    (λ tail fault. heads_fault f passed.text tail passed.heads most passed.reads (let len = passed.len in omega arith) fault) told
 
 -- a head whose fields were written to so many spans has at most so many
 pub few_fields : (buf : List ℕ) (spans : List HeaderSpan) (count : ℕ) (fields : List Field) → length spans ≡ max_fields
@@ -115,10 +124,10 @@ passed_interim a known unread rest used h p read interim = record {
   heads = p.heads ++ h ∷ [];
   reads = λ tail. interims_push p.heads h ((p.text ++ print_response h) ++ tail) (print_response h ++ tail) tail
       (subst (λ (l : List ℕ). ReadsInterims p.heads l (print_response h ++ tail)) (sym (append_assoc p.text (print_response h) tail))
-        (p.reads (print_response h ++ tail)))
+      (p.reads (print_response h ++ tail)))
       (read.0, refl) interim;
   bytes = consumes_trans a (prepend_known unread known) (prepend_known rest known) p.text (print_response h) p.bytes
       (subst (λ (l : List ℕ). Consumes (prepend_known l known) (prepend_known rest known) (print_response h)) (sym read.1)
-        (ahead_used (print_response h) rest known));
+      (ahead_used (print_response h) rest known));
   len = omega (arith, length-append p.text (print_response h), p.len);
 }

@@ -22,10 +22,11 @@ use Rattle.response_reader.proofs.BodiesLemmas.{body_unique}
 frames_unique : (bytes : List ℕ) (h k : HeadParts) (f g : Result Framing ReadFault) (a b : List ℕ)
     → Frames bytes h f a → Frames bytes k g b → (h ≡ k) × (f ≡ g) × (a ≡ b)
 frames_unique bytes h k f g a b x y =
-    let same = heads_unique bytes x.last y.last a b x.heads y.heads in
-    (x.head_is ∙ ap (λ (l : ResponseHead). parts_of (status_code l) (fields_of l)) same.0 ∙ sym y.head_is,
-     sym x.framed ∙ ap (λ (l : ResponseHead). framing_of (status_code l) (fields_of l)) same.0 ∙ y.framed,
-     same.1)
+    let same = heads_unique bytes x.last y.last a b x.heads y.heads in (
+      x.head_is ∙ ap (λ (l : ResponseHead). parts_of (status_code l) (fields_of l)) same.0 ∙ sym y.head_is,
+      sym x.framed ∙ ap (λ (l : ResponseHead). framing_of (status_code l) (fields_of l)) same.0 ∙ y.framed,
+      same.1,
+    )
 
 ok_same : (f g : Framing) → ◌≡◌ {A = Result Framing ReadFault} (Ok f) (Ok g) → f ≡ g
 ok_same f g e = cc
@@ -41,8 +42,8 @@ one_response bytes r q rest left x y =
     let heads = frames_unique bytes r.head q.head (Ok x.framing) (Ok y.framing) x.after y.after x.heads y.heads in
     let framing = ok_same x.framing y.framing heads.1 in
     let here : ReadsBody x.framing x.after q.body left =
-        subst (λ (a : List ℕ). ReadsBody x.framing a q.body left) (sym heads.2)
-          (subst (λ (f : Framing). ReadsBody f y.after q.body left) (sym framing) y.body) in
+    subst (λ (a : List ℕ). ReadsBody x.framing a q.body left) (sym heads.2)
+    (subst (λ (f : Framing). ReadsBody f y.after q.body left) (sym framing) y.body) in
     let bodies = body_unique x.framing x.after r.body q.body rest left x.body here in
     (parts_same r q heads.0 bodies.0, bodies.1)
 
@@ -89,8 +90,8 @@ after_heads f bytes is fault r rest x =
     let whole = fault.used_is in
     let len = x.len in
     no_body fault.used x.framing f x.after r.body rest is
-      (subst (λ (a : List ℕ). BodyFault fault.used x.framing f a) same.2 (subst (λ (g : Framing). BodyFault fault.used g f fault.after) framing fault.fault))
-      x.body x.body_len (omega (arith, text))
+    (subst (λ (a : List ℕ). BodyFault fault.used x.framing f a) same.2 (subst (λ (g : Framing). BodyFault fault.used g f fault.after) framing fault.fault))
+    x.body x.body_len (omega (arith, text))
 
 -- heads that go on behind more bytes
 interims_append : (hs : List ResponseHead) (bytes tail more : List ℕ) → ReadsInterims hs bytes tail → ReadsInterims hs (bytes ++ more) (tail ++ more)
@@ -103,7 +104,7 @@ ends_lack : (front more : List ℕ) (h : ResponseHead) (after : List ℕ) → En
     → length more ≤ length after → ⊥
 ends_lack front more h after e heads left =
     let found = head_at_tail e.due.0 heads.due.0 (front ++ more) (e.tail ++ more) heads.tail h after
-      (interims_append e.due.0 front e.tail more e.due.1) heads.due.1 heads.reads heads.final heads.fields in
+    (interims_append e.due.0 front e.tail more e.due.1) heads.due.1 heads.reads heads.final heads.fields in
     let text = print_response found.0 in
     let len = ap (λ (l : List ℕ). length l) found.2.1 in
     let behind = found.4 in
@@ -114,7 +115,7 @@ ends_lack front more h after e heads left =
 in_head : (bytes : List ℕ) → IsCutInHeads bytes → BeginsNone bytes
 in_head bytes e r rest x =
     ends_lack bytes [] x.heads.last x.after e.ends
-      (subst (λ (b : List ℕ). ReadsHeads b x.heads.last x.after) (sym (append-nil bytes)) x.heads.heads) (omega arith)
+    (subst (λ (b : List ℕ). ReadsHeads b x.heads.last x.after) (sym (append-nil bytes)) x.heads.heads) (omega arith)
 
 long_heads : (bytes : List ℕ) → HasLongHeads bytes → BeginsNone bytes
 long_heads bytes l r rest x =
@@ -122,8 +123,8 @@ long_heads bytes l r rest x =
     let full = l.full in
     let within = x.heads.heads.within in
     ends_lack l.front l.more x.heads.last x.after l.ends
-      (subst (λ (b : List ℕ). ReadsHeads b x.heads.last x.after) l.text x.heads.heads)
-      (omega (arith, text, length-append l.front l.more))
+    (subst (λ (b : List ℕ). ReadsHeads b x.heads.last x.after) l.text x.heads.heads)
+    (omega (arith, text, length-append l.front l.more))
 
 many_fields : (bytes : List ℕ) → HasManyFields bytes → BeginsNone bytes
 many_fields bytes m r rest x =

@@ -20,21 +20,38 @@ pub hands_on : (a b : Option (List ℕ)) (head : HeadParts) (framing : Framing) 
 hands_on a b head framing used P Q heads told took =
     let taken = told.2 in
     let len = taken.len in
-    let text = heads.len in
-    (heads.text ++ told.0, tells_before a b heads.text told.0 heads.bytes told.1,
-     (record { head = head; body = taken.body }, taken.rest,
-      record { framing = framing; after = told.0; heads = heads.frames told.0; body = taken.reads; body_len = taken.few;
-               len = omega (arith, length-append heads.text told.0) },
-      took taken.body taken.adds))
+    let text = heads.len in (
+      heads.text ++ told.0,
+      tells_before a b heads.text told.0 heads.bytes told.1,
+      (
+        record { head = head; body = taken.body },
+        taken.rest,
+        record {
+          framing = framing;
+          after = told.0;
+          heads = heads.frames told.0;
+          body = taken.reads;
+          body_len = taken.few;
+          len = omega (arith, length-append heads.text told.0);
+        },
+        took taken.body taken.adds,
+      ),
+    )
 
 -- the head and a front of the body were handed on
 pub hands_front : (a b : Option (List ℕ)) (head : HeadParts) (framing : Framing) (used : ℕ) (P : List ℕ → Type 0)
     (T : Option HeadParts → List ℕ → Type 0) → FramesAhead a b head framing used → OfBytes b (TakesFront framing P)
     → ((front : List ℕ) → P front → T (Some head) front) → OfBytes a (HandsFront T)
-hands_front a b head framing used P T heads told took =
-    (heads.text ++ told.0, tells_before a b heads.text told.0 heads.bytes told.1,
-     inr (head, told.2.0, record { framing = framing; after = told.0; heads = heads.frames told.0; reads = told.2.1 },
-          took told.2.0 told.2.2))
+hands_front a b head framing used P T heads told took = (
+  heads.text ++ told.0,
+  tells_before a b heads.text told.0 heads.bytes told.1,
+  inr (
+    head,
+    told.2.0,
+    record { framing = framing; after = told.0; heads = heads.frames told.0; reads = told.2.1 },
+    took told.2.0 told.2.2,
+  ),
+)
 
 -- nothing was handed on
 pub hands_none : (a : Option (List ℕ)) (T : Option HeadParts → List ℕ → Type 0) → T None [] → OfBytes a (HandsFront T)
@@ -89,8 +106,8 @@ pub told_body_is_fault : (a b : Option (List ℕ)) (f : ReadFault) (head : HeadP
     → OfBytes b (BodyFault used framing f) → OfBytes a (IsFault f)
 told_body_is_fault a b f head framing used heads told =
     told_before a b heads.text (BodyFault used framing f) (IsFault f) heads.bytes
-      (λ tail h. body_is_fault f (heads.text ++ tail) tail head framing used (heads.frames tail)
-        (let text = heads.len in omega (arith, length-append heads.text tail)) h) told
+    (λ tail h. body_is_fault f (heads.text ++ tail) tail head framing used (heads.frames tail)
+    (let text = heads.len in omega (arith, length-append heads.text tail)) h) told
 
 pub nothing_unread : (unread : List ℕ) (known : Option (List ℕ)) → unread ≡ [] → prepend_known unread known ≡ known
 nothing_unread unread None e = refl

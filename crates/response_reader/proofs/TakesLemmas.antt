@@ -21,10 +21,18 @@ takes_none a used Adds short adds =
 pub takes_sized : (a b : Option (List ℕ)) (used : ℕ) (Adds : List ℕ → Type 0) (n : ℕ) → used ≤ max_heads_len → n ≤ max_body_len → Passed a b Adds n
     → OfBytes a (TakesBody used (Sized n) Adds)
 takes_sized a b used Adds n short few x =
-    let later = told_some b in
-    (x.piece ++ later.0, tells_before a b x.piece later.0 x.bytes later.1,
-     record { body = x.piece; rest = later.0; reads = (x.count_is, refl); few = omega (arith, x.count_is);
-              len = omega (arith, length-append x.piece later.0, x.count_is); adds = x.adds })
+    let later = told_some b in (
+      x.piece ++ later.0,
+      tells_before a b x.piece later.0 x.bytes later.1,
+      record {
+        body = x.piece;
+        rest = later.0;
+        reads = (x.count_is, refl);
+        few = omega (arith, x.count_is);
+        len = omega (arith, length-append x.piece later.0, x.count_is);
+        adds = x.adds;
+      },
+    )
 
 tells_end : (o : Option (List ℕ)) → IsAtEnd o → Tells o []
 tells_end Rattle.std.proofs.Common.None e = tt
@@ -32,10 +40,18 @@ tells_end (Rattle.std.proofs.Common.Some z) e = e
 
 pub takes_open : (a b : Option (List ℕ)) (used : ℕ) (Adds : List ℕ → Type 0) → used ≤ max_heads_len → PassedAll a b Adds max_body_len → OfBytes a (TakesBody used UntilClose Adds)
 takes_open a b used Adds short x =
-    let all = append-nil x.passed.piece in
-    (x.passed.piece, subst (λ (l : List ℕ). Tells a l) all (tells_before a b x.passed.piece [] x.passed.bytes (tells_end b x.end)),
-     record { body = x.passed.piece; rest = []; reads = (refl, refl); few = omega (arith, x.passed.count_is, x.few);
-              len = omega (arith, x.passed.count_is, x.few); adds = x.passed.adds })
+    let all = append-nil x.passed.piece in (
+      x.passed.piece,
+      subst (λ (l : List ℕ). Tells a l) all (tells_before a b x.passed.piece [] x.passed.bytes (tells_end b x.end)),
+      record {
+        body = x.passed.piece;
+        rest = [];
+        reads = (refl, refl);
+        few = omega (arith, x.passed.count_is, x.few);
+        len = omega (arith, x.passed.count_is, x.few);
+        adds = x.passed.adds;
+      },
+    )
 
 pub told_quiet : (a : Option (List ℕ)) (P : List ℕ → Type 0) → ((bytes : List ℕ) → P bytes) → OfBytes a P
 told_quiet a P all = let some = told_some a in (some.0, some.1, all some.0)

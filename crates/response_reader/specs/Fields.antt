@@ -81,7 +81,7 @@ unfoldable pub framing_of : ℕ → List Pair → Result Framing ReadFault
 framing_of status fields =
     if status == 204 || status == 304 then Ok NoBody
     else framing_by (chunked_of (values_named (codes "transfer-encoding") fields))
-      (length_by (lengths_of (flat_map elements (values_named (codes "content-length") fields))))
+    (length_by (lengths_of (flat_map elements (values_named (codes "content-length") fields))))
 
 -- a content coding that changes the bytes
 abbrev pub changes_content : List ℕ → Bool

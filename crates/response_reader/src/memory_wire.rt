@@ -37,16 +37,18 @@ impl Model for MemoryWire {
     ghost Value = { Conversation };
 
     ghost view = { λ w. record {
-        incoming = drop w.at w.bytes.items;
-        outgoing = w.written.items;
-        failed = w.failed;
-        calls = w.calls;
-        faults = w.faults.items;
-        pieces = drop w.next_piece w.pieces.items } };
+      incoming = drop w.at w.bytes.items;
+      outgoing = w.written.items;
+      failed = w.failed;
+      calls = w.calls;
+      faults = w.faults.items;
+      pieces = drop w.next_piece w.pieces.items;
+    } };
 
     ghost invariant = { λ w. record {
-        told : w.at ≤ vec_len w.bytes;
-        gone : w.next_piece ≤ vec_len w.pieces } };
+      told : w.at ≤ vec_len w.bytes;
+      gone : w.next_piece ≤ vec_len w.pieces;
+    } };
 }
 
 impl MemoryWire {

@@ -31,17 +31,17 @@ pub fn write_request<W: Wire>(wire: &mut W, address: &Address) -> Result<(), Req
     let interrupted = write_all(wire, address.path_query().as_bytes(), interrupted)?;
     let interrupted = write_all(wire, b" HTTP/1.1\r\nHost: ", interrupted)?;
     let interrupted = write_all(wire, address.authority().as_bytes(), interrupted)?;
-    write_all(wire, b"\r\nUser-Agent: wgetr/1.0\r\nAccept: */*\r\nAccept-Encoding: identity\r\nConnection: close\r\n\r\n", interrupted)?;
+    write_all(
+        wire,
+        b"\r\nUser-Agent: wgetr/1.0\r\nAccept: */*\r\nAccept-Encoding: identity\r\nConnection: close\r\n\r\n",
+        interrupted,
+    )?;
     Ok(())
 }
 
 /// Writes all the bytes, where so many writes of the request were interrupted before, and says how
 /// many were after.
-fn write_all<W: Wire>(
-    wire: &mut W,
-    bytes: &[u8],
-    interrupted: u32,
-) -> Result<u32, RequestFault>
+fn write_all<W: Wire>(wire: &mut W, bytes: &[u8], interrupted: u32) -> Result<u32, RequestFault>
     requires { interrupted < MAX_INTERRUPTED }
     ensures written { OnOk result (Appends (W.outgoing wire.old) (W.outgoing wire.new) bytes.now) }
     ensures part { OnErr result (AppendsFront (W.outgoing wire.old) (W.outgoing wire.new) bytes.now) }

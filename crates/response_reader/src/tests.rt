@@ -101,12 +101,7 @@ fn wire_of(
     faults: Vec<PlannedFault>,
 ) -> Result<MemoryWire, AllocError> {
     let bytes = Vec::from_slice(alloc, bytes)?;
-    Ok(MemoryWire::new(
-        alloc,
-        bytes,
-        Vec::from_slice(alloc, pieces)?,
-        faults,
-    ))
+    Ok(MemoryWire::new(alloc, bytes, Vec::from_slice(alloc, pieces)?, faults))
 }
 
 // Whether both calls answer so, where the bytes come in these pieces.
@@ -137,10 +132,16 @@ fn texts_are_read_however_they_are_cut(rt: HostRuntime) -> Result<(), Fail> {
     for (text, want) in TEXTS {
         let bytes = bytes_of(rt.alloc(), text)?;
         for cut in 0..bytes.len() {
-            assert!(rt; answers(rt.alloc(), &bytes, &[cut], want)?, "{text} at {cut}");
+            assert!(rt;
+                answers(rt.alloc(), &bytes, &[cut], want)?,
+                "{text} at {cut}"
+            );
         }
         let ones = vec![in rt.alloc(); 1; bytes.len()]?;
-        assert!(rt; answers(rt.alloc(), &bytes, &ones, want)?, "{text} by bytes");
+        assert!(rt;
+            answers(rt.alloc(), &bytes, &ones, want)?,
+            "{text} by bytes"
+        );
     }
     Ok(())
 }
@@ -157,7 +158,10 @@ fn a_front_of_a_framed_response_has_ended(rt: HostRuntime) -> Result<(), Fail> {
             let read = read_response(rt.alloc(), &mut SliceWire::new(&bytes[..cut]));
             assert!(rt; matches!(read, Err(ReadFault::Ended)), "{text} at {cut}");
         }
-        assert!(rt; read_response(rt.alloc(), &mut SliceWire::new(&bytes)).is_ok(), "{text}");
+        assert!(rt;
+            read_response(rt.alloc(), &mut SliceWire::new(&bytes)).is_ok(),
+            "{text}"
+        );
     }
     Ok(())
 }
@@ -184,19 +188,46 @@ fn limits_are_kept(rt: HostRuntime) -> Result<(), Fail> {
     let chunks = "HTTP/1.1 200 OK|Transfer-Encoding: chunked||1;";
     for (front, middle, times, end, want) in [
         ("HTTP/1.1 200 OK|", "a: b|", 100, "|ok", Ok("ok")),
-        ("HTTP/1.1 200 OK|", "a: b|", 101, "|ok", Err(ReadFault::HeadLong)),
-        ("HTTP/1.1 200 OK|", "a: b|", 101, "", Err(ReadFault::HeadLong)),
+        (
+            "HTTP/1.1 200 OK|",
+            "a: b|",
+            101,
+            "|ok",
+            Err(ReadFault::HeadLong),
+        ),
+        (
+            "HTTP/1.1 200 OK|",
+            "a: b|",
+            101,
+            "",
+            Err(ReadFault::HeadLong),
+        ),
         // 15 + 2 + 3 + 65,512 + 4 bytes, and one more.
         ("HTTP/1.1 200 OK|a: ", "x", 65_512, "||ok", Ok("ok")),
-        ("HTTP/1.1 200 OK|a: ", "x", 65_513, "||ok", Err(ReadFault::HeadLong)),
-        ("HTTP/1.1 200 OK|a: ", "x", 70_000, "", Err(ReadFault::HeadLong)),
+        (
+            "HTTP/1.1 200 OK|a: ",
+            "x",
+            65_513,
+            "||ok",
+            Err(ReadFault::HeadLong),
+        ),
+        (
+            "HTTP/1.1 200 OK|a: ",
+            "x",
+            70_000,
+            "",
+            Err(ReadFault::HeadLong),
+        ),
         // 2 + 1,020 + 2 bytes, and one more.
         (chunks, "x", 1_020, "|a|0||", Ok("a")),
         (chunks, "x", 1_021, "|a|0||", Err(ReadFault::Chunk)),
         (chunked, "", 0, "0|", Err(ReadFault::Ended)),
     ] {
         let bytes = repeated(rt.alloc(), front, middle, times, end)?;
-        assert!(rt; answers(rt.alloc(), &bytes, &[], want)?, "{front} {times} {end}");
+        assert!(rt;
+            answers(rt.alloc(), &bytes, &[], want)?,
+            "{front} {times} {end}"
+        );
     }
     Ok(())
 }
@@ -218,7 +249,10 @@ fn interruptions_are_counted(rt: HostRuntime) -> Result<(), Fail> {
     for (count, is_read) in [(999, true), (1_000, false)] {
         let mut wire = wire_of(rt.alloc(), &bytes, &[], interruptions(rt.alloc(), count)?)?;
         let read = read_response(rt.alloc(), &mut wire);
-        assert!(rt; matches!(read, Err(ReadFault::Device)) != is_read, "{count}");
+        assert!(rt;
+            matches!(read, Err(ReadFault::Device)) != is_read,
+            "{count}"
+        );
         assert!(rt; wire.failures() == count, "{count}");
     }
     Ok(())
@@ -250,20 +284,32 @@ fn parts_of_a_head_are_handed_on(rt: HostRuntime) -> Result<(), Fail> {
         ("Content-Encoding: Identity|", None, false, None),
         ("Content-Encoding:|", None, false, None),
         ("Content-Encoding: identity, identity|", None, true, None),
-        ("Content-Encoding: identity|Content-Encoding: gzip|", None, true, None),
+        (
+            "Content-Encoding: identity|Content-Encoding: gzip|",
+            None,
+            true,
+            None,
+        ),
     ] {
         let bytes = repeated(rt.alloc(), "HTTP/1.1 203 |", fields, 1, "|")?;
         let response = read_response(rt.alloc(), &mut SliceWire::new(&bytes))?;
         assert!(rt; response.status == 203, "{fields}");
-        assert!(rt; response.content_type.as_deref() == kind.map(str::as_bytes), "{fields}");
+        assert!(rt;
+            response.content_type.as_deref() == kind.map(str::as_bytes),
+            "{fields}"
+        );
         assert!(rt; response.coded == coded, "{fields}");
-        assert!(rt; response.location.as_deref() == place.map(str::as_bytes), "{fields}");
+        assert!(rt;
+            response.location.as_deref() == place.map(str::as_bytes),
+            "{fields}"
+        );
     }
     Ok(())
 }
 
 // The bytes that RFC 9112, sections 3.2 and 9.6, and the crate's user agent ask for.
-const REQUEST: &str = "GET /a?b HTTP/1.1|Host: h:81|User-Agent: wgetr/1.0|Accept: */*|Accept-Encoding: identity|Connection: close||";
+const REQUEST: &str =
+    "GET /a?b HTTP/1.1|Host: h:81|User-Agent: wgetr/1.0|Accept: */*|Accept-Encoding: identity|Connection: close||";
 
 #[test]
 fn a_request_is_written(rt: HostRuntime) -> Result<(), Fail> {
@@ -273,8 +319,14 @@ fn a_request_is_written(rt: HostRuntime) -> Result<(), Fail> {
     for (count, is_written) in [(0, true), (999, true), (1_000, false)] {
         let mut wire = wire_of(rt.alloc(), &[], &[], interruptions(rt.alloc(), count)?)?;
         let written = write_request(&mut wire, &at);
-        assert!(rt; (written != Err(RequestFault::Device)) == is_written, "{count}");
-        assert!(rt; (wire.written() == want.as_slice()) == is_written, "{count}");
+        assert!(rt;
+            (written != Err(RequestFault::Device)) == is_written,
+            "{count}"
+        );
+        assert!(rt;
+            (wire.written() == want.as_slice()) == is_written,
+            "{count}"
+        );
     }
     Ok(())
 }

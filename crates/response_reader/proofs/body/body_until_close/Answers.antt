@@ -19,7 +19,7 @@ pub returns-in_err-count-clause-handed : goal.returns-in_err-count-clause-handed
 returns-in_err-count-clause-handed g c =
     let p = err_from_is_err_and c.from_residual.result c.from_residual.ensures.1 in
     rw (p.1, p.2) (λ ne. handed_err _ g.S.Sink.took c.args.sink.now c.loop-left.sink c.pass_on.new.sink _ _ _ 16777217 c.in_err-count.field-0.0
-      c.loop-left.invariant.passed (omega arith) c.in_err-count.ensures.only c.in_err-count.ensures.kept ne)
+    c.loop-left.invariant.passed (omega arith) c.in_err-count.ensures.only c.in_err-count.ensures.kept ne)
 
 pub returns-then-count-eq0-clause-passes : goal.returns-then-count-eq0-clause-passes
 returns-then-count-eq0-clause-passes g c =

@@ -19,13 +19,13 @@ pub returns-in_err-count-clause-handed : goal.returns-in_err-count-clause-handed
 returns-in_err-count-clause-handed g c =
     let p = err_from_is_err_and c.from_residual.result c.from_residual.ensures.1 in
     rw (p.1, p.2) (λ ne. handed_err _ g.S.Sink.took c.args.sink.now c.loop-left.sink c.pass_on.new.sink _ _ _ c.args.len c.in_err-count.field-0.0
-      c.loop-left.invariant.passed (omega arith) c.in_err-count.ensures.only c.in_err-count.ensures.kept ne)
+    c.loop-left.invariant.passed (omega arith) c.in_err-count.ensures.only c.in_err-count.ensures.kept ne)
 
 pub returns-then-count-eq0-clause-ended : goal.returns-then-count-eq0-clause-ended
 returns-then-count-eq0-clause-ended g c is =
     let e = c.in_ok-count.ensures in
     told_short _ _ _ _ _ (passed_step _ _ _ (g.S.Sink.took c.args.sink.now) (g.S.Sink.took c.loop-left.sink) (g.S.Sink.took c.pass_on.new.sink) _ _ _ refl c.loop-left.invariant.passed e.passes.passed)
-      (e.passes.end c.if-count-eq0.true) (omega arith)
+    (e.passes.end c.if-count-eq0.true) (omega arith)
 
 pub returns-then-count-eq0-clause-handed : goal.returns-then-count-eq0-clause-handed
 returns-then-count-eq0-clause-handed g c ne =

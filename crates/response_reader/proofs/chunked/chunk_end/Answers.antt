@@ -12,7 +12,7 @@ returns-in_err-ends_line-clause-fault g c =
     let p = err_from_is_err_and c.from_residual.result c.from_residual.ensures.1 in
     let bad = c.in_err-ends_line.ensures.never in
     rw (p.1, p.2) (told_never_crlf (prepend_known c.args.incoming.now.unread (g.W.Wire.incoming c.args.wire.now)) (g.W.Wire.incoming c.reads.wire) c.reads.incoming.unread c.in_err-ends_line.field-0.0
-      c.reads.invariant.bytes (bad.0, rw (← c.unread.ensures) bad.1))
+    c.reads.invariant.bytes (bad.0, rw (← c.unread.ensures) bad.1))
 
 pub returns-in_err-fill-clause-fault : goal.returns-in_err-fill-clause-fault
 returns-in_err-fill-clause-fault g c =

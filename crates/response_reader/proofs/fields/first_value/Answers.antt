@@ -6,4 +6,4 @@ pub returns-then-is_named : goal.returns-then-is_named
 returns-then-is_named c =
     ap (λ (l : List ℕ). Some l) (c.in_ok-from_slice.ensures.items ∙ c.of.ensures)
     ∙ sym (first_seen c.args.buf.now c.args.name.now c.args.fields.now c.loop-first.first-index _ c.loop-first-test.true
-      (sym c.if-is_named.ensures) c.loop-first.invariant)
+    (sym c.if-is_named.ensures) c.loop-first.invariant)

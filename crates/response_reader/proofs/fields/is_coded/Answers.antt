@@ -7,4 +7,4 @@ use Rattle.response_reader.proofs.fields.is_coded.Goals as goal
 pub returns-then-changes_content : goal.returns-then-changes_content
 returns-then-changes_content c =
     sym (any_seen changes_content c.args.buf.now (codes "content-encoding") c.args.fields.now c.loop-field.field-index _ c.loop-field-test.true
-      (sym c.if-is_named.ensures) (search rules))
+    (sym c.if-is_named.ensures) (search rules))

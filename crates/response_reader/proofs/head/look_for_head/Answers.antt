@@ -11,9 +11,9 @@ pub returns-in_err-head-clause-fault : goal.returns-in_err-head-clause-fault
 returns-in_err-head-clause-fault g c =
     let p = err_from_is_err_and c.from_residual.result c.from_residual.ensures.1 in
     rw (p.1, p.2) (told_ahead c.args.incoming.now.unread (g.W.Wire.incoming c.args.wire.now) (HeadStage c.args.most c.in_err-head.field-0.0)
-      (stage_of_error c.args.incoming.now.unread c.args.most _ c.in_err-head.field-0.0 c.requires.fields c.in_err-head.ensures.only
-        (λ is. rw (← c.unread.ensures) (c.in_err-head.ensures.head is)) (λ is. rw (← c.unread.ensures) (c.in_err-head.ensures.exceeds is))
-        (λ is. rw (← c.unread.ensures) (c.in_err-head.ensures.long is))))
+    (stage_of_error c.args.incoming.now.unread c.args.most _ c.in_err-head.field-0.0 c.requires.fields c.in_err-head.ensures.only
+    (λ is. rw (← c.unread.ensures) (c.in_err-head.ensures.head is)) (λ is. rw (← c.unread.ensures) (c.in_err-head.ensures.exceeds is))
+    (λ is. rw (← c.unread.ensures) (c.in_err-head.ensures.long is))))
 
 pub returns-then-unread-most-clause-fault : goal.returns-then-unread-most-clause-fault
 returns-then-unread-most-clause-fault g c =
@@ -21,7 +21,7 @@ returns-then-unread-most-clause-fault g c =
     let may : MayBecomeResponse c.args.incoming.now.unread = rw (← c.unread.ensures) (search rules) in
     let full : length c.args.incoming.now.unread ≡ c.args.most = search rules in
     told_ahead c.args.incoming.now.unread (g.W.Wire.incoming c.args.wire.now) _
-      (stage_of_full c.args.incoming.now.unread c.args.most none may full)
+    (stage_of_full c.args.incoming.now.unread c.args.most none may full)
 
 pub returns-in_err-read_line-clause-fault : goal.returns-in_err-read_line-clause-fault
 returns-in_err-read_line-clause-fault g c =
@@ -34,8 +34,8 @@ returns-in_err-head-2-clause-fault g c =
     let unread = c.read_line.new.self.unread in
     let known = g.W.Wire.incoming c.read_line.new.wire in
     rw (p.1, p.2) (stage_before (prepend_known c.args.incoming.now.unread (g.W.Wire.incoming c.args.wire.now)) (prepend_known unread known) c.args.most c.in_err-head-2.field-0.0
-      c.in_ok-read_line.ensures.bytes
-      (told_ahead unread known (HeadStage c.args.most c.in_err-head-2.field-0.0)
-      (stage_of_error unread c.args.most (length c.head_at.new.spans) c.in_err-head-2.field-0.0 (search rules) c.in_err-head-2.ensures.only
-        (λ is. rw (← c.unread-3.ensures) (c.in_err-head-2.ensures.head is)) (λ is. rw (← c.unread-3.ensures) (c.in_err-head-2.ensures.exceeds is))
-        (λ is. rw (← c.unread-3.ensures) (c.in_err-head-2.ensures.long is)))))
+    c.in_ok-read_line.ensures.bytes
+    (told_ahead unread known (HeadStage c.args.most c.in_err-head-2.field-0.0)
+    (stage_of_error unread c.args.most (length c.head_at.new.spans) c.in_err-head-2.field-0.0 (search rules) c.in_err-head-2.ensures.only
+    (λ is. rw (← c.unread-3.ensures) (c.in_err-head-2.ensures.head is)) (λ is. rw (← c.unread-3.ensures) (c.in_err-head-2.ensures.exceeds is))
+    (λ is. rw (← c.unread-3.ensures) (c.in_err-head-2.ensures.long is)))))

@@ -37,7 +37,7 @@ heads-preserved g c =
     let h = e.whole.0 in
     let is : c.kind_of.result ≡ Interim = search rules in
     let status : IsInterimStatus (status_code h) =
-        subst (λ (n : ℕ). IsInterimStatus n) e.whole.1.code (subst (λ (k : Kind). IsKindOf c.in_ok-head.head.code k) is c.kind_of.ensures) in
+    subst (λ (n : ℕ). IsInterimStatus n) e.whole.1.code (subst (λ (k : Kind). IsKindOf c.in_ok-head.head.code k) is c.kind_of.ensures) in
     let fields : length c.next_head.new.spans ≡ 100 = search rules in
     let interim : IsInterim h = record { status = status; fields = few_fields _ c.next_head.new.spans _ h.fields fields e.whole.1.fields } in
     let before = passed_kept _ _ _ _ c.heads.invariant.passed e.bytes in
@@ -45,7 +45,7 @@ heads-preserved g c =
     let known = g.W.Wire.incoming c.next_head.new.wire in
     let first = prepend_known c.args.incoming.now.unread (g.W.Wire.incoming c.args.wire.now) in
     let read : ReadsResponse unread h c.consume.new.self.unread =
-        subst (λ (l : List ℕ). ReadsResponse unread h l) (sym c.consume.ensures.rest) e.whole.1.reads in
+    subst (λ (l : List ℕ). ReadsResponse unread h l) (sym c.consume.ensures.rest) e.whole.1.reads in
     let after = passed_interim first known unread c.consume.new.self.unread c.heads.passed h before read interim in
     let gone = goes_on_trans _ _ _ c.heads.invariant.counts e.counts in
     record {

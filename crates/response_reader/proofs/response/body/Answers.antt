@@ -14,7 +14,7 @@ use Rattle.response_reader.proofs.response.body.Goals as goal
 pub returns-in-NoBody-clause-body : goal.returns-in-NoBody-clause-body
 returns-in-NoBody-clause-body g c =
     rw c.in-NoBody.is (takes_none (prepend_known c.args.incoming.now.unread (g.W.Wire.incoming c.args.wire.now)) c.args.used _ c.requires
-      (adds_none (g.S.Sink.took c.args.sink.now)))
+    (adds_none (g.S.Sink.took c.args.sink.now)))
 
 pub returns-in-Sized-clause-fault : goal.returns-in-Sized-clause-fault
 returns-in-Sized-clause-fault g c =
@@ -29,8 +29,8 @@ pub returns-in-Sized-2-clause-fault : goal.returns-in-Sized-2-clause-fault
 returns-in-Sized-2-clause-fault g c =
     let few : c.in-Sized-2.len ≤ max_body_len = search rules in
     rw c.in-Sized-2.is (if_err_both c.sized_body.result _ _ _
-      (λ f stop ended. fault_sized (prepend_known c.args.incoming.now.unread (g.W.Wire.incoming c.args.wire.now)) c.args.used c.in-Sized-2.len f few stop ended)
-      c.sized_body.ensures.only c.sized_body.ensures.ended)
+    (λ f stop ended. fault_sized (prepend_known c.args.incoming.now.unread (g.W.Wire.incoming c.args.wire.now)) c.args.used c.in-Sized-2.len f few stop ended)
+    c.sized_body.ensures.only c.sized_body.ensures.ended)
 
 pub returns-in-Chunked-clause-body : goal.returns-in-Chunked-clause-body
 returns-in-Chunked-clause-body g c = rw c.in-Chunked.is c.chunked_body.ensures.body
@@ -44,8 +44,8 @@ returns-in-Chunked-clause-handed g c = rw c.in-Chunked.is c.chunked_body.ensures
 pub returns-in-UntilClose-clause-fault : goal.returns-in-UntilClose-clause-fault
 returns-in-UntilClose-clause-fault g c =
     rw c.in-UntilClose.is (if_err_both c.body_until_close.result _ _ _
-      (λ f stop long. fault_open (prepend_known c.args.incoming.now.unread (g.W.Wire.incoming c.args.wire.now)) c.args.used f stop long)
-      c.body_until_close.ensures.only c.body_until_close.ensures.long)
+    (λ f stop long. fault_open (prepend_known c.args.incoming.now.unread (g.W.Wire.incoming c.args.wire.now)) c.args.used f stop long)
+    c.body_until_close.ensures.only c.body_until_close.ensures.long)
 
 pub returns-in-Sized-clause-handed : goal.returns-in-Sized-clause-handed
 returns-in-Sized-clause-handed g c ne =

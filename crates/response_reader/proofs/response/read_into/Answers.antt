@@ -24,12 +24,12 @@ returns-in_err-read_through-clause-device g c is =
     let p = err_from_is_err_and c.from_residual-in_err-read_through.result c.from_residual-in_err-read_through.ensures.1 in
     let device : c.in_err-read_through.field-0.0 ≡ Device = cc in
     let gave : GivesUp
-          (tally (g.W.Wire.failed c.args.wire.now) (g.W.Wire.reads_never_fail c.args.wire.now) (g.W.Wire.never_errs c.args.wire.now) (g.W.Wire.outgoing c.args.wire.now) c.in_ok-incoming.incoming.interrupted)
-          (tally (g.W.Wire.failed c.read_through.new.wire) (g.W.Wire.reads_never_fail c.read_through.new.wire) (g.W.Wire.never_errs c.read_through.new.wire) (g.W.Wire.outgoing c.read_through.new.wire) c.read_through.new.incoming.interrupted) =
-        subst (λ (f : ReadFault). FaultCounts
-          (tally (g.W.Wire.failed c.args.wire.now) (g.W.Wire.reads_never_fail c.args.wire.now) (g.W.Wire.never_errs c.args.wire.now) (g.W.Wire.outgoing c.args.wire.now) c.in_ok-incoming.incoming.interrupted)
-          (tally (g.W.Wire.failed c.read_through.new.wire) (g.W.Wire.reads_never_fail c.read_through.new.wire) (g.W.Wire.never_errs c.read_through.new.wire) (g.W.Wire.outgoing c.read_through.new.wire) c.read_through.new.incoming.interrupted) f)
-          device c.in_err-read_through.ensures.counts in
+    (tally (g.W.Wire.failed c.args.wire.now) (g.W.Wire.reads_never_fail c.args.wire.now) (g.W.Wire.never_errs c.args.wire.now) (g.W.Wire.outgoing c.args.wire.now) c.in_ok-incoming.incoming.interrupted)
+    (tally (g.W.Wire.failed c.read_through.new.wire) (g.W.Wire.reads_never_fail c.read_through.new.wire) (g.W.Wire.never_errs c.read_through.new.wire) (g.W.Wire.outgoing c.read_through.new.wire) c.read_through.new.incoming.interrupted) =
+    subst (λ (f : ReadFault). FaultCounts
+    (tally (g.W.Wire.failed c.args.wire.now) (g.W.Wire.reads_never_fail c.args.wire.now) (g.W.Wire.never_errs c.args.wire.now) (g.W.Wire.outgoing c.args.wire.now) c.in_ok-incoming.incoming.interrupted)
+    (tally (g.W.Wire.failed c.read_through.new.wire) (g.W.Wire.reads_never_fail c.read_through.new.wire) (g.W.Wire.never_errs c.read_through.new.wire) (g.W.Wire.outgoing c.read_through.new.wire) c.read_through.new.incoming.interrupted) f)
+    device c.in_err-read_through.ensures.counts in
     gave.risen (g.W.Wire.failed c.args.wire.now) (none_counted _ _ c.in_ok-incoming.ensures.uninterrupted)
 
 pub returns-in_err-read_through-clause-handed : goal.returns-in_err-read_through-clause-handed
@@ -37,20 +37,20 @@ returns-in_err-read_through-clause-handed g c =
     let p = err_from_is_err_and c.from_residual-in_err-read_through.result c.from_residual-in_err-read_through.ensures.1 in
     let same = nothing_unread c.in_ok-incoming.incoming.unread (g.W.Wire.incoming c.args.wire.now) c.in_ok-incoming.ensures.none in
     rw (p.1, p.2) (λ ne. subst (λ (o : Option (List ℕ)). OfBytes o
-        (HandsFront (λ head front. g.S.Sink.took c.args.sink.now None [] → g.S.Sink.took c.read_through.new.sink head front))) same
-      (c.in_err-read_through.ensures.handed ne))
+    (HandsFront (λ head front. g.S.Sink.took c.args.sink.now None [] → g.S.Sink.took c.read_through.new.sink head front))) same
+    (c.in_err-read_through.ensures.handed ne))
 
 pub returns-in_err-read_through-clause-few : goal.returns-in_err-read_through-clause-few
 returns-in_err-read_through-clause-few g c ne =
     let p = err_from_is_err_and c.from_residual-in_err-read_through.result c.from_residual-in_err-read_through.ensures.1 in
     few_of_counts {T = Unit {0}} (Err c.in_err-read_through.field-0.0) (g.W.Wire.failed c.args.wire.now)
-      (tally (g.W.Wire.failed c.args.wire.now) (g.W.Wire.reads_never_fail c.args.wire.now) (g.W.Wire.never_errs c.args.wire.now) (g.W.Wire.outgoing c.args.wire.now) c.in_ok-incoming.incoming.interrupted)
-      (tally (g.W.Wire.failed c.read_through.new.wire) (g.W.Wire.reads_never_fail c.read_through.new.wire) (g.W.Wire.never_errs c.read_through.new.wire) (g.W.Wire.outgoing c.read_through.new.wire) c.read_through.new.incoming.interrupted)
-      c.in_err-read_through.ensures.counts (none_counted _ _ c.in_ok-incoming.ensures.uninterrupted) (omega (arith, c.in_ok-incoming.ensures.uninterrupted)) (λ is. ne (p.1 ∙ cc))
+    (tally (g.W.Wire.failed c.args.wire.now) (g.W.Wire.reads_never_fail c.args.wire.now) (g.W.Wire.never_errs c.args.wire.now) (g.W.Wire.outgoing c.args.wire.now) c.in_ok-incoming.incoming.interrupted)
+    (tally (g.W.Wire.failed c.read_through.new.wire) (g.W.Wire.reads_never_fail c.read_through.new.wire) (g.W.Wire.never_errs c.read_through.new.wire) (g.W.Wire.outgoing c.read_through.new.wire) c.read_through.new.incoming.interrupted)
+    c.in_err-read_through.ensures.counts (none_counted _ _ c.in_ok-incoming.ensures.uninterrupted) (omega (arith, c.in_ok-incoming.ensures.uninterrupted)) (λ is. ne (p.1 ∙ cc))
 
 pub returns-clause-few : goal.returns-clause-few
 returns-clause-few g c ne =
     few_of_counts {T = Unit {0}} (Ok tt) (g.W.Wire.failed c.args.wire.now)
-      (tally (g.W.Wire.failed c.args.wire.now) (g.W.Wire.reads_never_fail c.args.wire.now) (g.W.Wire.never_errs c.args.wire.now) (g.W.Wire.outgoing c.args.wire.now) c.in_ok-incoming.incoming.interrupted)
-      (tally (g.W.Wire.failed c.read_through.new.wire) (g.W.Wire.reads_never_fail c.read_through.new.wire) (g.W.Wire.never_errs c.read_through.new.wire) (g.W.Wire.outgoing c.read_through.new.wire) c.read_through.new.incoming.interrupted)
-      c.in_ok-read_through.ensures.counts (none_counted _ _ c.in_ok-incoming.ensures.uninterrupted) (omega (arith, c.in_ok-incoming.ensures.uninterrupted)) ne
+    (tally (g.W.Wire.failed c.args.wire.now) (g.W.Wire.reads_never_fail c.args.wire.now) (g.W.Wire.never_errs c.args.wire.now) (g.W.Wire.outgoing c.args.wire.now) c.in_ok-incoming.incoming.interrupted)
+    (tally (g.W.Wire.failed c.read_through.new.wire) (g.W.Wire.reads_never_fail c.read_through.new.wire) (g.W.Wire.never_errs c.read_through.new.wire) (g.W.Wire.outgoing c.read_through.new.wire) c.read_through.new.incoming.interrupted)
+    c.in_ok-read_through.ensures.counts (none_counted _ _ c.in_ok-incoming.ensures.uninterrupted) (omega (arith, c.in_ok-incoming.ensures.uninterrupted)) ne

@@ -22,17 +22,17 @@ returns-in_err-body-clause-fault g c =
 pub returns-clause-response : goal.returns-clause-response
 returns-clause-response g c =
     hands_on _ _ (head_parts c.in_ok-heads.heads.head) c.in_ok-heads.heads.framing c.in_ok-heads.heads.len _
-      (λ (r : ResponseParts). g.S.Sink.took c.args.sink.now None [] → g.S.Sink.took c.body.new.sink (Some r.head) r.body)
-      c.in_ok-heads.ensures.frames c.in_ok-body.ensures.body
-      (λ body adds fresh. adds (head_parts c.in_ok-heads.heads.head) [] (c.in_ok-head.ensures fresh))
+    (λ (r : ResponseParts). g.S.Sink.took c.args.sink.now None [] → g.S.Sink.took c.body.new.sink (Some r.head) r.body)
+    c.in_ok-heads.ensures.frames c.in_ok-body.ensures.body
+    (λ body adds fresh. adds (head_parts c.in_ok-heads.heads.head) [] (c.in_ok-head.ensures fresh))
 
 pub returns-in_err-body-clause-handed : goal.returns-in_err-body-clause-handed
 returns-in_err-body-clause-handed g c =
     let p = err_from_is_err_and c.from_residual-in_err-body.result c.from_residual-in_err-body.ensures.1 in
     rw (p.1, p.2) (λ ne. hands_front _ _ (head_parts c.in_ok-heads.heads.head) _ _ _
-      (λ (head : Option HeadParts) (front : List ℕ). g.S.Sink.took c.args.sink.now None [] → g.S.Sink.took c.body.new.sink head front)
-      c.in_ok-heads.ensures.frames (c.in_err-body.ensures.handed ne)
-      (λ front adds fresh. adds (head_parts c.in_ok-heads.heads.head) [] (c.in_ok-head.ensures fresh)))
+    (λ (head : Option HeadParts) (front : List ℕ). g.S.Sink.took c.args.sink.now None [] → g.S.Sink.took c.body.new.sink head front)
+    c.in_ok-heads.ensures.frames (c.in_err-body.ensures.handed ne)
+    (λ front adds fresh. adds (head_parts c.in_ok-heads.heads.head) [] (c.in_ok-head.ensures fresh)))
 
 pub returns-in_err-body-clause-counts : goal.returns-in_err-body-clause-counts
 returns-in_err-body-clause-counts g c =

@@ -11,9 +11,9 @@ pub returns-in_err-len-clause-fault : goal.returns-in_err-len-clause-fault
 returns-in_err-len-clause-fault g c =
     let p = err_from_is_err_and c.from_residual.result c.from_residual.ensures.1 in
     rw (p.1, p.2) (told_section_error (prepend_known c.args.incoming.now.unread (g.W.Wire.incoming c.args.wire.now)) (g.W.Wire.incoming c.reads.wire) c.reads.incoming.unread c.min-held.result c.args.most c.in_err-len.field-0.0
-      c.reads.invariant.bytes c.in_err-len.ensures.only
-      (λ is. rw (← c.unread-in-reads.ensures) (c.in_err-len.ensures.chunk is)) (λ is. rw (← c.unread-in-reads.ensures) (c.in_err-len.ensures.exceeds is))
-      (λ is. rw (← c.unread-in-reads.ensures) (c.in_err-len.ensures.long is)))
+    c.reads.invariant.bytes c.in_err-len.ensures.only
+    (λ is. rw (← c.unread-in-reads.ensures) (c.in_err-len.ensures.chunk is)) (λ is. rw (← c.unread-in-reads.ensures) (c.in_err-len.ensures.exceeds is))
+    (λ is. rw (← c.unread-in-reads.ensures) (c.in_err-len.ensures.long is)))
 
 pub returns-in-Some-clause-section : goal.returns-in-Some-clause-section
 returns-in-Some-clause-section g c =
@@ -32,4 +32,4 @@ returns-in_err-more-clause-fault g c =
 pub reads-smaller : goal.reads-smaller
 reads-smaller g c =
     trailers_smaller c.reads.more c.in_ok-more.more c.args.most (length c.reads.incoming.unread) (length c.read_line.new.self.unread) (search (rules, tests))
-      (search rules) c.in_ok-more.ensures.grows c.in_ok-more.ensures.more
+    (search rules) c.in_ok-more.ensures.grows c.in_ok-more.ensures.more

@@ -18,16 +18,15 @@ returns-clause-bytes c =
     let front : length c.copy_from_slice.new.self ≡ n = search rules in
     let given = take_at c.copy_from_slice.new.self (drop n c.args.room.now) n front in
     let told : drop at bytes ≡ c.next_fault.new.self.incoming =
-        ap (λ (w : Conversation). w.incoming) c.self.view_is ∙ ap (λ (w : Conversation). w.incoming) c.next_len-n.ensures.after in
+    ap (λ (w : Conversation). w.incoming) c.self.view_is ∙ ap (λ (w : Conversation). w.incoming) c.next_len-n.ensures.after in
     let kept : c.args.self.now.incoming ≡ drop at bytes =
-        sym (told ∙ ap (λ (w : Conversation). w.incoming) c.next_fault.ensures.after ∙ called_tells c.args.self.now c.next_fault.result) in
-    (
+    sym (told ∙ ap (λ (w : Conversation). w.incoming) c.next_fault.ensures.after ∙ called_tells c.args.self.now c.next_fault.result) in (
       rw given (kept ∙ cc),
       λ none room.
           let wide : 0 < length c.args.room.now =
-              omega (arith, length-append c.copy_from_slice.new.self (drop n c.args.room.now), length-drop n c.args.room.now) in
+          omega (arith, length-append c.copy_from_slice.new.self (drop n c.args.room.now), length-drop n c.args.room.now) in
           let same : at + n ≡ at = omega arith in
           ap (λ (k : ℕ). drop k bytes) same ∙ told
           ∙ none_given (length c.args.room.now) (first_or (length c.args.room.now) c.next_fault.new.self.pieces) c.next_fault.new.self.incoming
-            (sym c.next_len-n.ensures.value ∙ none) wide,
+          (sym c.next_len-n.ensures.value ∙ none) wide,
     )
