@@ -1,0 +1,13 @@
+-- What holds of the grammar of responses.
+use Rattle.std.specs.Prelude.{◌≡◌, List, ℕ}
+use Rattle.response_reader.specs.declared.fault.ReadFault.{ReadFault}
+use Rattle.response_reader.specs.Response.{ResponseParts, IsResponse, BeginsNone}
+use Rattle.response_reader.specs.ReadFaults.{IsFault, IsTextFault}
+
+-- bytes begin with at most one response, which ends at one place
+abbrev pub OneResponse : Type 0
+OneResponse = (bytes : List ℕ) (r q : ResponseParts) (rest left : List ℕ) → IsResponse bytes r rest → IsResponse bytes q left → (r ≡ q) × (rest ≡ left)
+
+-- bytes with a fault begin with no response
+abbrev pub FaultyHasNone : Type 0
+FaultyHasNone = (f : ReadFault) (bytes : List ℕ) → IsTextFault f → IsFault f bytes → BeginsNone bytes

@@ -1,0 +1,71 @@
+-- What is handed on of a body.
+use Rattle.std.specs.Prelude.{◌+◌, ◌-◌, ◌⊎◌, ◌≡◌, ℕ, ◌≤◌, List, [], ◌++◌, length, Option, Some, None, option_map, vec_items}
+use Rattle.std.specs.Io.KnownBytes.{Consumes, IsAtEnd}
+use Rattle.response_reader.specs.declared.sink.Head.{Head}
+use Rattle.response_reader.specs.declared.fault.ReadFault.{ReadFault}
+use Rattle.response_reader.specs.declared.fault.ReadFault.TheVariants.{Device, Memory, Ended, BodyLong}
+use Rattle.response_reader.specs.declared.fields.Framing.{Framing}
+use Rattle.response_reader.specs.Bodies.{ReadsBody, max_body_len, max_response_len}
+use Rattle.response_reader.specs.Response.{ReadsFront}
+use Rattle.response_reader.specs.Fields.{HeadParts}
+
+-- the head as contracts see it
+abbrev pub head_parts : Head → HeadParts
+head_parts h = record {
+  status = h.status;
+  content_type = option_map vec_items h.content_type;
+  coded = h.coded;
+  location = option_map vec_items h.location;
+}
+
+-- whatever head and bytes a sink may have taken before, it may have taken the piece since
+abbrev pub Adds : (Option HeadParts → List ℕ → Type 0) → (Option HeadParts → List ℕ → Type 0) → List ℕ → Type 0
+Adds Before After piece = (h : HeadParts) (body : List ℕ) → Before (Some h) body → After (Some h) (body ++ piece)
+
+-- count bytes of what was ahead were handed on
+pub record Passed (before after : Option (List ℕ)) (P : List ℕ → Type 0) (count : ℕ) : Type 0 where
+  pub piece : List ℕ
+  pub bytes : Consumes before after piece
+  pub count_is : length piece ≡ count
+  pub adds : P piece
+
+-- count bytes were handed on in one step; none only at the end
+pub record Passes (before after : Option (List ℕ)) (P : List ℕ → Type 0) (count : ℕ) : Type 0 where
+  pub passed : Passed before after P count
+  pub end : count ≡ 0 → IsAtEnd after
+
+-- all was handed on, and it was at most so many bytes
+pub record PassedAll (before after : Option (List ℕ)) (P : List ℕ → Type 0) (most : ℕ) : Type 0 where
+  pub count : ℕ
+  pub few : count ≤ most
+  pub passed : Passed before after P count
+  pub end : IsAtEnd after
+
+-- of the bytes at most so many from the front were handed on
+pub record PassedFront (P : List ℕ → Type 0) (most : ℕ) (bytes : List ℕ) : Type 0 where
+  pub piece : List ℕ
+  pub more : List ℕ
+  pub text : bytes ≡ piece ++ more
+  pub few : length piece ≤ most
+  pub adds : P piece
+
+-- a fault that the body of a known length may end in
+abbrev pub IsBodyStop : ReadFault → Type 0
+IsBodyStop f = (f ≡ Device) ⊎ (f ≡ Memory) ⊎ (f ≡ Ended)
+
+-- a fault that a body until the end of the input may end in
+abbrev pub IsOpenBodyStop : ReadFault → Type 0
+IsOpenBodyStop f = (f ≡ Device) ⊎ (f ≡ Memory) ⊎ (f ≡ BodyLong)
+
+-- after heads of used bytes the bytes begin with a body that is framed so, and it was handed on
+pub record TakesBody (used : ℕ) (framing : Framing) (P : List ℕ → Type 0) (bytes : List ℕ) : Type 0 where
+  pub body : List ℕ
+  pub rest : List ℕ
+  pub reads : ReadsBody framing bytes body rest
+  pub few : length body ≤ max_body_len
+  pub len : used + length bytes ≤ length rest + max_response_len
+  pub adds : P body
+
+-- the bytes begin with a front of a body that is framed so, and it was handed on
+abbrev pub TakesFront : Framing → (List ℕ → Type 0) → List ℕ → Type 0
+TakesFront framing P bytes = (front : List ℕ) × ReadsFront framing bytes front × P front

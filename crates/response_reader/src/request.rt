@@ -1,0 +1,71 @@
+//! The request for one address (RFC 9112, sections 3 and 9.6).
+ghost use Rattle.std.specs.Prelude.{◌≡◌, ℕ, List, ◌++◌, ◌+◌, ◌<◌, ◌≤◌, length, drop, IsTrue, IfOk, OnOk, OnErr};
+ghost use Rattle.std.specs.Io.KnownBytes.{Appends, Keeps};
+ghost use Rattle.response_reader.specs.Request.{request_text, AppendsFront, WritesGiveUp};
+ghost use Rattle.response_reader.specs.Wire.{tally, GoesOn, HasRisen};
+
+use crate::retry::MAX_INTERRUPTED;
+use crate::wire::{Wire, WireFault};
+use address::Address;
+
+/// Why a request wasn't written.
+#[derive(Clone, Copy, Debug, PartialEq, Eq)]
+pub enum RequestFault {
+    /// A write failed, or 1,000 were interrupted.
+    Device,
+}
+
+/// Writes the request for an address: a GET of its path and query, with its host, and its port where
+/// that isn't 80. The text goes out in five writes where each is taken whole. After a fault a front of
+/// it was written, and the wire isn't to be used again.
+pub fn write_request<W: Wire>(wire: &mut W, address: &Address) -> Result<(), RequestFault>
+    ensures written { OnOk result (Appends (W.outgoing wire.old) (W.outgoing wire.new) (request_text address.now)) }
+    ensures part { OnErr result (AppendsFront (W.outgoing wire.old) (W.outgoing wire.new) (request_text address.now)) }
+    ensures device { OnErr result (HasRisen (W.failed wire.old) (W.failed wire.new)) }
+    ensures few { OnOk result (W.failed wire.new < W.failed wire.old + 1000) }
+    ensures read { Keeps (W.incoming wire.old) (W.incoming wire.new) }
+    ensures steady { IsTrue (W.reads_never_fail wire.old) → IsTrue (W.reads_never_fail wire.new) }
+    ensures quiet { IsTrue (W.never_errs wire.old) → IsTrue (W.never_errs wire.new) }
+{
+    let interrupted = write_all(wire, b"GET ", 0)?;
+    let interrupted = write_all(wire, address.path_query().as_bytes(), interrupted)?;
+    let interrupted = write_all(wire, b" HTTP/1.1\r\nHost: ", interrupted)?;
+    let interrupted = write_all(wire, address.authority().as_bytes(), interrupted)?;
+    write_all(
+        wire,
+        b"\r\nUser-Agent: wgetr/1.0\r\nAccept: */*\r\nAccept-Encoding: identity\r\nConnection: close\r\n\r\n",
+        interrupted,
+    )?;
+    Ok(())
+}
+
+/// Writes all the bytes, where so many writes of the request were interrupted before, and says how
+/// many were after.
+fn write_all<W: Wire>(wire: &mut W, bytes: &[u8], interrupted: u32) -> Result<u32, RequestFault>
+    requires { interrupted < MAX_INTERRUPTED }
+    ensures written { OnOk result (Appends (W.outgoing wire.old) (W.outgoing wire.new) bytes.now) }
+    ensures part { OnErr result (AppendsFront (W.outgoing wire.old) (W.outgoing wire.new) bytes.now) }
+    ensures few { IfOk result (λ n. n < MAX_INTERRUPTED) }
+    ensures counts { IfOk result (λ n. GoesOn
+        (tally (W.failed wire.old) (W.reads_never_fail wire.old) (W.never_errs wire.old) (W.incoming wire.old) interrupted)
+        (tally (W.failed wire.new) (W.reads_never_fail wire.new) (W.never_errs wire.new) (W.incoming wire.new) n)) }
+    ensures gives_up { OnErr result ((after : ℕ) → WritesGiveUp
+        (tally (W.failed wire.old) (W.reads_never_fail wire.old) (W.never_errs wire.old) (W.incoming wire.old) interrupted)
+        (tally (W.failed wire.new) (W.reads_never_fail wire.new) (W.never_errs wire.new) (W.incoming wire.new) after)) }
+{
+    let mut rest = bytes;
+    let mut count = interrupted;
+    'writes: while !rest.is_empty() {
+        match wire.write(rest) {
+            Ok(taken) => rest = &rest[taken..],
+            Err(WireFault::Failed) => return Err(RequestFault::Device),
+            Err(WireFault::Interrupted) => {
+                count += 1;
+                if count == MAX_INTERRUPTED {
+                    return Err(RequestFault::Device);
+                }
+            }
+        }
+    }
+    Ok(count)
+}
