@@ -1,5 +1,4 @@
 pub mod RowLemmas
-pub mod WordLemmas
 pub mod TableLemmas
 pub mod TurnLaws
 pub mod RestLaws

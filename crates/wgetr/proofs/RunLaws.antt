@@ -8,7 +8,9 @@ use Rattle.frontier_core.specs.Plans.{policy}
 use Rattle.frontier_core.specs.Tables.{Text}
 use Rattle.frontier_core.specs.declared.event.Cause.{Cause}
 use Rattle.frontier_core.specs.declared.event.Cause.TheVariants as why
-use Rattle.wgetr.specs.Order.{order_of, IsPlanned, IsRefused}
+use Rattle.options.specs.declared.fault.LineFault.TheVariants as line
+use Rattle.options.specs.declared.order.Order.{Order}
+use Rattle.wgetr.specs.Order.{IsOrdered, IsPlanned, IsRefused, AreForMap}
 use Rattle.wgetr.specs.Parts.{TellsOf, TellsFault, StopsAt}
 use Rattle.wgetr.specs.Report.{Line, report_text}
 use Rattle.wgetr.specs.Retrieval.{Stops}
@@ -18,8 +20,6 @@ use Rattle.wgetr.specs.Streams.{IsInput}
 use Rattle.wgetr.specs.declared.fault.Fault.{Fault}
 use Rattle.wgetr.specs.declared.fault.Fault.TheVariants as fault
 use Rattle.wgetr.specs.declared.input.ReadFault.TheVariants as reading
-use Rattle.wgetr.specs.declared.line.LineFault.{LineFault}
-use Rattle.wgetr.specs.declared.line.LineFault.TheVariants as line
 use Rattle.wgetr.proofs.SiteLaws.{too_many_up}
 
 -- some bytes are what the reader has left
@@ -29,32 +29,42 @@ some_input (Some bytes) = (bytes, refl)
 
 -- ---- the command line
 
-comes_line : (words : List (List ℕ)) (input : List ℕ) (wrong : LineFault) → IsRefused words wrong → Comes words input (fault.Line wrong)
-comes_line words input line.Words (inl e) = e
-comes_line words input line.Words (inr e) = cc
-comes_line words input line.Depth (inl e) = e
-comes_line words input line.Depth (inr e) = cc
-comes_line words input (line.Start refused) (inl e) = e
-comes_line words input (line.Start refused) (inr e) = cc
-comes_line words input line.StartIsRobots (inl e) = e
-comes_line words input line.StartIsRobots (inr e) = cc
-comes_line words input line.Memory refused = tt
+comes_refused : (words : List (List ℕ)) (input : List ℕ) (wrong : Fault) → IsRefused words wrong → Comes words input wrong
+comes_refused words input (fault.Line line.Memory) refused = tt
+comes_refused words input (fault.Line (line.Words kind)) (inl e) = e
+comes_refused words input (fault.Line (line.Words kind)) (inr e) = cc
+comes_refused words input (fault.Line line.Depth) (inl e) = e
+comes_refused words input (fault.Line line.Depth) (inr e) = cc
+comes_refused words input (fault.Line line.Pattern) (inl e) = e
+comes_refused words input (fault.Line line.Pattern) (inr e) = cc
+comes_refused words input (fault.Line line.Directory) (inl e) = e
+comes_refused words input (fault.Line line.Directory) (inr e) = cc
+comes_refused words input (fault.Line line.Domain) (inl e) = e
+comes_refused words input (fault.Line line.Domain) (inr e) = cc
+comes_refused words input (fault.Line (line.Start why)) (inl e) = e
+comes_refused words input (fault.Line (line.Start why)) (inr e) = cc
+comes_refused words input (fault.Line line.StartIsRobots) (inl e) = e
+comes_refused words input (fault.Line line.StartIsRobots) (inr e) = cc
+comes_refused words input fault.NotText refused = absurd refused
+comes_refused words input fault.NoSite refused = refused
+comes_refused words input (fault.Read w) refused = absurd refused
+comes_refused words input (fault.Map w) refused = absurd refused
+comes_refused words input (fault.Stopped w) refused = absurd refused
 
-pub ends_line : (words : List (List ℕ)) (known : Option (List ℕ)) (wrong : LineFault) → IsRefused words wrong → EndsFor words known (Failed (fault.Line wrong))
-ends_line words known wrong refused = let (input, is) = some_input known in (input, is, comes_line words input wrong refused)
+pub ends_refused : (words : List (List ℕ)) (known : Option (List ℕ)) (wrong : Fault) → IsRefused words wrong → EndsFor words known (Failed wrong)
+ends_refused words known wrong refused = let (input, is) = some_input known in (input, is, comes_refused words input wrong refused)
 
 -- ---- the input
 
-planned_ok : (words : List (List ℕ)) (plan : Plan) → IsPlanned words plan → IsOk (order_of words)
-planned_ok words plan (order, is, of) = subst IsOk (sym is) refl
-
-pub ends_input : (words : List (List ℕ)) (known : Option (List ℕ)) (plan : Plan) (wrong : Fault) → IsPlanned words plan → TellsFault known wrong → EndsFor words known (Failed wrong)
-ends_input words known plan (fault.Line w) planned told = absurd told
-ends_input words known plan (fault.Read reading.Long) planned (input, is, long) = (input, is, (planned_ok words plan planned, long))
-ends_input words known plan (fault.Read reading.Failed) planned told = let (input, is) = some_input known in (input, is, planned_ok words plan planned)
-ends_input words known plan (fault.Read reading.Memory) planned told = let (input, is) = some_input known in (input, is, tt)
-ends_input words known plan (fault.Map w) planned (input, is, within, bad) = (input, is, (planned_ok words plan planned, within, bad))
-ends_input words known plan (fault.Stopped w) planned told = absurd told
+pub ends_input : (words : List (List ℕ)) (known : Option (List ℕ)) (order : Order) (wrong : Fault) → IsOrdered words order → TellsFault known wrong → EndsFor words known (Failed wrong)
+ends_input words known order (fault.Line w) ordered told = absurd told
+ends_input words known order fault.NotText ordered told = absurd told
+ends_input words known order fault.NoSite ordered told = absurd told
+ends_input words known order (fault.Read reading.Long) ordered (input, is, long) = (input, is, ((order, ordered), long))
+ends_input words known order (fault.Read reading.Failed) ordered told = let (input, is) = some_input known in (input, is, (order, ordered))
+ends_input words known order (fault.Read reading.Memory) ordered told = let (input, is) = some_input known in (input, is, tt)
+ends_input words known order (fault.Map w) ordered (input, is, within, bad) = (input, is, ((order, ordered), within, bad))
+ends_input words known order (fault.Stopped w) ordered told = absurd told
 
 -- ---- the retrieval
 
@@ -66,6 +76,8 @@ stops_at plan site why.Mismatch stops = stops
 pub ends_stopped : (words : List (List ℕ)) (known : Option (List ℕ)) (plan : Plan) (site : MapValue) (wrong : Fault) → IsPlanned words plan → TellsOf known site
     → StopsAt plan (outcome_in site.answers) wrong → EndsFor words known (Failed wrong)
 ends_stopped words known plan site (fault.Line w) planned told stops = absurd stops
+ends_stopped words known plan site fault.NotText planned told stops = absurd stops
+ends_stopped words known plan site fault.NoSite planned told stops = absurd stops
 ends_stopped words known plan site (fault.Read w) planned told stops = absurd stops
 ends_stopped words known plan site (fault.Map w) planned told stops = absurd stops
 ends_stopped words known plan site (fault.Stopped why.Full) planned (input, is, within, said, map_is, of) stops =

@@ -1,9 +1,5 @@
 pub mod Limits
-pub mod Words
-pub mod Said
-pub mod Level
 pub mod Order
-pub mod LineFaults
 pub mod Streams
 pub mod Report
 pub mod Rows

@@ -27,6 +27,8 @@ TellsOf known site =
 -- what the reader has left comes to this fault
 abbrev pub TellsFault : Option (List ℕ) → Fault → Type 0
 TellsFault known (fault.Line wrong) = ⊥
+TellsFault known fault.NotText = ⊥
+TellsFault known fault.NoSite = ⊥
 TellsFault known (fault.Read reading.Long) = (input : List ℕ) × IsInput known input × (max_input < length input)
 TellsFault known (fault.Read reading.Failed) = Unit {0}
 TellsFault known (fault.Read reading.Memory) = Unit {0}
@@ -36,6 +38,8 @@ TellsFault known (fault.Stopped why) = ⊥
 -- the retrieval of a site stops for this fault
 abbrev pub StopsAt : Plan → (Text → Outcome) → Fault → Type 0
 StopsAt plan site (fault.Line wrong) = ⊥
+StopsAt plan site fault.NotText = ⊥
+StopsAt plan site fault.NoSite = ⊥
 StopsAt plan site (fault.Read wrong) = ⊥
 StopsAt plan site (fault.Map wrong) = ⊥
 StopsAt plan site (fault.Stopped cause.Full) = HasTooMany (policy plan) (record_of site)

@@ -1,5 +1,5 @@
 -- What a run of the program writes for its words and its input, and the status with which it ends.
-use Rattle.std.specs.Prelude.{◌≡◌, ◌≤◌, ◌<◌, ◌⊎◌, ℕ, List, ◌++◌, length, codes, Option, Err, IsOk}
+use Rattle.std.specs.Prelude.{◌≡◌, ◌≤◌, ◌<◌, ◌⊎◌, ℕ, List, ◌++◌, length, codes, Option, Err}
 use Rattle.std.specs.Fmt.{decimal}
 use Rattle.std.specs.Io.KnownBytes.{Appends}
 use Rattle.address.specs.declared.fault.AddressFault.{AddressFault}
@@ -15,8 +15,11 @@ use Rattle.frontier_core.specs.Routes.{HasTooMany}
 use Rattle.frontier_core.specs.Tables.{Text}
 use Rattle.frontier_core.specs.declared.event.Cause.{Cause}
 use Rattle.frontier_core.specs.declared.event.Cause.TheVariants as cause
+use Rattle.options.specs.Order.{order_of, without_kind}
+use Rattle.options.specs.declared.fault.LineFault.{LineFault}
+use Rattle.options.specs.declared.fault.LineFault.TheVariants as line
 use Rattle.wgetr.specs.Limits.{max_input}
-use Rattle.wgetr.specs.Order.{order_of, IsPlanned}
+use Rattle.wgetr.specs.Order.{IsPlanned, AreForMap, AreForOther}
 use Rattle.wgetr.specs.Report.{Line, report_text}
 use Rattle.wgetr.specs.Site.{record_of, AreLines}
 use Rattle.wgetr.specs.Streams.{IsInput, AppendsFront}
@@ -24,8 +27,6 @@ use Rattle.wgetr.specs.declared.fault.Fault.{Fault}
 use Rattle.wgetr.specs.declared.fault.Fault.TheVariants as fault
 use Rattle.wgetr.specs.declared.input.ReadFault.{ReadFault}
 use Rattle.wgetr.specs.declared.input.ReadFault.TheVariants as reading
-use Rattle.wgetr.specs.declared.line.LineFault.{LineFault}
-use Rattle.wgetr.specs.declared.line.LineFault.TheVariants as line
 
 -- the input is a map that gives each address this outcome
 abbrev pub IsMapOf : List ℕ → (Text → Outcome) → Type 0
@@ -42,14 +43,13 @@ IsTooLarge plan input = (site : Text → Outcome) × IsMapOf input site × HasTo
 -- the words and the input come to this fault; memory may run out at any time, and a reader may fail once the words are read
 abbrev pub Comes : List (List ℕ) → List ℕ → Fault → Type 0
 Comes words input (fault.Line line.Memory) = Unit {0}
-Comes words input (fault.Line line.Words) = order_of words ≡ Err line.Words
-Comes words input (fault.Line line.Depth) = order_of words ≡ Err line.Depth
-Comes words input (fault.Line (line.Start refused)) = order_of words ≡ Err (line.Start refused)
-Comes words input (fault.Line line.StartIsRobots) = order_of words ≡ Err line.StartIsRobots
-Comes words input (fault.Read reading.Long) = IsOk (order_of words) × (max_input < length input)
-Comes words input (fault.Read reading.Failed) = IsOk (order_of words)
+Comes words input (fault.Line wrong) = order_of words ≡ Err (without_kind wrong)
+Comes words input fault.NotText = ⊥
+Comes words input fault.NoSite = AreForOther words
+Comes words input (fault.Read reading.Long) = AreForMap words × (max_input < length input)
+Comes words input (fault.Read reading.Failed) = AreForMap words
 Comes words input (fault.Read reading.Memory) = Unit {0}
-Comes words input (fault.Map wrong) = IsOk (order_of words) × (length input ≤ max_input) × IsFault input wrong
+Comes words input (fault.Map wrong) = AreForMap words × (length input ≤ max_input) × IsFault input wrong
 Comes words input (fault.Stopped cause.Full) = (length input ≤ max_input) × (plan : Plan) × IsPlanned words plan × IsTooLarge plan input
 Comes words input (fault.Stopped cause.Memory) = Unit {0}
 Comes words input (fault.Stopped cause.Mismatch) = ⊥
@@ -66,8 +66,11 @@ start_words refused.Memory = codes "stopped memory"
 
 -- the words for what is wrong with a command line
 abbrev pub line_words : LineFault → List ℕ
-line_words line.Words = codes "line words"
+line_words (line.Words kind) = codes "line words"
 line_words line.Depth = codes "line depth"
+line_words line.Pattern = codes "line pattern"
+line_words line.Directory = codes "line directory"
+line_words line.Domain = codes "line domain"
 line_words (line.Start refused) = start_words refused
 line_words line.StartIsRobots = codes "line start-robots"
 line_words line.Memory = codes "stopped memory"
@@ -93,6 +96,8 @@ stop_words cause.Mismatch = codes "stopped mismatch"
 -- what is written for a fault, in words
 abbrev pub fault_words : Fault → List ℕ
 fault_words (fault.Line wrong) = line_words wrong
+fault_words fault.NotText = codes "line words"
+fault_words fault.NoSite = codes "line no-site"
 fault_words (fault.Read wrong) = reading_words wrong
 fault_words (fault.Map wrong) = map_words wrong
 fault_words (fault.Stopped why) = stop_words why
@@ -102,6 +107,8 @@ abbrev pub fault_status : Fault → ℕ
 fault_status (fault.Line line.Memory) = 1
 fault_status (fault.Line (line.Start refused.Memory)) = 1
 fault_status (fault.Line _) = 2
+fault_status fault.NotText = 2
+fault_status fault.NoSite = 2
 fault_status (fault.Read reading.Long) = 2
 fault_status (fault.Read reading.Failed) = 1
 fault_status (fault.Read reading.Memory) = 1

@@ -3,17 +3,21 @@ ghost use Rattle.std.specs.Prelude.{◌≡◌, ◌++◌, IfOk, codes, string_byt
 ghost use Rattle.wgetr.specs.Run.{start_words, line_words, reading_words, stop_words, fault_words};
 
 use crate::input::ReadFault;
-use crate::line::LineFault;
 use address::AddressFault;
 use frontier_core::Cause;
+use options::LineFault;
 use site_answer::InputFault;
 use std::alloc::{AllocError, Global};
 
 /// Why a run has no report.
 #[derive(Clone, Copy)]
 pub(crate) enum Fault {
-    /// The words are no command line.
+    /// The words are no order.
     Line(LineFault),
+    /// A word of the command line isn't UTF-8.
+    NotText,
+    /// The words order another site than a map's.
+    NoSite,
     /// The input can't be had.
     Read(ReadFault),
     /// The input is no map.
@@ -32,7 +36,7 @@ impl Fault {
     {
         match self {
             Fault::Line(LineFault::Memory | LineFault::Start(AddressFault::Memory)) => 1,
-            Fault::Line(_) | Fault::Read(ReadFault::Long) => 2,
+            Fault::Line(_) | Fault::NotText | Fault::NoSite | Fault::Read(ReadFault::Long) => 2,
             Fault::Read(ReadFault::Failed | ReadFault::Memory) => 1,
             Fault::Map(InputFault::Memory) => 1,
             Fault::Map(InputFault::Line(_) | InputFault::Address(_)) => 2,
@@ -59,8 +63,11 @@ fn line_words(wrong: LineFault) -> &'static str
     ensures { result.now ≡ line_words wrong }
 {
     match wrong {
-        LineFault::Words => "line words",
+        LineFault::Words(_) => "line words",
         LineFault::Depth => "line depth",
+        LineFault::Pattern => "line pattern",
+        LineFault::Directory => "line directory",
+        LineFault::Domain => "line domain",
         LineFault::Start(refused) => start_words(refused),
         LineFault::StartIsRobots => "line start-robots",
         LineFault::Memory => "stopped memory",
@@ -95,6 +102,8 @@ pub(crate) fn fault_text(alloc: Global, fault: Fault) -> Result<String, AllocErr
 {
     match fault {
         Fault::Line(wrong) => with_newline(alloc, line_words(wrong)),
+        Fault::NotText => with_newline(alloc, "line words"),
+        Fault::NoSite => with_newline(alloc, "line no-site"),
         Fault::Read(wrong) => with_newline(alloc, reading_words(wrong)),
         Fault::Map(InputFault::Line(number)) => format!(in alloc; "input line {number}\n"),
         Fault::Map(InputFault::Address(number)) => format!(in alloc; "input address {number}\n"),

@@ -9,7 +9,7 @@ ghost use Rattle.wgetr.specs.Run.{EndsFor, Reported, Failed, Runs};
 
 use crate::fault::{Fault, fault_text};
 use crate::input::read_input;
-use crate::line::plan_of;
+use crate::order::map_order;
 use crate::output::write_text;
 use crate::report::{report_text, rows_of, sort_rows};
 use crate::retrieval::retrieve;
@@ -50,9 +50,9 @@ fn report<R: Read>(alloc: Global, words: &[&str], reader: &mut R) -> Result<Stri
         × EndsFor (map (λ word. word.now) words.now) (R.remaining reader.old) (Reported lines) × (string_bytes text ≡ report_text lines)) }
     ensures err { IfErr result (λ fault. EndsFor (map (λ word. word.now) words.now) (R.remaining reader.old) (Failed fault)) }
 {
-    let plan = plan_of(alloc, words)?;
+    let order = map_order(alloc, words)?;
     let site = site_of(alloc, reader)?;
-    report_of(alloc, plan, site)
+    report_of(alloc, order.plan, site)
 }
 
 // Writes a text, and gives the status of the run: this one, or 1 where the writer fails.
@@ -75,9 +75,10 @@ pub(crate) fn refuse<W: Write>(alloc: Global, fault: Fault, writer: &mut W) -> u
     }
 }
 
-/// Runs the program: reads its words (an optional `-r`, an optional `-l N`, then `--map START`), then the whole input as a
-/// map, retrieves, and writes the report or one line of words. Answers the status: 0 for a report, 2 where the words or the
-/// input are wrong, 1 where the reader or the writer fails, more addresses are found than may be held, or memory runs out.
+/// Runs the program: reads its words as an order, then the whole input as a map, retrieves what the order's plan says, and
+/// writes the report or one line of words; the first fault ends it. Answers the status: 0 for a report, 2 where the words
+/// or the input are wrong or the site isn't a map, 1 where the reader or the writer fails, more addresses are found than
+/// may be held, or memory runs out.
 /// Where the writer fails a front of the text may be written.
 pub fn run<R: Read, W: Write>(alloc: Global, words: &[&str], reader: &mut R, writer: &mut W) -> u8
     ensures { Runs (map (λ word. word.now) words.now) (R.remaining reader.old) (W.contents writer.old) (W.contents writer.new) result }

@@ -1,5 +1,7 @@
 //! Runs on worked sites, on wrong words and maps, and over readers and writers that fail.
+use crate::advice::{advice_on, advice_text};
 use crate::input::{ReadFault, read_input};
+use crate::order::map_order;
 use crate::run::run;
 use std::io;
 use std::io::{Error, ErrorKind, Read, Write};
@@ -23,7 +25,7 @@ const MANUAL_WHOLE: &str =
     "1 200 http://h/1.gif -\n0 200 http://h/1.html -\n2 200 http://h/2.gif -\n1 200 http://h/2.html -\n\
 3 200 http://h/3.gif -\n2 200 http://h/3.html -\nfetched 6 kept 0 refused 0 failed 0\n";
 
-const CASES: [Case; 22] = [
+const CASES: [Case; 32] = [
     Case {
         name: "one page",
         words: &["--map", "http://h/"],
@@ -77,6 +79,14 @@ page 200 http://h/d\nlink http://h/e\npage 200 http://h/e\nlink http://h/f\n",
         status: 0,
     },
     Case {
+        name: "the manual's site, two levels, the level first",
+        words: &["-l", "2", "-r", "--map", "http://h/1.html"],
+        input: MANUAL,
+        text: "1 200 http://h/1.gif -\n0 200 http://h/1.html -\n2 200 http://h/2.gif -\n1 200 http://h/2.html -\n\
+2 200 http://h/3.html -\nfetched 5 kept 0 refused 0 failed 0\n",
+        status: 0,
+    },
+    Case {
         name: "the manual's site, level 0 is no limit",
         words: &["-r", "-l", "0", "--map", "http://h/1.html"],
         input: MANUAL,
@@ -89,6 +99,30 @@ page 200 http://h/d\nlink http://h/e\npage 200 http://h/e\nlink http://h/f\n",
         input: MANUAL,
         text: MANUAL_WHOLE,
         status: 0,
+    },
+    Case {
+        name: "names that are accepted",
+        words: &["-r", "-l", "1", "-A", "gif", "--map", "http://h/"],
+        input: "page 200 http://h/\nlink http://h/page.html\nlink http://h/pic.gif\nlink http://h/pic.gif?x=1\n\
+link http://h/pic.GIF\nleaf 200 http://h/page.html\nleaf 200 http://h/pic.gif\nleaf 200 http://h/pic.gif?x=1\n\
+leaf 200 http://h/pic.GIF\n",
+        text: "0 200 http://h/ -\n1 200 http://h/page.html -\n1 200 http://h/pic.gif -\n1 200 http://h/pic.gif?x=1 -\n\
+fetched 4 kept 0 refused 0 failed 0\n",
+        status: 0,
+    },
+    Case {
+        name: "as many addresses as may be held",
+        words: &["-r", "--max-urls", "3", "--map", "http://h/"],
+        input: "page 200 http://h/\nlink http://h/a\nlink http://h/b\nleaf 200 http://h/a\nleaf 200 http://h/b\n",
+        text: "0 200 http://h/ -\n1 200 http://h/a -\n1 200 http://h/b -\nfetched 3 kept 0 refused 0 failed 0\n",
+        status: 0,
+    },
+    Case {
+        name: "one address more than may be held",
+        words: &["-r", "--max-urls", "3", "--map", "http://h/"],
+        input: "page 200 http://h/\nlink http://h/a\nlink http://h/b\nlink http://h/c\n",
+        text: "stopped full\n",
+        status: 1,
     },
     Case {
         name: "a start that the map doesn't name",
@@ -128,13 +162,6 @@ page 200 http://h/3\nlink http://h/4\npage 200 http://h/4\nlink http://h/5\npage
         status: 2,
     },
     Case {
-        name: "words in another order",
-        words: &["-l", "1", "-r", "--map", "http://h/"],
-        input: "",
-        text: "line words\n",
-        status: 2,
-    },
-    Case {
         name: "a level that is no number, before the start",
         words: &["-l", "+1", "--map", "https://h/"],
         input: "",
@@ -164,23 +191,72 @@ page 200 http://h/3\nlink http://h/4\npage 200 http://h/4\nlink http://h/5\npage
     },
     Case {
         name: "another scheme",
-        words: &["--map", "https://h/"],
+        words: &["https://h/"],
         input: "",
         text: "line start not-http\n",
         status: 2,
     },
     Case {
         name: "a user name",
-        words: &["--map", "http://u@h/"],
+        words: &["http://u@h/"],
         input: "",
         text: "line start user-info\n",
         status: 2,
     },
     Case {
         name: "a robots file",
-        words: &["--map", "http://h/robots.txt"],
+        words: &["http://h/robots.txt"],
         input: "",
         text: "line start-robots\n",
+        status: 2,
+    },
+    Case {
+        name: "a level before a start",
+        words: &["-l", "x", "https://h/"],
+        input: "",
+        text: "line depth\n",
+        status: 2,
+    },
+    Case {
+        name: "a class that isn't closed",
+        words: &["-A", "[a", "http://h/"],
+        input: "",
+        text: "line pattern\n",
+        status: 2,
+    },
+    Case {
+        name: "a directory without a slash",
+        words: &["-I", "a", "http://h/"],
+        input: "",
+        text: "line directory\n",
+        status: 2,
+    },
+    Case {
+        name: "a domain with a slash",
+        words: &["-D", "a/b", "http://h/"],
+        input: "",
+        text: "line domain\n",
+        status: 2,
+    },
+    Case {
+        name: "two starts",
+        words: &["http://h/", "http://k/"],
+        input: "",
+        text: "line words\n",
+        status: 2,
+    },
+    Case {
+        name: "a site on the network",
+        words: &["http://h/"],
+        input: "",
+        text: "line no-site\n",
+        status: 2,
+    },
+    Case {
+        name: "a recorded site",
+        words: &["--record", "http://h/"],
+        input: "wgetr-record 1\n",
+        text: "line no-site\n",
         status: 2,
     },
 ];
@@ -195,6 +271,41 @@ fn runs_write_what_was_worked_out(rt: HostRuntime) {
         assert!(rt; written.as_slice() == case.text.as_bytes(), "{name}");
         assert!(rt; status == case.status, "{name}");
     }
+}
+
+#[test]
+fn a_person_is_told_what_is_wrong_and_what_is_accepted(rt: HostRuntime) -> Result<(), Fail> {
+    let rows: [(&[&str], &str); 3] = [
+        (
+            &["-l", "x", "https://h/"],
+            "wgetr: the value of -l, --level is no level, in: -l x https://h/\n\
+a level is inf or decimal digits, at most 1000000\n",
+        ),
+        (
+            &["-r", "https://h/"],
+            "wgetr: START isn't an http address, in: -r https://h/\n\
+START is an address as http://host/path?query, without user name and password, with at most 8192 bytes \
+and a host of at most 255\n",
+        ),
+        (
+            &["http://h/"],
+            "wgetr: the words name no site that can be read, in: http://h/\n\
+with --map the site is told by a map on standard input\n",
+        ),
+    ];
+    for (words, expected) in rows {
+        let fault = map_order(rt.alloc(), words).err().ok_or("read")?;
+        let advice = advice_on(fault).ok_or("no advice")?;
+        let text = advice_text(rt.alloc(), advice, words)?;
+        assert!(rt; text.as_str() == expected);
+    }
+    let unknown = map_order(rt.alloc(), &["-q"]).err().ok_or("read")?;
+    let advice = advice_on(unknown).ok_or("no advice")?;
+    let text = advice_text(rt.alloc(), advice, &["-q"])?;
+    assert!(rt;
+        text.as_str().starts_with("wgetr: unexpected argument found, in: -q\naccepted are START")
+    );
+    Ok(())
 }
 
 // A device that is interrupted so often, and then takes or gives nothing.

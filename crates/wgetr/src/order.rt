@@ -1,0 +1,20 @@
+//! The order of a run: what its words say, of a site that a map tells.
+ghost use Rattle.std.specs.Prelude.{IfOk, IfErr, map};
+ghost use Rattle.wgetr.specs.Order.{IsOrdered, IsRefused};
+
+use crate::fault::Fault;
+use options::{Order, Source, read_order};
+use std::alloc::Global;
+
+/// What the words order of a map. A run has no other site: records can't be read yet, and what is on the network isn't
+/// a run's to retrieve. Of several faults the lowest is named, but that memory may run out before any.
+pub(crate) fn map_order(alloc: Global, words: &[&str]) -> Result<Order, Fault>
+    ensures ordered { IfOk result (IsOrdered (map (λ word. word.now) words.now)) }
+    ensures refused { IfErr result (IsRefused (map (λ word. word.now) words.now)) }
+{
+    let order = read_order(alloc, words)?;
+    match order.source {
+        Source::Map => Ok(order),
+        Source::Recorded | Source::Live => Err(Fault::NoSite),
+    }
+}
