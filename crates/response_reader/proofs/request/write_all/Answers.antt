@@ -9,4 +9,5 @@ writes-preserved-in-Ok g c = record {
   sent = sent_more _ _ _ c.args.bytes.now c.writes.rest.now _ c.in-Ok.taken c.writes.invariant.sent c.in-Ok.ensures.bytes (simp take_rest);
   few = c.writes.invariant.few;
   counts = search rules;
+  reads = search rules;
 }
