@@ -1,6 +1,7 @@
 //! A benchmark: reads responses whose bodies of 16 MiB come in pieces of 8 KiB, and copies the same pieces into the
 //! same sink with no reader between. With a number as argument it does so that many times, and says how fast.
 #![tactic(auto)]
+
 ghost use Rattle.std.specs.Prelude.{⊤};
 
 use anyhow::Result;
@@ -108,21 +109,31 @@ fn main(rt: HostRuntime) -> Result<()> {
         let mut alone = Duration::ZERO;
         for _ in 0..asked.unwrap_or(1) {
             let mut wire = wire_of(rt.alloc(), form)?;
-            let mut kept = Kept { room: &mut body, len: 0 };
+            let mut kept = Kept {
+                room: &mut body,
+                len: 0,
+            };
             let start = Instant::now(&rt)?;
             read_into(rt.alloc(), &mut wire, &mut kept)?;
             reader = reader.saturating_add(start.elapsed(&rt)?);
             bytes = bytes.saturating_add(kept.len as u64);
 
             let mut wire = wire_of(rt.alloc(), form)?;
-            let mut kept = Kept { room: &mut body, len: 0 };
+            let mut kept = Kept {
+                room: &mut body,
+                len: 0,
+            };
             let start = Instant::now(&rt)?;
             copy(&mut wire, &mut kept, &mut piece)?;
             alone = alone.saturating_add(start.elapsed(&rt)?);
         }
         println!(rt; "bodies {}: {bytes} bytes", form.name)?;
         if asked.is_some() {
-            println!(rt; "reader {} MB/s, copy alone {} MB/s", rate(bytes, reader), rate(bytes, alone))?;
+            println!(rt;
+                "reader {} MB/s, copy alone {} MB/s",
+                rate(bytes, reader),
+                rate(bytes, alone)
+            )?;
         }
     }
     Ok(())

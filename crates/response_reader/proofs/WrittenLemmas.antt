@@ -443,9 +443,16 @@ few_fields r =
     let coding = field_of_coding r.head.coded in
     let place = field_of_value (codes "Location") r.head.location in
     let len = field_of_len r.head.status (length r.body) in
-    omega (arith, one_value (codes "Content-Type") r.head.content_type, one_coding r.head.coded, one_value (codes "Location") r.head.location,
-    one_len (r.head.status == 204 || r.head.status == 304),
-    length-append kind (coding ++ (place ++ len)), length-append coding (place ++ len), length-append place len)
+    omega (
+      arith,
+      one_value (codes "Content-Type") r.head.content_type,
+      one_coding r.head.coded,
+      one_value (codes "Location") r.head.location,
+      one_len (r.head.status == 204 || r.head.status == 304),
+      length-append kind (coding ++ (place ++ len)),
+      length-append coding (place ++ len),
+      length-append place len,
+    )
   where
     one_value : (name : List ℕ) (o : Option (List ℕ)) → length (field_of_value name o) ≤ 1
     one_value name None = omega arith
