@@ -1,5 +1,5 @@
 -- What is written of a text in several writes.
-use Rattle.std.proofs.Common.{◌≡◌, ℕ, ◌+◌, ◌<◌, ◌≤◌, List, [], ◌∷◌, ◌++◌, length, take, drop, refl, sym, ap, ◌∙◌, subst, arith, append_assoc, append-nil, Option, Some, None}
+use Rattle.std.proofs.Common.{◌≡◌, ℕ, ◌+◌, ◌<◌, List, [], ◌∷◌, ◌++◌, length, take, drop, refl, sym, ap, ◌∙◌, subst, arith, append_assoc, append-nil, Option, Some, None}
 use Rattle.std.proofs.lemmas.List.{take-append-drop}
 use Rattle.std.specs.Io.KnownBytes.{Appends, Keeps}
 use Rattle.response_reader.specs.Request.{AppendsFront, WritesGiveUp}
@@ -72,6 +72,7 @@ front_behind a b c done later x y = record {
 pub writes_gave_up : (a b c : Tally) → GoesOn a b → WritesGiveUp b c → WritesGiveUp a c
 writes_gave_up a b c x y = record {
   risen = λ base h. y.risen base (x.all base h);
+  only = λ unfailing base h. y.only (x.unfailing unfailing) base (x.all base h);
   unfailing = λ h. y.unfailing (x.unfailing h);
   unerring = λ h. y.unerring (x.unerring h);
   kept = keeps_trans a.kept b.kept c.kept x.kept y.kept;

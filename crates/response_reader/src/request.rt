@@ -2,16 +2,18 @@
 ghost use Rattle.std.specs.Prelude.{◌≡◌, ℕ, List, ◌++◌, ◌+◌, ◌<◌, ◌≤◌, length, drop, IsTrue, IfOk, OnOk, OnErr};
 ghost use Rattle.std.specs.Io.KnownBytes.{Appends, Keeps};
 ghost use Rattle.response_reader.specs.Request.{request_text, AppendsFront, WritesGiveUp};
-ghost use Rattle.response_reader.specs.Wire.{tally, GoesOn, HasRisen};
+ghost use Rattle.response_reader.specs.Wire.{tally, GoesOn, HasRisen, counted};
 
 use crate::retry::MAX_INTERRUPTED;
 use crate::wire::{Wire, WireFault};
 use address::Address;
+use thiserror::Error;
 
 /// Why a request wasn't written.
-#[derive(Clone, Copy, Debug, PartialEq, Eq)]
+#[derive(Clone, Copy, Debug, PartialEq, Eq, Error)]
 pub enum RequestFault {
     /// A write failed, or 1,000 were interrupted.
+    #[error("a write failed, or 1,000 were interrupted")]
     Device,
 }
 
@@ -22,9 +24,11 @@ pub fn write_request<W: Wire>(wire: &mut W, address: &Address) -> Result<(), Req
     ensures written { OnOk result (Appends (W.outgoing wire.old) (W.outgoing wire.new) (request_text address.now)) }
     ensures part { OnErr result (AppendsFront (W.outgoing wire.old) (W.outgoing wire.new) (request_text address.now)) }
     ensures device { OnErr result (HasRisen (W.failed wire.old) (W.failed wire.new)) }
+    ensures interrupted { OnErr result (IsTrue (W.writes_never_fail wire.old) → W.failed wire.new ≡ counted (W.failed wire.old) 1000) }
     ensures few { OnOk result (W.failed wire.new < W.failed wire.old + 1000) }
     ensures read { Keeps (W.incoming wire.old) (W.incoming wire.new) }
-    ensures steady { IsTrue (W.reads_never_fail wire.old) → IsTrue (W.reads_never_fail wire.new) }
+    ensures steady { IsTrue (W.writes_never_fail wire.old) → IsTrue (W.writes_never_fail wire.new) }
+    ensures reads { IsTrue (W.reads_never_fail wire.old) → IsTrue (W.reads_never_fail wire.new) }
     ensures quiet { IsTrue (W.never_errs wire.old) → IsTrue (W.never_errs wire.new) }
 {
     let interrupted = write_all(wire, b"GET ", 0)?;
@@ -47,11 +51,12 @@ fn write_all<W: Wire>(wire: &mut W, bytes: &[u8], interrupted: u32) -> Result<u3
     ensures part { OnErr result (AppendsFront (W.outgoing wire.old) (W.outgoing wire.new) bytes.now) }
     ensures few { IfOk result (λ n. n < MAX_INTERRUPTED) }
     ensures counts { IfOk result (λ n. GoesOn
-        (tally (W.failed wire.old) (W.reads_never_fail wire.old) (W.never_errs wire.old) (W.incoming wire.old) interrupted)
-        (tally (W.failed wire.new) (W.reads_never_fail wire.new) (W.never_errs wire.new) (W.incoming wire.new) n)) }
+        (tally (W.failed wire.old) (W.writes_never_fail wire.old) (W.never_errs wire.old) (W.incoming wire.old) interrupted)
+        (tally (W.failed wire.new) (W.writes_never_fail wire.new) (W.never_errs wire.new) (W.incoming wire.new) n)) }
+    ensures reads { IsTrue (W.reads_never_fail wire.old) → IsTrue (W.reads_never_fail wire.new) }
     ensures gives_up { OnErr result ((after : ℕ) → WritesGiveUp
-        (tally (W.failed wire.old) (W.reads_never_fail wire.old) (W.never_errs wire.old) (W.incoming wire.old) interrupted)
-        (tally (W.failed wire.new) (W.reads_never_fail wire.new) (W.never_errs wire.new) (W.incoming wire.new) after)) }
+        (tally (W.failed wire.old) (W.writes_never_fail wire.old) (W.never_errs wire.old) (W.incoming wire.old) interrupted)
+        (tally (W.failed wire.new) (W.writes_never_fail wire.new) (W.never_errs wire.new) (W.incoming wire.new) after)) }
 {
     let mut rest = bytes;
     let mut count = interrupted;

@@ -1,4 +1,4 @@
-use Rattle.std.proofs.Common.{◌≡◌, ◌<◌, ◌+◌, ◌++◌, ◌∙◌, ℕ, List, subst, arith, rules}
+use Rattle.std.proofs.Common.{◌++◌, ◌∙◌, ℕ, List, subst, arith}
 use Rattle.std.specs.Prelude.{codes}
 use Rattle.std.specs.Io.KnownBytes.{Appends}
 use Rattle.std.proofs.lemmas.Result.{err_from_is_err_and}
@@ -18,6 +18,12 @@ returns-in_err-interrupted-clause-device g c =
     let p = err_from_is_err_and c.from_residual.result c.from_residual.ensures.1 in
     let gave = (writes_gave_up _ _ _ (goes_on_same _) (c.in_err-interrupted.ensures.gives_up 0)) in
     rw p.1 (gave.risen (g.W.Wire.failed c.args.wire.now) (none_counted (g.W.Wire.failed c.args.wire.now)))
+
+pub returns-in_err-interrupted-clause-interrupted : goal.returns-in_err-interrupted-clause-interrupted
+returns-in_err-interrupted-clause-interrupted g c =
+    let p = err_from_is_err_and c.from_residual.result c.from_residual.ensures.1 in
+    let gave = (writes_gave_up _ _ _ (goes_on_same _) (c.in_err-interrupted.ensures.gives_up 0)) in
+    rw p.1 (λ unfailing. gave.only unfailing (g.W.Wire.failed c.args.wire.now) (none_counted (g.W.Wire.failed c.args.wire.now)))
 
 pub returns-in_err-interrupted-clause-read : goal.returns-in_err-interrupted-clause-read
 returns-in_err-interrupted-clause-read g c =
@@ -45,6 +51,12 @@ returns-in_err-interrupted-2-clause-device g c =
     let gave = (writes_gave_up _ _ _ c.in_ok-interrupted.ensures.counts (c.in_err-interrupted-2.ensures.gives_up 0)) in
     rw p.1 (gave.risen (g.W.Wire.failed c.args.wire.now) (none_counted (g.W.Wire.failed c.args.wire.now)))
 
+pub returns-in_err-interrupted-2-clause-interrupted : goal.returns-in_err-interrupted-2-clause-interrupted
+returns-in_err-interrupted-2-clause-interrupted g c =
+    let p = err_from_is_err_and c.from_residual-in_err-interrupted-2.result c.from_residual-in_err-interrupted-2.ensures.1 in
+    let gave = (writes_gave_up _ _ _ c.in_ok-interrupted.ensures.counts (c.in_err-interrupted-2.ensures.gives_up 0)) in
+    rw p.1 (λ unfailing. gave.only unfailing (g.W.Wire.failed c.args.wire.now) (none_counted (g.W.Wire.failed c.args.wire.now)))
+
 pub returns-in_err-interrupted-2-clause-read : goal.returns-in_err-interrupted-2-clause-read
 returns-in_err-interrupted-2-clause-read g c =
     let gave = (writes_gave_up _ _ _ c.in_ok-interrupted.ensures.counts (c.in_err-interrupted-2.ensures.gives_up 0)) in
@@ -70,6 +82,12 @@ returns-in_err-interrupted-3-clause-device g c =
     let p = err_from_is_err_and c.from_residual-in_err-interrupted-3.result c.from_residual-in_err-interrupted-3.ensures.1 in
     let gave = (writes_gave_up _ _ _ (goes_on_trans _ _ _ c.in_ok-interrupted.ensures.counts c.in_ok-interrupted-2.ensures.counts) (c.in_err-interrupted-3.ensures.gives_up 0)) in
     rw p.1 (gave.risen (g.W.Wire.failed c.args.wire.now) (none_counted (g.W.Wire.failed c.args.wire.now)))
+
+pub returns-in_err-interrupted-3-clause-interrupted : goal.returns-in_err-interrupted-3-clause-interrupted
+returns-in_err-interrupted-3-clause-interrupted g c =
+    let p = err_from_is_err_and c.from_residual-in_err-interrupted-3.result c.from_residual-in_err-interrupted-3.ensures.1 in
+    let gave = (writes_gave_up _ _ _ (goes_on_trans _ _ _ c.in_ok-interrupted.ensures.counts c.in_ok-interrupted-2.ensures.counts) (c.in_err-interrupted-3.ensures.gives_up 0)) in
+    rw p.1 (λ unfailing. gave.only unfailing (g.W.Wire.failed c.args.wire.now) (none_counted (g.W.Wire.failed c.args.wire.now)))
 
 pub returns-in_err-interrupted-3-clause-read : goal.returns-in_err-interrupted-3-clause-read
 returns-in_err-interrupted-3-clause-read g c =
@@ -97,6 +115,12 @@ returns-in_err-interrupted-4-clause-device g c =
     let gave = (writes_gave_up _ _ _ (goes_on_trans _ _ _ (goes_on_trans _ _ _ c.in_ok-interrupted.ensures.counts c.in_ok-interrupted-2.ensures.counts) c.in_ok-interrupted-3.ensures.counts) (c.in_err-interrupted-4.ensures.gives_up 0)) in
     rw p.1 (gave.risen (g.W.Wire.failed c.args.wire.now) (none_counted (g.W.Wire.failed c.args.wire.now)))
 
+pub returns-in_err-interrupted-4-clause-interrupted : goal.returns-in_err-interrupted-4-clause-interrupted
+returns-in_err-interrupted-4-clause-interrupted g c =
+    let p = err_from_is_err_and c.from_residual-in_err-interrupted-4.result c.from_residual-in_err-interrupted-4.ensures.1 in
+    let gave = (writes_gave_up _ _ _ (goes_on_trans _ _ _ (goes_on_trans _ _ _ c.in_ok-interrupted.ensures.counts c.in_ok-interrupted-2.ensures.counts) c.in_ok-interrupted-3.ensures.counts) (c.in_err-interrupted-4.ensures.gives_up 0)) in
+    rw p.1 (λ unfailing. gave.only unfailing (g.W.Wire.failed c.args.wire.now) (none_counted (g.W.Wire.failed c.args.wire.now)))
+
 pub returns-in_err-interrupted-4-clause-read : goal.returns-in_err-interrupted-4-clause-read
 returns-in_err-interrupted-4-clause-read g c =
     let gave = (writes_gave_up _ _ _ (goes_on_trans _ _ _ (goes_on_trans _ _ _ c.in_ok-interrupted.ensures.counts c.in_ok-interrupted-2.ensures.counts) c.in_ok-interrupted-3.ensures.counts) (c.in_err-interrupted-4.ensures.gives_up 0)) in
@@ -122,6 +146,12 @@ returns-in_err-write_all-clause-device g c =
     let p = err_from_is_err_and c.from_residual-in_err-write_all.result c.from_residual-in_err-write_all.ensures.1 in
     let gave = (writes_gave_up _ _ _ (goes_on_trans _ _ _ (goes_on_trans _ _ _ (goes_on_trans _ _ _ c.in_ok-interrupted.ensures.counts c.in_ok-interrupted-2.ensures.counts) c.in_ok-interrupted-3.ensures.counts) c.in_ok-interrupted-4.ensures.counts) (c.in_err-write_all.ensures.gives_up 0)) in
     rw p.1 (gave.risen (g.W.Wire.failed c.args.wire.now) (none_counted (g.W.Wire.failed c.args.wire.now)))
+
+pub returns-in_err-write_all-clause-interrupted : goal.returns-in_err-write_all-clause-interrupted
+returns-in_err-write_all-clause-interrupted g c =
+    let p = err_from_is_err_and c.from_residual-in_err-write_all.result c.from_residual-in_err-write_all.ensures.1 in
+    let gave = (writes_gave_up _ _ _ (goes_on_trans _ _ _ (goes_on_trans _ _ _ (goes_on_trans _ _ _ c.in_ok-interrupted.ensures.counts c.in_ok-interrupted-2.ensures.counts) c.in_ok-interrupted-3.ensures.counts) c.in_ok-interrupted-4.ensures.counts) (c.in_err-write_all.ensures.gives_up 0)) in
+    rw p.1 (λ unfailing. gave.only unfailing (g.W.Wire.failed c.args.wire.now) (none_counted (g.W.Wire.failed c.args.wire.now)))
 
 pub returns-in_err-write_all-clause-read : goal.returns-in_err-write_all-clause-read
 returns-in_err-write_all-clause-read g c =
