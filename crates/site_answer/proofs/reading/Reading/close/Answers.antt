@@ -1,5 +1,5 @@
 -- What the open page or origin has goes behind the others.
-use Rattle.std.proofs.Common.{◌++◌, ◌∙◌, [], sym, ap}
+use Rattle.std.proofs.Common.{◌++◌, ◌∙◌, sym, ap}
 use Rattle.std.specs.Prelude.{string_bytes}
 use Rattle.std.specs.Str.{bytes_eq}
 use Rattle.std.proofs.lemmas.List.{append-nil}
