@@ -2,22 +2,27 @@
 use crate::answer::{Answer, Body};
 use crate::fetcher::{Ask, Fetcher};
 use crate::input_fault::InputFault;
+use crate::kept_rules::KeptRules;
 use crate::outcome::Outcome;
 use crate::reading::Reading;
-use address::Address;
+use crate::steady_map::SteadyMap;
+use address::{Address, Origin};
 use indexmap::IndexMap;
+use robots_rules::RuleSet;
 use std::alloc::{AllocError, Global};
 use std::marker::Model;
 
 /// The status of an address that a map doesn't name: Not Found (RFC 9110, section 15.5.5).
 const NOT_FOUND: u16 = 404;
 
-/// A site in memory, read from a map. It gives each address one outcome, with an empty body.
-/// Contracts see the answers that the map states and what was asked.
+/// A site in memory, read from a map. It gives each address one outcome, with an empty body, and
+/// each origin one rule set. Contracts see the answers and the rule sets that the map states, and
+/// what was asked.
 #[derive(Drop)]
 pub struct MapSite {
     alloc: Global,
     answers: IndexMap<Address, Outcome>,
+    rules: IndexMap<Origin, KeptRules>,
     asks: Vec<Ask>,
 }
 
@@ -26,20 +31,22 @@ impl Model for MapSite {
 
     ghost Value = { MapValue };
 
-    ghost view = { λ m. record { answers = m.answers.entries; asks = m.asks.items } };
+    ghost view = { λ m. record { answers = m.answers.entries; rules = m.rules.entries; asks = m.asks.items } };
 }
 
 impl MapSite {
-    ghost use Rattle.std.specs.Prelude.{◌≡◌, [], List, IfOk, IfErr};
+    ghost use Rattle.std.specs.Prelude.{◌≡◌, [], true, false, List, IfOk, IfErr};
+    ghost use Rattle.site_answer.specs.MapSites.{has_fault};
     ghost use Rattle.site_answer.specs.Lines.{Statement};
-    ghost use Rattle.site_answer.specs.Maps.{lines_of, IsMap, answers_of, outcome_in, IsFault};
-    ghost use Rattle.site_answer.specs.Readings.{IsFresh, answers_in};
+    ghost use Rattle.site_answer.specs.Maps.{lines_of, IsMap, answers_of, rules_of, outcome_in, rules_at, IsFault};
+    ghost use Rattle.site_answer.specs.Readings.{IsFresh, answers_in, all_rules};
 
-    /// Reads a map. Each page, moved, leaf and fault line states the outcome of an address; edge
-    /// lines give edges to the page above them. The error names the first bad line, or says that
-    /// memory ran out.
+    /// Reads a map. Each page, moved, leaf and fault line states the outcome of an address, and
+    /// each robots line the rules of an origin; edge lines give edges to the page above them, and
+    /// rule lines give rules to the origin above them, for every agent (RFC 9309, section 2.2).
+    /// The error names the first bad line, or says that memory ran out.
     pub fn read(alloc: Global, text: &[u8]) -> Result<MapSite, InputFault>
-        ensures map { IfOk result (λ m. (said : List Statement) × IsMap (lines_of text.now) said × (m ≡ record { answers = answers_of said; asks = [] })) }
+        ensures map { IfOk result (λ m. (said : List Statement) × IsMap (lines_of text.now) said × (m ≡ record { answers = answers_of said; rules = rules_of said; asks = [] })) }
         ensures fault { IfErr result (λ f. IsFault text.now f) }
     {
         let mut reading = Reading::new(alloc);
@@ -53,19 +60,21 @@ impl MapSite {
         Ok(MapSite::of(reading)?)
     }
 
-    // The site of the answers so far.
+    // The site of the answers and the rule sets so far.
     fn of(mut reading: Reading) -> Result<MapSite, AllocError>
-        ensures { IsFresh reading → IfOk result (λ m. m ≡ record { answers = answers_in reading; asks = [] }) }
+        ensures { IsFresh reading → IfOk result (λ m. m ≡ record { answers = answers_in reading; rules = all_rules reading; asks = [] }) }
     {
-        reading.close_page()?;
+        reading.close()?;
         let Reading {
             alloc,
             answers,
-            page: _,
+            rules,
+            open: _,
         } = reading;
         Ok(MapSite {
             alloc,
             answers,
+            rules,
             asks: Vec::new(alloc),
         })
     }
@@ -77,8 +86,28 @@ impl MapSite {
         Ok(MapSite {
             alloc: self.alloc,
             answers: self.answers.clone()?,
+            rules: self.rules.clone()?,
             asks: self.asks.clone()?,
         })
+    }
+
+    /// The site as a steady one, with the same asks; refused, and handed back as it was, where the
+    /// map has a fault line. Takes no memory.
+    pub fn steady(self) -> Result<SteadyMap, MapSite>
+        ensures taken { IfOk result (λ s. (s ≡ self) × (has_fault self.answers ≡ false)) }
+        ensures refused { IfErr result (λ m. (m ≡ self) × (has_fault self.answers ≡ true)) }
+    {
+        if self.has_fault() {
+            return Err(self);
+        }
+        Ok(SteadyMap::of(self))
+    }
+
+    // Whether the map has a fault line.
+    fn has_fault(&self) -> bool
+        ensures { result ≡ has_fault self.now.answers }
+    {
+        self.answers.values().any(|outcome| outcome.is_fault())
     }
 
     // What the map says of an address.
@@ -90,20 +119,33 @@ impl MapSite {
             None => Ok(Outcome::Leaf(NOT_FOUND)),
         }
     }
+
+    // What the map says of an origin.
+    fn rule_set(&self, of: &Origin) -> Result<RuleSet, AllocError>
+        ensures { IfOk result (λ r. r ≡ rules_at self.now.rules of.now) }
+    {
+        match self.rules.get(of) {
+            Some(kept) => kept.rule_set(),
+            None => Ok(RuleSet::all()),
+        }
+    }
 }
 
 impl Fetcher for MapSite {
     ghost use Rattle.std.specs.Prelude.{◌≡◌, ℕ, List, [], ◌∷◌, ◌++◌, IfOk, OnOk, OnErr};
     ghost use Rattle.site_answer.specs.declared.outcome.Outcome.{Outcome};
-    ghost use Rattle.site_answer.specs.declared.fetcher.Ask.TheVariants.{Page};
+    ghost use Rattle.site_answer.specs.declared.fetcher.Ask.TheVariants.{Page, Rules};
     ghost use Rattle.site_answer.specs.Logs.{GainedAtMost};
-    ghost use Rattle.site_answer.specs.Maps.{outcome_in};
+    ghost use Rattle.site_answer.specs.Maps.{says_of};
+    ghost use Rattle.site_answer.specs.Sites.{SiteAnswers, GivesOutcome, GivesRules};
 
-    ghost Site = { List ℕ → Outcome };
+    ghost Site = { SiteAnswers };
 
-    ghost site = { λ m. outcome_in m.answers };
+    ghost site = { λ m. says_of m.answers m.rules };
 
-    ghost says = { λ site at outcome body. (outcome ≡ site at) × (body ≡ []) };
+    ghost says = { GivesOutcome };
+
+    ghost rules = { GivesRules };
 
     ghost log = { λ m. m.asks };
 
@@ -116,6 +158,13 @@ impl Fetcher for MapSite {
             outcome,
             body: Body::new(Vec::new(self.alloc)),
         })
+    }
+
+    /// Asks for the robots rules of an origin. They are those that the map states, and allow
+    /// everything where it states none; the ask is logged first, and the map stays what it is.
+    fn ask_robots(&mut self, of: &Origin) -> Result<RuleSet, AllocError> {
+        self.asks.push(Ask::Rules(of.try_clone()?))?;
+        self.rule_set(of)
     }
 
     /// What was asked, in order.
