@@ -1,0 +1,4 @@
+pub mod TableLemmas
+pub mod TurnLaws
+pub mod StopLaws
+pub mod RestLaws
