@@ -4,14 +4,19 @@ use Rattle.follow_filters.specs.declared.plan.Plan.{Plan}
 use Rattle.frontier_core.specs.Tables.{Text}
 use Rattle.frontier_core.specs.Machine.{State}
 use Rattle.frontier_core.specs.Traced.{Traced}
+use Rattle.frontier_core.specs.Readers.{Recorded}
+use Rattle.workers.specs.declared.entry.Entry.{Entry}
 use Rattle.frontier_core.specs.declared.event.Event.{Event}
 
 -- a harvest: the plan by which it went, the state in which its frontier was left and the lines of what happened to it;
--- and the kept pages in address order, each with its body. Where memory was short there is no plan, and nothing else.
+-- in address order its entries, its records and the pages that are kept, and the body of each of these. Where memory was
+-- short there is no plan, and nothing else.
 pub record Harvested : Type 0 where
   pub plan : Option Plan
   pub state : State
   pub trace : List Event
+  pub entries : List Entry
+  pub records : List Recorded
   pub kept : List Text
   pub bodies : List (List ℕ)
 

@@ -1,5 +1,8 @@
 pub mod Order
 pub mod Harvests
+pub mod Entries
+pub mod Gathered
+pub mod Shown
 pub mod Pages
 pub mod Asks
 pub mod Sites

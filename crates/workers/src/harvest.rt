@@ -1,16 +1,23 @@
 //! The harvest of a retrieval: what its frontier holds, and the pages that are kept.
-ghost use Rattle.std.specs.Prelude.{◌≡◌, ◌↔◌, ◌≤◌, ℕ, List, [], None, Some, IfSome, MatchOption, length, slice_get};
-ghost use Rattle.frontier_core.specs.Machine.{permits_out};
+ghost use Rattle.std.specs.Prelude.{◌≡◌, ◌↔◌, ◌≤◌, ◌<◌, ℕ, List, [], None, Some, IfOk, IfSome, Contains, MatchOption, length, slice_get, map, IsPermutation};
+ghost use Rattle.frontier_core.specs.Tables.{IsOnce};
+ghost use Rattle.frontier_core.specs.Machine.{permits_out, answers};
 ghost use Rattle.frontier_core.specs.Lines.{IsReplay, IsFalling, IsAskedOnce};
 ghost use Rattle.frontier_core.specs.Invariants.{IsSound, IsClosed};
 ghost use Rattle.frontier_core.specs.Plans.{policy};
-ghost use Rattle.workers.specs.Harvests.{plan_of, state_of, trace_of};
+ghost use Rattle.workers.specs.Gathered.{AreEntries, AreRecords, ArePages};
+ghost use Rattle.workers.specs.Pages.{IsKept};
+ghost use Rattle.workers.specs.declared.page.KeptPage.{KeptPage};
 
+use crate::entry::Entry;
+use crate::gathering::{Parted, gather_entries, gather_records, part_pages};
+use crate::named::sort_by_name;
+use crate::page::KeptPage;
 use address::Address;
 use follow_filters::Plan;
 use frontier_core::{Event, Frontier};
-use site_answer::Body;
-use std::alloc::Global;
+use site_answer::{Body, Outcome};
+use std::alloc::{AllocError, Global};
 use std::marker::Model;
 
 /// What a retrieval brings in: the frontier as it was left, and the pages that are kept. It is empty where memory was
@@ -18,16 +25,23 @@ use std::marker::Model;
 #[derive(Drop)]
 pub struct Harvest {
     frontier: Option<Frontier>,
+    entries: Vec<Entry>,
+    records: Vec<(Address, Outcome)>,
     kept: Vec<Address>,
     bodies: Vec<Body>,
 }
 
 impl Model for Harvest {
     ghost use Rattle.workers.specs.Harvests.{Harvested, plan_of, state_of, trace_of};
+    ghost use Rattle.workers.specs.Gathered.{AreEntries, AreRecords, ArePages};
+    ghost use Rattle.workers.specs.Shown.{harvest_of};
 
     ghost Value = { Harvested };
 
-    ghost view = { λ h. record { plan = plan_of h.frontier; state = state_of h.frontier; trace = trace_of h.frontier; kept = h.kept.items; bodies = h.bodies.items } };
+    ghost view = { λ h. harvest_of h.frontier h.entries.items h.records.items h.kept.items h.bodies.items };
+
+    ghost invariant = { λ h. let all = harvest_of h.frontier h.entries.items h.records.items h.kept.items h.bodies.items in
+        AreEntries all × AreRecords all × ArePages all };
 }
 
 impl Harvest {
@@ -38,22 +52,72 @@ impl Harvest {
     {
         Harvest {
             frontier: None,
+            entries: Vec::new(alloc),
+            records: Vec::new(alloc),
             kept: Vec::new(alloc),
             bodies: Vec::new(alloc),
         }
     }
-    
-    /// The harvest of a retrieval that found no memory.
-    pub(crate) fn of(alloc: Global, frontier: Frontier) -> Self
-        ensures plan { result.plan ≡ Some frontier.plan }
-        ensures trace { result.trace ≡ frontier.trace }
-        ensures state { result.state ≡ frontier.state }
+
+    /// The harvest of a frontier and the pages that were kept. The error is want of memory.
+    pub(crate) fn gather(
+        alloc: Global,
+        frontier: Frontier,
+        mut pages: Vec<KeptPage>,
+    ) -> Result<Self, AllocError>
+        requires once { IsOnce (map (λ page. page.address) pages.items) }
+        requires kept { (u : List ℕ) → Contains (map (λ page. page.address) pages.items) u ↔ IsKept frontier.plan (answers frontier.state) u }
+        ensures plan { IfOk result (λ h. h.plan ≡ Some frontier.plan) }
+        ensures state { IfOk result (λ h. h.state ≡ frontier.state) }
+        ensures trace { IfOk result (λ h. h.trace ≡ frontier.trace) }
+        ensures pages { IfOk result (λ h. (sorted : List KeptPage) × IsPermutation pages.items sorted
+            × (h.kept ≡ map (λ page. page.address) sorted) × (h.bodies ≡ map (λ page. page.body) sorted)) }
     {
-        Harvest {
+        sort_by_name(&mut pages);
+        let records = gather_records(alloc, &frontier)?;
+        let entries = gather_entries(alloc, &frontier, records.as_slice())?;
+        let Parted { addresses, bodies } = part_pages(alloc, pages)?;
+        Ok(Harvest {
             frontier: Some(frontier),
-            kept: Vec::new(alloc),
-            bodies: Vec::new(alloc),
-        }
+            entries,
+            records,
+            kept: addresses,
+            bodies,
+        })
+    }
+
+    /// The addresses that were found, in address order, each with its depth, and with the place of its outcome in
+    /// [`Harvest::records`]. Takes no memory.
+    pub fn entries(&self) -> &[Entry]
+        ensures value { result.now ≡ self.now.entries }
+        ensures entries { AreEntries self.now }
+    {
+        self.entries.as_slice()
+    }
+
+    /// The recorded addresses in address order, each with its outcome. Takes no memory.
+    pub fn records(&self) -> &[(Address, Outcome)]
+        ensures value { result.now ≡ self.now.records }
+        ensures records { AreRecords self.now }
+    {
+        self.records.as_slice()
+    }
+
+    /// The pages that are kept, in address order: those with a response of success whose file name the plan keeps (GNU Wget
+    /// manual, Types of Files; RFC 9110, section 15.3). Takes no memory.
+    pub fn kept(&self) -> &[Address]
+        ensures value { result.now ≡ self.now.kept }
+        ensures pages { ArePages self.now }
+    {
+        self.kept.as_slice()
+    }
+
+    /// The body of the page at that place in [`Harvest::kept`], counted from 0. Takes no memory.
+    pub fn body(&self, i: usize) -> &[u8]
+        requires { i < length self.now.kept }
+        ensures { slice_get self.now.bodies i ≡ Some result.now }
+    {
+        self.bodies[i].as_slice()
     }
 
     /// The lines of what happened, in order; none where memory was short. Replayed, they give the harvest's state; what

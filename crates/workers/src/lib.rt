@@ -4,10 +4,14 @@
 //! that gives each address one outcome.
 #![tactic(auto)]
 
+pub use crate::entry::Entry;
 pub use crate::harvest::Harvest;
 pub use crate::retrieval::{Halt, retrieve_in_order};
 
+mod entry;
+mod gathering;
 mod harvest;
+mod named;
 mod page;
 mod retrieval;
 mod turn;

@@ -27,6 +27,20 @@ pub struct Halt {
     pub harvest: Harvest,
 }
 
+impl Halt {
+    // Where there was no memory for a harvest.
+    fn empty(alloc: Global) -> Self
+        ensures cause { result.cause ≡ Cause.Memory }
+        ensures plan { result.harvest.plan ≡ None }
+        ensures trace { result.harvest.trace ≡ [] }
+    {
+        Halt {
+            cause: Cause::Memory,
+            harvest: Harvest::empty(alloc),
+        }
+    }
+}
+
 // Drives a frontier that was opened until nothing is left to do, or until it stops.
 fn drive<F: Fetcher>(
     frontier: &mut Frontier,
@@ -87,14 +101,18 @@ pub fn retrieve_in_order<F: Fetcher>(
     ensures plan { IfOk result (λ h. h.plan ≡ Some plan.now) }
 {
     let Ok(plan) = plan.try_clone() else {
-        return Err(Halt { cause: Cause::Memory, harvest: Harvest::empty(alloc) });
+        return Err(Halt::empty(alloc));
     };
     let Ok(mut frontier) = Frontier::open(alloc, plan) else {
-        return Err(Halt { cause: Cause::Memory, harvest: Harvest::empty(alloc) });
+        return Err(Halt::empty(alloc));
     };
     let mut pages = Vec::new(alloc);
-    match drive(&mut frontier, fetcher, &mut pages) {
-        Ok(()) => Ok(Harvest::of(alloc, frontier)),
-        Err(cause) => Err(Halt { cause, harvest: Harvest::of(alloc, frontier) }),
+    let driven = drive(&mut frontier, fetcher, &mut pages);
+    let Ok(harvest) = Harvest::gather(alloc, frontier, pages) else {
+        return Err(Halt::empty(alloc));
+    };
+    match driven {
+        Ok(()) => Ok(harvest),
+        Err(cause) => Err(Halt { cause, harvest }),
     }
 }

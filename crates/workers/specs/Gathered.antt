@@ -1,0 +1,28 @@
+-- How what a harvest keeps belongs together.
+use Rattle.std.specs.Prelude.{◌≡◌, ◌↔◌, ℕ, List, [], map, length, Option, Some, None, All, Contains, IsPermutation, MatchOption}
+use Rattle.std.specs.List.{filter_map}
+use Rattle.frontier_core.specs.Tables.{Text}
+use Rattle.frontier_core.specs.Machine.{answers}
+use Rattle.frontier_core.specs.Readers.{Recorded, record_of}
+use Rattle.workers.specs.declared.entry.Entry.{Entry}
+use Rattle.workers.specs.Entries.{seen_in, said_by, recorded_addresses, IsPlaceOf}
+use Rattle.workers.specs.Harvests.{Harvested}
+use Rattle.workers.specs.Order.{IsAscending}
+use Rattle.workers.specs.Pages.{IsKept}
+
+-- the entries are in address order, and say what the state holds; each names the place of its outcome
+pub record AreEntries (h : Harvested) : Type 0 where
+  pub ascending : IsAscending (map (λ entry. entry.address) h.entries)
+  pub same : IsPermutation (seen_in h.state) (map said_by h.entries)
+  pub places : All (λ entry. IsPlaceOf h.records entry.address entry.answer) h.entries
+
+-- the records are in address order, and are those of the state
+pub record AreRecords (h : Harvested) : Type 0 where
+  pub ascending : IsAscending (recorded_addresses h.records)
+  pub same : IsPermutation (filter_map record_of h.state.entries) h.records
+
+-- the kept pages are in address order, and are those that the plan keeps of the record; each has a body
+pub record ArePages (h : Harvested) : Type 0 where
+  pub ascending : IsAscending h.kept
+  pub paired : length h.bodies ≡ length h.kept
+  pub kept : MatchOption h.plan (h.kept ≡ []) (λ plan. (u : Text) → Contains h.kept u ↔ IsKept plan (answers h.state) u)
