@@ -1,4 +1,4 @@
-use Rattle.std.proofs.Common.{◌≡◌, ◌<◌, false, Some, None, refl, sym, ap, subst, ◌∙◌, arith, below_more, true≢false}
+use Rattle.std.proofs.Common.{◌≡◌, false, Some, None, refl, sym, ap, subst, ◌∙◌, arith, below_more, true≢false}
 use Rattle.address.specs.Address.{origin_of}
 use Rattle.frontier_core.specs.Inner.{key_at, is_parked}
 use Rattle.frontier_core.specs.Plans.{policy}

@@ -6,8 +6,7 @@ use Rattle.frontier_core.proofs.board.Board.know.Goals as goal
 
 pub invariant_of-self : goal.invariant_of-self
 invariant_of-self c =
-    let lt : c.args.i < length c.self.inside.origins.entries = rw (← c.self.view_is) at c.requires in
-    (
+    let lt : c.args.i < length c.self.inside.origins.entries = rw (← c.self.view_is) at c.requires in (
       c.self.invariant.0,
       subst (λ z. IsDistinct z) (sym (written c.self.inside.origins.entries c.args.i c.know.new.self c.self.invariant.1 lt))
           (distinct-put c.self.inside.origins.entries (key_at c.self.inside.origins.entries c.args.i) c.know.new.self c.self.invariant.1),

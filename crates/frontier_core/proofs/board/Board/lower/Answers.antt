@@ -6,8 +6,7 @@ use Rattle.frontier_core.proofs.board.Board.lower.Goals as goal
 
 pub invariant_of-self : goal.invariant_of-self
 invariant_of-self c =
-    let lt : c.args.i < length c.self.inside.entries.entries = rw (← c.self.view_is) at c.requires in
-    (
+    let lt : c.args.i < length c.self.inside.entries.entries = rw (← c.self.view_is) at c.requires in (
       subst (λ z. IsDistinct z) (sym (written c.self.inside.entries.entries c.args.i c.lower.new.self c.self.invariant.0 lt))
           (distinct-put c.self.inside.entries.entries (key_at c.self.inside.entries.entries c.args.i) c.lower.new.self c.self.invariant.0),
       c.self.invariant.1,
