@@ -10,13 +10,14 @@ use Rattle.frontier_core.specs.Routes.{Answers}
 use Rattle.workers.specs.declared.page.KeptPage.{KeptPage}
 use Rattle.workers.specs.Order.{IsAscending}
 use Rattle.workers.specs.Pages.{IsKept}
+use Rattle.robots_rules.specs.Access.{RuleSetValue}
 use Rattle.site_answer.specs.declared.outcome.Outcome.{Outcome}
 use Rattle.frontier_core.specs.Tables.{Text, keys, IsOnce}
-use Rattle.frontier_core.specs.Machine.{State, Slot, outcome_in}
-use Rattle.frontier_core.specs.Readers.{Entry as Held, Recorded, entry_of, record_of, with_outcome}
+use Rattle.frontier_core.specs.Machine.{State, Slot, OriginRules, outcome_in, rules_in}
+use Rattle.frontier_core.specs.Readers.{Entry as Held, Recorded, entry_of, record_of, with_outcome, ruled_of}
 use Rattle.frontier_core.proofs.RouteLaws.{contains_tail, contains_cases}
 use Rattle.workers.specs.declared.entry.Entry.{Entry}
-use Rattle.workers.specs.Entries.{Seen, seen_of, seen_in, said_by, recorded_addresses}
+use Rattle.workers.specs.Entries.{Seen, seen_of, seen_in, said_by, recorded_addresses, ruled_origins}
 
 -- what is held and what is to be said of it
 seen_all : (entries : List (Text × Slot)) → map seen_of (map entry_of entries) ≡ map (λ entry. seen_of (entry_of entry)) entries
@@ -72,6 +73,29 @@ once_records (entry ∷ entries) once = go (once_records entries once.1) (outcom
         → IsOnce (recorded_addresses (filter_map record_of (entry ∷ entries)))
     go rest None is = rw is rest
     go rest (Some x) is = rw is ((λ among. once.0 (recorded_held entries entry.0 among)), rest)
+
+-- whose rules are known was asked for
+ruled_asked : (origins : List (Text × OriginRules)) (o : Text) → Contains (ruled_origins (filter_map ruled_of origins)) o → Contains (keys origins) o
+ruled_asked [] o among = among
+ruled_asked (origin ∷ origins) o among = go (λ later. contains_tail origin.0 o (keys origins) (ruled_asked origins o later)) (rules_in (Some origin.1)) refl among
+  where
+    go : (Contains (ruled_origins (filter_map ruled_of origins)) o → Contains (keys (origin ∷ origins)) o) → (r : Option RuleSetValue) → rules_in (Some origin.1) ≡ r
+        → Contains (ruled_origins (filter_map ruled_of (origin ∷ origins))) o → Contains (keys (origin ∷ origins)) o
+    go later None is here = later (rw is at here)
+    go later (Some x) is here = elim (contains_cases origin.0 o (ruled_origins (filter_map ruled_of origins)) (rw is at here)) [
+      | inl first ↦ (zero, omega arith, first)
+      | inr among_later ↦ later among_later
+    ]
+
+-- no origin's rules are known twice
+pub once_rules : (origins : List (Text × OriginRules)) → IsOnce (keys origins) → IsOnce (ruled_origins (filter_map ruled_of origins))
+once_rules [] once = tt
+once_rules (origin ∷ origins) once = go (once_rules origins once.1) (rules_in (Some origin.1)) refl
+  where
+    go : IsOnce (ruled_origins (filter_map ruled_of origins)) → (r : Option RuleSetValue) → rules_in (Some origin.1) ≡ r
+        → IsOnce (ruled_origins (filter_map ruled_of (origin ∷ origins)))
+    go rest None is = rw is rest
+    go rest (Some x) is = rw is ((λ among. once.0 (ruled_asked origins origin.0 among)), rest)
 
 -- pages in address order, taken apart
 pub are_pages : (plan : Plan) (m : Answers) (pages sorted : List KeptPage) (kept : List Text) (bodies : List (List ℕ))

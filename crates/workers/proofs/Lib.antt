@@ -5,3 +5,5 @@ pub mod GatherLaws
 pub mod TurnLaws
 pub mod StopLaws
 pub mod RestLaws
+pub mod SiteLaws
+pub mod RetrievalLaws

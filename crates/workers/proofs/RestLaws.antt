@@ -1,9 +1,11 @@
 -- A driver that holds no permit: each turn leads from rest to rest, or to a stop.
 use Rattle.std.proofs.Common.{◌≡◌, ◌≢◌, ◌⊎◌, ℕ, ◌+◌, ◌<◌, ◌≤◌, inl, inr, Bool, true, false, List, [], ◌∷◌, ◌++◌, length, get_or, map, take, zero, suc, Option, Some, None, refl, sym, ap, ◌∙◌, subst, arith, length-append, append_assoc, append-nil}
-use Rattle.std.specs.Prelude.{Contains, IsSome, IsTrue, All, count_by, ◌&&◌, if◌then◌else◌}
+use Rattle.std.specs.Prelude.{Contains, IsSome, IsTrue, All, count_by, ◌&&◌, ◌||◌, not, if◌then◌else◌}
 use Rattle.std.specs.List.{filter_map}
 use Rattle.std.specs.Str.{bytes_eq}
+use Rattle.std.proofs.lemmas.Slice.Eq.{bytes_eq-Decides}
 use Rattle.std.proofs.lemmas.Bool.{false≢true}
+use Rattle.std.proofs.Math.Path.{fun_ext}
 use Rattle.std.proofs.lemmas.List.{map-append}
 use Rattle.std.proofs.lemmas.List.Elements.{Contains-append_left, Contains-push, Contains-push_cases, filter_map-append, All-append}
 use Rattle.follow_filters.specs.Rules.{keeps_of}
@@ -14,19 +16,19 @@ use Rattle.site_answer.specs.declared.edge.Edge.{Edge}
 use Rattle.site_answer.specs.declared.fetcher.Ask.{Ask}
 use Rattle.site_answer.specs.declared.fetcher.Ask.TheVariants as ask
 use Rattle.site_answer.specs.declared.outcome.Outcome.{Outcome}
-use Rattle.frontier_core.specs.RobotsRules.{RuleSet}
-use Rattle.frontier_core.specs.Tables.{Text, lookup, put, keys, IsOnce}
-use Rattle.frontier_core.specs.Routes.{Policy, Answers, IsNeeded}
+use Rattle.robots_rules.specs.Access.{RuleSetValue}
+use Rattle.frontier_core.specs.Tables.{Text, lookup, put, changed, keys, IsOnce}
+use Rattle.frontier_core.specs.Routes.{Policy, Answers, IsNeeded, is_open, is_exempt}
 use Rattle.frontier_core.specs.Plans.{policy}
-use Rattle.frontier_core.specs.Machine.{State, Slot, Progress, Parked, Waiting, Out, Answered, Refused, Due, Offered, Worker, Nobody, TakePage, Answer, Abandon, Stop, slot, answers, slot_outcome, outcome_in, with_entry, turn_of, opened, halted, first_cause, is_out, is_done, permits_out, asked_count, is_known, OriginRules, Asked, Known, rules_in, IsQuiet, IsRunning, HasRoom, HasParked}
-use Rattle.frontier_core.specs.Invariants.{IsComplete, IsClosed}
+use Rattle.frontier_core.specs.Machine.{State, Slot, TakeRules, Rule, AbandonRules, unparked, settled, ruled, with_origin,  Progress, Parked, Waiting, Out, Answered, Refused, Due, Offered, Worker, Nobody, TakePage, Answer, Abandon, Stop, slot, answers, slot_outcome, outcome_in, with_entry, turn_of, opened, halted, first_cause, is_out, is_done, permits_out, asked_count, is_known, OriginRules, Asked, Known, rules_in, IsQuiet, IsRunning, HasRoom, HasParked}
+use Rattle.frontier_core.specs.Invariants.{IsSound, IsComplete, IsClosed}
 use Rattle.frontier_core.specs.Traced.{Traced, Makes, SpreadsWhole, SpreadsPart, Spreads, Stops, HasDue, HasPage, HasRules}
 use Rattle.frontier_core.specs.declared.event.Cause.{Cause}
 use Rattle.frontier_core.specs.declared.event.Cause.TheVariants as why
-use Rattle.frontier_core.proofs.TableLaws.{same, other, compare_texts, lookup-put_same, lookup-put_other}
-use Rattle.frontier_core.proofs.RouteLaws.{Extends, walk_extends}
+use Rattle.frontier_core.proofs.TableLaws.{same, other, compare_texts, lookup-put_same, lookup-put_other, lookup-changed, lookup-changed_none}
+use Rattle.frontier_core.proofs.RouteLaws.{Extends, walk_extends, open_why, exempt}
 use Rattle.workers.specs.declared.page.KeptPage.{KeptPage}
-use Rattle.workers.specs.Asks.{pages_asked, origins_asked, page_asked, origin_asked, AreOnce, AreRecorded, AreRecordedOrLost, IsLost, IsTold}
+use Rattle.workers.specs.Asks.{pages_asked, origins_asked, page_asked, origin_asked, AreOnce, AreRecorded, AreRecordedOrLost, IsLost, HasLostRules, IsTold}
 use Rattle.workers.specs.Pages.{IsKept, IsBodyOf, AreKept, kept_of, is_success}
 use Rattle.workers.specs.Turns.{is_idle, IsIdle, IsServing, AtRest, AtStop, AtEnd}
 use Rattle.workers.proofs.TableLemmas.{found_entry, once_push}
@@ -288,7 +290,124 @@ done_at s p due rules page room idle closed u d (Answered x Due) found h = absur
 done_at s p due rules page room idle closed u d (Answered x Offered) found h = refl
 done_at s p due rules page room idle closed u d Refused found h = refl
 
-module _ (may_say : Text → Outcome → List ℕ → Type 0) (may_rule : Text → RuleSet → Type 0) (plan : Plan) where
+-- ---- rules that are asked for and known
+
+-- the record has rules of o that it hadn't, and is the same elsewhere
+pub record GainsRules (m n : Answers) (o : Text) (r : RuleSetValue) : Type 0 where
+  pub fresh : m.rules o ≡ None
+  pub there : n.rules o ≡ Some r
+  pub elsewhere : (w : Text) → o ≢ w → n.rules w ≡ m.rules w
+  pub outcomes : (u : Text) → n.outcome u ≡ m.outcome u
+
+rules_extend : (m n : Answers) (o : Text) (r : RuleSetValue) → GainsRules m n o r → Extends m n
+rules_extend m n o r g = record {
+  outcome = λ u x h. g.outcomes u ∙ h;
+  rules = λ w q h. elim (compare_texts o w) [
+    | same k t ↦ (let none : None ≡ Some q = sym g.fresh ∙ ap m.rules k ∙ h in cc)
+    | other k t ↦ g.elsewhere w k ∙ h
+  ];
+}
+
+pages_push_rules : (asks : List Ask) (o : Text) → pages_asked (asks ++ ask.Rules o ∷ []) ≡ pages_asked asks
+pages_push_rules asks o = filter_map-append page_asked asks (ask.Rules o ∷ []) ∙ append-nil (pages_asked asks)
+
+origins_push_rules : (asks : List Ask) (o : Text) → origins_asked (asks ++ ask.Rules o ∷ []) ≡ origins_asked asks ++ o ∷ []
+origins_push_rules asks o = filter_map-append origin_asked asks (ask.Rules o ∷ [])
+
+once_more_rules : (asks : List Ask) (o : Text) → AreOnce asks → (Contains (origins_asked asks) o → ⊥) → AreOnce (asks ++ ask.Rules o ∷ [])
+once_more_rules asks o once fresh_one = record {
+  pages = subst IsOnce (sym (pages_push_rules asks o)) once.pages;
+  origins = subst IsOnce (sym (origins_push_rules asks o)) (once_push (origins_asked asks) o once.origins fresh_one);
+}
+
+recorded_more_rules : (asks : List Ask) (m n : Answers) (o : Text) (r : RuleSetValue) → GainsRules m n o r → AreRecorded asks m → AreRecorded (asks ++ ask.Rules o ∷ []) n
+recorded_more_rules asks m n o r g recorded = record {
+  pages = λ u. (
+    (λ among. subst IsSome (sym (g.outcomes u)) ((recorded.pages u).0 (subst (λ (us : List Text). Contains us u) (pages_push_rules asks o) among))),
+    (λ some. subst (λ (us : List Text). Contains us u) (sym (pages_push_rules asks o)) ((recorded.pages u).1 (subst IsSome (g.outcomes u) some))),
+  );
+  origins = λ w. subst (λ (os : List Text). (Contains os w → IsSome (n.rules w)) × (IsSome (n.rules w) → Contains os w)) (sym (origins_push_rules asks o))
+      (elim (compare_texts o w) [
+        | same h t ↦ (
+          (λ among. subst (λ (y : Text). IsSome (n.rules y)) h (subst IsSome (sym g.there) refl)),
+          (λ some. subst (λ (y : Text). Contains (origins_asked asks ++ o ∷ []) y) h (Contains-push (origins_asked asks) o)),
+        )
+        | other h t ↦ (
+          (λ among. subst IsSome (sym (g.elsewhere w h)) ((recorded.origins w).0 (elim (Contains-push_cases (origins_asked asks) o w among) [ inl before ↦ before | inr is ↦ absurd (h is) ]))),
+          (λ some. Contains-append_left (origins_asked asks) (o ∷ []) w ((recorded.origins w).1 (subst IsSome (g.elsewhere w h) some))),
+        )
+      ]);
+}
+
+-- whose rules aren't known weren't asked for
+pub fresh_rules : (asks : List Ask) (s : State) (o : Text) → AreRecorded asks (answers s) → lookup s.origins o ≡ None → Contains (origins_asked asks) o → ⊥
+fresh_rules asks s o recorded none among = absent ((answers s).rules o) (ap rules_in none) ((recorded.origins o).0 among)
+
+if_same : {X : Type 0} (b : Bool) (f : X → Option Outcome) (x y : X) → f x ≡ None → f y ≡ None → f (if b then x else y) ≡ None
+if_same true f x y p q = p
+if_same false f x y p q = q
+
+if_idle : (b : Bool) (x y : Progress) → is_idle x ≡ true → is_idle y ≡ true → is_idle (if b then x else y) ≡ true
+if_idle true x y p q = p
+if_idle false x y p q = q
+
+-- known rules answer no address, and send nobody out
+outcome_unparked : (p : Policy) (o : Text) (r : RuleSetValue) (u : Text) (q : Progress) → outcome_in (unparked p o r u q) ≡ outcome_in q
+outcome_unparked p o r u Parked = if_same (bytes_eq (p.origin u) o) outcome_in (settled p u (Some r)) Parked (if_same (p.allows r u) outcome_in Waiting Refused refl refl) refl
+outcome_unparked p o r u Waiting = refl
+outcome_unparked p o r u (Out holder) = refl
+outcome_unparked p o r u (Answered x turn) = refl
+outcome_unparked p o r u Refused = refl
+
+idle_unparked : (p : Policy) (o : Text) (r : RuleSetValue) (u : Text) (q : Progress) → is_idle q ≡ true → is_idle (unparked p o r u q) ≡ true
+idle_unparked p o r u Parked h = if_idle (bytes_eq (p.origin u) o) (settled p u (Some r)) Parked (if_idle (p.allows r u) Waiting Refused refl refl) refl
+idle_unparked p o r u Waiting h = h
+idle_unparked p o r u (Out holder) h = h
+idle_unparked p o r u (Answered x turn) h = h
+idle_unparked p o r u Refused h = h
+
+outcomes_ruled : (p : Policy) (o : Text) (r : RuleSetValue) (entries : List (Text × Slot)) (u : Text) (e : Option Slot) → lookup entries u ≡ e
+    → slot_outcome (lookup (changed (λ w old. slot old.depth (unparked p o r w old.progress)) entries) u) ≡ slot_outcome (lookup entries u)
+outcomes_ruled p o r entries u None found = ap slot_outcome (lookup-changed_none (λ w old. slot old.depth (unparked p o r w old.progress)) entries u found) ∙ sym (ap slot_outcome found)
+outcomes_ruled p o r entries u (Some e) found =
+    ap slot_outcome (lookup-changed (λ w old. slot old.depth (unparked p o r w old.progress)) entries u e found) ∙ outcome_unparked p o r u e.progress ∙ sym (ap slot_outcome found)
+
+idle_ruled : (p : Policy) (o : Text) (r : RuleSetValue) (entries : List (Text × Slot)) → ((u : Text) (e : Slot) → lookup entries u ≡ Some e → is_idle e.progress ≡ true)
+    → (u : Text) (q : Option Slot) → lookup entries u ≡ q → (e : Slot) → lookup (changed (λ w old. slot old.depth (unparked p o r w old.progress)) entries) u ≡ Some e → is_idle e.progress ≡ true
+idle_ruled p o r entries all u None found e there =
+    let none : None ≡ Some e = sym (lookup-changed_none (λ w old. slot old.depth (unparked p o r w old.progress)) entries u found) ∙ there in cc
+idle_ruled p o r entries all u (Some old) found e there =
+    let is : Some (slot old.depth (unparked p o r u old.progress)) ≡ Some e = sym (lookup-changed (λ w before. slot before.depth (unparked p o r w before.progress)) entries u old found) ∙ there in
+    let at : slot old.depth (unparked p o r u old.progress) ≡ e = cc in
+    ap (λ (x : Slot). is_idle x.progress) (sym at) ∙ idle_unparked p o r u old.progress (all u old found)
+
+-- asked for, an origin's rules are as little known as before
+recorded_origin : (s : State) (o : Text) (q : OriginRules) → rules_in (Some q) ≡ (answers s).rules o → answers (with_origin s o q) ≡ answers s
+recorded_origin s o q same_rules =
+    same_answers (answers s) (answers (with_origin s o q)) (λ u. refl) (λ w. elim (compare_texts o w) [
+      | same h t ↦ (let there : lookup (put s.origins o q) w ≡ Some q = ap (λ (x : Text). lookup (put s.origins o q) x) (sym h) ∙ lookup-put_same s.origins o q in
+          ap rules_in there ∙ same_rules ∙ ap (λ (x : Text). (answers s).rules x) h)
+      | other h t ↦ ap rules_in (lookup-put_other s.origins o q w (λ k. h (sym k)))
+    ])
+
+-- why an address isn't exempt
+pub not_exempt : (a b : Bool) → (a || not b) ≡ false → (a ≡ false) × (b ≡ true)
+not_exempt true b h = cc
+not_exempt false true h = (refl, refl)
+not_exempt false false h = cc
+
+-- who is parked is a candidate other than the start, and robots are on
+pub needed_parked : (p : Policy) (s : State) (o : Text) → IsSound p s → IsClosed p s → HasParked p s o → IsNeeded p (answers s) o
+needed_parked p s o sound closed (u, d, parked, of) = go (is_exempt p u) refl
+  where
+    go : (b : Bool) → is_exempt p u ≡ b → IsNeeded p (answers s) o
+    go true is = (let opens : is_open p (answers s) u ≡ true = open_why p (answers s) u (exempt is) in let shut = (closed.parked u d parked).0 in absurd (false≢true (sym shut ∙ opens)))
+    go false is =
+        let both = not_exempt (bytes_eq u p.start) p.robots is in
+        let (route, walk) = sound.routes u (slot d Parked) parked in
+        (both.1, u, (route, d, walk), (λ h. let start : bytes_eq u p.start ≡ true = (bytes_eq-Decides u p.start).1 h in false≢true (sym both.0 ∙ start)), of)
+
+module _ (may_say : Text → Outcome → List ℕ → Type 0) (may_rule : Text → RuleSetValue → Type 0) (plan : Plan) where
   kept_blank : AreKept may_say plan blank []
   kept_blank = record {
     once = tt;
@@ -422,6 +541,78 @@ module _ (may_say : Text → Outcome → List ℕ → Type 0) (may_rule : Text �
         ap length answered.lines ∙ length-append mid.trace _ ∙ ap (λ (n : ℕ). n + 1) (ap length takes.lines ∙ length-append s.trace _) ∙ omega arith,
       )
 
+  -- ---- an origin's rules that are asked for and known
+
+  -- an origin whose rules are asked for is needed
+  need_there : (s mid : Traced) (o : Text) → answers mid.state ≡ answers s.state → (w : ℕ) → Makes s (TakeRules w o) mid → IsSound (policy mid.plan) mid.state → IsClosed (policy mid.plan) mid.state
+      → s.plan ≡ plan → IsNeeded (policy plan) (answers s.state) o
+  need_there s mid o is w takes sound closed follows =
+      let (u, d, parked, of) = takes.step.3 in
+      let there : lookup mid.state.entries u ≡ Some (slot d Parked) = ap (λ (x : State). lookup x.entries u) takes.step.4 ∙ parked in
+      let here : (policy mid.plan).origin u ≡ o = of in
+      let need : IsNeeded (policy mid.plan) (answers mid.state) o = needed_parked (policy mid.plan) mid.state o sound closed (u, d, there, here) in
+      subst (λ (m : Answers). IsNeeded (policy plan) m o) is (subst (λ (p : Plan). IsNeeded (policy p) (answers mid.state) o) (takes.plan ∙ follows) need)
+
+  serving_rules : (s t : Traced) (asks : List Ask) (pages : List KeptPage) (o : Text) (r : RuleSetValue) → IsServing may_say may_rule plan s asks pages
+      → t.plan ≡ s.plan → GainsRules (answers s.state) (answers t.state) o r → may_rule o r → (Contains (origins_asked asks) o → ⊥)
+      → IsNeeded (policy plan) (answers s.state) o → IsServing may_say may_rule plan t (asks ++ ask.Rules o ∷ []) pages
+  serving_rules s t asks pages o r serving follows g said new_one need =
+      let more = rules_extend (answers s.state) (answers t.state) o r g in
+      let outcomes : (answers t.state).outcome ≡ (answers s.state).outcome = fun_ext g.outcomes in
+      record {
+        follows = follows ∙ serving.follows;
+        once = once_more_rules asks o serving.once new_one;
+        told = record {
+          outcomes = λ w y h. serving.told.outcomes w y (sym (g.outcomes w) ∙ h);
+          rules = λ w q h. elim (compare_texts o w) [
+            | same k e ↦ (let is : Some r ≡ Some q = sym g.there ∙ ap (answers t.state).rules k ∙ h in
+                let at : r ≡ q = cc in subst (λ (z : RuleSetValue). may_rule w z) at (subst (λ (z : Text). may_rule z r) k said))
+            | other k e ↦ serving.told.rules w q (sym (g.elsewhere w k) ∙ h)
+          ];
+        };
+        needed = λ w h. needed_later (policy plan) (answers s.state) (answers t.state) more w (elim (Contains-push_cases (origins_asked asks) o w (subst (λ (os : List Text). Contains os w) (origins_push_rules asks o) h)) [
+          | inl before ↦ serving.needed w before
+          | inr now ↦ subst (λ (y : Text). IsNeeded (policy plan) (answers s.state) y) now need
+        ]);
+        kept = kept_same outcomes serving.kept;
+      }
+    where
+      kept_same : (answers t.state).outcome ≡ (answers s.state).outcome → AreKept may_say plan (answers s.state) pages → AreKept may_say plan (answers t.state) pages
+      kept_same is kept = subst (λ (f : Text → Option Outcome). AreKept may_say plan (record { outcome = f; rules = (answers t.state).rules }) pages) (sym is) (record { once = kept.once; addresses = kept.addresses; bodies = kept.bodies })
+
+  pub rest_rules : (s mid t : Traced) (asks : List Ask) (pages : List KeptPage) (w v : ℕ) (o : Text) (r : RuleSetValue) → AtRest may_say may_rule plan s asks pages
+      → Makes s (TakeRules w o) mid → IsSound (policy mid.plan) mid.state → IsClosed (policy mid.plan) mid.state → Makes mid (Rule v o r) t → may_rule o r
+      → AtRest may_say may_rule plan t (asks ++ ask.Rules o ∷ []) pages × (length t.trace ≡ length s.trace + 2)
+  rest_rules s mid t asks pages w v o r rest takes sound closed known said =
+      let none = takes.step.2 in
+      let asked = takes.step.4 in
+      let done = known.step.1 in
+      let mid_is : answers mid.state ≡ answers s.state = ap answers asked ∙ recorded_origin s.state o (Asked (Worker w)) (sym (ap rules_in none)) in
+      let g : GainsRules (answers s.state) (answers t.state) o r = record {
+        fresh = ap rules_in none;
+        there = ap rules_in (ap (λ (x : State). lookup x.origins o) done ∙ lookup-put_same mid.state.origins o (Known r));
+        elsewhere = λ w apart. ap rules_in (ap (λ (x : State). lookup x.origins w) done ∙ lookup-put_other mid.state.origins o (Known r) w (λ h. apart (sym h))) ∙ ap (λ (m : Answers). m.rules w) mid_is;
+        outcomes = λ u. ap (λ (x : State). (answers x).outcome u) done ∙ outcomes_ruled (policy mid.plan) o r mid.state.entries u (lookup mid.state.entries u) refl ∙ ap (λ (m : Answers). m.outcome u) mid_is;
+      } in
+      let need = need_there s mid o mid_is w takes sound closed rest.serving.follows in (
+        record {
+          serving = serving_rules s t asks pages o r rest.serving (known.plan ∙ takes.plan) g said (fresh_rules asks s.state o rest.recorded none) need;
+          running = ap (λ (y : State). y.cause) done ∙ ap (λ (y : State). y.cause) asked ∙ rest.running;
+          idle = record {
+            entries = λ u e found. idle_ruled (policy mid.plan) o r mid.state.entries (λ x f h. rest.idle.entries x f (ap (λ (y : State). lookup y.entries x) (sym asked) ∙ h)) u (lookup mid.state.entries u) refl e
+                (ap (λ (y : State). lookup y.entries u) (sym done) ∙ found);
+            origins = λ x q found. elim (compare_texts o x) [
+              | same h k ↦ (let is : Some (Known r) ≡ Some q = sym (lookup-put_same mid.state.origins o (Known r)) ∙ ap (λ (z : Text). lookup (put mid.state.origins o (Known r)) z) h ∙ ap (λ (y : State). lookup y.origins x) (sym done) ∙ found in
+                  let at : Known r ≡ q = cc in ap is_known (sym at))
+              | other h k ↦ rest.idle.origins x q (sym (lookup-put_other s.state.origins o (Asked (Worker w)) x (λ z. h (sym z))) ∙ ap (λ (y : State). lookup y.origins x) (sym asked)
+                  ∙ sym (lookup-put_other mid.state.origins o (Known r) x (λ z. h (sym z))) ∙ ap (λ (y : State). lookup y.origins x) (sym done) ∙ found)
+            ];
+          };
+          recorded = recorded_more_rules asks (answers s.state) (answers t.state) o r g rest.recorded;
+        },
+        ap length known.lines ∙ length-append mid.trace _ ∙ ap (λ (n : ℕ). n + 1) (ap length takes.lines ∙ length-append s.trace _) ∙ omega arith,
+      )
+
   -- ---- where it stops
 
   pub stop_rest : (s t : Traced) (asks : List Ask) (pages : List KeptPage) (cause : Cause) → AtRest may_say may_rule plan s asks pages → Stops s cause t
@@ -479,6 +670,62 @@ module _ (may_say : Text → Outcome → List ℕ → Type 0) (may_rule : Text �
             },
           )
         ])
+
+  stop_rule_asks : (asks : List Ask) (s t : State) (o : Text) → AreRecorded asks (answers s) → answers t ≡ answers s → HasLostRules t o
+      → AreRecordedOrLost (asks ++ ask.Rules o ∷ []) t
+  stop_rule_asks asks s t o recorded is lost =
+      let there : AreRecorded asks (answers t) = subst (λ (m : Answers). AreRecorded asks m) (sym is) recorded in
+      record {
+        recorded = λ u h. subst (λ (us : List Text). Contains us u) (sym (pages_push_rules asks o)) ((there.pages u).1 h);
+        pages = λ u h. inl ((there.pages u).0 (subst (λ (us : List Text). Contains us u) (pages_push_rules asks o) h));
+        ruled = λ w h. subst (λ (os : List Text). Contains os w) (sym (origins_push_rules asks o)) (Contains-append_left (origins_asked asks) (o ∷ []) w ((there.origins w).1 h));
+        origins = λ w h. elim (Contains-push_cases (origins_asked asks) o w (subst (λ (os : List Text). Contains os w) (origins_push_rules asks o) h)) [
+          | inl before ↦ inl ((there.origins w).0 before)
+          | inr now ↦ inr (subst (λ (y : Text). HasLostRules t y) now lost)
+        ];
+      }
+
+  serving_rule_asks : (t : Traced) (asks : List Ask) (pages : List KeptPage) (o : Text) → IsServing may_say may_rule plan t asks pages → (Contains (origins_asked asks) o → ⊥)
+      → IsNeeded (policy plan) (answers t.state) o → IsServing may_say may_rule plan t (asks ++ ask.Rules o ∷ []) pages
+  serving_rule_asks t asks pages o serving new_one need = record {
+    follows = serving.follows;
+    once = once_more_rules asks o serving.once new_one;
+    told = serving.told;
+    needed = λ w h. elim (Contains-push_cases (origins_asked asks) o w (subst (λ (os : List Text). Contains os w) (origins_push_rules asks o) h)) [
+      | inl before ↦ serving.needed w before
+      | inr now ↦ subst (λ (y : Text). IsNeeded (policy plan) (answers t.state) y) now need
+    ];
+    kept = serving.kept;
+  }
+
+  pub stop_rules : (s mid t : Traced) (asks : List Ask) (pages : List KeptPage) (first old new : List Ask) (w v : ℕ) (o : Text) → AtRest may_say may_rule plan s asks pages
+      → old ≡ first ++ asks → Makes s (TakeRules w o) mid → IsSound (policy mid.plan) mid.state → IsClosed (policy mid.plan) mid.state
+      → Makes mid (AbandonRules v o why.Memory) t → GainedAtMost old new (ask.Rules o)
+      → (all : List Ask) × (new ≡ first ++ all) × AtStop may_say may_rule plan t all pages why.Memory
+  stop_rules s mid t asks pages first old new w v o rest log takes sound closed given gained =
+      let none = takes.step.2 in
+      let asked = takes.step.4 in
+      let done = given.step.1 in
+      let mid_is : answers mid.state ≡ answers s.state = ap answers asked ∙ recorded_origin s.state o (Asked (Worker w)) (sym (ap rules_in none)) in
+      let here : (answers mid.state).rules o ≡ None = ap rules_in given.step.0 in
+      let t_is : answers t.state ≡ answers s.state = ap answers done ∙ recorded_origin (halted mid.state why.Memory) o (Asked Nobody) (sym here) ∙ mid_is in
+      let lost : HasLostRules t.state o = ap (λ (x : State). lookup x.origins o) done ∙ lookup-put_same mid.state.origins o (Asked Nobody) in
+      let running : mid.state.cause ≡ None = ap (λ (y : State). y.cause) asked ∙ rest.running in
+      let stopped : t.state.cause ≡ Some why.Memory = ap (λ (y : State). y.cause) done ∙ ap (λ (c : Option Cause). first_cause c why.Memory) running in
+      let serving = serving_same s t asks pages rest.serving (given.plan ∙ takes.plan) t_is in
+      let need = need_there s mid o mid_is w takes sound closed rest.serving.follows in
+      elim gained [
+        | inl nothing ↦ (asks, nothing ∙ log, record { serving = serving; stopped = stopped; recorded = lost_none asks s.state rest.recorded t.state t_is })
+        | inr one ↦ (
+          asks ++ ask.Rules o ∷ [],
+          one ∙ ap (λ (x : List Ask). x ++ ask.Rules o ∷ []) log ∙ append_assoc first asks (ask.Rules o ∷ []),
+          record {
+            serving = serving_rule_asks t asks pages o serving (fresh_rules asks s.state o rest.recorded none) (subst (λ (m : Answers). IsNeeded (policy plan) m o) (sym t_is) need);
+            stopped = stopped;
+            recorded = stop_rule_asks asks s.state t.state o rest.recorded t_is lost;
+          },
+        )
+      ]
 
   -- where nothing is due and neither rules nor a page may be asked for, nothing is left to do
   pub quiet_at_rest : (s : Traced) (asks : List Ask) (pages : List KeptPage) → AtRest may_say may_rule plan s asks pages → IsOnce (keys s.state.entries) → IsOnce (keys s.state.origins)

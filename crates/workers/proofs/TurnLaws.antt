@@ -5,7 +5,7 @@ use Rattle.std.proofs.Math.Path.{fun_ext}
 use Rattle.site_answer.specs.Outcomes.{edges}
 use Rattle.site_answer.specs.declared.edge.Edge.{Edge}
 use Rattle.site_answer.specs.declared.outcome.Outcome.{Outcome}
-use Rattle.frontier_core.specs.RobotsRules.{RuleSet}
+use Rattle.robots_rules.specs.Access.{RuleSetValue}
 use Rattle.frontier_core.specs.Tables.{Text, lookup, put}
 use Rattle.frontier_core.specs.Routes.{Policy, Answers, admits, weight, is_exempt}
 use Rattle.frontier_core.specs.Machine.{State, Slot, Progress, Parked, Waiting, Out, Answered, Refused, Due, Offered, slot, answers, slot_outcome, outcome_in, rules_in, with_entry, arrival, settled, again, offered, offer, follow, follow_all}
@@ -16,7 +16,7 @@ use Rattle.workers.specs.Turns.{is_idle, IsIdle}
 pub same_answers : (m n : Answers) → ((u : Text) → n.outcome u ≡ m.outcome u) → ((o : Text) → n.rules o ≡ m.rules o) → n ≡ m
 same_answers m n outcomes rules =
     let first : (Text → Option Outcome) → Answers = λ f. record { outcome = f; rules = n.rules } in
-    let second : (Text → Option RuleSet) → Answers = λ f. record { outcome = m.outcome; rules = f } in
+    let second : (Text → Option RuleSetValue) → Answers = λ f. record { outcome = m.outcome; rules = f } in
     ap first (fun_ext outcomes) ∙ ap second (fun_ext rules)
 
 -- what is recorded stays as it was, and so does who is idle; no origin is asked for, and nothing stops
@@ -72,7 +72,7 @@ same_entry s u e recorded idle = record {
 }
 
 -- where an address stands when it is first found: neither answered nor out
-arrives : (p : Policy) (u : Text) (b : Bool) (r : Option RuleSet) → (outcome_in (if b then Waiting else settled p u r) ≡ None) × (is_idle (if b then Waiting else settled p u r) ≡ true)
+arrives : (p : Policy) (u : Text) (b : Bool) (r : Option RuleSetValue) → (outcome_in (if b then Waiting else settled p u r) ≡ None) × (is_idle (if b then Waiting else settled p u r) ≡ true)
 arrives p u true r = (refl, refl)
 arrives p u false None = (refl, refl)
 arrives p u false (Some rules) = settles (p.allows rules u)

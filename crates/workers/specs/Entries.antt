@@ -3,7 +3,7 @@ use Rattle.std.specs.Prelude.{◌≡◌, ℕ, Bool, true, false, List, map, Opti
 use Rattle.site_answer.specs.declared.outcome.Outcome.{Outcome}
 use Rattle.frontier_core.specs.Tables.{Text}
 use Rattle.frontier_core.specs.Machine.{State, Slot}
-use Rattle.frontier_core.specs.Readers.{Entry as Held, Recorded, entry_of}
+use Rattle.frontier_core.specs.Readers.{Entry as Held, Recorded, Ruled, entry_of}
 use Rattle.frontier_core.specs.declared.condition.Condition.{Condition}
 use Rattle.frontier_core.specs.declared.condition.Condition.TheVariants.{Parked, Waiting, Out, Answered, Refused}
 use Rattle.workers.specs.declared.entry.Entry.{Entry}
@@ -35,6 +35,10 @@ said_by entry = (entry.address, entry.depth, entry.refused)
 -- the addresses of records
 abbrev pub recorded_addresses : List Recorded → List Text
 recorded_addresses records = map (λ recorded. recorded.0) records
+
+-- the origins of known rules
+abbrev pub ruled_origins : List Ruled → List Text
+ruled_origins rules = map (λ ruled. ruled.0) rules
 
 -- the place of an address's outcome in the records, or none where they have no outcome of it
 abbrev pub IsPlaceOf : List Recorded → Text → Option ℕ → Type 0

@@ -3,9 +3,9 @@ use Rattle.std.specs.Prelude.{◌≡◌, ◌↔◌, ℕ, List, [], map, length, 
 use Rattle.std.specs.List.{filter_map}
 use Rattle.frontier_core.specs.Tables.{Text}
 use Rattle.frontier_core.specs.Machine.{answers}
-use Rattle.frontier_core.specs.Readers.{Recorded, record_of}
+use Rattle.frontier_core.specs.Readers.{record_of, ruled_of}
 use Rattle.workers.specs.declared.entry.Entry.{Entry}
-use Rattle.workers.specs.Entries.{seen_in, said_by, recorded_addresses, IsPlaceOf}
+use Rattle.workers.specs.Entries.{seen_in, said_by, recorded_addresses, ruled_origins, IsPlaceOf}
 use Rattle.workers.specs.Harvests.{Harvested}
 use Rattle.workers.specs.Order.{IsAscending}
 use Rattle.workers.specs.Pages.{IsKept}
@@ -20,6 +20,11 @@ pub record AreEntries (h : Harvested) : Type 0 where
 pub record AreRecords (h : Harvested) : Type 0 where
   pub ascending : IsAscending (recorded_addresses h.records)
   pub same : IsPermutation (filter_map record_of h.state.entries) h.records
+
+-- the known rules are in the order of their origins, and are those of the state
+pub record AreRules (h : Harvested) : Type 0 where
+  pub ascending : IsAscending (ruled_origins h.rules)
+  pub same : IsPermutation (filter_map ruled_of h.state.origins) h.rules
 
 -- the kept pages are in address order, and are those that the plan keeps of the record; each has a body
 pub record ArePages (h : Harvested) : Type 0 where

@@ -6,4 +6,5 @@ pub mod Shown
 pub mod Pages
 pub mod Asks
 pub mod Sites
+pub mod Retrieval
 pub mod Turns

@@ -1,15 +1,16 @@
 //! What a frontier holds, gathered in address order.
 ghost use Rattle.std.specs.Prelude.{◌≡◌, List, IfOk, All, map, IsPermutation};
 ghost use Rattle.std.specs.List.{filter_map};
-ghost use Rattle.frontier_core.specs.Readers.{record_of};
+ghost use Rattle.frontier_core.specs.Readers.{record_of, ruled_of};
 ghost use Rattle.workers.specs.Order.{IsAscending};
-ghost use Rattle.workers.specs.Entries.{is_refused, seen_of, seen_in, said_by, recorded_addresses, IsPlaceOf};
+ghost use Rattle.workers.specs.Entries.{is_refused, seen_of, seen_in, said_by, recorded_addresses, ruled_origins, IsPlaceOf};
 
 use crate::entry::Entry;
 use crate::named::sort_by_name;
 use crate::page::KeptPage;
-use address::Address;
+use address::{Address, Origin};
 use frontier_core::{Condition, Frontier};
+use robots_rules::RuleSet;
 use site_answer::{Body, Outcome};
 use std::alloc::{AllocError, Global};
 
@@ -41,6 +42,33 @@ pub fn gather_records(
     let mut records = copy_records(alloc, frontier)?;
     sort_by_name(&mut records);
     Ok(records)
+}
+
+// The origins whose rules a frontier knows, in the order in which they were asked for.
+fn copy_rules(alloc: Global, frontier: &Frontier) -> Result<Vec<(Origin, RuleSet)>, AllocError>
+    ensures { IfOk result (λ rules. rules.items ≡ filter_map ruled_of frontier.now.state.origins) }
+{
+    let mut copies = Vec::new(alloc);
+    let mut rules = frontier.rules();
+    'rules: while let Some((origin, set)) = rules.next() {
+        copies.push((origin.try_clone()?, set.try_clone(alloc)?))?;
+    }
+    Ok(copies)
+}
+
+/// The origins whose rules a frontier knows, in origin order, each with its rules.
+pub fn gather_rules(
+    alloc: Global,
+    frontier: &Frontier,
+) -> Result<Vec<(Origin, RuleSet)>, AllocError>
+    ensures ascending { IfOk result (λ rules. IsAscending (ruled_origins rules.items)) }
+    ensures same { IfOk result (λ rules. IsPermutation (filter_map ruled_of frontier.now.state.origins) rules.items) }
+{
+    // No origin is asked for twice.
+    let _trace = frontier.trace();
+    let mut rules = copy_rules(alloc, frontier)?;
+    sort_by_name(&mut rules);
+    Ok(rules)
 }
 
 // The place of an address's outcome in records that are in address order.

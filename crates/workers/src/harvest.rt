@@ -1,21 +1,22 @@
 //! The harvest of a retrieval: what its frontier holds, and the pages that are kept.
-ghost use Rattle.std.specs.Prelude.{◌≡◌, ◌↔◌, ◌≤◌, ◌<◌, ℕ, List, [], None, Some, IfOk, IfSome, Contains, MatchOption, length, slice_get, map, IsPermutation};
+ghost use Rattle.std.specs.Prelude.{◌≡◌, ◌↔◌, ◌≤◌, ◌<◌, ℕ, List, [], None, Some, IfOk, IfSome, Contains, MatchOption, length, slice_get, map};
 ghost use Rattle.frontier_core.specs.Tables.{IsOnce};
 ghost use Rattle.frontier_core.specs.Machine.{permits_out, answers};
 ghost use Rattle.frontier_core.specs.Lines.{IsReplay, IsFalling, IsAskedOnce};
 ghost use Rattle.frontier_core.specs.Invariants.{IsSound, IsClosed};
 ghost use Rattle.frontier_core.specs.Plans.{policy};
-ghost use Rattle.workers.specs.Gathered.{AreEntries, AreRecords, ArePages};
+ghost use Rattle.workers.specs.Gathered.{AreEntries, AreRecords, AreRules, ArePages};
 ghost use Rattle.workers.specs.Pages.{IsKept};
-ghost use Rattle.workers.specs.declared.page.KeptPage.{KeptPage};
+ghost use Rattle.workers.specs.Turns.{IsHarvestOf};
 
 use crate::entry::Entry;
-use crate::gathering::{Parted, gather_entries, gather_records, part_pages};
+use crate::gathering::{Parted, gather_entries, gather_records, gather_rules, part_pages};
 use crate::named::sort_by_name;
 use crate::page::KeptPage;
-use address::Address;
+use address::{Address, Origin};
 use follow_filters::Plan;
 use frontier_core::{Event, Frontier};
+use robots_rules::RuleSet;
 use site_answer::{Body, Outcome};
 use std::alloc::{AllocError, Global};
 use std::marker::Model;
@@ -27,21 +28,22 @@ pub struct Harvest {
     frontier: Option<Frontier>,
     entries: Vec<Entry>,
     records: Vec<(Address, Outcome)>,
+    rules: Vec<(Origin, RuleSet)>,
     kept: Vec<Address>,
     bodies: Vec<Body>,
 }
 
 impl Model for Harvest {
     ghost use Rattle.workers.specs.Harvests.{Harvested, plan_of, state_of, trace_of};
-    ghost use Rattle.workers.specs.Gathered.{AreEntries, AreRecords, ArePages};
+    ghost use Rattle.workers.specs.Gathered.{AreEntries, AreRecords, AreRules, ArePages};
     ghost use Rattle.workers.specs.Shown.{harvest_of};
 
     ghost Value = { Harvested };
 
-    ghost view = { λ h. harvest_of h.frontier h.entries.items h.records.items h.kept.items h.bodies.items };
+    ghost view = { λ h. harvest_of h.frontier h.entries.items h.records.items h.rules.items h.kept.items h.bodies.items };
 
-    ghost invariant = { λ h. let all = harvest_of h.frontier h.entries.items h.records.items h.kept.items h.bodies.items in
-        AreEntries all × AreRecords all × ArePages all };
+    ghost invariant = { λ h. let all = harvest_of h.frontier h.entries.items h.records.items h.rules.items h.kept.items h.bodies.items in
+        AreEntries all × AreRecords all × AreRules all × ArePages all };
 }
 
 impl Harvest {
@@ -54,6 +56,7 @@ impl Harvest {
             frontier: None,
             entries: Vec::new(alloc),
             records: Vec::new(alloc),
+            rules: Vec::new(alloc),
             kept: Vec::new(alloc),
             bodies: Vec::new(alloc),
         }
@@ -67,20 +70,18 @@ impl Harvest {
     ) -> Result<Self, AllocError>
         requires once { IsOnce (map (λ page. page.address) pages.items) }
         requires kept { (u : List ℕ) → Contains (map (λ page. page.address) pages.items) u ↔ IsKept frontier.plan (answers frontier.state) u }
-        ensures plan { IfOk result (λ h. h.plan ≡ Some frontier.plan) }
-        ensures state { IfOk result (λ h. h.state ≡ frontier.state) }
-        ensures trace { IfOk result (λ h. h.trace ≡ frontier.trace) }
-        ensures pages { IfOk result (λ h. (sorted : List KeptPage) × IsPermutation pages.items sorted
-            × (h.kept ≡ map (λ page. page.address) sorted) × (h.bodies ≡ map (λ page. page.body) sorted)) }
+        ensures { IfOk result (IsHarvestOf frontier pages.items) }
     {
         sort_by_name(&mut pages);
         let records = gather_records(alloc, &frontier)?;
         let entries = gather_entries(alloc, &frontier, records.as_slice())?;
+        let rules = gather_rules(alloc, &frontier)?;
         let Parted { addresses, bodies } = part_pages(alloc, pages)?;
         Ok(Harvest {
             frontier: Some(frontier),
             entries,
             records,
+            rules,
             kept: addresses,
             bodies,
         })
@@ -101,6 +102,15 @@ impl Harvest {
         ensures records { AreRecords self.now }
     {
         self.records.as_slice()
+    }
+
+    /// The origins whose robots rules are known, in origin order, each with its rules (RFC 9309, section 2.3). Takes no
+    /// memory.
+    pub fn rules(&self) -> &[(Origin, RuleSet)]
+        ensures value { result.now ≡ self.now.rules }
+        ensures rules { AreRules self.now }
+    {
+        self.rules.as_slice()
     }
 
     /// The pages that are kept, in address order: those with a response of success whose file name the plan keeps (GNU Wget

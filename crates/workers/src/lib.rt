@@ -1,7 +1,7 @@
 //! Retrievals: who asks the site for what a frontier wants, and what is brought in. Its one idea: a driver asks and hands
 //! over, and everything that it may claim is read from the frontier's own record. What that means stands in `specs/`:
-//! `Harvests` what is brought in, `Asks` what was asked for and told, `Pages` what is kept, `Sites` what holds of a site
-//! that gives each address one outcome.
+//! `Retrieval` what a retrieval brings in, `Harvests` and `Gathered` how that is read, `Asks` what was asked for and told,
+//! `Pages` what is kept, `Sites` what holds of a site that gives each address one outcome.
 #![tactic(auto)]
 
 pub use crate::entry::Entry;

@@ -5,7 +5,8 @@ ghost use Rattle.workers.specs.Order.{IsAscending};
 
 use crate::entry::Entry;
 use crate::page::KeptPage;
-use address::Address;
+use address::{Address, Origin};
+use robots_rules::RuleSet;
 use site_answer::Outcome;
 
 /// Things that are named by a text.
@@ -36,6 +37,14 @@ impl Named for KeptPage {
 
 impl Named for (Address, Outcome) {
     ghost text_of = { λ recorded. recorded.0 };
+
+    fn name(&self) -> &str {
+        self.0.as_str()
+    }
+}
+
+impl Named for (Origin, RuleSet) {
+    ghost text_of = { λ ruled. ruled.0 };
 
     fn name(&self) -> &str {
         self.0.as_str()

@@ -1,19 +1,24 @@
 //! The retrieval: a frontier that one thread drives until nothing is left to do.
-ghost use Rattle.std.specs.Prelude.{◌≡◌, ◌≢◌, ◌≤◌, length, [], ◌∷◌, ◌++◌, List, IfOk, IfErr, OnOk, OnErr, None, Some};
+ghost use Rattle.std.specs.Prelude.{◌≡◌, ◌≢◌, ◌≤◌, ◌⊎◌, ◌↔◌, ℕ, length, [], ◌++◌, List, map, Contains, IfOk, IfErr, OnOk, IsOk, IsErr};
 ghost use Rattle.site_answer.specs.declared.fetcher.Ask.{Ask};
 ghost use Rattle.frontier_core.specs.Machine.{answers, opened};
 ghost use Rattle.frontier_core.specs.Invariants.{IsOverfull};
 ghost use Rattle.frontier_core.specs.Plans.{policy};
-ghost use Rattle.frontier_core.specs.Routes.{HasTooMany};
-ghost use Rattle.workers.specs.Turns.{AtEnd, AtStop};
+ghost use Rattle.frontier_core.specs.Routes.{Answers, HasTooMany};
+ghost use Rattle.frontier_core.specs.Tables.{IsOnce};
+ghost use Rattle.workers.specs.Asks.{gained};
+ghost use Rattle.workers.specs.Pages.{IsKept};
+ghost use Rattle.workers.specs.Retrieval.{Brings, IsLeft};
+ghost use Rattle.workers.specs.Sites.{Fits, IsCompleteFor};
+ghost use Rattle.workers.specs.Turns.{AtEnd, AtStop, IsHarvestOf, IsNothing};
 
 use crate::harvest::Harvest;
 use crate::page::KeptPage;
-use crate::turn::{serve, spread};
+use crate::turn::{serve, serve_rules, spread};
 use follow_filters::Plan;
 use frontier_core::{Cause, Frontier, Work};
 use site_answer::Fetcher;
-use std::alloc::Global;
+use std::alloc::{AllocError, Global};
 
 /// The number of the only worker.
 const WORKER: u32 = 0;
@@ -30,9 +35,7 @@ pub struct Halt {
 impl Halt {
     // Where there was no memory for a harvest.
     fn empty(alloc: Global) -> Self
-        ensures cause { result.cause ≡ Cause.Memory }
-        ensures plan { result.harvest.plan ≡ None }
-        ensures trace { result.harvest.trace ≡ [] }
+        ensures { IsNothing result.cause result.harvest }
     {
         Halt {
             cause: Cause::Memory,
@@ -52,9 +55,9 @@ fn drive<F: Fetcher>(
     requires fresh { pages.old.items ≡ [] }
     ensures site { F.site fetcher.new ≡ F.site fetcher.old }
     ensures ok { OnOk result ((asks : List Ask) × (F.log fetcher.new ≡ F.log fetcher.old ++ asks)
-        × AtEnd (F.says (F.site fetcher.old)) (λ o rules. ⊥) frontier.old.plan frontier.new asks pages.new.items) }
+        × AtEnd (F.says (F.site fetcher.old)) (F.rules (F.site fetcher.old)) frontier.old.plan frontier.new asks pages.new.items) }
     ensures err { IfErr result (λ cause. (asks : List Ask) × (F.log fetcher.new ≡ F.log fetcher.old ++ asks)
-        × AtStop (F.says (F.site fetcher.old)) (λ o rules. ⊥) frontier.old.plan frontier.new asks pages.new.items cause) }
+        × AtStop (F.says (F.site fetcher.old)) (F.rules (F.site fetcher.old)) frontier.old.plan frontier.new asks pages.new.items cause) }
     ensures full { result ≡ Err Cause.Full → HasTooMany (policy frontier.new.plan) (answers frontier.new.state) × IsOverfull (policy frontier.new.plan) frontier.new.state }
     ensures mismatch { IfErr result (λ cause. cause ≢ Cause.Mismatch) }
 {
@@ -71,6 +74,12 @@ fn drive<F: Fetcher>(
             }
             Ok(Work::Page(permit)) => {
                 serve(frontier, fetcher, pages, permit)?;
+                continue;
+            }
+            Ok(Work::Robots(permit)) => {
+                // Who is parked is wanted, but for the rules of its origin.
+                let _trace = frontier.trace();
+                serve_rules(frontier, fetcher, permit)?;
                 continue;
             }
             // Nothing stopped the frontier, and nobody else is at work.
@@ -91,23 +100,27 @@ fn drive<F: Fetcher>(
     unreachable!()
 }
 
-/// Asks for what the plan wants until nothing is left to do, each address once.
-pub fn retrieve_in_order<F: Fetcher>(
-    alloc: Global,
-    plan: &Plan,
-    fetcher: &mut F,
-) -> Result<Harvest, Halt>
-    ensures site { F.site fetcher.new ≡ F.site fetcher.old }
-    ensures plan { IfOk result (λ h. h.plan ≡ Some plan.now) }
+// A frontier over a copy of the plan.
+fn open(alloc: Global, plan: &Plan) -> Result<Frontier, AllocError>
+    ensures plan { IfOk result (λ f. f.plan ≡ plan.now) }
+    ensures state { IfOk result (λ f. f.state ≡ opened (policy f.plan)) }
+    ensures line { IfOk result (λ f. 1 ≤ length f.trace) }
 {
-    let Ok(plan) = plan.try_clone() else {
-        return Err(Halt::empty(alloc));
-    };
-    let Ok(mut frontier) = Frontier::open(alloc, plan) else {
-        return Err(Halt::empty(alloc));
-    };
-    let mut pages = Vec::new(alloc);
-    let driven = drive(&mut frontier, fetcher, &mut pages);
+    Frontier::open(alloc, plan.try_clone()?)
+}
+
+// What a retrieval brings in or leaves, by how its frontier was driven.
+fn finish(
+    alloc: Global,
+    frontier: Frontier,
+    pages: Vec<KeptPage>,
+    driven: Result<(), Cause>,
+) -> Result<Harvest, Halt>
+    requires once { IsOnce (map (λ page. page.address) pages.items) }
+    requires kept { (u : List ℕ) → Contains (map (λ page. page.address) pages.items) u ↔ IsKept frontier.plan (answers frontier.state) u }
+    ensures ok { IfOk result (λ h. IsOk driven × IsHarvestOf frontier pages.items h) }
+    ensures err { IfErr result (λ halt. IsNothing halt.cause halt.harvest ⊎ ((driven ≡ Err halt.cause) × IsHarvestOf frontier pages.items halt.harvest)) }
+{
     let Ok(harvest) = Harvest::gather(alloc, frontier, pages) else {
         return Err(Halt::empty(alloc));
     };
@@ -115,4 +128,38 @@ pub fn retrieve_in_order<F: Fetcher>(
         Ok(()) => Ok(harvest),
         Err(cause) => Err(Halt { cause, harvest }),
     }
+}
+
+/// Asks for what the plan wants, one thing at a time, until nothing is left to do: first the rules of an origin of which an
+/// address is parked, else the page of an address that waits. The site stays what it is.
+///
+/// On Ok the harvest has found what is to be found by its record, and so by the whole site where that gives each address one
+/// outcome and each origin one rule set. It halts as Full where more addresses are candidates than the plan lets be held, and
+/// as Memory where memory ran out; never as Mismatch. What was found until then is left in the harvest, which is empty where
+/// there was no memory for it. In any case each page was asked for at most once, and the rules of each origin were.
+pub fn retrieve_in_order<F: Fetcher>(
+    alloc: Global,
+    plan: &Plan,
+    fetcher: &mut F,
+) -> Result<Harvest, Halt>
+    ensures site { F.site fetcher.new ≡ F.site fetcher.old }
+    ensures log { F.log fetcher.new ≡ F.log fetcher.old ++ gained (F.log fetcher.old) (F.log fetcher.new) }
+    ensures ok { IfOk result (Brings (F.says (F.site fetcher.old)) (F.rules (F.site fetcher.old)) plan.now (gained (F.log fetcher.old) (F.log fetcher.new))) }
+    ensures err { IfErr result (λ halt. IsLeft (F.says (F.site fetcher.old)) (F.rules (F.site fetcher.old)) plan.now (gained (F.log fetcher.old) (F.log fetcher.new)) halt.cause halt.harvest) }
+    ensures full { IfErr result (λ halt. halt.cause ≡ Cause.Full → HasTooMany (policy plan.now) (answers halt.harvest.state) × IsOverfull (policy plan.now) halt.harvest.state) }
+    ensures mismatch { IfErr result (λ halt. halt.cause ≢ Cause.Mismatch) }
+
+    // What holds of a site that gives each address one outcome, and each origin one rule set.
+    ensures whole_site { (whole : Answers) → Fits (F.says (F.site fetcher.old)) (F.rules (F.site fetcher.old)) whole → IfOk result (λ h. IsCompleteFor (policy plan.now) whole h.state) }
+    ensures full_site { (whole : Answers) → Fits (F.says (F.site fetcher.old)) (F.rules (F.site fetcher.old)) whole → IfErr result (λ halt. halt.cause ≡ Cause.Full → HasTooMany (policy plan.now) whole) }
+    ensures crowded_site { (whole : Answers) → Fits (F.says (F.site fetcher.old)) (F.rules (F.site fetcher.old)) whole → HasTooMany (policy plan.now) whole → IsErr result }
+{
+    let Ok(mut frontier) = open(alloc, plan) else {
+        return Err(Halt::empty(alloc));
+    };
+    let mut pages = Vec::new(alloc);
+    let driven = drive(&mut frontier, fetcher, &mut pages);
+    // The state is the replay of the trace, and what was asked for is held.
+    let _trace = frontier.trace();
+    finish(alloc, frontier, pages, driven)
 }

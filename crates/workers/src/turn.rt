@@ -1,20 +1,20 @@
-//! What a driver does in one turn: offer edges, or ask for a page and hand its outcome over.
+//! What a driver does in one turn: offer edges, or ask for a page or an origin's rules and hand the answer over.
 ghost use Rattle.std.specs.Prelude.{◌≡◌, ◌≢◌, ◌≤◌, ◌<◌, ◌⊎◌, [], ◌∷◌, ◌++◌, IfOk, IfErr, OnOk, OnErr, IfSome, IfNone, MatchOption, IsTrue, true, false, vec_len, vec_capacity};
 ghost use Rattle.follow_filters.specs.Rules.{keeps_of};
 ghost use Rattle.site_answer.specs.Logs.{GainedAtMost};
 ghost use Rattle.site_answer.specs.declared.fetcher.Ask.TheVariants as ask;
-ghost use Rattle.frontier_core.specs.Machine.{answers};
+ghost use Rattle.frontier_core.specs.Machine.{answers, AbandonRules};
 ghost use Rattle.frontier_core.specs.Invariants.{IsOverfull};
 ghost use Rattle.frontier_core.specs.Plans.{policy};
 ghost use Rattle.frontier_core.specs.Routes.{HasTooMany};
-ghost use Rattle.frontier_core.specs.Traced.{Traced, IsOutTo, Spreads, SpreadsPart, Stops};
+ghost use Rattle.frontier_core.specs.Traced.{Traced, Makes, IsOutTo, IsAskedBy, Spreads, SpreadsPart, Stops};
 ghost use Rattle.workers.specs.Pages.{kept_of};
-ghost use Rattle.workers.specs.Turns.{IsServed, IsGivenUp};
+ghost use Rattle.workers.specs.Turns.{IsServed, IsRuled, IsGivenUp};
 
 use crate::page::{KeptPage, is_success};
 use address::Address;
 use follow_filters::Plan;
-use frontier_core::{Cause, Frontier, Permit, SpreadFault};
+use frontier_core::{Cause, Frontier, OriginPermit, Permit, SpreadFault};
 use site_answer::{Answer, Fetcher};
 use std::alloc::AllocError;
 
@@ -88,5 +88,31 @@ pub fn serve<F: Fetcher>(
     match frontier.answer(permit, outcome) {
         Ok(()) => Ok(()),
         Err(_) => unreachable!(),
+    }
+}
+
+/// Asks for the robots rules of a permit's origin. Where memory runs out the permit is given up.
+pub fn serve_rules<F: Fetcher>(
+    frontier: &mut Frontier,
+    fetcher: &mut F,
+    permit: OriginPermit,
+) -> Result<(), Cause>
+    requires { IsAskedBy frontier.old.state permit.worker permit.origin }
+    ensures site { F.site fetcher.new ≡ F.site fetcher.old }
+    ensures ok { OnOk result (IsRuled (F.rules (F.site fetcher.old)) frontier.old permit frontier.new) }
+    ensures asked { OnOk result (F.log fetcher.new ≡ F.log fetcher.old ++ ask.Rules permit.origin ∷ []) }
+    ensures err { OnErr result (Makes frontier.old (AbandonRules permit.worker permit.origin Cause.Memory) frontier.new) }
+    ensures refused { OnErr result (GainedAtMost (F.log fetcher.old) (F.log fetcher.new) (ask.Rules permit.origin)) }
+    ensures cause { IfErr result (λ cause. cause ≡ Cause.Memory) }
+{
+    match fetcher.ask_robots(permit.origin()) {
+        Ok(rules) => match frontier.robots_answer(permit, rules) {
+            Ok(()) => Ok(()),
+            Err(_) => unreachable!(),
+        },
+        Err(_) => {
+            frontier.abandon_robots(permit, Cause::Memory);
+            Err(Cause::Memory)
+        }
     }
 }

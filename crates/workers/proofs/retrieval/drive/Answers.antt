@@ -5,18 +5,17 @@ use Rattle.frontier_core.specs.Machine.{IsQuiet, IsRunning}
 use Rattle.frontier_core.specs.Tables.{Text, IsOnce, keys}
 use Rattle.frontier_core.specs.Plans.{policy}
 use Rattle.frontier_core.specs.Invariants.{IsClosed}
-use Rattle.frontier_core.specs.RobotsRules.{RuleSet}
 use Rattle.frontier_core.specs.Traced.{Traced, HasDue}
 use Rattle.site_answer.specs.declared.fetcher.Ask.TheVariants as ask
 use Rattle.workers.specs.declared.page.KeptPage.{KeptPage}
 use Rattle.workers.specs.Turns.{AtRest}
-use Rattle.workers.proofs.RestLaws.{rest_opened, rest_at, next_spread, rest_page, ends, quiet_at_rest, stop_rest, stop_spread, stop_page, log_push}
+use Rattle.workers.proofs.RestLaws.{rest_opened, rest_at, next_spread, rest_page, rest_rules, ends, quiet_at_rest, stop_rest, stop_spread, stop_page, stop_rules, log_push}
 use Rattle.workers.proofs.retrieval.drive.Goals as goal
 
 pub turns-init : goal.turns-init
 turns-init g c = record {
   asks = [];
-  rest = subst (λ (pages : List KeptPage). AtRest (g.F.Fetcher.says (g.F.Fetcher.site c.args.fetcher.now)) (λ (o : Text) (rules : RuleSet). ⊥) c.args.frontier.now.plan c.args.frontier.now [] pages)
+  rest = subst (λ (pages : List KeptPage). AtRest (g.F.Fetcher.says (g.F.Fetcher.site c.args.fetcher.now)) (g.F.Fetcher.rules (g.F.Fetcher.site c.args.fetcher.now)) c.args.frontier.now.plan c.args.frontier.now [] pages)
       (sym c.requires.fresh) (rest_opened _ _ _ c.args.frontier.now refl c.requires.opened);
   site = refl;
   log = sym (append-nil _);
@@ -64,8 +63,8 @@ returns-in_err-serve-in-Ok-Page-clause-err g c =
     rw (p.1, p.2, c.in_err-serve-in-Ok-Page.ensures.cause)
     (stop_page _ _ _ c.turns.frontier c.take.new.self c.serve.new.frontier asks _ _ _ _ _ _ _ _ c.turns.invariant.rest c.turns.invariant.log takes.3 given.0 c.in_err-serve-in-Ok-Page.ensures.refused given.1)
 
-pub turns-preserved : goal.turns-preserved
-turns-preserved g c =
+pub turns-preserved-in-Ok-Page : goal.turns-preserved-in-Ok-Page
+turns-preserved-in-Ok-Page g c =
     let takes = rw c.in-Ok-Page.field-0-is at c.in-Ok-Page.ensures.ok in
     let asks = c.turns.invariant.asks in
     let (x, body, said, answered, kept) = c.in_ok-serve-in-Ok-Page.ensures.ok in
@@ -79,12 +78,38 @@ turns-preserved g c =
       grows = omega (arith, next.1, c.turns.invariant.grows);
     }
 
+pub returns-in_err-serve_rules-in-Ok-Robots-clause-err : goal.returns-in_err-serve_rules-in-Ok-Robots-clause-err
+returns-in_err-serve_rules-in-Ok-Robots-clause-err g c =
+    let p = err_from_is_err_and c.from_residual-in_err-serve_rules-in-Ok-Robots.result c.from_residual-in_err-serve_rules-in-Ok-Robots.ensures.1 in
+    let takes = rw c.in-Ok-Robots.field-0-is at c.in-Ok-Robots.ensures.ok in
+    let given = c.in_err-serve_rules-in-Ok-Robots.ensures in
+    let held = c.trace-trace.ensures in
+    rw (p.1, p.2, given.cause)
+    (stop_rules _ _ _ c.turns.frontier c.take.new.self c.serve_rules.new.frontier c.turns.invariant.asks _ _ _ _ _ _ c.in-Ok-Robots.permit.origin c.turns.invariant.rest c.turns.invariant.log
+    takes.2 held.sound held.closed given.err given.refused)
+
+pub turns-preserved : goal.turns-preserved
+turns-preserved g c =
+    let takes = rw c.in-Ok-Robots.field-0-is at c.in-Ok-Robots.ensures.ok in
+    let asks = c.turns.invariant.asks in
+    let (rules, said, known) = c.in_ok-serve_rules-in-Ok-Robots.ensures.ok in
+    let told = subst (λ (s : g.F.Fetcher.Site). g.F.Fetcher.rules s c.in-Ok-Robots.permit.origin rules) c.turns.invariant.site said in
+    let held = c.trace-trace.ensures in
+    let next = rest_rules _ _ _ c.turns.frontier c.take.new.self c.serve_rules.new.frontier asks _ _ _ c.in-Ok-Robots.permit.origin rules c.turns.invariant.rest takes.2 held.sound held.closed known told in
+    record {
+      asks = asks ++ ask.Rules c.in-Ok-Robots.permit.origin ∷ [];
+      rest = next.0;
+      site = c.in_ok-serve_rules-in-Ok-Robots.ensures.site ∙ c.turns.invariant.site;
+      log = log_push _ _ _ asks _ c.turns.invariant.log c.in_ok-serve_rules-in-Ok-Robots.ensures.asked;
+      grows = omega (arith, next.1, c.turns.invariant.grows);
+    }
+
 pub unreachable-requires-in-Ok-Busy : goal.unreachable-requires-in-Ok-Busy
 unreachable-requires-in-Ok-Busy g c =
     let takes = rw c.in-Ok-Busy.field-0-is at c.in-Ok-Busy.ensures.ok in
-    let once = subst (λ (x : Traced). IsOnce (keys x.state.entries)) takes.5 c.trace-trace.ensures.sound.addresses in
-    let origins = subst (λ (x : Traced). IsOnce (keys x.state.origins)) takes.5 c.trace-trace.ensures.sound.origins in
-    let closed = subst (λ (x : Traced). IsClosed (policy x.plan) x.state) takes.5 c.trace-trace.ensures.closed in
+    let once = subst (λ (x : Traced). IsOnce (keys x.state.entries)) takes.5 c.trace-trace-in-Ok-Busy.ensures.sound.addresses in
+    let origins = subst (λ (x : Traced). IsOnce (keys x.state.origins)) takes.5 c.trace-trace-in-Ok-Busy.ensures.sound.origins in
+    let closed = subst (λ (x : Traced). IsClosed (policy x.plan) x.state) takes.5 c.trace-trace-in-Ok-Busy.ensures.closed in
     takes.4 (quiet_at_rest _ _ _ c.turns.frontier c.turns.invariant.asks _ c.turns.invariant.rest once origins closed c.args.frontier.now.plan.some_per_host takes.1 takes.2 takes.3)
 
 pub returns-in-Err-clause-err : goal.returns-in-Err-clause-err
