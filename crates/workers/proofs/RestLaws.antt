@@ -20,7 +20,7 @@ use Rattle.robots_rules.specs.Access.{RuleSetValue}
 use Rattle.frontier_core.specs.Tables.{Text, lookup, put, changed, keys, IsOnce}
 use Rattle.frontier_core.specs.Routes.{Policy, Answers, IsNeeded, is_open, is_exempt}
 use Rattle.frontier_core.specs.Plans.{policy}
-use Rattle.frontier_core.specs.Machine.{State, Slot, TakeRules, Rule, AbandonRules, unparked, settled, ruled, with_origin,  Progress, Parked, Waiting, Out, Answered, Refused, Due, Offered, Worker, Nobody, TakePage, Answer, Abandon, Stop, slot, answers, slot_outcome, outcome_in, with_entry, turn_of, opened, halted, first_cause, is_out, is_done, permits_out, asked_count, is_known, OriginRules, Asked, Known, rules_in, IsQuiet, IsRunning, HasRoom, HasParked}
+use Rattle.frontier_core.specs.Machine.{State, Slot, TakeRules, Rule, AbandonRules, unparked, settled, ruled, with_origin, Progress, Parked, Waiting, Out, Answered, Refused, Due, Offered, Worker, Nobody, TakePage, Answer, Abandon, Stop, slot, answers, slot_outcome, outcome_in, with_entry, turn_of, opened, halted, first_cause, is_out, is_done, permits_out, asked_count, is_known, OriginRules, Asked, Known, rules_in, IsQuiet, IsRunning, HasRoom, HasParked}
 use Rattle.frontier_core.specs.Invariants.{IsSound, IsComplete, IsClosed}
 use Rattle.frontier_core.specs.Traced.{Traced, Makes, SpreadsWhole, SpreadsPart, Spreads, Stops, HasDue, HasPage, HasRules}
 use Rattle.frontier_core.specs.declared.event.Cause.{Cause}
@@ -108,11 +108,11 @@ kept_cases : (plan : Plan) (m n : Answers) (u : Text) (x : Outcome) (w : Text) �
 kept_cases plan m n u x w g (y, h, success, keeps) =
     elim (compare_texts u w) [
       | same k t ↦ (
-        let is : Some x ≡ Some y = sym g.there ∙ ap n.outcome k ∙ h in
-        let at : y ≡ x = cc in
-        let first : keeps_of plan u ≡ true = ap (keeps_of plan) k ∙ keeps in
-        let second : is_success x ≡ true = ap is_success (sym at) ∙ success in
-        inr (k, rw (first, second) refl))
+          let is : Some x ≡ Some y = sym g.there ∙ ap n.outcome k ∙ h in
+          let at : y ≡ x = cc in
+          let first : keeps_of plan u ≡ true = ap (keeps_of plan) k ∙ keeps in
+          let second : is_success x ≡ true = ap is_success (sym at) ∙ success in
+          inr (k, rw (first, second) refl))
       | other k t ↦ inl (y, sym (g.elsewhere w k) ∙ h, success, keeps)
     ]
 
@@ -146,7 +146,7 @@ module _ (may_say : Text → Outcome → List ℕ → Type 0) (plan : Plan) wher
       let names : map (λ (p : KeptPage). p.address) (pages ++ page ∷ []) ≡ map (λ (p : KeptPage). p.address) pages ++ u ∷ [] = map-append (λ (p : KeptPage). p.address) pages (page ∷ []) in
       let both = and_both (keeps_of plan u) (is_success x) stays in
       let among_before : Contains (map (λ (p : KeptPage). p.address) pages) u → ⊥ = λ among. (let (y, h, success, keeps) = (kept.addresses u).0 among in
-          let none : None ≡ Some y = sym g.fresh ∙ h in cc) in
+      let none : None ≡ Some y = sym g.fresh ∙ h in cc) in
       record {
         once = subst IsOnce (sym names) (once_push _ u kept.once among_before);
         addresses = λ w. subst (λ (us : List Text). (Contains us w → IsKept plan n w) × (IsKept plan n w → Contains us w)) (sym names) (
@@ -658,18 +658,18 @@ module _ (may_say : Text → Outcome → List ℕ → Type 0) (may_rule : Text �
       let serving = serving_same s t asks pages rest.serving (given.plan ∙ takes.plan) t_is in
       let new_one = fresh asks s.state u d rest.recorded waits in
       subst (λ (ps : List KeptPage). (all : List Ask) × (new ≡ first ++ all) × AtStop may_say may_rule plan t all ps why.Memory) (sym keeps) (
-        elim gained [
-          | inl none ↦ (asks, none ∙ log, record { serving = serving; stopped = stopped; recorded = lost_none asks s.state rest.recorded t.state t_is })
-          | inr one ↦ (
-            asks ++ ask.Page u ∷ [],
-            one ∙ ap (λ (x : List Ask). x ++ ask.Page u ∷ []) log ∙ append_assoc first asks (ask.Page u ∷ []),
-            record {
-              serving = serving_asks t asks pages u serving new_one;
-              stopped = stopped;
-              recorded = stop_asks asks s.state t.state u rest.recorded t_is lost;
-            },
-          )
-        ])
+      elim gained [
+        | inl none ↦ (asks, none ∙ log, record { serving = serving; stopped = stopped; recorded = lost_none asks s.state rest.recorded t.state t_is })
+        | inr one ↦ (
+          asks ++ ask.Page u ∷ [],
+          one ∙ ap (λ (x : List Ask). x ++ ask.Page u ∷ []) log ∙ append_assoc first asks (ask.Page u ∷ []),
+          record {
+            serving = serving_asks t asks pages u serving new_one;
+            stopped = stopped;
+            recorded = stop_asks asks s.state t.state u rest.recorded t_is lost;
+          },
+        )
+      ])
 
   stop_rule_asks : (asks : List Ask) (s t : State) (o : Text) → AreRecorded asks (answers s) → answers t ≡ answers s → HasLostRules t o
       → AreRecordedOrLost (asks ++ ask.Rules o ∷ []) t

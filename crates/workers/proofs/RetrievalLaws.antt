@@ -149,7 +149,7 @@ module _ (may_say : Text → Outcome → List ℕ → Type 0) (may_rule : Text �
   pub told_nothing : (old new : List Ask) (halt : Halt) → IsNothing halt.cause halt.harvest → AreOnce (gained old new) → Told old new (Err halt)
   told_nothing old new halt nothing once = record {
     ok = tt;
-    err = inr (record { memory = nothing.memory; plan = nothing.plan; trace = nothing.trace; once = once });
+    err = inr (record { memory = nothing.memory; plan = nothing.plan; state = nothing.state; trace = nothing.trace; once = once });
     full = λ is. (let other : why.Memory ≡ why.Full = sym nothing.memory ∙ is in cc);
     mismatch = λ is. (let other : why.Memory ≡ why.Mismatch = sym nothing.memory ∙ is in cc);
     few = tt;

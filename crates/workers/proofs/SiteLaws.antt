@@ -157,12 +157,11 @@ found_key (entry ∷ entries) u o found some =
       | other h t ↦ contains_tail entry.0 u (keys entries) (found_key entries u o (rw t at found) some)
     ]
 
-
 -- where a complete frontier holds no more than the plan lets be, the site hasn't more
 pub not_too_many : (p : Policy) (s : State) (whole : Answers) → IsComplete p s → Extends (answers s) whole → length s.entries ≤ p.max_urls → HasTooMany p whole → ⊥
 not_too_many p s whole complete more few (us, once, all, many) =
     let candidate : (u : Text) → Contains us u → IsCandidate p whole u = λ u among. (let (k, lt, is) = among in subst (λ (x : Text). IsCandidate p whole x) is (all k u lt)) in
     let within = no_more us (keys s.entries) once (λ u among.
-        (let held = (complete.candidates u).1 (candidate_down p s whole complete more u (candidate u among)) in found_key s.entries u (lookup s.entries u) refl held)) in
+    (let held = (complete.candidates u).1 (candidate_down p s whole complete more u (candidate u among)) in found_key s.entries u (lookup s.entries u) refl held)) in
     let long : length (keys s.entries) ≡ length s.entries = length-map s.entries (λ entry. entry.0) in
     omega (arith, within, long, few, many)

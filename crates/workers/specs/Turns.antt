@@ -16,7 +16,7 @@ use Rattle.frontier_core.specs.declared.event.Cause.TheVariants as why
 use Rattle.workers.specs.declared.page.KeptPage.{KeptPage}
 use Rattle.workers.specs.Asks.{AreOnce, AreRecorded, AreRecordedOrLost, IsTold, origins_asked}
 use Rattle.workers.specs.Pages.{AreKept, kept_of}
-use Rattle.workers.specs.Harvests.{Harvested}
+use Rattle.workers.specs.Harvests.{Harvested, nothing}
 
 -- the address isn't out
 abbrev pub is_idle : Progress → Bool
@@ -85,4 +85,5 @@ pub record IsHarvestOf (frontier : Traced) (pages : List KeptPage) (h : Harveste
 pub record IsNothing (cause : Cause) (h : Harvested) : Type 0 where
   pub memory : cause ≡ why.Memory
   pub plan : h.plan ≡ None
+  pub state : h.state ≡ nothing
   pub trace : h.trace ≡ []

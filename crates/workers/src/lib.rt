@@ -14,4 +14,6 @@ mod harvest;
 mod named;
 mod page;
 mod retrieval;
+#[cfg(test)]
+mod tests;
 mod turn;
