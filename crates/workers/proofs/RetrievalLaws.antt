@@ -1,8 +1,7 @@
 -- What a driven frontier comes to as a harvest.
-use Rattle.std.proofs.Common.{◌≡◌, ◌⊎◌, ℕ, ◌≤◌, inl, inr, List, [], ◌∷◌, ◌++◌, map, drop, length, get_or, zero, suc, Option, Some, None, Result, Ok, Err, refl, sym, ap, ◌∙◌, subst, arith, append-nil}
-use Rattle.std.specs.Prelude.{All, Contains, IsSome, IsTrue, IsOk, IsErr, IfOk, IfErr, OnOk, true, false}
+use Rattle.std.proofs.Common.{◌≡◌, ◌⊎◌, ℕ, ◌≤◌, inl, inr, List, [], ◌∷◌, ◌++◌, map, drop, length, zero, suc, Option, Some, None, Result, Ok, Err, refl, sym, ap, ◌∙◌, subst, arith}
+use Rattle.std.specs.Prelude.{All, Contains, IsSome, IsTrue, IsOk, IsErr, IfOk, IfErr, OnOk}
 use Rattle.std.specs.List.{AllZip}
-use Rattle.std.specs.List.Sorted.{IsPermutation}
 use Rattle.std.proofs.Math.Seq.{drop-append_seam}
 use Rattle.std.proofs.lemmas.Bool.{false≢true}
 use Rattle.std.proofs.lemmas.List.Sorted.{All-permutation}
@@ -11,7 +10,7 @@ use Rattle.robots_rules.specs.Access.{RuleSetValue}
 use Rattle.site_answer.specs.declared.fetcher.Ask.{Ask}
 use Rattle.site_answer.specs.declared.outcome.Outcome.{Outcome}
 use Rattle.frontier_core.specs.Tables.{Text, lookup}
-use Rattle.frontier_core.specs.Routes.{Answers, IsWanted, IsNeeded, HasTooMany, is_open}
+use Rattle.frontier_core.specs.Routes.{Answers, IsWanted, IsNeeded, HasTooMany}
 use Rattle.frontier_core.specs.Plans.{policy}
 use Rattle.frontier_core.specs.Machine.{State, Slot, Progress, Parked, Waiting, Out, Answered, Refused, Nobody, slot, slot_outcome, outcome_in, answers, IsQuiet}
 use Rattle.frontier_core.specs.Lines.{IsReplay}
@@ -22,10 +21,10 @@ use Rattle.frontier_core.specs.declared.event.Cause.{Cause}
 use Rattle.frontier_core.specs.declared.event.Cause.TheVariants as why
 use Rattle.workers.specs.declared.page.KeptPage.{KeptPage}
 use Rattle.workers.specs.declared.retrieval.Halt.{Halt}
-use Rattle.workers.specs.Asks.{gained, pages_asked, AreOnce, AreRecorded, AreRecordedOrLost, IsLost, IsTold}
+use Rattle.workers.specs.Asks.{gained, pages_asked, AreOnce, AreRecorded, AreRecordedOrLost, IsTold}
 use Rattle.workers.specs.Harvests.{Harvested}
 use Rattle.workers.specs.Pages.{IsBodyOf, AreKept}
-use Rattle.workers.specs.Retrieval.{Brings, Leaves, IsEmpty, IsLeft}
+use Rattle.workers.specs.Retrieval.{Brings, Leaves, IsLeft}
 use Rattle.workers.specs.Sites.{Fits, IsCompleteFor}
 use Rattle.workers.specs.Turns.{AtEnd, AtStop, IsHarvestOf, IsNothing}
 use Rattle.workers.proofs.SiteLaws.{fits_extend, complete_for, too_many_up, not_too_many}

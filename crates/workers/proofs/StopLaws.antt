@@ -1,10 +1,10 @@
 -- A stop changes neither what is held nor what is recorded.
-use Rattle.std.proofs.Common.{◌≡◌, inl, inr, sym, subst, refl}
+use Rattle.std.proofs.Common.{inl, inr, sym, subst}
 use Rattle.frontier_core.specs.Routes.{HasTooMany}
 use Rattle.frontier_core.specs.Plans.{policy}
-use Rattle.frontier_core.specs.Machine.{State, answers, halted, Stop}
+use Rattle.frontier_core.specs.Machine.{State, answers, halted}
 use Rattle.frontier_core.specs.Invariants.{IsOverfull}
-use Rattle.frontier_core.specs.Traced.{Traced, Makes, Stops}
+use Rattle.frontier_core.specs.Traced.{Traced, Stops}
 use Rattle.frontier_core.specs.declared.event.Cause.{Cause}
 use Rattle.follow_filters.specs.declared.plan.Plan.{Plan}
 

@@ -77,7 +77,7 @@ fn drive<F: Fetcher>(
                 continue;
             }
             Ok(Work::Robots(permit)) => {
-                // Who is parked is wanted, but for the rules of its origin.
+                // Who is parked is a candidate, and so its origin is needed.
                 let _trace = frontier.trace();
                 serve_rules(frontier, fetcher, permit)?;
                 continue;

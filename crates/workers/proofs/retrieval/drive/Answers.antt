@@ -1,8 +1,8 @@
 -- Each turn leads from rest to rest, or to a stop; what is quiet is complete.
-use Rattle.std.proofs.Common.{List, [], ◌∷◌, ◌++◌, length, arith, sym, ap, subst, ◌∙◌, refl, append-nil, Err, inr}
+use Rattle.std.proofs.Common.{List, [], ◌∷◌, ◌++◌, length, arith, sym, ap, subst, ◌∙◌, refl, append-nil}
 use Rattle.std.proofs.lemmas.Result.{err_from_is_err_and}
 use Rattle.frontier_core.specs.Machine.{IsQuiet, IsRunning}
-use Rattle.frontier_core.specs.Tables.{Text, IsOnce, keys}
+use Rattle.frontier_core.specs.Tables.{IsOnce, keys}
 use Rattle.frontier_core.specs.Plans.{policy}
 use Rattle.frontier_core.specs.Invariants.{IsClosed}
 use Rattle.frontier_core.specs.Traced.{Traced, HasDue}

@@ -1,6 +1,5 @@
 -- Between two turns nothing is out, and each turn adds a line to the trace.
 use Rattle.std.proofs.Common.{◌≡◌, ◌<◌, ◌++◌, List, length}
-use Rattle.frontier_core.specs.Tables.{Text}
 use Rattle.site_answer.specs.declared.fetcher.Ask.{Ask}
 use Rattle.workers.specs.Turns.{AtRest}
 use Rattle.workers.proofs.retrieval.drive.Given as goal
