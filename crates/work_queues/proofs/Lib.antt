@@ -1,0 +1,4 @@
+mod QueueLaws
+mod Resizes
+mod Exchanges
+mod Additions
