@@ -30,7 +30,7 @@ get-append_cases [] y (suc i) x at = cc
 get-append_cases (z ∷ xs) y zero x at = inl at
 get-append_cases (z ∷ xs) y (suc i) x at = elim (get-append_cases xs y i x at) [ inl h ↦ inl h | inr h ↦ inr (ap suc h.0, h.1) ]
 
-map-append : {A B : Type 0} (f : A → B) (xs : List A) (y : A) → map f (xs ++ y ∷ []) ≡ map f xs ++ f y ∷ []
+pub map-append : {A B : Type 0} (f : A → B) (xs : List A) (y : A) → map f (xs ++ y ∷ []) ≡ map f xs ++ f y ∷ []
 map-append f [] y = refl
 map-append f (x ∷ xs) y = ap (λ z. f x ∷ z) (map-append f xs y)
 

@@ -2,4 +2,7 @@
 //! good and only changes its place among that queue's members, so nothing but a new number takes memory. The meaning is in `specs/`.
 #![tactic(auto)]
 
+mod lists;
+mod pool;
 mod queues;
+mod task;

@@ -1,5 +1,5 @@
 //! Queues of numbers: each number belongs to one queue, and is in it or not. A queue gives the number of the least label first.
-ghost use Rattle.std.specs.Prelude.{◌≡◌, ◌<◌, ◌≤◌, ◌+◌, ◌-◌, ℕ, true, false, [], ◌∷◌, ◌++◌, Some, length, slice_get, slice_set, nat_lt, vec_len, OnOk, OnErr, IfSome, IfNone};
+ghost use Rattle.std.specs.Prelude.{◌≡◌, ◌≢◌, ◌<◌, ◌≤◌, ◌+◌, ◌-◌, ℕ, true, false, [], ◌∷◌, ◌++◌, Some, length, slice_get, slice_set, nat_lt, vec_len, OnOk, OnErr, IfSome, IfNone};
 ghost use Rattle.work_queues.specs.Queues.{Seat, numbers_of, queued_of, seats, IsPlaced, IsRearranged, HasRoom};
 
 use std::alloc::{AllocError, Global};
@@ -70,6 +70,19 @@ impl Queues {
         Some(self.queues[queue].members[place].number)
     }
 
+    /// The label of the first number in the queue, if there is one.
+    pub(crate) fn first_label(&self, queue: usize) -> Option<u32>
+        requires placed { IsPlaced self.now }
+        requires queue { queue < vec_len self.now.queues }
+        ensures some { IfSome result (λ label. 0 < queued_of self.now.queues.items queue) }
+        ensures none { IfNone result (queued_of self.now.queues.items queue ≡ 0) }
+    {
+        if self.queued(queue) == 0 {
+            return None;
+        }
+        Some(self.label(queue, 0))
+    }
+
     /// How many numbers are in the queue.
     pub(crate) fn queued(&self, queue: usize) -> usize
         requires placed { IsPlaced self.now }
@@ -138,6 +151,7 @@ impl Queues {
         requires number { number < vec_len self.old.places }
         ensures placed { IsPlaced self.new }
         ensures seats { (seat : Seat) → slice_get (seats self.old) number ≡ Some seat → seats self.new ≡ slice_set (seats self.old) number (record seat { is_queued = true }) }
+        ensures elsewhere { (seat : Seat) → slice_get (seats self.old) number ≡ Some seat → (other : ℕ) → other ≢ seat.queue → queued_of self.new.queues.items other ≡ queued_of self.old.queues.items other }
         ensures queues { vec_len self.new.queues ≡ vec_len self.old.queues }
     {
         let Place { queue, place } = self.places[number];
@@ -159,6 +173,7 @@ impl Queues {
         requires number { number < vec_len self.old.places }
         ensures placed { IsPlaced self.new }
         ensures seats { (seat : Seat) → slice_get (seats self.old) number ≡ Some seat → seats self.new ≡ slice_set (seats self.old) number (record seat { is_queued = false }) }
+        ensures elsewhere { (seat : Seat) → slice_get (seats self.old) number ≡ Some seat → (other : ℕ) → other ≢ seat.queue → queued_of self.new.queues.items other ≡ queued_of self.old.queues.items other }
         ensures queues { vec_len self.new.queues ≡ vec_len self.old.queues }
     {
         let Place { queue, place } = self.places[number];
@@ -172,6 +187,22 @@ impl Queues {
         }
     }
 
+    /// The number is in its queue from now on, at this label, or isn't.
+    pub(crate) fn put(&mut self, number: usize, is_queued: bool, label: u32)
+        requires placed { IsPlaced self.old }
+        requires number { number < vec_len self.old.places }
+        ensures placed { IsPlaced self.new }
+        ensures seats { (seat : Seat) → slice_get (seats self.old) number ≡ Some seat → seats self.new ≡ slice_set (seats self.old) number (record seat { is_queued = is_queued }) }
+        ensures elsewhere { (seat : Seat) → slice_get (seats self.old) number ≡ Some seat → (other : ℕ) → other ≢ seat.queue → queued_of self.new.queues.items other ≡ queued_of self.old.queues.items other }
+        ensures queues { vec_len self.new.queues ≡ vec_len self.old.queues }
+    {
+        if is_queued {
+            self.push(number, label);
+        } else {
+            self.remove(number);
+        }
+    }
+
     /// A queue takes in the first of its members that isn't in it.
     fn admit(&mut self, queue: usize)
         requires placed { IsPlaced self.old }
@@ -180,6 +211,7 @@ impl Queues {
         ensures seats { (number : ℕ) → slice_get (numbers_of self.old.queues.items queue) (queued_of self.old.queues.items queue) ≡ Some number
             → seats self.new ≡ slice_set (seats self.old) number (record { queue = queue; is_queued = true }) }
         ensures queued { queued_of self.new.queues.items queue ≡ queued_of self.old.queues.items queue + 1 }
+        ensures elsewhere { (other : ℕ) → other ≢ queue → queued_of self.new.queues.items other ≡ queued_of self.old.queues.items other }
         ensures queues { vec_len self.new.queues ≡ vec_len self.old.queues }
     {
         self.queues[queue].queued += 1;
@@ -193,6 +225,7 @@ impl Queues {
         ensures seats { (number : ℕ) → slice_get (numbers_of self.old.queues.items queue) (queued_of self.old.queues.items queue - 1) ≡ Some number
             → seats self.new ≡ slice_set (seats self.old) number (record { queue = queue; is_queued = false }) }
         ensures queued { queued_of self.new.queues.items queue + 1 ≡ queued_of self.old.queues.items queue }
+        ensures elsewhere { (other : ℕ) → other ≢ queue → queued_of self.new.queues.items other ≡ queued_of self.old.queues.items other }
         ensures queues { vec_len self.new.queues ≡ vec_len self.old.queues }
     {
         self.queues[queue].queued -= 1;

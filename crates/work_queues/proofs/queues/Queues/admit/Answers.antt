@@ -1,6 +1,6 @@
 use Rattle.std.proofs.Common.{◌≡◌, ◌<◌, ◌≤◌, ◌+◌, length, sym, ap, ◌∙◌, arith}
 use Rattle.work_queues.specs.Queues.{numbers_of, queued_of}
-use Rattle.work_queues.proofs.QueueLaws.{queue_within, read, numbers_at, queued_at, queued-set_same, members_len}
+use Rattle.work_queues.proofs.QueueLaws.{queue_within, read, numbers_at, queued_at, queued-set_same, queued-set_other, members_len}
 use Rattle.work_queues.proofs.Resizes.{admitted}
 use Rattle.work_queues.proofs.queues.Queues.admit.Goals as goal
 
@@ -39,3 +39,6 @@ returns-clause-queued c =
     let lt = queue_within c.args.self.now.queues.items c.args.queue (queued_of c.args.self.now.queues.items c.args.queue) c.requires.within in
     let at = read c.args.self.now.queues.items c.args.queue c.index_mut.result.now lt c.index_mut.ensures.value in
     queued-set_same c.args.self.now.queues.items c.args.queue _ lt ∙ ap (λ z. z + 1) (sym (queued_at c.args.self.now.queues.items c.args.queue c.index_mut.result.now at))
+
+pub returns-clause-elsewhere : goal.returns-clause-elsewhere
+returns-clause-elsewhere c = λ elsewhere differ. queued-set_other c.args.self.now.queues.items c.args.queue elsewhere _ differ

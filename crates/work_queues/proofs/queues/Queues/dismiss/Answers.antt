@@ -1,6 +1,6 @@
 use Rattle.std.proofs.Common.{◌≡◌, ◌<◌, ◌≤◌, ◌+◌, ◌-◌, length, arith}
 use Rattle.work_queues.specs.Queues.{numbers_of, queued_of}
-use Rattle.work_queues.proofs.QueueLaws.{queued_within, read, queued_at, queued-set_same}
+use Rattle.work_queues.proofs.QueueLaws.{queued_within, read, queued_at, queued-set_same, queued-set_other}
 use Rattle.work_queues.proofs.Resizes.{dismissed}
 use Rattle.work_queues.proofs.queues.Queues.dismiss.Goals as goal
 
@@ -41,3 +41,6 @@ returns-clause-queued c =
     let some = c.requires.some in
     let now = queued-set_same c.args.self.now.queues.items c.args.queue (record { members = c.index_mut.result.now.members; queued = c.index_mut.result.now.queued - 1 }) lt in
     omega (arith, queued, some, now)
+
+pub returns-clause-elsewhere : goal.returns-clause-elsewhere
+returns-clause-elsewhere c = λ elsewhere differ. queued-set_other c.args.self.now.queues.items c.args.queue elsewhere _ differ

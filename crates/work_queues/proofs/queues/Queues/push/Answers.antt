@@ -1,4 +1,4 @@
-use Rattle.std.proofs.Common.{◌≡◌, ◌<◌, ◌≤◌, ◌+◌, ◌-◌, length, set, Some, slice_get, nat_lt, true, false, sym, ap, ◌∙◌, arith}
+use Rattle.std.proofs.Common.{◌≡◌, ◌≢◌, ◌<◌, ◌≤◌, ◌+◌, ◌-◌, length, set, Some, slice_get, nat_lt, true, false, sym, ap, ◌∙◌, arith}
 use Rattle.std.proofs.lemmas.Bool.Decides.{nat_tests}
 use Rattle.work_queues.specs.Queues.{Seat, numbers_of, queued_of, seats}
 use Rattle.work_queues.proofs.QueueLaws.{queue_within, read, stands, inside, seat_is, set_kept}
@@ -59,3 +59,10 @@ returns-else-place-queued-clause-seats c = λ seat was.
     ∙ c.admit.ensures.seats c.args.number first
     ∙ ap (λ z. set z c.args.number (record { queue = c.index.result.now.queue; is_queued = true })) c.exchange.ensures.same.seats
     ∙ ap (λ z. set (seats c.args.self.now) c.args.number (record { queue = z; is_queued = true })) (sym (ap (λ (z : Seat). z.queue) is)))
+
+pub returns-else-place-queued-clause-elsewhere : goal.returns-else-place-queued-clause-elsewhere
+returns-else-place-queued-clause-elsewhere c = λ seat was elsewhere differ.
+    (let at = read c.args.self.now.places.items c.args.number c.index.result.now (omega arith) c.index.ensures in
+    let is = seat_is c.args.self.now c.args.number seat c.index.result.now was at in
+    let apart : elsewhere ≢ c.index.result.now.queue = λ h. differ (h ∙ sym (ap (λ (z : Seat). z.queue) is)) in
+    c.rise.ensures.queued elsewhere ∙ c.relabel-else-place-queued.ensures.queued elsewhere ∙ c.admit.ensures.elsewhere elsewhere apart ∙ c.exchange.ensures.same.queued elsewhere)

@@ -1,4 +1,4 @@
-use Rattle.std.proofs.Common.{◌≡◌, ◌<◌, ◌≤◌, ◌+◌, ◌-◌, length, set, Some, slice_get, nat_lt, true, false, sym, ap, ◌∙◌, arith}
+use Rattle.std.proofs.Common.{◌≡◌, ◌≢◌, ◌<◌, ◌≤◌, ◌+◌, ◌-◌, length, set, Some, slice_get, nat_lt, true, false, sym, ap, ◌∙◌, arith}
 use Rattle.std.proofs.lemmas.Bool.Decides.{nat_tests}
 use Rattle.work_queues.specs.Queues.{Seat, numbers_of, queued_of, seats}
 use Rattle.work_queues.proofs.QueueLaws.{queue_within, read, stands, inside, seat_is, set_kept}
@@ -44,3 +44,17 @@ returns-else-place-queued-clause-seats c = λ seat was.
     let no : nat_lt c.index.result.now.place (queued_of c.args.self.now.queues.items c.index.result.now.queue) ≡ false = grind (arith, nat_tests, c.queued-queued.ensures.value, c.if-place-queued.false) in
     let same : record { queue = seat.queue; is_queued = false } ≡ seat = ap (λ z. record { queue = seat.queue; is_queued = z }) (sym (ap (λ (z : Seat). z.is_queued) is ∙ no)) in
     sym (ap (λ z. set (seats c.args.self.now) c.args.number z) same ∙ set_kept (seats c.args.self.now) c.args.number seat was))
+
+pub returns-then-place-queued-2-clause-elsewhere : goal.returns-then-place-queued-2-clause-elsewhere
+returns-then-place-queued-2-clause-elsewhere c = λ seat was elsewhere differ.
+    (let at = read c.args.self.now.places.items c.args.number c.index.result.now (omega arith) c.index.ensures in
+    let is = seat_is c.args.self.now c.args.number seat c.index.result.now was at in
+    let apart : elsewhere ≢ c.index.result.now.queue = λ h. differ (h ∙ sym (ap (λ (z : Seat). z.queue) is)) in
+    c.settle.ensures.queued elsewhere ∙ c.dismiss.ensures.elsewhere elsewhere apart ∙ c.exchange.ensures.same.queued elsewhere)
+
+pub returns-else-place-queued-2-clause-elsewhere : goal.returns-else-place-queued-2-clause-elsewhere
+returns-else-place-queued-2-clause-elsewhere c = λ seat was elsewhere differ.
+    (let at = read c.args.self.now.places.items c.args.number c.index.result.now (omega arith) c.index.ensures in
+    let is = seat_is c.args.self.now c.args.number seat c.index.result.now was at in
+    let apart : elsewhere ≢ c.index.result.now.queue = λ h. differ (h ∙ sym (ap (λ (z : Seat). z.queue) is)) in
+    c.dismiss.ensures.elsewhere elsewhere apart ∙ c.exchange.ensures.same.queued elsewhere)
