@@ -1,15 +1,16 @@
 -- What keeps the lists of an agenda together.
-use Rattle.std.proofs.Common.{◌≡◌, ◌≢◌, ◌⊎◌, ◌<◌, ◌≤◌, ◌+◌, ◌==◌, ℕ, zero, suc, Bool, true, false, ◌&&◌, List, [], ◌∷◌, ◌++◌, map, set, get_or, length, Option, Some, None, inl, inr, refl, sym, ap, ◌∙◌, subst, arith}
+use Rattle.std.proofs.Common.{◌≡◌, ◌≢◌, ◌⊎◌, ◌<◌, ◌≤◌, ◌+◌, ◌==◌, ℕ, zero, suc, Bool, true, false, ◌&&◌, List, [], ◌∷◌, ◌++◌, map, set, get_or, length, cond, nat_lt, Option, Some, None, inl, inr, refl, sym, ap, ◌∙◌, subst, arith}
 use Rattle.std.specs.Prelude.{slice_get, vec_len, position}
 use Rattle.std.specs.Str.{bytes_eq}
 use Rattle.std.proofs.Common.{length-append}
-use Rattle.std.proofs.lemmas.Bool.Decides.{eqb_tells}
+use Rattle.std.proofs.lemmas.Bool.Decides.{eqb_tells, nat_tests}
 use Rattle.std.proofs.lemmas.Slice.Eq.{bytes_eq-Decides}
 use Rattle.std.proofs.lemmas.Option.{slice_get_within}
 use Rattle.std.proofs.lemmas.List.{length-map, length-set, map-set, get_or_append_left}
-use Rattle.std.proofs.lemmas.List.Sums.{sum_by-cons}
+use Rattle.std.specs.List.{position_or_len}
+use Rattle.std.proofs.lemmas.List.Sums.{sum_by-cons, fails_before_first}
 use Rattle.std.proofs.Math.Seq.{get_or-append_seam}
-use Rattle.indexmap.specs.IndexMap.{set_value_at}
+use Rattle.indexmap.specs.IndexMap.{set_value_at, insert_entry}
 use Rattle.work_queues.specs.Queues.{Seat, seats, IsPlaced}
 use Rattle.work_queues.specs.Pools.{IsPool}
 use Rattle.work_queues.specs.Tasks.{Text, Item, is_parked, is_waiting, is_out, is_due}
@@ -319,3 +320,27 @@ opened_items old new origin kept hosts jobs =
         let first : item_of (old.hosts.entries ++ (origin, 0) ∷ []) job ≡ item_of old.hosts.entries job =
         ap (λ z. record { origin = z; task = job.task }) (key-append old.hosts.entries origin 0 job.host (within 0 job refl)) in
         cc
+
+-- ---- an origin that isn't there
+
+pub none_at : (xs : List Text) (test : Text → Bool) → None ≡ position test xs → (k : ℕ) → k < length xs → test (get_or xs k []) ≡ false
+none_at xs test none k lt = go (nat_lt (position_or_len test xs) (length xs)) refl none
+  where
+    go : (b : Bool) → nat_lt (position_or_len test xs) (length xs) ≡ b → None ≡ cond b (Some (position_or_len test xs)) None → test (get_or xs k []) ≡ false
+    go true e h = cc
+    go false e h =
+        let past : length xs ≤ position_or_len test xs = grind (arith, nat_tests) in
+        fails_before_first test xs k [] (omega (arith, past, lt))
+
+pub inserted_last : (hosts : List (Text × ℕ)) (origin : Text) (count : ℕ) → ((k : ℕ) → k < length (texts hosts) → bytes_eq origin (key_at hosts k) ≡ false)
+    → insert_entry bytes_eq hosts origin count ≡ hosts ++ (origin, count) ∷ []
+inserted_last [] origin count absent = refl
+inserted_last (first ∷ others) origin count absent =
+    rw (absent 0 (omega arith)) (ap (λ z. first ∷ z) (inserted_last others origin count (λ k lt. absent (suc k) (omega arith))))
+
+pub key_differs : (a b : Text) → bytes_eq a b ≡ false → b ≢ a
+key_differs a b unlike is = let yes_same : bytes_eq a b ≡ true = (bytes_eq-Decides a b).1 (sym is) in cc (unlike, yes_same)
+
+pub set-append_last : {X : Type 0} (xs : List X) (old new : X) → set (xs ++ old ∷ []) (length xs) new ≡ xs ++ new ∷ []
+set-append_last [] old new = refl
+set-append_last (x ∷ xs) old new = ap (λ z. x ∷ z) (set-append_last xs old new)

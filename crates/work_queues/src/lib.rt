@@ -2,7 +2,11 @@
 //! good and only changes its place among that queue's members, so nothing but a new number takes memory. The meaning is in `specs/`.
 #![tactic(auto)]
 
+mod agenda;
 mod lists;
 mod pool;
 mod queues;
 mod task;
+
+pub use agenda::Agenda;
+pub use task::Task;
