@@ -1,4 +1,4 @@
-//! Queues of numbers: each number belongs to one queue, and is in it or not. A queue gives the number of the least label first.
+//! Queues of numbers: each number belongs to one queue, and is in it or not. A queue gives the number of the least label first, and of equal labels the least number.
 ghost use Rattle.std.specs.Prelude.{◌≡◌, ◌≢◌, ◌<◌, ◌≤◌, ◌+◌, ◌-◌, ℕ, true, false, [], ◌∷◌, ◌++◌, Some, length, slice_get, slice_set, nat_lt, vec_len, OnOk, OnErr, IfSome, IfNone};
 ghost use Rattle.work_queues.specs.Queues.{Seat, numbers_of, queued_of, seats, IsPlaced, IsRearranged, HasRoom};
 
@@ -45,7 +45,7 @@ impl Queues {
         }
     }
 
-    /// The first number in the queue, if there is one: none in it has a lesser label.
+    /// The first number in the queue, if there is one.
     pub(crate) fn first(&self, queue: usize) -> Option<usize>
         requires placed { IsPlaced self.now }
         ensures some { IfSome result (λ number. slice_get (seats self.now) number ≡ Some (record { queue = queue; is_queued = true })) }
@@ -250,6 +250,17 @@ impl Queues {
         self.queues[queue].members[place].label
     }
 
+    /// Whether the member at one place comes before that at another: by label, and of equal labels by number.
+    fn precedes(&self, queue: usize, a: usize, b: usize) -> bool
+        requires a { a < length (numbers_of self.now.queues.items queue) }
+        requires b { b < length (numbers_of self.now.queues.items queue) }
+    {
+        let members = &self.queues[queue].members;
+        let first = members[a];
+        let second = members[b];
+        first.label < second.label || first.label == second.label && first.number < second.number
+    }
+
     /// Two members of a queue change places; both are in it, or neither is.
     fn exchange(&mut self, queue: usize, a: usize, b: usize)
         requires placed { IsPlaced self.old }
@@ -287,7 +298,7 @@ impl Queues {
         let mut place = place;
         while place > 0 {
             let above = (place - 1) / 2;
-            if self.label(queue, above) <= self.label(queue, place) {
+            if !self.precedes(queue, place, above) {
                 return;
             }
             self.exchange(queue, above, place);
@@ -303,7 +314,7 @@ impl Queues {
     {
         let mut place = place;
         while let Some(below) = self.least_below(queue, place) {
-            if self.label(queue, place) <= self.label(queue, below) {
+            if !self.precedes(queue, below, place) {
                 return;
             }
             self.exchange(queue, place, below);
@@ -322,7 +333,7 @@ impl Queues {
             return None;
         }
         let left = place + place + 1;
-        if left + 1 < queued && self.label(queue, left + 1) < self.label(queue, left) {
+        if left + 1 < queued && self.precedes(queue, left + 1, left) {
             return Some(left + 1);
         }
         Some(left)
