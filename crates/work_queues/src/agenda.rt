@@ -84,6 +84,22 @@ impl Agenda {
         self.lists.out(number)
     }
 
+    /// The origin of this number.
+    pub fn origin(&self, number: usize) -> &Origin
+        requires { number < length self.now.items }
+        ensures { (item : Item) × (slice_get self.now.items number ≡ Some item) × (result.now ≡ item.origin) }
+    {
+        self.lists.origin(number)
+    }
+
+    /// A parked number of this origin, if one is parked.
+    pub fn first_parked(&self, origin: &Origin) -> Option<usize>
+        ensures some { IfSome result (λ number. (item : Item) × (slice_get self.now.items number ≡ Some item) × (is_parked item.task ≡ true) × (item.origin ≡ origin.now)) }
+        ensures none { IfNone result ((number : ℕ) (item : Item) → slice_get self.now.items number ≡ Some item → is_parked item.task ≡ true → item.origin ≡ origin.now → ⊥) }
+    {
+        self.lists.first_parked(origin)
+    }
+
     /// How many origins have a waiting number.
     pub fn waiting_len(&self) -> usize
         ensures len { result ≡ length self.now.waiting }

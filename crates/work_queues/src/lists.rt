@@ -74,6 +74,33 @@ impl Lists {
     }
 }
 
+/// What is known of an origin.
+impl Lists {
+    /// The origin of this number.
+    pub(crate) fn origin(&self, number: usize) -> &Origin
+        requires kept { IsKept self.now }
+        requires number { number < length (items_of self.now) }
+        ensures { (item : Item) × (slice_get (items_of self.now) number ≡ Some item) × (result.now ≡ item.origin) }
+    {
+        match self.hosts.get_index(self.jobs[number].host) {
+            Some((origin, _)) => origin,
+            None => unreachable!(),
+        }
+    }
+
+    /// The parked number of the least label of this origin, if one is parked.
+    pub(crate) fn first_parked(&self, origin: &Origin) -> Option<usize>
+        requires { IsKept self.now }
+        ensures some { IfSome result (λ number. (item : Item) × (slice_get (items_of self.now) number ≡ Some item) × (is_parked item.task ≡ true) × (item.origin ≡ origin.now)) }
+        ensures none { IfNone result ((number : ℕ) (item : Item) → slice_get (items_of self.now) number ≡ Some item → is_parked item.task ≡ true → item.origin ≡ origin.now → ⊥) }
+    {
+        match self.hosts.get_index_of(origin) {
+            Some(host) => self.parked.numbers.first(host),
+            None => None,
+        }
+    }
+}
+
 /// What changes.
 impl Lists {
     /// This is left to do for the number from now on. Takes no memory.
