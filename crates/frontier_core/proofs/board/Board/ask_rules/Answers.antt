@@ -10,7 +10,7 @@ placed : (c : goal.Joined-branch-2) → c.insert.new.self.entries ≡ put c.self
 placed c = c.in_ok-insert.ensures.entries ∙ inserted c.self.inside.origins.entries c.args.origin c.asked.result
 
 pub invariant_of-self-2 : goal.invariant_of-self-2
-invariant_of-self-2 c = (c.self.invariant.0, subst (λ z. IsDistinct z) (sym (placed c)) (distinct-put c.self.inside.origins.entries c.args.origin c.asked.result c.self.invariant.1))
+invariant_of-self-2 c = (c.self.invariant.0, subst (λ z. IsDistinct z) (sym (placed c)) (distinct-put c.self.inside.origins.entries c.args.origin c.asked.result c.self.invariant.1), c.self.invariant.2)
 
 pub returns-clause-ok : goal.returns-clause-ok
 returns-clause-ok c = rw (← c.self.view_is) (rw (placed c) (rw c.asked.ensures refl))

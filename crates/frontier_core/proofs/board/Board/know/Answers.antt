@@ -10,6 +10,7 @@ invariant_of-self c =
       c.self.invariant.0,
       subst (λ z. IsDistinct z) (sym (written c.self.inside.origins.entries c.args.i c.know.new.self c.self.invariant.1 lt))
           (distinct-put c.self.inside.origins.entries (key_at c.self.inside.origins.entries c.args.i) c.know.new.self c.self.invariant.1),
+      c.self.invariant.2,
     )
 
 pub returns : goal.returns
