@@ -1,8 +1,15 @@
 use Rattle.std.proofs.Common.{◌<◌, length, refl, sym, subst}
 use Rattle.frontier_core.specs.Inner.{key_at, IsDistinct}
+use Rattle.frontier_core.specs.Counters.{IsTallied}
 use Rattle.frontier_core.proofs.TableLaws.{distinct-put}
-use Rattle.frontier_core.proofs.IndexLaws.{written}
+use Rattle.frontier_core.proofs.IndexLaws.{value_found, written}
+use Rattle.frontier_core.proofs.Tallies.{has_origin, tallied_origin}
 use Rattle.frontier_core.proofs.board.Board.give_up_rules.Goals as goal
+
+pub give_up-requires : goal.give_up-requires
+give_up-requires c =
+    has_origin c.self.inside.entries.entries c.self.inside.origins.entries c.self.inside.counters (key_at c.self.inside.origins.entries c.args.i) c.index_mut.result.now c.self.invariant.2
+    (value_found c.self.inside.origins.entries c.args.i c.index_mut.result.now c.self.invariant.1 c.index_mut.ensures.value).1
 
 pub invariant_of-self : goal.invariant_of-self
 invariant_of-self c =
@@ -10,9 +17,12 @@ invariant_of-self c =
       c.self.invariant.0,
       subst (λ z. IsDistinct z) (sym (written c.self.inside.origins.entries c.args.i c.give_up.new.self c.self.invariant.1 lt))
           (distinct-put c.self.inside.origins.entries (key_at c.self.inside.origins.entries c.args.i) c.give_up.new.self c.self.invariant.1),
+      subst (λ z. IsTallied c.self.inside.entries.entries z c.give_up.new.counters) (sym (written c.self.inside.origins.entries c.args.i c.give_up.new.self c.self.invariant.1 lt))
+          (tallied_origin c.self.inside.entries.entries c.self.inside.origins.entries c.self.inside.counters c.give_up.new.counters (key_at c.self.inside.origins.entries c.args.i) c.index_mut.result.now c.give_up.new.self c.self.invariant.2
+          (value_found c.self.inside.origins.entries c.args.i c.index_mut.result.now c.self.invariant.1 c.index_mut.ensures.value).1 c.give_up.ensures.counted),
     )
 
 pub returns : goal.returns
 returns c =
     let lt : c.args.i < length c.self.inside.origins.entries = rw (← c.self.view_is) at c.requires in
-    rw (← c.self.view_is) (rw (written c.self.inside.origins.entries c.args.i c.give_up.new.self c.self.invariant.1 lt) (rw c.give_up.ensures refl))
+    rw (← c.self.view_is) (rw (written c.self.inside.origins.entries c.args.i c.give_up.new.self c.self.invariant.1 lt) (rw c.give_up.ensures.rules refl))

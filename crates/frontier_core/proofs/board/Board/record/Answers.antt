@@ -1,8 +1,15 @@
 use Rattle.std.proofs.Common.{◌<◌, length, refl, sym, subst}
 use Rattle.frontier_core.specs.Inner.{key_at, IsDistinct}
+use Rattle.frontier_core.specs.Counters.{IsTallied}
 use Rattle.frontier_core.proofs.TableLaws.{distinct-put}
 use Rattle.frontier_core.proofs.IndexLaws.{value_found, written}
+use Rattle.frontier_core.proofs.Tallies.{has_entry, tallied_entry}
 use Rattle.frontier_core.proofs.board.Board.record.Goals as goal
+
+pub record-requires : goal.record-requires
+record-requires c =
+    has_entry c.self.inside.entries.entries c.self.inside.origins.entries c.self.inside.counters (key_at c.self.inside.entries.entries c.args.i) c.index_mut.result.now c.self.invariant.2
+    (value_found c.self.inside.entries.entries c.args.i c.index_mut.result.now c.self.invariant.0 c.index_mut.ensures.value).1
 
 pub invariant_of-self : goal.invariant_of-self
 invariant_of-self c =
@@ -10,6 +17,9 @@ invariant_of-self c =
       subst (λ z. IsDistinct z) (sym (written c.self.inside.entries.entries c.args.i c.record.new.self c.self.invariant.0 lt))
           (distinct-put c.self.inside.entries.entries (key_at c.self.inside.entries.entries c.args.i) c.record.new.self c.self.invariant.0),
       c.self.invariant.1,
+      subst (λ z. IsTallied z c.self.inside.origins.entries c.record.new.counters) (sym (written c.self.inside.entries.entries c.args.i c.record.new.self c.self.invariant.0 lt))
+          (tallied_entry c.self.inside.entries.entries c.self.inside.origins.entries c.self.inside.counters c.record.new.counters (key_at c.self.inside.entries.entries c.args.i) c.index_mut.result.now c.record.new.self c.self.invariant.2
+          (value_found c.self.inside.entries.entries c.args.i c.index_mut.result.now c.self.invariant.0 c.index_mut.ensures.value).1 c.record.ensures.counted),
     )
 
 pub returns : goal.returns
@@ -17,5 +27,5 @@ returns c =
     let lt : c.args.i < length c.self.inside.entries.entries = rw (← c.self.view_is) at c.requires in (
       c.index_mut.result.now,
       rw (← c.self.view_is) (value_found c.self.inside.entries.entries c.args.i c.index_mut.result.now c.self.invariant.0 c.index_mut.ensures.value).1,
-      rw (← c.self.view_is) (rw (written c.self.inside.entries.entries c.args.i c.record.new.self c.self.invariant.0 lt) (rw c.record.ensures refl)),
+      rw (← c.self.view_is) (rw (written c.self.inside.entries.entries c.args.i c.record.new.self c.self.invariant.0 lt) (rw c.record.ensures.slot refl)),
     )

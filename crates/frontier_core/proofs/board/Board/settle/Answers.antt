@@ -4,14 +4,21 @@ use Rattle.std.specs.Str.{bytes_eq}
 use Rattle.address.specs.Address.{origin_of, path_query_of}
 use Rattle.robots_rules.specs.Access.{is_allowed}
 use Rattle.frontier_core.specs.Inner.{key_at, is_parked, IsDistinct}
+use Rattle.frontier_core.specs.Counters.{IsTallied}
 use Rattle.frontier_core.specs.Plans.{policy}
 use Rattle.frontier_core.specs.Tables.{Text, lookup}
 use Rattle.frontier_core.specs.Machine.{State, Slot, Waiting, Refused, slot, unparked}
 use Rattle.frontier_core.proofs.TableLaws.{distinct-put}
 use Rattle.frontier_core.proofs.IndexLaws.{value_found, written}
+use Rattle.frontier_core.proofs.Tallies.{has_entry, tallied_entry}
 use Rattle.frontier_core.proofs.Settled.{unparked_settled, unparked_other, unparked_of, settles_same}
 use Rattle.frontier_core.proofs.board.Board.settle.Goals as goal
 use Rattle.frontier_core.proofs.board.Board.settle.Goals.{else-is_parked-via-then-is_parked+else-eq, else-is_parked-via-else-is_parked}
+
+pub settle-requires : goal.settle-requires
+settle-requires c =
+    has_entry c.self.inside.entries.entries c.self.inside.origins.entries c.self.inside.counters (key_at c.self.inside.entries.entries c.args.i) c.index_mut.result.now c.self.invariant.2
+    (value_found c.self.inside.entries.entries c.args.i c.index_mut.result.now c.self.invariant.0 c.index_mut.ensures.value).1
 
 pub invariant_of-self : goal.invariant_of-self
 invariant_of-self c =
@@ -19,6 +26,9 @@ invariant_of-self c =
       subst (λ z. IsDistinct z) (sym (written c.self.inside.entries.entries c.args.i c.settle.new.self c.self.invariant.0 lt))
           (distinct-put c.self.inside.entries.entries (key_at c.self.inside.entries.entries c.args.i) c.settle.new.self c.self.invariant.0),
       c.self.invariant.1,
+      subst (λ z. IsTallied z c.self.inside.origins.entries c.settle.new.counters) (sym (written c.self.inside.entries.entries c.args.i c.settle.new.self c.self.invariant.0 lt))
+          (tallied_entry c.self.inside.entries.entries c.self.inside.origins.entries c.self.inside.counters c.settle.new.counters (key_at c.self.inside.entries.entries c.args.i) c.index_mut.result.now c.settle.new.self c.self.invariant.2
+          (value_found c.self.inside.entries.entries c.args.i c.index_mut.result.now c.self.invariant.0 c.index_mut.ensures.value).1 c.settle.ensures.counted),
     )
 
 pub returns-then-eq : goal.returns-then-eq
@@ -42,7 +52,7 @@ returns-then-eq c =
     let settles : slot old.depth (unparked (policy c.args.plan.now) c.args.origin.now c.args.rules.now u old.progress) ≡ c.settle.new.self =
     ap (λ q. slot old.depth q) (unparked_of (policy c.args.plan.now) c.args.origin.now c.args.rules.now u old.progress parked of)
     ∙ ap (λ b. slot old.depth (if b then Waiting else Refused)) allows
-    ∙ sym c.settle.ensures in (
+    ∙ sym c.settle.ensures.slot in (
       old,
       held,
       rw settles (rw (← c.self.view_is) (rw (written c.self.inside.entries.entries c.args.i c.settle.new.self c.self.invariant.0 lt) refl)),
