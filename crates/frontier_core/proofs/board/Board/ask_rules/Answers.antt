@@ -8,7 +8,7 @@ use Rattle.frontier_core.proofs.Tallies.{has_none, tallied_new_origin}
 use Rattle.frontier_core.proofs.board.Board.ask_rules.Goals as goal
 
 pub exchange-requires : goal.exchange-requires
-exchange-requires c = has_none c.self.inside.entries.entries c.self.inside.origins.entries c.self.inside.counters c.self.invariant.2
+exchange-requires c = has_none c.self.inside.entries.entries c.self.inside.origins.entries c.self.inside.counters c.self.invariant.3
 
 pub invariant_of-self-2 : goal.invariant_of-self-2
 invariant_of-self-2 c =
@@ -19,8 +19,9 @@ invariant_of-self-2 c =
     subst (λ z. Recounts c.self.inside.counters no_share c.exchange.new.self z) c.share-share.ensures c.exchange.ensures in (
       c.self.invariant.0,
       subst (λ z. IsDistinct z) (sym placed) (distinct-put c.self.inside.origins.entries c.args.origin c.asked-robots.result c.self.invariant.1),
+      c.self.invariant.2,
       subst (λ z. IsTallied c.self.inside.entries.entries z c.exchange.new.self) (sym placed)
-          (tallied_new_origin c.self.inside.entries.entries c.self.inside.origins.entries c.self.inside.counters c.exchange.new.self c.args.origin c.asked-robots.result c.self.invariant.2 none few recounts),
+          (tallied_new_origin c.self.inside.entries.entries c.self.inside.origins.entries c.self.inside.counters c.exchange.new.self c.args.origin c.asked-robots.result c.self.invariant.3 none few recounts),
     )
 
 pub returns-clause-ok : goal.returns-clause-ok

@@ -11,6 +11,6 @@ returns-then-is_none c =
     let s : State = record { entries = c.self.inside.entries.entries; origins = c.self.inside.origins.entries; cause = c.self.inside.cause } in
     let running : c.self.inside.cause ≡ None = none_if c.self.inside.cause c.is_none.result c.is_none.ensures c.if-is_none.true in
     rw (← c.self.view_is) (
-      λ none. quiet_left s c.self.inside.counters c.self.invariant.2 running (grind (arith, nat_tests)),
-      λ quiet. (let none : c.self.inside.counters.left ≡ 0 = left_quiet s c.self.inside.counters c.self.invariant.2 quiet in grind (arith, nat_tests)),
+      λ none. quiet_left s c.self.inside.counters c.self.invariant.3 running (grind (arith, nat_tests)),
+      λ quiet. (let none : c.self.inside.counters.left ≡ 0 = left_quiet s c.self.inside.counters c.self.invariant.3 quiet in grind (arith, nat_tests)),
     )

@@ -4,10 +4,12 @@ use Rattle.std.specs.Str.{bytes_eq}
 use Rattle.address.specs.Address.{origin_of, path_query_of}
 use Rattle.robots_rules.specs.Access.{is_allowed}
 use Rattle.frontier_core.specs.Inner.{key_at, is_parked, IsDistinct}
-use Rattle.frontier_core.specs.Counters.{IsTallied}
 use Rattle.frontier_core.specs.Plans.{policy}
 use Rattle.frontier_core.specs.Tables.{Text, lookup}
 use Rattle.frontier_core.specs.Machine.{State, Slot, Waiting, Refused, slot, unparked}
+use Rattle.frontier_core.specs.Agendas.{IsListed}
+use Rattle.frontier_core.specs.Counters.{IsTallied}
+use Rattle.frontier_core.proofs.AgendaLaws.{listed_put}
 use Rattle.frontier_core.proofs.TableLaws.{distinct-put}
 use Rattle.frontier_core.proofs.IndexLaws.{value_found, written}
 use Rattle.frontier_core.proofs.Tallies.{has_entry, tallied_entry}
@@ -17,8 +19,8 @@ use Rattle.frontier_core.proofs.board.Board.settle.Goals.{else-is_parked-via-the
 
 pub settle-requires : goal.settle-requires
 settle-requires c =
-    has_entry c.self.inside.entries.entries c.self.inside.origins.entries c.self.inside.counters (key_at c.self.inside.entries.entries c.args.i) c.index_mut.result.now c.self.invariant.2
-    (value_found c.self.inside.entries.entries c.args.i c.index_mut.result.now c.self.invariant.0 c.index_mut.ensures.value).1
+    has_entry c.self.inside.entries.entries c.self.inside.origins.entries c.self.inside.counters (key_at c.self.inside.entries.entries c.args.i) c.index_mut-slot.result.now c.self.invariant.3
+    (value_found c.self.inside.entries.entries c.args.i c.index_mut-slot.result.now c.self.invariant.0 c.index_mut-slot.ensures.value).1
 
 pub invariant_of-self : goal.invariant_of-self
 invariant_of-self c =
@@ -26,18 +28,20 @@ invariant_of-self c =
       subst (λ z. IsDistinct z) (sym (written c.self.inside.entries.entries c.args.i c.settle.new.self c.self.invariant.0 lt))
           (distinct-put c.self.inside.entries.entries (key_at c.self.inside.entries.entries c.args.i) c.settle.new.self c.self.invariant.0),
       c.self.invariant.1,
+      subst (λ z. IsListed c.refile.new.agenda.items z) (sym (written c.self.inside.entries.entries c.args.i c.settle.new.self c.self.invariant.0 lt))
+          (listed_put c.self.inside.agenda.items c.refile.new.agenda.items c.self.inside.entries.entries c.args.i c.settle.new.self c.self.invariant.2 c.self.invariant.0 lt c.refile.ensures),
       subst (λ z. IsTallied z c.self.inside.origins.entries c.settle.new.counters) (sym (written c.self.inside.entries.entries c.args.i c.settle.new.self c.self.invariant.0 lt))
-          (tallied_entry c.self.inside.entries.entries c.self.inside.origins.entries c.self.inside.counters c.settle.new.counters (key_at c.self.inside.entries.entries c.args.i) c.index_mut.result.now c.settle.new.self c.self.invariant.2
-          (value_found c.self.inside.entries.entries c.args.i c.index_mut.result.now c.self.invariant.0 c.index_mut.ensures.value).1 c.settle.ensures.counted),
+          (tallied_entry c.self.inside.entries.entries c.self.inside.origins.entries c.self.inside.counters c.settle.new.counters (key_at c.self.inside.entries.entries c.args.i) c.index_mut-slot.result.now c.settle.new.self c.self.invariant.3
+          (value_found c.self.inside.entries.entries c.args.i c.index_mut-slot.result.now c.self.invariant.0 c.index_mut-slot.ensures.value).1 c.settle.ensures.counted),
     )
 
 pub returns-then-eq : goal.returns-then-eq
 returns-then-eq c =
     let s : State = c.args.self.now in
     let u : Text = key_at s.entries c.args.i in
-    let old : Slot = c.index_mut.result.now in
+    let old : Slot = c.index_mut-slot.result.now in
     let lt : c.args.i < length c.self.inside.entries.entries = rw (← c.self.view_is) at c.requires in
-    let held : lookup s.entries u ≡ Some old = rw (← c.self.view_is) (value_found c.self.inside.entries.entries c.args.i c.index_mut.result.now c.self.invariant.0 c.index_mut.ensures.value).1 in
+    let held : lookup s.entries u ≡ Some old = rw (← c.self.view_is) (value_found c.self.inside.entries.entries c.args.i c.index_mut-slot.result.now c.self.invariant.0 c.index_mut-slot.ensures.value).1 in
     let is : c.slot_at.result.now ≡ old = cc (c.slot_at.ensures, held) in
     let parked : is_parked old.progress ≡ true = subst (λ (z : Slot). is_parked z.progress ≡ true) is (sym c.is_parked.ensures ∙ c.if-is_parked.true) in
     let of : bytes_eq (origin_of u) c.args.origin.now ≡ true =

@@ -1,0 +1,10 @@
+use Rattle.std.proofs.Common.{refl}
+use Rattle.work_queues.specs.declared.lists.Job.{Job}
+use Rattle.work_queues.specs.declared.task.Task.TheVariants.{Done}
+use Rattle.work_queues.proofs.SetLaws.{appended_keeps}
+use Rattle.work_queues.proofs.lists.Lists.append.Goals as goal
+
+pub returns-clause-kept : goal.returns-clause-kept
+returns-clause-kept c =
+    appended_keeps c.args.self.now _ (record { host = c.args.host; task = Done }) c.requires.kept refl c.push_reserved.ensures.items c.requires.host refl refl refl refl c.add.ensures.pool
+    c.add.ensures.seats c.add.ensures.hosts c.add-2.ensures.pool c.add-2.ensures.seats c.add-2.ensures.hosts c.add-3.ensures.placed c.add-3.ensures.seats c.add-3.ensures.queues

@@ -1,0 +1,14 @@
+use Rattle.std.proofs.Common.{◌≡◌, length, true, sym, ap, subst, ◌∙◌}
+use Rattle.std.specs.Prelude.{Contains}
+use Rattle.work_queues.specs.Tasks.{Item, is_parked}
+use Rattle.work_queues.specs.Lists.{parked_of}
+use Rattle.work_queues.specs.declared.lists.Job.{Job}
+use Rattle.work_queues.proofs.ListLaws.{job_of, host_in}
+use Rattle.work_queues.proofs.lists.Lists.parked_len.Goals as goal
+
+pub returns-clause-all : goal.returns-clause-all
+returns-clause-all c = λ number item at yes.
+    (let job = job_of c.args.self.now number item at in
+    let is_in : is_parked job.0.task ≡ true = ap (λ (z : Item). is_parked z.task) (sym job.2) ∙ yes in
+    subst (λ (z : Item). Contains (parked_of c.args.self.now) z.origin) (sym job.2)
+    (host_in c.args.self.now.parked (λ (j : Job). is_parked j.task) c.args.self.now.jobs.items c.args.self.now.hosts.entries number job.0 c.requires.parked (c.requires.within number job.0 job.1) job.1 is_in))

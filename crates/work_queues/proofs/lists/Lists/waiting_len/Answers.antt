@@ -1,0 +1,14 @@
+use Rattle.std.proofs.Common.{◌≡◌, length, true, sym, ap, subst, ◌∙◌}
+use Rattle.std.specs.Prelude.{Contains}
+use Rattle.work_queues.specs.Tasks.{Item, is_waiting}
+use Rattle.work_queues.specs.Lists.{waiting_of}
+use Rattle.work_queues.specs.declared.lists.Job.{Job}
+use Rattle.work_queues.proofs.ListLaws.{job_of, host_in}
+use Rattle.work_queues.proofs.lists.Lists.waiting_len.Goals as goal
+
+pub returns-clause-all : goal.returns-clause-all
+returns-clause-all c = λ number item at yes.
+    (let job = job_of c.args.self.now number item at in
+    let is_in : is_waiting job.0.task ≡ true = ap (λ (z : Item). is_waiting z.task) (sym job.2) ∙ yes in
+    subst (λ (z : Item). Contains (waiting_of c.args.self.now) z.origin) (sym job.2)
+    (host_in c.args.self.now.waiting (λ (j : Job). is_waiting j.task) c.args.self.now.jobs.items c.args.self.now.hosts.entries number job.0 c.requires.waiting (c.requires.within number job.0 job.1) job.1 is_in))

@@ -1,0 +1,4 @@
+pub mod Queues
+pub mod Pools
+pub mod Tasks
+pub mod Lists
