@@ -155,3 +155,15 @@ pages_out items entries number count listed distinct (item, at, is) =
 -- an origin among others stands at a place
 pub among : (origins : List Text) (origin : Text) → Contains origins origin → (place : ℕ) × (place < length origins) × (slice_get origins place ≡ Some origin)
 among origins origin (place, lt, is) = (place, lt, slice_get-get_or origins place origin lt ∙ ap (λ z. Some z) is)
+
+-- where an agenda has no parked number of the origin, no address of it is parked
+pub none_parked : (items : List Item) (entries : List (Text × Slot)) (origin : Text) → IsListed items entries → IsDistinct entries
+    → ((number : ℕ) (item : Item) → slice_get items number ≡ Some item → tasks.is_parked item.task ≡ true → item.origin ≡ origin → ⊥)
+    → (u : Text) (v : Slot) → origin_of u ≡ origin → lookup entries u ≡ Some v → is_parked v.progress ≡ false
+none_parked items entries origin listed distinct none u v of held = go (is_parked v.progress) refl
+  where
+    go : (b : Bool) → is_parked v.progress ≡ b → is_parked v.progress ≡ false
+    go false e = e
+    go true e =
+        let number = numbered_item items entries u v listed distinct held in
+        absurd (none number.0 (record { origin = origin_of u; task = task_of v.progress }) number.1 (parked_task v.progress ∙ e) of)

@@ -1,5 +1,5 @@
--- A change of each value, made place by place; and what becomes of parked addresses.
-use Rattle.std.proofs.Common.{◌≡◌, ℕ, ◌+◌, ◌<◌, true, false, List, [], ◌∷◌, length, zero, suc, Some, refl, sym, ap, ◌∙◌, arith}
+-- A change of each value, made key by key; and what becomes of parked addresses.
+use Rattle.std.proofs.Common.{◌≡◌, ℕ, ◌+◌, ◌<◌, Bool, true, false, List, [], ◌∷◌, Some, None, refl, sym, ap, ◌∙◌, arith}
 use Rattle.std.specs.Prelude.{if◌then◌else◌}
 use Rattle.std.specs.Str.{bytes_eq}
 use Rattle.robots_rules.specs.Access.{RuleSetValue}
@@ -9,51 +9,34 @@ use Rattle.frontier_core.specs.Routes.{Policy}
 use Rattle.frontier_core.specs.Machine.{State, Slot, Progress, Parked, Waiting, Out, Answered, Refused, slot, with_entry, unparked}
 use Rattle.frontier_core.proofs.TableLaws.{same, other, compare_texts, text_same, first_differs}
 
--- the first i values are changed
-abbrev pub changed_upto : {V : Type 0} → (Text → V → V) → ℕ → List (Text × V) → List (Text × V)
-changed_upto change zero entries = entries
-changed_upto change (suc i) [] = []
-changed_upto change (suc i) (entry ∷ entries) = (entry.0, change entry.0 entry.1) ∷ changed_upto change i entries
+-- a change that changes nothing when it is made again may have been made at a key before
+pub changed-put : {V : Type 0} (change : Text → V → V) → ((u : Text) (v : V) → change u (change u v) ≡ change u v) → (entries : List (Text × V)) (u : Text) (v : V) → lookup entries u ≡ Some v
+    → changed change (put entries u (change u v)) ≡ changed change entries
+changed-put change again [] u v held = cc
+changed-put change again (entry ∷ entries) u v held =
+    elim (compare_texts entry.0 u) [
+      | same k e ↦
+          (let found : Some entry.1 ≡ Some v = rw e at held in
+          let is : entry.1 ≡ v = cc in
+          let once : change entry.0 (change u v) ≡ change entry.0 entry.1 = ap (λ z. change entry.0 (change z v)) (sym k) ∙ again entry.0 v ∙ ap (λ z. change entry.0 z) (sym is) in
+          rw e (ap (λ z. (entry.0, z) ∷ changed change entries) once))
+      | other k e ↦ rw e (ap (λ z. (entry.0, change entry.0 entry.1) ∷ z) (changed-put change again entries u v (rw e at held)))
+    ]
 
-pub length-changed_upto : {V : Type 0} (change : Text → V → V) (i : ℕ) (entries : List (Text × V)) → length (changed_upto change i entries) ≡ length entries
-length-changed_upto change zero entries = refl
-length-changed_upto change (suc i) [] = refl
-length-changed_upto change (suc i) (entry ∷ entries) = ap suc (length-changed_upto change i entries)
-
-pub key_at-changed_upto : {V : Type 0} (change : Text → V → V) (i k : ℕ) (entries : List (Text × V)) → key_at (changed_upto change i entries) k ≡ key_at entries k
-key_at-changed_upto change zero k entries = refl
-key_at-changed_upto change (suc i) k [] = refl
-key_at-changed_upto change (suc i) zero (entry ∷ entries) = refl
-key_at-changed_upto change (suc i) (suc k) (entry ∷ entries) = key_at-changed_upto change i k entries
-
--- what isn't changed yet stands as before
-pub lookup-changed_upto : {V : Type 0} (change : Text → V → V) (i : ℕ) (entries : List (Text × V)) → IsDistinct entries → i < length entries
-    → lookup (changed_upto change i entries) (key_at entries i) ≡ lookup entries (key_at entries i)
-lookup-changed_upto change zero entries distinct lt = refl
-lookup-changed_upto change (suc i) [] distinct lt = absurd (omega arith)
-lookup-changed_upto change (suc i) (entry ∷ entries) distinct lt =
-    let lt1 : i < length entries = omega arith in
-    rw (first_differs entry entries i lt1 distinct.0) (lookup-changed_upto change i entries distinct.1 lt1)
-
--- the next value is changed
-pub changed_upto-put : {V : Type 0} (change : Text → V → V) (i : ℕ) (entries : List (Text × V)) (v : V) → IsDistinct entries → i < length entries
-    → lookup entries (key_at entries i) ≡ Some v → put (changed_upto change i entries) (key_at entries i) (change (key_at entries i) v) ≡ changed_upto change (i + 1) entries
-changed_upto-put change i [] v distinct lt held = absurd (omega arith)
-changed_upto-put change zero (entry ∷ entries) v distinct lt held =
-    let found : Some entry.1 ≡ Some v = rw (text_same entry.0) at held in
-    let is : entry.1 ≡ v = cc in
-    rw (text_same entry.0) (rw is refl)
-changed_upto-put change (suc i) (entry ∷ entries) v distinct lt held =
-    let lt1 : i < length entries = omega arith in
-    let differs = first_differs entry entries i lt1 distinct.0 in
-    let there : lookup entries (key_at entries i) ≡ Some v = rw differs at held in
-    let next : suc i + 1 ≡ suc (i + 1) = omega arith in
-    rw (differs, next) (ap (λ z. (entry.0, change entry.0 entry.1) ∷ z) (changed_upto-put change i entries v distinct.1 lt1 there))
-
--- all are changed
-pub changed_upto-all : {V : Type 0} (change : Text → V → V) (entries : List (Text × V)) → changed_upto change (length entries) entries ≡ changed change entries
-changed_upto-all change [] = refl
-changed_upto-all change (entry ∷ entries) = ap (λ z. (entry.0, change entry.0 entry.1) ∷ z) (changed_upto-all change entries)
+-- where no value changes, all stay
+pub changed-none : {V : Type 0} (change : Text → V → V) (entries : List (Text × V)) → IsDistinct entries → ((u : Text) (v : V) → lookup entries u ≡ Some v → change u v ≡ v) → changed change entries ≡ entries
+changed-none change [] distinct stays = refl
+changed-none {V} change (entry ∷ entries) distinct stays =
+    let first : change entry.0 entry.1 ≡ entry.1 = stays entry.0 entry.1 (rw (text_same entry.0) refl) in
+    let rest = changed-none change entries distinct.1 (λ u v held. stays u v (later u v held)) in
+    ap (λ z. (entry.0, z) ∷ changed change entries) first ∙ ap (λ z. entry ∷ z) rest
+  where
+    later : (u : Text) (v : V) → lookup entries u ≡ Some v → lookup (entry ∷ entries) u ≡ Some v
+    later u v held =
+        elim (compare_texts entry.0 u) [
+          | same k e ↦ (let gone : lookup entries u ≡ None = ap (λ z. lookup entries z) (sym k) ∙ distinct.0 in cc (gone, held))
+          | other k e ↦ rw e held
+        ]
 
 -- a value that is put where it stands changes nothing
 pub put_same : {V : Type 0} (entries : List (Text × V)) (u : Text) (v : V) → lookup entries u ≡ Some v → put entries u v ≡ entries
@@ -97,3 +80,24 @@ pub settles_same : (p : Policy) (s : State) (o : Text) (r : RuleSetValue) (u : T
 settles_same p s o r u e held stays =
     let same_entries : put s.entries u (slot e.depth (unparked p o r u e.progress)) ≡ s.entries = ap (λ q. put s.entries u (slot e.depth q)) stays ∙ put_same s.entries u e held in
     sym (ap (λ z. record { entries = z; origins = s.origins; cause = s.cause }) same_entries)
+
+-- rules that are told again change nothing more
+pub unparked_twice : (p : Policy) (o : Text) (r : RuleSetValue) (u : Text) (q : Progress) → unparked p o r u (unparked p o r u q) ≡ unparked p o r u q
+unparked_twice p o r u Parked = go (bytes_eq (p.origin u) o) refl (p.allows r u)
+  where
+    go : (b : Bool) → bytes_eq (p.origin u) o ≡ b → (allowed : Bool) → unparked p o r u (if b then (if allowed then Waiting else Refused) else Parked) ≡ (if b then (if allowed then Waiting else Refused) else Parked)
+    go true e true = refl
+    go true e false = refl
+    go false e allowed = rw e refl
+unparked_twice p o r u Waiting = refl
+unparked_twice p o r u (Out holder) = refl
+unparked_twice p o r u (Answered x turn) = refl
+unparked_twice p o r u Refused = refl
+
+-- a parked address of the origin isn't parked any more
+pub unparked_gone : (p : Policy) (o : Text) (r : RuleSetValue) (u : Text) (q : Progress) → is_parked q ≡ true → bytes_eq (p.origin u) o ≡ true → is_parked (unparked p o r u q) ≡ false
+unparked_gone p o r u q parked of = ap is_parked (unparked_of p o r u q parked of) ∙ go (p.allows r u)
+  where
+    go : (allowed : Bool) → is_parked (if allowed then Waiting else Refused) ≡ false
+    go true = refl
+    go false = refl

@@ -22,11 +22,13 @@ returns-then-has_room-clause-found c =
     let here : (v : Slot) × (c.parked_at-i.result < length c.args.self.now.entries) × (lookup c.args.self.now.entries (key_at c.args.self.now.entries c.parked_at-i.result) ≡ Some v) × (at.0.task ≡ task_of v.progress)
         × (at.0.origin ≡ origin_of (key_at c.args.self.now.entries c.parked_at-i.result)) =
     rw (← c.self.view_is) (there c.self.inside.agenda.items c.self.inside.entries.entries c.parked_at-i.result at.0 c.self.invariant.2 c.self.invariant.0 at.1) in
+    let key : c.origin.ensures.0.origin ≡ origin_of (key_at c.args.self.now.entries c.parked_at-i.result) =
+    rw (← c.self.view_is) (there c.self.inside.agenda.items c.self.inside.entries.entries c.parked_at-i.result c.origin.ensures.0 c.self.invariant.2 c.self.invariant.0 c.origin.ensures.1).4 in
     let is : is_parked here.0.progress ≡ true = sym (parked_task here.0.progress) ∙ ap tasks.is_parked (sym here.3) ∙ at.2 in
     let fresh = tested_none c.find_origin.result _ c.is_none-is_fresh.result (sym c.is_none-is_fresh.ensures) c.if-is_fresh.true c.find_origin.ensures.absent in (
       here.1,
       (here.0.depth, here.2 ∙ ap (λ z. Some (slot here.0.depth z)) (parked_is here.0.progress is)),
-      ap (λ z. lookup c.args.self.now.origins (origin_of z)) (sym c.address_at.ensures) ∙ ap (λ z. lookup c.args.self.now.origins z) (sym c.origin.ensures.value) ∙ fresh,
+      ap (λ z. lookup c.args.self.now.origins z) (sym (c.origin.ensures.2 ∙ key)) ∙ fresh,
       c.has_room.ensures.0 c.if-has_room.true,
     )
 
@@ -36,6 +38,8 @@ loop-k-preserved c =
     let here : (v : Slot) × (c.parked_at-i.result < length c.args.self.now.entries) × (lookup c.args.self.now.entries (key_at c.args.self.now.entries c.parked_at-i.result) ≡ Some v) × (at.0.task ≡ task_of v.progress)
         × (at.0.origin ≡ origin_of (key_at c.args.self.now.entries c.parked_at-i.result)) =
     rw (← c.self.view_is) (there c.self.inside.agenda.items c.self.inside.entries.entries c.parked_at-i.result at.0 c.self.invariant.2 c.self.invariant.0 at.1) in
+    let key : c.origin.ensures.0.origin ≡ origin_of (key_at c.args.self.now.entries c.parked_at-i.result) =
+    rw (← c.self.view_is) (there c.self.inside.agenda.items c.self.inside.entries.entries c.parked_at-i.result c.origin.ensures.0 c.self.invariant.2 c.self.invariant.0 c.origin.ensures.1).4 in
     below_more _ _ c.loop-k.invariant
     (λ o stands fresh room. (let one : Some o ≡ Some at.0.origin = sym stands ∙ at.3 in
     let origin : o ≡ origin_of (key_at c.args.self.now.entries c.parked_at-i.result) = cc in
@@ -46,7 +50,7 @@ loop-k-preserved c =
           (let there = tested_held c.find_origin.result _ c.is_none-is_fresh.result (sym c.is_none-is_fresh.ensures) w.if-is_fresh.false c.find_origin.ensures.held in
           let known = key_held c.args.self.now.origins there.0 there.1.0 in
           let none : lookup c.args.self.now.origins (key_at c.args.self.now.origins there.0) ≡ None =
-          ap (λ z. lookup c.args.self.now.origins z) (there.1.1 ∙ c.origin.ensures.value ∙ ap origin_of c.address_at.ensures ∙ sym origin) ∙ fresh in
+          ap (λ z. lookup c.args.self.now.origins z) (there.1.1 ∙ c.origin.ensures.2 ∙ key ∙ sym origin) ∙ fresh in
           cc (none, known.1))
     ]))
 

@@ -7,7 +7,7 @@ use Rattle.frontier_core.specs.Tables.{Text, lookup}
 use Rattle.frontier_core.specs.Inner.{key_at}
 use Rattle.frontier_core.specs.Plans.{policy}
 use Rattle.frontier_core.specs.Machine.{State, Slot, is_out, asked_count, permits_out}
-use Rattle.frontier_core.proofs.AgendaLaws.{pages_out}
+use Rattle.frontier_core.proofs.AgendaLaws.{pages_out, there}
 use Rattle.frontier_core.proofs.board.Board.has_room.Goals as goal
 
 -- the pages of an origin that are out
@@ -19,8 +19,10 @@ unfolding pages_of
 returns-then-pages-most c =
     let pages : c.out-pages.result ≡ pages_of c.args.self.now (origin_of (key_at c.args.self.now.entries c.args.i)) =
     rw (← c.self.view_is) (pages_out c.self.inside.agenda.items c.self.inside.entries.entries c.args.i c.out-pages.result c.self.invariant.2 c.self.invariant.0 c.out-pages.ensures) in
+    let key : c.origin.ensures.0.origin ≡ origin_of (key_at c.args.self.now.entries c.args.i) =
+    rw (← c.self.view_is) (there c.self.inside.agenda.items c.self.inside.entries.entries c.args.i c.origin.ensures.0 c.self.invariant.2 c.self.invariant.0 c.origin.ensures.1).4 in
     let robots : c.robots_out.result ≡ asked_count (lookup c.args.self.now.origins (origin_of (key_at c.args.self.now.entries c.args.i))) =
-    c.robots_out.ensures ∙ ap (λ z. asked_count (lookup c.args.self.now.origins z)) (c.origin.ensures.value ∙ ap origin_of c.address_at.ensures) in
+    c.robots_out.ensures ∙ ap (λ z. asked_count (lookup c.args.self.now.origins z)) (c.origin.ensures.2 ∙ key) in
     let few : c.out-pages.result < c.args.plan.now.per_host = c.if-pages-most.true in (
       λ less. (let lt : c.robots_out.result < c.args.plan.now.per_host - c.out-pages.result = grind (arith, nat_tests) in omega (arith, pages, robots, few, lt)),
       λ room. (let lt : c.robots_out.result < c.args.plan.now.per_host - c.out-pages.result = omega (arith, pages, robots, few, room) in grind (arith, nat_tests)),
