@@ -3,7 +3,9 @@
 ghost use Rattle.std.specs.Prelude.{◌≡◌, MatchOption, None, Some};
 ghost use Rattle.frontier_core.specs.Machine.{Asked, Known, Worker, Nobody, asked_count, is_known, rules_in};
 ghost use Rattle.frontier_core.specs.Inner.{is_asked, is_asked_by};
+ghost use Rattle.frontier_core.specs.Counters.{origin_share, HasShare, Recounts};
 
+use crate::counters::{Counters, Share};
 use robots_rules::RuleSet;
 use std::marker::Model;
 
@@ -85,17 +87,35 @@ impl Robots {
         }
     }
 
-    /// Nobody asks for them any more.
-    pub fn give_up(&mut self)
-        ensures { self.new ≡ Asked Nobody }
+    /// What they add to the counters.
+    pub fn share(&self) -> Share
+        ensures { result ≡ origin_share self.now }
     {
+        Share {
+            is_out: self.is_asked(),
+            is_left: !self.is_known(),
+        }
+    }
+
+    /// Nobody asks for them any more.
+    pub fn give_up(&mut self, counters: &mut Counters)
+        requires { HasShare counters.old (origin_share self.old) }
+        ensures rules { self.new ≡ Asked Nobody }
+        ensures counted { Recounts counters.old (origin_share self.old) counters.new (origin_share self.new) }
+    {
+        let share = self.share();
         self.kept = Kept::Asked(None);
+        counters.exchange(share, self.share());
     }
 
     /// They are known to be these.
-    pub fn know(&mut self, rules: RuleSet)
-        ensures { self.new ≡ Known rules }
+    pub fn know(&mut self, rules: RuleSet, counters: &mut Counters)
+        requires { HasShare counters.old (origin_share self.old) }
+        ensures rules { self.new ≡ Known rules }
+        ensures counted { Recounts counters.old (origin_share self.old) counters.new (origin_share self.new) }
     {
+        let share = self.share();
         self.kept = Kept::Known(rules);
+        counters.exchange(share, self.share());
     }
 }

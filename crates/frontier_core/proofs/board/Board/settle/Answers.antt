@@ -8,12 +8,19 @@ use Rattle.frontier_core.specs.Plans.{policy}
 use Rattle.frontier_core.specs.Tables.{Text, lookup}
 use Rattle.frontier_core.specs.Machine.{State, Slot, Waiting, Refused, slot, unparked}
 use Rattle.frontier_core.specs.Agendas.{IsListed}
+use Rattle.frontier_core.specs.Counters.{IsTallied}
 use Rattle.frontier_core.proofs.AgendaLaws.{listed_put}
 use Rattle.frontier_core.proofs.TableLaws.{distinct-put}
 use Rattle.frontier_core.proofs.IndexLaws.{value_found, written}
+use Rattle.frontier_core.proofs.Tallies.{has_entry, tallied_entry}
 use Rattle.frontier_core.proofs.Settled.{unparked_settled, unparked_other, unparked_of, settles_same}
 use Rattle.frontier_core.proofs.board.Board.settle.Goals as goal
 use Rattle.frontier_core.proofs.board.Board.settle.Goals.{else-is_parked-via-then-is_parked+else-eq, else-is_parked-via-else-is_parked}
+
+pub settle-requires : goal.settle-requires
+settle-requires c =
+    has_entry c.self.inside.entries.entries c.self.inside.origins.entries c.self.inside.counters (key_at c.self.inside.entries.entries c.args.i) c.index_mut-slot.result.now c.self.invariant.3
+    (value_found c.self.inside.entries.entries c.args.i c.index_mut-slot.result.now c.self.invariant.0 c.index_mut-slot.ensures.value).1
 
 pub invariant_of-self : goal.invariant_of-self
 invariant_of-self c =
@@ -23,6 +30,9 @@ invariant_of-self c =
       c.self.invariant.1,
       subst (λ z. IsListed c.refile.new.agenda.items z) (sym (written c.self.inside.entries.entries c.args.i c.settle.new.self c.self.invariant.0 lt))
           (listed_put c.self.inside.agenda.items c.refile.new.agenda.items c.self.inside.entries.entries c.args.i c.settle.new.self c.self.invariant.2 c.self.invariant.0 lt c.refile.ensures),
+      subst (λ z. IsTallied z c.self.inside.origins.entries c.settle.new.counters) (sym (written c.self.inside.entries.entries c.args.i c.settle.new.self c.self.invariant.0 lt))
+          (tallied_entry c.self.inside.entries.entries c.self.inside.origins.entries c.self.inside.counters c.settle.new.counters (key_at c.self.inside.entries.entries c.args.i) c.index_mut-slot.result.now c.settle.new.self c.self.invariant.3
+          (value_found c.self.inside.entries.entries c.args.i c.index_mut-slot.result.now c.self.invariant.0 c.index_mut-slot.ensures.value).1 c.settle.ensures.counted),
     )
 
 pub returns-then-eq : goal.returns-then-eq
@@ -46,7 +56,7 @@ returns-then-eq c =
     let settles : slot old.depth (unparked (policy c.args.plan.now) c.args.origin.now c.args.rules.now u old.progress) ≡ c.settle.new.self =
     ap (λ q. slot old.depth q) (unparked_of (policy c.args.plan.now) c.args.origin.now c.args.rules.now u old.progress parked of)
     ∙ ap (λ b. slot old.depth (if b then Waiting else Refused)) allows
-    ∙ sym c.settle.ensures in (
+    ∙ sym c.settle.ensures.slot in (
       old,
       held,
       rw settles (rw (← c.self.view_is) (rw (written c.self.inside.entries.entries c.args.i c.settle.new.self c.self.invariant.0 lt) refl)),
