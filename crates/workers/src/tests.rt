@@ -33,6 +33,16 @@ page 200 http://h/n
 link http://h/o
 ";
 
+/// Robots rules refuse `/s/1` and allow `/t`.
+const ROBOTS: &str = "robots http://h/
+disallow /s
+page 200 http://h/
+link http://h/s/1
+link http://h/t
+leaf 200 http://h/s/1
+leaf 200 http://h/t
+";
+
 /// A plan without filters from `http://h/`, so many hops deep and for so many addresses.
 fn plan(rt: &impl Abort, alloc: Global, hops: u8, max_urls: u8) -> Plan
     requires { 1 ≤ max_urls }
@@ -157,6 +167,25 @@ fn a_redirect_is_no_hop(rt: HostRuntime) {
     );
     assert!(rt; harvest.kept().len() == 2);
     assert!(rt; harvest.plan().is_some());
+}
+
+#[test]
+fn what_robots_rules_refuse_is_not_asked_for(rt: HostRuntime) {
+    let alloc = rt.alloc();
+    let mut site = MapSite::read(alloc, ROBOTS.as_bytes()).expect(&rt, "a map");
+    let mut plan = plan(&rt, alloc, 5, 100);
+    plan.robots = true;
+    let Ok(harvest) = retrieve_in_order(alloc, &plan, &mut site) else {
+        panic!(rt; "a halt");
+    };
+    assert!(rt;
+        harvest.entries().iter().all(|entry| entry.refused
+            == (entry.address.as_str() == "http://h/s/1"))
+    );
+    assert!(rt; harvest.entries().len() == 3);
+    assert!(rt; harvest.records().len() == 2);
+    assert!(rt; harvest.rules().len() == 1);
+    assert!(rt; site.asks().len() == 3);
 }
 
 #[test]
