@@ -1,15 +1,17 @@
-//! What is read from a frontier: its held addresses and its record.
+//! What is read from a frontier: its held addresses, its record, and the robots rules that are known.
 
 ghost use Rattle.std.specs.Prelude.{◌≡◌, length, map};
 ghost use Rattle.std.specs.List.{filter_map};
 ghost use Rattle.std.specs.Iterator.{YieldsFirstBy, item_count, at_most};
 ghost use Rattle.frontier_core.specs.Machine.{State};
-ghost use Rattle.frontier_core.specs.Readers.{entry_of, record_of, item_entry, item_record};
+ghost use Rattle.frontier_core.specs.Readers.{entry_of, record_of, ruled_of, item_entry, item_record, item_ruled};
 
 use crate::condition::Condition;
 use crate::entry::Slot;
-use address::Address;
+use crate::robots::Robots;
+use address::{Address, Origin};
 use indexmap::map::Iter;
+use robots_rules::RuleSet;
 use site_answer::Outcome;
 use std::marker::Model;
 
@@ -85,6 +87,47 @@ impl<'a> Iterator for Records<'a> {
         while let Some((address, slot)) = self.rest.next() {
             if let Some(outcome) = slot.outcome() {
                 return Some((address, outcome));
+            }
+        }
+        None
+    }
+}
+
+/// The origins whose robots rules are known, in the order in which they were asked for, each with its rules.
+#[derive(Drop)]
+pub struct Rules<'a> {
+    rest: Iter<'a, Origin, Robots>,
+}
+
+impl<'a> Model for Rules<'a> {
+    ghost use Rattle.std.specs.Prelude.{List};
+    ghost use Rattle.std.specs.List.{filter_map};
+    ghost use Rattle.frontier_core.specs.Readers.{Ruled, ruled_of};
+
+    ghost Value = { List Ruled };
+
+    ghost view = { λ a. filter_map ruled_of a.rest };
+}
+
+impl<'a> Rules<'a> {
+    pub(crate) fn new(origins: Iter<'a, Origin, Robots>) -> Self
+        ensures { result ≡ filter_map ruled_of origins.entry }
+    {
+        Rules { rest: origins }
+    }
+}
+
+impl<'a> Iterator for Rules<'a> {
+    type Item = (&'a Origin, &'a RuleSet);
+
+    ghost next_gives = { YieldsFirstBy item_ruled (λ s. s) };
+
+    ghost remaining = { item_count (λ s. s) };
+
+    fn next(&mut self) -> Option<(&'a Origin, &'a RuleSet)> {
+        while let Some((origin, robots)) = self.rest.next() {
+            if let Some(rules) = robots.rules() {
+                return Some((origin, rules));
             }
         }
         None

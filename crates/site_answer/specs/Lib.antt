@@ -1,6 +1,7 @@
 pub mod FaultWords
 pub mod Outcomes
 pub mod Logs
+pub mod Sites
 pub mod Lines
 pub mod Said
 pub mod Faults

@@ -5,11 +5,13 @@ use Rattle.std.specs.Result.{result_unwrap_or}
 use Rattle.std.specs.Map.{lookup}
 use Rattle.std.specs.Str.{bytes_eq}
 use Rattle.address.specs.Address.{read_address}
+use Rattle.robots_rules.specs.Access.{RuleSetValue}
 use Rattle.site_answer.specs.declared.edge.Edge.{Edge}
 use Rattle.site_answer.specs.declared.outcome.Outcome.{Outcome}
 use Rattle.site_answer.specs.declared.outcome.Outcome.TheVariants.{Page, Moved, Leaf, Fault}
 use Rattle.site_answer.specs.declared.input_fault.InputFault.{InputFault}
 use Rattle.site_answer.specs.declared.input_fault.InputFault.TheVariants.{Line, Address, Memory}
+use Rattle.site_answer.specs.Sites.{SiteAnswers}
 use Rattle.site_answer.specs.Lines.{Statement, skipped, page, edge, moved, leaf, fault, HasForm}
 
 -- the lines of a text: what stands between its line feeds
@@ -45,6 +47,14 @@ answers_of (fault kind text ∷ more) = (named text, Fault kind) ∷ answers_of 
 -- what a map of these answers says of an address: what it states, and status 404 of an address that it doesn't name
 abbrev pub outcome_in : List (List ℕ × Outcome) → List ℕ → Outcome
 outcome_in answers at = unwrap_or (lookup (bytes_eq at) answers) (Leaf 404)
+
+-- what a map of these rule sets says of an origin: what it states, and that everything is allowed at one that it doesn't name
+abbrev pub rules_at : List (List ℕ × RuleSetValue) → List ℕ → RuleSetValue
+rules_at rules of = unwrap_or (lookup (bytes_eq of) rules) (record { closed = false; rules = [] })
+
+-- what a map of these answers and these rule sets says
+abbrev pub says_of : List (List ℕ × Outcome) → List (List ℕ × RuleSetValue) → SiteAnswers
+says_of answers rules = record { outcome = outcome_in answers; rules = rules_at rules }
 
 -- ---- which lines are good
 

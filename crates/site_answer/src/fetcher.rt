@@ -3,9 +3,11 @@ ghost use Rattle.std.specs.Prelude.{◌≡◌, ℕ, List, [], ◌∷◌, ◌++�
 ghost use Rattle.site_answer.specs.declared.outcome.Outcome.{Outcome};
 ghost use Rattle.site_answer.specs.declared.fetcher.Ask.{Ask};
 ghost use Rattle.site_answer.specs.Logs.{GainedAtMost};
+ghost use Rattle.robots_rules.specs.Access.{RuleSetValue};
 
 use crate::answer::Answer;
-use address::Address;
+use address::{Address, Origin};
+use robots_rules::RuleSet;
 use std::alloc::AllocError;
 
 /// What a fetcher was asked.
@@ -13,6 +15,8 @@ use std::alloc::AllocError;
 pub enum Ask {
     /// The page of this address.
     Page(Address),
+    /// The robots rules of this origin (RFC 9309, section 2.3).
+    Rules(Origin),
 }
 
 impl Ask {
@@ -24,6 +28,7 @@ impl Ask {
     {
         match self {
             Ask::Page(address) => Ok(Ask::Page(address.try_clone()?)),
+            Ask::Rules(origin) => Ok(Ask::Rules(origin.try_clone()?)),
         }
     }
 }
@@ -38,7 +43,8 @@ impl Clone for Ask {
     }
 }
 
-/// Fetches addresses of one site. Each ask is logged before anything is asked of the site.
+/// Fetches pages and robots rules of one site. Each ask is logged before anything is asked of the
+/// site.
 pub trait Fetcher: Drop {
     /// What the site is, as far as its answers go.
     ghost Site: { Type 0 };
@@ -48,6 +54,9 @@ pub trait Fetcher: Drop {
 
     /// Which outcomes the site may give for an address, each with which bodies.
     ghost says: { Site → List ℕ → Outcome → List ℕ → Type 0 };
+
+    /// Which rule sets an origin may have.
+    ghost rules: { Site → List ℕ → RuleSetValue → Type 0 };
 
     /// What was asked, in order.
     ghost log: { Self → List Ask };
@@ -60,6 +69,15 @@ pub trait Fetcher: Drop {
         ensures told { IfOk result (λ a. says (site self.old) at.now a.outcome a.body) }
         ensures asked { OnOk result (log self.new ≡ log self.old ++ Ask.Page at.now ∷ []) }
         ensures refused { OnErr result (GainedAtMost (log self.old) (log self.new) (Ask.Page at.now)) };
+
+    /// Asks for the robots rules of an origin. The rule set is one that the origin may have; the
+    /// ask is logged, and the site stays what it is. The error is want of memory: then the log is
+    /// unchanged or has gained this ask.
+    fn ask_robots(&mut self, of: &Origin) -> Result<RuleSet, AllocError>
+        ensures site { site self.new ≡ site self.old }
+        ensures told { IfOk result (λ r. rules (site self.old) of.now r) }
+        ensures asked { OnOk result (log self.new ≡ log self.old ++ Ask.Rules of.now ∷ []) }
+        ensures refused { OnErr result (GainedAtMost (log self.old) (log self.new) (Ask.Rules of.now)) };
 
     /// What was asked, in order.
     fn asks(&self) -> &[Ask]

@@ -8,6 +8,7 @@ mod fault_kind;
 mod fetcher;
 mod field;
 mod input_fault;
+mod kept_rules;
 mod map_line;
 mod map_site;
 mod outcome;

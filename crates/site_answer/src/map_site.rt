@@ -2,22 +2,26 @@
 use crate::answer::{Answer, Body};
 use crate::fetcher::{Ask, Fetcher};
 use crate::input_fault::InputFault;
+use crate::kept_rules::KeptRules;
 use crate::outcome::Outcome;
 use crate::reading::Reading;
-use address::Address;
+use address::{Address, Origin};
 use indexmap::IndexMap;
+use robots_rules::RuleSet;
 use std::alloc::{AllocError, Global};
 use std::marker::Model;
 
 /// The status of an address that a map doesn't name: Not Found (RFC 9110, section 15.5.5).
 const NOT_FOUND: u16 = 404;
 
-/// A site in memory, read from a map. It gives each address one outcome, with an empty body.
-/// Contracts see the answers that the map states and what was asked.
+/// A site in memory, read from a map. It gives each address one outcome, with an empty body, and
+/// each origin one rule set. Contracts see the answers and the rule sets that the map states, and
+/// what was asked.
 #[derive(Drop)]
 pub struct MapSite {
     alloc: Global,
     answers: IndexMap<Address, Outcome>,
+    rules: IndexMap<Origin, KeptRules>,
     asks: Vec<Ask>,
 }
 
@@ -26,20 +30,20 @@ impl Model for MapSite {
 
     ghost Value = { MapValue };
 
-    ghost view = { λ m. record { answers = m.answers.entries; asks = m.asks.items } };
+    ghost view = { λ m. record { answers = m.answers.entries; rules = m.rules.entries; asks = m.asks.items } };
 }
 
 impl MapSite {
     ghost use Rattle.std.specs.Prelude.{◌≡◌, [], List, IfOk, IfErr};
     ghost use Rattle.site_answer.specs.Lines.{Statement};
-    ghost use Rattle.site_answer.specs.Maps.{lines_of, IsMap, answers_of, outcome_in, IsFault};
+    ghost use Rattle.site_answer.specs.Maps.{lines_of, IsMap, answers_of, outcome_in, rules_at, IsFault};
     ghost use Rattle.site_answer.specs.Readings.{IsFresh, answers_in};
 
     /// Reads a map. Each page, moved, leaf and fault line states the outcome of an address; edge
     /// lines give edges to the page above them. The error names the first bad line, or says that
     /// memory ran out.
     pub fn read(alloc: Global, text: &[u8]) -> Result<MapSite, InputFault>
-        ensures map { IfOk result (λ m. (said : List Statement) × IsMap (lines_of text.now) said × (m ≡ record { answers = answers_of said; asks = [] })) }
+        ensures map { IfOk result (λ m. (said : List Statement) × IsMap (lines_of text.now) said × (m ≡ record { answers = answers_of said; rules = []; asks = [] })) }
         ensures fault { IfErr result (λ f. IsFault text.now f) }
     {
         let mut reading = Reading::new(alloc);
@@ -55,7 +59,7 @@ impl MapSite {
 
     // The site of the answers so far.
     fn of(mut reading: Reading) -> Result<MapSite, AllocError>
-        ensures { IsFresh reading → IfOk result (λ m. m ≡ record { answers = answers_in reading; asks = [] }) }
+        ensures { IsFresh reading → IfOk result (λ m. m ≡ record { answers = answers_in reading; rules = []; asks = [] }) }
     {
         reading.close_page()?;
         let Reading {
@@ -66,6 +70,7 @@ impl MapSite {
         Ok(MapSite {
             alloc,
             answers,
+            rules: IndexMap::new(alloc),
             asks: Vec::new(alloc),
         })
     }
@@ -77,6 +82,7 @@ impl MapSite {
         Ok(MapSite {
             alloc: self.alloc,
             answers: self.answers.clone()?,
+            rules: self.rules.clone()?,
             asks: self.asks.clone()?,
         })
     }
@@ -90,20 +96,34 @@ impl MapSite {
             None => Ok(Outcome::Leaf(NOT_FOUND)),
         }
     }
+
+    // What the map says of an origin.
+    fn rule_set(&self, of: &Origin) -> Result<RuleSet, AllocError>
+        ensures { IfOk result (λ r. r ≡ rules_at self.now.rules of.now) }
+    {
+        match self.rules.get(of) {
+            Some(kept) => kept.rule_set(),
+            None => Ok(RuleSet::all()),
+        }
+    }
 }
 
 impl Fetcher for MapSite {
     ghost use Rattle.std.specs.Prelude.{◌≡◌, ℕ, List, [], ◌∷◌, ◌++◌, IfOk, OnOk, OnErr};
     ghost use Rattle.site_answer.specs.declared.outcome.Outcome.{Outcome};
-    ghost use Rattle.site_answer.specs.declared.fetcher.Ask.TheVariants.{Page};
+    ghost use Rattle.site_answer.specs.declared.fetcher.Ask.TheVariants.{Page, Rules};
+    ghost use Rattle.robots_rules.specs.Access.{RuleSetValue};
     ghost use Rattle.site_answer.specs.Logs.{GainedAtMost};
-    ghost use Rattle.site_answer.specs.Maps.{outcome_in};
+    ghost use Rattle.site_answer.specs.Maps.{says_of};
+    ghost use Rattle.site_answer.specs.Sites.{SiteAnswers};
 
-    ghost Site = { List ℕ → Outcome };
+    ghost Site = { SiteAnswers };
 
-    ghost site = { λ m. outcome_in m.answers };
+    ghost site = { λ m. says_of m.answers m.rules };
 
-    ghost says = { λ site at outcome body. (outcome ≡ site at) × (body ≡ []) };
+    ghost says = { λ site at outcome body. (outcome ≡ site.outcome at) × (body ≡ []) };
+
+    ghost rules = { λ site of rules. rules ≡ site.rules of };
 
     ghost log = { λ m. m.asks };
 
@@ -116,6 +136,13 @@ impl Fetcher for MapSite {
             outcome,
             body: Body::new(Vec::new(self.alloc)),
         })
+    }
+
+    /// Asks for the robots rules of an origin. They are those that the map states, and allow
+    /// everything where it states none; the ask is logged first, and the map stays what it is.
+    fn ask_robots(&mut self, of: &Origin) -> Result<RuleSet, AllocError> {
+        self.asks.push(Ask::Rules(of.try_clone()?))?;
+        self.rule_set(of)
     }
 
     /// What was asked, in order.

@@ -140,8 +140,10 @@ fn parts_come_back_as_they_were(rt: HostRuntime) -> Result<(), Fail> {
     let alloc = rt.alloc();
     let bytes = Body::new([7, 8].to_vec(alloc)?).into_vec();
     assert!(rt; bytes.as_slice() == [7, 8].as_slice());
-    let Ask::Page(address) = Ask::Page(Address::read(alloc, "http://h/")?).try_clone()?;
-    assert!(rt; address.as_str() == "http://h/");
+    match Ask::Page(Address::read(alloc, "http://h/")?).try_clone()? {
+        Ask::Page(address) => assert!(rt; address.as_str() == "http://h/"),
+        Ask::Rules(_) => return Err(Fail::new("page")),
+    }
     assert!(rt; FaultKind::HeadLong.word() == "head-long");
     let fault = InputFault::Address(12);
     assert!(rt; format!(in alloc; "{fault}")?.as_str() == "address 12");

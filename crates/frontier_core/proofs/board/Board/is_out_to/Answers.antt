@@ -12,7 +12,7 @@ returns-then-eq c =
     let len = c.len.ensures in
     let within = c.if-number-len.false in
     let items = ap (λ (z : State). length z.entries) c.self.view_is in
-    let distinct : IsDistinct c.args.self.now.entries = subst (λ (z : State). IsDistinct z.entries) c.self.view_is c.self.invariant in
+    let distinct : IsDistinct c.args.self.now.entries = subst (λ (z : State). IsDistinct z.entries) c.self.view_is c.self.invariant.0 in
     let lt : c.args.number < length c.args.self.now.entries = omega arith in
     let key : key_at c.args.self.now.entries c.args.number ≡ c.args.address.now =
     sym c.address_at.ensures ∙ same_text c.address_at.result.now c.args.address.now (sym c.eq.ensures ∙ c.if-eq.true) in

@@ -52,4 +52,4 @@ returns-clause-map c =
     (λ x b q k. search (rules, tests)))) c.loop-line.yielded _ c.loop-line.yielded_by _ _ c.in-None.is c.next.ensures.steps in
     let (_, _, _, told) = c.loop-line.invariant in
     let (above, m, t) = told in
-    (above, rw seen.0 at m, c.in_ok-of.ensures t.fresh ∙ ap (λ a. record { answers = a; asks = [] }) (sym t.stated))
+    (above, rw seen.0 at m, c.in_ok-of.ensures t.fresh ∙ ap (λ a. record { answers = a; rules = []; asks = [] }) (sym t.stated))

@@ -1,0 +1,10 @@
+pub mod Order
+pub mod Harvests
+pub mod Entries
+pub mod Gathered
+pub mod Shown
+pub mod Pages
+pub mod Asks
+pub mod Sites
+pub mod Retrieval
+pub mod Turns
