@@ -1,10 +1,13 @@
 -- What a map says once one more line is read.
-use Rattle.std.proofs.Common.{◌≡◌, ◌≢◌, ℕ, ◌⊎◌, ◌++◌, true, false, List, [], ◌∷◌, Some, refl, sym, ap, ◌∙◌, inl, inr, append_assoc, IsTrue}
+use Rattle.std.proofs.Common.{◌≡◌, ℕ, ◌⊎◌, ◌++◌, Bool, true, false, List, [], ◌∷◌, Some, refl, sym, ap, ◌∙◌, inl, inr, append_assoc, IsTrue}
 use Rattle.std.specs.List.{All}
 use Rattle.std.proofs.lemmas.List.Elements.{All-nil, All-head, All-tail, All-push, All-pop}
 use Rattle.site_answer.specs.declared.outcome.Outcome.TheVariants.{Page, Moved, Leaf, Fault}
-use Rattle.site_answer.specs.Lines.{Statement, skipped, page, edge, moved, leaf, fault}
-use Rattle.site_answer.specs.Maps.{named, edges_below, answers_of, is_between, HasPage}
+use Rattle.address.specs.Address.{origin_of}
+use Rattle.robots_rules.specs.Groups.{rules_in}
+use Rattle.site_answer.specs.RuleLines.{file_head, file_line}
+use Rattle.site_answer.specs.Lines.{Statement, skipped, page, edge, moved, leaf, fault, robots, closed, rule}
+use Rattle.site_answer.specs.Maps.{named, edges_below, answers_of, file_below, rules_of, is_between, is_ruling, HasAbove, IsPage, IsRobots}
 
 -- ---- lists
 
@@ -34,16 +37,10 @@ snoc_view (x ∷ xs) = elim (snoc_view xs) [ inl e ↦ inr ([], x, ap (λ l. x �
 pub edges_below-stop : (more : List Statement) (s : Statement) (rest : List Statement) → is_between s ≡ false → edges_below (more ++ s ∷ rest) ≡ edges_below more
 edges_below-stop [] skipped rest h = cc
 edges_below-stop [] (edge kind text) rest h = cc
-edges_below-stop [] (page status text) rest h = refl
-edges_below-stop [] (moved status text target) rest h = refl
-edges_below-stop [] (leaf status text) rest h = refl
-edges_below-stop [] (fault kind text) rest h = refl
+edges_below-stop [] other rest h = refl
 edges_below-stop (skipped ∷ more) s rest h = edges_below-stop more s rest h
 edges_below-stop (edge kind text ∷ more) s rest h = ap (λ l. record { target = named text; kind = kind } ∷ l) (edges_below-stop more s rest h)
-edges_below-stop (page status text ∷ more) s rest h = refl
-edges_below-stop (moved status text target ∷ more) s rest h = refl
-edges_below-stop (leaf status text ∷ more) s rest h = refl
-edges_below-stop (fault kind text ∷ more) s rest h = refl
+edges_below-stop (other ∷ more) s rest h = refl
 
 -- edge and skipped lines don't
 pub edges_below-go : (between more : List Statement) → All (λ s. IsTrue (is_between s)) between → edges_below (between ++ more) ≡ edges_below between ++ edges_below more
@@ -51,54 +48,43 @@ edges_below-go [] more h = refl
 edges_below-go (skipped ∷ between) more h = edges_below-go between more (All-tail (λ s. IsTrue (is_between s)) skipped between h)
 edges_below-go (edge kind text ∷ between) more h =
     ap (λ l. record { target = named text; kind = kind } ∷ l) (edges_below-go between more (All-tail (λ s. IsTrue (is_between s)) (edge kind text) between h))
-edges_below-go (page status text ∷ between) more h = absurd (let k = All-head (λ s. IsTrue (is_between s)) (page status text) between h in cc)
-edges_below-go (moved status text target ∷ between) more h = absurd (let k = All-head (λ s. IsTrue (is_between s)) (moved status text target) between h in cc)
-edges_below-go (leaf status text ∷ between) more h = absurd (let k = All-head (λ s. IsTrue (is_between s)) (leaf status text) between h in cc)
-edges_below-go (fault kind text ∷ between) more h = absurd (let k = All-head (λ s. IsTrue (is_between s)) (fault kind text) between h in cc)
+edges_below-go (other ∷ between) more h = absurd (let k = All-head (λ s. IsTrue (is_between s)) other between h in cc)
 
 -- nor does a skipped line at the end
 pub edges_below-skipped : (more : List Statement) → edges_below (more ++ skipped ∷ []) ≡ edges_below more
 edges_below-skipped [] = refl
 edges_below-skipped (skipped ∷ more) = edges_below-skipped more
 edges_below-skipped (edge kind text ∷ more) = ap (λ l. record { target = named text; kind = kind } ∷ l) (edges_below-skipped more)
-edges_below-skipped (page status text ∷ more) = refl
-edges_below-skipped (moved status text target ∷ more) = refl
-edges_below-skipped (leaf status text ∷ more) = refl
-edges_below-skipped (fault kind text ∷ more) = refl
+edges_below-skipped (other ∷ more) = refl
 
 -- ---- the answers
 
 -- a line that isn't an edge line leaves the answers above it as they are
 pub answers_of-append : (above : List Statement) (s : Statement) (rest : List Statement) → is_between s ≡ false → answers_of (above ++ s ∷ rest) ≡ answers_of above ++ answers_of (s ∷ rest)
 answers_of-append [] s rest h = refl
-answers_of-append (skipped ∷ above) s rest h = answers_of-append above s rest h
-answers_of-append (edge kind text ∷ above) s rest h = answers_of-append above s rest h
 answers_of-append (page status text ∷ above) s rest h =
     let e = edges_below-stop above s rest h in let t = answers_of-append above s rest h in cc
 answers_of-append (moved status text target ∷ above) s rest h = ap (λ l. (named text, Moved status (named target)) ∷ l) (answers_of-append above s rest h)
 answers_of-append (leaf status text ∷ above) s rest h = ap (λ l. (named text, Leaf status) ∷ l) (answers_of-append above s rest h)
 answers_of-append (fault kind text ∷ above) s rest h = ap (λ l. (named text, Fault kind) ∷ l) (answers_of-append above s rest h)
+answers_of-append (other ∷ above) s rest h = answers_of-append above s rest h
 
 -- a skipped line states none
 pub answers_of-skipped : (above : List Statement) → answers_of (above ++ skipped ∷ []) ≡ answers_of above
 answers_of-skipped [] = refl
-answers_of-skipped (skipped ∷ above) = answers_of-skipped above
-answers_of-skipped (edge kind text ∷ above) = answers_of-skipped above
 answers_of-skipped (page status text ∷ above) =
     let e = edges_below-skipped above in let t = answers_of-skipped above in cc
 answers_of-skipped (moved status text target ∷ above) = ap (λ l. (named text, Moved status (named target)) ∷ l) (answers_of-skipped above)
 answers_of-skipped (leaf status text ∷ above) = ap (λ l. (named text, Leaf status) ∷ l) (answers_of-skipped above)
 answers_of-skipped (fault kind text ∷ above) = ap (λ l. (named text, Fault kind) ∷ l) (answers_of-skipped above)
+answers_of-skipped (other ∷ above) = answers_of-skipped above
 
 -- edge and skipped lines by themselves state none
 pub answers_of-between : (between : List Statement) → All (λ s. IsTrue (is_between s)) between → answers_of between ≡ []
 answers_of-between [] h = refl
 answers_of-between (skipped ∷ between) h = answers_of-between between (All-tail (λ s. IsTrue (is_between s)) skipped between h)
 answers_of-between (edge kind text ∷ between) h = answers_of-between between (All-tail (λ s. IsTrue (is_between s)) (edge kind text) between h)
-answers_of-between (page status text ∷ between) h = absurd (let k = All-head (λ s. IsTrue (is_between s)) (page status text) between h in cc)
-answers_of-between (moved status text target ∷ between) h = absurd (let k = All-head (λ s. IsTrue (is_between s)) (moved status text target) between h in cc)
-answers_of-between (leaf status text ∷ between) h = absurd (let k = All-head (λ s. IsTrue (is_between s)) (leaf status text) between h in cc)
-answers_of-between (fault kind text ∷ between) h = absurd (let k = All-head (λ s. IsTrue (is_between s)) (fault kind text) between h in cc)
+answers_of-between (other ∷ between) h = absurd (let k = All-head (λ s. IsTrue (is_between s)) other between h in cc)
 
 -- the last answer is that of the page line that is open
 pub answers_of-open : (above : List Statement) (status : ℕ) (text : List ℕ) (between : List Statement) → All (λ s. IsTrue (is_between s)) between
@@ -107,16 +93,76 @@ answers_of-open above status text between h =
     answers_of-append above (page status text) between refl
     ∙ ap (λ l. answers_of above ++ (named text, Page status (edges_below between)) ∷ l) (answers_of-between between h)
 
--- ---- the page above
+-- ---- the lines that an origin's rules come from
 
--- a page line is above what follows it
-pub page_above : (above : List Statement) (status : ℕ) (text : List ℕ) → HasPage (above ++ page status text ∷ [])
-page_above above status text = (above, status, text, [], refl, All-nil (λ s. IsTrue (is_between s)))
+-- a line of another kind ends them
+pub file_below-stop : (more : List Statement) (s : Statement) (rest : List Statement) → is_ruling s ≡ false → file_below (more ++ s ∷ rest) ≡ file_below more
+file_below-stop [] skipped rest h = cc
+file_below-stop [] (rule kind pattern) rest h = cc
+file_below-stop [] other rest h = refl
+file_below-stop (skipped ∷ more) s rest h = file_below-stop more s rest h
+file_below-stop (rule kind pattern ∷ more) s rest h = ap (λ l. file_line kind pattern ++ l) (file_below-stop more s rest h)
+file_below-stop (other ∷ more) s rest h = refl
 
--- an edge line or a skipped line leaves it above
-pub still_above : (above : List Statement) (s : Statement) → is_between s ≡ true → HasPage above → HasPage (above ++ s ∷ [])
-still_above above s h (higher, status, text, between, e, all) =
-    (higher, status, text, between ++ s ∷ [], ap (λ l. l ++ s ∷ []) e ∙ append_assoc higher (page status text ∷ between) (s ∷ []), All-push (λ s. IsTrue (is_between s)) between s all h)
+-- rule and skipped lines don't
+pub file_below-go : (between more : List Statement) → All (λ s. IsTrue (is_ruling s)) between → file_below (between ++ more) ≡ file_below between ++ file_below more
+file_below-go [] more h = refl
+file_below-go (skipped ∷ between) more h = file_below-go between more (All-tail (λ s. IsTrue (is_ruling s)) skipped between h)
+file_below-go (rule kind pattern ∷ between) more h =
+    ap (λ l. file_line kind pattern ++ l) (file_below-go between more (All-tail (λ s. IsTrue (is_ruling s)) (rule kind pattern) between h))
+    ∙ sym (append_assoc (file_line kind pattern) (file_below between) (file_below more))
+file_below-go (other ∷ between) more h = absurd (let k = All-head (λ s. IsTrue (is_ruling s)) other between h in cc)
+
+-- nor does a skipped line at the end
+pub file_below-skipped : (more : List Statement) → file_below (more ++ skipped ∷ []) ≡ file_below more
+file_below-skipped [] = refl
+file_below-skipped (skipped ∷ more) = file_below-skipped more
+file_below-skipped (rule kind pattern ∷ more) = ap (λ l. file_line kind pattern ++ l) (file_below-skipped more)
+file_below-skipped (other ∷ more) = refl
+
+-- ---- the rule sets
+
+-- a line that isn't a rule line leaves the rule sets above it as they are
+pub rules_of-append : (above : List Statement) (s : Statement) (rest : List Statement) → is_ruling s ≡ false → rules_of (above ++ s ∷ rest) ≡ rules_of above ++ rules_of (s ∷ rest)
+rules_of-append [] s rest h = refl
+rules_of-append (robots text ∷ above) s rest h =
+    let e = file_below-stop above s rest h in let t = rules_of-append above s rest h in cc
+rules_of-append (closed text ∷ above) s rest h = let t = rules_of-append above s rest h in cc
+rules_of-append (other ∷ above) s rest h = rules_of-append above s rest h
+
+-- a skipped line states none
+pub rules_of-skipped : (above : List Statement) → rules_of (above ++ skipped ∷ []) ≡ rules_of above
+rules_of-skipped [] = refl
+rules_of-skipped (robots text ∷ above) =
+    let e = file_below-skipped above in let t = rules_of-skipped above in cc
+rules_of-skipped (closed text ∷ above) = let t = rules_of-skipped above in cc
+rules_of-skipped (other ∷ above) = rules_of-skipped above
+
+-- rule and skipped lines by themselves state none
+pub rules_of-between : (between : List Statement) → All (λ s. IsTrue (is_ruling s)) between → rules_of between ≡ []
+rules_of-between [] h = refl
+rules_of-between (skipped ∷ between) h = rules_of-between between (All-tail (λ s. IsTrue (is_ruling s)) skipped between h)
+rules_of-between (rule kind pattern ∷ between) h = rules_of-between between (All-tail (λ s. IsTrue (is_ruling s)) (rule kind pattern) between h)
+rules_of-between (other ∷ between) h = absurd (let k = All-head (λ s. IsTrue (is_ruling s)) other between h in cc)
+
+-- the last rule set is that of the robots line that is open
+pub rules_of-open : (above : List Statement) (text : List ℕ) (between : List Statement) → All (λ s. IsTrue (is_ruling s)) between
+    → rules_of (above ++ robots text ∷ between) ≡ rules_of above ++ (origin_of (named text), rules_in (file_head ++ file_below between)) ∷ []
+rules_of-open above text between h =
+    rules_of-append above (robots text) between refl
+    ∙ ap (λ l. rules_of above ++ (origin_of (named text), rules_in (file_head ++ file_below between)) ∷ l) (rules_of-between between h)
+
+-- ---- the line above that others belong to
+
+-- such a line is above what follows it
+pub head_above : (IsHead : Statement → Type 0) (passes : Statement → Bool) (above : List Statement) (head : Statement) → IsHead head → HasAbove IsHead passes (above ++ head ∷ [])
+head_above IsHead passes above head is = (above, head, [], refl, is, All-nil (λ s. IsTrue (passes s)))
+
+-- a line that passes leaves it above
+pub still_above : (IsHead : Statement → Type 0) (passes : Statement → Bool) (above : List Statement) (s : Statement) → passes s ≡ true → HasAbove IsHead passes above
+    → HasAbove IsHead passes (above ++ s ∷ [])
+still_above IsHead passes above s h (higher, head, between, e, is, all) =
+    (higher, head, between ++ s ∷ [], ap (λ l. l ++ s ∷ []) e ∙ append_assoc higher (head ∷ between) (s ∷ []), is, All-push (λ x. IsTrue (passes x)) between s all h)
 
 -- with the last line taken off, the lines between are as before, or the page line was the last
 last_between : (above : List Statement) (s : Statement) (higher : List Statement) (p : Statement) (between : List Statement)
@@ -130,18 +176,27 @@ last_between above s higher p between e =
           inr (some.0, some.2 ∙ ap (λ x. some.0 ++ x ∷ []) (sym h.1), h.0)
     ]
 
--- an edge line or a skipped line brings no page above
-pub was_above : (above : List Statement) (s : Statement) → is_between s ≡ true → HasPage (above ++ s ∷ []) → HasPage above
-was_above above s h (higher, status, text, between, e, all) =
-    elim (last_between above s higher (page status text) between e) [
-      | inl same ↦ absurd (let k = ap is_between same.1 in cc)
-      | inr some ↦ (higher, status, text, some.0, some.2, (All-pop (λ x. IsTrue (is_between x)) between some.0 (Some s) some.1 all).0)
+-- a line that passes brings none above
+pub was_above : (IsHead : Statement → Type 0) (passes : Statement → Bool) (above : List Statement) (s : Statement) → ((head : Statement) → IsHead head → passes head ≡ false) → passes s ≡ true
+    → HasAbove IsHead passes (above ++ s ∷ []) → HasAbove IsHead passes above
+was_above IsHead passes above s apart h (higher, head, between, e, is, all) =
+    elim (last_between above s higher head between e) [
+      | inl same ↦ absurd (let k = ap passes same.1 in let n = apart head is in cc)
+      | inr some ↦ (higher, head, some.0, some.2, is, (All-pop (λ x. IsTrue (passes x)) between some.0 (Some s) some.1 all).0)
     ]
 
--- another line is a page line or ends the edges
-pub ends_above : (above : List Statement) (s : Statement) → is_between s ≡ false → ((status : ℕ) (text : List ℕ) → s ≢ page status text) → ¬ HasPage (above ++ s ∷ [])
-ends_above above s h other (higher, status, text, between, e, all) =
-    elim (last_between above s higher (page status text) between e) [
-      | inl same ↦ other status text same.1
-      | inr some ↦ let k = (All-pop (λ x. IsTrue (is_between x)) between some.0 (Some s) some.1 all).1 in cc
+-- another line is one itself or ends what belongs to it
+pub ends_above : (IsHead : Statement → Type 0) (passes : Statement → Bool) (above : List Statement) (s : Statement) → passes s ≡ false → ¬ IsHead s → ¬ HasAbove IsHead passes (above ++ s ∷ [])
+ends_above IsHead passes above s h other (higher, head, between, e, is, all) =
+    elim (last_between above s higher head between e) [
+      | inl same ↦ other (rw same.1 is)
+      | inr some ↦ let k = (All-pop (λ x. IsTrue (passes x)) between some.0 (Some s) some.1 all).1 in cc
     ]
+
+-- a page line isn't between
+pub page_apart : (head : Statement) → IsPage head → is_between head ≡ false
+page_apart head (status, text, e) = ap is_between e
+
+-- a robots line is no rule line
+pub robots_apart : (head : Statement) → IsRobots head → is_ruling head ≡ false
+robots_apart head (text, e) = ap is_ruling e

@@ -1,13 +1,15 @@
 -- Lines of a map and what they say, so that a wrong form doesn't check; and that a line says one thing.
-use Rattle.std.proofs.Common.{◌≡◌, ℕ, lit≤, List, [], ◌∷◌, Option, Some, None, refl, sym, ap, ◌∙◌, inl, if◌then◌else◌}
+use Rattle.std.proofs.Common.{◌≡◌, ℕ, lit≤, List, [], ◌∷◌, Option, Some, None, refl, sym, ap, ◌∙◌, ◌++◌, inl, inr, if◌then◌else◌}
 use Rattle.std.specs.Prelude.{codes}
 use Rattle.std.specs.Option.{option_map}
 use Rattle.std.specs.Str.{bytes_eq}
 use Rattle.site_answer.specs.declared.edge.EdgeKind.TheVariants.{Link, Inline, Redirect}
 use Rattle.site_answer.specs.declared.fault_kind.FaultKind.{FaultKind}
 use Rattle.site_answer.specs.declared.fault_kind.FaultKind.TheVariants.{Connect, Device, Ended, Head, HeadLong, Length, Coding, Chunk, BodyLong}
+use Rattle.site_answer.specs.declared.rule_kind.RuleKind.TheVariants.{Allow, Disallow}
 use Rattle.site_answer.specs.FaultWords.{word_of}
-use Rattle.site_answer.specs.Lines.{Statement, skipped, page, edge, moved, leaf, fault, fields, three_digits, IsForm}
+use Rattle.site_answer.specs.RuleLines.{file_line}
+use Rattle.site_answer.specs.Lines.{Statement, skipped, page, edge, moved, leaf, fault, robots, closed, rule, fields, three_digits, IsForm, SaysRule}
 
 -- each form, with one line that has it
 pub record AreForms : Type 0 where
@@ -19,6 +21,10 @@ pub record AreForms : Type 0 where
   pub leaf_line : IsForm (fields (codes "leaf 404 http://h/")) (leaf 404 (codes "http://h/"))
   pub last_leaf : IsForm (fields (codes "leaf 999 http://h/")) (leaf 999 (codes "http://h/"))
   pub fault_line : IsForm (fields (codes "fault body-long http://h/")) (fault BodyLong (codes "http://h/"))
+  pub robots_line : IsForm (fields (codes "robots http://h/")) (robots (codes "http://h/"))
+  pub closed_line : IsForm (fields (codes "robots http://h/ none")) (closed (codes "http://h/"))
+  pub allow_line : SaysRule (codes "allow /a b") (rule Allow (codes " /a b"))
+  pub bare_rule : SaysRule (codes "disallow") (rule Disallow [])
   pub empty_address : IsForm (fields (codes "page 200 ")) (page 200 [])
 
 pub forms : AreForms
@@ -31,8 +37,16 @@ forms = record {
   leaf_line = (codes "404", refl, refl, lit≤ tt);
   last_leaf = (codes "999", refl, refl, lit≤ tt);
   fault_line = refl;
+  robots_line = refl;
+  closed_line = refl;
+  allow_line = (refl, inr refl);
+  bare_rule = (refl, inl refl);
   empty_address = (codes "200", refl, refl, lit≤ tt, lit≤ tt);
 }
+
+-- a rule line in a robots file
+pub rule_in_file : file_line Allow (codes " /a b") ≡ codes "allow: /a b" ++ 10 ∷ []
+rule_in_file = refl
 
 -- ---- a line says one thing
 
@@ -62,11 +76,15 @@ kind_of-word_of BodyLong = refl
 
 -- what fields say, where they have a form
 said_by : List (List ℕ) → Option Statement
-said_by (word ∷ text ∷ []) = if bytes_eq word (codes "link") then Some (edge Link text) else Some (edge Inline text)
+said_by (word ∷ text ∷ []) =
+    if bytes_eq word (codes "link") then Some (edge Link text)
+    else (if bytes_eq word (codes "inline") then Some (edge Inline text)
+    else Some (robots text))
 said_by (word ∷ number ∷ text ∷ []) =
     if bytes_eq word (codes "page") then option_map (λ status. page status text) (three_digits number)
     else (if bytes_eq word (codes "leaf") then option_map (λ status. leaf status text) (three_digits number)
-    else option_map (λ kind. fault kind text) (kind_of number))
+    else (if bytes_eq word (codes "fault") then option_map (λ kind. fault kind text) (kind_of number)
+    else Some (closed number)))
 said_by (word ∷ number ∷ text ∷ target ∷ []) = option_map (λ status. moved status text target) (three_digits number)
 said_by _ = None
 
@@ -80,6 +98,9 @@ said_by-form fs (edge Redirect text) h = absurd h
 said_by-form fs (moved status text target) (number, e, value, kind) = ap said_by e ∙ ap (option_map (λ n. moved n text target)) value
 said_by-form fs (leaf status text) (number, e, value, low) = ap said_by e ∙ ap (option_map (λ n. leaf n text)) value
 said_by-form fs (fault kind text) e = ap said_by e ∙ ap (option_map (λ k. fault k text)) (kind_of-word_of kind)
+said_by-form fs (robots text) e = ap said_by e
+said_by-form fs (closed text) e = ap said_by e
+said_by-form fs (rule kind rest) h = absurd h
 
 -- fields say one thing
 pub one_form : (fs : List (List ℕ)) (s t : Statement) → IsForm fs s → IsForm fs t → s ≡ t

@@ -2,6 +2,7 @@ pub mod FaultWords
 pub mod Outcomes
 pub mod Logs
 pub mod Sites
+pub mod RuleLines
 pub mod Lines
 pub mod Said
 pub mod Faults

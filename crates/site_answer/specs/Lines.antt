@@ -1,11 +1,13 @@
 -- What one line of a map says.
-use Rattle.std.specs.Prelude.{◌≡◌, ℕ, ◌+◌, ◌-◌, ◌*◌, ◌≤◌, ◌⊎◌, ◌==◌, ◌&&◌, List, [], ◌∷◌, Option, Some, None, slice_index, codes, IsUtf8, if◌then◌else◌}
+use Rattle.std.specs.Prelude.{◌≡◌, ℕ, ◌+◌, ◌-◌, ◌*◌, ◌≤◌, ◌⊎◌, ◌==◌, ◌&&◌, List, [], ◌∷◌, ◌++◌, Option, Some, None, slice_index, codes, IsUtf8, if◌then◌else◌}
 use Rattle.std.specs.List.{slice_split}
 use Rattle.std.specs.Char.{is_ascii_digit}
 use Rattle.site_answer.specs.declared.edge.EdgeKind.{EdgeKind}
 use Rattle.site_answer.specs.declared.edge.EdgeKind.TheVariants.{Link, Inline, Redirect}
 use Rattle.site_answer.specs.declared.fault_kind.FaultKind.{FaultKind}
 use Rattle.site_answer.specs.FaultWords.{word_of}
+use Rattle.site_answer.specs.declared.rule_kind.RuleKind.{RuleKind}
+use Rattle.site_answer.specs.RuleLines.{rule_word}
 
 -- what a line may say; an address is the text that stands there
 pub data Statement : Type 0 where
@@ -21,6 +23,12 @@ pub data Statement : Type 0 where
   leaf : ℕ → List ℕ → Statement
   -- the address has no response, for this reason
   fault : FaultKind → List ℕ → Statement
+  -- the address's origin has the rules of the rule lines below
+  robots : List ℕ → Statement
+  -- nothing is allowed at the address's origin
+  closed : List ℕ → Statement
+  -- the origin above has one more rule of this kind; this stands behind its word
+  rule : RuleKind → List ℕ → Statement
 
 -- the fields of a line: what stands between its spaces
 abbrev pub fields : List ℕ → List (List ℕ)
@@ -51,6 +59,18 @@ IsForm fs (moved status text target) =
 IsForm fs (leaf status text) =
     (number : List ℕ) × (fs ≡ codes "leaf" ∷ number ∷ text ∷ []) × (three_digits number ≡ Some status) × (200 ≤ status)
 IsForm fs (fault kind text) = fs ≡ codes "fault" ∷ word_of kind ∷ text ∷ []
+IsForm fs (robots text) = fs ≡ codes "robots" ∷ text ∷ []
+IsForm fs (closed text) = fs ≡ codes "robots" ∷ text ∷ codes "none" ∷ []
+IsForm fs (rule kind rest) = ⊥
+
+-- the line is the word and this behind it: nothing, or a space and more
+abbrev pub IsBehind : List ℕ → List ℕ → List ℕ → Type 0
+IsBehind line word rest = (line ≡ word ++ rest) × ((rest ≡ []) ⊎ (slice_index rest 0 ≡ 32))
+
+-- the line says this, and it is a rule: a pattern may hold spaces
+abbrev pub SaysRule : List ℕ → Statement → Type 0
+SaysRule line (rule kind rest) = IsBehind line (rule_word kind) rest
+SaysRule line s = ⊥
 
 -- the line is empty or begins with `#`
 abbrev pub IsSkipped : List ℕ → Type 0
@@ -59,4 +79,5 @@ IsSkipped line = (line ≡ []) ⊎ (slice_index line 0 ≡ 35)
 -- the line is UTF-8 and says this
 abbrev pub HasForm : List ℕ → Statement → Type 0
 HasForm line skipped = IsUtf8 line × IsSkipped line
+HasForm line (rule kind rest) = IsUtf8 line × SaysRule line (rule kind rest)
 HasForm line s = IsUtf8 line × IsForm (fields line) s

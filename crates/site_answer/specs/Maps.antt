@@ -1,18 +1,20 @@
 -- What the lines of a map say together, and the first bad line.
-use Rattle.std.specs.Prelude.{◌≡◌, ℕ, ◌+◌, ◌⊎◌, ◌==◌, ◌++◌, Bool, true, false, List, [], ◌∷◌, Some, All, IsOk, IsSome, IsTrue, take, slice_get, unwrap_or}
+use Rattle.std.specs.Prelude.{◌≡◌, ℕ, ◌+◌, ◌⊎◌, ◌==◌, ◌++◌, Bool, true, false, List, [], ◌∷◌, Some, All, IsOk, IsSome, IsTrue, take, slice_get, unwrap_or, codes}
 use Rattle.std.specs.List.{slice_split, AllZip}
 use Rattle.std.specs.Result.{result_unwrap_or}
 use Rattle.std.specs.Map.{lookup}
 use Rattle.std.specs.Str.{bytes_eq}
-use Rattle.address.specs.Address.{read_address}
+use Rattle.address.specs.Address.{read_address, origin_of, path_query_of}
 use Rattle.robots_rules.specs.Access.{RuleSetValue}
+use Rattle.robots_rules.specs.Groups.{rules_in}
 use Rattle.site_answer.specs.declared.edge.Edge.{Edge}
 use Rattle.site_answer.specs.declared.outcome.Outcome.{Outcome}
 use Rattle.site_answer.specs.declared.outcome.Outcome.TheVariants.{Page, Moved, Leaf, Fault}
 use Rattle.site_answer.specs.declared.input_fault.InputFault.{InputFault}
 use Rattle.site_answer.specs.declared.input_fault.InputFault.TheVariants.{Line, Address, Memory}
 use Rattle.site_answer.specs.Sites.{SiteAnswers}
-use Rattle.site_answer.specs.Lines.{Statement, skipped, page, edge, moved, leaf, fault, HasForm}
+use Rattle.site_answer.specs.RuleLines.{file_head, file_line}
+use Rattle.site_answer.specs.Lines.{Statement, skipped, page, edge, moved, leaf, fault, robots, closed, rule, HasForm}
 
 -- the lines of a text: what stands between its line feeds
 abbrev pub lines_of : List ℕ → List (List ℕ)
@@ -29,20 +31,30 @@ abbrev pub edges_below : List Statement → List Edge
 edges_below [] = []
 edges_below (skipped ∷ more) = edges_below more
 edges_below (edge kind text ∷ more) = record { target = named text; kind = kind } ∷ edges_below more
-edges_below (page status text ∷ more) = []
-edges_below (moved status text target ∷ more) = []
-edges_below (leaf status text ∷ more) = []
-edges_below (fault kind text ∷ more) = []
+edges_below (other ∷ more) = []
 
 -- the answers that a map states: an address and its outcome for each page, moved, leaf and fault line
 abbrev pub answers_of : List Statement → List (List ℕ × Outcome)
 answers_of [] = []
-answers_of (skipped ∷ more) = answers_of more
-answers_of (edge kind text ∷ more) = answers_of more
 answers_of (page status text ∷ more) = (named text, Page status (edges_below more)) ∷ answers_of more
 answers_of (moved status text target ∷ more) = (named text, Moved status (named target)) ∷ answers_of more
 answers_of (leaf status text ∷ more) = (named text, Leaf status) ∷ answers_of more
 answers_of (fault kind text ∷ more) = (named text, Fault kind) ∷ answers_of more
+answers_of (other ∷ more) = answers_of more
+
+-- the robots file of the rules that these lines give the origin above them: those before the next line of another kind
+abbrev pub file_below : List Statement → List ℕ
+file_below [] = []
+file_below (skipped ∷ more) = file_below more
+file_below (rule kind rest ∷ more) = file_line kind rest ++ file_below more
+file_below (other ∷ more) = []
+
+-- the rule sets that a map states: an origin and its rules for each robots line (RFC 9309, section 2.2)
+abbrev pub rules_of : List Statement → List (List ℕ × RuleSetValue)
+rules_of [] = []
+rules_of (robots text ∷ more) = (origin_of (named text), rules_in (file_head ++ file_below more)) ∷ rules_of more
+rules_of (closed text ∷ more) = (origin_of (named text), record { closed = true; rules = [] }) ∷ rules_of more
+rules_of (other ∷ more) = rules_of more
 
 -- what a map of these answers says of an address: what it states, and status 404 of an address that it doesn't name
 abbrev pub outcome_in : List (List ℕ × Outcome) → List ℕ → Outcome
@@ -62,25 +74,41 @@ says_of answers rules = record { outcome = outcome_in answers; rules = rules_at 
 abbrev pub is_between : Statement → Bool
 is_between skipped = true
 is_between (edge kind text) = true
-is_between (page status text) = false
-is_between (moved status text target) = false
-is_between (leaf status text) = false
-is_between (fault kind text) = false
+is_between other = false
+
+-- the line is a rule line or is skipped
+abbrev pub is_ruling : Statement → Bool
+is_ruling skipped = true
+is_ruling (rule kind rest) = true
+is_ruling other = false
+
+-- these lines have such a line with only lines after it that pass
+abbrev pub HasAbove : (Statement → Type 0) → (Statement → Bool) → List Statement → Type 0
+HasAbove IsHead passes said =
+    (above : List Statement) × (head : Statement) × (between : List Statement)
+    × (said ≡ above ++ head ∷ between) × IsHead head × All (λ s. IsTrue (passes s)) between
+
+-- the line is a page line
+abbrev pub IsPage : Statement → Type 0
+IsPage s = (status : ℕ) × (text : List ℕ) × (s ≡ page status text)
+
+-- the line has an origin whose rules follow
+abbrev pub IsRobots : Statement → Type 0
+IsRobots s = (text : List ℕ) × (s ≡ robots text)
 
 -- these lines have a page line with only edge and skipped lines after it
 abbrev pub HasPage : List Statement → Type 0
-HasPage said =
-    (above : List Statement) × (status : ℕ) × (text : List ℕ) × (between : List Statement)
-    × (said ≡ above ++ page status text ∷ between) × All (λ s. IsTrue (is_between s)) between
+HasPage said = HasAbove IsPage is_between said
 
--- the line may stand below these: an edge line has its page above it
+-- these lines have a robots line with only rule and skipped lines after it
+abbrev pub HasRobots : List Statement → Type 0
+HasRobots said = HasAbove IsRobots is_ruling said
+
+-- the line may stand below these: an edge line has its page above it, and a rule line its origin
 abbrev pub IsInPlace : List Statement → Statement → Type 0
 IsInPlace above (edge kind text) = HasPage above
-IsInPlace above skipped = Unit {0}
-IsInPlace above (page status text) = Unit {0}
-IsInPlace above (moved status text target) = Unit {0}
-IsInPlace above (leaf status text) = Unit {0}
-IsInPlace above (fault kind text) = Unit {0}
+IsInPlace above (rule kind rest) = HasRobots above
+IsInPlace above other = Unit {0}
 
 -- the text reads as an address (URL Standard, section 4.4)
 abbrev pub IsNamed : List ℕ → Type 0
@@ -94,19 +122,35 @@ texts_of (edge kind text) = text ∷ []
 texts_of (moved status text target) = text ∷ target ∷ []
 texts_of (leaf status text) = text ∷ []
 texts_of (fault kind text) = text ∷ []
+texts_of (robots text) = text ∷ []
+texts_of (closed text) = text ∷ []
+texts_of (rule kind rest) = []
+
+-- the address of a robots line is its origin's `/`, without a query
+abbrev pub IsAtRoot : Statement → Type 0
+IsAtRoot (robots text) = path_query_of (named text) ≡ codes "/"
+IsAtRoot (closed text) = path_query_of (named text) ≡ codes "/"
+IsAtRoot other = Unit {0}
 
 -- these lines state an answer for the address
 abbrev pub IsAnswered : List Statement → List ℕ → Type 0
 IsAnswered said at = IsSome (lookup (bytes_eq at) (answers_of said))
 
--- the line states an answer for an address for which these lines state one
+-- these lines state rules for the origin
+abbrev pub IsRuled : List Statement → List ℕ → Type 0
+IsRuled said of = IsSome (lookup (bytes_eq of) (rules_of said))
+
+-- the line states an answer for an address, or rules for an origin, for which these lines state one
 abbrev pub IsRepeated : List Statement → Statement → Type 0
-IsRepeated above s = (at : List ℕ) × IsAnswered (s ∷ []) at × IsAnswered above at
+IsRepeated above s =
+    ((at : List ℕ) × IsAnswered (s ∷ []) at × IsAnswered above at)
+    ⊎ ((of : List ℕ) × IsRuled (s ∷ []) of × IsRuled above of)
 
 -- the line is good below these
 pub record IsGood (above : List Statement) (s : Statement) : Type 0 where
   pub in_place : IsInPlace above s
   pub are_named : All IsNamed (texts_of s)
+  pub at_root : IsAtRoot s
   pub is_new : ¬ IsRepeated above s
 
 -- the lines are a map that says this: each line has its form and is good below those above it
@@ -116,12 +160,12 @@ pub record IsMap (lines : List (List ℕ)) (said : List Statement) : Type 0 wher
 
 -- ---- the first bad line
 
--- the line, below these, has no form, is out of place, or states an answer once more
+-- the line, below these, has no form, is out of place, has a robots address with a path, or states something once more
 abbrev pub IsBadLine : List Statement → List ℕ → Type 0
 IsBadLine above line =
     ((s : Statement) → ¬ HasForm line s)
     ⊎ ((s : Statement) × HasForm line s × (¬ IsInPlace above s
-    ⊎ (IsInPlace above s × All IsNamed (texts_of s) × IsRepeated above s)))
+    ⊎ (IsInPlace above s × All IsNamed (texts_of s) × (¬ IsAtRoot s ⊎ IsRepeated above s))))
 
 -- the line has its form and its place, and one of its addresses is refused
 abbrev pub IsBadAddress : List Statement → List ℕ → Type 0

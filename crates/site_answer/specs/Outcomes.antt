@@ -16,3 +16,8 @@ edges (Fault kind) = []
 abbrev pub has_edge : List Edge → Bool
 has_edge [] = false
 has_edge (edge ∷ more) = true
+
+-- there is no response
+abbrev pub is_fault : Outcome → Bool
+is_fault (Fault kind) = true
+is_fault other = false

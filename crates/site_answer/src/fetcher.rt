@@ -83,3 +83,12 @@ pub trait Fetcher: Drop {
     fn asks(&self) -> &[Ask]
         ensures { result.now ≡ log self.now };
 }
+
+/// Fetches of a steady site: each address has exactly one outcome, which is no fault, and each
+/// origin exactly one rule set.
+pub trait SteadyFetcher: Fetcher {
+    ghost use Rattle.site_answer.specs.Sites.{IsSteady};
+
+    /// The site's answers are these and no others.
+    ghost steady: { (fetcher : Self) → IsSteady Self.says Self.rules (Self.site fetcher) };
+}

@@ -1,6 +1,6 @@
 //! Fields of a map's line, which stand between single spaces.
-ghost use Rattle.std.specs.Prelude.{◌≡◌, [], ◌∷◌, ◌↔◌, IsTrue, MatchOption};
-ghost use Rattle.site_answer.specs.Lines.{fields, three_digits, IsRedirect};
+ghost use Rattle.std.specs.Prelude.{◌≡◌, ℕ, List, [], ◌∷◌, ◌++◌, ◌↔◌, IsTrue, MatchOption};
+ghost use Rattle.site_answer.specs.Lines.{fields, three_digits, IsRedirect, IsBehind};
 
 // The first field of a text, and what follows its space, if there is one.
 pub(crate) fn first_field(text: &str) -> (&str, Option<&str>)
@@ -10,6 +10,17 @@ pub(crate) fn first_field(text: &str) -> (&str, Option<&str>)
         Some((field, rest)) => (field, Some(rest)),
         None => (text, None),
     }
+}
+
+// What stands behind the word that a text begins with: nothing, or a space and more.
+pub(crate) fn behind_word<'a>(text: &'a str, word: &str) -> Option<&'a str>
+    ensures { MatchOption result ((rest : List ℕ) → ¬ IsBehind text.now word.now rest) (λ rest. IsBehind text.now word.now rest.now) }
+{
+    let rest = text.strip_prefix(word)?;
+    if rest.is_empty() || rest.starts_with(' ') {
+        return Some(rest);
+    }
+    None
 }
 
 // The value of three decimal digits; other texts have none.

@@ -5,6 +5,7 @@ use crate::input_fault::InputFault;
 use crate::kept_rules::KeptRules;
 use crate::outcome::Outcome;
 use crate::reading::Reading;
+use crate::steady_map::SteadyMap;
 use address::{Address, Origin};
 use indexmap::IndexMap;
 use robots_rules::RuleSet;
@@ -34,16 +35,18 @@ impl Model for MapSite {
 }
 
 impl MapSite {
-    ghost use Rattle.std.specs.Prelude.{◌≡◌, [], List, IfOk, IfErr};
+    ghost use Rattle.std.specs.Prelude.{◌≡◌, [], true, false, List, IfOk, IfErr};
+    ghost use Rattle.site_answer.specs.MapSites.{has_fault};
     ghost use Rattle.site_answer.specs.Lines.{Statement};
-    ghost use Rattle.site_answer.specs.Maps.{lines_of, IsMap, answers_of, outcome_in, rules_at, IsFault};
-    ghost use Rattle.site_answer.specs.Readings.{IsFresh, answers_in};
+    ghost use Rattle.site_answer.specs.Maps.{lines_of, IsMap, answers_of, rules_of, outcome_in, rules_at, IsFault};
+    ghost use Rattle.site_answer.specs.Readings.{IsFresh, answers_in, all_rules};
 
-    /// Reads a map. Each page, moved, leaf and fault line states the outcome of an address; edge
-    /// lines give edges to the page above them. The error names the first bad line, or says that
-    /// memory ran out.
+    /// Reads a map. Each page, moved, leaf and fault line states the outcome of an address, and
+    /// each robots line the rules of an origin; edge lines give edges to the page above them, and
+    /// rule lines give rules to the origin above them, for every agent (RFC 9309, section 2.2).
+    /// The error names the first bad line, or says that memory ran out.
     pub fn read(alloc: Global, text: &[u8]) -> Result<MapSite, InputFault>
-        ensures map { IfOk result (λ m. (said : List Statement) × IsMap (lines_of text.now) said × (m ≡ record { answers = answers_of said; rules = []; asks = [] })) }
+        ensures map { IfOk result (λ m. (said : List Statement) × IsMap (lines_of text.now) said × (m ≡ record { answers = answers_of said; rules = rules_of said; asks = [] })) }
         ensures fault { IfErr result (λ f. IsFault text.now f) }
     {
         let mut reading = Reading::new(alloc);
@@ -57,20 +60,21 @@ impl MapSite {
         Ok(MapSite::of(reading)?)
     }
 
-    // The site of the answers so far.
+    // The site of the answers and the rule sets so far.
     fn of(mut reading: Reading) -> Result<MapSite, AllocError>
-        ensures { IsFresh reading → IfOk result (λ m. m ≡ record { answers = answers_in reading; rules = []; asks = [] }) }
+        ensures { IsFresh reading → IfOk result (λ m. m ≡ record { answers = answers_in reading; rules = all_rules reading; asks = [] }) }
     {
-        reading.close_page()?;
+        reading.close()?;
         let Reading {
             alloc,
             answers,
-            page: _,
+            rules,
+            open: _,
         } = reading;
         Ok(MapSite {
             alloc,
             answers,
-            rules: IndexMap::new(alloc),
+            rules,
             asks: Vec::new(alloc),
         })
     }
@@ -85,6 +89,25 @@ impl MapSite {
             rules: self.rules.clone()?,
             asks: self.asks.clone()?,
         })
+    }
+
+    /// The site as a steady one, with the same asks; refused, and handed back as it was, where the
+    /// map has a fault line. Takes no memory.
+    pub fn steady(self) -> Result<SteadyMap, MapSite>
+        ensures taken { IfOk result (λ s. (s ≡ self) × (has_fault self.answers ≡ false)) }
+        ensures refused { IfErr result (λ m. (m ≡ self) × (has_fault self.answers ≡ true)) }
+    {
+        if self.has_fault() {
+            return Err(self);
+        }
+        Ok(SteadyMap::of(self))
+    }
+
+    // Whether the map has a fault line.
+    fn has_fault(&self) -> bool
+        ensures { result ≡ has_fault self.now.answers }
+    {
+        self.answers.values().any(|outcome| outcome.is_fault())
     }
 
     // What the map says of an address.
@@ -112,18 +135,17 @@ impl Fetcher for MapSite {
     ghost use Rattle.std.specs.Prelude.{◌≡◌, ℕ, List, [], ◌∷◌, ◌++◌, IfOk, OnOk, OnErr};
     ghost use Rattle.site_answer.specs.declared.outcome.Outcome.{Outcome};
     ghost use Rattle.site_answer.specs.declared.fetcher.Ask.TheVariants.{Page, Rules};
-    ghost use Rattle.robots_rules.specs.Access.{RuleSetValue};
     ghost use Rattle.site_answer.specs.Logs.{GainedAtMost};
     ghost use Rattle.site_answer.specs.Maps.{says_of};
-    ghost use Rattle.site_answer.specs.Sites.{SiteAnswers};
+    ghost use Rattle.site_answer.specs.Sites.{SiteAnswers, GivesOutcome, GivesRules};
 
     ghost Site = { SiteAnswers };
 
     ghost site = { λ m. says_of m.answers m.rules };
 
-    ghost says = { λ site at outcome body. (outcome ≡ site.outcome at) × (body ≡ []) };
+    ghost says = { GivesOutcome };
 
-    ghost rules = { λ site of rules. rules ≡ site.rules of };
+    ghost rules = { GivesRules };
 
     ghost log = { λ m. m.asks };
 

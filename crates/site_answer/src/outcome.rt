@@ -20,7 +20,7 @@ pub enum Outcome {
 
 impl Outcome {
     ghost use Rattle.std.specs.Prelude.{◌≡◌, ◌↔◌, ◌<◌, IfOk, IsTrue, Some, length, slice_get};
-    ghost use Rattle.site_answer.specs.Outcomes.{edges, has_edge};
+    ghost use Rattle.site_answer.specs.Outcomes.{edges, has_edge, is_fault};
 
     /// Whether both are equal: kind, status, edges in their order, target, fault. Takes no memory.
     pub fn same(&self, other: &Outcome) -> bool
@@ -49,6 +49,13 @@ impl Outcome {
             Outcome::Leaf(status) => Ok(Outcome::Leaf(*status)),
             Outcome::Fault(kind) => Ok(Outcome::Fault(*kind)),
         }
+    }
+
+    /// Whether there is no response.
+    pub fn is_fault(&self) -> bool
+        ensures { result ≡ is_fault self.now }
+    {
+        matches!(self, Outcome::Fault(_))
     }
 
     /// The number of edges.

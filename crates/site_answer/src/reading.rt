@@ -1,16 +1,20 @@
-//! A map in mid-read: the answers that the lines so far state.
+//! A map in mid-read: the answers and the rule sets that the lines so far state.
 ghost use Rattle.std.specs.Prelude.{[], OnOk};
-ghost use Rattle.site_answer.specs.Lines.{page, edge, moved, leaf, fault};
+ghost use Rattle.site_answer.specs.Lines.{page, edge, moved, leaf, fault, robots, closed, rule};
 ghost use Rattle.site_answer.specs.Said.{said};
-ghost use Rattle.site_answer.specs.Readings.{IsFresh, Tells, Names, Closes, Claims, Adds, Takes, Reads};
+ghost use Rattle.site_answer.specs.Readings.{IsFresh, Tells, Names, NamesOrigin, Closes, Claims, ClaimsOrigin, Adds, Takes, Reads};
 
 use crate::edge::{Edge, EdgeKind, Edges};
 use crate::fault_kind::FaultKind;
 use crate::input_fault::LineFault;
+use crate::kept_rules::KeptRules;
 use crate::map_line::MapLine;
+use crate::open_robots::OpenRobots;
 use crate::outcome::Outcome;
-use address::{Address, AddressFault};
+use crate::rule_kind::RuleKind;
+use address::{Address, AddressFault, Origin};
 use indexmap::IndexMap;
+use robots_rules::RuleSet;
 use std::alloc::{AllocError, Global};
 use std::str;
 
@@ -22,12 +26,22 @@ pub(crate) struct OpenPage {
     pub(crate) edges: Vec<Edge>,
 }
 
+/// What the line above may still be followed by.
+#[derive(Drop)]
+pub(crate) enum Open {
+    /// Edge lines of this page.
+    Page(OpenPage),
+    /// Rule lines of this origin.
+    Robots(OpenRobots),
+}
+
 /// What the lines read so far state.
 #[derive(Drop)]
 pub(crate) struct Reading {
     pub(crate) alloc: Global,
     pub(crate) answers: IndexMap<Address, Outcome>,
-    pub(crate) page: Option<OpenPage>,
+    pub(crate) rules: IndexMap<Origin, KeptRules>,
+    pub(crate) open: Option<Open>,
 }
 
 impl Reading {
@@ -38,43 +52,75 @@ impl Reading {
         Reading {
             alloc,
             answers: IndexMap::new(alloc),
-            page: None,
+            rules: IndexMap::new(alloc),
+            open: None,
         }
     }
 
     // The address that a text names.
-    fn named(&self, text: &str) -> Result<Address, LineFault>
+    fn named(alloc: Global, text: &str) -> Result<Address, LineFault>
         ensures { Names text.now result }
     {
-        match Address::read(self.alloc, text) {
+        match Address::read(alloc, text) {
             Ok(address) => Ok(address),
             Err(AddressFault::Memory) => Err(LineFault::Memory),
             Err(_) => Err(LineFault::Address),
         }
     }
 
-    // Keeps the answer of the open page, if there is one: no edge line follows it any more.
-    pub(crate) fn close_page(&mut self) -> Result<(), AllocError>
+    // The origin whose `/` a text names.
+    fn origin_named(&self, text: &str) -> Result<Origin, LineFault>
+        ensures { NamesOrigin text.now result }
+    {
+        let address = Reading::named(self.alloc, text)?;
+        if address.path_query() != "/" {
+            return Err(LineFault::Line);
+        }
+        Ok(Origin::of(&address)?)
+    }
+
+    // Keeps what the open page or the open origin has: no line of theirs follows any more.
+    pub(crate) fn close(&mut self) -> Result<(), AllocError>
         ensures { IsFresh self.old → OnOk result (Closes self.old self.new) }
     {
-        if let Some(page) = self.page.take() {
-            let OpenPage {
-                address,
-                status,
-                edges,
-            } = page;
-            self.answers
-                .insert(address, Outcome::Page(status, Edges::new(edges)))?;
+        match self.open.take() {
+            None => {}
+            Some(Open::Page(page)) => {
+                let OpenPage {
+                    address,
+                    status,
+                    edges,
+                } = page;
+                self.answers
+                    .insert(address, Outcome::Page(status, Edges::new(edges)))?;
+            }
+            Some(Open::Robots(robots)) => {
+                let rules = robots.rules(self.alloc)?;
+                let OpenRobots { origin, file: _ } = robots;
+                self.rules
+                    .insert(origin, KeptRules::new(self.alloc, rules))?;
+            }
         }
         Ok(())
     }
 
-    // Closes the open page, and refuses an address for which an answer is stated.
+    // Closes what is open, and refuses an address for which an answer is stated.
     fn claim(&mut self, address: &Address) -> Result<(), LineFault>
         ensures { Claims self.old address.now result self.new }
     {
-        self.close_page()?;
+        self.close()?;
         if self.answers.contains_key(address) {
+            return Err(LineFault::Line);
+        }
+        Ok(())
+    }
+
+    // Closes what is open, and refuses an origin for which rules are stated.
+    fn claim_origin(&mut self, origin: &Origin) -> Result<(), LineFault>
+        ensures { ClaimsOrigin self.old origin.now result self.new }
+    {
+        self.close()?;
+        if self.rules.contains_key(origin) {
             return Err(LineFault::Line);
         }
         Ok(())
@@ -93,13 +139,13 @@ impl Reading {
     fn add_page(&mut self, status: u16, text: &str) -> Result<(), LineFault>
         ensures { Takes self.old (page status text.now) result self.new }
     {
-        let address = self.named(text)?;
+        let address = Reading::named(self.alloc, text)?;
         self.claim(&address)?;
-        self.page = Some(OpenPage {
+        self.open = Some(Open::Page(OpenPage {
             address,
             status,
             edges: Vec::new(self.alloc),
-        });
+        }));
         Ok(())
     }
 
@@ -107,22 +153,22 @@ impl Reading {
     fn add_edge(&mut self, kind: EdgeKind, text: &str) -> Result<(), LineFault>
         ensures { Takes self.old (edge kind text.now) result self.new }
     {
-        if self.page.is_none() {
-            return Err(LineFault::Line);
+        match &mut self.open {
+            Some(Open::Page(above)) => {
+                let target = Reading::named(self.alloc, text)?;
+                above.edges.push(Edge { target, kind })?;
+                Ok(())
+            }
+            _ => Err(LineFault::Line),
         }
-        let target = self.named(text)?;
-        if let Some(page) = &mut self.page {
-            page.edges.push(Edge { target, kind })?;
-        }
-        Ok(())
     }
 
     // Takes a moved line.
     fn add_moved(&mut self, status: u16, text: &str, target: &str) -> Result<(), LineFault>
         ensures { Takes self.old (moved status text.now target.now) result self.new }
     {
-        let address = self.named(text)?;
-        let target = self.named(target)?;
+        let address = Reading::named(self.alloc, text)?;
+        let target = Reading::named(self.alloc, target)?;
         self.add_answer(address, Outcome::Moved(status, target))
     }
 
@@ -130,7 +176,7 @@ impl Reading {
     fn add_leaf(&mut self, status: u16, text: &str) -> Result<(), LineFault>
         ensures { Takes self.old (leaf status text.now) result self.new }
     {
-        let address = self.named(text)?;
+        let address = Reading::named(self.alloc, text)?;
         self.add_answer(address, Outcome::Leaf(status))
     }
 
@@ -138,8 +184,40 @@ impl Reading {
     fn add_fault(&mut self, kind: FaultKind, text: &str) -> Result<(), LineFault>
         ensures { Takes self.old (fault kind text.now) result self.new }
     {
-        let address = self.named(text)?;
+        let address = Reading::named(self.alloc, text)?;
         self.add_answer(address, Outcome::Fault(kind))
+    }
+
+    // Takes a robots line whose rules follow.
+    fn add_robots(&mut self, text: &str) -> Result<(), LineFault>
+        ensures { Takes self.old (robots text.now) result self.new }
+    {
+        let origin = self.origin_named(text)?;
+        self.claim_origin(&origin)?;
+        let robots = OpenRobots::new(self.alloc, origin)?;
+        self.open = Some(Open::Robots(robots));
+        Ok(())
+    }
+
+    // Takes a robots line of an origin where nothing is allowed.
+    fn add_closed(&mut self, text: &str) -> Result<(), LineFault>
+        ensures { Takes self.old (closed text.now) result self.new }
+    {
+        let origin = self.origin_named(text)?;
+        self.claim_origin(&origin)?;
+        self.rules
+            .insert(origin, KeptRules::new(self.alloc, RuleSet::none()))?;
+        Ok(())
+    }
+
+    // Takes a rule line.
+    fn add_rule(&mut self, kind: RuleKind, rest: &str) -> Result<(), LineFault>
+        ensures { Takes self.old (rule kind rest.now) result self.new }
+    {
+        match &mut self.open {
+            Some(Open::Robots(robots)) => Ok(robots.add(kind, rest)?),
+            _ => Err(LineFault::Line),
+        }
     }
 
     // Takes what a line says.
@@ -153,6 +231,9 @@ impl Reading {
             MapLine::Moved(status, text, target) => self.add_moved(status, text, target),
             MapLine::Leaf(status, text) => self.add_leaf(status, text),
             MapLine::Fault(kind, text) => self.add_fault(kind, text),
+            MapLine::Robots(text) => self.add_robots(text),
+            MapLine::Closed(text) => self.add_closed(text),
+            MapLine::Rule(kind, rest) => self.add_rule(kind, rest),
         }
     }
 

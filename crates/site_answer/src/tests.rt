@@ -1,7 +1,7 @@
 //! Maps in examples: what each line says, which line is bad, and each call once.
-use crate::{Answer, Ask, Body, FaultKind, Fetcher, InputFault, MapSite};
-use address::Address;
-use std::alloc::Global;
+use crate::{Answer, Ask, Body, FaultKind, Fetcher, InputFault, MapSite, SteadyFetcher};
+use address::{Address, Origin};
+use std::alloc::{AllocError, Global};
 use std::test::Fail;
 
 const SITE: &str = "# a site
@@ -57,10 +57,13 @@ fn a_map_says_what_its_lines_say(rt: HostRuntime) -> Result<(), Fail> {
 }
 
 // The first bad line of each text.
-const BAD: [(&str, InputFault); 24] = [
+const BAD: [(&str, InputFault); 38] = [
     // no form
-    ("robots http://h/ none", InputFault::Line(1)),
-    ("page 200 http://h/\nallow /a", InputFault::Line(2)),
+    ("robots http://h/ all", InputFault::Line(1)),
+    ("robots http://h/ none\r", InputFault::Line(1)),
+    ("robots", InputFault::Line(1)),
+    ("robots http://h/\nallows /a", InputFault::Line(2)),
+    ("robots http://h/\nallow\t/a", InputFault::Line(2)),
     ("page 0200 http://h/", InputFault::Line(1)),
     ("page 199 http://h/", InputFault::Line(1)),
     ("page 300 http://h/", InputFault::Line(1)),
@@ -77,6 +80,17 @@ const BAD: [(&str, InputFault); 24] = [
     ("\u{feff}page 200 http://h/", InputFault::Line(1)),
     // out of place
     ("link http://h/a", InputFault::Line(1)),
+    ("allow /a", InputFault::Line(1)),
+    ("page 200 http://h/\nallow /a", InputFault::Line(2)),
+    ("robots http://h/ none\nallow /a", InputFault::Line(2)),
+    (
+        "robots http://h/\ndisallow\npage 200 http://h/\ndisallow",
+        InputFault::Line(4),
+    ),
+    (
+        "page 200 http://h/\nrobots http://h/\nlink http://h/a",
+        InputFault::Line(3),
+    ),
     (
         "page 200 http://h/\nleaf 200 http://h/a\nlink a",
         InputFault::Line(3),
@@ -89,7 +103,20 @@ const BAD: [(&str, InputFault); 24] = [
         "leaf 200 http://h/\nmoved 301 http://h/ a",
         InputFault::Address(2),
     ),
+    ("robots ", InputFault::Address(1)),
+    ("robots a none", InputFault::Address(1)),
+    // a robots address with a path or a query
+    ("robots http://h/a", InputFault::Line(1)),
+    ("robots http://h/?", InputFault::Line(1)),
     // a repetition
+    (
+        "robots http://h/\n#\nrobots http://k/\nrobots HTTP://h:80 none",
+        InputFault::Line(4),
+    ),
+    (
+        "robots http://h/ none\nrobots http://h/x",
+        InputFault::Line(2),
+    ),
     (
         "page 200 http://h/\nlink http://h/\nleaf 200 HTTP://H",
         InputFault::Line(3),
@@ -118,6 +145,78 @@ fn the_first_bad_line_is_named(rt: HostRuntime) {
     assert!(rt; fault_of(rt.alloc(), b"\n# \xff\n") == Some(InputFault::Line(2)));
     assert!(rt; fault_of(rt.alloc(), b"").is_none());
     assert!(rt; fault_of(rt.alloc(), b"#\xc3\xa9\npage 200 http://h/\r\n").is_none());
+}
+
+const ROBOTS: &str = "robots http://h/
+disallow /a
+# still the rules of the same origin
+
+allow /a/b
+disallow
+robots http://k/ none
+page 200 http://h/
+robots HTTP://L:80/
+allow /a
+disallow /a#b
+disallow /a*.gif$
+";
+
+// Whether this agent may ask an origin of that map for a path (RFC 9309, section 2.2.2).
+const ALLOWED: [(&str, &str, bool); 9] = [
+    ("http://h/", "/a", false),
+    ("http://h/", "/a/b?c", true),
+    ("http://h/", "/", true),
+    ("http://k/", "/", false),
+    ("http://k/", "/a/b", false),
+    ("http://l/", "/a", true),
+    ("http://l/", "/a/b.gif", false),
+    ("http://l/", "/a/b.gif?c", true),
+    ("http://h:81/", "/a", true),
+];
+
+#[test]
+fn a_map_has_the_rules_of_its_robots_lines(rt: HostRuntime) -> Result<(), Fail> {
+    let alloc = rt.alloc();
+    let mut site = MapSite::read(alloc, ROBOTS.as_bytes())?.try_clone()?;
+    for (root, path, allowed) in ALLOWED {
+        let origin = Origin::of(&Address::read(alloc, root)?)?;
+        let rules = site.ask_robots(&origin)?;
+        assert!(rt; rules.allows(path) == allowed, "{root} {path}");
+    }
+    assert_eq!(rt; site.asks().len(), 9);
+    Ok(())
+}
+
+// The outcome's text, and the log's after one more ask, of any steady site.
+fn steady_text<F: SteadyFetcher>(
+    alloc: Global,
+    fetcher: &mut F,
+    at: &Address,
+) -> Result<String, AllocError> {
+    let outcome = fetcher.ask(at)?.outcome;
+    let _rules = fetcher.ask_robots(&Origin::of(at)?)?;
+    format!(in alloc; "{outcome:?} {:?}", fetcher.asks())
+}
+
+#[test]
+fn a_map_without_fault_lines_is_steady(rt: HostRuntime) -> Result<(), Fail> {
+    let alloc = rt.alloc();
+    let at = Address::read(alloc, "http://h/")?;
+    match MapSite::read(alloc, SITE.as_bytes())?.steady() {
+        Ok(_) => return Err(Fail::new("a map with a fault line")),
+        Err(mut site) => assert!(rt; site.ask(&at)?.outcome.edge_count() == 3),
+    }
+    match MapSite::read(alloc, ROBOTS.as_bytes())?.steady() {
+        Ok(site) => {
+            let text = steady_text(alloc, &mut site.try_clone()?, &at)?;
+            assert!(rt;
+                text.as_str()
+                    == "Page(200, Edges { items: [] }) [Page(\"http://h/\"), Rules(\"http://h\")]"
+            );
+        }
+        Err(_) => return Err(Fail::new("a map without fault lines")),
+    }
+    Ok(())
 }
 
 #[test]

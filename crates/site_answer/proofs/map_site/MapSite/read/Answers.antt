@@ -9,6 +9,7 @@ use Rattle.std.proofs.lemmas.List.Sums.{count_by-le-length}
 use Rattle.std.proofs.lemmas.Option.{slice_get-get_or}
 use Rattle.site_answer.specs.Maps.{lines_of}
 use Rattle.site_answer.proofs.MapReads.{map_push, first_bad}
+use Rattle.site_answer.proofs.ReadingLaws.{fresh_of}
 use Rattle.site_answer.proofs.map_site.MapSite.read.Goals as goal
 
 pub overflow_add-number : goal.overflow_add-number
@@ -52,4 +53,8 @@ returns-clause-map c =
     (λ x b q k. search (rules, tests)))) c.loop-line.yielded _ c.loop-line.yielded_by _ _ c.in-None.is c.next.ensures.steps in
     let (_, _, _, told) = c.loop-line.invariant in
     let (above, m, t) = told in
-    (above, rw seen.0 at m, c.in_ok-of.ensures t.fresh ∙ ap (λ a. record { answers = a; rules = []; asks = [] }) (sym t.stated))
+    let fresh = fresh_of c.loop-line.reading above t in
+    let answers = t.answers.stated in
+    let rules = t.rules.stated in
+    let is = c.in_ok-of.ensures fresh in
+    (above, rw seen.0 at m, cc)

@@ -6,6 +6,11 @@ use Rattle.site_answer.proofs.reading.Reading.add_answer.Goals as goal
 
 pub returns : goal.returns
 returns c = λ fresh.
-    let (closed, kept, none) = c.in_ok-claim.ensures fresh in
-    let put = insert_entry-new bytes_eq c.claim.new.self.answers c.args.address c.args.outcome (rw kept none) in
-    (closed, c.in_ok-insert.ensures.entries ∙ put ∙ ap (λ l. l ++ (c.args.address, c.args.outcome) ∷ []) kept, none)
+    let (closes, none) = c.in_ok-claim.ensures fresh in
+    let put = insert_entry-new bytes_eq c.claim.new.self.answers c.args.address c.args.outcome (rw closes.answers none) in
+    record {
+      closed = closes.closed;
+      answers = c.in_ok-insert.ensures.entries ∙ put ∙ ap (λ l. l ++ (c.args.address, c.args.outcome) ∷ []) closes.answers;
+      rules = closes.rules;
+      none = none;
+    }

@@ -1,6 +1,13 @@
 -- What a line says is what its text says.
-use Rattle.site_answer.proofs.FormLaws.{reads_line}
+use Rattle.std.proofs.Common.{inl}
+use Rattle.site_answer.proofs.FormLaws.{reads_line, form_utf8}
 use Rattle.site_answer.proofs.reading.Reading.read_line.Goals as goal
+
+pub returns-in_default : goal.returns-in_default
+returns-in_default c = λ above t. inl (λ s h. c.in_default.ensures.cases.0 (form_utf8 c.args.line.now s h))
+
+pub returns-in_default-of : goal.returns-in_default-of
+returns-in_default-of c = λ above t. inl (rw c.in-Ok.ensures.cases.0 at c.in_default-of.ensures)
 
 pub returns : goal.returns
 returns c =
