@@ -1,8 +1,6 @@
-pub mod RowLemmas
+pub mod ListLemmas
 pub mod TableLemmas
-pub mod TurnLaws
-pub mod RestLaws
-pub mod SiteLaws
-pub mod LineLaws
+pub mod HarvestLaws
 pub mod FoundLaws
+pub mod EndLaws
 pub mod RunLaws

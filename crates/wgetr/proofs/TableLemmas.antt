@@ -1,4 +1,4 @@
--- Tables: what is found after a put, and where a key stands.
+-- Tables: where a key stands.
 use Rattle.std.proofs.Common.{◌≡◌, ◌≢◌, ℕ, ◌<◌, inl, inr, Bool, true, false, List, [], ◌∷◌, ◌++◌, length, get_or, zero, suc, Some, refl, sym, ◌∙◌, arith}
 use Rattle.std.specs.Prelude.{Contains}
 use Rattle.std.specs.Str.{bytes_eq}
@@ -19,32 +19,6 @@ compare_texts a b = go (bytes_eq a b) refl
     go true e = same ((bytes_eq-Decides a b).0 e) e
     go false e = other (λ h. let r : true ≡ false = sym ((bytes_eq-Decides a b).1 h) ∙ e in cc) e
 
-pub found_put : {V : Type 0} (entries : List (Text × V)) (u : Text) (v : V) → lookup (put entries u v) u ≡ Some v
-found_put [] u v = rw ((bytes_eq-Decides u u).1 refl) refl
-found_put (entry ∷ entries) u v =
-    elim (compare_texts entry.0 u) [
-      | same h e ↦ rw (e, e) refl
-      | other h e ↦ rw (e, e) (found_put entries u v)
-    ]
-
-pub other_put : {V : Type 0} (entries : List (Text × V)) (u : Text) (v : V) (w : Text) → u ≢ w → lookup (put entries u v) w ≡ lookup entries w
-other_put [] u v w apart =
-    elim (compare_texts u w) [
-      | same h e ↦ absurd (apart h)
-      | other h e ↦ rw e refl
-    ]
-other_put (entry ∷ entries) u v w apart =
-    elim (compare_texts entry.0 u) [
-      | same h e ↦ rw e (elim (compare_texts entry.0 w) [
-        | same k f ↦ absurd (apart (sym h ∙ k))
-        | other k f ↦ rw f refl
-      ])
-      | other h e ↦ rw e (elim (compare_texts entry.0 w) [
-        | same k f ↦ rw f refl
-        | other k f ↦ rw f (other_put entries u v w apart)
-      ])
-    ]
-
 abbrev key_of : {V : Type 0} → Text × V → Text
 key_of entry = entry.0
 
@@ -58,14 +32,3 @@ found_entry (entry ∷ entries) once (suc k) d lt =
       | same h e ↦ absurd (once.0 (k, omega (arith, length-map entries key_of), get_or-map key_of entries k d entry.0 (omega arith) ∙ sym h))
       | other h e ↦ rw e (found_entry entries once.1 k d (omega arith))
     ]
-
--- one more at the end, that isn't among the others
-pub once_push : (xs : List Text) (u : Text) → IsOnce xs → (Contains xs u → ⊥) → IsOnce (xs ++ u ∷ [])
-once_push [] u once fresh = ((λ h. let (k, lt, is) = h in absurd (omega arith)), tt)
-once_push (x ∷ xs) u once fresh = (
-  (λ h. elim (Contains-push_cases xs u x h) [
-    | inl among ↦ once.0 among
-    | inr is ↦ fresh (zero, omega arith, sym is)
-  ]),
-  once_push xs u once.1 (λ h. let (k, lt, is) = h in fresh (suc k, omega arith, is)),
-)

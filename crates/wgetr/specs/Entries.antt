@@ -1,23 +1,22 @@
--- The lines that a frontier's entries make.
-use Rattle.std.specs.Prelude.{ℕ, List, [], ◌∷◌, Option, Some, None}
-use Rattle.site_answer.specs.declared.outcome.Outcome.{Outcome}
-use Rattle.frontier_core.specs.Tables.{Text}
-use Rattle.frontier_core.specs.Machine.{Slot, outcome_in}
-use Rattle.frontier_core.specs.Readers.{Entry, Recorded}
-use Rattle.wgetr.specs.Report.{Line}
+-- The lines that the entries of a harvest make.
+use Rattle.std.specs.Prelude.{◌≡◌, ℕ, Bool, true, false, List, Option, Some, None, option_map, slice_get}
+use Rattle.std.specs.List.{filter_map}
+use Rattle.frontier_core.specs.Readers.{Recorded}
+use Rattle.workers.specs.Harvests.{Harvested}
+use Rattle.workers.specs.declared.entry.Entry.{Entry}
+use Rattle.wgetr.specs.Report.{Line, Fate, Asked, Refused}
 
--- a line before others, where there is an outcome
-abbrev pub line_before : Text → ℕ → Option Outcome → List Line → List Line
-line_before u d None lines = lines
-line_before u d (Some x) lines = record { address = u; depth = d; outcome = x } ∷ lines
+-- what became of an entry: robots rules refuse it, or it has the outcome at its place in the records
+abbrev pub fate_at : List Recorded → Bool → Option ℕ → Option Fate
+fate_at records true place = Some Refused
+fate_at records false None = None
+fate_at records false (Some i) = option_map (λ recorded. Asked recorded.1) (slice_get records i)
 
--- a line for each answered entry, in their order
-abbrev pub lines_in : List (Text × Slot) → List Line
-lines_in [] = []
-lines_in (entry ∷ entries) = line_before entry.0 entry.1.depth (outcome_in entry.1.progress) (lines_in entries)
+-- the line of an entry, where something became of it
+abbrev pub line_at : List Recorded → Entry → Option Line
+line_at records entry =
+    option_map (λ fate. record { address = entry.address; depth = entry.depth; fate = fate }) (fate_at records entry.refused entry.answer)
 
--- a line for each entry that has a record beside it
-abbrev pub lines_beside : List Entry → List Recorded → List Line
-lines_beside [] records = []
-lines_beside (entry ∷ entries) [] = []
-lines_beside (entry ∷ entries) (recorded ∷ records) = record { address = entry.0; depth = entry.1; outcome = recorded.1 } ∷ lines_beside entries records
+-- the lines of a harvest, in the order of its entries
+abbrev pub lines_of : Harvested → List Line
+lines_of harvest = filter_map (line_at harvest.records) harvest.entries

@@ -1,12 +1,13 @@
 pub mod Limits
 pub mod Order
 pub mod Streams
+pub mod Trace
 pub mod Report
 pub mod Rows
 pub mod OutcomeWord
-pub mod Retrieval
-pub mod Turns
-pub mod Site
 pub mod Entries
+pub mod Site
+pub mod Retrieved
 pub mod Run
 pub mod Parts
+pub mod Advice

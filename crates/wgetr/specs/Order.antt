@@ -1,6 +1,5 @@
 -- What the words of a run order of a site that a map tells, or what is wrong with them.
 use Rattle.std.specs.Prelude.{◌≡◌, ◌≢◌, ◌⊎◌, ℕ, List, Ok, Err}
-use Rattle.follow_filters.specs.declared.plan.Plan.{Plan}
 use Rattle.options.specs.Order.{Ordered, order_of, said_by, without_kind}
 use Rattle.options.specs.declared.fault.LineFault.TheVariants as line
 use Rattle.options.specs.declared.order.Order.{Order}
@@ -11,10 +10,6 @@ use Rattle.wgetr.specs.declared.fault.Fault.TheVariants as fault
 -- the words order just this, of a map
 abbrev pub IsOrdered : List (List ℕ) → Order → Type 0
 IsOrdered words order = (order_of words ≡ Ok (said_by order)) × (order.source ≡ source.Map)
-
--- the words order this plan, of a map
-abbrev pub IsPlanned : List (List ℕ) → Plan → Type 0
-IsPlanned words plan = (order : Order) × IsOrdered words order × (order.plan ≡ plan)
 
 -- the words order something of a map
 abbrev pub AreForMap : List (List ℕ) → Type 0

@@ -1,11 +1,12 @@
 -- The words of outcomes, as they are printed.
-use Rattle.std.specs.Prelude.{ℕ, List}
+use Rattle.std.specs.Prelude.{ℕ, List, codes}
 use Rattle.std.specs.Fmt.{decimal}
 use Rattle.site_answer.specs.FaultWords.{word_of}
 use Rattle.wgetr.specs.declared.report.Word.{Word}
-use Rattle.wgetr.specs.declared.report.Word.TheVariants.{Status, Fault}
+use Rattle.wgetr.specs.declared.report.Word.TheVariants.{Status, Fault, Robots}
 
--- a status in digits, or the word of a fault
+-- a status in digits, the word of a fault, or that of robots rules
 abbrev pub word_text : Word → List ℕ
 word_text (Status status) = decimal status
 word_text (Fault kind) = word_of kind
+word_text Robots = codes "rob"

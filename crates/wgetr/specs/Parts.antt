@@ -1,18 +1,13 @@
 -- What the parts of a run come to.
-use Rattle.std.specs.Prelude.{◌≡◌, ◌≤◌, ◌<◌, ◌⊎◌, ◌++◌, ℕ, List, length, codes, Option}
+use Rattle.std.specs.Prelude.{◌≡◌, ◌≤◌, ◌<◌, ◌⊎◌, ◌++◌, ℕ, Bool, true, false, List, [], length, codes, Option}
 use Rattle.std.specs.Io.KnownBytes.{Appends}
-use Rattle.follow_filters.specs.declared.plan.Plan.{Plan}
 use Rattle.site_answer.specs.Lines.{Statement}
-use Rattle.site_answer.specs.Maps.{lines_of, IsMap, IsFault, answers_of}
+use Rattle.site_answer.specs.Maps.{lines_of, IsMap, IsFault, says_of}
 use Rattle.site_answer.specs.MapSites.{MapValue}
-use Rattle.site_answer.specs.declared.outcome.Outcome.{Outcome}
-use Rattle.frontier_core.specs.Plans.{policy}
-use Rattle.frontier_core.specs.Routes.{HasTooMany}
-use Rattle.frontier_core.specs.Tables.{Text}
-use Rattle.frontier_core.specs.declared.event.Cause.TheVariants as cause
+use Rattle.frontier_core.specs.declared.event.Event.{Event}
 use Rattle.wgetr.specs.Limits.{max_input}
 use Rattle.wgetr.specs.Run.{fault_words, fault_status}
-use Rattle.wgetr.specs.Site.{record_of}
+use Rattle.wgetr.specs.Site.{site_told}
 use Rattle.wgetr.specs.Streams.{IsInput, AppendsFront}
 use Rattle.wgetr.specs.declared.fault.Fault.{Fault}
 use Rattle.wgetr.specs.declared.fault.Fault.TheVariants as fault
@@ -22,7 +17,7 @@ use Rattle.wgetr.specs.declared.input.ReadFault.TheVariants as reading
 abbrev pub TellsOf : Option (List ℕ) → MapValue → Type 0
 TellsOf known site =
     (input : List ℕ) × IsInput known input × (length input ≤ max_input)
-    × (said : List Statement) × IsMap (lines_of input) said × (site.answers ≡ answers_of said)
+    × (said : List Statement) × IsMap (lines_of input) said × (says_of site.answers site.rules ≡ site_told said)
 
 -- what the reader has left comes to this fault
 abbrev pub TellsFault : Option (List ℕ) → Fault → Type 0
@@ -33,18 +28,7 @@ TellsFault known (fault.Read reading.Long) = (input : List ℕ) × IsInput known
 TellsFault known (fault.Read reading.Failed) = Unit {0}
 TellsFault known (fault.Read reading.Memory) = Unit {0}
 TellsFault known (fault.Map wrong) = (input : List ℕ) × IsInput known input × (length input ≤ max_input) × IsFault input wrong
-TellsFault known (fault.Stopped why) = ⊥
-
--- the retrieval of a site stops for this fault
-abbrev pub StopsAt : Plan → (Text → Outcome) → Fault → Type 0
-StopsAt plan site (fault.Line wrong) = ⊥
-StopsAt plan site fault.NotText = ⊥
-StopsAt plan site fault.NoSite = ⊥
-StopsAt plan site (fault.Read wrong) = ⊥
-StopsAt plan site (fault.Map wrong) = ⊥
-StopsAt plan site (fault.Stopped cause.Full) = HasTooMany (policy plan) (record_of site)
-StopsAt plan site (fault.Stopped cause.Memory) = Unit {0}
-StopsAt plan site (fault.Stopped cause.Mismatch) = ⊥
+TellsFault known fault.Memory = Unit {0}
 
 -- the writer gained the text and the status is this one, or the writer failed and the status is 1
 abbrev pub IsDelivered : Option (List ℕ) → Option (List ℕ) → List ℕ → ℕ → ℕ → Type 0
@@ -55,3 +39,8 @@ abbrev pub IsRefusal : Option (List ℕ) → Option (List ℕ) → Fault → ℕ
 IsRefusal old new wrong status =
     IsDelivered old new (fault_words wrong ++ codes "\n") (fault_status wrong) status
     ⊎ IsDelivered old new (codes "stopped memory\n") 1 status
+
+-- what is shown of a trace: all of it, or nothing
+abbrev pub shown_of : Bool → List Event → List Event
+shown_of true trace = trace
+shown_of false trace = []

@@ -1,18 +1,23 @@
 -- The report: a line for each address, in the order of their texts, and the counts.
-use Rattle.std.specs.Prelude.{◌≡◌, ◌≢◌, ℕ, Bool, true, List, ◌++◌, AllPairs, length, codes, count_by, nat_le}
-use Rattle.std.specs.Cmp.Lexicographic.{slice_cmp}
+use Rattle.std.specs.Prelude.{ℕ, Bool, true, false, List, ◌++◌, AllPairs, codes, count_by, nat_le}
 use Rattle.std.specs.Fmt.{decimal}
 use Rattle.std.specs.List.{flat_map}
-use Rattle.std.specs.Ordering.{nat_cmp, is_lt}
 use Rattle.site_answer.specs.FaultWords.{word_of}
 use Rattle.site_answer.specs.declared.outcome.Outcome.{Outcome}
+use Rattle.workers.specs.Order.{IsBefore}
 use Rattle.site_answer.specs.declared.outcome.Outcome.TheVariants.{Page, Moved, Leaf, Fault}
+
+-- what became of a candidate: it was asked for, with this outcome, or its origin's robots rules refuse it
+-- (RFC 9309, section 2.2.2)
+pub data Fate : Type 0 where
+  Asked : Outcome → Fate
+  Refused : Fate
 
 -- what a report says of one address: its depth, and what became of it
 pub record Line : Type 0 where
   pub address : List ℕ
   pub depth : ℕ
-  pub outcome : Outcome
+  pub fate : Fate
 
 -- the word of an outcome: its status, or the word of its fault
 abbrev pub outcome_word : Outcome → List ℕ
@@ -28,28 +33,44 @@ is_failed (Moved status target) = nat_le 400 status
 is_failed (Leaf status) = nat_le 400 status
 is_failed (Fault kind) = true
 
+-- the word of a fate
+abbrev pub fate_word : Fate → List ℕ
+fate_word (Asked x) = outcome_word x
+fate_word Refused = codes "rob"
+
+-- it was asked for
+abbrev pub was_asked : Fate → Bool
+was_asked (Asked x) = true
+was_asked Refused = false
+
+-- robots rules refuse it
+abbrev pub was_refused : Fate → Bool
+was_refused (Asked x) = false
+was_refused Refused = true
+
+-- it was asked for, and failed
+abbrev pub has_failed : Fate → Bool
+has_failed (Asked x) = is_failed x
+has_failed Refused = false
+
 -- depth, word, address and name; no page has a name yet
 abbrev pub line_text : Line → List ℕ
-line_text line = decimal line.depth ++ codes " " ++ outcome_word line.outcome ++ codes " " ++ line.address ++ codes " -\n"
+line_text line = decimal line.depth ++ codes " " ++ fate_word line.fate ++ codes " " ++ line.address ++ codes " -\n"
 
--- how many were asked for, kept, refused by robots rules, and failed; nothing is kept or refused yet
-abbrev pub counts_text : ℕ → ℕ → List ℕ
-counts_text fetched failed =
-    codes "fetched " ++ decimal fetched ++ codes " kept 0 refused 0 failed " ++ decimal failed ++ codes "\n"
+-- how many of the fates are such
+abbrev pub count_of : (Fate → Bool) → List Line → ℕ
+count_of is_such lines = count_by (λ line. is_such line.fate) lines
+
+-- how many were asked for, kept, refused by robots rules, and failed; nothing is kept yet
+abbrev pub counts_text : ℕ → ℕ → ℕ → List ℕ
+counts_text asked refused failed =
+    codes "fetched " ++ decimal asked ++ codes " kept 0 refused " ++ decimal refused ++ codes " failed " ++ decimal failed ++ codes "\n"
 
 -- the lines and the counts
 abbrev pub report_text : List Line → List ℕ
 report_text lines =
-    flat_map line_text lines ++ counts_text (length lines) (count_by (λ line. is_failed line.outcome) lines)
+    flat_map line_text lines ++ counts_text (count_of was_asked lines) (count_of was_refused lines) (count_of has_failed lines)
 
--- one text stands before the other, by their bytes
-abbrev pub IsBefore : List ℕ → List ℕ → Type 0
-IsBefore text other = is_lt (slice_cmp nat_cmp text other) ≡ true
-
--- each address stands before every later one
+-- each address stands before every later one, by their bytes
 abbrev pub IsAscending : List Line → Type 0
 IsAscending lines = AllPairs (λ line later. IsBefore line.address later.address) lines
-
--- no address stands twice
-abbrev pub AreApart : List Line → Type 0
-AreApart lines = AllPairs (λ line later. line.address ≢ later.address) lines

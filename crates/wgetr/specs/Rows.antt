@@ -1,6 +1,14 @@
 -- The lines of a report, without where they lie in memory.
-use Rattle.wgetr.specs.Report.{Line}
+use Rattle.wgetr.specs.Report.{Line, Fate as SaidFate, Asked, Refused}
+use Rattle.wgetr.specs.declared.report.Fate.{Fate}
+use Rattle.wgetr.specs.declared.report.Fate.TheVariants as fate
 use Rattle.wgetr.specs.declared.report.Row.{Row}
 
+-- what became of an address
+abbrev pub fate_of : Fate → SaidFate
+fate_of (fate.Asked outcome) = Asked outcome.now
+fate_of fate.Refused = Refused
+
+-- the line of a row
 abbrev pub line_of : Row → Line
-line_of row = record { address = row.address.now; depth = row.depth; outcome = row.outcome.now }
+line_of row = record { address = row.address.now; depth = row.depth; fate = fate_of row.fate }

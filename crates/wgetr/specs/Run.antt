@@ -4,41 +4,26 @@ use Rattle.std.specs.Fmt.{decimal}
 use Rattle.std.specs.Io.KnownBytes.{Appends}
 use Rattle.address.specs.declared.fault.AddressFault.{AddressFault}
 use Rattle.address.specs.declared.fault.AddressFault.TheVariants as refused
-use Rattle.follow_filters.specs.declared.plan.Plan.{Plan}
 use Rattle.site_answer.specs.Lines.{Statement}
-use Rattle.site_answer.specs.Maps.{lines_of, IsMap, IsFault, answers_of, outcome_in}
+use Rattle.site_answer.specs.Maps.{lines_of, IsMap, IsFault}
 use Rattle.site_answer.specs.declared.input_fault.InputFault.{InputFault}
 use Rattle.site_answer.specs.declared.input_fault.InputFault.TheVariants as map
-use Rattle.site_answer.specs.declared.outcome.Outcome.{Outcome}
-use Rattle.frontier_core.specs.Plans.{policy}
-use Rattle.frontier_core.specs.Routes.{HasTooMany}
-use Rattle.frontier_core.specs.Tables.{Text}
-use Rattle.frontier_core.specs.declared.event.Cause.{Cause}
-use Rattle.frontier_core.specs.declared.event.Cause.TheVariants as cause
+use Rattle.frontier_core.specs.declared.event.Event.{Event}
 use Rattle.options.specs.Order.{order_of, without_kind}
 use Rattle.options.specs.declared.fault.LineFault.{LineFault}
 use Rattle.options.specs.declared.fault.LineFault.TheVariants as line
+use Rattle.options.specs.declared.order.Order.{Order}
 use Rattle.wgetr.specs.Limits.{max_input}
-use Rattle.wgetr.specs.Order.{IsPlanned, AreForMap, AreForOther}
-use Rattle.wgetr.specs.Report.{Line, report_text}
-use Rattle.wgetr.specs.Site.{record_of, AreLines}
+use Rattle.wgetr.specs.Order.{IsOrdered, AreForMap, AreForOther}
+use Rattle.wgetr.specs.Report.{report_text}
+use Rattle.wgetr.specs.Retrieved.{Finish, Reported, Stopped, Finishes}
+use Rattle.wgetr.specs.Site.{site_told, whole_of}
 use Rattle.wgetr.specs.Streams.{IsInput, AppendsFront}
+use Rattle.wgetr.specs.Trace.{cause_word, trace_text}
 use Rattle.wgetr.specs.declared.fault.Fault.{Fault}
 use Rattle.wgetr.specs.declared.fault.Fault.TheVariants as fault
 use Rattle.wgetr.specs.declared.input.ReadFault.{ReadFault}
 use Rattle.wgetr.specs.declared.input.ReadFault.TheVariants as reading
-
--- the input is a map that gives each address this outcome
-abbrev pub IsMapOf : List ℕ → (Text → Outcome) → Type 0
-IsMapOf input site = (said : List Statement) × IsMap (lines_of input) said × ((u : Text) → site u ≡ outcome_in (answers_of said) u)
-
--- the lines are those of the plan's retrieval of the map that the input is
-abbrev pub AreLinesOf : Plan → List ℕ → List Line → Type 0
-AreLinesOf plan input lines = (site : Text → Outcome) × IsMapOf input site × AreLines (policy plan) (record_of site) lines
-
--- the map that the input is has more candidates than the plan lets be held
-abbrev pub IsTooLarge : Plan → List ℕ → Type 0
-IsTooLarge plan input = (site : Text → Outcome) × IsMapOf input site × HasTooMany (policy plan) (record_of site)
 
 -- the words and the input come to this fault; memory may run out at any time, and a reader may fail once the words are read
 abbrev pub Comes : List (List ℕ) → List ℕ → Fault → Type 0
@@ -50,9 +35,7 @@ Comes words input (fault.Read reading.Long) = AreForMap words × (max_input < le
 Comes words input (fault.Read reading.Failed) = AreForMap words
 Comes words input (fault.Read reading.Memory) = Unit {0}
 Comes words input (fault.Map wrong) = AreForMap words × (length input ≤ max_input) × IsFault input wrong
-Comes words input (fault.Stopped cause.Full) = (length input ≤ max_input) × (plan : Plan) × IsPlanned words plan × IsTooLarge plan input
-Comes words input (fault.Stopped cause.Memory) = Unit {0}
-Comes words input (fault.Stopped cause.Mismatch) = ⊥
+Comes words input fault.Memory = Unit {0}
 
 -- ---- texts and statuses
 
@@ -87,12 +70,6 @@ map_words (map.Line n) = codes "input line " ++ decimal n
 map_words (map.Address n) = codes "input address " ++ decimal n
 map_words map.Memory = codes "stopped memory"
 
--- the words for why a retrieval stopped
-abbrev pub stop_words : Cause → List ℕ
-stop_words cause.Full = codes "stopped full"
-stop_words cause.Memory = codes "stopped memory"
-stop_words cause.Mismatch = codes "stopped mismatch"
-
 -- what is written for a fault, in words
 abbrev pub fault_words : Fault → List ℕ
 fault_words (fault.Line wrong) = line_words wrong
@@ -100,7 +77,7 @@ fault_words fault.NotText = codes "line words"
 fault_words fault.NoSite = codes "line no-site"
 fault_words (fault.Read wrong) = reading_words wrong
 fault_words (fault.Map wrong) = map_words wrong
-fault_words (fault.Stopped why) = stop_words why
+fault_words fault.Memory = codes "stopped memory"
 
 -- 2 for what the words or the input say, 1 for what memory, a reader or a plan's bound stopped
 abbrev pub fault_status : Fault → ℕ
@@ -115,29 +92,46 @@ fault_status (fault.Read reading.Memory) = 1
 fault_status (fault.Map map.Memory) = 1
 fault_status (fault.Map (map.Line n)) = 2
 fault_status (fault.Map (map.Address n)) = 2
-fault_status (fault.Stopped why) = 1
+fault_status fault.Memory = 1
+
+-- ---- a retrieval
+
+-- the text of what a retrieval comes to: a report, or one line of words
+abbrev pub finish_text : Finish → List ℕ
+finish_text (Reported lines) = report_text lines
+finish_text (Stopped why) = codes "stopped " ++ cause_word why ++ codes "\n"
+
+-- its status: a report that was printed ends well
+abbrev pub finish_status : Finish → ℕ
+finish_status (Reported lines) = 0
+finish_status (Stopped why) = 1
 
 -- ---- a run
 
--- what a run comes to: the lines of a report, or a fault
+-- what a run comes to: a fault, or what a retrieval comes to, behind what is shown of its trace
 pub data Ending : Type 0 where
-  Reported : List Line → Ending
   Failed : Fault → Ending
+  Ended : List Event → Finish → Ending
 
--- the text of an ending: a report, or one line of words
+-- the text of an ending
 abbrev pub ending_text : Ending → List ℕ
-ending_text (Reported lines) = report_text lines
 ending_text (Failed wrong) = fault_words wrong ++ codes "\n"
+ending_text (Ended shown finish) = trace_text shown ++ finish_text finish
 
--- the status of an ending: a report that was printed ends well
+-- the status of an ending
 abbrev pub ending_status : Ending → ℕ
-ending_status (Reported lines) = 0
 ending_status (Failed wrong) = fault_status wrong
+ending_status (Ended shown finish) = finish_status finish
+
+-- what the input says is a site of which the retrieval that is ordered comes to this
+abbrev pub FinishesOn : Order → List ℕ → List Event → Finish → Type 0
+FinishesOn order input shown finish =
+    (length input ≤ max_input) × (said : List Statement) × IsMap (lines_of input) said × Finishes order (whole_of (site_told said)) shown finish
 
 -- the words and the input come to this ending
 abbrev pub Ends : List (List ℕ) → List ℕ → Ending → Type 0
-Ends words input (Reported lines) = (length input ≤ max_input) × (plan : Plan) × IsPlanned words plan × AreLinesOf plan input lines
 Ends words input (Failed wrong) = Comes words input wrong
+Ends words input (Ended shown finish) = (order : Order) × IsOrdered words order × FinishesOn order input shown finish
 
 -- the words and what the reader has left come to this ending
 abbrev pub EndsFor : List (List ℕ) → Option (List ℕ) → Ending → Type 0

@@ -1,5 +1,9 @@
 //! What is said to a person of words that are refused: what is wrong, and what is accepted.
 
+ghost use Rattle.std.specs.Prelude.{◌≡◌, ◌++◌, IfOk, codes, is_some, string_bytes};
+ghost use Rattle.std.specs.List.{flat_map};
+ghost use Rattle.wgetr.specs.Advice.{is_wrong_start, is_wrong_line, is_wrong_words, word_text};
+
 use crate::fault::Fault;
 use address::AddressFault;
 use options::LineFault;
@@ -22,7 +26,9 @@ const START: &str =
 8192 bytes and a host of at most 255";
 
 // What is wrong with a start that is no address.
-fn wrong_start(refused: AddressFault) -> Option<&'static str> {
+fn wrong_start(refused: AddressFault) -> Option<&'static str>
+    ensures { is_some result ≡ is_wrong_start refused }
+{
     match refused {
         AddressFault::TooLong => Some("START is too long"),
         AddressFault::NotUrl => Some("START is no URL"),
@@ -33,7 +39,9 @@ fn wrong_start(refused: AddressFault) -> Option<&'static str> {
 }
 
 // What is said of words that are no order; nothing of want of memory.
-fn line_advice(wrong: LineFault) -> Option<Advice> {
+fn line_advice(wrong: LineFault) -> Option<Advice>
+    ensures { is_some result ≡ is_wrong_line wrong }
+{
     let (wrong, accepted) = match wrong {
         LineFault::Words(kind) => (kind.as_str().unwrap_or("no text was asked for"), OPTIONS),
         LineFault::Depth => (
@@ -60,7 +68,9 @@ fn line_advice(wrong: LineFault) -> Option<Advice> {
 }
 
 /// What is said of a fault of the words; nothing of other faults.
-pub(crate) fn advice_on(fault: Fault) -> Option<Advice> {
+pub(crate) fn advice_on(fault: Fault) -> Option<Advice>
+    ensures { is_some result ≡ is_wrong_words fault }
+{
     match fault {
         Fault::Line(wrong) => line_advice(wrong),
         Fault::NotText => Some(Advice {
@@ -71,7 +81,7 @@ pub(crate) fn advice_on(fault: Fault) -> Option<Advice> {
             wrong: "the words name no site that can be read",
             accepted: "with --map the site is told by a map on standard input",
         }),
-        Fault::Read(_) | Fault::Map(_) | Fault::Stopped(_) => None,
+        Fault::Read(_) | Fault::Map(_) | Fault::Memory => None,
     }
 }
 
@@ -80,7 +90,10 @@ pub(crate) fn advice_text(
     alloc: Global,
     advice: Advice,
     words: &[&str],
-) -> Result<String, AllocError> {
+) -> Result<String, AllocError>
+    ensures { IfOk result (λ text. string_bytes text ≡ codes "wgetr: " ++ advice.wrong.now ++ codes ", in:"
+        ++ flat_map (λ word. word_text word.now) words.now ++ codes "\n" ++ advice.accepted.now ++ codes "\n") }
+{
     let Advice { wrong, accepted } = advice;
     let mut text = format!(in alloc; "wgetr: {wrong}, in:")?;
     for word in words {

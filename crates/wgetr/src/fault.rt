@@ -1,10 +1,9 @@
 //! Faults of a run: the line that is written in place of a report, and the status.
 ghost use Rattle.std.specs.Prelude.{◌≡◌, ◌++◌, IfOk, codes, string_bytes};
-ghost use Rattle.wgetr.specs.Run.{start_words, line_words, reading_words, stop_words, fault_words};
+ghost use Rattle.wgetr.specs.Run.{start_words, line_words, reading_words, fault_words};
 
 use crate::input::ReadFault;
 use address::AddressFault;
-use frontier_core::Cause;
 use options::LineFault;
 use site_answer::InputFault;
 use std::alloc::{AllocError, Global};
@@ -22,8 +21,8 @@ pub(crate) enum Fault {
     Read(ReadFault),
     /// The input is no map.
     Map(InputFault),
-    /// The retrieval stopped, or memory ran out.
-    Stopped(Cause),
+    /// Memory ran out.
+    Memory,
 }
 
 impl Fault {
@@ -40,7 +39,7 @@ impl Fault {
             Fault::Read(ReadFault::Failed | ReadFault::Memory) => 1,
             Fault::Map(InputFault::Memory) => 1,
             Fault::Map(InputFault::Line(_) | InputFault::Address(_)) => 2,
-            Fault::Stopped(_) => 1,
+            Fault::Memory => 1,
         }
     }
 }
@@ -85,17 +84,6 @@ fn reading_words(wrong: ReadFault) -> &'static str
     }
 }
 
-// The words for why a retrieval stopped.
-fn stop_words(cause: Cause) -> &'static str
-    ensures { result.now ≡ stop_words cause }
-{
-    match cause {
-        Cause::Full => "stopped full",
-        Cause::Memory => "stopped memory",
-        Cause::Mismatch => "stopped mismatch",
-    }
-}
-
 /// The line of a fault.
 pub(crate) fn fault_text(alloc: Global, fault: Fault) -> Result<String, AllocError>
     ensures { IfOk result (λ text. string_bytes text ≡ fault_words fault ++ codes "\n") }
@@ -108,7 +96,7 @@ pub(crate) fn fault_text(alloc: Global, fault: Fault) -> Result<String, AllocErr
         Fault::Map(InputFault::Line(number)) => format!(in alloc; "input line {number}\n"),
         Fault::Map(InputFault::Address(number)) => format!(in alloc; "input address {number}\n"),
         Fault::Map(InputFault::Memory) => with_newline(alloc, "stopped memory"),
-        Fault::Stopped(cause) => with_newline(alloc, stop_words(cause)),
+        Fault::Memory => with_newline(alloc, "stopped memory"),
     }
 }
 
@@ -152,25 +140,13 @@ impl From<InputFault> for Fault {
     }
 }
 
-impl From<Cause> for Fault {
-    ghost use Rattle.std.specs.Prelude.{◌≡◌};
-    ghost use Rattle.wgetr.specs.declared.fault.Fault.TheVariants.{Stopped};
-
-    ghost from_gives = { λ cause fault. fault ≡ Stopped cause };
-
-    fn from(cause: Cause) -> Fault {
-        Fault::Stopped(cause)
-    }
-}
-
 impl From<AllocError> for Fault {
     ghost use Rattle.std.specs.Prelude.{◌≡◌};
-    ghost use Rattle.frontier_core.specs.declared.event.Cause.TheVariants.{Memory};
-    ghost use Rattle.wgetr.specs.declared.fault.Fault.TheVariants.{Stopped};
+    ghost use Rattle.wgetr.specs.declared.fault.Fault.TheVariants.{Memory};
 
-    ghost from_gives = { λ _ fault. fault ≡ Stopped Memory };
+    ghost from_gives = { λ _ fault. fault ≡ Memory };
 
     fn from(_: AllocError) -> Fault {
-        Fault::Stopped(Cause::Memory)
+        Fault::Memory
     }
 }

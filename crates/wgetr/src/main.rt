@@ -9,14 +9,13 @@ mod interruption;
 mod order;
 mod output;
 mod report;
-mod retrieval;
 mod run;
 #[cfg(test)]
 mod tests;
+mod trace;
 
 use advice::{advice_on, advice_text};
 use fault::Fault;
-use frontier_core::Cause;
 use order::map_order;
 use run::{refuse, run};
 use std::alloc::{AllocError, Global};
@@ -58,7 +57,7 @@ fn run_words(rt: &HostRuntime, args: env::Args) -> Result<u8, AllocError> {
 // Why the program has no words: one of them is no text, or memory ran out.
 fn words_fault(error: &io::Error) -> Fault {
     match error.kind() {
-        ErrorKind::OutOfMemory => Fault::Stopped(Cause::Memory),
+        ErrorKind::OutOfMemory => Fault::Memory,
         _ => Fault::NotText,
     }
 }
@@ -67,7 +66,7 @@ fn words_fault(error: &io::Error) -> Fault {
 fn refuse_words(rt: &HostRuntime, fault: Fault) -> u8 {
     match explain(rt, fault, &[]) {
         Ok(()) => refuse(rt.alloc(), fault, &mut rt.stdout()),
-        Err(_) => refuse(rt.alloc(), Fault::Stopped(Cause::Memory), &mut rt.stdout()),
+        Err(_) => refuse(rt.alloc(), Fault::Memory, &mut rt.stdout()),
     }
 }
 
@@ -75,7 +74,7 @@ fn main(rt: HostRuntime) -> ExitCode {
     let status = match env::args(&rt) {
         Ok(args) => match run_words(&rt, args) {
             Ok(status) => status,
-            Err(_) => refuse(rt.alloc(), Fault::Stopped(Cause::Memory), &mut rt.stdout()),
+            Err(_) => refuse(rt.alloc(), Fault::Memory, &mut rt.stdout()),
         },
         Err(error) => refuse_words(&rt, words_fault(&error)),
     };

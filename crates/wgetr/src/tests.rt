@@ -25,7 +25,7 @@ const MANUAL_WHOLE: &str =
     "1 200 http://h/1.gif -\n0 200 http://h/1.html -\n2 200 http://h/2.gif -\n1 200 http://h/2.html -\n\
 3 200 http://h/3.gif -\n2 200 http://h/3.html -\nfetched 6 kept 0 refused 0 failed 0\n";
 
-const CASES: [Case; 32] = [
+const CASES: [Case; 36] = [
     Case {
         name: "one page",
         words: &["--map", "http://h/"],
@@ -122,6 +122,60 @@ fetched 4 kept 0 refused 0 failed 0\n",
         words: &["-r", "--max-urls", "3", "--map", "http://h/"],
         input: "page 200 http://h/\nlink http://h/a\nlink http://h/b\nlink http://h/c\n",
         text: "stopped full\n",
+        status: 1,
+    },
+    Case {
+        name: "an address that robots rules refuse, behind a trace",
+        words: &["-r", "--trace", "--map", "http://h/"],
+        input: "page 200 http://h/\nlink http://h/s/1\nlink http://h/t\nleaf 200 http://h/s/1\nleaf 200 http://h/t\n\
+robots http://h/\ndisallow /s\n",
+        text: "opened http://h/\npage 0 http://h/\nanswer 0 http://h/\nspread 0 http://h/ 2\nrules 0 http://h\nruled 0 http://h\n\
+page 0 http://h/t\nanswer 0 http://h/t\n\
+0 200 http://h/ -\n1 rob http://h/s/1 -\n1 200 http://h/t -\nfetched 2 kept 0 refused 1 failed 0\n",
+        status: 0,
+    },
+    Case {
+        name: "the same, with robots off",
+        words: &["-r", "-e", "robots=off", "--map", "http://h/"],
+        input: "page 200 http://h/\nlink http://h/s/1\nlink http://h/t\nleaf 200 http://h/s/1\nleaf 200 http://h/t\n\
+robots http://h/\ndisallow /s\n",
+        text: "0 200 http://h/ -\n1 200 http://h/s/1 -\n1 200 http://h/t -\nfetched 3 kept 0 refused 0 failed 0\n",
+        status: 0,
+    },
+    Case {
+        name: "a trace before its report",
+        words: &[
+            "-r",
+            "-l",
+            "1",
+            "--trace",
+            "--workers",
+            "1",
+            "-e",
+            "robots=off",
+            "--map",
+            "http://h/",
+        ],
+        input: "page 200 http://h/\nlink http://h/m\nmoved 301 http://h/m http://h/n\npage 200 http://h/n\nlink http://h/o\n",
+        text: "opened http://h/\npage 0 http://h/\nanswer 0 http://h/\nspread 0 http://h/ 1\npage 0 http://h/m\n\
+answer 0 http://h/m\nspread 1 http://h/m 1\npage 0 http://h/n\nanswer 0 http://h/n\nspread 1 http://h/n 1\n\
+0 200 http://h/ -\n1 301 http://h/m -\n1 200 http://h/n -\nfetched 3 kept 0 refused 0 failed 0\n",
+        status: 0,
+    },
+    Case {
+        name: "a trace before the line of a stop",
+        words: &[
+            "-r",
+            "--trace",
+            "--max-urls",
+            "1",
+            "-e",
+            "robots=off",
+            "--map",
+            "http://h/",
+        ],
+        input: "page 200 http://h/\nlink http://h/a\n",
+        text: "opened http://h/\npage 0 http://h/\nanswer 0 http://h/\npart 0 http://h/ 0\nstop full\nstopped full\n",
         status: 1,
     },
     Case {

@@ -1,0 +1,79 @@
+-- What a retrieval comes to is what the whole site has.
+use Rattle.std.proofs.Common.{◌≡◌, ℕ, inl, inr, Bool, true, false, List, [], Option, Some, refl, sym, ap, subst}
+use Rattle.std.specs.Prelude.{IfSome}
+use Rattle.follow_filters.specs.declared.plan.Plan.{Plan}
+use Rattle.options.specs.declared.order.Order.{Order}
+use Rattle.robots_rules.specs.Access.{RuleSetValue}
+use Rattle.site_answer.specs.Sites.{SiteAnswers}
+use Rattle.site_answer.specs.declared.fetcher.Ask.{Ask}
+use Rattle.site_answer.specs.declared.outcome.Outcome.{Outcome}
+use Rattle.frontier_core.specs.Invariants.{IsSound}
+use Rattle.frontier_core.specs.Machine.{answers, IsQuiet}
+use Rattle.frontier_core.specs.Plans.{policy}
+use Rattle.frontier_core.specs.Routes.{Answers, HasTooMany}
+use Rattle.frontier_core.specs.Tables.{Text}
+use Rattle.frontier_core.specs.declared.event.Cause.{Cause}
+use Rattle.frontier_core.specs.declared.event.Cause.TheVariants as why
+use Rattle.frontier_core.specs.declared.event.Event.{Event}
+use Rattle.workers.specs.Asks.{IsTold}
+use Rattle.workers.specs.Gathered.{AreEntries, AreRecords}
+use Rattle.workers.specs.Harvests.{Harvested}
+use Rattle.workers.specs.Retrieval.{Brings, Leaves, IsLeft}
+use Rattle.workers.specs.Sites.{Fits, IsCompleteFor}
+use Rattle.wgetr.specs.Entries.{lines_of}
+use Rattle.wgetr.specs.Parts.{shown_of}
+use Rattle.wgetr.specs.Retrieved.{IsPartOf, AreEventsOf, AreShown, HasStopped, Reported, Stopped, Finishes}
+use Rattle.wgetr.specs.Site.{whole_of}
+use Rattle.wgetr.proofs.FoundLaws.{are_lines}
+
+-- what a map may say of an address
+abbrev pub may_say : SiteAnswers → Text → Outcome → List ℕ → Type 0
+may_say site u x body = (x ≡ site.outcome u) × (body ≡ [])
+
+-- what a map may say of an origin
+abbrev pub may_rule : SiteAnswers → Text → RuleSetValue → Type 0
+may_rule site o rules = rules ≡ site.rules o
+
+pub map_fits : (site : SiteAnswers) → Fits (may_say site) (may_rule site) (whole_of site)
+map_fits site = record { outcomes = λ u x body says. ap Some (sym says.0); rules = λ o rules is. ap Some (sym is) }
+
+told_part : (site : SiteAnswers) (m : Answers) → IsTold (may_say site) (may_rule site) m → IsPartOf m (whole_of site)
+told_part site m told = record {
+  outcomes = λ u x is. ap Some (sym (told.outcomes u x is).1.0);
+  rules = λ o rules is. ap Some (sym (told.rules o rules is));
+}
+
+are_shown : (b : Bool) (AreSuch : List Event → Type 0) (trace : List Event) → AreSuch trace → AreShown b AreSuch (shown_of b trace)
+are_shown true AreSuch trace such = such
+are_shown false AreSuch trace such = refl
+
+none_shown : (b : Bool) (trace : List Event) → trace ≡ [] → shown_of b trace ≡ []
+none_shown true trace is = is
+none_shown false trace is = refl
+
+-- ---- a harvest
+
+pub reported : (order : Order) (site : SiteAnswers) (asks : List Ask) (h : Harvested) → Brings (may_say site) (may_rule site) order.plan asks h
+    → AreEntries h → AreRecords h → IfSome h.plan (λ plan. IsSound (policy plan) h.state) → IsCompleteFor (policy order.plan) (whole_of site) h.state
+    → Finishes order (whole_of site) (shown_of order.trace h.trace) (Reported (lines_of h))
+reported order site asks h brings are records sound complete =
+    let is_sound = subst (λ (o : Option Plan). IfSome o (λ plan. IsSound (policy plan) h.state)) brings.follows sound in (
+      are_lines (policy order.plan) (whole_of site) h are records is_sound.addresses is_sound.few complete brings.quiet,
+      are_shown order.trace (AreEventsOf order.plan (whole_of site) IsQuiet) h.trace (h.state, brings.replay, told_part site (answers h.state) brings.told, brings.quiet),
+    )
+
+-- ---- a stop
+
+stop_events : (order : Order) (site : SiteAnswers) (asks : List Ask) (cause : Cause) (h : Harvested) → Leaves (may_say site) (may_rule site) order.plan asks cause h
+    → AreShown order.trace (AreEventsOf order.plan (whole_of site) (HasStopped cause)) (shown_of order.trace h.trace)
+stop_events order site asks cause h left =
+    are_shown order.trace (AreEventsOf order.plan (whole_of site) (HasStopped cause)) h.trace (h.state, left.replay, told_part site (answers h.state) left.told, left.stopped)
+
+pub stopped : (order : Order) (site : SiteAnswers) (asks : List Ask) (cause : Cause) (h : Harvested) → IsLeft (may_say site) (may_rule site) order.plan asks cause h
+    → (cause ≡ why.Full → HasTooMany (policy order.plan) (whole_of site)) → (cause ≡ why.Mismatch → ⊥)
+    → Finishes order (whole_of site) (shown_of order.trace h.trace) (Stopped cause)
+stopped order site asks why.Full h (inl left) many never = (many refl, stop_events order site asks why.Full h left)
+stopped order site asks why.Full h (inr empty) many never = let same = empty.memory in cc
+stopped order site asks why.Memory h (inl left) many never = inr (stop_events order site asks why.Memory h left)
+stopped order site asks why.Memory h (inr empty) many never = inl (none_shown order.trace h.trace empty.trace)
+stopped order site asks why.Mismatch h left many never = absurd (never refl)
