@@ -129,7 +129,9 @@ fn main(rt: HostRuntime) -> io::Result<()> {
         let own = whole.saturating_sub(site);
         let base = *first.get_or_insert(own.max(1));
         let percent = own.saturating_mul(100) / base.max(1);
-        println!(rt; "pages {taken}: {whole} ns a link, of which the site {site} and the frontier {own}, {percent} % of the first")?;
+        println!(rt;
+            "pages {taken}: {whole} ns a link, of which the site {site} and the frontier {own}, {percent} % of the first"
+        )?;
     }
     if is_asked {
         return Ok(());

@@ -97,7 +97,7 @@ added_found old new queue here there member placed is other place number stands 
     inside : other ≡ queue → slice_get new.places.items number ≡ Some (record { queue = other; place = place })
     inside h =
         elim (get-append_cases (numbers_of old.queues.items queue) (length old.places.items) place number
-            (ap (λ z. slice_get z place) (sym (added_numbers old new queue here there member is)) ∙ ap (λ z. slice_get (numbers_of new.queues.items z) place) (sym h) ∙ stands)) [
+        (ap (λ z. slice_get z place) (sym (added_numbers old new queue here there member is)) ∙ ap (λ z. slice_get (numbers_of new.queues.items z) place) (sym h) ∙ stands)) [
           | inl was ↦ kept (ap (λ z. slice_get (numbers_of old.queues.items z) place) h ∙ was)
           | inr last ↦
               (let at_end : place ≡ length here.members.items = last.0 ∙ added_len old new queue here there member is in
@@ -115,10 +115,10 @@ added_held old new queue here there member placed is number place stands =
       | inr last ↦
           (let is_last : place ≡ record { queue = queue; place = length here.members.items } = sym last.1 in
           rw is_last (
-              ap (λ z. slice_get z (length here.members.items)) (added_numbers old new queue here there member is)
-              ∙ ap (λ z. slice_get (numbers_of old.queues.items queue ++ length old.places.items ∷ []) z) (sym (added_len old new queue here there member is))
-              ∙ get-append_last (numbers_of old.queues.items queue) (length old.places.items)
-              ∙ ap (λ z. Some z) (sym last.0)))
+          ap (λ z. slice_get z (length here.members.items)) (added_numbers old new queue here there member is)
+          ∙ ap (λ z. slice_get (numbers_of old.queues.items queue ++ length old.places.items ∷ []) z) (sym (added_len old new queue here there member is))
+          ∙ get-append_last (numbers_of old.queues.items queue) (length old.places.items)
+          ∙ ap (λ z. Some z) (sym last.0)))
     ]
   where
     kept : slice_get (numbers_of old.queues.items place.queue) place.place ≡ Some number → slice_get (numbers_of new.queues.items place.queue) place.place ≡ Some number

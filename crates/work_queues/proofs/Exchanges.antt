@@ -69,9 +69,9 @@ found old new queue a b first second placed is here place number there = elim (c
         elim (compare_numbers place b) [
           | equal k ↦ at_b q k
           | unequal k ↦ elim (compare_numbers place a) [
-              | equal l ↦ at_a q l
-              | unequal l ↦ stays (λ h. l) (λ h. k) (rw q (sym (is.members place l k)) ∙ there)
-            ]
+            | equal l ↦ at_a q l
+            | unequal l ↦ stays (λ h. l) (λ h. k) (rw q (sym (is.members place l k)) ∙ there)
+          ]
         ]
 
 pub held : (old new : Queues) (queue a b first second : ℕ) → IsPlaced old → IsExchanged old new queue a b first second → (number : ℕ) (place : Place)
@@ -83,12 +83,12 @@ held old new queue a b first second placed is number place there =
           let two : place ≡ at queue b = cc in
           rw (two, h) is.first_is)
       | unequal h ↦ elim (compare_numbers number second) [
-          | equal k ↦
-              (let one : Some place ≡ Some (at queue a) = sym there ∙ ap (λ z. slice_get new.places.items z) k ∙ is.second_at in
-              let two : place ≡ at queue a = cc in
-              rw (two, k) is.second_is)
-          | unequal k ↦ stays h k
-        ]
+        | equal k ↦
+            (let one : Some place ≡ Some (at queue a) = sym there ∙ ap (λ z. slice_get new.places.items z) k ∙ is.second_at in
+            let two : place ≡ at queue a = cc in
+            rw (two, k) is.second_is)
+        | unequal k ↦ stays h k
+      ]
     ]
   where
     stays : number ≢ first → number ≢ second → slice_get (numbers_of new.queues.items place.queue) place.place ≡ Some number
@@ -145,11 +145,11 @@ seats_same old new queue a b first second placed is side = same_list (seats new)
               seat_at first (at queue b) (at queue a) is.first_at (placed.found queue a first is.first_was)
               (even (at queue b) ∙ ap (λ z. record { queue = queue; is_queued = z }) (sym side)))
           | unequal h ↦ elim (compare_numbers number second) [
-              | equal k ↦ rw k (
-                  seat_at second (at queue a) (at queue b) is.second_at (placed.found queue b second is.second_was)
-                  (even (at queue a) ∙ ap (λ z. record { queue = queue; is_queued = z }) side))
-              | unequal k ↦ alike number h k
-            ]
+            | equal k ↦ rw k (
+                seat_at second (at queue a) (at queue b) is.second_at (placed.found queue b second is.second_was)
+                (even (at queue a) ∙ ap (λ z. record { queue = queue; is_queued = z }) side))
+            | unequal k ↦ alike number h k
+          ]
         ]
 
 -- an exchange on one side rearranges
@@ -229,7 +229,7 @@ exchange_leaves old new queue a b here there first second placed is in_a in_b fi
         ∙ ap (λ z. set z b first.number) (map-set (λ (m : Member). m.number) here.members.items a second)
 
     second_now : Compared a b → slice_get (set (set (map (λ (m : Member). m.number) here.members.items) a second.number) b first.number) a ≡ Some second.number
-    second_now (equal h) = 
+    second_now (equal h) =
         let one : Some first.number ≡ Some second.number = sym first_was ∙ ap (λ z. slice_get (numbers_of old.queues.items queue) z) h ∙ second_was in
         let two : first.number ≡ second.number = cc in
         rw (two, h) (get-set_same (set (map (λ (m : Member). m.number) here.members.items) b second.number) b second.number (rw length-set (rw (← was_numbers) in_b)))

@@ -131,7 +131,7 @@ host_in here test jobs hosts number job is within at passes =
         ap (λ z. slice_get (numbers_of here.hosts.queues.items z) there.0.place) first ∙ is.pool.hosts.held job.host there.0 there.1 in
         contained (hosts_in hosts here) there.0.place (key_at hosts job.host)
         (mapped (key_at hosts) (take (queued_of here.hosts.queues.items 0) (numbers_of here.hosts.queues.items 0)) there.0.place job.host
-            (taken (numbers_of here.hosts.queues.items 0) (queued_of here.hosts.queues.items 0) there.0.place lt ∙ held))
+        (taken (numbers_of here.hosts.queues.items 0) (queued_of here.hosts.queues.items 0) there.0.place lt ∙ held))
 
     go : (count : ℕ) → queued_of here.numbers.queues.items job.host ≡ count
         → slice_get (seats here.hosts) job.host ≡ Some (record { queue = 0; is_queued = nat_lt 0 (queued_of here.numbers.queues.items job.host) })

@@ -156,7 +156,9 @@ seat_place queues number seat at = go (slice_get queues.places.items number) ref
     go (Some place) e =
         let some : Some (seat_of queues.queues.items place) ≡ Some seat =
         sym (slice_get-map (seat_of queues.queues.items) queues.places.items number ∙ ap (λ z. option_map (seat_of queues.queues.items) z) e) ∙ at in (
-          place, e, cc,
+          place,
+          e,
+          cc,
         )
 
 -- where a queue has somebody in it there is one at each place below the count

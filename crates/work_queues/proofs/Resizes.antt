@@ -44,9 +44,9 @@ still_placed old new placed numbers places within =
 pub alike : (old new : Queues) → IsPlaced old → ((queue : ℕ) → numbers_of new.queues.items queue ≡ numbers_of old.queues.items queue)
     → ((queue : ℕ) → queued_of new.queues.items queue ≡ queued_of old.queues.items queue) → new.places.items ≡ old.places.items → IsPlaced new × (seats new ≡ seats old)
 alike old new placed numbers queued places = (
-      still_placed old new placed numbers places (λ queue. rw (queued queue, numbers queue) (placed.within queue)),
-      ap (λ z. map (seat_of new.queues.items) z) places ∙ same_list (map (seat_of new.queues.items) old.places.items) (map (seat_of old.queues.items) old.places.items) each,
-    )
+  still_placed old new placed numbers places (λ queue. rw (queued queue, numbers queue) (placed.within queue)),
+  ap (λ z. map (seat_of new.queues.items) z) places ∙ same_list (map (seat_of new.queues.items) old.places.items) (map (seat_of old.queues.items) old.places.items) each,
+)
   where
     maps : (o : Option Place) → option_map (seat_of new.queues.items) o ≡ option_map (seat_of old.queues.items) o
     maps None = refl
@@ -91,11 +91,11 @@ pub resized : (old new : Queues) (queue boundary : ℕ) (here there : Queue) →
     → map (λ member. member.number) there.members.items ≡ map (λ member. member.number) here.members.items → there.queued ≤ length (numbers_of old.queues.items queue)
     → IsMoved boundary here.queued there.queued → new.places.items ≡ old.places.items
     → IsPlaced new × ((number : ℕ) → slice_get (numbers_of old.queues.items queue) boundary ≡ Some number
-        → seats new ≡ set (seats old) number (record { queue = queue; is_queued = nat_lt boundary there.queued }))
+    → seats new ≡ set (seats old) number (record { queue = queue; is_queued = nat_lt boundary there.queued }))
 resized old new queue boundary here there placed at queues numbers few moved places = (
-      still_placed old new placed same_numbers places inside,
-      λ number stands. same_list (seats new) (set (seats old) number (record { queue = queue; is_queued = nat_lt boundary there.queued })) (each number stands),
-    )
+  still_placed old new placed same_numbers places inside,
+  λ number stands. same_list (seats new) (set (seats old) number (record { queue = queue; is_queued = nat_lt boundary there.queued })) (each number stands),
+)
   where
     lt : queue < length old.queues.items
     lt = slice_get_within old.queues.items queue here at
@@ -136,10 +136,10 @@ resized old new queue boundary here there placed at queues numbers few moved pla
               let apart : place.place ≢ boundary = λ k. differ (let e : slice_get (numbers_of old.queues.items place.queue) place.place ≡ Some number = rw (h, k) stands in cc) in
               ap (λ z. record { queue = place.queue; is_queued = z })
               (ap (λ z. nat_lt place.place (queued_of new.queues.items z)) h
-                  ∙ ap (λ z. nat_lt place.place z) queued_here
-                  ∙ moved place.place apart
-                  ∙ ap (λ z. nat_lt place.place z) (sym queued_was)
-                  ∙ ap (λ z. nat_lt place.place (queued_of old.queues.items z)) (sym h)))
+              ∙ ap (λ z. nat_lt place.place z) queued_here
+              ∙ moved place.place apart
+              ∙ ap (λ z. nat_lt place.place z) (sym queued_was)
+              ∙ ap (λ z. nat_lt place.place (queued_of old.queues.items z)) (sym h)))
           | unequal h ↦ ap (λ z. record { queue = place.queue; is_queued = nat_lt place.place z }) (queued_there place.queue h)
         ]
 
@@ -161,9 +161,9 @@ resized old new queue boundary here there placed at queues numbers few moved pla
               (let there_at : slice_get old.places.items number ≡ Some (record { queue = queue; place = boundary }) = placed.found queue boundary number stands in
               let few_seats : number < length (seats old) = slice_get_within (seats old) number _ (seat_old number _ there_at) in
               rw h (
-                  seat_new number _ there_at
-                  ∙ ap (λ z. Some (record { queue = queue; is_queued = nat_lt boundary z })) queued_here
-                  ∙ sym (get-set_same (seats old) number (record { queue = queue; is_queued = nat_lt boundary there.queued }) few_seats)))
+              seat_new number _ there_at
+              ∙ ap (λ z. Some (record { queue = queue; is_queued = nat_lt boundary z })) queued_here
+              ∙ sym (get-set_same (seats old) number (record { queue = queue; is_queued = nat_lt boundary there.queued }) few_seats)))
           | unequal h ↦ unmoved number other stands h ∙ sym (get-set_other (seats old) number other (record { queue = queue; is_queued = nat_lt boundary there.queued }) h)
         ]
 
@@ -173,8 +173,8 @@ with_queue old queue there = record { queues = with_item old.queues queue there;
 
 pub admitted : (old : Queues) (queue : ℕ) (here : Queue) → IsPlaced old → slice_get old.queues.items queue ≡ Some here → here.queued < length (numbers_of old.queues.items queue)
     → IsPlaced (with_queue old queue (record { members = here.members; queued = here.queued + 1 }))
-      × ((number : ℕ) → slice_get (numbers_of old.queues.items queue) (queued_of old.queues.items queue) ≡ Some number
-        → seats (with_queue old queue (record { members = here.members; queued = here.queued + 1 })) ≡ set (seats old) number (record { queue = queue; is_queued = true }))
+    × ((number : ℕ) → slice_get (numbers_of old.queues.items queue) (queued_of old.queues.items queue) ≡ Some number
+    → seats (with_queue old queue (record { members = here.members; queued = here.queued + 1 })) ≡ set (seats old) number (record { queue = queue; is_queued = true }))
 admitted old queue here placed at few =
     let both = resized old (with_queue old queue (record { members = here.members; queued = here.queued + 1 })) queue here.queued here
     (record { members = here.members; queued = here.queued + 1 }) placed at refl refl (omega arith) (one_more here.queued) refl in (
@@ -186,8 +186,8 @@ admitted old queue here placed at few =
 
 pub dismissed : (old : Queues) (queue : ℕ) (here : Queue) → IsPlaced old → slice_get old.queues.items queue ≡ Some here → 0 < here.queued
     → IsPlaced (with_queue old queue (record { members = here.members; queued = here.queued - 1 }))
-      × ((number : ℕ) → slice_get (numbers_of old.queues.items queue) (queued_of old.queues.items queue - 1) ≡ Some number
-        → seats (with_queue old queue (record { members = here.members; queued = here.queued - 1 })) ≡ set (seats old) number (record { queue = queue; is_queued = false }))
+    × ((number : ℕ) → slice_get (numbers_of old.queues.items queue) (queued_of old.queues.items queue - 1) ≡ Some number
+    → seats (with_queue old queue (record { members = here.members; queued = here.queued - 1 })) ≡ set (seats old) number (record { queue = queue; is_queued = false }))
 dismissed old queue here placed at some =
     let within = placed.within queue in
     let queued : queued_of old.queues.items queue ≡ here.queued = queued_at old.queues.items queue here at in

@@ -198,10 +198,10 @@ appended_keeps old new job kept hosts jobs in_hosts out waits parks dues waiting
       out = λ host entry at. kept.out host entry (ap (λ z. slice_get z host) (sym entries) ∙ at) ∙ sym (ap (λ z. host_out z host) jobs ∙ out-append old.jobs.items job host out);
       waiting = subst (λ z. IsSeated new.waiting (λ j. is_waiting j.task) z (length new.hosts.entries)) (sym jobs)
           (subst (λ z. IsSeated new.waiting (λ j. is_waiting j.task) (old.jobs.items ++ job ∷ []) z) (sym lens)
-              (added_seated old.waiting new.waiting (λ j. is_waiting j.task) old.jobs.items (length old.hosts.entries) job kept.waiting waiting waits waiting_seats waiting_queues));
+          (added_seated old.waiting new.waiting (λ j. is_waiting j.task) old.jobs.items (length old.hosts.entries) job kept.waiting waiting waits waiting_seats waiting_queues));
       parked = subst (λ z. IsSeated new.parked (λ j. is_parked j.task) z (length new.hosts.entries)) (sym jobs)
           (subst (λ z. IsSeated new.parked (λ j. is_parked j.task) (old.jobs.items ++ job ∷ []) z) (sym lens)
-              (added_seated old.parked new.parked (λ j. is_parked j.task) old.jobs.items (length old.hosts.entries) job kept.parked parked parks parked_seats parked_queues));
+          (added_seated old.parked new.parked (λ j. is_parked j.task) old.jobs.items (length old.hosts.entries) job kept.parked parked parks parked_seats parked_queues));
       due_placed = due;
       due = due_seats
           ∙ ap (λ z. z ++ record { queue = 0; is_queued = false } ∷ []) kept.due
@@ -289,9 +289,9 @@ opened_keeps old new origin kept hosts jobs due absent waiting waiting_seats wai
     distinct a b in_a in_b same =
         elim (compare_numbers a (length old.hosts.entries)) [
           | equal h ↦ elim (compare_numbers b (length old.hosts.entries)) [
-              | equal k ↦ h ∙ sym k
-              | unequal k ↦ (let lt : b < length old.hosts.entries = omega (arith, in_b, more, k) in absurd (absent b lt (sym (key_old b lt) ∙ sym same ∙ key_new a h)))
-            ]
+            | equal k ↦ h ∙ sym k
+            | unequal k ↦ (let lt : b < length old.hosts.entries = omega (arith, in_b, more, k) in absurd (absent b lt (sym (key_old b lt) ∙ sym same ∙ key_new a h)))
+          ]
           | unequal h ↦
               (let lt_a : a < length old.hosts.entries = omega (arith, in_a, more, h) in
               elim (compare_numbers b (length old.hosts.entries)) [

@@ -16,9 +16,10 @@ fn the_least_label_is_first_also_after_one_was_lowered(rt: HostRuntime) -> Resul
     for expected in [2, 3, 1, 0, 4] {
         assert!(rt; agenda.waiting_len() == 1);
         let number = agenda.waiting_at(0);
-        assert!(rt; number == expected);
+        assert!(rt; number == expected && number < agenda.len());
         assert!(rt; agenda.origin(number).as_str() == "http://h");
         agenda.set(number, Task::Out, 0);
+        assert!(rt; number < agenda.len());
         assert!(rt; agenda.out(number) > 0);
     }
     assert!(rt; agenda.waiting_len() == 0);

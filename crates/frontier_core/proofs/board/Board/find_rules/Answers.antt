@@ -20,7 +20,7 @@ pub returns-then-has_room-clause-found : goal.returns-then-has_room-clause-found
 returns-then-has_room-clause-found c =
     let at = c.parked_at-i.ensures in
     let here : (v : Slot) × (c.parked_at-i.result < length c.args.self.now.entries) × (lookup c.args.self.now.entries (key_at c.args.self.now.entries c.parked_at-i.result) ≡ Some v) × (at.0.task ≡ task_of v.progress)
-        × (at.0.origin ≡ origin_of (key_at c.args.self.now.entries c.parked_at-i.result)) =
+    × (at.0.origin ≡ origin_of (key_at c.args.self.now.entries c.parked_at-i.result)) =
     rw (← c.self.view_is) (there c.self.inside.agenda.items c.self.inside.entries.entries c.parked_at-i.result at.0 c.self.invariant.2 c.self.invariant.0 at.1) in
     let key : c.origin.ensures.0.origin ≡ origin_of (key_at c.args.self.now.entries c.parked_at-i.result) =
     rw (← c.self.view_is) (there c.self.inside.agenda.items c.self.inside.entries.entries c.parked_at-i.result c.origin.ensures.0 c.self.invariant.2 c.self.invariant.0 c.origin.ensures.1).4 in
@@ -36,7 +36,7 @@ pub loop-k-preserved : goal.loop-k-preserved
 loop-k-preserved c =
     let at = c.parked_at-i.ensures in
     let here : (v : Slot) × (c.parked_at-i.result < length c.args.self.now.entries) × (lookup c.args.self.now.entries (key_at c.args.self.now.entries c.parked_at-i.result) ≡ Some v) × (at.0.task ≡ task_of v.progress)
-        × (at.0.origin ≡ origin_of (key_at c.args.self.now.entries c.parked_at-i.result)) =
+    × (at.0.origin ≡ origin_of (key_at c.args.self.now.entries c.parked_at-i.result)) =
     rw (← c.self.view_is) (there c.self.inside.agenda.items c.self.inside.entries.entries c.parked_at-i.result at.0 c.self.invariant.2 c.self.invariant.0 at.1) in
     let key : c.origin.ensures.0.origin ≡ origin_of (key_at c.args.self.now.entries c.parked_at-i.result) =
     rw (← c.self.view_is) (there c.self.inside.agenda.items c.self.inside.entries.entries c.parked_at-i.result c.origin.ensures.0 c.self.invariant.2 c.self.invariant.0 c.origin.ensures.1).4 in

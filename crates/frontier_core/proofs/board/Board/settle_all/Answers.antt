@@ -56,9 +56,9 @@ returns c =
     let change : Text → Slot → Slot = λ u old. slot old.depth (unparked (policy c.args.plan.now) c.args.origin.now c.args.rules.now u old.progress) in
     let stays : changed change c.self.inside.entries.entries ≡ c.self.inside.entries.entries = changed-none change c.self.inside.entries.entries c.self.invariant.0
     (λ u v held. ap (λ q. slot v.depth q) (
-      elim (compare_texts (origin_of u) c.args.origin.now) [
-        | same k e ↦ unparked_settled (policy c.args.plan.now) c.args.origin.now c.args.rules.now u v.progress (none_parked c.self.inside.agenda.items c.self.inside.entries.entries c.args.origin.now c.self.invariant.2 c.self.invariant.0 c.in_default.ensures.none u v k held)
-        | other k e ↦ unparked_other (policy c.args.plan.now) c.args.origin.now c.args.rules.now u v.progress e
-      ])) in
+    elim (compare_texts (origin_of u) c.args.origin.now) [
+      | same k e ↦ unparked_settled (policy c.args.plan.now) c.args.origin.now c.args.rules.now u v.progress (none_parked c.self.inside.agenda.items c.self.inside.entries.entries c.args.origin.now c.self.invariant.2 c.self.invariant.0 c.in_default.ensures.none u v k held)
+      | other k e ↦ unparked_other (policy c.args.plan.now) c.args.origin.now c.args.rules.now u v.progress e
+    ])) in
     let all : settled_all (policy c.args.plan.now) s c.args.origin.now c.args.rules.now ≡ s = rw (← c.self.view_is) (ap (λ z. record { entries = z; origins = c.self.inside.origins.entries; cause = c.self.inside.cause }) stays) in
     sym all ∙ c.loop-i.invariant

@@ -45,7 +45,7 @@ returns-in-Some-clause-none c =
     c.requires.distinct job.0.host c.in-Some.host (c.requires.within number job.0 job.1) within (ap (λ (z : Item). z.origin) (sym job.2) ∙ of ∙ key) in
     none_queued c.args.self.now.parked.numbers c.in-Some.host number c.requires.parked.pool.numbers none
     (seated c.args.self.now.parked parks c.args.self.now.jobs.items (length c.args.self.now.hosts.entries) number job.0 c.requires.parked job.1
-        ∙ ap (λ z. Some (record { queue = z; is_queued = parks job.0 })) same ∙ ap (λ z. Some (record { queue = c.in-Some.host; is_queued = z })) is_in)))
+    ∙ ap (λ z. Some (record { queue = z; is_queued = parks job.0 })) same ∙ ap (λ z. Some (record { queue = c.in-Some.host; is_queued = z })) is_in)))
 
 pub returns-in-None-clause-none : goal.returns-in-None-clause-none
 returns-in-None-clause-none c = λ number item at parked of.

@@ -8,7 +8,7 @@ index-requires c =
     omega (arith, lt)
 
 pub index-requires-2 : goal.index-requires-2
-index-requires-2 c = 
+index-requires-2 c =
     let lt = queue_within c.args.self.now.queues.items c.args.queue c.args.place c.requires in
     let inside = member_within c.args.self.now.queues.items c.args.queue c.args.place c.index.result.now lt c.index.ensures c.requires in
     omega (arith, inside)
