@@ -1,6 +1,6 @@
 -- The lines of a harvest that is complete for a whole site are those of the site.
-use Rattle.std.proofs.Common.{◌≡◌, ℕ, ◌≤◌, zero, suc, Bool, true, false, List, [], ◌∷◌, Option, Some, None, IsSome, IsTrue, length, get_or, map, refl, sym, ap, subst, ◌∙◌, arith}
-use Rattle.std.specs.Prelude.{Contains, All, slice_get}
+use Rattle.std.proofs.Common.{◌≡◌, ℕ, ◌≤◌, zero, Bool, true, false, List, [], ◌∷◌, Option, Some, None, IsSome, IsTrue, length, map, refl, sym, ap, subst, ◌∙◌, arith}
+use Rattle.std.specs.Prelude.{Contains}
 use Rattle.std.specs.List.{filter_map}
 use Rattle.std.proofs.lemmas.Bool.{false≢true}
 use Rattle.std.proofs.lemmas.List.Elements.{Contains-get_or}

@@ -1,15 +1,13 @@
 -- What the entries of a harvest say stands in its frontier's state.
 use Rattle.std.proofs.Common.{◌≡◌, ℕ, ◌<◌, ◌≤◌, ◌⊎◌, inl, inr, Bool, true, false, List, Option, Some, None, length, get_or, map, refl, sym, ap, ◌∙◌, subst, arith}
-use Rattle.std.specs.Prelude.{Contains, AllPairs, option_map, slice_get}
+use Rattle.std.specs.Prelude.{Contains, option_map, slice_get}
 use Rattle.std.proofs.lemmas.Bool.{cases_lt}
 use Rattle.std.proofs.lemmas.List.{length-map}
-use Rattle.std.proofs.lemmas.List.Elements.{Contains-get_or}
 use Rattle.std.proofs.lemmas.List.Sorted.{Contains-permutation, IsPermutation-sym, length_permutation}
 use Rattle.std.proofs.lemmas.Option.{slice_get_past, slice_get-get_or}
 use Rattle.site_answer.specs.declared.outcome.Outcome.{Outcome}
 use Rattle.frontier_core.specs.Tables.{Text, lookup, keys, IsOnce}
-use Rattle.frontier_core.specs.Machine.{State, Slot, Progress, Parked, Waiting, Out, Answered, outcome_in}
-use Rattle.frontier_core.specs.Machine as progress
+use Rattle.frontier_core.specs.Machine.{State, Slot, outcome_in}
 use Rattle.frontier_core.specs.Readers.{Recorded, entry_of, record_of, with_outcome}
 use Rattle.frontier_core.specs.Views.{condition_of}
 use Rattle.workers.specs.Entries.{seen_of, seen_in, said_by, is_refused, IsPlaceOf, Seen}

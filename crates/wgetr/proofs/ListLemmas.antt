@@ -1,6 +1,6 @@
 -- Lists: where the elements of a mapped or a filtered list come from.
 use Rattle.std.proofs.Common.{◌≡◌, ℕ, ◌<◌, ◌≤◌, ◌⊎◌, inl, inr, List, [], ◌∷◌, Option, Some, None, length, get_or, map, zero, suc, refl, sym, ap, ◌∙◌, subst, arith, ◌+◌, ◌++◌, take, append-nil}
-use Rattle.std.specs.Prelude.{Contains, All, AllPairs}
+use Rattle.std.specs.Prelude.{Contains, AllPairs}
 use Rattle.std.specs.List.{filter_map, cons_option}
 use Rattle.std.proofs.lemmas.List.{length-map, get_or-map, take_more}
 use Rattle.std.proofs.lemmas.List.Elements.{Contains-get_or, filter_map-append}

@@ -1,5 +1,5 @@
 -- The parts of a run come to its ending.
-use Rattle.std.proofs.Common.{◌≡◌, ℕ, inl, inr, List, [], Option, Some, None, refl, subst}
+use Rattle.std.proofs.Common.{ℕ, inl, inr, List, [], Option, Some, None, refl, subst}
 use Rattle.site_answer.specs.MapSites.{MapValue}
 use Rattle.site_answer.specs.Maps.{says_of}
 use Rattle.site_answer.specs.Sites.{SiteAnswers}

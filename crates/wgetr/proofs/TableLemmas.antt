@@ -1,11 +1,9 @@
 -- Tables: where a key stands.
-use Rattle.std.proofs.Common.{◌≡◌, ◌≢◌, ℕ, ◌<◌, inl, inr, Bool, true, false, List, [], ◌∷◌, ◌++◌, length, get_or, zero, suc, Some, refl, sym, ◌∙◌, arith}
-use Rattle.std.specs.Prelude.{Contains}
+use Rattle.std.proofs.Common.{◌≡◌, ◌≢◌, ℕ, ◌<◌, Bool, true, false, List, [], ◌∷◌, length, get_or, zero, suc, Some, refl, sym, ◌∙◌, arith}
 use Rattle.std.specs.Str.{bytes_eq}
 use Rattle.std.proofs.lemmas.Slice.Eq.{bytes_eq-Decides}
-use Rattle.std.proofs.lemmas.List.Elements.{Contains-push_cases}
 use Rattle.std.proofs.lemmas.List.{length-map, get_or-map}
-use Rattle.frontier_core.specs.Tables.{Text, lookup, put, keys, IsOnce}
+use Rattle.frontier_core.specs.Tables.{Text, lookup, keys, IsOnce}
 
 -- two texts are one, or not
 pub data Compared (a b : Text) : Type 0 where

@@ -1,5 +1,5 @@
 -- The lines that the entries of a harvest make.
-use Rattle.std.specs.Prelude.{◌≡◌, ℕ, Bool, true, false, List, Option, Some, None, option_map, slice_get}
+use Rattle.std.specs.Prelude.{ℕ, Bool, true, false, List, Option, Some, None, option_map, slice_get}
 use Rattle.std.specs.List.{filter_map}
 use Rattle.frontier_core.specs.Readers.{Recorded}
 use Rattle.workers.specs.Harvests.{Harvested}

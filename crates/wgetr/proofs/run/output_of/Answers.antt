@@ -1,5 +1,4 @@
 -- Each part's fault is the run's, and so is what it tells.
-use Rattle.std.proofs.Common.{ℕ, List, map, Bor, string_bytes}
 use Rattle.std.proofs.lemmas.Result.{err_from_is_err_and}
 use Rattle.wgetr.proofs.RunLaws.{ends_refused, ends_input, ends_retrieved}
 use Rattle.wgetr.specs.Run.{Ended}

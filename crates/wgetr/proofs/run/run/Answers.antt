@@ -1,5 +1,5 @@
 -- What is delivered is the ending's text.
-use Rattle.std.proofs.Common.{inl, inr, subst, ◌∙◌, List, ℕ, map, Bor, sym}
+use Rattle.std.proofs.Common.{inl, inr, subst, ◌∙◌, List, ℕ, map, Bor}
 use Rattle.wgetr.specs.Parts.{IsDelivered}
 use Rattle.wgetr.specs.Run.{Failed, ending_text}
 use Rattle.wgetr.specs.declared.fault.Fault.TheVariants as fault
