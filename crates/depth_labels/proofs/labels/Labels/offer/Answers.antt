@@ -1,4 +1,5 @@
 use Rattle.std.proofs.Common.{◌≡◌, None, refl, sym, ap, rules}
+use Rattle.indexmap.specs.IndexMap.{spare}
 use Rattle.depth_labels.specs.Depths.{depth_at, after_offer}
 use Rattle.depth_labels.proofs.labels.Labels.offer.Goals as goal
 use Rattle.depth_labels.proofs.labels.Labels.offer.Goals.{After-lower, Joined-add, in-Ok, in-Err}
@@ -11,7 +12,7 @@ written c =
     (sym c.in-Some.ensures.index) c.in-Some.ensures.value (sym c.in-Some.ensures.found) c.lower.ensures.depths
 
 pub returns-in-Some-clause-table : goal.returns-in-Some-clause-table
-returns-in-Some-clause-table c = rw (← c.self.view_is) (ap (λ entries. record { most = c.self.inside.max; depths = entries }) (written c))
+returns-in-Some-clause-table c = rw (← c.self.view_is) (ap (λ entries. record { most = c.self.inside.max; depths = entries; room = spare c.lower.new.table }) (written c))
 
 pub returns-in-Some-clause-least : goal.returns-in-Some-clause-least
 returns-in-Some-clause-least c = rw (← c.self.view_is) (rw (written c) (least_at c.self.inside.table.entries c.args.address.now c.args.depth))
