@@ -1,49 +1,24 @@
-use Rattle.std.proofs.Common.{◌≡◌, ◌<◌, length, true, Some, refl, sym, ap, subst, ◌∙◌}
+use Rattle.std.proofs.Common.{◌≡◌, true, Some, refl, sym, ap, subst, ◌∙◌}
 use Rattle.std.specs.Prelude.{if◌then◌else◌}
 use Rattle.std.specs.Str.{bytes_eq}
 use Rattle.address.specs.Address.{origin_of, path_query_of}
 use Rattle.robots_rules.specs.Access.{is_allowed}
-use Rattle.frontier_core.specs.Inner.{key_at, is_parked, IsDistinct}
+use Rattle.frontier_core.specs.Inner.{key_at, is_parked}
 use Rattle.frontier_core.specs.Plans.{policy}
 use Rattle.frontier_core.specs.Tables.{Text, lookup}
-use Rattle.frontier_core.specs.Machine.{State, Slot, Waiting, Refused, slot, unparked}
-use Rattle.frontier_core.specs.Agendas.{IsListed}
-use Rattle.frontier_core.specs.Counters.{IsTallied}
-use Rattle.frontier_core.proofs.AgendaLaws.{listed_put}
-use Rattle.frontier_core.proofs.TableLaws.{distinct-put}
-use Rattle.frontier_core.proofs.IndexLaws.{value_found, written}
-use Rattle.frontier_core.proofs.Tallies.{has_entry, tallied_entry}
+use Rattle.frontier_core.specs.Machine.{State, Slot, Progress, Waiting, Refused, slot, unparked, with_entry}
 use Rattle.frontier_core.proofs.Settled.{unparked_settled, unparked_other, unparked_of, settles_same}
 use Rattle.frontier_core.proofs.board.Board.settle.Goals as goal
 use Rattle.frontier_core.proofs.board.Board.settle.Goals.{else-is_parked-via-then-is_parked+else-eq, else-is_parked-via-else-is_parked}
-
-pub settle-requires : goal.settle-requires
-settle-requires c =
-    has_entry c.self.inside.entries.entries c.self.inside.origins.entries c.self.inside.counters (key_at c.self.inside.entries.entries c.args.i) c.index_mut-slot.result.now c.self.invariant.3
-    (value_found c.self.inside.entries.entries c.args.i c.index_mut-slot.result.now c.self.invariant.0 c.index_mut-slot.ensures.value).1
-
-pub invariant_of-self : goal.invariant_of-self
-invariant_of-self c =
-    let lt : c.args.i < length c.self.inside.entries.entries = rw (← c.self.view_is) at c.requires in (
-      subst (λ z. IsDistinct z) (sym (written c.self.inside.entries.entries c.args.i c.settle.new.self c.self.invariant.0 lt))
-          (distinct-put c.self.inside.entries.entries (key_at c.self.inside.entries.entries c.args.i) c.settle.new.self c.self.invariant.0),
-      c.self.invariant.1,
-      subst (λ z. IsListed c.refile.new.agenda.items z) (sym (written c.self.inside.entries.entries c.args.i c.settle.new.self c.self.invariant.0 lt))
-          (listed_put c.self.inside.agenda.items c.refile.new.agenda.items c.self.inside.entries.entries c.args.i c.settle.new.self c.self.invariant.2 c.self.invariant.0 lt c.refile.ensures),
-      subst (λ z. IsTallied z c.self.inside.origins.entries c.settle.new.counters) (sym (written c.self.inside.entries.entries c.args.i c.settle.new.self c.self.invariant.0 lt))
-          (tallied_entry c.self.inside.entries.entries c.self.inside.origins.entries c.self.inside.counters c.settle.new.counters (key_at c.self.inside.entries.entries c.args.i) c.index_mut-slot.result.now c.settle.new.self c.self.invariant.3
-          (value_found c.self.inside.entries.entries c.args.i c.index_mut-slot.result.now c.self.invariant.0 c.index_mut-slot.ensures.value).1 c.settle.ensures.counted),
-    )
 
 pub returns-then-eq : goal.returns-then-eq
 returns-then-eq c =
     let s : State = c.args.self.now in
     let u : Text = key_at s.entries c.args.i in
-    let old : Slot = c.index_mut-slot.result.now in
-    let lt : c.args.i < length c.self.inside.entries.entries = rw (← c.self.view_is) at c.requires in
-    let held : lookup s.entries u ≡ Some old = rw (← c.self.view_is) (value_found c.self.inside.entries.entries c.args.i c.index_mut-slot.result.now c.self.invariant.0 c.index_mut-slot.ensures.value).1 in
-    let is : c.slot_at.result.now ≡ old = cc (c.slot_at.ensures, held) in
-    let parked : is_parked old.progress ≡ true = subst (λ (z : Slot). is_parked z.progress ≡ true) is (sym c.is_parked.ensures ∙ c.if-is_parked.true) in
+    let l = c.advance.ensures in
+    let seen : Slot = slot c.stage_at.ensures.0 c.stage_at.result.now in
+    let is : seen ≡ l.0 = cc (c.stage_at.ensures.1, l.1) in
+    let parked : is_parked l.0.progress ≡ true = subst (λ (z : Slot). is_parked z.progress ≡ true) is (sym c.is_parked.ensures ∙ c.if-is_parked.true) in
     let of : bytes_eq (origin_of u) c.args.origin.now ≡ true =
     ap (λ z. bytes_eq (origin_of z) c.args.origin.now) (sym c.address_at-address.ensures)
     ∙ ap (λ z. bytes_eq z c.args.origin.now) (sym c.origin.ensures.value)
@@ -53,23 +28,20 @@ returns-then-eq c =
     sym (c.allows-is_allowed.ensures.value
     ∙ ap (λ z. is_allowed c.args.rules.now z) c.path_query.ensures.value
     ∙ ap (λ z. is_allowed c.args.rules.now (path_query_of z)) c.address_at-address.ensures) in
-    let settles : slot old.depth (unparked (policy c.args.plan.now) c.args.origin.now c.args.rules.now u old.progress) ≡ c.settle.new.self =
-    ap (λ q. slot old.depth q) (unparked_of (policy c.args.plan.now) c.args.origin.now c.args.rules.now u old.progress parked of)
-    ∙ ap (λ b. slot old.depth (if b then Waiting else Refused)) allows
-    ∙ sym c.settle.ensures.slot in (
-      old,
-      held,
-      rw settles (rw (← c.self.view_is) (rw (written c.self.inside.entries.entries c.args.i c.settle.new.self c.self.invariant.0 lt) refl)),
-    )
+    let settles : unparked (policy c.args.plan.now) c.args.origin.now c.args.rules.now u l.0.progress ≡ c.settled.result =
+    unparked_of (policy c.args.plan.now) c.args.origin.now c.args.rules.now u l.0.progress parked of
+    ∙ ap (λ b. if b then Waiting else Refused) allows
+    ∙ sym c.settled.ensures in
+    (l.0, l.1, l.2 ∙ ap (λ q. with_entry s u (slot l.0.depth q)) (sym settles))
 
 pub returns-else-is_parked : goal.returns-else-is_parked
 returns-else-is_parked c =
     let s : State = c.args.self.now in
     let u : Text = key_at s.entries c.args.i in
-    let old : Slot = c.slot_at.result.now in (
+    let old : Slot = slot c.stage_at.ensures.0 c.stage_at.result.now in (
       old,
-      c.slot_at.ensures,
-      settles_same (policy c.args.plan.now) s c.args.origin.now c.args.rules.now u old c.slot_at.ensures (
+      c.stage_at.ensures.1,
+      settles_same (policy c.args.plan.now) s c.args.origin.now c.args.rules.now u old c.stage_at.ensures.1 (
           elim c.else-is_parked.branch [
             | else-is_parked-via-then-is_parked+else-eq w ↦
                 unparked_other (policy c.args.plan.now) c.args.origin.now c.args.rules.now u old.progress
