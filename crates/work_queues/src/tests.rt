@@ -4,21 +4,22 @@ use address::{Address, Origin};
 use std::alloc::Global;
 use std::test::Fail;
 
-// What is added, each with its origin's address and its label. Then number 5 is lowered to 3.
-const ADDED: [(&str, u32); 9] = [
-    ("http://h/", 4),
-    ("http://h/", 7),
-    ("http://k/", 5),
+// What is added, each with its origin's address and its label. Then number 6 is lowered to 3.
+const ADDED: [(&str, u32); 10] = [
     ("http://h/", 9),
-    ("http://h/", 2),
-    ("http://h/", 8),
-    ("http://k/", 1),
-    ("http://h/", 4),
+    ("http://h/", 1),
+    ("http://k/", 7),
     ("http://h/", 6),
+    ("http://h/", 4),
+    ("http://h/", 11),
+    ("http://h/", 8),
+    ("http://k/", 2),
+    ("http://k/", 10),
+    ("http://h/", 11),
 ];
 
 // The numbers by their labels from then on, equal labels by number.
-const ORDER: [usize; 9] = [6, 4, 5, 0, 7, 2, 8, 1, 3];
+const ORDER: [usize; 10] = [1, 7, 6, 4, 3, 2, 0, 8, 5, 9];
 
 // A number of which this is left to do: that of the least label.
 fn first(agenda: &Agenda, task: Task) -> Option<usize> {
@@ -43,8 +44,8 @@ fn filled(alloc: Global, task: Task) -> Result<Agenda, Fail> {
 fn the_least_label_is_first_also_after_one_was_lowered(rt: HostRuntime) -> Result<(), Fail> {
     for task in [Task::Parked, Task::Waiting, Task::Due] {
         let mut agenda = filled(rt.alloc(), task)?;
-        assert!(rt; agenda.len() == 9);
-        agenda.set(5, task, 3);
+        assert!(rt; agenda.len() == 10);
+        agenda.set(6, task, 3);
         for expected in ORDER {
             assert!(rt;
                 first(&agenda, task) == Some(expected),
@@ -65,11 +66,12 @@ fn a_number_is_found_by_what_is_left_to_do(rt: HostRuntime) -> Result<(), Fail> 
     let home = Address::read(alloc, "http://h/")?;
     let away = Address::read(alloc, "http://i/")?;
     agenda.add(alloc, Origin::of(&home)?, Task::Out, 0)?;
+    agenda.add(alloc, Origin::of(&away)?, Task::Parked, 2)?;
     agenda.add(alloc, Origin::of(&away)?, Task::Parked, 1)?;
-    assert!(rt; agenda.len() == 2);
+    assert!(rt; agenda.len() == 3);
     assert!(rt; agenda.first_due().is_none());
     assert!(rt; agenda.first_parked(&Origin::of(&home)?).is_none());
-    assert!(rt; agenda.first_parked(&Origin::of(&away)?) == Some(1));
+    assert!(rt; agenda.first_parked(&Origin::of(&away)?) == Some(2));
     assert!(rt; agenda.origin(1).as_str() == "http://i");
     assert!(rt; agenda.out(0) == 1);
     assert!(rt; agenda.out(1) == 0);
