@@ -76,4 +76,4 @@ pub reads_line : {U : Type 0} (old new : Reading) (r : Result U LineFault) (line
 reads_line old new (Ok u) line s form takes above t = let h = takes above t in (s, form, h.0, h.1)
 reads_line old new (Err Line) line s form takes above t = inr (s, form, takes above t)
 reads_line old new (Err Address) line s form takes above t = let h = takes above t in (s, form, h.0, h.1)
-reads_line old new (Err Memory) line s form takes above t = tt
+reads_line old new (Err Memory) line s form takes above t = (s, form, takes above t)

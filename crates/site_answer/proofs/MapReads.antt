@@ -52,4 +52,4 @@ pub first_bad : (text : List ℕ) (k : ℕ) (line : List ℕ) (above : List Stat
     → IsMap (take k (lines_of text)) above → IsBad above line f → IsFault text (numbered f (k + 1))
 first_bad text k line above Line at m bad = (k, refl, line, at, above, m, bad)
 first_bad text k line above Address at m bad = (k, refl, line, at, above, m, bad)
-first_bad text k line above Memory at m bad = tt
+first_bad text k line above Memory at m bad = inl (k + 1, (k, refl, line, at, above, m, bad))

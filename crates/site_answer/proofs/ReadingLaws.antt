@@ -25,7 +25,7 @@ use Rattle.site_answer.specs.declared.reading.Open.TheVariants.{Page, Robots}
 use Rattle.site_answer.specs.declared.reading.Reading.{Reading}
 use Rattle.site_answer.specs.RuleLines.{file_head, file_line}
 use Rattle.site_answer.specs.Lines.{Statement, skipped, page, edge, moved, leaf, fault, robots, closed, rule}
-use Rattle.site_answer.specs.Maps.{named, edges_below, answers_of, file_below, rules_of, is_between, is_ruling, HasAbove, IsPage, IsRobots, IsInPlace, IsNamed, IsAtRoot, IsRepeated, IsGood, texts_of}
+use Rattle.site_answer.specs.Maps.{named, edges_below, answers_of, file_below, rules_of, is_between, is_ruling, HasAbove, HasRobots, IsPage, IsRobots, IsInPlace, IsNamed, IsAtRoot, IsRepeated, IsGood, texts_of}
 use Rattle.site_answer.specs.Readings.{opened, opened_rules, answers_in, all_rules, IsFresh, TellsAnswers, TellsRules, Tells, IsWrong, IsTaken, Closes, Adds, Takes}
 use Rattle.site_answer.proofs.MapLaws.{snoc_same, edges_below-go, answers_of-append, answers_of-skipped, answers_of-open, file_below-go, file_below-skipped, rules_of-append, rules_of-skipped, rules_of-open, head_above, still_above, was_above, ends_above, page_apart, robots_apart}
 
@@ -338,13 +338,13 @@ fresh_of r above t = record { page = t.answers.fresh; origin = t.rules.fresh }
 -- an address of the line is refused, or memory ran out
 pub unnamed : (above : List Statement) (s : Statement) (text : List ℕ) (f : LineFault) → IsInPlace above s → (All IsNamed (texts_of s) → IsNamed text)
     → (f ≡ Memory) ⊎ ((f ≡ Address) × ¬ IsNamed text) → IsWrong above s f
-unnamed above s text f place all (inl e) = rw e tt
+unnamed above s text f place all (inl e) = rw e place
 unnamed above s text f place all (inr h) = rw h.0 (place, λ each. h.1 (all each))
 
 -- the same of a line with an origin, whose address may also have a path
 pub unrooted : (above : List Statement) (s : Statement) (text : List ℕ) (f : LineFault) → IsInPlace above s → texts_of s ≡ text ∷ [] → (IsAtRoot s → path_query_of (named text) ≡ codes "/")
     → (f ≡ Memory) ⊎ ((f ≡ Address) × ¬ IsNamed text) ⊎ ((f ≡ Line) × IsNamed text × (path_query_of (named text) ≢ codes "/")) → IsWrong above s f
-unrooted above s text f place texts root (inl e) = rw e tt
+unrooted above s text f place texts root (inl e) = rw e place
 unrooted above s text f place texts root (inr (inl h)) = rw h.0 (place, λ each. h.1 (All-head IsNamed text [] (rw texts at each)))
 unrooted above s text f place texts root (inr (inr h)) =
     rw h.0 (inr (place, rw texts (All-cons IsNamed text [] h.1 (All-nil IsNamed)), inl (λ k. h.2 (root k))))
@@ -352,13 +352,13 @@ unrooted above s text f place texts root (inr (inr h)) =
 -- the line's address has an answer, or memory ran out
 pub claimed : (above : List Statement) (s : Statement) (address : List ℕ) (x : Outcome) (f : LineFault) → IsInPlace above s → All IsNamed (texts_of s)
     → answers_of (s ∷ []) ≡ (address, x) ∷ [] → IsTaken (answers_of above) address f → IsWrong above s f
-claimed above s address x f place all shape (inl e) = rw e tt
+claimed above s address x f place all shape (inl e) = rw e place
 claimed above s address x f place all shape (inr h) = rw h.0 (inr (place, all, inr (inl (address, rw shape (finds_own address x), h.1))))
 
 -- the line's origin has rules, or memory ran out
 pub claimed_origin : (above : List Statement) (s : Statement) (origin : List ℕ) (r : RuleSetValue) (f : LineFault) → IsInPlace above s → All IsNamed (texts_of s)
     → rules_of (s ∷ []) ≡ (origin, r) ∷ [] → IsTaken (rules_of above) origin f → IsWrong above s f
-claimed_origin above s origin r f place all shape (inl e) = rw e tt
+claimed_origin above s origin r f place all shape (inl e) = rw e place
 claimed_origin above s origin r f place all shape (inr h) = rw h.0 (inr (place, all, inr (inr (origin, rw shape (finds_own origin r), h.1))))
 
 -- ---- lines that state an answer
@@ -560,26 +560,29 @@ takes_closed old new above text origin t named root names none is answers rules 
       },
     )
 
+-- an origin that is open stands above
+pub below_origin : (old : Reading) (above : List Statement) (r : OpenRobots) → Tells old above → old.open ≡ Some (Robots r) → HasRobots above
+below_origin old above r t was = let h = t.rules.above_open r was in (h.higher, robots h.text, h.between, h.lines, (h.text, refl), h.ruling)
+
 -- a rule line below its origin is good, and what is kept stands for it
 pub takes_rule : (old new : Reading) (above : List Statement) (kind : RuleKind) (rest : List ℕ) (r q : OpenRobots)
     → Tells old above → old.open ≡ Some (Robots r) → new.open ≡ Some (Robots q) → q.origin ≡ r.origin
     → string_bytes q.file ≡ string_bytes r.file ++ file_line kind rest → new.answers.entries ≡ old.answers.entries → new.rules.entries ≡ old.rules.entries
     → IsGood above (rule kind rest) × Tells new (above ++ rule kind rest ∷ [])
-takes_rule old new above kind rest r q t was is origin file answers rules =
-    let h = t.rules.above_open r was in (
-      record {
-        in_place = (h.higher, robots h.text, h.between, h.lines, (h.text, refl), h.ruling);
-        are_named = All-nil IsNamed;
-        at_root = tt;
-        is_new = not_repeated_bare above (rule kind rest) refl refl;
-      },
-      record {
-        answers =
-            took_answers old new above (rule kind rest) [] refl (λ k. let e = k.2 in cc) refl t.answers (λ p e. let k = sym is ∙ e in cc)
-            (answers ∙ sym (append-nil old.answers.entries) ∙ ap (λ o. old.answers.entries ++ opened o) (sym was) ∙ sym (append-nil (answers_in old)));
-        rules = took_rule old new above kind rest r q t.rules was is origin file rules;
-      },
-    )
+takes_rule old new above kind rest r q t was is origin file answers rules = (
+  record {
+    in_place = below_origin old above r t was;
+    are_named = All-nil IsNamed;
+    at_root = tt;
+    is_new = not_repeated_bare above (rule kind rest) refl refl;
+  },
+  record {
+    answers =
+        took_answers old new above (rule kind rest) [] refl (λ k. let e = k.2 in cc) refl t.answers (λ p e. let k = sym is ∙ e in cc)
+        (answers ∙ sym (append-nil old.answers.entries) ∙ ap (λ o. old.answers.entries ++ opened o) (sym was) ∙ sym (append-nil (answers_in old)));
+    rules = took_rule old new above kind rest r q t.rules was is origin file rules;
+  },
+)
 
 -- a skipped line is good
 pub good_skipped : (above : List Statement) → IsGood above skipped

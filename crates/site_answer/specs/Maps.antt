@@ -171,14 +171,18 @@ IsBadLine above line =
 abbrev pub IsBadAddress : List Statement → List ℕ → Type 0
 IsBadAddress above line = (s : Statement) × HasForm line s × IsInPlace above s × ¬ All IsNamed (texts_of s)
 
+-- the line has its form and its place: memory may run out over it, and over no other
+abbrev pub IsPlaced : List Statement → List ℕ → Type 0
+IsPlaced above line = (s : Statement) × HasForm line s × IsInPlace above s
+
 -- the lines before number n, counted from 1, are a map, and this is true of line n below what they say
 abbrev pub FirstBad : List (List ℕ) → ℕ → (List Statement → List ℕ → Type 0) → Type 0
 FirstBad lines n IsBad =
     (k : ℕ) × (n ≡ k + 1) × (line : List ℕ) × (slice_get lines k ≡ Some line)
     × (above : List Statement) × IsMap (take k lines) above × IsBad above line
 
--- the fault of a text that is no map: its first bad line, and what is wrong with it
+-- the fault of a text: its first bad line, and what is wrong with it; or memory ran out, over a line below a map, or behind the last
 abbrev pub IsFault : List ℕ → InputFault → Type 0
 IsFault text (Line n) = FirstBad (lines_of text) n IsBadLine
 IsFault text (Address n) = FirstBad (lines_of text) n IsBadAddress
-IsFault text Memory = Unit {0}
+IsFault text Memory = ((n : ℕ) × FirstBad (lines_of text) n IsPlaced) ⊎ ((said : List Statement) × IsMap (lines_of text) said)

@@ -16,7 +16,7 @@ use Rattle.site_answer.specs.declared.reading.Open.TheVariants.{Page, Robots}
 use Rattle.site_answer.specs.declared.reading.Reading.{Reading}
 use Rattle.site_answer.specs.RuleLines.{file_head}
 use Rattle.site_answer.specs.Lines.{Statement, robots, HasForm}
-use Rattle.site_answer.specs.Maps.{named, answers_of, file_below, rules_of, is_ruling, HasPage, HasRobots, IsInPlace, IsNamed, IsAtRoot, IsRepeated, IsGood, IsBadLine, IsBadAddress, texts_of}
+use Rattle.site_answer.specs.Maps.{named, answers_of, file_below, rules_of, is_ruling, HasPage, HasRobots, IsInPlace, IsNamed, IsAtRoot, IsRepeated, IsGood, IsBadLine, IsBadAddress, IsPlaced, texts_of}
 
 -- ---- what is kept
 
@@ -97,12 +97,17 @@ abbrev pub IsWrong : List Statement → Statement → LineFault → Type 0
 IsWrong above s Line =
     ¬ IsInPlace above s ⊎ (IsInPlace above s × All IsNamed (texts_of s) × (¬ IsAtRoot s ⊎ IsRepeated above s))
 IsWrong above s Address = IsInPlace above s × ¬ All IsNamed (texts_of s)
-IsWrong above s Memory = Unit {0}
+IsWrong above s Memory = IsInPlace above s
 
 -- the text is read as this address, or is refused
 abbrev pub Names : List ℕ → Result (List ℕ) LineFault → Type 0
 Names text result =
     MatchResult result (λ address. read_address text ≡ Ok address) (λ f. (f ≡ Memory) ⊎ ((f ≡ Address) × ¬ IsNamed text))
+
+-- the address is its origin's `/`, or the line is bad
+abbrev pub IsRoot : {U : Type 0} → List ℕ → Result U LineFault → Type 0
+IsRoot address result =
+    MatchResult result (λ _. path_query_of address ≡ codes "/") (λ f. (f ≡ Line) × (path_query_of address ≢ codes "/"))
 
 -- the text is read as the address of this origin's `/`, or is refused
 abbrev pub NamesOrigin : List ℕ → Result (List ℕ) LineFault → Type 0
@@ -116,6 +121,11 @@ pub record Closes (old new : Reading) : Type 0 where
   pub closed : new.open ≡ None
   pub answers : new.answers.entries ≡ answers_in old
   pub rules : new.rules.entries ≡ all_rules old
+
+-- the key has no entry, or the line is bad
+abbrev pub IsVacant : {U V : Type 0} → List (List ℕ × V) → List ℕ → Result U LineFault → Type 0
+IsVacant entries key result =
+    MatchResult result (λ _. lookup (bytes_eq key) entries ≡ None) (λ f. (f ≡ Line) × IsSome (lookup (bytes_eq key) entries))
 
 -- memory ran out, or the key has an entry already
 abbrev pub IsTaken : {V : Type 0} → List (List ℕ × V) → List ℕ → LineFault → Type 0
@@ -157,7 +167,7 @@ Takes old s result new =
 abbrev pub IsBad : List Statement → List ℕ → LineFault → Type 0
 IsBad above line Line = IsBadLine above line
 IsBad above line Address = IsBadAddress above line
-IsBad above line Memory = Unit {0}
+IsBad above line Memory = IsPlaced above line
 
 -- the bytes are a line that is taken below the lines so far, or are refused for what is wrong with them
 abbrev pub Reads : {U : Type 0} → Reading → List ℕ → Result U LineFault → Reading → Type 0

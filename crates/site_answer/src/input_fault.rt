@@ -1,4 +1,5 @@
 //! Faults of an input that tells of a site: the first bad line.
+use address::AddressFault;
 use std::alloc::{AllocError, AllocFailed};
 use std::fmt;
 
@@ -9,7 +10,8 @@ pub enum InputFault {
     Line(usize),
     /// An address of this line is refused.
     Address(usize),
-    /// Memory ran out.
+    /// Memory ran out: over a line that has its form and its place, below good lines, or behind
+    /// the last line.
     Memory,
 }
 
@@ -65,6 +67,20 @@ impl LineFault {
             LineFault::Line => InputFault::Line(number),
             LineFault::Address => InputFault::Address(number),
             LineFault::Memory => InputFault::Memory,
+        }
+    }
+}
+
+impl From<AddressFault> for LineFault {
+    ghost use Rattle.std.specs.Prelude.{◌≡◌};
+    ghost use Rattle.site_answer.specs.Faults.{wrong_of};
+
+    ghost from_gives = { λ refusal fault. fault ≡ wrong_of refusal };
+
+    fn from(refusal: AddressFault) -> LineFault {
+        match refusal {
+            AddressFault::Memory => LineFault::Memory,
+            _ => LineFault::Address,
         }
     }
 }

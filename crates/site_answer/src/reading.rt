@@ -2,7 +2,7 @@
 ghost use Rattle.std.specs.Prelude.{[], OnOk};
 ghost use Rattle.site_answer.specs.Lines.{page, edge, moved, leaf, fault, robots, closed, rule};
 ghost use Rattle.site_answer.specs.Said.{said};
-ghost use Rattle.site_answer.specs.Readings.{IsFresh, Tells, Names, NamesOrigin, Closes, Claims, ClaimsOrigin, Adds, Takes, Reads};
+ghost use Rattle.site_answer.specs.Readings.{IsFresh, IsRoot, IsVacant, Tells, Names, NamesOrigin, Closes, Claims, ClaimsOrigin, Adds, Takes, Reads};
 
 use crate::edge::{Edge, EdgeKind, Edges};
 use crate::fault_kind::FaultKind;
@@ -12,7 +12,7 @@ use crate::map_line::MapLine;
 use crate::open_robots::OpenRobots;
 use crate::outcome::Outcome;
 use crate::rule_kind::RuleKind;
-use address::{Address, AddressFault, Origin};
+use address::{Address, Origin};
 use indexmap::IndexMap;
 use robots_rules::RuleSet;
 use std::alloc::{AllocError, Global};
@@ -61,11 +61,7 @@ impl Reading {
     fn named(alloc: Global, text: &str) -> Result<Address, LineFault>
         ensures { Names text.now result }
     {
-        match Address::read(alloc, text) {
-            Ok(address) => Ok(address),
-            Err(AddressFault::Memory) => Err(LineFault::Memory),
-            Err(_) => Err(LineFault::Address),
-        }
+        Ok(Address::read(alloc, text)?)
     }
 
     // The origin whose `/` a text names.
@@ -73,10 +69,18 @@ impl Reading {
         ensures { NamesOrigin text.now result }
     {
         let address = Reading::named(self.alloc, text)?;
+        Reading::at_root(&address)?;
+        Ok(Origin::of(&address)?)
+    }
+
+    // Refuses an address that isn't its origin's `/`. Takes no memory.
+    fn at_root(address: &Address) -> Result<(), LineFault>
+        ensures { IsRoot address.now result }
+    {
         if address.path_query() != "/" {
             return Err(LineFault::Line);
         }
-        Ok(Origin::of(&address)?)
+        Ok(())
     }
 
     // Keeps what the open page or the open origin has: no line of theirs follows any more.
@@ -109,6 +113,13 @@ impl Reading {
         ensures { Claims self.old address.now result self.new }
     {
         self.close()?;
+        self.unstated(address)
+    }
+
+    // Refuses an address for which an answer is kept. Takes no memory.
+    fn unstated(&self, address: &Address) -> Result<(), LineFault>
+        ensures { IsVacant self.now.answers.entries address.now result }
+    {
         if self.answers.contains_key(address) {
             return Err(LineFault::Line);
         }
@@ -120,6 +131,13 @@ impl Reading {
         ensures { ClaimsOrigin self.old origin.now result self.new }
     {
         self.close()?;
+        self.unruled(origin)
+    }
+
+    // Refuses an origin for which rules are kept. Takes no memory.
+    fn unruled(&self, origin: &Origin) -> Result<(), LineFault>
+        ensures { IsVacant self.now.rules.entries origin.now result }
+    {
         if self.rules.contains_key(origin) {
             return Err(LineFault::Line);
         }

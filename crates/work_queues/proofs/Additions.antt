@@ -1,17 +1,16 @@
 -- A number that is added, and a queue that is opened.
-use Rattle.std.proofs.Common.{◌≡◌, ◌≢◌, ◌⊎◌, ◌<◌, ◌≤◌, ◌+◌, ℕ, zero, suc, Bool, true, false, List, [], ◌∷◌, ◌++◌, map, set, length, Option, Some, None, nat_lt, inl, inr, refl, sym, ap, ◌∙◌, subst, arith}
-use Rattle.std.specs.Prelude.{slice_get, vec_len}
-use Rattle.std.specs.Option.{option_map}
+use Rattle.std.proofs.Common.{◌≡◌, ◌≢◌, ◌⊎◌, ◌≤◌, ◌+◌, ℕ, zero, suc, false, List, [], ◌∷◌, ◌++◌, map, set, length, Some, nat_lt, inl, inr, refl, sym, ap, ◌∙◌, arith}
+use Rattle.std.specs.Prelude.{slice_get}
 use Rattle.std.proofs.lemmas.Bool.Decides.{nat_tests}
-use Rattle.std.proofs.lemmas.Option.{slice_get-map, slice_get_within}
+use Rattle.std.proofs.lemmas.Option.{slice_get_within}
 use Rattle.std.proofs.Common.{length-append}
 use Rattle.std.proofs.lemmas.List.{length-map}
-use Rattle.work_queues.specs.Queues.{Seat, numbers_of, queued_of, seat_of, seats, IsPlaced}
+use Rattle.work_queues.specs.Queues.{numbers_of, queued_of, seat_of, seats, IsPlaced}
 use Rattle.work_queues.specs.declared.queues.Member.{Member}
 use Rattle.work_queues.specs.declared.queues.Queue.{Queue}
 use Rattle.work_queues.specs.declared.queues.Place.{Place}
 use Rattle.work_queues.specs.declared.queues.Queues.{Queues}
-use Rattle.work_queues.proofs.QueueLaws.{Compared, equal, unequal, compare_numbers, same_list, numbers_at, queued_at, numbers-set_same, numbers-set_other, queued-set_even}
+use Rattle.work_queues.proofs.QueueLaws.{equal, unequal, compare_numbers, numbers_at, numbers-set_same, numbers-set_other, queued-set_even}
 
 -- ---- one element more
 

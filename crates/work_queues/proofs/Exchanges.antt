@@ -1,5 +1,5 @@
 -- Two members of a queue that change places.
-use Rattle.std.proofs.Common.{◌≡◌, ◌≢◌, ◌⊎◌, ◌<◌, ℕ, Bool, List, [], ◌∷◌, map, set, get_or, length, Option, Some, None, nat_lt, refl, sym, ap, ◌∙◌, subst, arith}
+use Rattle.std.proofs.Common.{◌≡◌, ◌≢◌, ◌<◌, ℕ, List, map, set, get_or, length, Option, Some, None, nat_lt, refl, sym, ap, ◌∙◌}
 use Rattle.std.specs.Prelude.{slice_get, vec_len, ◌≤◌}
 use Rattle.std.specs.Option.{option_map}
 use Rattle.std.proofs.lemmas.Option.{slice_get-map, slice_get_within}

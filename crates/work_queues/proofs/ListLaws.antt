@@ -1,27 +1,19 @@
 -- What the lists of an agenda say of a number.
-use Rattle.std.proofs.Common.{◌≡◌, ◌≢◌, ◌⊎◌, ◌<◌, ◌≤◌, ◌+◌, ◌==◌, ℕ, zero, suc, Bool, true, false, ◌&&◌, cond, eqb, List, [], ◌∷◌, ◌++◌, map, set, get_or, take, length, Option, Some, None, nat_lt, inl, inr, refl, sym, ap, ◌∙◌, subst, arith}
-use Rattle.std.specs.Prelude.{slice_get, vec_len, count_by, position, Contains, IfNone, IfSome}
-use Rattle.std.specs.List.{position_or_len, sum_by}
-use Rattle.std.specs.Option.{option_map}
+use Rattle.std.proofs.Common.{◌≡◌, ◌≢◌, ◌<◌, ◌≤◌, ◌+◌, ◌==◌, ℕ, zero, suc, Bool, true, false, ◌&&◌, List, [], ◌∷◌, ◌++◌, map, set, get_or, take, length, Option, Some, None, nat_lt, inl, inr, refl, sym, ap, ◌∙◌, subst, arith}
+use Rattle.std.specs.Prelude.{slice_get, count_by, Contains, IfNone}
 use Rattle.std.specs.Str.{bytes_eq}
 use Rattle.std.proofs.lemmas.Bool.Decides.{nat_tests, eqb_tells}
 use Rattle.std.proofs.lemmas.Bool.{eq-eqb}
 use Rattle.std.proofs.lemmas.Slice.Eq.{bytes_eq-Decides}
-use Rattle.std.proofs.lemmas.Option.{slice_get-map, slice_get_within, get_or_from_slice_get, slice_get-get_or}
-use Rattle.std.proofs.lemmas.List.{length-map, length-set, map-set}
-use Rattle.std.proofs.lemmas.List.Sums.{sum_by-cons, sum_by-set, sum_by_push, get_or-le-sum_by, count_by-le-length, passes_at_first, fails_before_first}
-use Rattle.work_queues.specs.Queues.{Seat, seats, seat_of, numbers_of, queued_of, IsPlaced}
-use Rattle.work_queues.specs.Pools.{IsPool}
-use Rattle.work_queues.specs.Tasks.{Text, Item, is_parked, is_waiting, is_out, is_due, out_count}
-use Rattle.work_queues.specs.Lists.{texts, key_at, item_of, items_of, hosts_in, waiting_of, parked_of, one, host_seat, host_out, IsSeated, IsKept}
+use Rattle.std.proofs.lemmas.Option.{slice_get_within, get_or_from_slice_get}
+use Rattle.std.proofs.lemmas.List.Sums.{sum_by-cons, sum_by-set, sum_by_push, get_or-le-sum_by, count_by-le-length}
+use Rattle.work_queues.specs.Queues.{Seat, seats, numbers_of, queued_of}
+use Rattle.work_queues.specs.Tasks.{Text, Item, is_out, out_count}
+use Rattle.work_queues.specs.Lists.{key_at, item_of, items_of, hosts_in, one, host_seat, host_out, IsSeated, IsKept}
 use Rattle.work_queues.specs.declared.lists.Job.{Job}
 use Rattle.work_queues.specs.declared.lists.Lists.{Lists}
 use Rattle.work_queues.specs.declared.pool.Pool.{Pool}
-use Rattle.work_queues.specs.declared.queues.Queues.{Queues}
-use Rattle.work_queues.specs.declared.queues.Place.{Place}
-use Rattle.work_queues.specs.declared.task.Task.{Task}
-use Rattle.work_queues.proofs.QueueLaws.{Compared, equal, unequal, compare_numbers, get-set_same, get-set_other, none_queued, seat_place, read}
-use Rattle.work_queues.proofs.Additions.{get-append, get-append_last, get-append_cases}
+use Rattle.work_queues.proofs.QueueLaws.{none_queued, seat_place}
 
 -- ---- what stands at a place of a mapped list
 

@@ -1,12 +1,11 @@
 -- What keeps a pool one.
-use Rattle.std.proofs.Common.{◌≡◌, ◌≢◌, ◌<◌, ◌≤◌, ◌+◌, ℕ, Bool, true, false, List, [], ◌∷◌, ◌++◌, set, length, Some, nat_lt, refl, sym, ap, ◌∙◌, arith}
+use Rattle.std.proofs.Common.{◌≡◌, ◌≢◌, ◌<◌, ◌+◌, ℕ, Bool, false, [], ◌∷◌, ◌++◌, set, length, Some, nat_lt, sym, ap, ◌∙◌, arith}
 use Rattle.std.specs.Prelude.{slice_get, vec_len}
 use Rattle.std.proofs.Common.{length-append}
 use Rattle.std.proofs.lemmas.List.{length-set}
 use Rattle.work_queues.specs.Queues.{Seat, IsPlaced, queued_of, seats}
 use Rattle.work_queues.specs.Pools.{IsPool}
 use Rattle.work_queues.specs.declared.pool.Pool.{Pool}
-use Rattle.work_queues.specs.declared.queues.Queues.{Queues}
 use Rattle.work_queues.proofs.QueueLaws.{equal, unequal, compare_numbers, get-set_same, get-set_other, queued_past}
 use Rattle.work_queues.proofs.Additions.{get-append, get-append_last}
 

@@ -1,11 +1,11 @@
 -- Members that change places, and lists read by place.
-use Rattle.std.proofs.Common.{◌≡◌, ◌≢◌, ◌⊎◌, ◌<◌, ◌≤◌, ℕ, zero, suc, List, [], ◌∷◌, map, set, get_or, length, Option, Some, None, true, nat_lt, inl, inr, refl, sym, ap, ◌∙◌, subst, arith}
+use Rattle.std.proofs.Common.{◌≡◌, ◌≢◌, ◌<◌, ◌≤◌, ℕ, zero, suc, List, [], ◌∷◌, map, set, get_or, length, Option, Some, None, true, nat_lt, inl, inr, refl, sym, ap, ◌∙◌, arith}
 use Rattle.std.specs.Prelude.{slice_get}
 use Rattle.std.specs.Option.{option_map}
 use Rattle.std.proofs.lemmas.Bool.Decides.{eqb_tells, nat_tests}
 use Rattle.std.proofs.lemmas.Option.{slice_get-map, slice_get_within, slice_get-get_or}
 use Rattle.std.proofs.lemmas.List.{length-map}
-use Rattle.work_queues.specs.Queues.{Seat, numbers_of, queued_of, seat_of, seats, IsPlaced, IsRearranged}
+use Rattle.work_queues.specs.Queues.{Seat, numbers_of, queued_of, seat_of, seats, IsPlaced}
 use Rattle.work_queues.specs.declared.queues.Member.{Member}
 use Rattle.work_queues.specs.declared.queues.Queue.{Queue}
 use Rattle.work_queues.specs.declared.queues.Place.{Place}

@@ -1,17 +1,15 @@
 -- A queue whose members stay where they are, while more or fewer of them are in it.
-use Rattle.std.proofs.Common.{◌≡◌, ◌≢◌, ◌<◌, ◌≤◌, ◌+◌, ◌-◌, ℕ, Bool, true, false, List, [], ◌∷◌, map, set, length, Option, Some, None, nat_lt, refl, sym, ap, ◌∙◌, subst, arith}
+use Rattle.std.proofs.Common.{◌≡◌, ◌≢◌, ◌<◌, ◌≤◌, ◌+◌, ◌-◌, ℕ, true, false, map, set, length, Option, Some, None, nat_lt, refl, sym, ap, ◌∙◌, arith}
 use Rattle.std.specs.Prelude.{slice_get, vec_len}
 use Rattle.std.specs.Option.{option_map}
 use Rattle.std.specs.Vec.{with_item}
 use Rattle.std.proofs.lemmas.Bool.Decides.{nat_tests}
 use Rattle.std.proofs.lemmas.Option.{slice_get-map, slice_get_within}
-use Rattle.std.proofs.lemmas.List.{length-map}
-use Rattle.work_queues.specs.Queues.{Seat, numbers_of, queued_of, seat_of, seats, IsPlaced, IsRearranged}
-use Rattle.work_queues.specs.declared.queues.Member.{Member}
+use Rattle.work_queues.specs.Queues.{numbers_of, queued_of, seat_of, seats, IsPlaced, IsRearranged}
 use Rattle.work_queues.specs.declared.queues.Queue.{Queue}
 use Rattle.work_queues.specs.declared.queues.Place.{Place}
 use Rattle.work_queues.specs.declared.queues.Queues.{Queues}
-use Rattle.work_queues.proofs.QueueLaws.{Compared, equal, unequal, compare_numbers, same_list, get-set_same, get-set_other, numbers-set_even, queued-set_even, queued-set_same, queued-set_other, queued_at}
+use Rattle.work_queues.proofs.QueueLaws.{equal, unequal, compare_numbers, same_list, get-set_same, get-set_other, numbers-set_even, queued-set_even, queued-set_same, queued-set_other, queued_at}
 
 -- ---- nothing but labels changes
 

@@ -1,12 +1,12 @@
 -- What keeps the lists of an agenda together.
-use Rattle.std.proofs.Common.{◌≡◌, ◌≢◌, ◌⊎◌, ◌<◌, ◌≤◌, ◌+◌, ◌==◌, ℕ, zero, suc, Bool, true, false, ◌&&◌, List, [], ◌∷◌, ◌++◌, map, set, get_or, length, cond, nat_lt, Option, Some, None, inl, inr, refl, sym, ap, ◌∙◌, subst, arith}
+use Rattle.std.proofs.Common.{◌≡◌, ◌≢◌, ◌⊎◌, ◌<◌, ◌≤◌, ◌+◌, ◌==◌, ℕ, zero, suc, Bool, true, false, ◌&&◌, List, [], ◌∷◌, ◌++◌, map, set, get_or, length, cond, nat_lt, Some, None, inl, inr, refl, sym, ap, ◌∙◌, subst, arith}
 use Rattle.std.specs.Prelude.{slice_get, vec_len, position}
 use Rattle.std.specs.Str.{bytes_eq}
 use Rattle.std.proofs.Common.{length-append}
 use Rattle.std.proofs.lemmas.Bool.Decides.{eqb_tells, nat_tests}
 use Rattle.std.proofs.lemmas.Slice.Eq.{bytes_eq-Decides}
 use Rattle.std.proofs.lemmas.Option.{slice_get_within}
-use Rattle.std.proofs.lemmas.List.{length-map, length-set, map-set, get_or_append_left}
+use Rattle.std.proofs.lemmas.List.{length-map, map-set, get_or_append_left}
 use Rattle.std.specs.List.{position_or_len}
 use Rattle.std.proofs.lemmas.List.Sums.{sum_by-cons, fails_before_first}
 use Rattle.std.proofs.Math.Seq.{get_or-append_seam}
@@ -20,8 +20,8 @@ use Rattle.work_queues.specs.declared.lists.Lists.{Lists}
 use Rattle.work_queues.specs.declared.pool.Pool.{Pool}
 use Rattle.work_queues.specs.declared.task.Task.{Task}
 use Rattle.work_queues.proofs.QueueLaws.{equal, unequal, compare_numbers, get-set_same, get-set_other}
-use Rattle.work_queues.proofs.Additions.{get-append, get-append_last, get-append_cases, map-each, map-append}
-use Rattle.work_queues.proofs.ListLaws.{job_of, mapped, unmapped, out-set, out-append}
+use Rattle.work_queues.proofs.Additions.{get-append_cases, map-each, map-append}
+use Rattle.work_queues.proofs.ListLaws.{job_of, out-set, out-append}
 
 -- ---- a count that is written
 

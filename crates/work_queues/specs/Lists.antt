@@ -1,5 +1,5 @@
 -- What the lists behind an agenda stand for, and what ties them together.
-use Rattle.std.specs.Prelude.{◌≡◌, ◌<◌, ◌≤◌, ◌+◌, ℕ, Bool, ◌&&◌, ◌==◌, cond, List, [], map, take, length, slice_get, slice_index_or, Some, count_by, vec_len, vec_capacity}
+use Rattle.std.specs.Prelude.{◌≡◌, ◌<◌, ◌≤◌, ℕ, Bool, ◌&&◌, ◌==◌, cond, List, [], map, take, length, slice_get, slice_index_or, Some, count_by, vec_len, vec_capacity}
 use Rattle.work_queues.specs.Tasks.{Text, Item, is_parked, is_waiting, is_out, is_due}
 use Rattle.work_queues.specs.Queues.{Seat, IsPlaced, HasRoom, seats, numbers_of, queued_of}
 use Rattle.work_queues.specs.Pools.{IsPool}

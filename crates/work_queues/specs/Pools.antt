@@ -1,6 +1,6 @@
 -- Numbers by host, and the hosts that have one that is in.
 use Rattle.std.specs.Prelude.{◌≡◌, ◌<◌, ℕ, nat_lt, length, slice_get, Some, vec_len}
-use Rattle.work_queues.specs.Queues.{Seat, IsPlaced, seats, queued_of}
+use Rattle.work_queues.specs.Queues.{IsPlaced, seats, queued_of}
 use Rattle.work_queues.specs.declared.pool.Pool.{Pool}
 
 -- a host is in the one queue of hosts where a number of it is in

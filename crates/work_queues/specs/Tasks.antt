@@ -1,5 +1,5 @@
 -- What is left to do for each number, in order of the numbers.
-use Rattle.std.specs.Prelude.{◌≡◌, ℕ, Bool, true, false, ◌&&◌, List, count_by}
+use Rattle.std.specs.Prelude.{ℕ, Bool, true, false, ◌&&◌, List, count_by}
 use Rattle.std.specs.Str.{bytes_eq}
 use Rattle.work_queues.specs.declared.task.Task.{Task}
 use Rattle.work_queues.specs.declared.task.Task.TheVariants.{Parked, Waiting, Out, Due, Done}

@@ -1,5 +1,5 @@
 -- The lines that the loop sees are those of the text.
-use Rattle.std.proofs.Common.{◌≡◌, ◌==◌, ◌∙◌, ◌++◌, ◌∷◌, [], Some, length, sym, ap, rules, tests, arith}
+use Rattle.std.proofs.Common.{◌≡◌, ◌==◌, ◌∙◌, ◌++◌, ◌∷◌, [], Some, inr, length, sym, ap, rules, tests, arith}
 use Rattle.std.specs.List.{slice_get}
 use Rattle.std.proofs.lemmas.Iterator.Consumers.{YieldsList-at, YieldsList-so_far, YieldsList-turn, YieldsList-end}
 use Rattle.std.proofs.lemmas.Iterator.Splits.{YieldsList-from_slice_split}
@@ -7,6 +7,7 @@ use Rattle.std.proofs.lemmas.List.{map-append, length-append}
 use Rattle.std.proofs.lemmas.List.Splits.{length-slice_split}
 use Rattle.std.proofs.lemmas.List.Sums.{count_by-le-length}
 use Rattle.std.proofs.lemmas.Option.{slice_get-get_or}
+use Rattle.std.proofs.lemmas.Result.{err_from_is_err_and}
 use Rattle.site_answer.specs.Maps.{lines_of}
 use Rattle.site_answer.proofs.MapReads.{map_push, first_bad}
 use Rattle.site_answer.proofs.ReadingLaws.{fresh_of}
@@ -45,6 +46,16 @@ loop-line-preserved c =
     let (s, form, good, tells) = c.in_default.ensures above t in
     let longer = length-append c.loop-line.yielded (c.in-Some.line ∷ []) in
     (search rules, search rules, omega (arith, count, longer), (above ++ s ∷ [], rw map-append (map_push _ above c.in-Some.line.now s m form good), tells))
+
+pub returns-in_err-of-clause-fault : goal.returns-in_err-of-clause-fault
+returns-in_err-of-clause-fault c =
+    let seen = YieldsList-end (YieldsList-at c.into_iter-line-iterator.ensures.into_iter_gives
+    (YieldsList-from_slice_split _ (λ b. b == 10) c.args.text.now c.split-line-items.ensures.rest c.split-line-items.ensures.done c.split-line-items.ensures.closure
+    (λ x b q k. search (rules, tests)))) c.loop-line.yielded _ c.loop-line.yielded_by _ _ c.in-None.is c.next.ensures.steps in
+    let (_, _, _, told) = c.loop-line.invariant in
+    let (above, m, t) = told in
+    let p = err_from_is_err_and c.from_residual.result c.from_residual.ensures.1 in
+    rw (p.1, p.2) (inr (above, rw seen.0 at m))
 
 pub returns-clause-map : goal.returns-clause-map
 returns-clause-map c =

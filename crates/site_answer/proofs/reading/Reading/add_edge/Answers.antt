@@ -14,6 +14,12 @@ returns-in_err-target-in-Some-Page c = λ above t.
     let p = err_from_is_err_and c.from_residual.result c.from_residual.ensures.1 in
     rw (p.1, p.2) (unnamed above (edge c.args.kind text) text _ (t.answers.above_open (c.in-Some-Page.above, was)) (λ all. All-head IsNamed text [] all) c.in_err-target-in-Some-Page.ensures)
 
+pub returns-in_err-push-in-Some-Page : goal.returns-in_err-push-in-Some-Page
+returns-in_err-push-in-Some-Page c = λ above t.
+    let was = c.in-Some-Page.is ∙ ap Some c.in-Some-Page.field-0-is in
+    let p = err_from_is_err_and c.from_residual-in_err-push-in-Some-Page.result c.from_residual-in_err-push-in-Some-Page.ensures.1 in
+    rw (p.1, p.2) (t.answers.above_open (c.in-Some-Page.above, was))
+
 pub returns-in_ok-push-in-Some-Page : goal.returns-in_ok-push-in-Some-Page
 returns-in_ok-push-in-Some-Page c = λ above t.
     let was = c.in-Some-Page.is ∙ ap Some c.in-Some-Page.field-0-is in

@@ -1,7 +1,14 @@
 -- A rule line adds to its origin's file.
 use Rattle.std.proofs.Common.{Some, refl, ap, ◌∙◌}
-use Rattle.site_answer.proofs.ReadingLaws.{takes_rule}
+use Rattle.std.proofs.lemmas.Result.{err_from_is_err_and}
+use Rattle.site_answer.proofs.ReadingLaws.{below_origin, takes_rule}
 use Rattle.site_answer.proofs.reading.Reading.add_rule.Goals as goal
+
+pub returns-in_err-add-in-Some-Robots : goal.returns-in_err-add-in-Some-Robots
+returns-in_err-add-in-Some-Robots c = λ above t.
+    let was = c.in-Some-Robots.is ∙ ap Some c.in-Some-Robots.field-0-is in
+    let p = err_from_is_err_and c.from_residual.result c.from_residual.ensures.1 in
+    rw (p.1, p.2) (below_origin c.args.self.now above c.in-Some-Robots.robots t was)
 
 pub returns-in_ok-add-in-Some-Robots : goal.returns-in_ok-add-in-Some-Robots
 returns-in_ok-add-in-Some-Robots c = λ above t.

@@ -1,7 +1,6 @@
-use Rattle.std.proofs.Common.{◌≡◌, ◌<◌, ◌+◌, [], ◌∷◌, ◌++◌, length, set, Some, refl, sym, ap, ◌∙◌, arith}
+use Rattle.std.proofs.Common.{◌≡◌, [], ◌∷◌, ◌++◌, length, set, Some, ap, ◌∙◌, arith}
 use Rattle.std.specs.Prelude.{slice_get}
 use Rattle.std.proofs.lemmas.List.{length-map}
-use Rattle.work_queues.specs.Tasks.{Item}
 use Rattle.work_queues.specs.Lists.{items_of, key_at}
 use Rattle.work_queues.specs.declared.task.Task.TheVariants.{Done}
 use Rattle.work_queues.proofs.Additions.{get-append_last}

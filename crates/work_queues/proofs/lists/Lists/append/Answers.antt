@@ -1,5 +1,4 @@
 use Rattle.std.proofs.Common.{refl}
-use Rattle.work_queues.specs.declared.lists.Job.{Job}
 use Rattle.work_queues.specs.declared.task.Task.TheVariants.{Done}
 use Rattle.work_queues.proofs.SetLaws.{appended_keeps}
 use Rattle.work_queues.proofs.lists.Lists.append.Goals as goal

@@ -1,4 +1,4 @@
-use Rattle.std.proofs.Common.{◌≡◌, ℕ, Some, true, sym, ap, ◌∙◌}
+use Rattle.std.proofs.Common.{◌≡◌, Some, true, sym, ap, ◌∙◌}
 use Rattle.std.specs.Prelude.{slice_get}
 use Rattle.std.proofs.lemmas.Option.{IfSome_then}
 use Rattle.work_queues.specs.Queues.{Seat}

@@ -1,9 +1,9 @@
-use Rattle.std.proofs.Common.{◌≡◌, ◌<◌, ℕ, [], length, Some, sym, ap, ◌∙◌}
+use Rattle.std.proofs.Common.{◌≡◌, ◌<◌, ℕ, [], length, Some, sym}
 use Rattle.std.specs.Prelude.{slice_get}
 use Rattle.std.proofs.lemmas.List.{length-map}
 use Rattle.std.proofs.lemmas.Option.{get_or_from_slice_get}
 use Rattle.work_queues.specs.Tasks.{Text}
-use Rattle.work_queues.specs.Lists.{texts, key_at, item_of}
+use Rattle.work_queues.specs.Lists.{texts, item_of}
 use Rattle.work_queues.proofs.QueueLaws.{read}
 use Rattle.work_queues.proofs.ListLaws.{item_at, mapped}
 use Rattle.work_queues.proofs.lists.Lists.origin.Goals as goal

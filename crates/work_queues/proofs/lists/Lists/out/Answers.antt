@@ -1,8 +1,7 @@
-use Rattle.std.proofs.Common.{◌≡◌, ◌<◌, ℕ, length, Some, sym, ap, ◌∙◌, arith}
-use Rattle.std.specs.Prelude.{slice_get}
+use Rattle.std.proofs.Common.{◌<◌, ℕ, length, sym, ◌∙◌}
 use Rattle.std.proofs.lemmas.List.{length-map}
-use Rattle.work_queues.specs.Tasks.{Text, out_count}
-use Rattle.work_queues.specs.Lists.{item_of, items_of}
+use Rattle.work_queues.specs.Tasks.{Text}
+use Rattle.work_queues.specs.Lists.{item_of}
 use Rattle.work_queues.proofs.QueueLaws.{read}
 use Rattle.work_queues.proofs.ListLaws.{item_at, out_is, unmapped}
 use Rattle.work_queues.proofs.lists.Lists.out.Goals as goal

@@ -1,4 +1,3 @@
-use Rattle.std.proofs.Common.{◌≡◌, length}
 use Rattle.work_queues.specs.Tasks.{is_parked}
 use Rattle.work_queues.specs.Lists.{item_of}
 use Rattle.work_queues.specs.declared.lists.Job.{Job}

@@ -1,11 +1,10 @@
-use Rattle.std.proofs.Common.{◌≡◌, ◌<◌, ◌≤◌, ◌+◌, ℕ, length, set, Some, true, refl, sym, ap, ◌∙◌, arith}
+use Rattle.std.proofs.Common.{◌≡◌, ◌<◌, length, set, refl, sym, ap, ◌∙◌, arith}
 use Rattle.std.specs.Prelude.{slice_get}
 use Rattle.std.proofs.lemmas.List.{length-map}
 use Rattle.work_queues.specs.Queues.{seats}
-use Rattle.work_queues.specs.Tasks.{is_out, is_waiting, is_parked, is_due}
-use Rattle.work_queues.specs.Lists.{host_out, one}
+use Rattle.work_queues.specs.Tasks.{is_out, is_waiting, is_parked}
+use Rattle.work_queues.specs.Lists.{one}
 use Rattle.work_queues.specs.declared.lists.Job.{Job}
-use Rattle.work_queues.specs.declared.lists.Lists.{Lists}
 use Rattle.work_queues.proofs.QueueLaws.{read}
 use Rattle.work_queues.proofs.ListLaws.{seated, count_read, out_some, out_few, mapped}
 use Rattle.work_queues.proofs.SetLaws.{IsChanged, changed_keeps, changed_items, reseated, due_seat}

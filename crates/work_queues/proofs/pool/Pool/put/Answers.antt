@@ -1,4 +1,4 @@
-use Rattle.std.proofs.Common.{◌≡◌, ◌<◌, ◌≤◌, nat_lt, true, false, arith}
+use Rattle.std.proofs.Common.{◌≡◌, ◌<◌, true, false, arith}
 use Rattle.std.proofs.lemmas.Bool.Decides.{nat_tests}
 use Rattle.work_queues.specs.Queues.{queued_of}
 use Rattle.work_queues.proofs.PoolLaws.{pool_put}

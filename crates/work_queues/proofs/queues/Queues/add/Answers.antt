@@ -1,4 +1,4 @@
-use Rattle.std.proofs.Common.{◌≡◌, ◌<◌, ◌≤◌, ◌+◌, length, map, Some, slice_get, ◌∷◌, ◌++◌, [], refl, sym, ap, ◌∙◌, arith}
+use Rattle.std.proofs.Common.{◌≡◌, ◌<◌, length, Some, ◌∷◌, ◌++◌, [], refl, sym, ap, ◌∙◌, arith}
 use Rattle.work_queues.specs.declared.queues.Queue.{Queue}
 use Rattle.work_queues.proofs.QueueLaws.{read}
 use Rattle.work_queues.proofs.Additions.{IsAdded, added_placed, added_seats, added_queued}

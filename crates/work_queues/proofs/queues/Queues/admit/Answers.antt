@@ -1,6 +1,6 @@
-use Rattle.std.proofs.Common.{◌≡◌, ◌<◌, ◌≤◌, ◌+◌, length, sym, ap, ◌∙◌, arith}
-use Rattle.work_queues.specs.Queues.{numbers_of, queued_of}
-use Rattle.work_queues.proofs.QueueLaws.{queue_within, read, numbers_at, queued_at, queued-set_same, queued-set_other, members_len}
+use Rattle.std.proofs.Common.{◌+◌, sym, ap, ◌∙◌, arith}
+use Rattle.work_queues.specs.Queues.{queued_of}
+use Rattle.work_queues.proofs.QueueLaws.{queue_within, read, queued_at, queued-set_same, queued-set_other, members_len}
 use Rattle.work_queues.proofs.Resizes.{admitted}
 use Rattle.work_queues.proofs.queues.Queues.admit.Goals as goal
 

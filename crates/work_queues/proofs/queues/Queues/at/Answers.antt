@@ -1,8 +1,4 @@
-use Rattle.std.proofs.Common.{◌≡◌, ◌<◌, ◌≤◌, length, Some, nat_lt, true, refl, sym, ap, ◌∙◌, arith}
-use Rattle.std.specs.Option.{option_map}
-use Rattle.std.proofs.lemmas.Bool.Decides.{nat_tests}
-use Rattle.std.proofs.lemmas.Option.{slice_get-map}
-use Rattle.work_queues.specs.Queues.{queued_of, seat_of}
+use Rattle.std.proofs.Common.{◌<◌, length, arith}
 use Rattle.work_queues.proofs.QueueLaws.{number_read, member_within, queued_past, seat_queued}
 use Rattle.work_queues.proofs.queues.Queues.at.Goals as goal
 

@@ -1,5 +1,4 @@
-use Rattle.std.proofs.Common.{◌≡◌, ◌<◌, ◌≤◌, ◌+◌, ◌-◌, length, arith}
-use Rattle.work_queues.specs.Queues.{numbers_of, queued_of}
+use Rattle.std.proofs.Common.{◌-◌, arith}
 use Rattle.work_queues.proofs.QueueLaws.{queued_within, read, queued_at, queued-set_same, queued-set_other}
 use Rattle.work_queues.proofs.Resizes.{dismissed}
 use Rattle.work_queues.proofs.queues.Queues.dismiss.Goals as goal

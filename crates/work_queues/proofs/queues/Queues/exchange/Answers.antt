@@ -1,4 +1,4 @@
-use Rattle.std.proofs.Common.{◌<◌, length, refl, arith}
+use Rattle.std.proofs.Common.{refl, arith}
 use Rattle.std.proofs.lemmas.Option.{slice_get_within}
 use Rattle.work_queues.proofs.QueueLaws.{queue_within, member_within, number_read}
 use Rattle.work_queues.proofs.Exchanges.{exchange_leaves, exchanged, exchange_moves}

@@ -1,5 +1,4 @@
-use Rattle.std.proofs.Common.{◌<◌, ◌≤◌, length, arith}
-use Rattle.work_queues.specs.Queues.{queued_of}
+use Rattle.std.proofs.Common.{arith}
 use Rattle.work_queues.proofs.QueueLaws.{queued_within}
 use Rattle.work_queues.proofs.queues.Queues.least_below.Goals as goal
 

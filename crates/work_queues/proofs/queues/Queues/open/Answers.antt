@@ -1,4 +1,4 @@
-use Rattle.std.proofs.Common.{◌≡◌, ℕ, [], ◌∷◌, ◌++◌, refl, ap, ◌∙◌}
+use Rattle.std.proofs.Common.{refl, ap, ◌∙◌}
 use Rattle.work_queues.specs.Queues.{numbers_of, queued_of}
 use Rattle.work_queues.proofs.Resizes.{alike}
 use Rattle.work_queues.proofs.Additions.{numbers-append, queued-append}

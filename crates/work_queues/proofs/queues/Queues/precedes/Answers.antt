@@ -1,4 +1,4 @@
-use Rattle.std.proofs.Common.{◌<◌, length, arith}
+use Rattle.std.proofs.Common.{arith}
 use Rattle.work_queues.proofs.QueueLaws.{queue_within, member_within}
 use Rattle.work_queues.proofs.queues.Queues.precedes.Goals as goal
 

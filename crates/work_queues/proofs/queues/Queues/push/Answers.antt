@@ -1,4 +1,4 @@
-use Rattle.std.proofs.Common.{◌≡◌, ◌≢◌, ◌<◌, ◌≤◌, ◌+◌, ◌-◌, length, set, Some, slice_get, nat_lt, true, false, sym, ap, ◌∙◌, arith}
+use Rattle.std.proofs.Common.{◌≡◌, ◌≢◌, set, Some, slice_get, nat_lt, true, sym, ap, ◌∙◌, arith}
 use Rattle.std.proofs.lemmas.Bool.Decides.{nat_tests}
 use Rattle.work_queues.specs.Queues.{Seat, numbers_of, queued_of, seats}
 use Rattle.work_queues.proofs.QueueLaws.{queue_within, read, stands, inside, seat_is, set_kept}

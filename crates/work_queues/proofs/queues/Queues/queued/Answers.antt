@@ -1,5 +1,4 @@
-use Rattle.std.proofs.Common.{◌≡◌, ◌<◌, ◌≤◌, length, sym, arith}
-use Rattle.work_queues.specs.Queues.{queued_of}
+use Rattle.std.proofs.Common.{◌<◌, length, sym, arith}
 use Rattle.work_queues.proofs.QueueLaws.{read, queued_at}
 use Rattle.work_queues.proofs.queues.Queues.queued.Goals as goal
 

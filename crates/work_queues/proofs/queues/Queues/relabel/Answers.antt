@@ -1,4 +1,4 @@
-use Rattle.std.proofs.Common.{◌≡◌, ◌<◌, map, length, get_or, refl, ap, ◌∙◌, arith}
+use Rattle.std.proofs.Common.{refl, ap, arith}
 use Rattle.std.proofs.Math.Seq.{map-set_same}
 use Rattle.work_queues.specs.declared.queues.Member.{Member}
 use Rattle.work_queues.proofs.QueueLaws.{queue_within, member_within, read}

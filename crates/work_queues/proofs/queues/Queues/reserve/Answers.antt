@@ -1,4 +1,4 @@
-use Rattle.std.proofs.Common.{◌≡◌, ◌<◌, ◌≤◌, ◌+◌, length, map, Some, IfSome, slice_get, vec_len, vec_capacity, refl, sym, ap, subst, ◌∙◌, arith}
+use Rattle.std.proofs.Common.{◌<◌, length, map, IfSome, vec_len, vec_capacity, refl, sym, ap, subst, arith}
 use Rattle.work_queues.specs.declared.queues.Member.{Member}
 use Rattle.work_queues.specs.declared.queues.Queue.{Queue}
 use Rattle.work_queues.proofs.QueueLaws.{read, get-set_same}
