@@ -18,6 +18,7 @@ use Rattle.frontier_core.specs.declared.event.Event.{Event}
 use Rattle.workers.specs.Asks.{IsTold}
 use Rattle.workers.specs.Gathered.{AreEntries, AreRecords}
 use Rattle.workers.specs.Harvests.{Harvested}
+use Rattle.workers.specs.OneWorker.{AreByOne}
 use Rattle.workers.specs.Retrieval.{Brings, Leaves, IsLeft}
 use Rattle.workers.specs.Sites.{Fits, IsCompleteFor}
 use Rattle.wgetr.specs.Entries.{lines_of}
@@ -54,26 +55,26 @@ none_shown false trace is = refl
 -- ---- a harvest
 
 pub reported : (order : Order) (site : SiteAnswers) (asks : List Ask) (h : Harvested) → Brings (may_say site) (may_rule site) order.plan asks h
-    → AreEntries h → AreRecords h → IfSome h.plan (λ plan. IsSound (policy plan) h.state) → IsCompleteFor (policy order.plan) (whole_of site) h.state
+    → AreEntries h → AreRecords h → IfSome h.plan (λ plan. IsSound (policy plan) h.state) → IsCompleteFor (policy order.plan) (whole_of site) h.state → AreByOne h.trace
     → Finishes order (whole_of site) (shown_of order.trace h.trace) (Reported (lines_of h))
-reported order site asks h brings are records sound complete =
+reported order site asks h brings are records sound complete by_one =
     let is_sound = subst (λ (o : Option Plan). IfSome o (λ plan. IsSound (policy plan) h.state)) brings.follows sound in (
       are_lines (policy order.plan) (whole_of site) h are records is_sound.addresses is_sound.few complete brings.quiet,
-      are_shown order.trace (AreEventsOf order.plan (whole_of site) IsQuiet) h.trace (h.state, brings.replay, told_part site (answers h.state) brings.told, brings.quiet),
+      are_shown order.trace (AreEventsOf order.plan (whole_of site) IsQuiet) h.trace (by_one, h.state, brings.replay, told_part site (answers h.state) brings.told, brings.quiet),
     )
 
 -- ---- a stop
 
-stop_events : (order : Order) (site : SiteAnswers) (asks : List Ask) (cause : Cause) (h : Harvested) → Leaves (may_say site) (may_rule site) order.plan asks cause h
+stop_events : (order : Order) (site : SiteAnswers) (asks : List Ask) (cause : Cause) (h : Harvested) → Leaves (may_say site) (may_rule site) order.plan asks cause h → AreByOne h.trace
     → AreShown order.trace (AreEventsOf order.plan (whole_of site) (HasStopped cause)) (shown_of order.trace h.trace)
-stop_events order site asks cause h left =
-    are_shown order.trace (AreEventsOf order.plan (whole_of site) (HasStopped cause)) h.trace (h.state, left.replay, told_part site (answers h.state) left.told, left.stopped)
+stop_events order site asks cause h left by_one =
+    are_shown order.trace (AreEventsOf order.plan (whole_of site) (HasStopped cause)) h.trace (by_one, h.state, left.replay, told_part site (answers h.state) left.told, left.stopped)
 
 pub stopped : (order : Order) (site : SiteAnswers) (asks : List Ask) (cause : Cause) (h : Harvested) → IsLeft (may_say site) (may_rule site) order.plan asks cause h
-    → (cause ≡ why.Full → HasTooMany (policy order.plan) (whole_of site)) → (cause ≡ why.Mismatch → ⊥)
+    → (cause ≡ why.Full → HasTooMany (policy order.plan) (whole_of site)) → (cause ≡ why.Mismatch → ⊥) → AreByOne h.trace
     → Finishes order (whole_of site) (shown_of order.trace h.trace) (Stopped cause)
-stopped order site asks why.Full h (inl left) many never = (many refl, stop_events order site asks why.Full h left)
-stopped order site asks why.Full h (inr empty) many never = let same = empty.memory in cc
-stopped order site asks why.Memory h (inl left) many never = inr (stop_events order site asks why.Memory h left)
-stopped order site asks why.Memory h (inr empty) many never = inl (none_shown order.trace h.trace empty.trace)
-stopped order site asks why.Mismatch h left many never = absurd (never refl)
+stopped order site asks why.Full h (inl left) many never by_one = (many refl, stop_events order site asks why.Full h left by_one)
+stopped order site asks why.Full h (inr empty) many never by_one = let same = empty.memory in cc
+stopped order site asks why.Memory h (inl left) many never by_one = inr (stop_events order site asks why.Memory h left by_one)
+stopped order site asks why.Memory h (inr empty) many never by_one = inl (none_shown order.trace h.trace empty.trace)
+stopped order site asks why.Mismatch h left many never by_one = absurd (never refl)

@@ -12,6 +12,7 @@ use Rattle.frontier_core.specs.Plans.{policy}
 use Rattle.frontier_core.specs.declared.event.Cause.{Cause}
 use Rattle.frontier_core.specs.declared.event.Cause.TheVariants as cause
 use Rattle.frontier_core.specs.declared.event.Event.{Event}
+use Rattle.workers.specs.OneWorker.{AreByOne}
 use Rattle.wgetr.specs.Report.{Line}
 use Rattle.wgetr.specs.Site.{AreLines}
 
@@ -20,9 +21,10 @@ pub record IsPartOf (m whole : Answers) : Type 0 where
   pub outcomes : (u : Text) (x : Outcome) → m.outcome u ≡ Some x → whole.outcome u ≡ Some x
   pub rules : (o : Text) (rules : RuleSetValue) → m.rules o ≡ Some rules → whole.rules o ≡ Some rules
 
--- the events are those of a frontier that goes by the plan, is told what the site has, and is left in such a state
+-- the events are those of a frontier that goes by the plan, is told what the site has, and is left in such a state; one
+-- worker drives it
 abbrev pub AreEventsOf : Plan → Answers → (State → Type 0) → List Event → Type 0
-AreEventsOf plan whole IsSuch events = (s : State) × IsReplay (policy plan) events s × IsPartOf (answers s) whole × IsSuch s
+AreEventsOf plan whole IsSuch events = AreByOne events × (s : State) × IsReplay (policy plan) events s × IsPartOf (answers s) whole × IsSuch s
 
 -- what is shown are such events, where they are to be shown, else none
 abbrev pub AreShown : Bool → (List Event → Type 0) → List Event → Type 0

@@ -1,8 +1,8 @@
 //! What is said to a person of words that are refused: what is wrong, and what is accepted.
 
-ghost use Rattle.std.specs.Prelude.{◌≡◌, ◌++◌, IfOk, codes, is_some, string_bytes};
+ghost use Rattle.std.specs.Prelude.{◌≡◌, ◌++◌, IfOk, codes, option_map, string_bytes};
 ghost use Rattle.std.specs.List.{flat_map};
-ghost use Rattle.wgetr.specs.Advice.{is_wrong_start, is_wrong_line, is_wrong_words, word_text};
+ghost use Rattle.wgetr.specs.Advice.{wrong_start, IsAdviceOn, IsAdviceOnLine, word_text};
 
 use crate::fault::Fault;
 use address::AddressFault;
@@ -27,7 +27,7 @@ const START: &str =
 
 // What is wrong with a start that is no address.
 fn wrong_start(refused: AddressFault) -> Option<&'static str>
-    ensures { is_some result ≡ is_wrong_start refused }
+    ensures { option_map (λ wrong. wrong.now) result ≡ wrong_start refused }
 {
     match refused {
         AddressFault::TooLong => Some("START is too long"),
@@ -40,36 +40,44 @@ fn wrong_start(refused: AddressFault) -> Option<&'static str>
 
 // What is said of words that are no order; nothing of want of memory.
 fn line_advice(wrong: LineFault) -> Option<Advice>
-    ensures { is_some result ≡ is_wrong_line wrong }
+    ensures { IsAdviceOnLine wrong result }
 {
-    let (wrong, accepted) = match wrong {
-        LineFault::Words(kind) => (kind.as_str().unwrap_or("no text was asked for"), OPTIONS),
-        LineFault::Depth => (
-            "the value of -l, --level is no level",
-            "a level is inf or decimal digits, at most 1000000",
-        ),
-        LineFault::Pattern => (
-            "an element of -A, --accept or -R, --reject is no pattern",
-            "an element is a suffix, or a pattern with *, ? and classes as [a-z], each closed",
-        ),
-        LineFault::Directory => (
-            "an element of -I, --include-directories or -X, --exclude-directories is no directory",
-            "an element begins with / and has none of *, ?, [ and ]",
-        ),
-        LineFault::Domain => (
-            "an element of -D, --domains or --exclude-domains is no domain",
-            "an element is letters, digits, -, _ and dots, as example.org",
-        ),
-        LineFault::Start(refused) => (wrong_start(refused)?, START),
-        LineFault::StartIsRobots => ("START is a robots file", "START is any other page"),
-        LineFault::Memory => return None,
-    };
-    Some(Advice { wrong, accepted })
+    match wrong {
+        LineFault::Words(kind) => Some(Advice {
+            wrong: kind.as_str().unwrap_or("no text was asked for"),
+            accepted: OPTIONS,
+        }),
+        LineFault::Depth => Some(Advice {
+            wrong: "the value of -l, --level is no level",
+            accepted: "a level is inf or decimal digits, at most 1000000",
+        }),
+        LineFault::Pattern => Some(Advice {
+            wrong: "an element of -A, --accept or -R, --reject is no pattern",
+            accepted: "an element is a suffix, or a pattern with *, ? and classes as [a-z], each closed",
+        }),
+        LineFault::Directory => Some(Advice {
+            wrong: "an element of -I, --include-directories or -X, --exclude-directories is no directory",
+            accepted: "an element begins with / and has none of *, ?, [ and ]",
+        }),
+        LineFault::Domain => Some(Advice {
+            wrong: "an element of -D, --domains or --exclude-domains is no domain",
+            accepted: "an element is letters, digits, -, _ and dots, as example.org",
+        }),
+        LineFault::Start(refused) => Some(Advice {
+            wrong: wrong_start(refused)?,
+            accepted: START,
+        }),
+        LineFault::StartIsRobots => Some(Advice {
+            wrong: "START is a robots file",
+            accepted: "START is any other page",
+        }),
+        LineFault::Memory => None,
+    }
 }
 
 /// What is said of a fault of the words; nothing of other faults.
 pub(crate) fn advice_on(fault: Fault) -> Option<Advice>
-    ensures { is_some result ≡ is_wrong_words fault }
+    ensures { IsAdviceOn fault result }
 {
     match fault {
         Fault::Line(wrong) => line_advice(wrong),

@@ -4,6 +4,7 @@ pub mod PlaceLaws
 pub mod GatherLaws
 pub mod TurnLaws
 pub mod StopLaws
+pub mod WorkerLaws
 pub mod RestLaws
 pub mod SiteLaws
 pub mod RetrievalLaws

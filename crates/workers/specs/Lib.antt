@@ -7,4 +7,5 @@ pub mod Pages
 pub mod Asks
 pub mod Sites
 pub mod Retrieval
+pub mod OneWorker
 pub mod Turns

@@ -15,7 +15,7 @@ returns-in-Ok c =
       shown_of c.args.order.now.trace h.trace,
       Reported (lines_of h),
       reported c.args.order.now site _ h c.in-Ok.ensures.ok c.entries-entries.ensures.entries c.records-records.ensures.records
-          c.trace-trace.ensures.sound (c.in-Ok.ensures.whole_site (whole_of site) (map_fits site)),
+          c.trace-trace.ensures.sound (c.in-Ok.ensures.whole_site (whole_of site) (map_fits site)) c.in-Ok.ensures.by_one.0,
       c.in_ok-text-in-Ok.ensures,
       refl,
     )
@@ -26,7 +26,7 @@ returns c =
     let site = says_of c.args.site.answers c.args.site.rules in (
       shown_of c.args.order.now.trace halt.harvest.trace,
       Stopped halt.cause,
-      stopped c.args.order.now site _ halt.cause halt.harvest c.in-Err.ensures.err (c.in-Err.ensures.full_site (whole_of site) (map_fits site)) c.in-Err.ensures.mismatch,
+      stopped c.args.order.now site _ halt.cause halt.harvest c.in-Err.ensures.err (c.in-Err.ensures.full_site (whole_of site) (map_fits site)) c.in-Err.ensures.mismatch c.in-Err.ensures.by_one.1,
       c.in_ok-text-in-Err.ensures,
       refl,
     )
