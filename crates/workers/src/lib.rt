@@ -9,11 +9,17 @@ pub use crate::harvest::Harvest;
 pub use crate::retrieval::{Halt, retrieve_in_order};
 
 mod entry;
+#[cfg(test)]
+mod frontier_tests;
 mod gathering;
 mod harvest;
+#[cfg(test)]
+mod long_tests;
 mod named;
 mod page;
 mod retrieval;
+#[cfg(test)]
+mod script;
 #[cfg(test)]
 mod tests;
 mod turn;

@@ -1,9 +1,8 @@
 //! Retrievals of small sites whose harvests were worked out by hand.
 ghost use Rattle.std.specs.Prelude.{◌≤◌};
 
+use crate::script::plan;
 use crate::{Halt, Harvest, retrieve_in_order};
-use address::Address;
-use follow_filters::{Limit, Plan};
 use frontier_core::{Cause, Event};
 use site_answer::{Fetcher, MapSite, Outcome};
 use std::alloc::Global;
@@ -42,18 +41,6 @@ link http://h/t
 leaf 200 http://h/s/1
 leaf 200 http://h/t
 ";
-
-/// A plan without filters from `http://h/`, so many hops deep and for so many addresses.
-fn plan(rt: &impl Abort, alloc: Global, hops: u8, max_urls: u8) -> Plan
-    requires { 1 ≤ max_urls }
-{
-    let start = Address::read(alloc, "http://h/").expect(rt, "an address");
-    if start.is_robots_file() {
-        panic!(rt; "a robots file");
-    }
-    let limit = Limit::AtMost(u32::from(hops));
-    Plan::unfiltered(alloc, start, limit, u32::from(max_urls))
-}
 
 /// What the map's site yields under that plan.
 fn retrieved(
