@@ -2,8 +2,8 @@
 
 ghost use Rattle.std.specs.Prelude.{◌≡◌, MatchOption, None, Some, if◌then◌else◌};
 ghost use Rattle.site_answer.specs.Outcomes.{edges};
-ghost use Rattle.frontier_core.specs.Machine.{again, turn_of, is_done, is_out, outcome_in, Parked, Waiting, Out, Worker, Nobody, Answered, Refused};
-ghost use Rattle.frontier_core.specs.Inner.{is_due, is_parked, is_waiting, is_out_to, is_held, spread_over};
+ghost use Rattle.frontier_core.specs.Machine.{again, turn_of, is_done, outcome_in, Parked, Waiting, Out, Worker, Nobody, Answered, Refused};
+ghost use Rattle.frontier_core.specs.Inner.{is_parked, is_out_to, is_held, spread_over};
 ghost use Rattle.frontier_core.specs.Views.{condition_of};
 ghost use Rattle.frontier_core.specs.Agendas.{task_of};
 ghost use Rattle.frontier_core.specs.Counters.{share_of};
@@ -139,28 +139,11 @@ impl Stage {
         }
     }
 
-    /// Edges are to be offered.
-    pub fn is_due(&self) -> bool
-        ensures { result ≡ is_due self.now }
-    {
-        match &self.reached {
-            Reached::Answered(_, due) => *due,
-            _ => false,
-        }
-    }
-
     /// Its origin's rules aren't known yet.
     pub fn is_parked(&self) -> bool
         ensures { result ≡ is_parked self.now }
     {
         matches!(self.reached, Reached::Parked)
-    }
-
-    /// It may be asked for.
-    pub fn is_waiting(&self) -> bool
-        ensures { result ≡ is_waiting self.now }
-    {
-        matches!(self.reached, Reached::Waiting)
     }
 
     /// Asked for by this worker, and not answered.
@@ -171,13 +154,6 @@ impl Stage {
             Reached::Out(Some(holder)) => *holder == worker,
             _ => false,
         }
-    }
-
-    /// Asked for, and not answered.
-    pub fn is_out(&self) -> bool
-        ensures { result ≡ is_out self.now }
-    {
-        matches!(self.reached, Reached::Out(_))
     }
 
     /// Asked for by some worker, and not answered.
