@@ -376,11 +376,13 @@ impl Read for Interrupted {
     }
 }
 
-// A writer that is interrupted so often, and then takes one byte at a time, up to so many.
+// A writer that is interrupted so often, and then takes one byte at a time, up to so many; at the end it flushes, or is
+// interrupted once more.
 #[derive(Drop)]
 struct Slow {
     interrupted: u32,
     room: u32,
+    flushes: bool,
 }
 
 impl Write for Slow {
@@ -397,7 +399,10 @@ impl Write for Slow {
     }
 
     fn flush(&mut self) -> io::Result<()> {
-        Ok(())
+        if self.flushes {
+            return Ok(());
+        }
+        Err(Error::from(ErrorKind::Interrupted))
     }
 }
 
@@ -426,10 +431,20 @@ fn interrupted_reads_are_made_again_up_to_a_thousand(rt: HostRuntime) {
 #[test]
 fn a_writer_that_fails_or_takes_nothing_ends_with_status_1(rt: HostRuntime) {
     // The line has 11 bytes.
-    for (interrupted, room, status) in [(999, 11, 2), (1000, 11, 1), (0, 10, 1), (0, 0, 1)] {
-        let mut writer = Slow { interrupted, room };
+    for (interrupted, room, flushes, status) in [
+        (999, 11, true, 2),
+        (1000, 11, true, 1),
+        (0, 10, true, 1),
+        (0, 0, true, 1),
+        (0, 11, false, 1),
+    ] {
+        let mut writer = Slow {
+            interrupted,
+            room,
+            flushes,
+        };
         let answer = run(rt.alloc(), &[], &mut b"".as_slice(), &mut writer);
-        assert!(rt; answer == status, "{interrupted} {room}");
+        assert!(rt; answer == status, "{interrupted} {room} {flushes}");
     }
 }
 
