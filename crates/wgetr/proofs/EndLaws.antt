@@ -1,6 +1,6 @@
 -- What a retrieval comes to is what the whole site has.
-use Rattle.std.proofs.Common.{◌≡◌, ℕ, inl, inr, Bool, true, false, List, [], Option, Some, refl, sym, ap, subst}
-use Rattle.std.specs.Prelude.{IfSome}
+use Rattle.std.proofs.Common.{◌≡◌, ℕ, inl, inr, Bool, true, false, List, [], ◌++◌, Option, Some, refl, sym, ap, subst}
+use Rattle.std.specs.Prelude.{IfSome, IfOk, IfErr, Result, Ok, Err, string_bytes}
 use Rattle.follow_filters.specs.declared.plan.Plan.{Plan}
 use Rattle.options.specs.declared.order.Order.{Order}
 use Rattle.robots_rules.specs.Access.{RuleSetValue}
@@ -22,8 +22,13 @@ use Rattle.workers.specs.OneWorker.{AreByOne}
 use Rattle.workers.specs.Retrieval.{Brings, Leaves, IsLeft}
 use Rattle.workers.specs.Sites.{Fits, IsCompleteFor}
 use Rattle.wgetr.specs.Entries.{lines_of}
-use Rattle.wgetr.specs.Parts.{shown_of}
-use Rattle.wgetr.specs.Retrieved.{IsPartOf, AreEventsOf, AreShown, HasStopped, Reported, Stopped, Finishes}
+use Rattle.workers.specs.declared.retrieval.Halt.{Halt}
+use Rattle.wgetr.specs.Parts.{IsRead, shown_of, trace_in, finish_of}
+use Rattle.wgetr.specs.Retrieved.{Finish, IsPartOf, AreEventsOf, AreShown, HasStopped, Reported, Stopped, Finishes}
+use Rattle.wgetr.specs.Run.{finish_text, finish_status}
+use Rattle.wgetr.specs.Trace.{trace_text}
+use Rattle.wgetr.specs.declared.run.Output.{Output}
+use Rattle.std.specs.declared.alloc.AllocError.{AllocError}
 use Rattle.wgetr.specs.Site.{whole_of}
 use Rattle.wgetr.proofs.FoundLaws.{are_lines}
 
@@ -78,3 +83,24 @@ stopped order site asks why.Full h (inr empty) many never by_one = let same = em
 stopped order site asks why.Memory h (inl left) many never by_one = inr (stop_events order site asks why.Memory h left by_one)
 stopped order site asks why.Memory h (inr empty) many never by_one = inl (none_shown order.trace h.trace empty.trace)
 stopped order site asks why.Mismatch h left many never by_one = absurd (never refl)
+
+-- ---- either
+
+pub finishes : (order : Order) (site : SiteAnswers) (asks : List Ask) (brought : Result Harvested Halt)
+    → IfOk brought (λ h. Brings (may_say site) (may_rule site) order.plan asks h) → IfOk brought (λ h. IsCompleteFor (policy order.plan) (whole_of site) h.state)
+    → IfErr brought (λ halt. IsLeft (may_say site) (may_rule site) order.plan asks halt.cause halt.harvest)
+    → IfErr brought (λ halt. halt.cause ≡ why.Full → HasTooMany (policy order.plan) (whole_of site)) → IfErr brought (λ halt. halt.cause ≡ why.Mismatch → ⊥)
+    → IfOk brought (λ h. AreByOne h.trace) × IfErr brought (λ halt. AreByOne halt.harvest.trace) → IfOk brought IsRead
+    → Finishes order (whole_of site) (shown_of order.trace (trace_in brought)) (finish_of brought)
+finishes order site asks (Ok h) brings complete left many never by_one read = reported order site asks h brings read.0 read.1 read.2 complete by_one.0
+finishes order site asks (Err halt) brings complete left many never by_one read = stopped order site asks halt.cause halt.harvest left many never by_one.1
+
+-- what is told of either is told of how the retrieval of the site finishes
+pub told_finishes : (order : Order) (site : SiteAnswers) (brought : Result Harvested Halt) (result : Result Output AllocError)
+    → Finishes order (whole_of site) (shown_of order.trace (trace_in brought)) (finish_of brought)
+    → IfOk result (λ output. (string_bytes output.text ≡ trace_text (shown_of order.trace (trace_in brought)) ++ finish_text (finish_of brought))
+    × (output.status ≡ finish_status (finish_of brought)))
+    → IfOk result (λ output. (shown : List Event) × (finish : Finish) × Finishes order (whole_of site) shown finish
+    × (string_bytes output.text ≡ trace_text shown ++ finish_text finish) × (output.status ≡ finish_status finish))
+told_finishes order site brought (Ok output) ends told = (shown_of order.trace (trace_in brought), finish_of brought, ends, told.0, told.1)
+told_finishes order site brought (Err e) ends told = told

@@ -1,11 +1,18 @@
 -- What the parts of a run come to.
-use Rattle.std.specs.Prelude.{◌≡◌, ◌≤◌, ◌<◌, ◌⊎◌, ◌++◌, ℕ, Bool, true, false, List, [], length, codes, Option}
+use Rattle.std.specs.Prelude.{◌≡◌, ◌≤◌, ◌<◌, ◌⊎◌, ◌++◌, ℕ, Bool, true, false, List, [], length, codes, Option, Result, Ok, Err, IfSome}
 use Rattle.std.specs.Io.KnownBytes.{Appends}
 use Rattle.site_answer.specs.Lines.{Statement}
 use Rattle.site_answer.specs.Maps.{lines_of, IsMap, IsFault, says_of}
 use Rattle.site_answer.specs.MapSites.{MapValue}
+use Rattle.frontier_core.specs.Invariants.{IsSound}
+use Rattle.frontier_core.specs.Plans.{policy}
 use Rattle.frontier_core.specs.declared.event.Event.{Event}
+use Rattle.workers.specs.Gathered.{AreEntries, AreRecords}
+use Rattle.workers.specs.Harvests.{Harvested}
+use Rattle.workers.specs.declared.retrieval.Halt.{Halt}
+use Rattle.wgetr.specs.Entries.{lines_of as harvest_lines}
 use Rattle.wgetr.specs.Limits.{max_input}
+use Rattle.wgetr.specs.Retrieved.{Finish, Reported, Stopped}
 use Rattle.wgetr.specs.Run.{fault_words, fault_status}
 use Rattle.wgetr.specs.Site.{site_told}
 use Rattle.wgetr.specs.Streams.{IsInput, AppendsFront}
@@ -44,3 +51,17 @@ IsRefusal old new wrong status =
 abbrev pub shown_of : Bool → List Event → List Event
 shown_of true trace = trace
 shown_of false trace = []
+
+-- the trace that a retrieval left
+abbrev pub trace_in : Result Harvested Halt → List Event
+trace_in (Ok h) = h.trace
+trace_in (Err halt) = halt.harvest.trace
+
+-- what a retrieval comes to
+abbrev pub finish_of : Result Harvested Halt → Finish
+finish_of (Ok h) = Reported (harvest_lines h)
+finish_of (Err halt) = Stopped halt.cause
+
+-- what is said of a harvest beside its contents: the entries and the records say what its state holds, which is sound
+abbrev pub IsRead : Harvested → Type 0
+IsRead h = AreEntries h × AreRecords h × IfSome h.plan (λ plan. IsSound (policy plan) h.state)

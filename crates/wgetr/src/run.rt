@@ -7,7 +7,7 @@ ghost use Rattle.wgetr.specs.Report.{report_text};
 ghost use Rattle.wgetr.specs.Retrieved.{Finish, Stopped, Finishes};
 ghost use Rattle.wgetr.specs.Site.{whole_of};
 ghost use Rattle.wgetr.specs.Trace.{trace_text};
-ghost use Rattle.wgetr.specs.Parts.{TellsOf, TellsFault, IsDelivered, IsRefusal, shown_of};
+ghost use Rattle.wgetr.specs.Parts.{TellsOf, TellsFault, IsDelivered, IsRefusal, IsRead, shown_of, trace_in, finish_of};
 ghost use Rattle.wgetr.specs.Run.{EndsFor, Ending, Failed, Runs, ending_text, ending_status, finish_text, finish_status};
 
 use crate::fault::{Fault, fault_text};
@@ -74,25 +74,39 @@ fn halt_text(alloc: Global, is_shown: bool, halt: &Halt) -> Result<String, Alloc
     Ok(text)
 }
 
-// What is told of the retrieval of a site.
-fn retrieve(alloc: Global, order: &Order, mut site: MapSite) -> Result<Output, AllocError>
-    ensures { IfOk result (λ output. (shown : List Event) × (finish : Finish) × Finishes order.now (whole_of (says_of site.answers site.rules)) shown finish
-        × (string_bytes output.text ≡ trace_text shown ++ finish_text finish) × (output.status ≡ finish_status finish)) }
+// What is told of what a retrieval brought.
+fn told_of(
+    alloc: Global,
+    is_shown: bool,
+    brought: &Result<Harvest, Halt>,
+) -> Result<Output, AllocError>
+    ensures told { IfOk result (λ output. (string_bytes output.text ≡ trace_text (shown_of is_shown (trace_in brought.now)) ++ finish_text (finish_of brought.now))
+        × (output.status ≡ finish_status (finish_of brought.now))) }
+    ensures read { IfOk brought.now IsRead }
 {
-    match retrieve_in_order(alloc, &order.plan, &mut site) {
+    match brought {
         Ok(harvest) => {
             // The entries and the records say what the frontier holds, and the trace leads there.
             let _entries = harvest.entries();
             let _records = harvest.records();
             let _trace = harvest.trace();
-            let text = harvest_text(alloc, order.trace, &harvest)?;
+            let text = harvest_text(alloc, is_shown, harvest)?;
             Ok(Output { text, status: 0 })
         }
         Err(halt) => {
-            let text = halt_text(alloc, order.trace, &halt)?;
+            let text = halt_text(alloc, is_shown, halt)?;
             Ok(Output { text, status: 1 })
         }
     }
+}
+
+// What is told of the retrieval of a site.
+fn retrieve(alloc: Global, order: &Order, mut site: MapSite) -> Result<Output, AllocError>
+    ensures { IfOk result (λ output. (shown : List Event) × (finish : Finish) × Finishes order.now (whole_of (says_of site.answers site.rules)) shown finish
+        × (string_bytes output.text ≡ trace_text shown ++ finish_text finish) × (output.status ≡ finish_status finish)) }
+{
+    let brought = retrieve_in_order(alloc, &order.plan, &mut site);
+    told_of(alloc, order.trace, &brought)
 }
 
 // What is told of the retrieval that the words order of the input.
