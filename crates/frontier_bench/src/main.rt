@@ -62,19 +62,13 @@ fn serve(alloc: Global, frontier: &mut Frontier, permit: Permit, pages: u64) -> 
 }
 
 /// How many pages are taken until the frontier is quiet, in a site of so many pages.
-fn retrieved(alloc: Global, pages: u64) -> Option<u64> {
-    let start = address_of(alloc, 0)?;
-    if start.is_robots_file() {
-        return None;
-    }
-    let plan = Plan::unfiltered(alloc, start, Limit::Unlimited, MAX_URLS);
-    let mut frontier = Frontier::open(alloc, plan).ok()?;
+fn taken_by(alloc: Global, frontier: &mut Frontier, pages: u64) -> Option<u64> {
     let mut taken = 0u64;
     for _ in 0..u64::MAX {
         match frontier.take(0) {
             Ok(Work::Spread) => frontier.spread().ok()?,
             Ok(Work::Page(permit)) => {
-                serve(alloc, &mut frontier, permit, pages)?;
+                serve(alloc, frontier, permit, pages)?;
                 taken = taken.saturating_add(1);
             }
             Ok(Work::Quiet) => return Some(taken),
@@ -85,6 +79,17 @@ fn retrieved(alloc: Global, pages: u64) -> Option<u64> {
         }
     }
     None
+}
+
+/// How many pages a frontier takes that is opened at the first page of a site of so many.
+fn retrieved(alloc: Global, pages: u64) -> Option<u64> {
+    let start = address_of(alloc, 0)?;
+    if start.is_robots_file() {
+        return None;
+    }
+    let plan = Plan::unfiltered(alloc, start, Limit::Unlimited, MAX_URLS);
+    let mut frontier = Frontier::open(alloc, plan).ok()?;
+    taken_by(alloc, &mut frontier, pages)
 }
 
 /// Makes all pages of a site, which a retrieval makes too.
