@@ -1,7 +1,7 @@
 //! How far the work on one held address has come.
 
 ghost use Rattle.std.specs.Prelude.{◌≡◌, MatchOption, None, Some, if◌then◌else◌};
-ghost use Rattle.site_answer.specs.Outcomes.{edges};
+ghost use Rattle.fetcher.specs.Outcomes.{edges};
 ghost use Rattle.frontier_core.specs.Machine.{again, turn_of, is_done, outcome_in, Parked, Waiting, Out, Worker, Nobody, Answered, Refused};
 ghost use Rattle.frontier_core.specs.Inner.{is_parked, is_out_to, is_held, spread_over};
 ghost use Rattle.frontier_core.specs.Views.{condition_of};
@@ -10,7 +10,7 @@ ghost use Rattle.frontier_core.specs.Counters.{share_of};
 
 use crate::condition::Condition;
 use crate::counters::Share;
-use site_answer::Outcome;
+use fetcher::Outcome;
 use std::marker::Model;
 use work_queues::Task;
 
