@@ -1,11 +1,13 @@
 //! Addresses: http URLs without user name, password and fragment (URL Standard, section 4.1).
-ghost use Rattle.std.specs.Prelude.{◌≡◌, ◌<◌, All, IsAscii, IfOk, Ok, Err, length, unwrap_or};
-ghost use Rattle.address.specs.declared.fault.AddressFault.TheVariants.{TooLong};
-ghost use Rattle.address.specs.Address.{Gives, address_of, is_robots_file, IsAddress, IsOrigin, read_address, join_address, origin_of, host_of, port_of, authority_of, dir_of, file_of, path_query_of};
+ghost use Rattle.std.specs.Prelude.{◌≡◌, ◌<◌, IsAscii, IfOk, MatchResult, Ok, Err, length, unwrap_or};
+ghost use Rattle.address.specs.declared.fault.AddressFault.TheVariants.{TooLong, Memory};
+ghost use Rattle.address.specs.Address.{Gives, text_of, address_of, is_robots_file, IsAddress, IsOrigin, read_address, join_address, origin_of, host_of, port_of, authority_of, dir_of, file_of, path_query_of};
+ghost use Rattle.address.specs.Layout.{IsHttp};
 
 use crate::{AddressFault, http_url};
 use std::alloc::{AllocError, Global};
 use std::marker::Model;
+use std::sync::Arc;
 use url::{Position, Url};
 
 /// The most bytes of a text that is read, and of an address.
@@ -16,21 +18,27 @@ pub const MAX_HOST: usize = 255;
 
 /// An http URL without user name, password and fragment, of at most [`MAX_ADDRESS`] bytes, its host
 /// of at most [`MAX_HOST`]. Equality, order and hash are those of its text, by bytes.
+///
+/// Copies share one URL, so that a copy takes no memory. Threads may share an address.
 #[derive(Drop)]
 pub struct Address {
-    url: Url,
+    // Nothing writes to the URL once it is shared.
+    url: Arc<Url>,
+    // For what is joined. It has no size.
+    alloc: Global,
 }
 
 // Contracts see an address as its text.
 impl Model for Address {
+    ghost use Rattle.std.specs.Arc.{arc_value};
     ghost use Rattle.address.specs.Address.{AddressText, text_of};
     ghost use Rattle.address.specs.Layout.{IsHttp};
 
     ghost Value = { AddressText };
 
-    ghost view = { λ a. text_of a.url };
+    ghost view = { λ a. text_of (arc_value a.url) };
 
-    ghost invariant = { λ a. IsHttp a.url };
+    ghost invariant = { λ a. IsHttp (arc_value a.url) };
 }
 
 impl Address {
@@ -43,7 +51,7 @@ impl Address {
         if text.len() > MAX_ADDRESS {
             return Err(AddressFault::TooLong);
         }
-        Address::from_url(Url::parse(alloc, text)?)
+        Address::from_url(alloc, Url::parse(alloc, text)?)
     }
 
     /// Reads a URL, as `../a?b`, with this address as its base; a fragment is dropped (URL Standard,
@@ -55,10 +63,10 @@ impl Address {
         if link.len() > MAX_ADDRESS {
             return Err(AddressFault::TooLong);
         }
-        Address::from_url(self.url.join(link)?)
+        Address::from_url(self.alloc, self.url().join(link)?)
     }
 
-    fn from_url(url: Url) -> Result<Address, AddressFault>
+    fn from_url(alloc: Global, url: Url) -> Result<Address, AddressFault>
         ensures { Gives result (address_of url) }
     {
         if url.scheme() != "http" {
@@ -71,7 +79,26 @@ impl Address {
         if http_url::is_too_long(&url) {
             return Err(AddressFault::TooLong);
         }
-        Ok(Address { url })
+        Address::sharing(alloc, url)
+    }
+
+    // The address of a URL that keeps the rules. The error is that memory is wanting.
+    fn sharing(alloc: Global, url: Url) -> Result<Address, AddressFault>
+        requires { IsHttp url }
+        ensures { MatchResult result (λ address. address ≡ text_of url) (λ fault. fault ≡ Memory) }
+    {
+        match Arc::new(alloc, url) {
+            Ok(url) => Ok(Address { url, alloc }),
+            Err(_) => Err(AddressFault::Memory),
+        }
+    }
+
+    // The URL that this address and its copies share.
+    fn url(&self) -> &Url
+        ensures text { text_of result.now ≡ self.now }
+        ensures http { IsHttp result.now }
+    {
+        &*self.url
     }
 
     // `join` of a path that every address can be joined with: only memory can be wanting.
@@ -84,12 +111,14 @@ impl Address {
         }
     }
 
-    /// An equal address. The error is that memory is wanting.
+    /// An equal address, which shares the URL of this one. Takes no memory; the error is that 2^63
+    /// copies are there.
     pub fn try_clone(&self) -> Result<Address, AllocError>
         ensures { IfOk result (λ copy. copy ≡ self.now) }
     {
         Ok(Address {
-            url: self.url.clone()?,
+            url: Arc::try_clone(&self.url)?,
+            alloc: self.alloc,
         })
     }
 
@@ -102,7 +131,7 @@ impl Address {
         ensures address { IsAddress self.now }
         ensures origin { IsOrigin (origin_of self.now) }
     {
-        http_url::text(&self.url)
+        http_url::text(self.url())
     }
 
     /// Scheme, host and port, as `http://h:81`; the port is left out where it is 80 (URL Standard,
@@ -111,7 +140,8 @@ impl Address {
         ensures value { result.now ≡ origin_of self.now }
         ensures ascii { IsAscii result.now }
     {
-        self.url.slice(Position::BeforeScheme, Position::AfterPort)
+        self.url()
+            .slice(Position::BeforeScheme, Position::AfterPort)
     }
 
     /// The host, as the address writes it: a domain in lower case, or an IP address (URL Standard,
@@ -120,14 +150,14 @@ impl Address {
         ensures value { result.now ≡ host_of self.now }
         ensures ascii { IsAscii result.now }
     {
-        http_url::host(&self.url)
+        http_url::host(self.url())
     }
 
     /// The port, 80 where the address names none (RFC 9110, section 4.2.1).
     pub fn port(&self) -> u16
         ensures { result ≡ unwrap_or (port_of self.now) 80 }
     {
-        self.url.port().unwrap_or(80)
+        self.url().port().unwrap_or(80)
     }
 
     /// Host and port, as `h:81`: what the Host field of a request holds (RFC 9110, section 7.2). The
@@ -136,7 +166,7 @@ impl Address {
         ensures value { result.now ≡ authority_of self.now }
         ensures ascii { IsAscii result.now }
     {
-        self.url.slice(Position::BeforeHost, Position::AfterPort)
+        self.url().slice(Position::BeforeHost, Position::AfterPort)
     }
 
     /// The path up to and with its last `/`, as `/a/` of `http://h/a/b?c`.
@@ -144,7 +174,7 @@ impl Address {
         ensures value { result.now ≡ dir_of self.now }
         ensures ascii { IsAscii result.now }
     {
-        let path = self.url.path();
+        let path = self.url().path();
         &path[..http_url::dir_len(path)]
     }
 
@@ -153,7 +183,7 @@ impl Address {
         ensures value { result.now ≡ file_of self.now }
         ensures ascii { IsAscii result.now }
     {
-        let path = self.url.path();
+        let path = self.url().path();
         &path[http_url::dir_len(path)..]
     }
 
@@ -163,7 +193,7 @@ impl Address {
         ensures value { result.now ≡ path_query_of self.now }
         ensures ascii { IsAscii result.now }
     {
-        self.url.slice(Position::BeforePath, Position::AfterQuery)
+        self.url().slice(Position::BeforePath, Position::AfterQuery)
     }
 
     /// Whether path and query are exactly `/robots.txt`, the place of the origin's robots file
@@ -175,11 +205,17 @@ impl Address {
     }
 }
 
-/// Tells the caller's proof that each of these texts is an address. It does nothing else.
-pub fn all_addresses(addresses: &[Address])
-    ensures { All IsAddress addresses.now }
-{
-    for address in addresses {
-        let _text = address.as_str();
+#[cfg(test)]
+mod tests {
+    use super::*;
+    use std::test::Fail;
+
+    #[test]
+    fn a_copy_shares_the_url(rt: HostRuntime) -> Result<(), Fail> {
+        let page = Address::read(rt.alloc(), "http://h/a")?;
+        assert!(rt; Arc::strong_count(&page.url) == 1);
+        let copy = page.try_clone()?;
+        assert!(rt; Arc::strong_count(&copy.url) == 2);
+        Ok(())
     }
 }

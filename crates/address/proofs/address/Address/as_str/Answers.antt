@@ -5,8 +5,8 @@ use Rattle.address.proofs.address.Address.as_str.Goals as goal
 
 pub returns-clause-address : goal.returns-clause-address
 returns-clause-address c =
-    subst IsAddress c.self.view_is (IsAddress-text_of c.self.inside.url c.self.invariant)
+    subst IsAddress c.url.ensures.text (IsAddress-text_of c.url.result.now c.url.ensures.http)
 
 pub returns-clause-origin : goal.returns-clause-origin
 returns-clause-origin c =
-    subst (λ t. IsOrigin (origin_of t)) c.self.view_is (IsOrigin-text_of c.self.inside.url c.self.invariant)
+    subst (λ t. IsOrigin (origin_of t)) c.url.ensures.text (IsOrigin-text_of c.url.result.now c.url.ensures.http)

@@ -14,4 +14,4 @@ pub returns-clause-value : goal.returns-clause-value
 returns-clause-value c =
     c.range.ensures.value ∙ from_start _ _ ∙ ap (λ n. take n c.path-path.result.now) c.dir_len.ensures.value
     ∙ ap (λ p. take (dir_len p) p) c.path-path.ensures.value
-    ∙ sym (dir_of-text_of c.self.inside.url c.self.invariant) ∙ ap dir_of c.self.view_is
+    ∙ sym (dir_of-text_of c.url.result.now c.url.ensures.http) ∙ ap dir_of c.url.ensures.text

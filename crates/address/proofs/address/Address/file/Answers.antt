@@ -11,4 +11,4 @@ pub returns-clause-value : goal.returns-clause-value
 returns-clause-value c =
     c.range_from.ensures.value ∙ ap (λ n. drop n c.path-path.result.now) c.dir_len.ensures.value
     ∙ ap (λ p. drop (dir_len p) p) c.path-path.ensures.value
-    ∙ sym (file_of-text_of c.self.inside.url c.self.invariant) ∙ ap file_of c.self.view_is
+    ∙ sym (file_of-text_of c.url.result.now c.url.ensures.http) ∙ ap file_of c.url.ensures.text

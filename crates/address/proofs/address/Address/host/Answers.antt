@@ -5,4 +5,4 @@ use Rattle.address.proofs.address.Address.host.Goals as goal
 
 pub returns-clause-value : goal.returns-clause-value
 returns-clause-value c =
-    c.host.ensures.value ∙ sym (host_of-text_of c.self.inside.url c.self.invariant) ∙ ap host_of c.self.view_is
+    c.host.ensures.value ∙ sym (host_of-text_of c.url.result.now c.url.ensures.http) ∙ ap host_of c.url.ensures.text

@@ -6,12 +6,12 @@ use Rattle.address.proofs.address.Address.join.Goals as goal
 
 pub returns-clause-value : goal.returns-clause-value
 returns-clause-value c =
-    let base = sym (url_of-text_of c.self.inside.url c.self.invariant) ∙ ap url_of c.self.view_is in
+    let base = sym (url_of-text_of c.url.result.now c.url.ensures.http) ∙ ap url_of c.url.ensures.text in
     gives_same _ _ _ (sym (reads_url (Some (url_of c.args.self.now)) c.args.link.now _ c.if-link-gt-MAX_ADDRESS.false (ap (λ b. parse_url (Some b) c.args.link.now) (sym base) ∙ c.in_ok-join.ensures))) c.from_url.ensures
 
 pub returns-in_err-join-clause-value : goal.returns-in_err-join-clause-value
 returns-in_err-join-clause-value c =
-    let base = sym (url_of-text_of c.self.inside.url c.self.invariant) ∙ ap url_of c.self.view_is in
+    let base = sym (url_of-text_of c.url.result.now c.url.ensures.http) ∙ ap url_of c.url.ensures.text in
     gives_error _ _ _ c.from_residual.ensures.1 (reads_error (Some (url_of c.args.self.now)) c.args.link.now _ c.if-link-gt-MAX_ADDRESS.false (first_changed (λ parsed. ap (λ b. parse_url (Some b) c.args.link.now) (sym base) ∙ parsed) c.in_err-join.ensures))
 
 pub returns-then-link-gt-MAX_ADDRESS-clause-value : goal.returns-then-link-gt-MAX_ADDRESS-clause-value

@@ -5,4 +5,4 @@ use Rattle.address.proofs.address.Address.origin.Goals as goal
 
 pub returns-clause-value : goal.returns-clause-value
 returns-clause-value c =
-    c.slice.ensures.value ∙ sym (origin_of-text_of c.self.inside.url c.self.invariant) ∙ ap origin_of c.self.view_is
+    c.slice.ensures.value ∙ sym (origin_of-text_of c.url.result.now c.url.ensures.http) ∙ ap origin_of c.url.ensures.text

@@ -7,4 +7,4 @@ use Rattle.address.proofs.address.Address.port.Goals as goal
 pub returns : goal.returns
 returns c =
     c.unwrap_or.ensures
-    ∙ ap (λ p. unwrap_or p 80) (c.port.ensures.value ∙ sym (port_of-text_of c.self.inside.url c.self.invariant) ∙ ap port_of c.self.view_is)
+    ∙ ap (λ p. unwrap_or p 80) (c.port.ensures.value ∙ sym (port_of-text_of c.url.result.now c.url.ensures.http) ∙ ap port_of c.url.ensures.text)
