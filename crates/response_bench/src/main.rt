@@ -2,7 +2,7 @@
 //! same sink with no reader between. With a number as argument it does so that many times, and says how fast.
 #![tactic(auto)]
 
-ghost use Rattle.std.specs.Prelude.{⊤};
+ghost use Rattle.std.specs.Prelude.{⊤, false};
 
 use anyhow::Result;
 use response_reader::{Head, MemoryWire, Sink, Wire, read_into};
@@ -67,6 +67,12 @@ struct Kept<'a> {
 // Nothing is said of what it took.
 impl<'a> Sink for Kept<'a> {
     ghost took = { λ _ _ _. ⊤ };
+
+    ghost Purpose = { ⊤ };
+
+    ghost purpose = { λ _. tt };
+
+    ghost refused = { λ _. false };
 
     fn head(&mut self, _head: &Head) -> Result<(), AllocError> {
         self.len = 0;

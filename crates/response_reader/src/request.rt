@@ -1,5 +1,5 @@
 //! The request for one address (RFC 9112, sections 3 and 9.6).
-ghost use Rattle.std.specs.Prelude.{◌≡◌, ℕ, List, ◌++◌, ◌+◌, ◌<◌, ◌≤◌, length, drop, IsTrue, IfOk, OnOk, OnErr};
+ghost use Rattle.std.specs.Prelude.{◌≡◌, ℕ, List, [], ◌++◌, ◌+◌, ◌<◌, ◌≤◌, length, drop, IsTrue, IfOk, OnOk, OnErr};
 ghost use Rattle.std.specs.Io.KnownBytes.{Appends, Keeps};
 ghost use Rattle.response_reader.specs.Request.{request_text, AppendsFront, WritesGiveUp};
 ghost use Rattle.response_reader.specs.Wire.{tally, GoesOn, HasRisen, counted};
@@ -7,6 +7,7 @@ ghost use Rattle.response_reader.specs.Wire.{tally, GoesOn, HasRisen, counted};
 use crate::retry::MAX_INTERRUPTED;
 use crate::wire::{Wire, WireFault};
 use address::Address;
+use arrayvec::ArrayVec;
 use thiserror::Error;
 
 /// Why a request wasn't written.
@@ -18,7 +19,8 @@ pub enum RequestFault {
 }
 
 /// Writes the request for an address: a GET of its path and query, with its host, and its port where
-/// that isn't 80. The text goes out in five writes where each is taken whole. After a fault a front of
+/// that isn't 80. The text is put together on the stack and goes out in one write where that is taken
+/// whole, so that it isn't cut into small packets. After a fault a front of
 /// it was written, and the wire isn't to be used again.
 pub fn write_request<W: Wire>(wire: &mut W, address: &Address) -> Result<(), RequestFault>
     ensures written { OnOk result (Appends (W.outgoing wire.old) (W.outgoing wire.new) (request_text address.now)) }
@@ -26,21 +28,47 @@ pub fn write_request<W: Wire>(wire: &mut W, address: &Address) -> Result<(), Req
     ensures device { OnErr result (HasRisen (W.failed wire.old) (W.failed wire.new)) }
     ensures interrupted { OnErr result (IsTrue (W.writes_never_fail wire.old) → W.failed wire.new ≡ counted (W.failed wire.old) 1000) }
     ensures few { OnOk result (W.failed wire.new < W.failed wire.old + 1000) }
+    ensures lost { OnOk result (W.lost wire.new ≡ W.lost wire.old) }
     ensures read { Keeps (W.incoming wire.old) (W.incoming wire.new) }
     ensures steady { IsTrue (W.writes_never_fail wire.old) → IsTrue (W.writes_never_fail wire.new) }
     ensures reads { IsTrue (W.reads_never_fail wire.old) → IsTrue (W.reads_never_fail wire.new) }
     ensures quiet { IsTrue (W.never_errs wire.old) → IsTrue (W.never_errs wire.new) }
 {
-    let interrupted = write_all(wire, b"GET ", 0)?;
-    let interrupted = write_all(wire, address.path_query().as_bytes(), interrupted)?;
-    let interrupted = write_all(wire, b" HTTP/1.1\r\nHost: ", interrupted)?;
-    let interrupted = write_all(wire, address.authority().as_bytes(), interrupted)?;
-    write_all(
-        wire,
-        b"\r\nUser-Agent: wgetr/1.0\r\nAccept: */*\r\nAccept-Encoding: identity\r\nConnection: close\r\n\r\n",
-        interrupted,
-    )?;
+    let mut text = ArrayVec::new();
+    put_request(&mut text, address);
+    write_all(wire, text.as_slice(), 0)?;
     Ok(())
+}
+
+/// The text of a request, in room for that of any address.
+type RequestText = ArrayVec<u8, 8320>;
+
+/// Adds bytes to a text that has room for them.
+fn put(text: &mut RequestText, bytes: &[u8])
+    requires { length text.old.items + length bytes.now ≤ 8320 }
+    ensures { text.new.items ≡ text.old.items ++ bytes.now }
+{
+    match text.try_extend_from_slice(bytes) {
+        Ok(()) => {}
+        Err(_) => unreachable!(),
+    }
+}
+
+/// Puts the request for an address into an empty text.
+fn put_request(text: &mut RequestText, address: &Address)
+    requires { text.old.items ≡ [] }
+    ensures { text.new.items ≡ request_text address.now }
+{
+    // Every address is short enough.
+    let _address = address.as_str();
+    put(text, b"GET ");
+    put(text, address.path_query().as_bytes());
+    put(text, b" HTTP/1.1\r\nHost: ");
+    put(text, address.authority().as_bytes());
+    put(
+        text,
+        b"\r\nUser-Agent: wgetr/1.0\r\nAccept: */*\r\nAccept-Encoding: identity\r\nConnection: close\r\n\r\n",
+    );
 }
 
 /// Writes all the bytes, where so many writes of the request were interrupted before, and says how
@@ -51,12 +79,12 @@ fn write_all<W: Wire>(wire: &mut W, bytes: &[u8], interrupted: u32) -> Result<u3
     ensures part { OnErr result (AppendsFront (W.outgoing wire.old) (W.outgoing wire.new) bytes.now) }
     ensures few { IfOk result (λ n. n < MAX_INTERRUPTED) }
     ensures counts { IfOk result (λ n. GoesOn
-        (tally (W.failed wire.old) (W.writes_never_fail wire.old) (W.never_errs wire.old) (W.incoming wire.old) interrupted)
-        (tally (W.failed wire.new) (W.writes_never_fail wire.new) (W.never_errs wire.new) (W.incoming wire.new) n)) }
+        (tally (W.failed wire.old) (W.writes_never_fail wire.old) (W.never_errs wire.old) (W.incoming wire.old) (W.lost wire.old) interrupted)
+        (tally (W.failed wire.new) (W.writes_never_fail wire.new) (W.never_errs wire.new) (W.incoming wire.new) (W.lost wire.new) n)) }
     ensures reads { IsTrue (W.reads_never_fail wire.old) → IsTrue (W.reads_never_fail wire.new) }
     ensures gives_up { OnErr result ((after : ℕ) → WritesGiveUp
-        (tally (W.failed wire.old) (W.writes_never_fail wire.old) (W.never_errs wire.old) (W.incoming wire.old) interrupted)
-        (tally (W.failed wire.new) (W.writes_never_fail wire.new) (W.never_errs wire.new) (W.incoming wire.new) after)) }
+        (tally (W.failed wire.old) (W.writes_never_fail wire.old) (W.never_errs wire.old) (W.incoming wire.old) (W.lost wire.old) interrupted)
+        (tally (W.failed wire.new) (W.writes_never_fail wire.new) (W.never_errs wire.new) (W.incoming wire.new) (W.lost wire.new) after)) }
 {
     let mut rest = bytes;
     let mut count = interrupted;
