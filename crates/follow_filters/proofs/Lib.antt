@@ -1,3 +1,4 @@
+pub mod StandardFacts
 pub mod TextLemmas
 pub mod PatternLemmas
 pub mod RulesLemmas

@@ -20,7 +20,7 @@ use Rattle.follow_filters.specs.Domains.{IsInDomain, is_in_domain}
 use Rattle.follow_filters.specs.Directories.{IsInDirectory, is_in_directory}
 use Rattle.follow_filters.specs.Exempt.{IsExempt, is_exempt}
 use Rattle.follow_filters.specs.Patterns.{MatchesFile, is_file_match, matches_read, read_pattern, is_run, takes}
-use Rattle.follow_filters.specs.Rules.{rules, Meets, Passes, IsFirstUnmet, PassingIsDecided, is_absent, meets, first_unmet, passes_of, verdict_from, verdict_of, keeps_of, keeps_name, Keeps, kept_name}
+use Rattle.follow_filters.specs.Rules.{rules, Meets, Passes, IsFirstUnmet, is_absent, meets, first_unmet, passes_of, verdict_from, verdict_of, keeps_of, keeps_name, Keeps, kept_name}
 
 -- ---- fronts and backs of texts
 
@@ -150,7 +150,9 @@ all_met : (plan : Plan) (address : List ℕ) (rs : List Rule) → ((r : Rule) �
 all_met plan address [] each = refl
 all_met plan address (r ∷ rs) each = and_from _ _ (each r) (all_met plan address rs each)
 
-pub passes_of-is : PassingIsDecided
+-- the test `passes_of` holds of a text just where it meets each of the nine rules, for every plan: a law for definitions of other
+-- crates that take a test
+pub passes_of-is : (plan : Plan) (address : List ℕ) → IsTrue (passes_of plan address) ↔ Passes plan address
 unfolding passes_of
 passes_of-is plan address = (
   λ yes r. (meets-Decides r plan address).0

@@ -6,7 +6,7 @@ use Rattle.follow_filters.specs.declared.plan.Plan.{Plan}
 use Rattle.follow_filters.specs.declared.limit.Limit.{Limit}
 use Rattle.follow_filters.specs.declared.limit.Limit.TheVariants.{AtMost, Unlimited}
 
--- the plan has no filters beyond the start's host, robots files aren't honoured, and two requests may be out to a host
+-- the plan has no filters beyond the start's host, robots files aren't honoured, and two requests may be out to an origin
 pub record IsUnfiltered (plan : Plan) : Type 0 where
   pub span_hosts : plan.span_hosts ≡ false
   pub no_parent : plan.no_parent ≡ false

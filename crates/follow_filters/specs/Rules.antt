@@ -124,7 +124,3 @@ keeps_name plan name = (is_absent plan.accept || matches_some plan.accept name) 
 -- a page of this address is kept, as a test
 unfoldable pub keeps_of : Plan → List ℕ → Bool
 keeps_of plan address = keeps_name plan (kept_name address)
-
--- the tests say what the rules mean, of every plan and address
-abbrev pub PassingIsDecided : Type 0
-PassingIsDecided = (plan : Plan) (address : List ℕ) → IsTrue (passes_of plan address) ↔ Passes plan address

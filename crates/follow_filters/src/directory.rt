@@ -1,5 +1,5 @@
 //! Directories (GNU Wget manual, section Directory-Based Limits).
-ghost use Rattle.std.specs.Prelude.{◌≡◌, ◌++◌, codes, nat_eq, IfOk};
+ghost use Rattle.std.specs.Prelude.{◌≡◌, ◌++◌, codes, nat_eq, IfOk, Err, None};
 ghost use Rattle.follow_filters.specs.Directories.{is_in_directory, is_directory, without_closing_slashes};
 
 use crate::elements::ElementFault;
@@ -27,10 +27,11 @@ impl Directory {
     ghost use Rattle.follow_filters.specs.Elements.{Reads};
     ghost use Rattle.follow_filters.specs.Directories.{read_directory};
 
-    /// Reads a directory. It begins with a slash and has none of `*`, `?`, `[` and `]`, else `Bad`;
-    /// the slashes at its end are taken off.
+    /// Reads a directory. It begins with a slash and has none of `*`, `?`, `[` and `]`, else `Bad`
+    /// and nothing else; the slashes at its end are taken off.
     pub fn read(alloc: Global, text: &str) -> Result<Directory, ElementFault>
-        ensures { Reads result (read_directory text.now) }
+        ensures reads { Reads result (read_directory text.now) }
+        ensures refuses { read_directory text.now ≡ None → result ≡ Err ElementFault.Bad }
     {
         if !is_directory(text.as_bytes()) {
             return Err(ElementFault::Bad);

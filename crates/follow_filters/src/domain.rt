@@ -1,5 +1,5 @@
 //! Domains (GNU Wget manual, section Spanning Hosts).
-ghost use Rattle.std.specs.Prelude.{◌≡◌, ◌++◌, codes, nat_eq, IfOk};
+ghost use Rattle.std.specs.Prelude.{◌≡◌, ◌++◌, codes, nat_eq, IfOk, Err, None};
 ghost use Rattle.std.specs.List.{ends_with, list_all};
 ghost use Rattle.std.specs.Str.{str_to_ascii_lowercase};
 ghost use Rattle.follow_filters.specs.Domains.{is_in_domain, is_domain, is_domain_byte, without_dot};
@@ -29,9 +29,10 @@ impl Domain {
     ghost use Rattle.follow_filters.specs.Domains.{read_domain};
 
     /// Reads a domain. One leading dot is taken off, and what remains is one or more letters and
-    /// digits of ASCII, `-`, `_` and `.`; else `Bad`.
+    /// digits of ASCII, `-`, `_` and `.`; else `Bad`, and nothing else.
     pub fn read(alloc: Global, text: &str) -> Result<Domain, ElementFault>
-        ensures { Reads result (read_domain text.now) }
+        ensures reads { Reads result (read_domain text.now) }
+        ensures refuses { read_domain text.now ≡ None → result ≡ Err ElementFault.Bad }
     {
         let bare = without_dot(text);
         if !is_domain(bare.as_bytes()) {

@@ -56,7 +56,7 @@ fn matches_some(patterns: &Elements<Pattern>, file: &str) -> bool
         .any(|pattern| pattern.matches(file))
 }
 
-ghost use Rattle.follow_filters.specs.Rules.{PassingIsDecided, kept_name};
+ghost use Rattle.follow_filters.specs.Rules.{kept_name};
 
 // The name under which a page of this address is kept.
 fn kept_name(address: &Address) -> &str
@@ -182,9 +182,3 @@ impl Plan {
             && !matches_some(&self.reject, name)
     }
 }
-
-/// That the test `passes_of` holds of an address just where it meets each of the nine rules, for every plan and every text: a law of the definitions,
-/// for callers whose own definitions take a test. Does nothing.
-pub fn passing_is_decided()
-    ensures { PassingIsDecided }
-{}

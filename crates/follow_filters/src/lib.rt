@@ -5,7 +5,6 @@
 pub use crate::directory::Directory;
 pub use crate::domain::Domain;
 pub use crate::elements::{ElementFault, Elements};
-pub use crate::following::passing_is_decided;
 pub use crate::limit::{Limit, MAX_LEVEL};
 pub use crate::lists::Element;
 pub use crate::pattern::Pattern;

@@ -15,7 +15,7 @@ use address::Address;
 /// The most addresses that a retrieval may hold.
 pub const MAX_URLS: u32 = 1_000_000;
 
-/// The most requests that may be out to one host at a time.
+/// The most requests that may be out to one origin at a time.
 pub const MAX_PER_HOST: u32 = 16;
 
 /// What to retrieve. A list of elements that is empty counts as not given.
@@ -45,7 +45,7 @@ pub struct Plan {
     pub robots: bool,
     /// How many addresses may be held, 1 to 1,000,000.
     pub max_urls: u32,
-    /// How many requests may be out to one host at a time, 1 to 16.
+    /// How many requests may be out to one origin at a time, 1 to 16; its robots file counts.
     pub per_host: u32,
     pub ghost starts_at_page: { is_robots_file start ≡ false },
     pub ghost limit_in_range: { is_in_range limit ≡ true },

@@ -14,7 +14,7 @@ impl Plan {
     ghost use Rattle.follow_filters.specs.Plans.{IsUnfiltered, have_same_bounds, have_same_flags, have_same_lists, is_same_plan};
 
     /// A plan without filters: the start's host is followed but for its robots file, robots files
-    /// aren't honoured, and two requests may be out to a host. Takes no memory.
+    /// aren't honoured, and two requests may be out to an origin. Takes no memory.
     pub fn unfiltered(alloc: Global, start: Address, limit: Limit, max_urls: u32) -> Plan
         requires page { is_robots_file start ≡ false }
         requires limit { is_in_range limit ≡ true }

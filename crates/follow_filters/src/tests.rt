@@ -1,7 +1,7 @@
 //! Elements, rules and copies as the GNU Wget manual and worked examples have them.
 use crate::{Directory, Domain, ElementFault, Elements, Limit, Pattern, Plan, Rule};
 use address::{Address, AddressFault};
-use std::alloc::Global;
+use std::alloc::{AllocError, Global};
 use std::test::Fail;
 
 // A plan without filters that starts at this page.
@@ -97,6 +97,30 @@ fn bad_elements_are_refused(rt: HostRuntime) {
             "{domain}"
         );
     }
+}
+
+// So many letters behind a front.
+fn lengthened(alloc: Global, front: &str, letters: u32) -> Result<String, AllocError> {
+    let mut text = String::from_str(alloc, front)?;
+    for _ in 0..letters {
+        text.push('a')?;
+    }
+    Ok(text)
+}
+
+#[test]
+fn long_elements_are_read(rt: HostRuntime) -> Result<(), Fail> {
+    for letters in [300, 8_000] {
+        let text = lengthened(rt.alloc(), "/", letters)?;
+        let directory = Directory::read(rt.alloc(), text.as_str())?;
+        assert!(rt; directory.as_str() == text.as_str(), "{letters}");
+        let text = lengthened(rt.alloc(), "", letters)?;
+        let domain = Domain::read(rt.alloc(), text.as_str())?;
+        assert!(rt; domain.as_str() == text.as_str(), "{letters}");
+        let pattern = Pattern::read(rt.alloc(), text.as_str())?;
+        assert!(rt; pattern.matches(text.as_str()), "{letters}");
+    }
+    Ok(())
 }
 
 #[test]
