@@ -2,8 +2,8 @@
 use Rattle.std.proofs.Common.{◌≡◌, ℕ, ◌+◌, ◌<◌, ◌≤◌, true, Some, None, sym, ap, ◌∙◌, subst, length}
 use Rattle.std.specs.Prelude.{slice_get}
 use Rattle.std.proofs.lemmas.Option.{slice_get_within, slice_get-get_or, get_or_from_slice_get}
-use Rattle.site_answer.specs.Outcomes.{edges}
-use Rattle.site_answer.specs.declared.edge.Edge.{Edge}
+use Rattle.fetcher.specs.Outcomes.{edges}
+use Rattle.fetcher.specs.declared.edge.Edge.{Edge}
 use Rattle.frontier_core.specs.Tables.{Text, lookup}
 use Rattle.frontier_core.specs.Routes.{Policy, admits, weight}
 use Rattle.frontier_core.specs.Machine.{State, Slot, Progress, Parked, Waiting, Out, Answered, Refused, slot, slot_outcome, outcome_in}

@@ -3,7 +3,7 @@ use Rattle.std.proofs.lemmas.Bool.{false≢true}
 use Rattle.frontier_core.specs.Plans.{policy}
 use Rattle.frontier_core.specs.Inner.{key_at}
 use Rattle.frontier_core.specs.Routes.{admits, weight as weight_of}
-use Rattle.site_answer.specs.declared.edge.Edge.{Edge}
+use Rattle.fetcher.specs.declared.edge.Edge.{Edge}
 use Rattle.frontier_core.proofs.Stuck.{stuck_at, unstuck, stuck_within}
 use Rattle.frontier_core.proofs.board.Board.is_stuck.Goals as goal
 
