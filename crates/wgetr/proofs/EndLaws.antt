@@ -16,8 +16,8 @@ use Rattle.frontier_core.specs.declared.event.Cause.{Cause}
 use Rattle.frontier_core.specs.declared.event.Cause.TheVariants as why
 use Rattle.frontier_core.specs.declared.event.Event.{Event}
 use Rattle.workers.specs.Asks.{IsTold}
-use Rattle.workers.specs.Gathered.{AreEntries, AreRecords}
-use Rattle.workers.specs.Harvests.{Harvested}
+use Rattle.harvest.specs.Gathered.{AreEntries, AreRecords}
+use Rattle.harvest.specs.Harvests.{Harvested}
 use Rattle.workers.specs.OneWorker.{AreByOne}
 use Rattle.workers.specs.Retrieval.{Brings, Leaves, IsLeft}
 use Rattle.workers.specs.Sites.{Fits, IsCompleteFor}

@@ -12,11 +12,11 @@ use Rattle.frontier_core.specs.Machine.{State, Slot, Progress, Parked, Waiting, 
 use Rattle.frontier_core.specs.Machine as progress
 use Rattle.frontier_core.specs.Readers.{Recorded, entry_of, record_of}
 use Rattle.frontier_core.specs.Views.{condition_of}
-use Rattle.workers.specs.Entries.{Seen, seen_of, seen_in, said_by, is_refused, IsPlaceOf, recorded_addresses}
-use Rattle.workers.specs.Gathered.{AreEntries, AreRecords}
-use Rattle.workers.specs.Harvests.{Harvested}
+use Rattle.harvest.specs.Entries.{Seen, seen_of, seen_in, said_by, is_refused, IsPlaceOf, recorded_addresses}
+use Rattle.harvest.specs.Gathered.{AreEntries, AreRecords}
+use Rattle.harvest.specs.Harvests.{Harvested}
 use Rattle.workers.specs.Sites.{IsCompleteFor}
-use Rattle.workers.specs.declared.entry.Entry.{Entry}
+use Rattle.harvest.specs.declared.entry.Entry.{Entry}
 use Rattle.wgetr.specs.Report.{Line, Fate, Asked, Refused}
 use Rattle.wgetr.specs.Entries.{fate_at, line_at, lines_of}
 use Rattle.wgetr.specs.Site.{IsFate, AreLines}

@@ -10,11 +10,11 @@ use Rattle.frontier_core.specs.Tables.{Text, lookup, keys, IsOnce}
 use Rattle.frontier_core.specs.Machine.{State, Slot, outcome_in}
 use Rattle.frontier_core.specs.Readers.{Recorded, entry_of, record_of, with_outcome}
 use Rattle.frontier_core.specs.Views.{condition_of}
-use Rattle.workers.specs.Entries.{seen_of, seen_in, said_by, is_refused, IsPlaceOf, Seen}
-use Rattle.workers.specs.Gathered.{AreEntries, AreRecords}
-use Rattle.workers.specs.Harvests.{Harvested}
-use Rattle.workers.specs.Order.{IsBefore}
-use Rattle.workers.specs.declared.entry.Entry.{Entry}
+use Rattle.harvest.specs.Entries.{seen_of, seen_in, said_by, is_refused, IsPlaceOf, Seen}
+use Rattle.harvest.specs.Gathered.{AreEntries, AreRecords}
+use Rattle.harvest.specs.Harvests.{Harvested}
+use Rattle.harvest.specs.Order.{IsBefore}
+use Rattle.harvest.specs.declared.entry.Entry.{Entry}
 use Rattle.wgetr.specs.Report.{Line, Fate, Asked, Refused, IsAscending}
 use Rattle.wgetr.specs.Entries.{fate_at, line_at, lines_of}
 use Rattle.wgetr.proofs.ListLemmas.{to_map, from_map, pairs_map, from_given, pairs_given, length-given}

@@ -2,8 +2,8 @@
 use Rattle.std.specs.Prelude.{ℕ, Bool, true, false, List, Option, Some, None, option_map, slice_get}
 use Rattle.std.specs.List.{filter_map}
 use Rattle.frontier_core.specs.Readers.{Recorded}
-use Rattle.workers.specs.Harvests.{Harvested}
-use Rattle.workers.specs.declared.entry.Entry.{Entry}
+use Rattle.harvest.specs.Harvests.{Harvested}
+use Rattle.harvest.specs.declared.entry.Entry.{Entry}
 use Rattle.wgetr.specs.Report.{Line, Fate, Asked, Refused}
 
 -- what became of an entry: robots rules refuse it, or it has the outcome at its place in the records

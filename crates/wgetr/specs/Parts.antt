@@ -7,8 +7,8 @@ use Rattle.site_maps.specs.MapSites.{MapValue}
 use Rattle.frontier_core.specs.Invariants.{IsSound}
 use Rattle.frontier_core.specs.Plans.{policy}
 use Rattle.frontier_core.specs.declared.event.Event.{Event}
-use Rattle.workers.specs.Gathered.{AreEntries, AreRecords}
-use Rattle.workers.specs.Harvests.{Harvested}
+use Rattle.harvest.specs.Gathered.{AreEntries, AreRecords}
+use Rattle.harvest.specs.Harvests.{Harvested}
 use Rattle.workers.specs.declared.retrieval.Halt.{Halt}
 use Rattle.wgetr.specs.Entries.{lines_of as harvest_lines}
 use Rattle.wgetr.specs.Limits.{max_input}

@@ -1,9 +1,3 @@
-pub mod Order
-pub mod Harvests
-pub mod Entries
-pub mod Gathered
-pub mod Shown
-pub mod Pages
 pub mod Asks
 pub mod Sites
 pub mod Retrieval

@@ -1,0 +1,3 @@
+pub mod OrderLaws
+pub mod PlaceLaws
+pub mod GatherLaws

@@ -1,0 +1,6 @@
+pub mod Order
+pub mod Harvests
+pub mod Entries
+pub mod Pages
+pub mod Gathered
+pub mod Shown

@@ -1,0 +1,163 @@
+//! What a frontier holds, gathered in address order.
+ghost use Rattle.std.specs.Prelude.{◌≡◌, List, IfOk, All, map, IsPermutation};
+ghost use Rattle.std.specs.List.{filter_map};
+ghost use Rattle.frontier_core.specs.Readers.{record_of, ruled_of};
+ghost use Rattle.harvest.specs.Order.{IsAscending};
+ghost use Rattle.harvest.specs.Entries.{is_refused, seen_of, seen_in, said_by, recorded_addresses, ruled_origins, IsPlaceOf};
+
+use crate::entry::Entry;
+use crate::named::sort_by_name;
+use crate::page::KeptPage;
+use address::{Address, Origin};
+use fetcher::{Body, Outcome};
+use frontier_core::{Condition, Frontier};
+use robots_rules::RuleSet;
+use std::alloc::{AllocError, Global};
+
+// The records of a frontier in order of discovery.
+fn copy_records(alloc: Global, frontier: &Frontier) -> Result<Vec<(Address, Outcome)>, AllocError>
+    ensures { IfOk result (λ records. records.items ≡ filter_map record_of frontier.now.state.entries) }
+{
+    let mut copies = Vec::new(alloc);
+    let mut records = frontier.records();
+    'records: while let Some((address, outcome)) = records.next() {
+        copies.push((address.try_clone()?, outcome.try_clone()?))?;
+    }
+    Ok(copies)
+}
+
+/// The records of a frontier in address order.
+pub fn gather_records(
+    alloc: Global,
+    frontier: &Frontier,
+) -> Result<Vec<(Address, Outcome)>, AllocError>
+    ensures ascending { IfOk result (λ records. IsAscending (recorded_addresses records.items)) }
+    ensures same { IfOk result (λ records. IsPermutation (filter_map record_of frontier.now.state.entries) records.items) }
+{
+    // No address is held twice.
+    let _trace = frontier.trace();
+    let mut records = copy_records(alloc, frontier)?;
+    sort_by_name(&mut records);
+    Ok(records)
+}
+
+// The origins whose rules a frontier knows, in the order in which they were asked for.
+fn copy_rules(alloc: Global, frontier: &Frontier) -> Result<Vec<(Origin, RuleSet)>, AllocError>
+    ensures { IfOk result (λ rules. rules.items ≡ filter_map ruled_of frontier.now.state.origins) }
+{
+    let mut copies = Vec::new(alloc);
+    let mut rules = frontier.rules();
+    'rules: while let Some((origin, set)) = rules.next() {
+        copies.push((origin.try_clone()?, set.try_clone(alloc)?))?;
+    }
+    Ok(copies)
+}
+
+/// The origins whose rules a frontier knows, in origin order, each with its rules.
+pub fn gather_rules(
+    alloc: Global,
+    frontier: &Frontier,
+) -> Result<Vec<(Origin, RuleSet)>, AllocError>
+    ensures ascending { IfOk result (λ rules. IsAscending (ruled_origins rules.items)) }
+    ensures same { IfOk result (λ rules. IsPermutation (filter_map ruled_of frontier.now.state.origins) rules.items) }
+{
+    // No origin is asked for twice.
+    let _trace = frontier.trace();
+    let mut rules = copy_rules(alloc, frontier)?;
+    sort_by_name(&mut rules);
+    Ok(rules)
+}
+
+// The place of an address's outcome in records that are in address order.
+fn place_of(records: &[(Address, Outcome)], address: &Address) -> Option<usize>
+    requires { IsAscending (recorded_addresses records.now) }
+    ensures { IsPlaceOf records.now address.now result }
+{
+    records
+        .binary_search_by(|recorded| recorded.0.cmp(address))
+        .ok()
+}
+
+// Whether robots rules refuse an address.
+fn is_refused(condition: Condition) -> bool
+    ensures { result ≡ is_refused condition }
+{
+    matches!(condition, Condition::Refused)
+}
+
+// The entry of an address.
+fn entry_of(
+    address: &Address,
+    depth: u32,
+    condition: Condition,
+    records: &[(Address, Outcome)],
+) -> Result<Entry, AllocError>
+    requires { IsAscending (recorded_addresses records.now) }
+    ensures said { IfOk result (λ entry. said_by entry ≡ seen_of (address.now, depth, condition)) }
+    ensures place { IfOk result (λ entry. IsPlaceOf records.now entry.address entry.answer) }
+{
+    Ok(Entry {
+        address: address.try_clone()?,
+        depth,
+        refused: is_refused(condition),
+        answer: place_of(records, address),
+    })
+}
+
+// The entries of a frontier in order of discovery, each with the place of its outcome.
+fn copy_entries(
+    alloc: Global,
+    frontier: &Frontier,
+    records: &[(Address, Outcome)],
+) -> Result<Vec<Entry>, AllocError>
+    requires { IsAscending (recorded_addresses records.now) }
+    ensures same { IfOk result (λ entries. map said_by entries.items ≡ seen_in frontier.now.state) }
+    ensures places { IfOk result (λ entries. All (λ entry. IsPlaceOf records.now entry.address entry.answer) entries.items) }
+{
+    let mut copies = Vec::new(alloc);
+    let mut entries = frontier.entries();
+    'entries: while let Some((address, depth, condition)) = entries.next() {
+        copies.push(entry_of(address, depth, condition, records)?)?;
+    }
+    Ok(copies)
+}
+
+/// The entries of a frontier in address order, each with the place of its outcome in these records.
+pub fn gather_entries(
+    alloc: Global,
+    frontier: &Frontier,
+    records: &[(Address, Outcome)],
+) -> Result<Vec<Entry>, AllocError>
+    requires { IsAscending (recorded_addresses records.now) }
+    ensures ascending { IfOk result (λ entries. IsAscending (map (λ entry. entry.address) entries.items)) }
+    ensures same { IfOk result (λ entries. IsPermutation (seen_in frontier.now.state) (map said_by entries.items)) }
+    ensures places { IfOk result (λ entries. All (λ entry. IsPlaceOf records.now entry.address entry.answer) entries.items) }
+{
+    // No address is held twice.
+    let _trace = frontier.trace();
+    let mut entries = copy_entries(alloc, frontier, records)?;
+    sort_by_name(&mut entries);
+    Ok(entries)
+}
+
+/// Addresses and bodies of pages, apart.
+#[derive(Drop)]
+pub struct Parted {
+    pub addresses: Vec<Address>,
+    pub bodies: Vec<Body>,
+}
+
+/// Takes pages apart.
+pub fn part_pages(alloc: Global, pages: Vec<KeptPage>) -> Result<Parted, AllocError>
+    ensures addresses { IfOk result (λ parted. parted.addresses.items ≡ map (λ page. page.address) pages.items) }
+    ensures bodies { IfOk result (λ parted. parted.bodies.items ≡ map (λ page. page.body) pages.items) }
+{
+    let mut addresses = Vec::with_capacity(alloc, pages.len())?;
+    let mut bodies = Vec::with_capacity(alloc, pages.len())?;
+    for page in pages {
+        let KeptPage { address, body } = page;
+        addresses.push(address)?;
+        bodies.push(body)?;
+    }
+    Ok(Parted { addresses, bodies })
+}

@@ -1,0 +1,61 @@
+//! Things that are ordered by the text of an address or an origin.
+ghost use Rattle.std.specs.Prelude.{◌≡◌, List, ℕ, map, IsPermutation};
+ghost use Rattle.frontier_core.specs.Tables.{IsOnce};
+ghost use Rattle.harvest.specs.Order.{IsAscending};
+
+use crate::entry::Entry;
+use crate::page::KeptPage;
+use address::{Address, Origin};
+use fetcher::Outcome;
+use robots_rules::RuleSet;
+
+/// Things that are named by a text.
+pub trait Named {
+    /// The text.
+    ghost text_of: { Self → List ℕ };
+
+    /// The text by which this is named.
+    fn name(&self) -> &str
+        ensures { result.now ≡ text_of self.now };
+}
+
+impl Named for Entry {
+    ghost text_of = { λ entry. entry.address };
+
+    fn name(&self) -> &str {
+        self.address.as_str()
+    }
+}
+
+impl Named for KeptPage {
+    ghost text_of = { λ page. page.address };
+
+    fn name(&self) -> &str {
+        self.address.as_str()
+    }
+}
+
+impl Named for (Address, Outcome) {
+    ghost text_of = { λ recorded. recorded.0 };
+
+    fn name(&self) -> &str {
+        self.0.as_str()
+    }
+}
+
+impl Named for (Origin, RuleSet) {
+    ghost text_of = { λ ruled. ruled.0 };
+
+    fn name(&self) -> &str {
+        self.0.as_str()
+    }
+}
+
+/// Sorts things of which no two are named alike, by their names' bytes.
+pub fn sort_by_name<T: Named>(things: &mut Vec<T>)
+    requires { IsOnce (map T.text_of things.old.items) }
+    ensures permutation { IsPermutation things.old.items things.new.items }
+    ensures ascending { IsAscending (map T.text_of things.new.items) }
+{
+    things.sort_unstable_by(|thing, other| thing.name().cmp(other.name()));
+}

@@ -1,0 +1,34 @@
+//! Pages that are kept: an address with the body of its response.
+ghost use Rattle.std.specs.Prelude.{◌≡◌};
+ghost use Rattle.harvest.specs.Pages.{is_success, is_successful};
+
+use address::Address;
+use fetcher::{Body, Outcome};
+
+/// A page that is kept: its address, and the body of its response.
+#[derive(Drop)]
+pub struct KeptPage {
+    /// The address that was asked for.
+    pub address: Address,
+    /// The body of its response.
+    pub body: Body,
+}
+
+// Whether a status is one of success (RFC 9110, section 15.3).
+fn is_successful(status: u16) -> bool
+    ensures { result ≡ is_successful status }
+{
+    200 <= status && status <= 299
+}
+
+/// Whether the outcome is a response of success (RFC 9110, section 15.3).
+pub fn is_success(outcome: &Outcome) -> bool
+    ensures { result ≡ is_success outcome.now }
+{
+    match outcome {
+        Outcome::Page(status, _) | Outcome::Moved(status, _) | Outcome::Leaf(status) => {
+            is_successful(*status)
+        }
+        Outcome::Fault(_) => false,
+    }
+}
