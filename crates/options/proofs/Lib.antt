@@ -1,2 +1,3 @@
+pub mod StandardFacts
 pub mod LineLemmas
 pub mod ReadLemmas

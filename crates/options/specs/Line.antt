@@ -6,6 +6,8 @@ use Rattle.clap.specs.Simple.{App, matches_of, new_app, new_rule, on_top, with_r
 use Rattle.clap.specs.Walk.{Row, Rule, Text}
 use Rattle.clap.specs.Kinds.{Kinds}
 use Rattle.clap.specs.Faults.{fault_of}
+use Rattle.follow_filters.specs.declared.plan.TheConstants.{MAX_PER_HOST, MAX_URLS}
+use Rattle.options.specs.declared.order.TheConstants.{MAX_WORKERS}
 
 -- `-s`, `--name`
 abbrev pub flag : ℕ → Text → Rule
@@ -58,7 +60,7 @@ name_rules =
 
 -- how many requests and addresses there may be
 abbrev pub number_rules : List Rule
-number_rules = number (codes "workers") 64 ∷ number (codes "per-host") 16 ∷ number (codes "max-urls") 1000000 ∷ []
+number_rules = number (codes "workers") MAX_WORKERS ∷ number (codes "per-host") MAX_PER_HOST ∷ number (codes "max-urls") MAX_URLS ∷ []
 
 -- where the site is, what is shown, and the start
 abbrev pub source_rules : List Rule

@@ -1,5 +1,5 @@
 -- What the words order, or why they are refused: one function of the words.
-use Rattle.std.specs.Prelude.{◌≡◌, ◌⊎◌, ℕ, option_and_then, Bool, true, false, not, ◌&&◌, ◌||◌, List, [], ◌∷◌, codes, Option, Some, None, is_some, unwrap_or, bytes_eq, option_map, Result, Ok, Err, MatchResult, if◌then◌else◌}
+use Rattle.std.specs.Prelude.{◌≡◌, ◌⊎◌, ◌==◌, ℕ, length, option_and_then, Bool, true, false, not, ◌&&◌, ◌||◌, List, [], ◌∷◌, codes, Option, Some, None, is_some, unwrap_or, bytes_eq, option_map, Result, Ok, Err, MatchResult, if◌then◌else◌}
 use Rattle.std.specs.Option.{option_eq}
 use Rattle.clap.specs.Kinds.{Kinds}
 use Rattle.clap.specs.Walk.{Row, Text, first_of}
@@ -9,9 +9,11 @@ use Rattle.address.specs.Address.{read_address, is_robots_file}
 use Rattle.address.specs.declared.fault.AddressFault.{AddressFault}
 use Rattle.follow_filters.specs.declared.limit.Limit.{Limit}
 use Rattle.follow_filters.specs.declared.limit.Limit.TheVariants.{AtMost}
+use Rattle.follow_filters.specs.declared.plan.TheConstants.{MAX_PER_HOST, MAX_URLS}
 use Rattle.follow_filters.specs.Domains.{read_domain}
 use Rattle.follow_filters.specs.Directories.{read_directory}
 use Rattle.follow_filters.specs.Patterns.{read_element}
+use Rattle.options.specs.declared.order.TheConstants.{MAX_WORKERS}
 use Rattle.options.specs.declared.order.Source.{Source}
 use Rattle.options.specs.declared.order.Source.TheVariants.{Map, Recorded, Live}
 use Rattle.options.specs.declared.order.Order.{Order}
@@ -85,7 +87,7 @@ directories_of found =
 unfoldable pub domains_of : List Row → Option (List (List ℕ) × List (List ℕ))
 domains_of found = both (list_of read_domain (codes "domains") found) (list_of read_domain (codes "exclude-domains") found)
 
--- the numbers of workers, requests out to a host, and addresses
+-- the numbers of workers, requests out to an origin, and addresses
 pub record Counts : Type 0 where
   pub workers : ℕ
   pub per_host : ℕ
@@ -95,7 +97,7 @@ pub record Counts : Type 0 where
 unfoldable pub counts_of : List Row → Option Counts
 counts_of found =
     option_and_then (λ w. option_and_then (λ p. option_map (λ u. record { workers = w; per_host = p; max_urls = u })
-    (number_of (codes "max-urls") 1000000 100000 found)) (number_of (codes "per-host") 16 2 found)) (number_of (codes "workers") 64 4 found)
+    (number_of (codes "max-urls") MAX_URLS 100000 found)) (number_of (codes "per-host") MAX_PER_HOST 2 found)) (number_of (codes "workers") MAX_WORKERS 4 found)
 
 -- the start, or why it is no address
 unfoldable pub start_of : List Row → Result (List ℕ) AddressFault
@@ -126,9 +128,14 @@ honours_robots found = is_set (codes "recursive") found && not (has_robots_off f
 abbrev pub limit_within : Limit → List Row → Limit
 limit_within level found = if is_set (codes "recursive") found then level else AtMost 0
 
--- the folder below which files are put, `.` where none is given
-abbrev pub prefix_of : List Row → List ℕ
-prefix_of found = unwrap_or (first_of (codes "directory-prefix") found) (codes ".")
+-- the folder that a value names, `.` where it is empty or isn't given
+abbrev pub folder_of : Option Text → Text
+folder_of None = codes "."
+folder_of (Some path) = if length path == 0 then codes "." else path
+
+-- the folder below which files are put
+abbrev pub prefix_of : List Row → Text
+prefix_of found = folder_of (first_of (codes "directory-prefix") found)
 
 -- words that are refused, of whatever kind
 abbrev pub words_refused : LineFault

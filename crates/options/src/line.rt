@@ -4,7 +4,9 @@ ghost use Rattle.clap.specs.Words.{app_of, found_of, rows_of, rule_of, with_rule
 ghost use Rattle.options.specs.Line as spec;
 ghost use Rattle.options.specs.Line.{line, rows, refusals, number, no_options, start_rule, recursion_rules, place_rules, name_rules, number_rules, source_rules};
 
+use crate::order::MAX_WORKERS;
 use clap::{Arg, ArgAction, ArgMatches, Command, Error, value_parser};
+use follow_filters::{MAX_PER_HOST, MAX_URLS};
 use std::alloc::{AllocError, Global};
 
 fn add<'a>(command: Command<'a>, arg: Arg<'a>) -> Result<Command<'a>, AllocError>
@@ -77,35 +79,35 @@ fn add_short_option<'a>(
 }
 
 fn add_workers<'a>(command: Command<'a>, alloc: Global) -> Result<Command<'a>, AllocError>
-    ensures { IfOk result (λ c. app_of c ≡ with_rule (app_of command.entry) (number (codes "workers") 64)) }
+    ensures { IfOk result (λ c. app_of c ≡ with_rule (app_of command.entry) (number (codes "workers") MAX_WORKERS)) }
 {
     add(
         command,
         Arg::new(alloc, "workers")
             .long("workers")
-            .value_parser(value_parser!(u32).range(1..=64)),
+            .value_parser(value_parser!(u32).range(1..=i64::from(MAX_WORKERS))),
     )
 }
 
 fn add_per_host<'a>(command: Command<'a>, alloc: Global) -> Result<Command<'a>, AllocError>
-    ensures { IfOk result (λ c. app_of c ≡ with_rule (app_of command.entry) (number (codes "per-host") 16)) }
+    ensures { IfOk result (λ c. app_of c ≡ with_rule (app_of command.entry) (number (codes "per-host") MAX_PER_HOST)) }
 {
     add(
         command,
         Arg::new(alloc, "per-host")
             .long("per-host")
-            .value_parser(value_parser!(u32).range(1..=16)),
+            .value_parser(value_parser!(u32).range(1..=i64::from(MAX_PER_HOST))),
     )
 }
 
 fn add_max_urls<'a>(command: Command<'a>, alloc: Global) -> Result<Command<'a>, AllocError>
-    ensures { IfOk result (λ c. app_of c ≡ with_rule (app_of command.entry) (number (codes "max-urls") 1000000)) }
+    ensures { IfOk result (λ c. app_of c ≡ with_rule (app_of command.entry) (number (codes "max-urls") MAX_URLS)) }
 {
     add(
         command,
         Arg::new(alloc, "max-urls")
             .long("max-urls")
-            .value_parser(value_parser!(u32).range(1..=1_000_000)),
+            .value_parser(value_parser!(u32).range(1..=i64::from(MAX_URLS))),
     )
 }
 

@@ -1,5 +1,6 @@
 //! What the words order.
 ghost use Rattle.std.specs.Prelude.{◌≡◌, ◌<◌, ◌≤◌, IfOk};
+ghost use Rattle.options.specs.declared.order.TheConstants.{MAX_WORKERS};
 
 use follow_filters::Plan;
 use std::alloc::{AllocError, Global};
@@ -44,7 +45,7 @@ impl Prefix {
         })
     }
 
-    /// The path of the folder, as it was given. Takes no memory.
+    /// The path of the folder, as it was given; `.` where it was empty or none was. Takes no memory.
     pub fn as_str(&self) -> &str
         ensures { result.now ≡ self.now }
     {
@@ -66,5 +67,5 @@ pub struct Order {
     /// The folder below which files are put.
     pub prefix: Prefix,
     pub ghost some_workers: { 0 < workers },
-    pub ghost workers_in_range: { workers ≤ 64 },
+    pub ghost workers_in_range: { workers ≤ MAX_WORKERS },
 }

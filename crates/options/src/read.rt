@@ -7,32 +7,37 @@ ghost use Rattle.address.specs.declared.fault.AddressFault.{AddressFault};
 ghost use Rattle.address.specs.declared.fault.AddressFault.TheVariants as address_fault;
 ghost use Rattle.options.specs.declared.fault.LineFault.TheVariants as fault;
 ghost use Rattle.follow_filters.specs.Limits.{is_in_range};
+ghost use Rattle.follow_filters.specs.declared.plan.TheConstants.{MAX_PER_HOST, MAX_URLS};
+ghost use Rattle.options.specs.declared.order.TheConstants.{MAX_WORKERS};
 ghost use Rattle.follow_filters.specs.declared.limit.Limit.TheVariants.{AtMost};
 ghost use Rattle.options.specs.Given.{level_of, list_of};
-ghost use Rattle.options.specs.Order.{Answers, order_of, order_of_rows, are_good, is_parent_value, is_robots_value, both, counts_of, start_of, StartsAt, FailsToStart, source_of, has_no_parent, has_robots_off, honours_robots, limit_within, prefix_of, fault_of_kind};
+ghost use Rattle.options.specs.Order.{Answers, order_of, order_of_rows, are_good, is_parent_value, is_robots_value, both, counts_of, start_of, StartsAt, FailsToStart, source_of, has_no_parent, has_robots_off, honours_robots, limit_within, folder_of, prefix_of, fault_of_kind};
 
 use crate::fault::LineFault;
 use crate::given::{given, is_set, level, list, number};
 use crate::line::parse;
-use crate::order::{Order, Prefix, Source};
+use crate::order::{MAX_WORKERS, Order, Prefix, Source};
 use address::{Address, AddressFault};
 use clap::error::ErrorKind;
 use clap::{ArgMatches, Error};
-use follow_filters::{Directory, Domain, Element, ElementFault, Elements, Limit, Pattern, Plan};
+use follow_filters::{
+    Directory, Domain, Element, ElementFault, Elements, Limit, MAX_PER_HOST, MAX_URLS, Pattern,
+    Plan,
+};
 use std::alloc::{AllocError, Global};
 
-// The numbers of workers, requests out to a host, and addresses.
+// The numbers of workers, requests out to an origin, and addresses.
 #[derive(Drop)]
 struct Counts {
     workers: u32,
     per_host: u32,
     max_urls: u32,
     ghost some_workers: { 0 < workers },
-    ghost workers_in_range: { workers ≤ 64 },
+    ghost workers_in_range: { workers ≤ MAX_WORKERS },
     ghost some_per_host: { 0 < per_host },
-    ghost per_host_in_range: { per_host ≤ 16 },
+    ghost per_host_in_range: { per_host ≤ MAX_PER_HOST },
     ghost some_urls: { 0 < max_urls },
-    ghost max_urls_in_range: { max_urls ≤ 1000000 },
+    ghost max_urls_in_range: { max_urls ≤ MAX_URLS },
 }
 
 // The lists of an option and of its opposite.
@@ -87,9 +92,9 @@ fn read_counts(matches: &ArgMatches) -> Option<Counts>
         (λ c. counts_of (rows_of (found_of matches.now)) ≡ Some (record { workers = c.workers; per_host = c.per_host; max_urls = c.max_urls })) }
 {
     Some(Counts {
-        workers: number(matches, "workers", 64, 4)?,
-        per_host: number(matches, "per-host", 16, 2)?,
-        max_urls: number(matches, "max-urls", 1_000_000, 100_000)?,
+        workers: number(matches, "workers", MAX_WORKERS, 4)?,
+        per_host: number(matches, "per-host", MAX_PER_HOST, 2)?,
+        max_urls: number(matches, "max-urls", MAX_URLS, 100_000)?,
     })
 }
 
@@ -291,7 +296,17 @@ fn honours_robots(matches: &ArgMatches) -> bool
 fn prefix(alloc: Global, matches: &ArgMatches) -> Result<Prefix, AllocError>
     ensures { IfOk result (λ p. p ≡ prefix_of (rows_of (found_of matches.now))) }
 {
-    Prefix::of(alloc, given(matches, "directory-prefix").unwrap_or("."))
+    Prefix::of(alloc, folder_of(given(matches, "directory-prefix")))
+}
+
+// The folder that a value names.
+fn folder_of(value: Option<&str>) -> &str
+    ensures { result.now ≡ folder_of (option_map (λ s. s.now) value.entry) }
+{
+    match value {
+        Some(path) if !path.is_empty() => path,
+        _ => ".",
+    }
 }
 
 /// Reads the words of a command line, without the program's name. Of several faults the lowest is

@@ -24,6 +24,7 @@ fn outcome(alloc: Global, words: &[&str]) -> &'static str {
         Err(LineFault::Start(AddressFault::NotHttp)) => "start: not http",
         Err(LineFault::Start(AddressFault::UserInfo)) => "start: user info",
         Err(LineFault::Start(AddressFault::NotUrl)) => "start: not url",
+        Err(LineFault::Start(AddressFault::TooLong)) => "start: too long",
         Err(LineFault::Start(_)) => "start",
         Err(LineFault::StartIsRobots) => "start: robots",
         Err(LineFault::Memory) => "memory",
@@ -32,15 +33,18 @@ fn outcome(alloc: Global, words: &[&str]) -> &'static str {
 
 #[test]
 fn the_lowest_fault_is_named(rt: HostRuntime) {
-    let rows: [(&[&str], &str); 24] = [
+    let rows: [(&[&str], &str); 27] = [
         (&["-l", "x", "https://h/"], "depth"),
         (&["-l", "1000001", "http://h/"], "depth"),
         (&["-l", "1000000", "http://h/"], "read"),
         (&["-l", "+1", "http://h/"], "depth"),
         (&["-A", "[a", "http://h/"], "pattern"),
         (&["-A", "[a,b]*", "-I", "a", "http://h/"], "pattern"),
+        (&["-A", "gif", "-R", "[a", "http://h/"], "pattern"),
         (&["-I", "a", "-D", "a/b", "http://h/"], "directory"),
+        (&["-I", "/a", "-X", "a", "http://h/"], "directory"),
         (&["-D", "a/b", "https://h/"], "domain"),
+        (&["-D", "a", "--exclude-domains", "a/b", "a"], "domain"),
         (&["https://h/"], "start: not http"),
         (&["http://u@h/"], "start: user info"),
         (&[""], "start: not url"),
@@ -64,14 +68,28 @@ fn the_lowest_fault_is_named(rt: HostRuntime) {
 }
 
 #[test]
+fn a_start_has_8192_bytes_at_most(rt: HostRuntime) -> Result<(), Fail> {
+    let mut start = String::from_str(rt.alloc(), "http://h/")?;
+    for _ in 0..8_183 {
+        start.push('a')?;
+    }
+    assert!(rt; outcome(rt.alloc(), &[start.as_str()]) == "read");
+    start.push('a')?;
+    assert!(rt; outcome(rt.alloc(), &[start.as_str()]) == "start: too long");
+    Ok(())
+}
+
+#[test]
 fn defaults_are_the_manuals(rt: HostRuntime) -> Result<(), Fail> {
     let order = read_order(rt.alloc(), &["-r", "http://h/a"]).map_err(|_| "refused")?;
     assert!(rt; order.plan.start.as_str() == "http://h/a" && order.plan.limit == Limit::AtMost(5));
     assert!(rt; order.plan.robots && !order.plan.no_parent && !order.plan.span_hosts);
     assert!(rt; order.workers == 4 && order.plan.per_host == 2 && order.plan.max_urls == 100_000);
     assert!(rt; order.source == Source::Live && !order.trace && order.prefix.as_str() == ".");
-    let order = read_order(rt.alloc(), &["-l", "inf", "http://h/"]).map_err(|_| "refused")?;
+    let words = ["-l", "inf", "-P", "", "http://h/"];
+    let order = read_order(rt.alloc(), &words).map_err(|_| "refused")?;
     assert!(rt; order.plan.limit == Limit::AtMost(0) && !order.plan.robots);
+    assert!(rt; order.prefix.as_str() == ".");
     Ok(())
 }
 
