@@ -5,3 +5,5 @@ pub mod ReadingLaws
 pub mod MapReads
 pub mod SteadyLaws
 pub mod StandardFacts
+pub mod DigestLemmas
+pub mod LinkLemmas

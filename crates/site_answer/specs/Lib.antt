@@ -9,3 +9,7 @@ pub mod Faults
 pub mod Maps
 pub mod Readings
 pub mod MapSites
+pub mod Digests
+pub mod HeadKinds
+pub mod Digesting
+pub mod KindsOfFaults
