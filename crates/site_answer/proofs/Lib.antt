@@ -1,9 +1,2 @@
-pub mod Splits
-pub mod FormLaws
-pub mod MapLaws
-pub mod ReadingLaws
-pub mod MapReads
-pub mod SteadyLaws
-pub mod StandardFacts
 pub mod DigestLemmas
 pub mod LinkLemmas

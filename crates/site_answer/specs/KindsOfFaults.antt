@@ -2,8 +2,8 @@
 use Rattle.std.specs.Prelude.{Option, Some, None}
 use Rattle.response_reader.specs.declared.fault.ReadFault.{ReadFault}
 use Rattle.response_reader.specs.declared.fault.ReadFault.TheVariants as read
-use Rattle.site_answer.specs.declared.fault_kind.FaultKind.{FaultKind}
-use Rattle.site_answer.specs.declared.fault_kind.FaultKind.TheVariants as kind
+use Rattle.fetcher.specs.declared.fault_kind.FaultKind.{FaultKind}
+use Rattle.fetcher.specs.declared.fault_kind.FaultKind.TheVariants as kind
 
 -- the fault of an answer whose response wasn't read; none for want of memory
 abbrev pub kind_of_fault : ReadFault → Option FaultKind

@@ -1,15 +1,4 @@
-pub mod FaultWords
-pub mod Outcomes
-pub mod Logs
-pub mod Sites
-pub mod RuleLines
-pub mod Lines
-pub mod Said
-pub mod Faults
-pub mod Maps
-pub mod Readings
-pub mod MapSites
 pub mod Digests
+pub mod KindsOfFaults
 pub mod HeadKinds
 pub mod Digesting
-pub mod KindsOfFaults

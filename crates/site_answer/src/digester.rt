@@ -6,10 +6,10 @@ ghost use Rattle.site_answer.specs.Digests.{digest_of, kept_body};
 ghost use Rattle.site_answer.specs.Digesting.{HasTaken, IsStageOf, has_head, purpose_of};
 ghost use Rattle.site_answer.specs.HeadKinds.{kind_parts};
 
-use crate::answer::{Answer, Body};
 use crate::head_kind::HeadKind;
 use crate::stage::Stage;
 use address::Address;
+use fetcher::{Answer, Body};
 use response_reader::{Head, Sink};
 use std::alloc::{AllocError, Global};
 use std::marker::Model;

@@ -3,8 +3,8 @@ ghost use Rattle.std.specs.Prelude.{◌≡◌, ◌++◌, ◌&&◌, IfOk, OnOk, o
 ghost use Rattle.html_links.specs.Scanning.{scanned};
 ghost use Rattle.site_answer.specs.Digests.{address_or_none, named_from, edge_kind, edges_from, base_of, base_or, page_edges};
 
-use crate::edge::{Edge, EdgeKind, Edges};
 use address::{Address, AddressFault};
+use fetcher::{Edge, EdgeKind, Edges};
 use html_links::{Found, LinkKind, Scan};
 use std::alloc::{AllocError, Global};
 

@@ -2,7 +2,7 @@
 ghost use Rattle.std.specs.Prelude.{◌≡◌};
 ghost use Rattle.site_answer.specs.KindsOfFaults.{kind_of_fault};
 
-use crate::fault_kind::FaultKind;
+use fetcher::FaultKind;
 use response_reader::ReadFault;
 
 /// The fault that an address has for which no response was read, for this reason; want of memory is

@@ -7,8 +7,8 @@ ghost use Rattle.site_answer.specs.HeadKinds.{kind_parts};
 
 use crate::head_kind::{HeadKind, is_document, is_successful, redirects};
 use crate::links::{named, page_edges};
-use crate::outcome::Outcome;
 use address::Address;
+use fetcher::Outcome;
 use html_links::Scanner;
 use std::alloc::{AllocError, Global};
 

@@ -3,11 +3,10 @@ ghost use Rattle.std.specs.Prelude.{◌≡◌, IfOk};
 ghost use Rattle.response_reader.specs.Whole.{response_parts};
 ghost use Rattle.site_answer.specs.Digests.{digest_of, kept_body};
 
-use crate::answer::{Answer, Body};
 use crate::head_kind::{HeadKind, is_successful};
-use crate::outcome::Outcome;
 use crate::stage::Stage;
 use address::Address;
+use fetcher::{Answer, Body, Outcome};
 use response_reader::Response;
 use std::alloc::{AllocError, Global};
 

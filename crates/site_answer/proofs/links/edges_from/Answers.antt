@@ -1,6 +1,6 @@
 use Rattle.std.proofs.Common.{◌≡◌, ◌∙◌, ◌+◌, ◌++◌, List, length, drop, sym, ap, append_assoc, append-nil, arith}
 use Rattle.std.proofs.lemmas.List.{drop_all}
-use Rattle.site_answer.specs.declared.edge.Edge.{Edge}
+use Rattle.fetcher.specs.declared.edge.Edge.{Edge}
 use Rattle.site_answer.specs.Digests.{edges_from}
 use Rattle.site_answer.proofs.LinkLemmas.{edges_step}
 use Rattle.site_answer.proofs.links.edges_from.Goals as goal
