@@ -2,8 +2,8 @@
 ghost use Rattle.std.specs.Prelude.{◌≡◌, ℕ, List, [], ◌∷◌, ◌++◌, ◌↔◌, IsTrue, MatchOption};
 ghost use Rattle.site_maps.specs.Lines.{fields, three_digits, IsRedirect, IsBehind};
 
-// The first field of a text, and what follows its space, if there is one.
-pub(crate) fn first_field(text: &str) -> (&str, Option<&str>)
+/// The first field of a text, and what follows its space, if there is one. Takes no memory.
+pub fn first_field(text: &str) -> (&str, Option<&str>)
     ensures { MatchOption result.1 (fields text.now ≡ result.0.now ∷ []) (λ rest. fields text.now ≡ result.0.now ∷ fields rest.now) }
 {
     match text.split_once(' ') {

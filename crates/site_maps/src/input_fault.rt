@@ -46,7 +46,7 @@ impl From<AllocError> for InputFault {
 
 /// What is wrong with a line.
 #[derive(Clone, Copy, Debug, PartialEq, Eq)]
-pub(crate) enum LineFault {
+pub enum LineFault {
     /// It isn't UTF-8, has no form, is out of place, or states something once more.
     Line,
     /// One of its addresses is refused.
@@ -59,8 +59,8 @@ impl LineFault {
     ghost use Rattle.std.specs.Prelude.{◌≡◌};
     ghost use Rattle.site_maps.specs.Faults.{numbered};
 
-    // The fault of the line of this number.
-    pub(crate) fn at(self, number: usize) -> InputFault
+    /// The fault of the line of this number.
+    pub fn at(self, number: usize) -> InputFault
         ensures { result ≡ numbered self number }
     {
         match self {

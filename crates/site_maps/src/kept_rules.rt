@@ -1,4 +1,4 @@
-//! Rule sets that a map keeps (RFC 9309, section 2.2).
+//! Rule sets that a map or a record keeps (RFC 9309, section 2.2).
 ghost use Rattle.std.specs.Prelude.{◌≡◌, IfOk};
 
 use robots_rules::RuleSet;
@@ -7,7 +7,7 @@ use std::marker::Model;
 
 /// A rule set, and the memory that copies of it are made in. Contracts see the rule set.
 #[derive(Drop)]
-pub(crate) struct KeptRules {
+pub struct KeptRules {
     alloc: Global,
     set: RuleSet,
 }
@@ -21,15 +21,15 @@ impl Model for KeptRules {
 }
 
 impl KeptRules {
-    // Keeps a rule set. Takes no memory.
-    pub(crate) fn new(alloc: Global, set: RuleSet) -> Self
+    /// Keeps a rule set. Takes no memory.
+    pub fn new(alloc: Global, set: RuleSet) -> Self
         ensures { result ≡ set }
     {
         KeptRules { alloc, set }
     }
 
-    // An equal rule set, or an error where memory ran out.
-    pub(crate) fn rule_set(&self) -> Result<RuleSet, AllocError>
+    /// An equal rule set, or an error where memory ran out.
+    pub fn rule_set(&self) -> Result<RuleSet, AllocError>
         ensures { IfOk result (λ copy. copy ≡ self.now) }
     {
         self.set.try_clone(self.alloc)

@@ -8,13 +8,17 @@ mod input_fault;
 mod kept_rules;
 mod map_line;
 mod map_site;
+mod naming;
 mod open_robots;
 mod reading;
 mod rule_kind;
 mod steady_map;
 
-pub use input_fault::InputFault;
+pub use field::first_field;
+pub use input_fault::{InputFault, LineFault};
+pub use kept_rules::KeptRules;
 pub use map_site::MapSite;
+pub use naming::{read_address, read_origin};
 pub use steady_map::SteadyMap;
 
 #[cfg(test)]

@@ -2,11 +2,12 @@
 ghost use Rattle.std.specs.Prelude.{[], OnOk};
 ghost use Rattle.site_maps.specs.Lines.{page, edge, moved, leaf, fault, robots, closed, rule};
 ghost use Rattle.site_maps.specs.Said.{said};
-ghost use Rattle.site_maps.specs.Readings.{IsFresh, IsRoot, IsVacant, Tells, Names, NamesOrigin, Closes, Claims, ClaimsOrigin, Adds, Takes, Reads};
+ghost use Rattle.site_maps.specs.Readings.{IsFresh, IsVacant, Tells, Closes, Claims, ClaimsOrigin, Adds, Takes, Reads};
 
 use crate::input_fault::LineFault;
 use crate::kept_rules::KeptRules;
 use crate::map_line::MapLine;
+use crate::naming::{read_address, read_origin};
 use crate::open_robots::OpenRobots;
 use crate::rule_kind::RuleKind;
 use address::{Address, Origin};
@@ -53,32 +54,6 @@ impl Reading {
             rules: IndexMap::new(alloc),
             open: None,
         }
-    }
-
-    // The address that a text names.
-    fn named(alloc: Global, text: &str) -> Result<Address, LineFault>
-        ensures { Names text.now result }
-    {
-        Ok(Address::read(alloc, text)?)
-    }
-
-    // The origin whose `/` a text names.
-    fn origin_named(&self, text: &str) -> Result<Origin, LineFault>
-        ensures { NamesOrigin text.now result }
-    {
-        let address = Reading::named(self.alloc, text)?;
-        Reading::at_root(&address)?;
-        Ok(Origin::of(&address)?)
-    }
-
-    // Refuses an address that isn't its origin's `/`. Takes no memory.
-    fn at_root(address: &Address) -> Result<(), LineFault>
-        ensures { IsRoot address.now result }
-    {
-        if address.path_query() != "/" {
-            return Err(LineFault::Line);
-        }
-        Ok(())
     }
 
     // Keeps what the open page or the open origin has: no line of theirs follows any more.
@@ -155,7 +130,7 @@ impl Reading {
     fn add_page(&mut self, status: u16, text: &str) -> Result<(), LineFault>
         ensures { Takes self.old (page status text.now) result self.new }
     {
-        let address = Reading::named(self.alloc, text)?;
+        let address = read_address(self.alloc, text)?;
         self.claim(&address)?;
         self.open = Some(Open::Page(OpenPage {
             address,
@@ -171,7 +146,7 @@ impl Reading {
     {
         match &mut self.open {
             Some(Open::Page(above)) => {
-                let target = Reading::named(self.alloc, text)?;
+                let target = read_address(self.alloc, text)?;
                 above.edges.push(Edge { target, kind })?;
                 Ok(())
             }
@@ -183,8 +158,8 @@ impl Reading {
     fn add_moved(&mut self, status: u16, text: &str, target: &str) -> Result<(), LineFault>
         ensures { Takes self.old (moved status text.now target.now) result self.new }
     {
-        let address = Reading::named(self.alloc, text)?;
-        let target = Reading::named(self.alloc, target)?;
+        let address = read_address(self.alloc, text)?;
+        let target = read_address(self.alloc, target)?;
         self.add_answer(address, Outcome::Moved(status, target))
     }
 
@@ -192,7 +167,7 @@ impl Reading {
     fn add_leaf(&mut self, status: u16, text: &str) -> Result<(), LineFault>
         ensures { Takes self.old (leaf status text.now) result self.new }
     {
-        let address = Reading::named(self.alloc, text)?;
+        let address = read_address(self.alloc, text)?;
         self.add_answer(address, Outcome::Leaf(status))
     }
 
@@ -200,7 +175,7 @@ impl Reading {
     fn add_fault(&mut self, kind: FaultKind, text: &str) -> Result<(), LineFault>
         ensures { Takes self.old (fault kind text.now) result self.new }
     {
-        let address = Reading::named(self.alloc, text)?;
+        let address = read_address(self.alloc, text)?;
         self.add_answer(address, Outcome::Fault(kind))
     }
 
@@ -208,7 +183,7 @@ impl Reading {
     fn add_robots(&mut self, text: &str) -> Result<(), LineFault>
         ensures { Takes self.old (robots text.now) result self.new }
     {
-        let origin = self.origin_named(text)?;
+        let origin = read_origin(self.alloc, text)?;
         self.claim_origin(&origin)?;
         let robots = OpenRobots::new(self.alloc, origin)?;
         self.open = Some(Open::Robots(robots));
@@ -219,7 +194,7 @@ impl Reading {
     fn add_closed(&mut self, text: &str) -> Result<(), LineFault>
         ensures { Takes self.old (closed text.now) result self.new }
     {
-        let origin = self.origin_named(text)?;
+        let origin = read_origin(self.alloc, text)?;
         self.claim_origin(&origin)?;
         self.rules
             .insert(origin, KeptRules::new(self.alloc, RuleSet::none()))?;
