@@ -64,7 +64,7 @@ unfolding some_end
 some_end-front f [] back h = h
 some_end-front f (x ∷ front) back h = or_right _ _ (some_end-front f front back h)
 
-some_end_cut : (f : List ℕ → Bool) (xs : List ℕ) → some_end f xs ≡ true → (front : List ℕ) × (back : List ℕ) × (front ++ back ≡ xs) × (f back ≡ true)
+pub some_end_cut : (f : List ℕ → Bool) (xs : List ℕ) → some_end f xs ≡ true → (front : List ℕ) × (back : List ℕ) × (front ++ back ≡ xs) × (f back ≡ true)
 unfolding some_end
 some_end_cut f [] h = ([], [], refl, h)
 some_end_cut f (x ∷ xs) h =

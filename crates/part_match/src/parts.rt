@@ -1,5 +1,5 @@
 //! The parts of a pattern, and the texts that they match.
-ghost use Rattle.std.specs.Prelude.{◌≡◌, ◌∷◌, [], ℕ, Bool, List, MatchOption};
+ghost use Rattle.std.specs.Prelude.{◌≡◌, ◌==◌, ◌∷◌, [], ℕ, Bool, List, MatchOption};
 
 /// A part of a pattern: a run takes any piece of the text, any other part takes one octet.
 pub trait Part {
@@ -14,6 +14,21 @@ pub trait Part {
     /// Whether a part that is no run takes the octet. What a run answers here counts for nothing.
     fn takes(&self, octet: u8) -> bool
         ensures { result ≡ takes self.now octet };
+}
+
+/// An octet of a pattern that has `*` and nothing else of its own: `*` is a run, every other octet takes itself.
+impl Part for u8 {
+    ghost is_run = { λ octet. octet == 42 };
+
+    ghost takes = { λ wanted octet. octet == wanted };
+
+    fn is_run(&self) -> bool {
+        *self == b'*'
+    }
+
+    fn takes(&self, octet: u8) -> bool {
+        octet == *self
+    }
 }
 
 /// A text that is read octet by octet, and can be read again from any place that was reached.

@@ -193,6 +193,12 @@ is_allowed-is set path =
       λ (opened, allow). and_from _ _ (ap not opened) (rules.1 allow),
     )
 
+-- where nothing is stated every path is allowed
+pub nothing_stated : (closed : Bool) (rules : List RuleValue) (text : List ℕ) → closed ≡ false → (length rules == 0) ≡ true → true ≡ (not closed && rules_allow rules text)
+unfolding rules_allow
+nothing_stated closed [] text opened none = rw opened refl
+nothing_stated closed (rule ∷ rules) text opened none = let n : length (rule ∷ rules) ≡ 0 = eqb-true _ _ none in absurd (omega arith)
+
 -- what is true of the same is the same
 pub same_truth : (P : Type 0) (a b : Bool) → IsTrue a ↔ P → IsTrue b ↔ P → a ≡ b
 same_truth P a b f g = go a b (λ e. g.1 (f.0 e)) (λ e. f.1 (g.0 e))

@@ -1,6 +1,7 @@
 pub mod OctetsLemmas
 pub mod LinesLemmas
-pub mod Runs
+pub mod PieceLemmas
 pub mod AccessLemmas
+pub mod KeptLemmas
 pub mod GroupLemmas
 mod StandardFacts

@@ -1,6 +1,7 @@
 -- Which groups of a robots file speak to this agent (RFC 9309, section 2.2.1).
-use Rattle.std.specs.Prelude.{◌≡◌, ⊤, ◌≤◌, ◌++◌, length, ℕ, Bool, false, not, ◌&&◌, ◌||◌, ◌==◌, List, [], ◌∷◌, map, filter, codes, if◌then◌else◌}
+use Rattle.std.specs.Prelude.{◌≡◌, ⊤, ◌≤◌, ◌++◌, length, ℕ, Bool, false, not, ◌&&◌, ◌||◌, ◌==◌, List, [], ◌∷◌, map, filter, fold, codes, if◌then◌else◌}
 use Rattle.std.specs.List.{before_first, list_any, flat_map}
+use Rattle.std.specs.Bool.{beq}
 use Rattle.std.specs.Str.{bytes_eq}
 use Rattle.std.specs.Char.{is_ascii_alphabetic}
 use Rattle.robots_rules.specs.Lines.{Line, agent, rule, RuleLine, lines_in, is_blank, is_word}
@@ -85,6 +86,18 @@ rules_for_us groups =
 abbrev pub rule_of : RuleLine → RuleValue
 rule_of stated = record { allows = stated.allows; pattern = normal_of stated.pattern }
 
--- what a file says to this agent
+-- the rules that the lines of a file state for this agent
+unfoldable pub stated_in : List ℕ → List RuleValue
+stated_in file = map rule_of (rules_for_us (groups_of (lines_in file)).groups)
+
+-- whether both are the same rule
+abbrev pub is_same_rule : RuleValue → RuleValue → Bool
+is_same_rule this other = beq this.allows other.allows && bytes_eq this.pattern other.pattern
+
+-- the rule goes last, unless it has no octets and so speaks of no path, or it stands there already
+abbrev pub with_rule : List RuleValue → RuleValue → List RuleValue
+with_rule kept new = if length new.pattern == 0 || list_any (is_same_rule new) kept then kept else kept ++ new ∷ []
+
+-- what a file says to this agent: the rules stated, without those that change no answer
 unfoldable pub rules_in : List ℕ → RuleSetValue
-rules_in file = record { closed = false; rules = map rule_of (rules_for_us (groups_of (lines_in file)).groups) }
+rules_in file = record { closed = false; rules = fold with_rule [] (stated_in file) }

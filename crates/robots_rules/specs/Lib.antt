@@ -1,6 +1,6 @@
 pub mod Octets
 pub mod Patterns
-pub mod KeptParts
+pub mod RuleView
 pub mod Access
 pub mod Lines
 pub mod Groups

@@ -6,6 +6,7 @@ mod groups;
 mod lines;
 mod octets;
 mod pattern;
+mod pieces;
 mod rule;
 mod rule_set;
 #[cfg(test)]

@@ -1,5 +1,5 @@
 //! Paths and patterns in normal form, octet by octet.
-ghost use Rattle.std.specs.Prelude.{◌≡◌, ◌++◌, ◌∷◌, [], ℕ, Bool, List, ◌<◌, ◌≤◌, length, take, IfSome, IfNone};
+ghost use Rattle.std.specs.Prelude.{◌≡◌, ◌++◌, ◌∷◌, [], ℕ, Bool, List, ◌<◌, ◌≤◌, length, take, IfSome, IfNone, ◌↔◌, IsTrue};
 ghost use Rattle.robots_rules.specs.Octets.{normal, normal_path, SplitsEscape, escape_if, is_unreserved, is_escaped};
 
 use part_match::Text;
@@ -113,8 +113,24 @@ fn is_escaped(in_path: bool, octet: u8) -> bool
     octet >= 128 || octet == b'$' || in_path && octet == b'*'
 }
 
-/// How many octets of a path in normal form are kept at hand: three for each byte of an address of 8,192 bytes.
-pub(crate) const PATH_OCTETS: usize = 24_576;
+/// Whether a path is in normal form as it stands.
+pub(crate) fn is_normal(path: &str) -> bool
+    ensures { IsTrue result ↔ (normal_path path.now ≡ path.now) }
+{
+    let mut rest = NormalText::path(path);
+    let mut bytes = path.as_bytes();
+    while let Some((octet, behind)) = rest.split_first() {
+        let Some((first, others)) = bytes.split_first() else {
+            return false;
+        };
+        if *first != octet {
+            return false;
+        }
+        rest = behind;
+        bytes = others;
+    }
+    bytes.is_empty()
+}
 
 /// Writes a path in normal form into the buffer and gives its length, or `None` where it is longer than the buffer.
 pub(crate) fn write_path(buffer: &mut [u8], path: &str) -> Option<usize>

@@ -1,31 +1,32 @@
 //! A rule of a robots file (RFC 9309, section 2.2.2).
-ghost use Rattle.std.specs.Prelude.{◌≡◌, ◌↔◌, IsTrue};
+ghost use Rattle.std.specs.Prelude.{◌≡◌, ◌↔◌, [], IsTrue, IfOk, fold};
 ghost use Rattle.robots_rules.specs.Access.{RulesAllow, rules_allow};
+ghost use Rattle.robots_rules.specs.Groups.{with_rule};
 
-use crate::pattern::{Part, kept_parts, normal_of};
-use part_match::Text;
+use crate::pattern::{ends_text, normal_of};
+use crate::pieces::NormalPath;
+use indexmap::IndexSet;
 use std::alloc::{AllocError, Global};
 use std::marker::Model;
 
-/// A rule, its pattern in normal form and cut into parts.
+/// A rule and the parts of its pattern in normal form: those of `/a` are `/a*`, those of `/a$` are `/a`.
 #[derive(Drop)]
 pub(crate) struct Rule {
     allows: bool,
-    pattern: Vec<u8>,
-    parts: Vec<Part>,
+    ends: bool,
+    parts: Vec<u8>,
 }
 
 // Contracts see a rule as whether it allows, and its pattern in normal form.
 impl Model for Rule {
-    ghost use Rattle.std.specs.Prelude.{◌≡◌};
     ghost use Rattle.robots_rules.specs.Access.{RuleValue};
-    ghost use Rattle.robots_rules.specs.KeptParts.{kept_parts};
+    ghost use Rattle.robots_rules.specs.RuleView.{AreParts, pattern_with};
 
     ghost Value = { RuleValue };
 
-    ghost view = { λ rule. record { allows = rule.allows; pattern = rule.pattern.items } };
+    ghost view = { λ rule. record { allows = rule.allows; pattern = pattern_with rule.ends rule.parts.items } };
 
-    ghost invariant = { λ rule. rule.parts.items ≡ kept_parts rule.pattern.items };
+    ghost invariant = { λ rule. AreParts rule.ends rule.parts.items };
 }
 
 impl Rule {
@@ -37,19 +38,29 @@ impl Rule {
     pub(crate) fn read(alloc: Global, allows: bool, pattern: &[u8]) -> Result<Rule, AllocError>
         ensures { IfOk result (λ rule. rule ≡ rule_of (record { allows = allows; pattern = pattern.now })) }
     {
-        let pattern = normal_of(alloc, pattern)?;
-        let parts = kept_parts(alloc, &pattern)?;
+        let mut parts = normal_of(alloc, pattern)?;
+        let ends = ends_text(&parts);
+        if ends {
+            parts.pop();
+        } else {
+            parts.push(b'*')?;
+        }
         Ok(Rule {
             allows,
-            pattern,
+            ends,
             parts,
         })
     }
 
+    /// How many octets the pattern has.
     fn octets(&self) -> usize
         ensures { result ≡ length self.now.pattern }
     {
-        self.pattern.len()
+        if self.ends {
+            self.parts.len() + 1
+        } else {
+            self.parts.len() - 1
+        }
     }
 
     /// What is allowed with this rule, where the rules before it that apply have at most so many octets, and they allow or not.
@@ -60,16 +71,32 @@ impl Rule {
     }
 
     /// Whether the rule speaks of a path in normal form.
-    fn applies<T: Text>(&self, path: T) -> bool
+    fn applies<T: NormalPath>(&self, path: T) -> bool
         ensures { IsTrue result ↔ Applies (T.octets path) self.now }
     {
-        0 < self.octets() && part_match::matches(&self.parts, path)
+        0 < self.octets() && path.is_matched(&self.parts)
+    }
+
+    /// What rules are told apart by: whether it allows, and its pattern.
+    fn key(&self, alloc: Global) -> Result<(bool, Vec<u8>), AllocError>
+        ensures allows { IfOk result (λ key. key.0 ≡ self.now.allows) }
+        ensures pattern { IfOk result (λ key. key.1.items ≡ self.now.pattern) }
+    {
+        let mut pattern = Vec::from_slice(alloc, &self.parts)?;
+        if self.ends {
+            pattern.push(b'$')?;
+        } else {
+            pattern.pop();
+        }
+        Ok((self.allows, pattern))
     }
 
     pub(crate) fn same(&self, other: &Rule) -> bool
         ensures { IsTrue result ↔ (self.now ≡ other.now) }
     {
-        self.allows == other.allows && self.pattern.as_slice() == other.pattern.as_slice()
+        self.allows == other.allows
+            && self.ends == other.ends
+            && self.parts.as_slice() == other.parts.as_slice()
     }
 
     pub(crate) fn try_clone(&self, alloc: Global) -> Result<Rule, AllocError>
@@ -77,14 +104,14 @@ impl Rule {
     {
         Ok(Rule {
             allows: self.allows,
-            pattern: Vec::from_slice(alloc, &self.pattern)?,
+            ends: self.ends,
             parts: Vec::from_slice(alloc, &self.parts)?,
         })
     }
 }
 
 /// Whether no rule applies to a path in normal form, or an allow is among the longest that do.
-pub(crate) fn rules_allow<T: Text>(rules: &[Rule], path: T) -> bool
+pub(crate) fn rules_allow<T: NormalPath>(rules: &[Rule], path: T) -> bool
     ensures value { result ≡ rules_allow rules.now (T.octets path) }
     ensures allowed { IsTrue result ↔ RulesAllow rules.now (T.octets path) }
 {
@@ -98,4 +125,18 @@ pub(crate) fn rules_allow<T: Text>(rules: &[Rule], path: T) -> bool
         }
     }
     is_allowed
+}
+
+/// The rules in their order, without those that have no octets and those that stand before already.
+pub(crate) fn kept_rules(alloc: Global, rules: Vec<Rule>) -> Result<Vec<Rule>, AllocError>
+    ensures { IfOk result (λ kept. kept.items ≡ fold with_rule [] rules.items) }
+{
+    let mut seen: IndexSet<(bool, Vec<u8>)> = IndexSet::new(alloc);
+    let mut kept = Vec::new(alloc);
+    for rule in rules {
+        if 0 < rule.octets() && seen.insert(rule.key(alloc)?)? {
+            kept.push(rule)?;
+        }
+    }
+    Ok(kept)
 }

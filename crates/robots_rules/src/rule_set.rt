@@ -1,12 +1,14 @@
 //! The rules of one origin that speak to this agent (RFC 9309, section 2.2).
-ghost use Rattle.std.specs.Prelude.{◌≡◌, ◌↔◌, IsTrue, IfOk};
-ghost use Rattle.robots_rules.specs.Groups.{AreGroups, groups_of, rules_in};
+ghost use Rattle.std.specs.Prelude.{◌≡◌, ◌↔◌, ℕ, List, IsTrue, IfOk};
+ghost use Rattle.robots_rules.specs.Access.{IsAllowed, RulesAllow, rules_allow};
+ghost use Rattle.robots_rules.specs.Octets.{normal_path};
+ghost use Rattle.robots_rules.specs.Groups.{AreGroups, groups_of, rules_in, stated_in};
 ghost use Rattle.robots_rules.specs.Lines.{lines_in};
 
 use crate::groups::rules_for_us;
 use crate::lines::lines_in;
-use crate::octets::{NormalText, PATH_OCTETS, write_path};
-use crate::rule::{Rule, rules_allow};
+use crate::octets::{NormalText, is_normal, write_path};
+use crate::rule::{Rule, kept_rules, rules_allow};
 use std::alloc::{AllocError, Global};
 use std::marker::Model;
 
@@ -37,11 +39,14 @@ impl Model for RuleSet {
 /// not end with a line end, their last line is passed over. No file is refused: the only error is want of memory.
 pub fn parse(alloc: Global, file: &[u8]) -> Result<RuleSet, AllocError>
     ensures rules { IfOk result (λ set. set ≡ rules_in file.now) }
+    // a rule that isn't kept changes no answer
+    ensures stated { IfOk result (λ set. (path : List ℕ) → IsAllowed set path ↔ RulesAllow (stated_in file.now) (normal_path path)) }
     // the groups of the file's lines, of which `rules_in` speaks
     ensures groups { let lines = lines_in file.now in AreGroups lines (groups_of lines) }
 {
     let lines = lines_in(alloc, file)?;
-    let rules = rules_for_us(alloc, &lines)?;
+    let stated = rules_for_us(alloc, &lines)?;
+    let rules = kept_rules(alloc, stated)?;
     Ok(RuleSet {
         kept: Kept::Rules(rules),
     })
@@ -77,11 +82,15 @@ impl RuleSet {
         if self.is_closed() {
             return false;
         }
-        // Each rule reads the path anew, so its normal form is written once where it fits.
-        let mut buffer = [0; PATH_OCTETS];
-        match write_path(&mut buffer, path_query) {
-            Some(len) => rules_allow(self.rules(), &buffer[..len]),
-            None => rules_allow(self.rules(), NormalText::path(path_query)),
+        let rules = self.rules();
+        if rules.is_empty() {
+            true
+        } else if is_normal(path_query) {
+            rules_allow(rules, path_query.as_bytes())
+        } else if path_query.len() <= SHORT_PATH {
+            short_is_allowed(rules, path_query)
+        } else {
+            long_is_allowed(rules, path_query)
         }
     }
 
@@ -123,6 +132,40 @@ impl RuleSet {
             Kept::All | Kept::Nothing => &[],
             Kept::Rules(rules) => rules,
         }
+    }
+}
+
+/// The longest path that is brought into normal form in a small buffer.
+const SHORT_PATH: usize = 256;
+
+/// The longest path that is brought into normal form in a buffer at all: that of an address of 8,192 bytes.
+const LONG_PATH: usize = 8_192;
+
+// A function pays for its buffer where it begins, so each buffer has a function to itself.
+#[inline(never)]
+fn short_is_allowed(rules: &[Rule], path: &str) -> bool
+    ensures value { result ≡ rules_allow rules.now (normal_path path.now) }
+    ensures allowed { IsTrue result ↔ RulesAllow rules.now (normal_path path.now) }
+{
+    is_allowed_by(rules, path, &mut [0; 3 * SHORT_PATH])
+}
+
+#[inline(never)]
+fn long_is_allowed(rules: &[Rule], path: &str) -> bool
+    ensures value { result ≡ rules_allow rules.now (normal_path path.now) }
+    ensures allowed { IsTrue result ↔ RulesAllow rules.now (normal_path path.now) }
+{
+    is_allowed_by(rules, path, &mut [0; 3 * LONG_PATH])
+}
+
+/// Whether the rules allow a path, whose normal form is written into the buffer where it fits.
+fn is_allowed_by(rules: &[Rule], path: &str, buffer: &mut [u8]) -> bool
+    ensures value { result ≡ rules_allow rules.now (normal_path path.now) }
+    ensures allowed { IsTrue result ↔ RulesAllow rules.now (normal_path path.now) }
+{
+    match write_path(buffer, path) {
+        Some(len) => rules_allow(rules, &buffer[..len]),
+        None => rules_allow(rules, NormalText::path(path)),
     }
 }
 

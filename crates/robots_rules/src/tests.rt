@@ -86,7 +86,7 @@ const STANDARD: [Row; 6] = [
     },
 ];
 
-const MATCHES: [Row; 14] = [
+const MATCHES: [Row; 15] = [
     Row {
         shows: "an allow wins a tie, and a longer pattern wins",
         file: b"User-agent: *\nDisallow: /p\nAllow: /p\nDisallow: /p*x$\n",
@@ -116,6 +116,12 @@ const MATCHES: [Row; 14] = [
         file: b"user-agent: *\ndisallow: /*ab$\n",
         allowed: &["/aba", "/b"],
         refused: &["/aab", "/ababab"],
+    },
+    Row {
+        shows: "a piece counts at its leftmost place, and no octet twice",
+        file: b"user-agent: *\ndisallow: /x*ab*b$\ndisallow: /yab*ba$\ndisallow: /z**$\n",
+        allowed: &["/xab", "/yaba", "/x"],
+        refused: &["/xabab", "/xabb", "/yabba", "/z", "/zz"],
     },
     Row {
         shows: "an earlier `*` needs no second look",

@@ -9,7 +9,7 @@ use Rattle.robots_rules.proofs.rule.rules_allow.Goals.{then-longest-octets+then-
 
 pub loop-rule-preserved : goal.loop-rule-preserved
 loop-rule-preserved g c =
-    let text = g.T.Text.octets c.args.path in
+    let text = g.T.NormalPath.octets c.args.path in
     let rs = c.args.rules.now in
     let i = c.loop-rule.rule-index in
     let item = c.rule-item.result in
@@ -38,7 +38,7 @@ loop-rule-preserved g c =
 
 pub returns : goal.returns
 returns g c =
-    let text = g.T.Text.octets c.args.path in
+    let text = g.T.NormalPath.octets c.args.path in
     let whole : take c.loop-rule.rule-index c.args.rules.now ≡ c.args.rules.now = take_all _ _ (omega arith) in
     let allowed : IsTrue c.loop-rule.is_allowed ↔ RulesAllow c.args.rules.now text =
     RulesAllow_from text c.args.rules.now c.loop-rule.longest c.loop-rule.is_allowed (rw (← whole) c.loop-rule.invariant) in

@@ -1,0 +1,163 @@
+-- Octets between two runs: where they match, and that their leftmost place is enough.
+use Rattle.std.proofs.Common.{◌≡◌, ◌↔◌, ℕ, zero, suc, ◌+◌, ◌-◌, ◌≤◌, ◌<◌, Bool, true, false, ◌&&◌, ◌==◌, List, [], ◌∷◌, ◌++◌, length, take, drop, get_or, IsTrue, sym, refl, ap, ◌∙◌, subst, inl, inr, arith, append_assoc, append-nil, length-append, length-drop, drop-drop, take-append-drop}
+use Rattle.std.proofs.Math.Seq.{take-append_seam, drop-append_seam}
+use Rattle.std.proofs.lemmas.List.{drop_more, drop_all, length-take-le}
+use Rattle.std.proofs.lemmas.Bool.{cases_Bool, both_ways, and_parts, eq-eqb, eqb-true, false_from_ne_true}
+use Rattle.std.specs.Borrow.{Bor}
+use Rattle.part_match.specs.Cuts.{is_match, some_end, first_and}
+use Rattle.part_match.proofs.Decided.{is_match-run, is_match-one, some_end-here, some_end-drop, some_end_cut}
+use Rattle.memchr.specs.Find.{OccursAt, Nowhere}
+use Rattle.memchr.proofs.lemmas.MatchLemmas.{OccursAt-split, OccursAt-from_part}
+use Rattle.robots_rules.specs.Patterns.{is_run, takes}
+
+-- whether the parts match the whole text
+abbrev pub matched : List ℕ → List ℕ → Bool
+matched = is_match is_run takes
+
+-- the octets have no `*` among them
+abbrev pub IsPiece : List ℕ → Type 0
+IsPiece [] = Unit {0}
+IsPiece (x ∷ xs) = (is_run x ≡ false) × IsPiece xs
+
+-- what is true of the same is the same
+same_bool : (a b : Bool) → (a ≡ true → b ≡ true) → (b ≡ true → a ≡ true) → a ≡ b
+same_bool true b f g = sym (f refl)
+same_bool false true f g = g refl
+same_bool false false f g = refl
+
+-- what stands before the first `*` is a piece
+pub IsPiece-take : (xs : List ℕ) (n : ℕ) → n ≤ length xs → ((k : ℕ) → k < n → is_run (get_or xs k 0) ≡ true → ⊥) → IsPiece (take n xs)
+IsPiece-take xs zero within none = tt
+IsPiece-take [] (suc n) within none = absurd (omega arith)
+IsPiece-take (x ∷ xs) (suc n) within none =
+    (false_from_ne_true _ (none 0 (omega arith)), IsPiece-take xs n (omega arith) (λ k below. none (suc k) (omega arith)))
+
+-- ---- a piece at the front
+
+pub matched-behind : (piece ps rest : List ℕ) → IsPiece piece → matched (piece ++ ps) (piece ++ rest) ≡ matched ps rest
+unfolding first_and
+matched-behind [] ps rest plain = refl
+matched-behind (x ∷ piece) ps rest plain =
+    is_match-one is_run takes x (piece ++ ps) (x ∷ (piece ++ rest)) plain.0
+    ∙ ap (λ b. b && matched (piece ++ ps) (piece ++ rest)) (eq-eqb x x refl)
+    ∙ matched-behind piece ps rest plain.1
+
+pub matched-front : (piece ps text : List ℕ) → IsPiece piece → matched (piece ++ ps) text ≡ true → (rest : List ℕ) × (text ≡ piece ++ rest)
+unfolding first_and
+matched-front [] ps text plain h = (text, refl)
+matched-front (x ∷ piece) ps [] plain h = let stuck = sym (is_match-one is_run takes x (piece ++ ps) [] plain.0) ∙ h in cc
+matched-front (x ∷ piece) ps (y ∷ text) plain h =
+    let both = and_parts _ _ (sym (is_match-one is_run takes x (piece ++ ps) (y ∷ text) plain.0) ∙ h) in
+    let later = matched-front piece ps text plain.1 both.1 in
+    (later.0, ap (λ z. z ∷ text) (eqb-true y x both.0) ∙ ap (λ xs. x ∷ xs) later.1)
+
+-- ---- a piece in the middle
+
+occurs_front : (front piece rest text : List ℕ) → front ++ (piece ++ rest) ≡ text → OccursAt text piece (length front)
+occurs_front front piece rest text is =
+    let behind : drop (length front) text ≡ piece ++ rest = ap (drop (length front)) (sym is) ∙ drop-append_seam front (piece ++ rest) in
+    OccursAt-from_part text piece (length front)
+    (omega (arith, ap length is, length-append front (piece ++ rest), length-append piece rest))
+    (ap (take (length piece)) behind ∙ take-append_seam piece rest)
+
+-- where some end of the text matches, the piece stands at a place of it behind which some end matches the rest
+pub place_of : (piece ps text : List ℕ) → IsPiece piece → some_end (matched (piece ++ 42 ∷ ps)) text ≡ true
+    → (j : ℕ) × (j < length text + 1) × OccursAt text piece j × (some_end (matched ps) (drop (j + length piece) text) ≡ true)
+place_of piece ps text plain h =
+    let cut = some_end_cut (matched (piece ++ 42 ∷ ps)) text h in
+    let behind = matched-front piece (42 ∷ ps) cut.1 plain cut.3 in
+    let whole : cut.0 ++ (piece ++ behind.0) ≡ text = ap (λ xs. cut.0 ++ xs) (sym behind.1) ∙ cut.2 in
+    let later : some_end (matched ps) behind.0 ≡ true =
+    sym (matched-behind piece (42 ∷ ps) behind.0 plain ∙ is_match-run is_run takes 42 ps behind.0 refl) ∙ ap (matched (piece ++ 42 ∷ ps)) (sym behind.1) ∙ cut.3 in
+    let rest : drop (length (cut.0) + length piece) text ≡ behind.0 =
+    sym (drop-drop (length piece) (length (cut.0)) text)
+    ∙ ap (λ xs. drop (length piece) (drop (length (cut.0)) xs)) (sym whole)
+    ∙ ap (drop (length piece)) (drop-append_seam cut.0 (piece ++ behind.0))
+    ∙ drop-append_seam piece behind.0 in
+    (length (cut.0), omega (arith, ap length whole, length-append cut.0 (piece ++ behind.0)), occurs_front cut.0 piece behind.0 text whole, ap (some_end (matched ps)) rest ∙ later)
+
+-- a piece that stands nowhere matches no end
+pub some_end-nowhere : (piece ps text : List ℕ) → IsPiece piece → Nowhere (OccursAt text piece) 0 (length text + 1) → some_end (matched (piece ++ 42 ∷ ps)) text ≡ false
+some_end-nowhere piece ps text plain none =
+    false_from_ne_true _ (λ h. let place = place_of piece ps text plain h in none place.0 (omega arith) place.1 place.2)
+
+-- a piece may as well stand at its leftmost place: an end behind any other place of it is an end behind this one
+pub some_end-leftmost : (piece ps text : List ℕ) (k : ℕ) → IsPiece piece → Nowhere (OccursAt text piece) 0 k → OccursAt text piece k
+    → some_end (matched (piece ++ 42 ∷ ps)) text ≡ some_end (matched ps) (drop (k + length piece) text)
+some_end-leftmost piece ps text k plain before here =
+    let rest = drop (k + length piece) text in
+    same_bool _ _
+    (λ h.
+    let place = place_of piece ps text plain h in
+    let j = place.0 in
+    let ordered : k ≤ j = order k j (λ less. before j (omega arith) less place.2) in
+    let farther : drop (j - k) rest ≡ drop (j + length piece) text =
+    drop-drop (j - k) (k + length piece) text ∙ ap (λ n. drop n text) (let e : k + length piece + (j - k) ≡ j + length piece = omega arith in e) in
+    some_end-drop (matched ps) (j - k) rest (ap (some_end (matched ps)) farther ∙ place.3))
+    (λ h.
+    some_end-drop (matched (piece ++ 42 ∷ ps)) k text
+    (some_end-here (matched (piece ++ 42 ∷ ps)) (drop k text)
+    (ap (matched (piece ++ 42 ∷ ps)) (OccursAt-split text piece k here) ∙ matched-behind piece (42 ∷ ps) rest plain ∙ is_match-run is_run takes 42 ps rest refl ∙ h)))
+  where
+    order : (k j : ℕ) → (j < k → ⊥) → k ≤ j
+    order k j never = omega arith
+
+-- ---- a piece alone
+
+matched-nil : (text : List ℕ) → matched [] text ≡ true → text ≡ []
+unfolding is_match
+matched-nil [] h = refl
+matched-nil (x ∷ text) h = cc
+
+nil-matched : matched [] [] ≡ true
+unfolding is_match
+nil-matched = refl
+
+-- a piece matches itself alone
+pub matched-alone : (piece text : List ℕ) → IsPiece piece → IsTrue (matched piece text) ↔ (piece ≡ text)
+matched-alone piece text plain = (
+  λ h.
+      let open_end : matched (piece ++ []) text ≡ true = ap (λ ps. matched ps text) (append-nil piece) ∙ h in
+      let behind = matched-front piece [] text plain open_end in
+      let none : behind.0 ≡ [] = matched-nil behind.0 (sym (matched-behind piece [] behind.0 plain) ∙ ap (matched (piece ++ [])) (sym behind.1) ∙ open_end) in
+      sym (behind.1 ∙ ap (λ xs. piece ++ xs) none ∙ append-nil piece),
+  λ is.
+      ap (matched piece) (sym is) ∙ ap (λ ps. matched ps piece) (sym (append-nil piece)) ∙ ap (matched (piece ++ [])) (sym (append-nil piece)) ∙ matched-behind piece [] [] plain ∙ nil-matched,
+)
+
+pub same_alone : (piece text : List ℕ) (b : Bool) → IsPiece piece → IsTrue b ↔ (piece ≡ text) → b ≡ matched piece text
+same_alone piece text b plain means = same_bool _ _ (λ e. (matched-alone piece text plain).1 (means.0 e)) (λ e. means.1 ((matched-alone piece text plain).0 e))
+
+-- a last piece matches some end where it is the end
+pub same_end : (piece text : List ℕ) (b : Bool) → IsPiece piece → (b ≡ true → text ≡ take (length text - length piece) text ++ piece) → ((front : List ℕ) → text ≡ front ++ piece → b ≡ true) → b ≡ some_end (matched piece) text
+same_end piece text b plain is from =
+    same_bool _ _
+    (λ e.
+    let front = take (length text - length piece) text in
+    let back : drop (length front) text ≡ piece = ap (drop (length front)) (is e) ∙ drop-append_seam front piece in
+    some_end-drop (matched piece) (length front) text
+    (some_end-here (matched piece) (drop (length front) text) (ap (matched piece) back ∙ (matched-alone piece piece plain).1 refl)))
+    (λ h.
+    let cut = some_end_cut (matched piece) text h in
+    from cut.0 (sym (ap (λ xs. cut.0 ++ xs) ((matched-alone piece cut.1 plain).0 cut.3) ∙ cut.2)))
+
+-- ---- the front of a pattern
+
+-- the first `*` parts the octets into a piece and the rest
+pub at_run : (parts : List ℕ) (run : ℕ) → run < length parts → is_run (get_or parts run 0) ≡ true → take run parts ++ 42 ∷ drop (run + 1) parts ≡ parts
+at_run parts run below star =
+    ap (λ xs. take run parts ++ xs) (ap (λ x. x ∷ drop (run + 1) parts) (sym (eqb-true _ 42 star)) ∙ sym (drop_more parts run 0 below)) ∙ take-append-drop run parts
+
+-- a first piece that stands at the front leaves the rest to some end
+pub front_behind : (parts text rest : List ℕ) (run : ℕ) → IsPiece (take run parts) → take run parts ++ 42 ∷ drop (run + 1) parts ≡ parts → text ≡ take run parts ++ rest → matched parts text ≡ some_end (matched (drop (run + 1) parts)) rest
+front_behind parts text rest run plain whole is =
+    ap (λ ps. matched ps text) (sym whole) ∙ ap (matched (take run parts ++ 42 ∷ drop (run + 1) parts)) is
+    ∙ matched-behind (take run parts) (42 ∷ drop (run + 1) parts) rest plain
+    ∙ is_match-run is_run takes 42 (drop (run + 1) parts) rest refl
+
+-- one that doesn't matches nothing
+pub front_missing : (parts text : List ℕ) (run : ℕ) → IsPiece (take run parts) → take run parts ++ 42 ∷ drop (run + 1) parts ≡ parts → ((rest : List ℕ) → text ≡ take run parts ++ rest → ⊥) → matched parts text ≡ false
+front_missing parts text run plain whole never =
+    false_from_ne_true _ (λ h.
+    let behind = matched-front (take run parts) (42 ∷ drop (run + 1) parts) text plain (ap (λ ps. matched ps text) whole ∙ h) in
+    never behind.0 behind.1)

@@ -1,0 +1,12 @@
+-- What the code's own form of a rule stands for.
+use Rattle.std.specs.Prelude.{◌≡◌, ℕ, Bool, List, [], ◌∷◌, ◌++◌, if◌then◌else◌}
+use Rattle.robots_rules.specs.Patterns.{ends_text, front, parts_of}
+
+-- the pattern that has these parts and a last `$` or not
+abbrev pub pattern_with : Bool → List ℕ → List ℕ
+pattern_with ends parts = if ends then parts ++ 36 ∷ [] else front parts
+
+-- these are the parts of that pattern, and it ends so
+pub record AreParts (ends : Bool) (parts : List ℕ) : Type 0 where
+  pub ending : ends_text (pattern_with ends parts) ≡ ends
+  pub whole : parts_of (pattern_with ends parts) ≡ parts
