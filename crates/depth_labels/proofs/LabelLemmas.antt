@@ -1,10 +1,13 @@
 -- What a lowered depth and an added address leave.
 use borrow.Author.Tests.{ltb-true, ltb-false}
 use Rattle.std.proofs.lemmas.Slice.Eq.{bytes_eq-Decides}
-use Rattle.std.proofs.Common.{◌<◌, ◌≤◌, min, ◌≡◌, ℕ, Bool, true, false, nat_lt, List, [], ◌∷◌, ◌++◌, map, slice_get, position, bytes_eq, Option, None, Some, is_some, refl, sym, ap, ◌∙◌, if◌then◌else◌, arith}
+use Rattle.std.proofs.Common.{◌<◌, length, ◌≤◌, min, ◌≡◌, ℕ, Bool, true, false, nat_lt, List, [], ◌∷◌, ◌++◌, map, slice_get, position, bytes_eq, Option, None, Some, Result, Err, is_some, refl, sym, ap, ◌∙◌, if◌then◌else◌, arith}
 use Rattle.indexmap.specs.IndexMap.{insert_entry, set_value_at}
-use Rattle.indexmap.proofs.MapLemmas.{Found-position, insert_entry-first, insert_entry-absent, absent_from_lookup}
-use Rattle.depth_labels.specs.Depths.{Text, after_offer, depth_at, lesser}
+use Rattle.indexmap.proofs.MapLemmas.{Found-position, Missing-position, some_index, insert_entry-first, insert_entry-absent, absent_from_lookup}
+use Rattle.depth_labels.specs.Depths.{Text, Table, after_offer, depth_at, lesser}
+use Rattle.depth_labels.specs.Offers.{offer_of}
+use Rattle.depth_labels.specs.declared.labels.Offer.{Offer}
+use Rattle.depth_labels.specs.declared.labels.LabelFault.{LabelFault}
 
 -- a depth that is written at the place of its address is the table after the offer
 pub lowered : (depths new : List (Text × ℕ)) (address : Text) (depth number : ℕ)
@@ -22,6 +25,50 @@ lowered depths new address depth number place value is writes = go (depth_at dep
     go : (held : Option ℕ) → depth_at depths address ≡ held → new ≡ after_offer depths address depth held
     go None e = cc
     go (Some held) e = writes held (value ∙ e) ∙ split held (nat_lt depth held)
+
+-- what the number says that was found for an address
+pub record IsNumbered (depths : List (Text × ℕ)) (address : Text) (number : ℕ) : Type 0 where
+  pub place : position (bytes_eq address) (map (λ entry. entry.0) depths) ≡ Some number
+  pub within : number < length depths
+  pub value : slice_get (map (λ entry. entry.1) depths) number ≡ depth_at depths address
+  pub found : is_some (depth_at depths address) ≡ true
+
+pub numbered : (depths : List (Text × ℕ)) (address : Text) (number : ℕ) → Some number ≡ position (bytes_eq address) (map (λ entry. entry.0) depths) → IsNumbered depths address number
+numbered depths address number is =
+    let f = Found-position (bytes_eq address) depths number (sym is) in
+    record {
+      place = sym is;
+      within = f.within;
+      value = sym f.value;
+      found = sym (some_index (bytes_eq address) depths) ∙ ap is_some (sym is);
+    }
+
+-- an address without a number isn't held
+pub unnumbered : (depths : List (Text × ℕ)) (address : Text) → None ≡ position (bytes_eq address) (map (λ entry. entry.0) depths) → depth_at depths address ≡ None
+unnumbered depths address is = (Missing-position (bytes_eq address) depths (sym is)).value
+
+-- what an offer by number answers is what one by address does
+pub answered : (depths : List (Text × ℕ)) (address : Text) (depth number : ℕ) (offer : Offer) → IsNumbered depths address number
+    → ((held : ℕ) → slice_get (map (λ entry. entry.1) depths) number ≡ Some held → offer ≡ offer_of (Some held) depth)
+    → offer ≡ offer_of (depth_at depths address) depth
+answered depths address depth number offer n says = go (depth_at depths address) refl
+  where
+    go : (held : Option ℕ) → depth_at depths address ≡ held → offer ≡ offer_of held depth
+    go None e = let h = rw e at n.found in cc
+    go (Some held) e = says held (n.value ∙ e)
+
+-- a table by its parts
+pub table_is : (table : Table) (most : ℕ) (depths : List (Text × ℕ)) → table.most ≡ most → table.depths ≡ depths → table ≡ record { most = most; depths = depths; room = table.room }
+table_is table most depths m d = rw (← m, ← d) refl
+
+-- the same fault, whatever else might have been answered
+pub err_as : {A B : Type 0} (f g : LabelFault) → ◌≡◌ {A = Result A LabelFault} (Err f) (Err g) → ◌≡◌ {A = Result B LabelFault} (Err f) (Err g)
+err_as f g e = let k : f ≡ g = cc in ap Err k
+
+-- a copy of a new address is added at the end
+pub added : (old mid new : List (Text × ℕ)) (address key : Text) (depth : ℕ) → depth_at old address ≡ None → mid ≡ old → key ≡ address → new ≡ mid ++ (key, depth) ∷ []
+    → new ≡ after_offer old address depth (depth_at old address)
+added old mid new address key depth none same copy is = rw none (rw (same, copy) at is)
 
 -- an address that isn't held goes last
 pub appended : (depths : List (Text × ℕ)) (address : Text) (depth : ℕ) → depth_at depths address ≡ None → insert_entry bytes_eq depths address depth ≡ depths ++ (address, depth) ∷ []

@@ -77,14 +77,18 @@ impl Labels {
         ensures held { IsSome (depth_at self.old.depths address.now) → IsOk result }
         ensures err { OnErr result (self.new ≡ record self.old { room = self.new.room }) }
     {
-        if let Some(number) = self.table.get_index_of(address) {
-            return Ok(lower(&mut self.table, number, depth));
+        if let Some(number) = self.find(address) {
+            return Ok(self.offer_at(number, depth));
         }
-        if self.len() == self.max {
-            return Err(LabelFault::Full);
+        let max = self.max;
+        if let Err(fault) = self.reserve(max) {
+            return Err(fault);
         }
-        match add(&mut self.table, address, depth) {
-            Ok(()) => Ok(Offer::New),
+        match address.try_clone() {
+            Ok(key) => {
+                self.add(key, depth);
+                Ok(Offer::New)
+            }
             Err(AllocError) => Err(LabelFault::Memory),
         }
     }
@@ -196,15 +200,4 @@ fn lower(table: &mut IndexMap<Address, u32>, number: usize, depth: u32) -> Offer
     } else {
         Offer::Kept
     }
-}
-
-// Adds a new address at the end.
-fn add(table: &mut IndexMap<Address, u32>, address: &Address, depth: u32) -> Result<(), AllocError>
-    requires { depth_at table.old.entries address.now ≡ None }
-    ensures ok { OnOk result (table.new.entries ≡ table.old.entries ++ (address.now, depth) ∷ []) }
-    ensures err { OnErr result (table.new.entries ≡ table.old.entries) }
-{
-    let key = address.try_clone()?;
-    table.insert(key, depth)?;
-    Ok(())
 }
