@@ -3,9 +3,9 @@
 #![tactic(auto)]
 
 use address::Address;
+use fetcher::{Edge, EdgeKind, Edges, Outcome};
 use follow_filters::{Limit, MAX_URLS, Plan};
 use frontier_core::{Cause, Frontier, Permit, Rejected, Work};
-use site_answer::{Edge, EdgeKind, Edges, Outcome};
 use std::alloc::Global;
 use std::time::{Duration, Instant};
 use std::{env, io};

@@ -4,9 +4,9 @@ use Rattle.std.specs.Prelude.{IfSome, IfOk, IfErr, Result, Ok, Err, string_bytes
 use Rattle.follow_filters.specs.declared.plan.Plan.{Plan}
 use Rattle.options.specs.declared.order.Order.{Order}
 use Rattle.robots_rules.specs.Access.{RuleSetValue}
-use Rattle.site_answer.specs.Sites.{SiteAnswers}
-use Rattle.site_answer.specs.declared.fetcher.Ask.{Ask}
-use Rattle.site_answer.specs.declared.outcome.Outcome.{Outcome}
+use Rattle.fetcher.specs.Sites.{SiteAnswers}
+use Rattle.fetcher.specs.declared.fetcher.Ask.{Ask}
+use Rattle.fetcher.specs.declared.outcome.Outcome.{Outcome}
 use Rattle.frontier_core.specs.Invariants.{IsSound}
 use Rattle.frontier_core.specs.Machine.{answers, IsQuiet}
 use Rattle.frontier_core.specs.Plans.{policy}

@@ -5,7 +5,7 @@ use Rattle.std.specs.List.{filter_map}
 use Rattle.std.proofs.lemmas.Bool.{false≢true}
 use Rattle.std.proofs.lemmas.List.Elements.{Contains-get_or}
 use Rattle.std.proofs.lemmas.List.Sorted.{Contains-permutation}
-use Rattle.site_answer.specs.declared.outcome.Outcome.{Outcome}
+use Rattle.fetcher.specs.declared.outcome.Outcome.{Outcome}
 use Rattle.frontier_core.specs.Tables.{Text, lookup, keys, IsOnce}
 use Rattle.frontier_core.specs.Routes.{Policy, Answers, IsDepth, is_open}
 use Rattle.frontier_core.specs.Machine.{State, Slot, Progress, Parked, Waiting, Out, Answered, Due, Offered, answers, slot_outcome, outcome_in, is_done, IsQuiet}

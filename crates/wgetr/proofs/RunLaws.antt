@@ -1,8 +1,8 @@
 -- The parts of a run come to its ending.
 use Rattle.std.proofs.Common.{ℕ, inl, inr, List, [], Option, Some, None, refl, subst}
-use Rattle.site_answer.specs.MapSites.{MapValue}
-use Rattle.site_answer.specs.Maps.{says_of}
-use Rattle.site_answer.specs.Sites.{SiteAnswers}
+use Rattle.site_maps.specs.MapSites.{MapValue}
+use Rattle.site_maps.specs.Maps.{says_of}
+use Rattle.fetcher.specs.Sites.{SiteAnswers}
 use Rattle.frontier_core.specs.declared.event.Event.{Event}
 use Rattle.options.specs.declared.fault.LineFault.TheVariants as line
 use Rattle.options.specs.declared.order.Order.{Order}

@@ -1,7 +1,7 @@
 -- The words of outcomes, as they are printed.
 use Rattle.std.specs.Prelude.{ℕ, List, codes}
 use Rattle.std.specs.Fmt.{decimal}
-use Rattle.site_answer.specs.FaultWords.{word_of}
+use Rattle.fetcher.specs.FaultWords.{word_of}
 use Rattle.wgetr.specs.declared.report.Word.{Word}
 use Rattle.wgetr.specs.declared.report.Word.TheVariants.{Status, Fault, Robots}
 

@@ -1,9 +1,9 @@
 -- What the parts of a run come to.
 use Rattle.std.specs.Prelude.{◌≡◌, ◌≤◌, ◌<◌, ◌⊎◌, ◌++◌, ℕ, Bool, true, false, List, [], length, codes, Option, Result, Ok, Err, IfSome}
 use Rattle.std.specs.Io.KnownBytes.{Appends}
-use Rattle.site_answer.specs.Lines.{Statement}
-use Rattle.site_answer.specs.Maps.{lines_of, IsMap, IsFault, says_of}
-use Rattle.site_answer.specs.MapSites.{MapValue}
+use Rattle.site_maps.specs.Lines.{Statement}
+use Rattle.site_maps.specs.Maps.{lines_of, IsMap, IsFault, says_of}
+use Rattle.site_maps.specs.MapSites.{MapValue}
 use Rattle.frontier_core.specs.Invariants.{IsSound}
 use Rattle.frontier_core.specs.Plans.{policy}
 use Rattle.frontier_core.specs.declared.event.Event.{Event}

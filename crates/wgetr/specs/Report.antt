@@ -2,10 +2,10 @@
 use Rattle.std.specs.Prelude.{ℕ, Bool, true, false, List, ◌++◌, AllPairs, codes, count_by, nat_le}
 use Rattle.std.specs.Fmt.{decimal}
 use Rattle.std.specs.List.{flat_map}
-use Rattle.site_answer.specs.FaultWords.{word_of}
-use Rattle.site_answer.specs.declared.outcome.Outcome.{Outcome}
+use Rattle.fetcher.specs.FaultWords.{word_of}
+use Rattle.fetcher.specs.declared.outcome.Outcome.{Outcome}
 use Rattle.workers.specs.Order.{IsBefore}
-use Rattle.site_answer.specs.declared.outcome.Outcome.TheVariants.{Page, Moved, Leaf, Fault}
+use Rattle.fetcher.specs.declared.outcome.Outcome.TheVariants.{Page, Moved, Leaf, Fault}
 
 -- what became of a candidate: it was asked for, with this outcome, or its origin's robots rules refuse it
 -- (RFC 9309, section 2.2.2)

@@ -4,10 +4,10 @@ use Rattle.std.specs.Fmt.{decimal}
 use Rattle.std.specs.Io.KnownBytes.{Appends}
 use Rattle.address.specs.declared.fault.AddressFault.{AddressFault}
 use Rattle.address.specs.declared.fault.AddressFault.TheVariants as refused
-use Rattle.site_answer.specs.Lines.{Statement}
-use Rattle.site_answer.specs.Maps.{lines_of, IsMap, IsFault}
-use Rattle.site_answer.specs.declared.input_fault.InputFault.{InputFault}
-use Rattle.site_answer.specs.declared.input_fault.InputFault.TheVariants as map
+use Rattle.site_maps.specs.Lines.{Statement}
+use Rattle.site_maps.specs.Maps.{lines_of, IsMap, IsFault}
+use Rattle.site_maps.specs.declared.input_fault.InputFault.{InputFault}
+use Rattle.site_maps.specs.declared.input_fault.InputFault.TheVariants as map
 use Rattle.frontier_core.specs.declared.event.Event.{Event}
 use Rattle.options.specs.Order.{order_of, without_kind}
 use Rattle.options.specs.declared.fault.LineFault.{LineFault}

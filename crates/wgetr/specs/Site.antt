@@ -1,8 +1,8 @@
 -- The report of a whole site.
 use Rattle.std.specs.Prelude.{◌≡◌, ◌≤◌, false, List, Some, All, Any, IsTrue, length}
-use Rattle.site_answer.specs.Lines.{Statement}
-use Rattle.site_answer.specs.Maps.{answers_of, rules_of, says_of}
-use Rattle.site_answer.specs.Sites.{SiteAnswers}
+use Rattle.site_maps.specs.Lines.{Statement}
+use Rattle.site_maps.specs.Maps.{answers_of, rules_of, says_of}
+use Rattle.fetcher.specs.Sites.{SiteAnswers}
 use Rattle.frontier_core.specs.Tables.{Text}
 use Rattle.frontier_core.specs.Routes.{Policy, Answers, IsCandidate, IsDepth, is_open}
 use Rattle.wgetr.specs.Report.{Line, Fate, Asked, Refused, IsAscending}

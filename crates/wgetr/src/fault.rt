@@ -5,7 +5,7 @@ ghost use Rattle.wgetr.specs.Run.{start_words, line_words, reading_words, fault_
 use crate::input::ReadFault;
 use address::AddressFault;
 use options::LineFault;
-use site_answer::InputFault;
+use site_maps::InputFault;
 use std::alloc::{AllocError, Global};
 
 /// Why a run has no report.

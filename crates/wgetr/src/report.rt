@@ -6,7 +6,7 @@ ghost use Rattle.wgetr.specs.Entries.{line_at, lines_of};
 ghost use Rattle.wgetr.specs.OutcomeWord.{word_text};
 
 use address::Address;
-use site_answer::{FaultKind, Outcome};
+use fetcher::{FaultKind, Outcome};
 use std::alloc::{AllocError, Global};
 use std::fmt;
 use workers::{Entry, Harvest};

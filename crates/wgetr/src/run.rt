@@ -1,6 +1,6 @@
 //! A run: from the words and the input to what is written.
 ghost use Rattle.std.specs.Prelude.{◌≡◌, ◌++◌, List, IfOk, IfErr, OnOk, map, string_bytes};
-ghost use Rattle.site_answer.specs.Maps.{says_of};
+ghost use Rattle.site_maps.specs.Maps.{says_of};
 ghost use Rattle.frontier_core.specs.declared.event.Event.{Event};
 ghost use Rattle.wgetr.specs.Entries.{lines_of};
 ghost use Rattle.wgetr.specs.Report.{report_text};
@@ -18,7 +18,7 @@ use crate::report::{push_report, rows_of};
 use crate::trace::{cause_word, push_trace};
 use frontier_core::Event;
 use options::Order;
-use site_answer::MapSite;
+use site_maps::MapSite;
 use std::alloc::{AllocError, Global};
 use std::io::{Read, Write};
 use workers::{Halt, Harvest, retrieve_in_order};

@@ -6,8 +6,8 @@ ghost use Rattle.workers.specs.Order.{IsAscending};
 use crate::entry::Entry;
 use crate::page::KeptPage;
 use address::{Address, Origin};
+use fetcher::Outcome;
 use robots_rules::RuleSet;
-use site_answer::Outcome;
 
 /// Things that are named by a text.
 pub trait Named {

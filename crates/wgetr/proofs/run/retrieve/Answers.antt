@@ -1,5 +1,5 @@
 -- What was retrieved is what the site has.
-use Rattle.site_answer.specs.Maps.{says_of}
+use Rattle.site_maps.specs.Maps.{says_of}
 use Rattle.wgetr.specs.Site.{whole_of}
 use Rattle.wgetr.proofs.EndLaws.{map_fits, finishes, told_finishes}
 use Rattle.wgetr.proofs.run.retrieve.Goals as goal

@@ -1,0 +1,4 @@
+pub mod FaultWords
+pub mod Outcomes
+pub mod Logs
+pub mod Sites

@@ -1,0 +1,7 @@
+pub mod RuleLines
+pub mod Lines
+pub mod Said
+pub mod Faults
+pub mod Maps
+pub mod Readings
+pub mod MapSites

@@ -1,0 +1,21 @@
+//! Sites that are read from maps. Its one idea: a map says one thing of each address and of each origin, or its first bad
+//! line is named. The meaning is written in `specs/`: `Lines` what a line says, `Maps` what the lines say together and
+//! which are good, `MapSites` the site.
+#![tactic(auto)]
+
+mod field;
+mod input_fault;
+mod kept_rules;
+mod map_line;
+mod map_site;
+mod open_robots;
+mod reading;
+mod rule_kind;
+mod steady_map;
+
+pub use input_fault::InputFault;
+pub use map_site::MapSite;
+pub use steady_map::SteadyMap;
+
+#[cfg(test)]
+mod tests;

@@ -1,0 +1,268 @@
+//! A map in mid-read: the answers and the rule sets that the lines so far state.
+ghost use Rattle.std.specs.Prelude.{[], OnOk};
+ghost use Rattle.site_maps.specs.Lines.{page, edge, moved, leaf, fault, robots, closed, rule};
+ghost use Rattle.site_maps.specs.Said.{said};
+ghost use Rattle.site_maps.specs.Readings.{IsFresh, IsRoot, IsVacant, Tells, Names, NamesOrigin, Closes, Claims, ClaimsOrigin, Adds, Takes, Reads};
+
+use crate::input_fault::LineFault;
+use crate::kept_rules::KeptRules;
+use crate::map_line::MapLine;
+use crate::open_robots::OpenRobots;
+use crate::rule_kind::RuleKind;
+use address::{Address, Origin};
+use fetcher::{Edge, EdgeKind, Edges, FaultKind, Outcome};
+use indexmap::IndexMap;
+use robots_rules::RuleSet;
+use std::alloc::{AllocError, Global};
+use std::str;
+
+/// A page whose edge lines may still follow.
+#[derive(Drop)]
+pub(crate) struct OpenPage {
+    pub(crate) address: Address,
+    pub(crate) status: u16,
+    pub(crate) edges: Vec<Edge>,
+}
+
+/// What the line above may still be followed by.
+#[derive(Drop)]
+pub(crate) enum Open {
+    /// Edge lines of this page.
+    Page(OpenPage),
+    /// Rule lines of this origin.
+    Robots(OpenRobots),
+}
+
+/// What the lines read so far state.
+#[derive(Drop)]
+pub(crate) struct Reading {
+    pub(crate) alloc: Global,
+    pub(crate) answers: IndexMap<Address, Outcome>,
+    pub(crate) rules: IndexMap<Origin, KeptRules>,
+    pub(crate) open: Option<Open>,
+}
+
+impl Reading {
+    // Before the first line.
+    pub(crate) fn new(alloc: Global) -> Self
+        ensures { Tells result [] }
+    {
+        Reading {
+            alloc,
+            answers: IndexMap::new(alloc),
+            rules: IndexMap::new(alloc),
+            open: None,
+        }
+    }
+
+    // The address that a text names.
+    fn named(alloc: Global, text: &str) -> Result<Address, LineFault>
+        ensures { Names text.now result }
+    {
+        Ok(Address::read(alloc, text)?)
+    }
+
+    // The origin whose `/` a text names.
+    fn origin_named(&self, text: &str) -> Result<Origin, LineFault>
+        ensures { NamesOrigin text.now result }
+    {
+        let address = Reading::named(self.alloc, text)?;
+        Reading::at_root(&address)?;
+        Ok(Origin::of(&address)?)
+    }
+
+    // Refuses an address that isn't its origin's `/`. Takes no memory.
+    fn at_root(address: &Address) -> Result<(), LineFault>
+        ensures { IsRoot address.now result }
+    {
+        if address.path_query() != "/" {
+            return Err(LineFault::Line);
+        }
+        Ok(())
+    }
+
+    // Keeps what the open page or the open origin has: no line of theirs follows any more.
+    pub(crate) fn close(&mut self) -> Result<(), AllocError>
+        ensures { IsFresh self.old → OnOk result (Closes self.old self.new) }
+    {
+        match self.open.take() {
+            None => {}
+            Some(Open::Page(page)) => {
+                let OpenPage {
+                    address,
+                    status,
+                    edges,
+                } = page;
+                self.answers
+                    .insert(address, Outcome::Page(status, Edges::new(edges)))?;
+            }
+            Some(Open::Robots(robots)) => {
+                let rules = robots.rules(self.alloc)?;
+                let OpenRobots { origin, file: _ } = robots;
+                self.rules
+                    .insert(origin, KeptRules::new(self.alloc, rules))?;
+            }
+        }
+        Ok(())
+    }
+
+    // Closes what is open, and refuses an address for which an answer is stated.
+    fn claim(&mut self, address: &Address) -> Result<(), LineFault>
+        ensures { Claims self.old address.now result self.new }
+    {
+        self.close()?;
+        self.unstated(address)
+    }
+
+    // Refuses an address for which an answer is kept. Takes no memory.
+    fn unstated(&self, address: &Address) -> Result<(), LineFault>
+        ensures { IsVacant self.now.answers.entries address.now result }
+    {
+        if self.answers.contains_key(address) {
+            return Err(LineFault::Line);
+        }
+        Ok(())
+    }
+
+    // Closes what is open, and refuses an origin for which rules are stated.
+    fn claim_origin(&mut self, origin: &Origin) -> Result<(), LineFault>
+        ensures { ClaimsOrigin self.old origin.now result self.new }
+    {
+        self.close()?;
+        self.unruled(origin)
+    }
+
+    // Refuses an origin for which rules are kept. Takes no memory.
+    fn unruled(&self, origin: &Origin) -> Result<(), LineFault>
+        ensures { IsVacant self.now.rules.entries origin.now result }
+    {
+        if self.rules.contains_key(origin) {
+            return Err(LineFault::Line);
+        }
+        Ok(())
+    }
+
+    // Keeps an answer for an address for which none is stated.
+    fn add_answer(&mut self, address: Address, outcome: Outcome) -> Result<(), LineFault>
+        ensures { Adds self.old address outcome result self.new }
+    {
+        self.claim(&address)?;
+        self.answers.insert(address, outcome)?;
+        Ok(())
+    }
+
+    // Takes a page line.
+    fn add_page(&mut self, status: u16, text: &str) -> Result<(), LineFault>
+        ensures { Takes self.old (page status text.now) result self.new }
+    {
+        let address = Reading::named(self.alloc, text)?;
+        self.claim(&address)?;
+        self.open = Some(Open::Page(OpenPage {
+            address,
+            status,
+            edges: Vec::new(self.alloc),
+        }));
+        Ok(())
+    }
+
+    // Takes an edge line.
+    fn add_edge(&mut self, kind: EdgeKind, text: &str) -> Result<(), LineFault>
+        ensures { Takes self.old (edge kind text.now) result self.new }
+    {
+        match &mut self.open {
+            Some(Open::Page(above)) => {
+                let target = Reading::named(self.alloc, text)?;
+                above.edges.push(Edge { target, kind })?;
+                Ok(())
+            }
+            _ => Err(LineFault::Line),
+        }
+    }
+
+    // Takes a moved line.
+    fn add_moved(&mut self, status: u16, text: &str, target: &str) -> Result<(), LineFault>
+        ensures { Takes self.old (moved status text.now target.now) result self.new }
+    {
+        let address = Reading::named(self.alloc, text)?;
+        let target = Reading::named(self.alloc, target)?;
+        self.add_answer(address, Outcome::Moved(status, target))
+    }
+
+    // Takes a leaf line.
+    fn add_leaf(&mut self, status: u16, text: &str) -> Result<(), LineFault>
+        ensures { Takes self.old (leaf status text.now) result self.new }
+    {
+        let address = Reading::named(self.alloc, text)?;
+        self.add_answer(address, Outcome::Leaf(status))
+    }
+
+    // Takes a fault line.
+    fn add_fault(&mut self, kind: FaultKind, text: &str) -> Result<(), LineFault>
+        ensures { Takes self.old (fault kind text.now) result self.new }
+    {
+        let address = Reading::named(self.alloc, text)?;
+        self.add_answer(address, Outcome::Fault(kind))
+    }
+
+    // Takes a robots line whose rules follow.
+    fn add_robots(&mut self, text: &str) -> Result<(), LineFault>
+        ensures { Takes self.old (robots text.now) result self.new }
+    {
+        let origin = self.origin_named(text)?;
+        self.claim_origin(&origin)?;
+        let robots = OpenRobots::new(self.alloc, origin)?;
+        self.open = Some(Open::Robots(robots));
+        Ok(())
+    }
+
+    // Takes a robots line of an origin where nothing is allowed.
+    fn add_closed(&mut self, text: &str) -> Result<(), LineFault>
+        ensures { Takes self.old (closed text.now) result self.new }
+    {
+        let origin = self.origin_named(text)?;
+        self.claim_origin(&origin)?;
+        self.rules
+            .insert(origin, KeptRules::new(self.alloc, RuleSet::none()))?;
+        Ok(())
+    }
+
+    // Takes a rule line.
+    fn add_rule(&mut self, kind: RuleKind, rest: &str) -> Result<(), LineFault>
+        ensures { Takes self.old (rule kind rest.now) result self.new }
+    {
+        match &mut self.open {
+            Some(Open::Robots(robots)) => Ok(robots.add(kind, rest)?),
+            _ => Err(LineFault::Line),
+        }
+    }
+
+    // Takes what a line says.
+    fn add(&mut self, line: MapLine<'_>) -> Result<(), LineFault>
+        ensures { Takes self.old (said line.entry) result self.new }
+    {
+        match line {
+            MapLine::Skipped => Ok(()),
+            MapLine::Page(status, text) => self.add_page(status, text),
+            MapLine::Edge(kind, text) => self.add_edge(kind, text),
+            MapLine::Moved(status, text, target) => self.add_moved(status, text, target),
+            MapLine::Leaf(status, text) => self.add_leaf(status, text),
+            MapLine::Fault(kind, text) => self.add_fault(kind, text),
+            MapLine::Robots(text) => self.add_robots(text),
+            MapLine::Closed(text) => self.add_closed(text),
+            MapLine::Rule(kind, rest) => self.add_rule(kind, rest),
+        }
+    }
+
+    /// Takes one more line. An error says what is wrong with it; then nothing more may be read.
+    pub(crate) fn read_line(&mut self, line: &[u8]) -> Result<(), LineFault>
+        ensures { Reads self.old line.now result self.new }
+    {
+        let Ok(text) = str::from_utf8(line) else {
+            return Err(LineFault::Line);
+        };
+        let Some(line) = MapLine::of(text) else {
+            return Err(LineFault::Line);
+        };
+        self.add(line)
+    }
+}
