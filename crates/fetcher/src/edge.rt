@@ -3,7 +3,9 @@ ghost use Rattle.std.specs.Prelude.{◌≡◌, ◌↔◌, IfOk, IsTrue};
 
 use address::Address;
 use std::alloc::AllocError;
+use std::fmt;
 use std::marker::Model;
+use std::sync::Arc;
 
 /// How an address is named by the one that leads to it.
 #[derive(Clone, Copy, Debug, PartialEq, Eq)]
@@ -52,27 +54,32 @@ impl Clone for Edge {
     }
 }
 
-/// The edges of a page in document order, doubles kept. Contracts see a list of edges.
-#[derive(Drop, Debug)]
+/// The edges of a page in document order, doubles kept. Copies share them, so that a copy takes no
+/// memory. Contracts see a list of edges.
+#[derive(Drop)]
 pub struct Edges {
-    items: Vec<Edge>,
+    items: Arc<Vec<Edge>>,
 }
 
 impl Model for Edges {
     ghost use Rattle.std.specs.Prelude.{List};
+    ghost use Rattle.std.specs.Arc.{arc_value};
     ghost use Rattle.fetcher.specs.declared.edge.Edge.{Edge};
 
     ghost Value = { List Edge };
 
-    ghost view = { λ edges. edges.items.items };
+    ghost view = { λ edges. (arc_value edges.items).items };
 }
 
 impl Edges {
-    /// The edges of a list. Takes no memory.
-    pub fn new(items: Vec<Edge>) -> Self
-        ensures { result ≡ items.items }
+    /// The edges of a list, to be shared from now on. The error is that memory is wanting.
+    pub fn new(items: Vec<Edge>) -> Result<Self, AllocError>
+        ensures { IfOk result (λ edges. edges ≡ items.items) }
     {
-        Edges { items }
+        let alloc = *items.allocator();
+        Ok(Edges {
+            items: Arc::new(alloc, items)?,
+        })
     }
 
     /// The edges in order.
@@ -82,28 +89,29 @@ impl Edges {
         self.items.as_slice()
     }
 
-    /// The edges in order, given back. Takes no memory.
-    pub fn into_vec(self) -> Vec<Edge>
-        ensures { result.items ≡ self }
-    {
-        let Edges { items } = self;
-        items
-    }
-
     /// Whether both have the same edges in the same order. Takes no memory.
     pub fn same(&self, other: &Edges) -> bool
         ensures { IsTrue result ↔ (self.now ≡ other.now) }
     {
-        same_edges(self.items.as_slice(), other.items.as_slice())
+        same_edges(self.as_slice(), other.as_slice())
     }
 
-    /// Equal edges, or an error where memory ran out.
+    /// Equal edges, which share the list of these. Takes no memory; the error is that 2^63 copies
+    /// are there.
     pub fn try_clone(&self) -> Result<Edges, AllocError>
         ensures { IfOk result (λ copy. copy ≡ self.now) }
     {
         Ok(Edges {
-            items: self.items.clone()?,
+            items: Arc::try_clone(&self.items)?,
         })
+    }
+}
+
+impl fmt::Debug for Edges {
+    fn fmt<W: fmt::Write>(&self, f: &mut fmt::Formatter<W>) -> fmt::Result {
+        f.debug_struct("Edges")
+            .field("items", &self.as_slice())
+            .finish()
     }
 }
 

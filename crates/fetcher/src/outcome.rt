@@ -39,7 +39,8 @@ impl Outcome {
         }
     }
 
-    /// An equal outcome, or an error where memory ran out.
+    /// An equal outcome, which shares the edges and the target of this one. Takes no memory; the error
+    /// is that 2^63 copies are there.
     pub fn try_clone(&self) -> Result<Outcome, AllocError>
         ensures { IfOk result (λ copy. copy ≡ self.now) }
     {

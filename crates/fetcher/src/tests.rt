@@ -13,7 +13,7 @@ fn page(alloc: Global, kinds: &[EdgeKind]) -> Result<Outcome, Fail> {
             kind: *kind,
         })?;
     }
-    Ok(Outcome::Page(200, Edges::new(edges)))
+    Ok(Outcome::Page(200, Edges::new(edges)?))
 }
 
 #[test]

@@ -37,7 +37,7 @@ fn outcome_of(alloc: Global, page: u64, pages: u64) -> Option<Outcome> {
         let kind = EdgeKind::Link;
         edges.push(Edge { target, kind }).ok()?;
     }
-    Some(Outcome::Page(200, Edges::new(edges)))
+    Some(Outcome::Page(200, Edges::new(edges).ok()?))
 }
 
 /// Answers for a page, or gives it up where its number or memory is wanting.

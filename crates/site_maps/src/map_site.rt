@@ -9,27 +9,35 @@ use indexmap::IndexMap;
 use robots_rules::RuleSet;
 use std::alloc::{AllocError, Global};
 use std::marker::Model;
+use std::sync::Arc;
 
 /// The status of an address that a map doesn't name: Not Found (RFC 9110, section 15.5.5).
 const NOT_FOUND: u16 = 404;
 
+// What a map states.
+#[derive(Drop)]
+struct Stated {
+    answers: IndexMap<Address, Outcome>,
+    rules: IndexMap<Origin, KeptRules>,
+}
+
 /// A site in memory, read from a map. It gives each address one outcome, with an empty body, and
-/// each origin one rule set. Contracts see the answers and the rule sets that the map states, and
-/// what was asked.
+/// each origin one rule set. Copies share the map; each has its own asks. Contracts see the answers
+/// and the rule sets that the map states, and what was asked.
 #[derive(Drop)]
 pub struct MapSite {
     alloc: Global,
-    answers: IndexMap<Address, Outcome>,
-    rules: IndexMap<Origin, KeptRules>,
+    stated: Arc<Stated>,
     asks: Vec<Ask>,
 }
 
 impl Model for MapSite {
+    ghost use Rattle.std.specs.Arc.{arc_value};
     ghost use Rattle.site_maps.specs.MapSites.{MapValue};
 
     ghost Value = { MapValue };
 
-    ghost view = { λ m. record { answers = m.answers.entries; rules = m.rules.entries; asks = m.asks.items } };
+    ghost view = { λ m. record { answers = (arc_value m.stated).answers.entries; rules = (arc_value m.stated).rules.entries; asks = m.asks.items } };
 }
 
 impl MapSite {
@@ -71,20 +79,19 @@ impl MapSite {
         } = reading;
         Ok(MapSite {
             alloc,
-            answers,
-            rules,
+            stated: Arc::new(alloc, Stated { answers, rules })?,
             asks: Vec::new(alloc),
         })
     }
 
-    /// An equal site, with the same asks, or an error where memory ran out.
+    /// An equal site, which shares the map of this one, with the same asks, or an error where memory
+    /// ran out.
     pub fn try_clone(&self) -> Result<MapSite, AllocError>
         ensures { IfOk result (λ copy. copy ≡ self.now) }
     {
         Ok(MapSite {
             alloc: self.alloc,
-            answers: self.answers.clone()?,
-            rules: self.rules.clone()?,
+            stated: Arc::try_clone(&self.stated)?,
             asks: self.asks.clone()?,
         })
     }
@@ -105,14 +112,17 @@ impl MapSite {
     fn has_fault(&self) -> bool
         ensures { result ≡ has_fault self.now.answers }
     {
-        self.answers.values().any(|outcome| outcome.is_fault())
+        self.stated
+            .answers
+            .values()
+            .any(|outcome| outcome.is_fault())
     }
 
     // What the map says of an address.
     fn outcome(&self, at: &Address) -> Result<Outcome, AllocError>
         ensures { IfOk result (λ x. x ≡ outcome_in self.now.answers at.now) }
     {
-        match self.answers.get(at) {
+        match self.stated.answers.get(at) {
             Some(outcome) => outcome.try_clone(),
             None => Ok(Outcome::Leaf(NOT_FOUND)),
         }
@@ -122,7 +132,7 @@ impl MapSite {
     fn rule_set(&self, of: &Origin) -> Result<RuleSet, AllocError>
         ensures { IfOk result (λ r. r ≡ rules_at self.now.rules of.now) }
     {
-        match self.rules.get(of) {
+        match self.stated.rules.get(of) {
             Some(kept) => kept.rule_set(),
             None => Ok(RuleSet::all()),
         }

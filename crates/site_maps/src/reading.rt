@@ -68,8 +68,8 @@ impl Reading {
                     status,
                     edges,
                 } = page;
-                self.answers
-                    .insert(address, Outcome::Page(status, Edges::new(edges)))?;
+                let edges = Edges::new(edges)?;
+                self.answers.insert(address, Outcome::Page(status, edges))?;
             }
             Some(Open::Robots(robots)) => {
                 let rules = robots.rules(self.alloc)?;

@@ -17,7 +17,7 @@ returns-in_ok-insert-in-Some-Page c = λ fresh.
     let put = insert_entry-new bytes_eq held page.address (outcome.Page page.status page.edges.items) (fresh.page page (sym was)) in
     record {
       closed = c.take.ensures.after;
-      answers = rw c.new.ensures at c.in_ok-insert-in-Some-Page.ensures.entries ∙ put ∙ ap (λ o. held.entries ++ opened o) was;
+      answers = rw c.in_ok-edges-in-Some-Page.ensures at c.in_ok-insert-in-Some-Page.ensures.entries ∙ put ∙ ap (λ o. held.entries ++ opened o) was;
       rules = sym (append-nil c.args.self.now.rules.entries) ∙ ap (λ o. c.args.self.now.rules.entries ++ opened_rules o) was;
     }
 
