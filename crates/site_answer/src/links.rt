@@ -110,9 +110,9 @@ pub(crate) fn page_edges(
     ensures { IfOk result (λ edges. edges ≡ page_edges robots at.now (scanned scan.now)) }
 {
     if is_silent(robots, scan) {
-        return Ok(Edges::new(Vec::new(alloc)));
+        return Edges::new(Vec::new(alloc));
     }
     let base = named_base(at, &scan.base)?;
     let edges = edges_by(alloc, at, &base, &scan.links)?;
-    Ok(Edges::new(edges))
+    Edges::new(edges)
 }
