@@ -20,15 +20,15 @@ stuck_at p s u held k edge found has adm none = go held.progress (found) (subst 
     go Parked f h = cc
     go Waiting f h = cc
     go (Out holder) f h = cc
-    go (Answered x turn) f h = (x, turn, edge, f, h, adm, none)
+    go (Answered x offering) f h = (x, offering, edge, f, h, adm, none)
     go Refused f h = cc
 
 -- an edge that isn't followed, or whose target is held, doesn't lead out
 pub unstuck : (p : Policy) (s : State) (u : Text) (held : Slot) (k : ℕ) (edge : Edge) → lookup s.entries u ≡ Some held → slice_get (edges_at s u) k ≡ Some edge
     → (admits p edge (held.depth + weight edge.kind) ≡ true → lookup s.entries edge.target ≡ None → ⊥) → (d : ℕ) → IsStuck p s d u k → ⊥
-unstuck p s u held k edge found has inside d (x, turn, other, at, here, adm, none) =
-    let one : Some held ≡ Some (slot d (Answered x turn)) = sym found ∙ at in
-    let same : held ≡ slot d (Answered x turn) = cc in
+unstuck p s u held k edge found has inside d (x, offering, other, at, here, adm, none) =
+    let one : Some held ≡ Some (slot d (Answered x offering)) = sym found ∙ at in
+    let same : held ≡ slot d (Answered x offering) = cc in
     let depth : d ≡ held.depth = ap (λ (z : Slot). z.depth) (sym same) in
     let there : slice_get (edges x) k ≡ Some edge = subst (λ z. slice_get (outcome_edges (slot_outcome z)) k ≡ Some edge) at has in
     let both : Some other ≡ Some edge = sym here ∙ there in
@@ -38,27 +38,27 @@ unstuck p s u held k edge found has inside d (x, turn, other, at, here, adm, non
 
 -- an edge that leads out stands among the edges
 pub stuck_within : (p : Policy) (s : State) (u : Text) (d k : ℕ) → IsStuck p s d u k → k < length (edges_at s u)
-stuck_within p s u d k (x, turn, edge, at, here, adm, none) =
+stuck_within p s u d k (x, offering, edge, at, here, adm, none) =
     subst (λ z. k < length (outcome_edges (slot_outcome z))) (sym at) (slice_get_within (edges x) k edge here)
 
 -- a full table with such an edge is overfull
 pub overfull_at : (p : Policy) (s : State) (u : Text) → p.max_urls ≤ length s.entries → (d k : ℕ) → IsStuck p s d u k → IsOverfull p s
-overfull_at p s u full d k (x, turn, edge, at, here, adm, none) =
-    (full, u, d, x, turn, edge, at, (k, slice_get_within (edges x) k edge here, get_or_from_slice_get (edges x) k edge edge here), adm, none)
+overfull_at p s u full d k (x, offering, edge, at, here, adm, none) =
+    (full, u, d, x, offering, edge, at, (k, slice_get_within (edges x) k edge here, get_or_from_slice_get (edges x) k edge edge here), adm, none)
 
 -- an overfull table has such an edge at an address that stands at a place
 pub stuck_of : (p : Policy) (s : State) → IsOverfull p s → (i : ℕ) × (i < length s.entries) × (d : ℕ) × (k : ℕ) × IsStuck p s d (key_at s.entries i) k
-stuck_of p s (full, u, d, x, turn, edge, held, (k, lt, is), adm, none) =
-    let there = placed s.entries u (slot d (Answered x turn)) held in (
+stuck_of p s (full, u, d, x, offering, edge, held, (k, lt, is), adm, none) =
+    let there = placed s.entries u (slot d (Answered x offering)) held in (
       there.0,
       there.1,
       d,
       k,
       (
         x,
-        turn,
+        offering,
         edge,
-        subst (λ (w : Text). lookup s.entries w ≡ Some (slot d (Answered x turn))) (sym there.3) held,
+        subst (λ (w : Text). lookup s.entries w ≡ Some (slot d (Answered x offering))) (sym there.3) held,
         slice_get-get_or (edges x) k edge lt ∙ ap (λ (e : Edge). Some e) is,
         adm,
         none,

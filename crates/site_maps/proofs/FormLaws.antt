@@ -7,8 +7,8 @@ use Rattle.site_maps.specs.declared.rule_kind.RuleKind.{RuleKind}
 use Rattle.site_maps.specs.declared.rule_kind.RuleKind.TheVariants.{Allow, Disallow}
 use Rattle.site_maps.specs.RuleLines.{rule_word}
 use Rattle.site_maps.specs.Said.{said}
-use Rattle.site_maps.specs.declared.input_fault.LineFault.{LineFault}
-use Rattle.site_maps.specs.declared.input_fault.LineFault.TheVariants.{Line, Address, Memory}
+use Rattle.site_maps.specs.declared.input_fault.InputLineFault.{InputLineFault}
+use Rattle.site_maps.specs.declared.input_fault.InputLineFault.TheVariants.{Line, Address, Memory}
 use Rattle.site_maps.specs.declared.reading.Reading.{Reading}
 use Rattle.site_maps.specs.Readings.{Takes, Reads}
 use Rattle.fetcher.specs.declared.edge.EdgeKind.TheVariants.{Link, Inline, Redirect}
@@ -71,7 +71,7 @@ no_rule line a d Allow rest h = a rest h
 no_rule line a d Disallow rest h = d rest h
 
 -- a line that is taken, or refused, as what it says
-pub reads_line : {U : Type 0} (old new : Reading) (r : Result U LineFault) (line : List ℕ) (s : Statement) → HasForm line s → Takes old s r new
+pub reads_line : {U : Type 0} (old new : Reading) (r : Result U InputLineFault) (line : List ℕ) (s : Statement) → HasForm line s → Takes old s r new
     → Reads old line r new
 reads_line old new (Ok u) line s form takes above t = let h = takes above t in (s, form, h.0, h.1)
 reads_line old new (Err Line) line s form takes above t = inr (s, form, takes above t)

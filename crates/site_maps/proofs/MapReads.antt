@@ -5,8 +5,8 @@ use Rattle.std.proofs.lemmas.List.{take-append-le, get_or_push, get_or_append_le
 use Rattle.std.proofs.Math.Seq.{take-append_seam}
 use Rattle.std.proofs.lemmas.Bool.{cases_lt}
 use Rattle.std.proofs.lemmas.Option.{slice_get_within, get_or_from_slice_get, slice_get-get_or}
-use Rattle.site_maps.specs.declared.input_fault.LineFault.{LineFault}
-use Rattle.site_maps.specs.declared.input_fault.LineFault.TheVariants.{Line, Address, Memory}
+use Rattle.site_maps.specs.declared.input_fault.InputLineFault.{InputLineFault}
+use Rattle.site_maps.specs.declared.input_fault.InputLineFault.TheVariants.{Line, Address, Memory}
 use Rattle.site_maps.specs.Faults.{numbered}
 use Rattle.site_maps.specs.Lines.{Statement, HasForm}
 use Rattle.site_maps.specs.Maps.{lines_of, IsGood, IsMap, IsFault}
@@ -48,7 +48,7 @@ map_push lines said line s m form good = record {
 }
 
 -- a line that is bad below the lines before it is the first bad one
-pub first_bad : (text : List ℕ) (k : ℕ) (line : List ℕ) (above : List Statement) (f : LineFault) → slice_get (lines_of text) k ≡ Some line
+pub first_bad : (text : List ℕ) (k : ℕ) (line : List ℕ) (above : List Statement) (f : InputLineFault) → slice_get (lines_of text) k ≡ Some line
     → IsMap (take k (lines_of text)) above → IsBad above line f → IsFault text (numbered f (k + 1))
 first_bad text k line above Line at m bad = (k, refl, line, at, above, m, bad)
 first_bad text k line above Address at m bad = (k, refl, line, at, above, m, bad)

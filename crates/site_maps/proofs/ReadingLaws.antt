@@ -16,8 +16,8 @@ use Rattle.fetcher.specs.declared.fault_kind.FaultKind.{FaultKind}
 use Rattle.site_maps.specs.declared.rule_kind.RuleKind.{RuleKind}
 use Rattle.fetcher.specs.declared.outcome.Outcome.{Outcome}
 use Rattle.fetcher.specs.declared.outcome.Outcome.TheVariants as outcome
-use Rattle.site_maps.specs.declared.input_fault.LineFault.{LineFault}
-use Rattle.site_maps.specs.declared.input_fault.LineFault.TheVariants.{Line, Address, Memory}
+use Rattle.site_maps.specs.declared.input_fault.InputLineFault.{InputLineFault}
+use Rattle.site_maps.specs.declared.input_fault.InputLineFault.TheVariants.{Line, Address, Memory}
 use Rattle.site_maps.specs.declared.open_robots.OpenRobots.{OpenRobots}
 use Rattle.site_maps.specs.declared.reading.OpenPage.{OpenPage}
 use Rattle.site_maps.specs.declared.reading.Open.{Open}
@@ -336,13 +336,13 @@ pub fresh_of : (r : Reading) (above : List Statement) → Tells r above → IsFr
 fresh_of r above t = record { page = t.answers.fresh; origin = t.rules.fresh }
 
 -- an address of the line is refused, or memory ran out
-pub unnamed : (above : List Statement) (s : Statement) (text : List ℕ) (f : LineFault) → IsInPlace above s → (All IsNamed (texts_of s) → IsNamed text)
+pub unnamed : (above : List Statement) (s : Statement) (text : List ℕ) (f : InputLineFault) → IsInPlace above s → (All IsNamed (texts_of s) → IsNamed text)
     → (f ≡ Memory) ⊎ ((f ≡ Address) × ¬ IsNamed text) → IsWrong above s f
 unnamed above s text f place all (inl e) = rw e place
 unnamed above s text f place all (inr h) = rw h.0 (place, λ each. h.1 (all each))
 
 -- the same of a line with an origin, whose address may also have a path
-pub unrooted : (above : List Statement) (s : Statement) (text : List ℕ) (f : LineFault) → IsInPlace above s → texts_of s ≡ text ∷ [] → (IsAtRoot s → path_query_of (named text) ≡ codes "/")
+pub unrooted : (above : List Statement) (s : Statement) (text : List ℕ) (f : InputLineFault) → IsInPlace above s → texts_of s ≡ text ∷ [] → (IsAtRoot s → path_query_of (named text) ≡ codes "/")
     → (f ≡ Memory) ⊎ ((f ≡ Address) × ¬ IsNamed text) ⊎ ((f ≡ Line) × IsNamed text × (path_query_of (named text) ≢ codes "/")) → IsWrong above s f
 unrooted above s text f place texts root (inl e) = rw e place
 unrooted above s text f place texts root (inr (inl h)) = rw h.0 (place, λ each. h.1 (All-head IsNamed text [] (rw texts at each)))
@@ -350,13 +350,13 @@ unrooted above s text f place texts root (inr (inr h)) =
     rw h.0 (inr (place, rw texts (All-cons IsNamed text [] h.1 (All-nil IsNamed)), inl (λ k. h.2 (root k))))
 
 -- the line's address has an answer, or memory ran out
-pub claimed : (above : List Statement) (s : Statement) (address : List ℕ) (x : Outcome) (f : LineFault) → IsInPlace above s → All IsNamed (texts_of s)
+pub claimed : (above : List Statement) (s : Statement) (address : List ℕ) (x : Outcome) (f : InputLineFault) → IsInPlace above s → All IsNamed (texts_of s)
     → answers_of (s ∷ []) ≡ (address, x) ∷ [] → IsTaken (answers_of above) address f → IsWrong above s f
 claimed above s address x f place all shape (inl e) = rw e place
 claimed above s address x f place all shape (inr h) = rw h.0 (inr (place, all, inr (inl (address, rw shape (finds_own address x), h.1))))
 
 -- the line's origin has rules, or memory ran out
-pub claimed_origin : (above : List Statement) (s : Statement) (origin : List ℕ) (r : RuleSetValue) (f : LineFault) → IsInPlace above s → All IsNamed (texts_of s)
+pub claimed_origin : (above : List Statement) (s : Statement) (origin : List ℕ) (r : RuleSetValue) (f : InputLineFault) → IsInPlace above s → All IsNamed (texts_of s)
     → rules_of (s ∷ []) ≡ (origin, r) ∷ [] → IsTaken (rules_of above) origin f → IsWrong above s f
 claimed_origin above s origin r f place all shape (inl e) = rw e place
 claimed_origin above s origin r f place all shape (inr h) = rw h.0 (inr (place, all, inr (inr (origin, rw shape (finds_own origin r), h.1))))
@@ -372,7 +372,7 @@ no_origin : (r : Reading) → r.open ≡ None → (p : OpenRobots) → r.open �
 no_origin r none p e = let k = sym none ∙ e in cc
 
 -- a moved, leaf or fault line is taken where its answer is kept
-pub takes_answer : {U : Type 0} (old new : Reading) (r : Result U LineFault) (s : Statement) (address : List ℕ) (x : Outcome)
+pub takes_answer : {U : Type 0} (old new : Reading) (r : Result U InputLineFault) (s : Statement) (address : List ℕ) (x : Outcome)
     → is_answer s ≡ true → answers_of (s ∷ []) ≡ (address, x) ∷ [] → All IsNamed (texts_of s)
     → Adds old address x r new
     → Takes old s r new
@@ -389,7 +389,7 @@ takes_answer old new (Err f) s address x kind shape all h = λ above t.
     claimed above s address x f ((answers_alone s kind).in_place above) all shape (rw t.answers.stated (h (fresh_of old above t)))
 
 -- a moved line
-pub takes_moved : {U : Type 0} (old new : Reading) (r : Result U LineFault) (status : ℕ) (text target address to : List ℕ)
+pub takes_moved : {U : Type 0} (old new : Reading) (r : Result U InputLineFault) (status : ℕ) (text target address to : List ℕ)
     → read_address text ≡ Ok address → read_address target ≡ Ok to
     → Adds old address (outcome.Moved status to) r new
     → Takes old (moved status text target) r new
@@ -402,7 +402,7 @@ takes_moved old new r status text target address to reads leads h =
     (All-cons IsNamed text (target ∷ []) a.0 (All-cons IsNamed target [] b.0 (All-nil IsNamed))) h
 
 -- a leaf line
-pub takes_leaf : {U : Type 0} (old new : Reading) (r : Result U LineFault) (status : ℕ) (text address : List ℕ)
+pub takes_leaf : {U : Type 0} (old new : Reading) (r : Result U InputLineFault) (status : ℕ) (text address : List ℕ)
     → read_address text ≡ Ok address
     → Adds old address (outcome.Leaf status) r new
     → Takes old (leaf status text) r new
@@ -413,7 +413,7 @@ takes_leaf old new r status text address reads h =
     takes_answer old new r (leaf status text) address (outcome.Leaf status) refl shape (All-cons IsNamed text [] a.0 (All-nil IsNamed)) h
 
 -- a fault line
-pub takes_fault : {U : Type 0} (old new : Reading) (r : Result U LineFault) (kind : FaultKind) (text address : List ℕ)
+pub takes_fault : {U : Type 0} (old new : Reading) (r : Result U InputLineFault) (kind : FaultKind) (text address : List ℕ)
     → read_address text ≡ Ok address
     → Adds old address (outcome.Fault kind) r new
     → Takes old (fault kind text) r new
@@ -449,7 +449,7 @@ takes_page old shut new above status text p t closes reads none same bare is ans
     )
 
 -- a page line whose address has an answer
-pub page_claimed : (r : Reading) (above : List Statement) (status : ℕ) (text address : List ℕ) (f : LineFault) → Tells r above → read_address text ≡ Ok address
+pub page_claimed : (r : Reading) (above : List Statement) (status : ℕ) (text address : List ℕ) (f : InputLineFault) → Tells r above → read_address text ≡ Ok address
     → IsTaken (answers_in r) address f → IsWrong above (page status text) f
 page_claimed r above status text address f t reads h =
     let a = names text address reads in
@@ -499,7 +499,7 @@ good_origin above s text origin r a named none = record {
 }
 
 -- a robots line whose origin has rules
-pub origin_claimed : (old : Reading) (above : List Statement) (s : Statement) (text origin : List ℕ) (r : RuleSetValue) (f : LineFault) → Tells old above → StatesRules s text origin r
+pub origin_claimed : (old : Reading) (above : List Statement) (s : Statement) (text origin : List ℕ) (r : RuleSetValue) (f : InputLineFault) → Tells old above → StatesRules s text origin r
     → IsNamed text → IsTaken (all_rules old) origin f → IsWrong above s f
 origin_claimed old above s text origin r f t a named h =
     claimed_origin above s origin r f (a.place above) (rw a.texts (All-cons IsNamed text [] named (All-nil IsNamed))) a.rules (rw t.rules.stated h)

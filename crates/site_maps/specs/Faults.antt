@@ -5,17 +5,17 @@ use Rattle.address.specs.declared.fault.AddressFault.{AddressFault}
 use Rattle.address.specs.declared.fault.AddressFault.TheVariants as refusal
 use Rattle.site_maps.specs.declared.input_fault.InputFault.{InputFault}
 use Rattle.site_maps.specs.declared.input_fault.InputFault.TheVariants as input
-use Rattle.site_maps.specs.declared.input_fault.LineFault.{LineFault}
-use Rattle.site_maps.specs.declared.input_fault.LineFault.TheVariants.{Line, Address, Memory}
+use Rattle.site_maps.specs.declared.input_fault.InputLineFault.{InputLineFault}
+use Rattle.site_maps.specs.declared.input_fault.InputLineFault.TheVariants.{Line, Address, Memory}
 
 -- the fault of the line of this number
-abbrev pub numbered : LineFault → ℕ → InputFault
+abbrev pub numbered : InputLineFault → ℕ → InputFault
 numbered Line number = input.Line number
 numbered Address number = input.Address number
 numbered Memory number = input.Memory
 
 -- what is wrong with the line of a refused address: want of memory is Memory
-abbrev pub wrong_of : AddressFault → LineFault
+abbrev pub wrong_of : AddressFault → InputLineFault
 wrong_of refusal.Memory = Memory
 wrong_of _ = Address
 

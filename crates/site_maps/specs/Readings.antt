@@ -7,8 +7,8 @@ use Rattle.robots_rules.specs.Access.{RuleSetValue}
 use Rattle.robots_rules.specs.Groups.{rules_in}
 use Rattle.fetcher.specs.declared.outcome.Outcome.{Outcome}
 use Rattle.fetcher.specs.declared.outcome.Outcome.TheVariants as outcome
-use Rattle.site_maps.specs.declared.input_fault.LineFault.{LineFault}
-use Rattle.site_maps.specs.declared.input_fault.LineFault.TheVariants.{Line, Address, Memory}
+use Rattle.site_maps.specs.declared.input_fault.InputLineFault.{InputLineFault}
+use Rattle.site_maps.specs.declared.input_fault.InputLineFault.TheVariants.{Line, Address, Memory}
 use Rattle.site_maps.specs.declared.open_robots.OpenRobots.{OpenRobots}
 use Rattle.site_maps.specs.declared.reading.OpenPage.{OpenPage}
 use Rattle.site_maps.specs.declared.reading.Open.{Open}
@@ -93,24 +93,24 @@ pub record Tells (r : Reading) (above : List Statement) : Type 0 where
 -- ---- one line more
 
 -- what is wrong with a line below these
-abbrev pub IsWrong : List Statement → Statement → LineFault → Type 0
+abbrev pub IsWrong : List Statement → Statement → InputLineFault → Type 0
 IsWrong above s Line =
     ¬ IsInPlace above s ⊎ (IsInPlace above s × All IsNamed (texts_of s) × (¬ IsAtRoot s ⊎ IsRepeated above s))
 IsWrong above s Address = IsInPlace above s × ¬ All IsNamed (texts_of s)
 IsWrong above s Memory = IsInPlace above s
 
 -- the text is read as this address, or is refused
-abbrev pub Names : List ℕ → Result (List ℕ) LineFault → Type 0
+abbrev pub Names : List ℕ → Result (List ℕ) InputLineFault → Type 0
 Names text result =
     MatchResult result (λ address. read_address text ≡ Ok address) (λ f. (f ≡ Memory) ⊎ ((f ≡ Address) × ¬ IsNamed text))
 
 -- the address is its origin's `/`, or the line is bad
-abbrev pub IsRoot : {U : Type 0} → List ℕ → Result U LineFault → Type 0
+abbrev pub IsRoot : {U : Type 0} → List ℕ → Result U InputLineFault → Type 0
 IsRoot address result =
     MatchResult result (λ _. path_query_of address ≡ codes "/") (λ f. (f ≡ Line) × (path_query_of address ≢ codes "/"))
 
 -- the text is read as the address of this origin's `/`, or is refused
-abbrev pub NamesOrigin : List ℕ → Result (List ℕ) LineFault → Type 0
+abbrev pub NamesOrigin : List ℕ → Result (List ℕ) InputLineFault → Type 0
 NamesOrigin text result =
     MatchResult result
     (λ origin. IsNamed text × (path_query_of (named text) ≡ codes "/") × (origin_of (named text) ≡ origin))
@@ -123,22 +123,22 @@ pub record Closes (old new : Reading) : Type 0 where
   pub rules : new.rules.entries ≡ all_rules old
 
 -- the key has no entry, or the line is bad
-abbrev pub IsVacant : {U V : Type 0} → List (List ℕ × V) → List ℕ → Result U LineFault → Type 0
+abbrev pub IsVacant : {U V : Type 0} → List (List ℕ × V) → List ℕ → Result U InputLineFault → Type 0
 IsVacant entries key result =
     MatchResult result (λ _. lookup (bytes_eq key) entries ≡ None) (λ f. (f ≡ Line) × IsSome (lookup (bytes_eq key) entries))
 
 -- memory ran out, or the key has an entry already
-abbrev pub IsTaken : {V : Type 0} → List (List ℕ × V) → List ℕ → LineFault → Type 0
+abbrev pub IsTaken : {V : Type 0} → List (List ℕ × V) → List ℕ → InputLineFault → Type 0
 IsTaken entries key f = (f ≡ Memory) ⊎ ((f ≡ Line) × IsSome (lookup (bytes_eq key) entries))
 
 -- what is open is closed, and no answer is stated for the address
-abbrev pub Claims : {U : Type 0} → Reading → List ℕ → Result U LineFault → Reading → Type 0
+abbrev pub Claims : {U : Type 0} → Reading → List ℕ → Result U InputLineFault → Reading → Type 0
 Claims old at result new =
     IsFresh old
     → MatchResult result (λ _. Closes old new × (lookup (bytes_eq at) (answers_in old) ≡ None)) (IsTaken (answers_in old) at)
 
 -- what is open is closed, and no rules are stated for the origin
-abbrev pub ClaimsOrigin : {U : Type 0} → Reading → List ℕ → Result U LineFault → Reading → Type 0
+abbrev pub ClaimsOrigin : {U : Type 0} → Reading → List ℕ → Result U InputLineFault → Reading → Type 0
 ClaimsOrigin old of result new =
     IsFresh old
     → MatchResult result (λ _. Closes old new × (lookup (bytes_eq of) (all_rules old) ≡ None)) (IsTaken (all_rules old) of)
@@ -151,12 +151,12 @@ pub record AddsAnswer (old : Reading) (at : List ℕ) (x : Outcome) (new : Readi
   pub none : lookup (bytes_eq at) (answers_in old) ≡ None
 
 -- the outcome is stated for the address, unless one is already
-abbrev pub Adds : {U : Type 0} → Reading → List ℕ → Outcome → Result U LineFault → Reading → Type 0
+abbrev pub Adds : {U : Type 0} → Reading → List ℕ → Outcome → Result U InputLineFault → Reading → Type 0
 Adds old at x result new =
     IsFresh old → MatchResult result (λ _. AddsAnswer old at x new) (IsTaken (answers_in old) at)
 
 -- the line is taken below the lines so far, or is refused for what is wrong with it
-abbrev pub Takes : {U : Type 0} → Reading → Statement → Result U LineFault → Reading → Type 0
+abbrev pub Takes : {U : Type 0} → Reading → Statement → Result U InputLineFault → Reading → Type 0
 Takes old s result new =
     (above : List Statement) → Tells old above
     → MatchResult result (λ _. IsGood above s × Tells new (above ++ s ∷ [])) (λ f. IsWrong above s f)
@@ -164,13 +164,13 @@ Takes old s result new =
 -- ---- one line more, as bytes
 
 -- what is wrong with the bytes of a line below these
-abbrev pub IsBad : List Statement → List ℕ → LineFault → Type 0
+abbrev pub IsBad : List Statement → List ℕ → InputLineFault → Type 0
 IsBad above line Line = IsBadLine above line
 IsBad above line Address = IsBadAddress above line
 IsBad above line Memory = IsPlaced above line
 
 -- the bytes are a line that is taken below the lines so far, or are refused for what is wrong with them
-abbrev pub Reads : {U : Type 0} → Reading → List ℕ → Result U LineFault → Reading → Type 0
+abbrev pub Reads : {U : Type 0} → Reading → List ℕ → Result U InputLineFault → Reading → Type 0
 Reads old line result new =
     (above : List Statement) → Tells old above
     → MatchResult result (λ _. (s : Statement) × HasForm line s × IsGood above s × Tells new (above ++ s ∷ [])) (λ f. IsBad above line f)

@@ -46,7 +46,7 @@ impl From<AllocError> for InputFault {
 
 /// What is wrong with a line.
 #[derive(Clone, Copy, Debug, PartialEq, Eq)]
-pub enum LineFault {
+pub enum InputLineFault {
     /// It isn't UTF-8, has no form, is out of place, or states something once more.
     Line,
     /// One of its addresses is refused.
@@ -55,7 +55,7 @@ pub enum LineFault {
     Memory,
 }
 
-impl LineFault {
+impl InputLineFault {
     ghost use Rattle.std.specs.Prelude.{◌≡◌};
     ghost use Rattle.site_maps.specs.Faults.{numbered};
 
@@ -64,45 +64,45 @@ impl LineFault {
         ensures { result ≡ numbered self number }
     {
         match self {
-            LineFault::Line => InputFault::Line(number),
-            LineFault::Address => InputFault::Address(number),
-            LineFault::Memory => InputFault::Memory,
+            InputLineFault::Line => InputFault::Line(number),
+            InputLineFault::Address => InputFault::Address(number),
+            InputLineFault::Memory => InputFault::Memory,
         }
     }
 }
 
-impl From<AddressFault> for LineFault {
+impl From<AddressFault> for InputLineFault {
     ghost use Rattle.std.specs.Prelude.{◌≡◌};
     ghost use Rattle.site_maps.specs.Faults.{wrong_of};
 
     ghost from_gives = { λ refusal fault. fault ≡ wrong_of refusal };
 
-    fn from(refusal: AddressFault) -> LineFault {
+    fn from(refusal: AddressFault) -> InputLineFault {
         match refusal {
-            AddressFault::Memory => LineFault::Memory,
-            _ => LineFault::Address,
+            AddressFault::Memory => InputLineFault::Memory,
+            _ => InputLineFault::Address,
         }
     }
 }
 
-impl<T: Drop> From<AllocFailed<T>> for LineFault {
+impl<T: Drop> From<AllocFailed<T>> for InputLineFault {
     ghost use Rattle.std.specs.Prelude.{◌≡◌};
-    ghost use Rattle.site_maps.specs.declared.input_fault.LineFault.TheVariants.{Memory};
+    ghost use Rattle.site_maps.specs.declared.input_fault.InputLineFault.TheVariants.{Memory};
 
     ghost from_gives = { λ _ fault. fault ≡ Memory };
 
-    fn from(_error: AllocFailed<T>) -> LineFault {
-        LineFault::Memory
+    fn from(_error: AllocFailed<T>) -> InputLineFault {
+        InputLineFault::Memory
     }
 }
 
-impl From<AllocError> for LineFault {
+impl From<AllocError> for InputLineFault {
     ghost use Rattle.std.specs.Prelude.{◌≡◌};
-    ghost use Rattle.site_maps.specs.declared.input_fault.LineFault.TheVariants.{Memory};
+    ghost use Rattle.site_maps.specs.declared.input_fault.InputLineFault.TheVariants.{Memory};
 
     ghost from_gives = { λ _ fault. fault ≡ Memory };
 
-    fn from(_error: AllocError) -> LineFault {
-        LineFault::Memory
+    fn from(_error: AllocError) -> InputLineFault {
+        InputLineFault::Memory
     }
 }

@@ -15,7 +15,7 @@ mod rule_kind;
 mod steady_map;
 
 pub use field::first_field;
-pub use input_fault::{InputFault, LineFault};
+pub use input_fault::{InputFault, InputLineFault};
 pub use kept_rules::KeptRules;
 pub use map_site::MapSite;
 pub use naming::{read_address, read_origin};

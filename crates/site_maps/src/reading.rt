@@ -4,7 +4,7 @@ ghost use Rattle.site_maps.specs.Lines.{page, edge, moved, leaf, fault, robots, 
 ghost use Rattle.site_maps.specs.Said.{said};
 ghost use Rattle.site_maps.specs.Readings.{IsFresh, IsVacant, Tells, Closes, Claims, ClaimsOrigin, Adds, Takes, Reads};
 
-use crate::input_fault::LineFault;
+use crate::input_fault::InputLineFault;
 use crate::kept_rules::KeptRules;
 use crate::map_line::MapLine;
 use crate::naming::{read_address, read_origin};
@@ -82,7 +82,7 @@ impl Reading {
     }
 
     // Closes what is open, and refuses an address for which an answer is stated.
-    fn claim(&mut self, address: &Address) -> Result<(), LineFault>
+    fn claim(&mut self, address: &Address) -> Result<(), InputLineFault>
         ensures { Claims self.old address.now result self.new }
     {
         self.close()?;
@@ -90,17 +90,17 @@ impl Reading {
     }
 
     // Refuses an address for which an answer is kept. Takes no memory.
-    fn unstated(&self, address: &Address) -> Result<(), LineFault>
+    fn unstated(&self, address: &Address) -> Result<(), InputLineFault>
         ensures { IsVacant self.now.answers.entries address.now result }
     {
         if self.answers.contains_key(address) {
-            return Err(LineFault::Line);
+            return Err(InputLineFault::Line);
         }
         Ok(())
     }
 
     // Closes what is open, and refuses an origin for which rules are stated.
-    fn claim_origin(&mut self, origin: &Origin) -> Result<(), LineFault>
+    fn claim_origin(&mut self, origin: &Origin) -> Result<(), InputLineFault>
         ensures { ClaimsOrigin self.old origin.now result self.new }
     {
         self.close()?;
@@ -108,17 +108,17 @@ impl Reading {
     }
 
     // Refuses an origin for which rules are kept. Takes no memory.
-    fn unruled(&self, origin: &Origin) -> Result<(), LineFault>
+    fn unruled(&self, origin: &Origin) -> Result<(), InputLineFault>
         ensures { IsVacant self.now.rules.entries origin.now result }
     {
         if self.rules.contains_key(origin) {
-            return Err(LineFault::Line);
+            return Err(InputLineFault::Line);
         }
         Ok(())
     }
 
     // Keeps an answer for an address for which none is stated.
-    fn add_answer(&mut self, address: Address, outcome: Outcome) -> Result<(), LineFault>
+    fn add_answer(&mut self, address: Address, outcome: Outcome) -> Result<(), InputLineFault>
         ensures { Adds self.old address outcome result self.new }
     {
         self.claim(&address)?;
@@ -127,7 +127,7 @@ impl Reading {
     }
 
     // Takes a page line.
-    fn add_page(&mut self, status: u16, text: &str) -> Result<(), LineFault>
+    fn add_page(&mut self, status: u16, text: &str) -> Result<(), InputLineFault>
         ensures { Takes self.old (page status text.now) result self.new }
     {
         let address = read_address(self.alloc, text)?;
@@ -141,7 +141,7 @@ impl Reading {
     }
 
     // Takes an edge line.
-    fn add_edge(&mut self, kind: EdgeKind, text: &str) -> Result<(), LineFault>
+    fn add_edge(&mut self, kind: EdgeKind, text: &str) -> Result<(), InputLineFault>
         ensures { Takes self.old (edge kind text.now) result self.new }
     {
         match &mut self.open {
@@ -150,12 +150,12 @@ impl Reading {
                 above.edges.push(Edge { target, kind })?;
                 Ok(())
             }
-            _ => Err(LineFault::Line),
+            _ => Err(InputLineFault::Line),
         }
     }
 
     // Takes a moved line.
-    fn add_moved(&mut self, status: u16, text: &str, target: &str) -> Result<(), LineFault>
+    fn add_moved(&mut self, status: u16, text: &str, target: &str) -> Result<(), InputLineFault>
         ensures { Takes self.old (moved status text.now target.now) result self.new }
     {
         let address = read_address(self.alloc, text)?;
@@ -164,7 +164,7 @@ impl Reading {
     }
 
     // Takes a leaf line.
-    fn add_leaf(&mut self, status: u16, text: &str) -> Result<(), LineFault>
+    fn add_leaf(&mut self, status: u16, text: &str) -> Result<(), InputLineFault>
         ensures { Takes self.old (leaf status text.now) result self.new }
     {
         let address = read_address(self.alloc, text)?;
@@ -172,7 +172,7 @@ impl Reading {
     }
 
     // Takes a fault line.
-    fn add_fault(&mut self, kind: FaultKind, text: &str) -> Result<(), LineFault>
+    fn add_fault(&mut self, kind: FaultKind, text: &str) -> Result<(), InputLineFault>
         ensures { Takes self.old (fault kind text.now) result self.new }
     {
         let address = read_address(self.alloc, text)?;
@@ -180,7 +180,7 @@ impl Reading {
     }
 
     // Takes a robots line whose rules follow.
-    fn add_robots(&mut self, text: &str) -> Result<(), LineFault>
+    fn add_robots(&mut self, text: &str) -> Result<(), InputLineFault>
         ensures { Takes self.old (robots text.now) result self.new }
     {
         let origin = read_origin(self.alloc, text)?;
@@ -191,7 +191,7 @@ impl Reading {
     }
 
     // Takes a robots line of an origin where nothing is allowed.
-    fn add_closed(&mut self, text: &str) -> Result<(), LineFault>
+    fn add_closed(&mut self, text: &str) -> Result<(), InputLineFault>
         ensures { Takes self.old (closed text.now) result self.new }
     {
         let origin = read_origin(self.alloc, text)?;
@@ -202,17 +202,17 @@ impl Reading {
     }
 
     // Takes a rule line.
-    fn add_rule(&mut self, kind: RuleKind, rest: &str) -> Result<(), LineFault>
+    fn add_rule(&mut self, kind: RuleKind, rest: &str) -> Result<(), InputLineFault>
         ensures { Takes self.old (rule kind rest.now) result self.new }
     {
         match &mut self.open {
             Some(Open::Robots(robots)) => Ok(robots.add(kind, rest)?),
-            _ => Err(LineFault::Line),
+            _ => Err(InputLineFault::Line),
         }
     }
 
     // Takes what a line says.
-    fn add(&mut self, line: MapLine<'_>) -> Result<(), LineFault>
+    fn add(&mut self, line: MapLine<'_>) -> Result<(), InputLineFault>
         ensures { Takes self.old (said line.entry) result self.new }
     {
         match line {
@@ -229,14 +229,14 @@ impl Reading {
     }
 
     /// Takes one more line. An error says what is wrong with it; then nothing more may be read.
-    pub(crate) fn read_line(&mut self, line: &[u8]) -> Result<(), LineFault>
+    pub(crate) fn read_line(&mut self, line: &[u8]) -> Result<(), InputLineFault>
         ensures { Reads self.old line.now result self.new }
     {
         let Ok(text) = str::from_utf8(line) else {
-            return Err(LineFault::Line);
+            return Err(InputLineFault::Line);
         };
         let Some(line) = MapLine::of(text) else {
-            return Err(LineFault::Line);
+            return Err(InputLineFault::Line);
         };
         self.add(line)
     }
