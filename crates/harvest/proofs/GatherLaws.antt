@@ -8,7 +8,7 @@ use Rattle.std.specs.List.Sorted.{IsPermutation}
 use Rattle.follow_filters.specs.declared.plan.Plan.{Plan}
 use Rattle.frontier_core.specs.Routes.{Answers}
 use Rattle.harvest.specs.declared.page.KeptPage.{KeptPage}
-use Rattle.harvest.specs.Order.{IsAscending}
+use Rattle.address.specs.AddressOrder.{IsAscending}
 use Rattle.harvest.specs.Pages.{IsKept}
 use Rattle.robots_rules.specs.Access.{RuleSetValue}
 use Rattle.fetcher.specs.declared.outcome.Outcome.{Outcome}

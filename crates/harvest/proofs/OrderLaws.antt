@@ -1,19 +1,13 @@
--- Lists in the order of their names, of which none stands twice.
-use Rattle.std.proofs.Common.{◌≡◌, ◌≢◌, ℕ, ◌<◌, inl, inr, true, false, List, [], ◌∷◌, length, get_or, map, zero, suc, arith, sym, ◌∙◌, ap, refl}
+-- Lists of named things of which no two have one name.
+use Rattle.std.proofs.Common.{◌≡◌, ◌≢◌, ℕ, ◌<◌, inl, inr, List, [], ◌∷◌, length, get_or, map, zero, suc, arith, sym, ◌∙◌, ap, refl}
 use Rattle.std.specs.Prelude.{Contains}
-use Rattle.std.proofs.lemmas.Bool.{cases_eq, false≢true}
+use Rattle.std.proofs.lemmas.Bool.{cases_eq}
 use Rattle.std.proofs.lemmas.List.{length-map, get_or-map}
 use Rattle.std.proofs.lemmas.List.Edits.{swapped_from_swap, length-swap}
-use Rattle.std.proofs.lemmas.List.Sorted.{ranks_by, sorted_far, IsPermutation-keeps}
-use Rattle.std.proofs.lemmas.Map.Lookups.{exact_bytes}
-use Rattle.std.specs.declared.cmp.Ordering.{Ordering}
-use Rattle.std.specs.declared.cmp.Ordering.TheVariants.{Less, Equal, Greater}
-use Rattle.std.specs.Cmp.Lexicographic.{slice_cmp, nat_list_cmp_total}
+use Rattle.std.proofs.lemmas.List.Sorted.{IsPermutation-keeps}
 use Rattle.std.specs.List.{swap}
-use Rattle.std.specs.List.Sorted.{IsPermutation, IsSortedBy}
-use Rattle.std.specs.Ordering.{nat_cmp, is_lt, ordering_reverse}
+use Rattle.std.specs.List.Sorted.{IsPermutation}
 use Rattle.frontier_core.specs.Tables.{IsOnce}
-use Rattle.harvest.specs.Order.{IsAscending}
 
 -- where the element at k of ys stands in xs: at the other of two places that were swapped, or at k
 data Place {X : Type 0} (xs ys : List X) (i j : ℕ) (d : X) (k : ℕ) : Type 0 where
@@ -56,11 +50,6 @@ module _ {X K : Type 0} (key : X → K) where
   pub Apart-IsPermutation : (xs ys : List X) → IsPermutation xs ys → Apart xs → Apart ys
   Apart-IsPermutation xs ys moved apart = IsPermutation-keeps xs Apart apart (λ l i j li lj h. apart-swap l i j li lj h) ys moved
 
-is_before : (o : Ordering) (r : Ordering) → r ≡ ordering_reverse o → is_lt o ≡ false → (o ≡ Equal → ⊥) → is_lt r ≡ true
-is_before Less r e h ne = absurd (false≢true (sym h))
-is_before Equal r e h ne = absurd (ne refl)
-is_before Greater r e h ne = ap is_lt e
-
 module _ {X : Type 0} (key : X → List ℕ) where
   -- a name that stands at a place is among the names
   named_at : (xs : List X) (k : ℕ) (d : X) → k < length xs → Contains (map key xs) (key (get_or xs k d))
@@ -75,16 +64,3 @@ module _ {X : Type 0} (key : X → List ℕ) where
   Apart-from_once (x ∷ xs) once (suc a) zero d la lb same =
       absurd (once.0 (a, omega (arith, length-map xs key), get_or-map key xs a d (key x) (omega arith) ∙ same))
   Apart-from_once (x ∷ xs) once (suc a) (suc b) d la lb same = ap suc (Apart-from_once xs once.1 a b d (omega arith) (omega arith) same)
-
-  -- sorted by their names, things of which no two are named alike ascend
-  pub ascending : (xs : List X) → IsSortedBy (λ x y. is_lt (slice_cmp nat_cmp (key x) (key y))) xs → Apart key xs → IsAscending (map key xs)
-  ascending [] up apart i j e lt lj = absurd (omega arith)
-  ascending (x ∷ xs) up apart i j e lt lj =
-      let all = x ∷ xs in
-      let long : length (map key all) ≡ length all = length-map all key in
-      let at_i = get_or-map key all i x e (omega arith) in
-      let at_j = get_or-map key all j x e (omega arith) in
-      rw (at_i, at_j) (is_before (slice_cmp nat_cmp (key (get_or all j x)) (key (get_or all i x))) _
-      (nat_list_cmp_total.antisymm (key (get_or all i x)) (key (get_or all j x)))
-      (sorted_far _ (ranks_by nat_list_cmp_total key) all up i j x (omega arith) (omega arith))
-      (λ q. absurd (omega (arith, apart j i x (omega arith) (omega arith) (exact_bytes _ _ q)))))

@@ -1,7 +1,7 @@
 -- Where an address stands among records in address order.
-use Rattle.std.proofs.Common.{◌≡◌, ℕ, ◌+◌, ◌<◌, inl, inr, true, false, List, length, get_or, Some, Result, Ok, Err, arith, sym, ◌∙◌, ap}
+use Rattle.std.proofs.Common.{◌≡◌, ℕ, ◌+◌, ◌<◌, inl, inr, List, length, get_or, Some, Result, Ok, Err, arith, sym, ◌∙◌, ap}
 use Rattle.std.specs.Result.{result_ok}
-use Rattle.std.proofs.lemmas.Bool.{false≢true, cases_lt}
+use Rattle.std.proofs.lemmas.Bool.{cases_lt}
 use Rattle.std.proofs.lemmas.List.{length-map, get_or-map}
 use Rattle.std.proofs.lemmas.List.Sorted.{searchable_from_sorted}
 use Rattle.std.proofs.lemmas.Map.Lookups.{exact_bytes}
@@ -9,13 +9,14 @@ use Rattle.std.specs.declared.cmp.Ordering.{Ordering}
 use Rattle.std.specs.declared.cmp.Ordering.TheVariants.{Less, Equal, Greater}
 use Rattle.std.specs.Cmp.Lexicographic.{slice_cmp, nat_list_cmp_total}
 use Rattle.std.proofs.lemmas.Option.{slice_get-get_or}
-use Rattle.std.specs.List.Sorted.{IsSortedBy, IsBinarySearchResult, IsSearchInRange}
-use Rattle.std.specs.Ordering.{nat_cmp, is_lt, ordering_reverse}
+use Rattle.std.specs.List.Sorted.{IsBinarySearchResult, IsSearchInRange}
+use Rattle.std.specs.Ordering.{nat_cmp, ordering_reverse}
 use Rattle.fetcher.specs.declared.outcome.Outcome.TheVariants.{Leaf}
 use Rattle.frontier_core.specs.Tables.{Text}
 use Rattle.frontier_core.specs.Readers.{Recorded}
 use Rattle.harvest.specs.Entries.{recorded_addresses, IsPlaceOf}
-use Rattle.harvest.specs.Order.{IsAscending}
+use Rattle.address.specs.AddressOrder.{IsAscending}
+use Rattle.address.proofs.AddressOrderLaws.{IsSortedBy-from_ascending}
 
 -- a text isn't less than itself
 compare_same : (u : Text) → (slice_cmp nat_cmp u u ≡ Less → ⊥) × (slice_cmp nat_cmp u u ≡ Greater → ⊥)
@@ -25,22 +26,6 @@ compare_same u = go (slice_cmp nat_cmp u u) (nat_list_cmp_total.antisymm u u)
     go Less e = cc
     go Equal e = ((λ h. cc), (λ h. cc))
     go Greater e = cc
-
--- what is less one way isn't the other way
-not_less : (o r : Ordering) → r ≡ ordering_reverse o → is_lt o ≡ true → is_lt r ≡ false
-not_less Less r e h = ap is_lt e
-not_less Equal r e h = absurd (false≢true h)
-not_less Greater r e h = absurd (false≢true h)
-
-sorted_names : (records : List Recorded) → IsAscending (recorded_addresses records) → IsSortedBy (λ (x y : Recorded). is_lt (slice_cmp nat_cmp x.0 y.0)) records
-sorted_names records up k d low high =
-    let key : Recorded → Text = λ recorded. recorded.0 in
-    let long : length (recorded_addresses records) ≡ length records = length-map records key in
-    let at = get_or-map key records k d d.0 (omega arith) in
-    let next = get_or-map key records (k + 1) d d.0 (omega arith) in
-    let below : is_lt (slice_cmp nat_cmp (get_or (recorded_addresses records) k d.0) (get_or (recorded_addresses records) (k + 1) d.0)) ≡ true = up k (k + 1) d.0 (omega arith) (omega arith) in
-    not_less _ _ (nat_list_cmp_total.antisymm (get_or records (k + 1) d).0 (get_or records k d).0)
-    (ap (λ (x : Text). is_lt (slice_cmp nat_cmp x (get_or records (k + 1) d).0)) (sym at) ∙ ap (λ (x : Text). is_lt (slice_cmp nat_cmp (get_or (recorded_addresses records) k d.0) x)) (sym next) ∙ below)
 
 some_record : Text → Recorded
 some_record u = (u, Leaf 0)
@@ -53,7 +38,7 @@ place_found records u (Ok i) up within found =
     let is : at.0 ≡ u = exact_bytes at.0 u (found (some_record u)) in
     (at.1, slice_get-get_or records i (some_record u) within ∙ ap (λ (w : Text). Some (w, at.1)) is)
 place_found records u (Err i) up within found = λ among.
-    let parts = found (searchable_from_sorted nat_list_cmp_total (λ (x : Recorded). x.0) records u (sorted_names records up)) in
+    let parts = found (searchable_from_sorted nat_list_cmp_total (λ (x : Recorded). x.0) records u (IsSortedBy-from_ascending (λ (x : Recorded). x.0) records up)) in
     let (k, lt, is) = among in
     let key : Recorded → Text = λ recorded. recorded.0 in
     let here : k < length records = omega (arith, length-map records key) in

@@ -8,7 +8,7 @@ use Rattle.frontier_core.specs.Traced.{Traced}
 use Rattle.harvest.specs.declared.page.KeptPage.{KeptPage}
 use Rattle.harvest.specs.Entries.{seen_in, said_by, recorded_addresses, ruled_origins, IsPlaceOf}
 use Rattle.harvest.specs.Harvests.{Harvested}
-use Rattle.harvest.specs.Order.{IsAscending}
+use Rattle.address.specs.AddressOrder.{IsAscending}
 use Rattle.harvest.specs.Pages.{IsKept}
 
 -- the entries are in address order, and say what the state holds; each names the place of its outcome

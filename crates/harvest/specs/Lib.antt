@@ -1,4 +1,3 @@
-pub mod Order
 pub mod Harvests
 pub mod Entries
 pub mod Pages

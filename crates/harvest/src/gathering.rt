@@ -2,7 +2,7 @@
 ghost use Rattle.std.specs.Prelude.{◌≡◌, List, IfOk, All, map, IsPermutation};
 ghost use Rattle.std.specs.List.{filter_map};
 ghost use Rattle.frontier_core.specs.Readers.{record_of, ruled_of};
-ghost use Rattle.harvest.specs.Order.{IsAscending};
+ghost use Rattle.address.specs.AddressOrder.{IsAscending};
 ghost use Rattle.harvest.specs.Entries.{is_refused, seen_of, seen_in, said_by, recorded_addresses, ruled_origins, IsPlaceOf};
 
 use crate::entry::Entry;

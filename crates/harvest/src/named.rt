@@ -1,7 +1,7 @@
 //! Things that are ordered by the text of an address or an origin.
 ghost use Rattle.std.specs.Prelude.{◌≡◌, List, ℕ, map, IsPermutation};
 ghost use Rattle.frontier_core.specs.Tables.{IsOnce};
-ghost use Rattle.harvest.specs.Order.{IsAscending};
+ghost use Rattle.address.specs.AddressOrder.{IsAscending};
 
 use crate::entry::Entry;
 use crate::page::KeptPage;

@@ -13,7 +13,7 @@ use Rattle.frontier_core.specs.Views.{condition_of}
 use Rattle.harvest.specs.Entries.{seen_of, seen_in, said_by, is_refused, IsPlaceOf, Seen}
 use Rattle.harvest.specs.Gathered.{AreEntries, AreRecords}
 use Rattle.harvest.specs.Harvests.{Harvested}
-use Rattle.harvest.specs.Order.{IsBefore}
+use Rattle.address.specs.AddressOrder.{IsBefore}
 use Rattle.harvest.specs.declared.entry.Entry.{Entry}
 use Rattle.wgetr.specs.Report.{Line, Fate, Asked, Refused, IsAscending}
 use Rattle.wgetr.specs.Entries.{fate_at, line_at, lines_of}

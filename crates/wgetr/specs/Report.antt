@@ -4,7 +4,7 @@ use Rattle.std.specs.Fmt.{decimal}
 use Rattle.std.specs.List.{flat_map}
 use Rattle.fetcher.specs.FaultWords.{word_of}
 use Rattle.fetcher.specs.declared.outcome.Outcome.{Outcome}
-use Rattle.harvest.specs.Order.{IsBefore}
+use Rattle.address.specs.AddressOrder.{IsBefore}
 use Rattle.fetcher.specs.declared.outcome.Outcome.TheVariants.{Page, Moved, Leaf, Fault}
 
 -- what became of a candidate: it was asked for, with this outcome, or its origin's robots rules refuse it
