@@ -1,20 +1,27 @@
 -- What a person is told of faults of the words.
-use Rattle.std.specs.Prelude.{◌≡◌, ℕ, List, Option, Some, None, ◌++◌, codes, option_map}
+use Rattle.std.specs.Prelude.{ℕ, List, [], Option, Some, None, ◌++◌, codes, option_map}
+use Rattle.std.specs.List.{flat_map}
+use Rattle.std.specs.Option.{option_map_or}
+use Rattle.clap.specs.Values.{kind_text}
+use Rattle.clap.specs.declared.error.ErrorKind.{ErrorKind}
 use Rattle.address.specs.declared.fault.AddressFault.{AddressFault}
 use Rattle.address.specs.declared.fault.AddressFault.TheVariants as refused
 use Rattle.options.specs.declared.fault.LineFault.{LineFault}
 use Rattle.options.specs.declared.fault.LineFault.TheVariants as line
 use Rattle.wgetr.specs.declared.advice.Advice.{Advice}
+use Rattle.wgetr.specs.declared.advice.Advice.TheVariants as advice
 use Rattle.wgetr.specs.declared.fault.Fault.{Fault}
 use Rattle.wgetr.specs.declared.fault.Fault.TheVariants as fault
 
--- what is wrong, and what is accepted in its place
-abbrev pub Told : Type 0
-Told = List ℕ × List ℕ
+-- what a person is told: what the program is for and its usage, or what is wrong and what is accepted in its place
+pub data Told : Type 0 where
+  Usage : Told
+  Correction : List ℕ → List ℕ → Told
 
 -- what an advice tells
 abbrev pub told_by : Advice → Told
-told_by advice = (advice.wrong.now, advice.accepted.now)
+told_by advice.Usage = Usage
+told_by (advice.Correction wrong accepted) = Correction wrong.now accepted.now
 
 -- ---- what is accepted
 
@@ -38,33 +45,64 @@ wrong_start refused.NotHttp = Some (codes "START isn't an http address")
 wrong_start refused.UserInfo = Some (codes "START has a user name or a password")
 wrong_start refused.Memory = None
 
--- an advice that tells just this
-abbrev pub IsTelling : Told → Option Advice → Type 0
-IsTelling told advice = option_map told_by advice ≡ Some told
+-- of the parser's short text on words that it refuses; it has none of a request for help, which the usage answers
+abbrev pub told_of_text : Option (List ℕ) → Told
+told_of_text None = Usage
+told_of_text (Some wrong) = Correction wrong accepted_words
 
--- the advice on words that are no order; what is wrong with words that the parser refuses is the parser's short text
-abbrev pub IsAdviceOnLine : LineFault → Option Advice → Type 0
-IsAdviceOnLine (line.Words kind) advice = option_map (λ some. some.accepted.now) advice ≡ Some accepted_words
-IsAdviceOnLine line.Depth advice = IsTelling (codes "the value of -l, --level is no level", codes "a level is inf or decimal digits, at most 1000000") advice
-IsAdviceOnLine line.Pattern advice =
-    IsTelling (codes "an element of -A, --accept or -R, --reject is no pattern", codes "an element is a suffix, or a pattern with *, ? and classes as [a-z], each closed") advice
-IsAdviceOnLine line.Directory advice =
-    IsTelling (codes "an element of -I, --include-directories or -X, --exclude-directories is no directory", codes "an element begins with / and has none of *, ?, [ and ]") advice
-IsAdviceOnLine line.Domain advice =
-    IsTelling (codes "an element of -D, --domains or --exclude-domains is no domain", codes "an element is letters, digits, -, _ and dots, as example.org") advice
-IsAdviceOnLine (line.Start why) advice = option_map told_by advice ≡ option_map (λ wrong. (wrong, accepted_start)) (wrong_start why)
-IsAdviceOnLine line.StartIsRobots advice = IsTelling (codes "START is a robots file", codes "START is any other page") advice
-IsAdviceOnLine line.Memory advice = advice ≡ None
+-- of words that the parser refuses
+abbrev pub told_of_kind : ErrorKind → Told
+told_of_kind why = told_of_text (kind_text why)
 
--- the advice on a fault of the words; none on other faults
-abbrev pub IsAdviceOn : Fault → Option Advice → Type 0
-IsAdviceOn (fault.Line wrong) advice = IsAdviceOnLine wrong advice
-IsAdviceOn fault.NotText advice = IsTelling (codes "a word isn't UTF-8", accepted_words) advice
-IsAdviceOn fault.NoSite advice = IsTelling (codes "the words name no site that can be read", codes "with --map the site is told by a map on standard input") advice
-IsAdviceOn (fault.Read wrong) advice = advice ≡ None
-IsAdviceOn (fault.Map wrong) advice = advice ≡ None
-IsAdviceOn fault.Memory advice = advice ≡ None
+-- of words that are no order; nothing where memory ran out
+abbrev pub told_on_line : LineFault → Option Told
+told_on_line (line.Words why) = Some (told_of_kind why)
+told_on_line line.Depth =
+    Some (Correction (codes "the value of -l, --level is no level") (codes "a level is inf or decimal digits, at most 1000000"))
+told_on_line line.Pattern =
+    Some (Correction (codes "an element of -A, --accept or -R, --reject is no pattern")
+    (codes "an element is a suffix, or a pattern with *, ? and classes as [a-z], each closed"))
+told_on_line line.Directory =
+    Some (Correction (codes "an element of -I, --include-directories or -X, --exclude-directories is no directory")
+    (codes "an element begins with / and has none of *, ?, [ and ]"))
+told_on_line line.Domain =
+    Some (Correction (codes "an element of -D, --domains or --exclude-domains is no domain")
+    (codes "an element is letters, digits, -, _ and dots, as example.org"))
+told_on_line (line.Start why) = option_map (λ wrong. Correction wrong accepted_start) (wrong_start why)
+told_on_line line.StartIsRobots = Some (Correction (codes "START is a robots file") (codes "START is any other page"))
+told_on_line line.Memory = None
+
+-- of a fault of the words; nothing of other faults
+abbrev pub told_on : Fault → Option Told
+told_on (fault.Line wrong) = told_on_line wrong
+told_on fault.NotText = Some (Correction (codes "a word isn't UTF-8") accepted_words)
+told_on fault.NoSite =
+    Some (Correction (codes "the words name no site that can be read") (codes "with --map the site is told by a map on standard input"))
+told_on (fault.Read wrong) = None
+told_on (fault.Map wrong) = None
+told_on fault.Memory = None
+
+-- ---- the text
+
+-- what the program is for, and its usage
+abbrev pub usage : List ℕ
+usage =
+    codes "wgetr retrieves a site recursively and reports what it found: it follows links by GNU Wget's rules and heeds robots files.\nusage: wgetr [options] --map START < MAP\n"
 
 -- a word behind a space
 abbrev pub word_text : List ℕ → List ℕ
 word_text word = codes " " ++ word
+
+-- what is wrong, in these words, and what is accepted: two lines
+abbrev pub correction_text : List (List ℕ) → List ℕ → List ℕ → List ℕ
+correction_text words wrong accepted =
+    codes "wgetr: " ++ wrong ++ codes ", in:" ++ flat_map word_text words ++ codes "\n" ++ accepted ++ codes "\n"
+
+-- the lines of what is told of these words
+abbrev pub said : List (List ℕ) → Told → List ℕ
+said words Usage = usage ++ accepted_words ++ codes "\n"
+said words (Correction wrong accepted) = correction_text words wrong accepted
+
+-- the lines on a fault of these words, none where nothing is told
+abbrev pub said_of : List (List ℕ) → Fault → List ℕ
+said_of words wrong = option_map_or (said words) (told_on wrong) []

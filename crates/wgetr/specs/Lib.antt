@@ -1,4 +1,3 @@
-pub mod Limits
 pub mod Order
 pub mod Streams
 pub mod Trace
@@ -11,3 +10,4 @@ pub mod Retrieved
 pub mod Run
 pub mod Parts
 pub mod Advice
+pub mod Program

@@ -11,7 +11,7 @@ use Rattle.harvest.specs.Gathered.{AreEntries, AreRecords}
 use Rattle.harvest.specs.Harvests.{Harvested}
 use Rattle.workers.specs.declared.retrieval.Halt.{Halt}
 use Rattle.wgetr.specs.Entries.{lines_of as harvest_lines}
-use Rattle.wgetr.specs.Limits.{max_input}
+use Rattle.wgetr.specs.declared.input.TheConstants.{MAX_INPUT}
 use Rattle.wgetr.specs.Retrieved.{Finish, Reported, Stopped}
 use Rattle.wgetr.specs.Run.{fault_words, fault_status}
 use Rattle.wgetr.specs.Site.{site_told}
@@ -23,7 +23,7 @@ use Rattle.wgetr.specs.declared.input.ReadFault.TheVariants as reading
 -- what the reader has left is a map, and the site has its answers
 abbrev pub TellsOf : Option (List ℕ) → MapValue → Type 0
 TellsOf known site =
-    (input : List ℕ) × IsInput known input × (length input ≤ max_input)
+    (input : List ℕ) × IsInput known input × (length input ≤ MAX_INPUT)
     × (said : List Statement) × IsMap (lines_of input) said × (says_of site.answers site.rules ≡ site_told said)
 
 -- what the reader has left comes to this fault
@@ -31,10 +31,10 @@ abbrev pub TellsFault : Option (List ℕ) → Fault → Type 0
 TellsFault known (fault.Line wrong) = ⊥
 TellsFault known fault.NotText = ⊥
 TellsFault known fault.NoSite = ⊥
-TellsFault known (fault.Read reading.Long) = (input : List ℕ) × IsInput known input × (max_input < length input)
+TellsFault known (fault.Read reading.Long) = (input : List ℕ) × IsInput known input × (MAX_INPUT < length input)
 TellsFault known (fault.Read reading.Failed) = Unit {0}
 TellsFault known (fault.Read reading.Memory) = Unit {0}
-TellsFault known (fault.Map wrong) = (input : List ℕ) × IsInput known input × (length input ≤ max_input) × IsFault input wrong
+TellsFault known (fault.Map wrong) = (input : List ℕ) × IsInput known input × (length input ≤ MAX_INPUT) × IsFault input wrong
 TellsFault known fault.Memory = Unit {0}
 
 -- the writer gained the text and the status is this one, or the writer failed and the status is 1

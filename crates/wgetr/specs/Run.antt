@@ -13,7 +13,7 @@ use Rattle.options.specs.Order.{order_of, without_kind}
 use Rattle.options.specs.declared.fault.LineFault.{LineFault}
 use Rattle.options.specs.declared.fault.LineFault.TheVariants as line
 use Rattle.options.specs.declared.order.Order.{Order}
-use Rattle.wgetr.specs.Limits.{max_input}
+use Rattle.wgetr.specs.declared.input.TheConstants.{MAX_INPUT}
 use Rattle.wgetr.specs.Order.{IsOrdered, AreForMap, AreForOther}
 use Rattle.wgetr.specs.Report.{report_text}
 use Rattle.wgetr.specs.Retrieved.{Finish, Reported, Stopped, Finishes}
@@ -31,10 +31,10 @@ Comes words input (fault.Line line.Memory) = Unit {0}
 Comes words input (fault.Line wrong) = order_of words ≡ Err (without_kind wrong)
 Comes words input fault.NotText = ⊥
 Comes words input fault.NoSite = AreForOther words
-Comes words input (fault.Read reading.Long) = AreForMap words × (max_input < length input)
+Comes words input (fault.Read reading.Long) = AreForMap words × (MAX_INPUT < length input)
 Comes words input (fault.Read reading.Failed) = AreForMap words
 Comes words input (fault.Read reading.Memory) = Unit {0}
-Comes words input (fault.Map wrong) = AreForMap words × (length input ≤ max_input) × IsFault input wrong
+Comes words input (fault.Map wrong) = AreForMap words × (length input ≤ MAX_INPUT) × IsFault input wrong
 Comes words input fault.Memory = Unit {0}
 
 -- ---- texts and statuses
@@ -126,7 +126,7 @@ ending_status (Ended shown finish) = finish_status finish
 -- what the input says is a site of which the retrieval that is ordered comes to this
 abbrev pub FinishesOn : Order → List ℕ → List Event → Finish → Type 0
 FinishesOn order input shown finish =
-    (length input ≤ max_input) × (said : List Statement) × IsMap (lines_of input) said × Finishes order (whole_of (site_told said)) shown finish
+    (length input ≤ MAX_INPUT) × (said : List Statement) × IsMap (lines_of input) said × Finishes order (whole_of (site_told said)) shown finish
 
 -- the words and the input come to this ending
 abbrev pub Ends : List (List ℕ) → List ℕ → Ending → Type 0

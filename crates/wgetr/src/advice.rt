@@ -1,20 +1,26 @@
-//! What is said to a person of words that are refused: what is wrong, and what is accepted.
+//! What is said to a person of words that are refused: what is wrong and what is accepted, or what the program is for.
 
-ghost use Rattle.std.specs.Prelude.{◌≡◌, ◌++◌, IfOk, codes, option_map, string_bytes};
-ghost use Rattle.std.specs.List.{flat_map};
-ghost use Rattle.wgetr.specs.Advice.{wrong_start, IsAdviceOn, IsAdviceOnLine, word_text};
+ghost use Rattle.std.specs.Prelude.{◌≡◌, IfOk, map, option_map, string_bytes};
+ghost use Rattle.wgetr.specs.Advice.{wrong_start, told_by, told_of_kind, told_on, told_on_line, correction_text, said};
 
 use crate::fault::Fault;
 use address::AddressFault;
+use clap::error::ErrorKind;
 use options::LineFault;
 use std::alloc::{AllocError, Global};
 
-/// What is wrong with the words, and what is accepted in its place.
+/// What a person is told.
 #[derive(Clone, Copy)]
-pub(crate) struct Advice {
-    wrong: &'static str,
-    accepted: &'static str,
+pub(crate) enum Advice {
+    /// What the program is for, and its usage.
+    Usage,
+    /// What is wrong with the words, and what is accepted in its place.
+    Correction(&'static str, &'static str),
 }
+
+const USAGE: &str =
+    "wgetr retrieves a site recursively and reports what it found: it follows links by GNU Wget's rules and heeds robots files.\n\
+usage: wgetr [options] --map START < MAP\n";
 
 const OPTIONS: &str =
     "accepted are START and, once each, -r, -l N, -np, -H, -D LIST, --exclude-domains LIST, \
@@ -38,75 +44,90 @@ fn wrong_start(refused: AddressFault) -> Option<&'static str>
     }
 }
 
+// What is said of words that the parser refuses: its own short text. It has none of a request for help, which the usage
+// answers.
+fn kind_advice(kind: ErrorKind) -> Advice
+    ensures { told_by result ≡ told_of_kind kind }
+{
+    match kind.as_str() {
+        Some(wrong) => Advice::Correction(wrong, OPTIONS),
+        None => Advice::Usage,
+    }
+}
+
 // What is said of words that are no order; nothing of want of memory.
 fn line_advice(wrong: LineFault) -> Option<Advice>
-    ensures { IsAdviceOnLine wrong result }
+    ensures { option_map told_by result ≡ told_on_line wrong }
 {
     match wrong {
-        LineFault::Words(kind) => Some(Advice {
-            wrong: kind.as_str().unwrap_or("no text was asked for"),
-            accepted: OPTIONS,
-        }),
-        LineFault::Depth => Some(Advice {
-            wrong: "the value of -l, --level is no level",
-            accepted: "a level is inf or decimal digits, at most 1000000",
-        }),
-        LineFault::Pattern => Some(Advice {
-            wrong: "an element of -A, --accept or -R, --reject is no pattern",
-            accepted: "an element is a suffix, or a pattern with *, ? and classes as [a-z], each closed",
-        }),
-        LineFault::Directory => Some(Advice {
-            wrong: "an element of -I, --include-directories or -X, --exclude-directories is no directory",
-            accepted: "an element begins with / and has none of *, ?, [ and ]",
-        }),
-        LineFault::Domain => Some(Advice {
-            wrong: "an element of -D, --domains or --exclude-domains is no domain",
-            accepted: "an element is letters, digits, -, _ and dots, as example.org",
-        }),
-        LineFault::Start(refused) => Some(Advice {
-            wrong: wrong_start(refused)?,
-            accepted: START,
-        }),
-        LineFault::StartIsRobots => Some(Advice {
-            wrong: "START is a robots file",
-            accepted: "START is any other page",
-        }),
+        LineFault::Words(kind) => Some(kind_advice(kind)),
+        LineFault::Depth => Some(Advice::Correction(
+            "the value of -l, --level is no level",
+            "a level is inf or decimal digits, at most 1000000",
+        )),
+        LineFault::Pattern => Some(Advice::Correction(
+            "an element of -A, --accept or -R, --reject is no pattern",
+            "an element is a suffix, or a pattern with *, ? and classes as [a-z], each closed",
+        )),
+        LineFault::Directory => Some(Advice::Correction(
+            "an element of -I, --include-directories or -X, --exclude-directories is no directory",
+            "an element begins with / and has none of *, ?, [ and ]",
+        )),
+        LineFault::Domain => Some(Advice::Correction(
+            "an element of -D, --domains or --exclude-domains is no domain",
+            "an element is letters, digits, -, _ and dots, as example.org",
+        )),
+        LineFault::Start(refused) => Some(Advice::Correction(wrong_start(refused)?, START)),
+        LineFault::StartIsRobots => Some(Advice::Correction(
+            "START is a robots file",
+            "START is any other page",
+        )),
         LineFault::Memory => None,
     }
 }
 
 /// What is said of a fault of the words; nothing of other faults.
 pub(crate) fn advice_on(fault: Fault) -> Option<Advice>
-    ensures { IsAdviceOn fault result }
+    ensures { option_map told_by result ≡ told_on fault }
 {
     match fault {
         Fault::Line(wrong) => line_advice(wrong),
-        Fault::NotText => Some(Advice {
-            wrong: "a word isn't UTF-8",
-            accepted: OPTIONS,
-        }),
-        Fault::NoSite => Some(Advice {
-            wrong: "the words name no site that can be read",
-            accepted: "with --map the site is told by a map on standard input",
-        }),
+        Fault::NotText => Some(Advice::Correction("a word isn't UTF-8", OPTIONS)),
+        Fault::NoSite => Some(Advice::Correction(
+            "the words name no site that can be read",
+            "with --map the site is told by a map on standard input",
+        )),
         Fault::Read(_) | Fault::Map(_) | Fault::Memory => None,
     }
 }
 
-/// The lines of an advice: what is wrong, in these words, and what is accepted.
-pub(crate) fn advice_text(
+// The lines of a correction: what is wrong, in these words, and what is accepted.
+fn correction_text(
     alloc: Global,
-    advice: Advice,
+    wrong: &str,
+    accepted: &str,
     words: &[&str],
 ) -> Result<String, AllocError>
-    ensures { IfOk result (λ text. string_bytes text ≡ codes "wgetr: " ++ advice.wrong.now ++ codes ", in:"
-        ++ flat_map (λ word. word_text word.now) words.now ++ codes "\n" ++ advice.accepted.now ++ codes "\n") }
+    ensures { IfOk result (λ text. string_bytes text ≡ correction_text (map (λ word. word.now) words.now) wrong.now accepted.now) }
 {
-    let Advice { wrong, accepted } = advice;
     let mut text = format!(in alloc; "wgetr: {wrong}, in:")?;
     for word in words {
         write!(text, " {word}")?;
     }
     writeln!(text, "\n{accepted}")?;
     Ok(text)
+}
+
+/// The lines of an advice on these words.
+pub(crate) fn advice_text(
+    alloc: Global,
+    advice: Advice,
+    words: &[&str],
+) -> Result<String, AllocError>
+    ensures { IfOk result (λ text. string_bytes text ≡ said (map (λ word. word.now) words.now) (told_by advice)) }
+{
+    match advice {
+        Advice::Usage => format!(in alloc; "{USAGE}{OPTIONS}\n"),
+        Advice::Correction(wrong, accepted) => correction_text(alloc, wrong, accepted, words),
+    }
 }

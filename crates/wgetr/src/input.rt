@@ -1,6 +1,5 @@
 //! The input: all bytes of a reader, up to a limit.
 ghost use Rattle.std.specs.Prelude.{◌≡◌, ◌<◌, ◌≤◌, ℕ, List, length, IfOk, IfSome};
-ghost use Rattle.wgetr.specs.Limits.{max_interrupted};
 ghost use Rattle.wgetr.specs.Streams.{IsInput};
 
 use crate::interruption::count_interrupted;
@@ -28,6 +27,9 @@ impl From<AllocError> for ReadFault {
         ReadFault::Memory
     }
 }
+
+/// The most bytes of an input.
+pub(crate) const MAX_INPUT: usize = 1_073_741_824;
 
 /// How many bytes are asked of a reader at once.
 const PIECE: usize = 65_536;

@@ -1,7 +1,6 @@
 //! The output: a text that is written whole, or in part where the writer fails.
 ghost use Rattle.std.specs.Prelude.{◌<◌, OnOk, OnErr};
 ghost use Rattle.std.specs.Io.KnownBytes.{Appends};
-ghost use Rattle.wgetr.specs.Limits.{max_interrupted};
 ghost use Rattle.wgetr.specs.Streams.{AppendsFront};
 
 use crate::interruption::count_interrupted;

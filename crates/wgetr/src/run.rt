@@ -3,6 +3,7 @@ ghost use Rattle.std.specs.Prelude.{◌≡◌, ◌++◌, List, IfOk, IfErr, OnOk
 ghost use Rattle.site_maps.specs.Maps.{says_of};
 ghost use Rattle.frontier_core.specs.declared.event.Event.{Event};
 ghost use Rattle.wgetr.specs.Entries.{lines_of};
+ghost use Rattle.wgetr.specs.Order.{AreForMap};
 ghost use Rattle.wgetr.specs.Report.{report_text};
 ghost use Rattle.wgetr.specs.Retrieved.{Finish, Stopped, Finishes};
 ghost use Rattle.wgetr.specs.Site.{whole_of};
@@ -11,7 +12,7 @@ ghost use Rattle.wgetr.specs.Parts.{TellsOf, TellsFault, IsDelivered, IsRefusal,
 ghost use Rattle.wgetr.specs.Run.{EndsFor, Ending, Failed, Runs, ending_text, ending_status, finish_text, finish_status};
 
 use crate::fault::{Fault, fault_text};
-use crate::input::read_input;
+use crate::input::{MAX_INPUT, read_input};
 use crate::order::map_order;
 use crate::output::write_text;
 use crate::report::{push_report, rows_of};
@@ -22,9 +23,6 @@ use site_maps::MapSite;
 use std::alloc::{AllocError, Global};
 use std::io::{Read, Write};
 use workers::{Halt, Harvest, retrieve_in_order};
-
-/// The most bytes of an input.
-const MAX_INPUT: usize = 1_073_741_824;
 
 // The site that the input tells of.
 fn site_of<R: Read>(alloc: Global, reader: &mut R) -> Result<MapSite, Fault>
@@ -110,10 +108,12 @@ fn retrieve(alloc: Global, order: &Order, mut site: MapSite) -> Result<Output, A
 }
 
 // What is told of the retrieval that the words order of the input.
+// No byte is read where the words order nothing of a map.
 fn output_of<R: Read>(alloc: Global, words: &[&str], reader: &mut R) -> Result<Output, Fault>
     ensures ok { IfOk result (λ output. (ending : Ending) × EndsFor (map (λ word. word.now) words.now) (R.remaining reader.old) ending
         × (string_bytes output.text ≡ ending_text ending) × (output.status ≡ ending_status ending)) }
     ensures err { IfErr result (λ fault. EndsFor (map (λ word. word.now) words.now) (R.remaining reader.old) (Failed fault)) }
+    ensures unread { ¬ AreForMap (map (λ word. word.now) words.now) → reader.new ≡ reader.old }
 {
     let order = map_order(alloc, words)?;
     let site = site_of(alloc, reader)?;
@@ -145,9 +145,11 @@ pub(crate) fn refuse<W: Write>(alloc: Global, fault: Fault, writer: &mut W) -> u
 /// writes the report or one line of words; the first fault ends it. Where the order asks for the trace, its lines stand
 /// before the report, or before the line of a retrieval that stopped. Answers the status: 0 for a report, 2 where the words
 /// or the input are wrong or the site isn't a map, 1 where the reader or the writer fails, more addresses are found than
-/// may be held, or memory runs out. Where the writer fails a front of the text may be written.
+/// may be held, or memory runs out. Where the writer fails a front of the text may be written. Words that order nothing of a
+/// map end the run before the first byte is read.
 pub fn run<R: Read, W: Write>(alloc: Global, words: &[&str], reader: &mut R, writer: &mut W) -> u8
-    ensures { Runs (map (λ word. word.now) words.now) (R.remaining reader.old) (W.contents writer.old) (W.contents writer.new) result }
+    ensures runs { Runs (map (λ word. word.now) words.now) (R.remaining reader.old) (W.contents writer.old) (W.contents writer.new) result }
+    ensures unread { ¬ AreForMap (map (λ word. word.now) words.now) → reader.new ≡ reader.old }
 {
     match output_of(alloc, words, reader) {
         Ok(output) => deliver(writer, output.text.as_bytes(), output.status),

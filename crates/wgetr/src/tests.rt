@@ -1,8 +1,9 @@
-//! Runs on worked sites, on wrong words and maps, and over readers and writers that fail.
-use crate::advice::{advice_on, advice_text};
+//! Runs on worked sites, on wrong words and maps, and over readers and writers that fail; the program over three streams.
 use crate::input::{ReadFault, read_input};
-use crate::order::map_order;
+use crate::program::run_program;
 use crate::run::run;
+use std::alloc::{AllocError, Global};
+use std::env::Args;
 use std::io;
 use std::io::{Error, ErrorKind, Read, Write};
 use std::test::Fail;
@@ -327,70 +328,168 @@ fn runs_write_what_was_worked_out(rt: HostRuntime) {
     }
 }
 
-#[test]
-fn a_person_is_told_what_is_wrong_and_what_is_accepted(rt: HostRuntime) -> Result<(), Fail> {
-    let rows: [(&[&str], &str); 3] = [
-        (
-            &["-l", "x", "https://h/"],
-            "wgetr: the value of -l, --level is no level, in: -l x https://h/\n\
+// The program on its arguments: what it writes, how what a person is told begins, and its status.
+struct Call {
+    arguments: &'static [&'static str],
+    text: &'static str,
+    told: &'static str,
+    status: u8,
+}
+
+const CALLS: [Call; 6] = [
+    Call {
+        arguments: &["wgetr", "-l", "x", "https://h/"],
+        text: "line depth\n",
+        told: "wgetr: the value of -l, --level is no level, in: -l x https://h/\n\
 a level is inf or decimal digits, at most 1000000\n",
-        ),
-        (
-            &["-r", "https://h/"],
-            "wgetr: START isn't an http address, in: -r https://h/\n\
-START is an address as http://host/path?query, without user name and password, with at most 8192 bytes \
-and a host of at most 255\n",
-        ),
-        (
-            &["http://h/"],
-            "wgetr: the words name no site that can be read, in: http://h/\n\
+        status: 2,
+    },
+    Call {
+        arguments: &["wgetr", "http://h/"],
+        text: "line no-site\n",
+        told: "wgetr: the words name no site that can be read, in: http://h/\n\
 with --map the site is told by a map on standard input\n",
-        ),
-    ];
-    for (words, expected) in rows {
-        let fault = map_order(rt.alloc(), words).err().ok_or("read")?;
-        let advice = advice_on(fault).ok_or("no advice")?;
-        let text = advice_text(rt.alloc(), advice, words)?;
-        assert!(rt; text.as_str() == expected);
+        status: 2,
+    },
+    Call {
+        arguments: &["wgetr", "-q"],
+        text: "line words\n",
+        told: "wgetr: unexpected argument found, in: -q\naccepted are START",
+        status: 2,
+    },
+    Call {
+        arguments: &["wgetr", "-h"],
+        text: "line words\n",
+        told: "wgetr retrieves a site recursively",
+        status: 2,
+    },
+    Call {
+        arguments: &["wgetr", "--help"],
+        text: "line words\n",
+        told: "wgetr retrieves a site recursively",
+        status: 2,
+    },
+    Call {
+        arguments: &[
+            "wgetr",
+            "-r",
+            "-l",
+            "1",
+            "-e",
+            "robots=off",
+            "--workers",
+            "1",
+            "--per-host",
+            "1",
+            "--map",
+            "http://h/",
+        ],
+        text: "0 200 http://h/ -\n1 404 http://h/a -\nfetched 2 kept 0 refused 0 failed 1\n",
+        told: "",
+        status: 0,
+    },
+];
+
+// The arguments of a program, as the system gives them.
+fn arguments_of(alloc: Global, texts: &[&str]) -> Result<Args, AllocError> {
+    let mut all = Vec::new(alloc);
+    for text in texts {
+        all.push(String::from_str(alloc, text)?)?;
     }
-    let unknown = map_order(rt.alloc(), &["-q"]).err().ok_or("read")?;
-    let advice = advice_on(unknown).ok_or("no advice")?;
-    let text = advice_text(rt.alloc(), advice, &["-q"])?;
-    assert!(rt;
-        text.as_str().starts_with("wgetr: unexpected argument found, in: -q\naccepted are START")
-    );
+    Ok(all.into_iter())
+}
+
+#[test]
+fn a_person_is_told_what_is_wrong_beside_the_line(rt: HostRuntime) -> Result<(), Fail> {
+    for call in &CALLS {
+        let mut reader = b"page 200 http://h/\nlink http://h/a\n".as_slice();
+        let mut written: Vec<u8> = Vec::new(rt.alloc());
+        let mut told: Vec<u8> = Vec::new(rt.alloc());
+        let status = run_program(
+            rt.alloc(),
+            Ok(arguments_of(rt.alloc(), call.arguments)?),
+            &mut reader,
+            &mut written,
+            &mut told,
+        );
+        assert!(rt; written.as_slice() == call.text.as_bytes());
+        assert!(rt; told.as_slice().starts_with(call.told.as_bytes()));
+        assert!(rt; told.is_empty() == call.told.is_empty());
+        assert!(rt; status == call.status);
+    }
     Ok(())
 }
 
-// A device that is interrupted so often, and then takes or gives nothing.
-#[derive(Drop)]
-struct Interrupted(u32);
-
-impl Read for Interrupted {
-    fn read(&mut self, _room: &mut [u8]) -> io::Result<usize> {
-        if self.0 > 0 {
-            self.0 -= 1;
-            return Err(Error::from(ErrorKind::Interrupted));
-        }
-        Ok(0)
+#[test]
+fn arguments_that_cannot_be_had_end_the_program(rt: HostRuntime) {
+    for (kind, text, told, status) in [
+        (
+            ErrorKind::InvalidData,
+            "line words\n",
+            "wgetr: a word isn't UTF-8, in:\naccepted are START",
+            2,
+        ),
+        (ErrorKind::OutOfMemory, "stopped memory\n", "", 1),
+    ] {
+        let mut written: Vec<u8> = Vec::new(rt.alloc());
+        let mut errors: Vec<u8> = Vec::new(rt.alloc());
+        let answer = run_program(
+            rt.alloc(),
+            Err(Error::from(kind)),
+            &mut b"".as_slice(),
+            &mut written,
+            &mut errors,
+        );
+        assert!(rt; written.as_slice() == text.as_bytes());
+        assert!(rt; errors.as_slice().starts_with(told.as_bytes()));
+        assert!(rt; errors.is_empty() == told.is_empty());
+        assert!(rt; answer == status);
     }
 }
 
-// A writer that is interrupted so often, and then takes one byte at a time, up to so many; at the end it flushes, or is
-// interrupted once more.
+// A reader that gives one byte at a time, and is interrupted before each until it has been so often.
+#[derive(Drop)]
+struct Hesitant<'a> {
+    rest: &'a [u8],
+    interrupted: u32,
+    is_ready: bool,
+}
+
+impl Read for Hesitant<'_> {
+    fn read(&mut self, room: &mut [u8]) -> io::Result<usize> {
+        if self.interrupted > 0 && !self.is_ready {
+            self.interrupted -= 1;
+            self.is_ready = true;
+            return Err(Error::from(ErrorKind::Interrupted));
+        }
+        self.is_ready = false;
+        let ([first, ..], [byte, rest @ ..]) = (room, self.rest) else {
+            return Ok(0);
+        };
+        *first = *byte;
+        self.rest = rest;
+        Ok(1)
+    }
+}
+
+// A writer that takes one byte at a time, up to so many, and is interrupted before each until it has been so often; at the
+// end it flushes, or is interrupted once more.
 #[derive(Drop)]
 struct Slow {
     interrupted: u32,
+    is_ready: bool,
     room: u32,
     flushes: bool,
 }
 
 impl Write for Slow {
     fn write(&mut self, text: &[u8]) -> io::Result<usize> {
-        if self.interrupted > 0 {
+        if self.interrupted > 0 && !self.is_ready {
             self.interrupted -= 1;
+            self.is_ready = true;
             return Err(Error::from(ErrorKind::Interrupted));
         }
+        self.is_ready = false;
         if self.room > 0 && !text.is_empty() {
             self.room -= 1;
             return Ok(1);
@@ -406,8 +505,18 @@ impl Write for Slow {
     }
 }
 
+// A front and so many letters.
+fn lengthened(alloc: Global, front: &str, letters: u32) -> Result<String, AllocError> {
+    let mut text = String::from_str(alloc, front)?;
+    for _ in 0..letters {
+        text.push('a')?;
+    }
+    Ok(text)
+}
+
 #[test]
-fn interrupted_reads_are_made_again_up_to_a_thousand(rt: HostRuntime) {
+fn interrupted_reads_are_counted_over_the_whole_input(rt: HostRuntime) -> Result<(), Fail> {
+    let input = lengthened(rt.alloc(), "# ", 1_200)?;
     for (interrupted, text, status) in [
         (
             999,
@@ -416,36 +525,46 @@ fn interrupted_reads_are_made_again_up_to_a_thousand(rt: HostRuntime) {
         ),
         (1000, "input read\n", 1),
     ] {
+        let mut reader = Hesitant {
+            rest: input.as_bytes(),
+            interrupted,
+            is_ready: false,
+        };
         let mut written: Vec<u8> = Vec::new(rt.alloc());
         let answer = run(
             rt.alloc(),
             &["--map", "http://h/"],
-            &mut Interrupted(interrupted),
+            &mut reader,
             &mut written,
         );
         assert!(rt; written.as_slice() == text.as_bytes(), "{interrupted}");
         assert!(rt; answer == status, "{interrupted}");
     }
+    Ok(())
 }
 
 #[test]
-fn a_writer_that_fails_or_takes_nothing_ends_with_status_1(rt: HostRuntime) {
-    // The line has 11 bytes.
+fn a_writer_that_fails_or_takes_nothing_ends_with_status_1(rt: HostRuntime) -> Result<(), Fail> {
+    // The address has 1,200 bytes, and the report 1,245.
+    let start = lengthened(rt.alloc(), "http://h/", 1_191)?;
     for (interrupted, room, flushes, status) in [
-        (999, 11, true, 2),
-        (1000, 11, true, 1),
-        (0, 10, true, 1),
+        (999, 1_245, true, 0),
+        (1000, 1_245, true, 1),
+        (0, 1_244, true, 1),
         (0, 0, true, 1),
-        (0, 11, false, 1),
+        (0, 1_245, false, 1),
     ] {
         let mut writer = Slow {
             interrupted,
+            is_ready: false,
             room,
             flushes,
         };
-        let answer = run(rt.alloc(), &[], &mut b"".as_slice(), &mut writer);
+        let words = ["--map", start.as_str()];
+        let answer = run(rt.alloc(), &words, &mut b"".as_slice(), &mut writer);
         assert!(rt; answer == status, "{interrupted} {room} {flushes}");
     }
+    Ok(())
 }
 
 #[test]

@@ -22,3 +22,12 @@ returns-clause-ok g c =
       is,
       status,
     )
+
+pub returns-in_err-site-clause-unread : goal.returns-in_err-site-clause-unread
+returns-in_err-site-clause-unread g c = λ no. absurd (no (c.in_ok-order.order, c.in_ok-order.ensures.ordered))
+
+pub returns-in_err-output-clause-unread : goal.returns-in_err-output-clause-unread
+returns-in_err-output-clause-unread g c = λ no. absurd (no (c.in_ok-order.order, c.in_ok-order.ensures.ordered))
+
+pub returns-clause-unread : goal.returns-clause-unread
+returns-clause-unread g c = λ no. absurd (no (c.in_ok-order.order, c.in_ok-order.ensures.ordered))

@@ -1,0 +1,59 @@
+-- What a person is told, and how a program ends that has no words.
+use Rattle.std.proofs.Common.{◌≡◌, ◌∙◌, ◌++◌, ℕ, List, [], Option, None, refl, sym, ap, inl, inr, append-nil}
+use Rattle.std.specs.Prelude.{Result, Ok, Err, OnOk, OnErr}
+use Rattle.std.specs.Io.KnownBytes.{Appends}
+use Rattle.std.proofs.KnownBytes.{Appends-nil}
+use Rattle.options.specs.Order.{Ordered, said_by}
+use Rattle.options.specs.declared.fault.LineFault.TheVariants as line
+use Rattle.wgetr.specs.Advice.{told_on}
+use Rattle.wgetr.specs.Order.{AreForMap, IsRefused}
+use Rattle.wgetr.specs.Parts.{IsRefusal}
+use Rattle.wgetr.specs.Program.{IsTold}
+use Rattle.wgetr.specs.Run.{Failed, Runs}
+use Rattle.wgetr.specs.Streams.{AppendsFront}
+use Rattle.wgetr.specs.declared.fault.Fault.{Fault}
+use Rattle.wgetr.specs.declared.fault.Fault.TheVariants as fault
+use Rattle.wgetr.proofs.RunLaws.{ends_memory}
+
+-- nothing is a front of each text
+pub nothing_of : (contents : Option (List ℕ)) (text : List ℕ) → AppendsFront contents contents text
+nothing_of contents text = record { front = []; rest = text; parts = refl; appended = Appends-nil contents }
+
+-- a text that was written, or a front of it where the writer failed
+pub wrote : {F : Type 0} (r : Result (Unit {0}) F) (old new : Option (List ℕ)) (text : List ℕ) → OnOk r (Appends old new text) → OnErr r (AppendsFront old new text) → AppendsFront old new text
+wrote (Ok x) old new text ok err = record { front = text; rest = []; parts = sym (append-nil text); appended = ok }
+wrote (Err e) old new text ok err = err
+
+-- nothing is told of want of memory over words for a map
+pub silent : (words : List (List ℕ)) (wrong : Fault) → AreForMap words → IsRefused words wrong → told_on wrong ≡ None
+silent words (fault.Line line.Memory) good refused = refl
+silent words (fault.Line (line.Words kind)) (order, (is, map)) (inl e) = cc
+silent words (fault.Line (line.Words kind)) good (inr e) = cc
+silent words (fault.Line line.Depth) (order, (is, map)) (inl e) = cc
+silent words (fault.Line line.Depth) good (inr e) = cc
+silent words (fault.Line line.Pattern) (order, (is, map)) (inl e) = cc
+silent words (fault.Line line.Pattern) good (inr e) = cc
+silent words (fault.Line line.Directory) (order, (is, map)) (inl e) = cc
+silent words (fault.Line line.Directory) good (inr e) = cc
+silent words (fault.Line line.Domain) (order, (is, map)) (inl e) = cc
+silent words (fault.Line line.Domain) good (inr e) = cc
+silent words (fault.Line (line.Start why)) (order, (is, map)) (inl e) = cc
+silent words (fault.Line (line.Start why)) good (inr e) = cc
+silent words (fault.Line line.StartIsRobots) (order, (is, map)) (inl e) = cc
+silent words (fault.Line line.StartIsRobots) good (inr e) = cc
+silent words fault.NotText good refused = absurd refused
+silent words fault.NoSite (order, (is, map)) (ordered, says, other) =
+    let same : ordered ≡ said_by order = cc in
+    absurd (other (ap (λ (o : Ordered). o.source) same ∙ map))
+silent words (fault.Read w) good refused = absurd refused
+silent words (fault.Map w) good refused = absurd refused
+silent words fault.Memory good refused = absurd refused
+
+-- ---- want of memory before a run
+
+pub runs_memory : (words : List (List ℕ)) (known old new : Option (List ℕ)) (status : ℕ) → IsRefusal old new fault.Memory status → Runs words known old new status
+runs_memory words known old new status (inl told) = record { ending = Failed fault.Memory; ends = ends_memory words known; written = told }
+runs_memory words known old new status (inr told) = record { ending = Failed fault.Memory; ends = ends_memory words known; written = told }
+
+pub told_memory : (words : List (List ℕ)) (contents : Option (List ℕ)) → IsTold words contents contents
+told_memory words contents = (fault.Line line.Memory, inr refl, nothing_of contents [])
