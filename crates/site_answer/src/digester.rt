@@ -1,9 +1,10 @@
 //! A sink that digests a response while its body arrives (RFC 9110, section 15).
-ghost use Rattle.std.specs.Prelude.{◌≡◌, ◌⊎◌, ℕ, List, [], ◌++◌, Option, Some, None, true, false, IfOk, OnOk, OnErr};
+ghost use Rattle.std.specs.Prelude.{◌≡◌, ◌⊎◌, ℕ, List, [], ◌++◌, Option, Some, None, true, false, IfOk, OnOk};
 ghost use Rattle.response_reader.specs.Fields.{HeadParts};
 ghost use Rattle.response_reader.specs.Passes.{head_parts, Adds};
+ghost use Rattle.response_reader.specs.Refusals.{NotesRefusal};
 ghost use Rattle.site_answer.specs.Digests.{digest_of, kept_body};
-ghost use Rattle.site_answer.specs.Digesting.{HasTaken, IsStageOf, has_head, purpose_of};
+ghost use Rattle.site_answer.specs.Digesting.{HasTaken, IsStageOf, Purpose, has_head, purpose_of};
 ghost use Rattle.site_answer.specs.HeadKinds.{kind_parts};
 
 use crate::head_kind::HeadKind;
@@ -72,6 +73,7 @@ impl Digester {
     // Takes a piece of the body.
     fn take_piece(&mut self, bytes: &[u8]) -> Result<(), AllocError>
         ensures took { OnOk result ((h : HeadParts) (body : List ℕ) → HasTaken self.old (Some h) body → HasTaken self.new (Some h) (body ++ bytes.now)) }
+        ensures failed { self.new.failed ≡ self.old.failed }
         ensures purpose { purpose_of self.new ≡ purpose_of self.old }
     {
         self.stage.take(bytes)?;
@@ -113,10 +115,16 @@ impl Digester {
 impl Sink for Digester {
     ghost took = { HasTaken };
 
+    ghost Purpose = { Purpose };
+
+    ghost purpose = { purpose_of };
+
+    ghost refused = { λ d. d.failed };
+
     fn head(&mut self, head: &Head) -> Result<(), AllocError>
         ensures took { OnOk result (HasTaken self.old None [] → HasTaken self.new (Some (head_parts head.now)) []) }
         ensures purpose { purpose_of self.new ≡ purpose_of self.old }
-        ensures err { OnErr result (self.new.failed ≡ true) }
+        ensures refused { NotesRefusal self.old.failed self.new.failed result }
         ensures failed { self.old.failed ≡ true → IfOk result (λ _. ⊥) }
     {
         if self.failed {
@@ -134,7 +142,7 @@ impl Sink for Digester {
     fn piece(&mut self, bytes: &[u8]) -> Result<(), AllocError>
         ensures took { OnOk result (Adds (HasTaken self.old) (HasTaken self.new) bytes.now) }
         ensures purpose { purpose_of self.new ≡ purpose_of self.old }
-        ensures err { OnErr result (self.new.failed ≡ true) }
+        ensures refused { NotesRefusal self.old.failed self.new.failed result }
         ensures failed { self.old.failed ≡ true → IfOk result (λ _. ⊥) }
     {
         if self.failed {
