@@ -1,0 +1,5 @@
+pub mod AddressOrder
+pub mod PlainNames
+pub mod Names
+pub mod LocalNames
+pub mod Taken

@@ -1,0 +1,20 @@
+//! Local names: where the pages of a site stand in a folder. This crate knows which name each page of
+//! a list has, whatever the order in which they came; it knows nothing of sites or retrievals.
+//!
+//! Host and path of a page become directories below the folder. Where two pages would have one name,
+//! or one page's name is a directory of another's, a number is added. What the names are stands in
+//! `specs/`.
+//!
+//! ```
+//! let names = names(alloc, &pages)?; // http://h/a and http://h/a/b: h/a.1 and h/a/b
+//! ```
+#![tactic(auto)]
+
+pub use crate::naming::{ascend, names};
+pub use crate::plain_name::MAX_SEGMENT;
+
+mod free_name;
+mod naming;
+mod plain_name;
+#[cfg(test)]
+mod tests;
