@@ -1,4 +1,3 @@
-pub mod AddressOrder
 pub mod PlainNames
 pub mod Names
 pub mod LocalNames

@@ -3,7 +3,7 @@ ghost use Rattle.std.specs.Prelude.{◌≡◌, ◌↔◌, ◌<◌, ◌-◌, ◌^
 ghost use Rattle.std.specs.BTreeMap.{get_by_text};
 ghost use Rattle.std.specs.List.Sorted.{IsSorted};
 ghost use Rattle.address.specs.Address.{IsAddress};
-ghost use Rattle.local_tree.specs.AddressOrder.{IsAscending};
+ghost use Rattle.address.specs.AddressOrder.{IsAscending};
 ghost use Rattle.local_tree.specs.PlainNames.{plain_name_of};
 ghost use Rattle.local_tree.specs.Names.{IsNaming, AreDistinct, AreApart};
 ghost use Rattle.local_tree.specs.LocalNames.{StaysInside, HasShortSegments, IsVisible};

@@ -3,7 +3,7 @@ use Rattle.std.proofs.lemmas.Bool.{both_ways, cases_lt}
 use Rattle.std.proofs.lemmas.List.{get_or_read}
 use Rattle.std.specs.Cmp.Lexicographic.{slice_cmp}
 use Rattle.std.specs.Ordering.{nat_cmp, is_lt}
-use Rattle.local_tree.specs.AddressOrder.{IsBefore}
+use Rattle.address.specs.AddressOrder.{IsBefore}
 use Rattle.local_tree.proofs.OrderLaws.{before_trans}
 use Rattle.local_tree.proofs.naming.ascend.Goals as goal
 

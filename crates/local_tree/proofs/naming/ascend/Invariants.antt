@@ -1,5 +1,5 @@
 use Rattle.std.proofs.Common.{◌≡◌, ℕ, ◌<◌, List, get_or}
-use Rattle.local_tree.specs.AddressOrder.{IsBefore}
+use Rattle.address.specs.AddressOrder.{IsBefore}
 use Rattle.local_tree.proofs.naming.ascend.Given as goal
 
 abbrev pub invariant-loop-i : goal.invariant-loop-i
