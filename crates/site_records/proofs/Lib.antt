@@ -1,0 +1,3 @@
+pub mod FormLaws
+pub mod EntryLaws
+pub mod ReadLaws

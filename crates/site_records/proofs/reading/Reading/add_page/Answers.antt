@@ -1,0 +1,36 @@
+-- A page's answer goes behind the others.
+use Rattle.std.proofs.Common.{◌∙◌, ◌++◌, ◌∷◌, [], refl, arith, rules}
+use Rattle.std.specs.Str.{bytes_eq}
+use Rattle.std.proofs.lemmas.Result.{err_from_is_err_and}
+use Rattle.indexmap.proofs.CallerLemmas.{insert_entry-new}
+use Rattle.site_maps.proofs.ReadingLaws.{names}
+use Rattle.site_records.specs.EntryLines.{page}
+use Rattle.site_records.specs.Entries.{HasBytes}
+use Rattle.site_records.proofs.EntryLaws.{unread, answered_before, without_bytes, takes_answer, page_states}
+use Rattle.site_records.proofs.reading.Reading.add_page.Goals as goal
+
+pub returns-in_err-at : goal.returns-in_err-at
+returns-in_err-at c =
+    let p = err_from_is_err_and c.from_residual.result c.from_residual.ensures.1 in
+    rw (p.1, p.2) (unread c.args.self.now (page c.args.text.now c.args.count) c.args.behind.now _ c.in_err-at.ensures)
+
+pub returns-in_err-unstated : goal.returns-in_err-unstated
+returns-in_err-unstated c =
+    let p = err_from_is_err_and c.from_residual-in_err-unstated.result c.from_residual-in_err-unstated.ensures.1 in
+    rw (p.1, p.2) (answered_before c.args.self.now (page c.args.text.now c.args.count) c.args.behind.now c.in_ok-at.at _ c.in_ok-at.ensures (λ k. k) c.in_err-unstated.ensures)
+
+pub returns-in_default : goal.returns-in_default
+returns-in_default c =
+    without_bytes c.args.self.now (page c.args.text.now c.args.count) c.args.behind.now (names c.args.text.now c.in_ok-at.at c.in_ok-at.ensures).0 c.in_default.ensures
+
+pub returns : goal.returns
+returns c =
+    let h = c.in-Some.ensures in
+    let a = c.in-Some.bytes-is in
+    let b = c.in-Some.after-is in
+    let has : HasBytes c.args.behind.now c.args.count c.in-Some.bytes.now c.in-Some.after.now = first_of (assumption h, search (rules, h), grind (arith, h, a, b)) in
+    let none = c.in_ok-unstated.ensures in
+    let put = insert_entry-new bytes_eq c.args.self.now.answers c.in_ok-at.at c.in_ok-answer.answer none in
+    takes_answer c.args.self.now _ (page c.args.text.now c.args.count) c.args.behind.now c.in-Some.after.now c.in_ok-at.at c.in_ok-answer.answer c.in_ok-at.ensures tt
+    (page_states c.args.self.now.robots c.args.text.now c.args.count c.args.behind.now c.in-Some.bytes.now c.in-Some.after.now c.in_ok-at.at c.in_ok-answer.answer has c.in_ok-answer.ensures)
+    none (c.in_ok-insert.ensures.entries ∙ put) refl refl

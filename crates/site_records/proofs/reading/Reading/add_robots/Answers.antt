@@ -1,0 +1,36 @@
+-- The rules of a robots file go behind the others.
+use Rattle.std.proofs.Common.{◌∙◌, ◌++◌, ◌∷◌, [], refl, arith, rules}
+use Rattle.std.specs.Str.{bytes_eq}
+use Rattle.std.proofs.lemmas.Result.{err_from_is_err_and}
+use Rattle.indexmap.proofs.CallerLemmas.{insert_entry-new}
+use Rattle.site_records.specs.EntryLines.{file}
+use Rattle.site_records.specs.Entries.{HasBytes}
+use Rattle.site_records.proofs.EntryLaws.{unrooted, ruled_before, without_bytes, takes_rules, file_states}
+use Rattle.site_records.proofs.reading.Reading.add_robots.Goals as goal
+
+pub returns-in_err-origin : goal.returns-in_err-origin
+returns-in_err-origin c =
+    let p = err_from_is_err_and c.from_residual.result c.from_residual.ensures.1 in
+    rw (p.1, p.2) (unrooted c.args.self.now (file c.args.text.now c.args.count) c.args.behind.now _ (λ h. h) c.in_err-origin.ensures)
+
+pub returns-in_err-unruled : goal.returns-in_err-unruled
+returns-in_err-unruled c =
+    let p = err_from_is_err_and c.from_residual-in_err-unruled.result c.from_residual-in_err-unruled.ensures.1 in
+    let (named, root, is) = c.in_ok-origin.ensures in
+    rw (p.1, p.2) (ruled_before c.args.self.now (file c.args.text.now c.args.count) c.args.behind.now c.in_ok-origin.origin _ named is (λ k. k) c.in_err-unruled.ensures)
+
+pub returns-in_default : goal.returns-in_default
+returns-in_default c = without_bytes c.args.self.now (file c.args.text.now c.args.count) c.args.behind.now c.in_ok-origin.ensures.0 c.in_default.ensures
+
+pub returns : goal.returns
+returns c =
+    let (named, root, is) = c.in_ok-origin.ensures in
+    let h = c.in-Some.ensures in
+    let a = c.in-Some.bytes-is in
+    let b = c.in-Some.after-is in
+    let has : HasBytes c.args.behind.now c.args.count c.in-Some.bytes.now c.in-Some.after.now = first_of (assumption h, search (rules, h), grind (arith, h, a, b)) in
+    let none = c.in_ok-unruled.ensures in
+    let put = insert_entry-new bytes_eq c.args.self.now.rules c.in_ok-origin.origin c.in_ok-rules.rules none in
+    takes_rules c.args.self.now _ (file c.args.text.now c.args.count) c.args.behind.now c.in-Some.after.now c.in_ok-origin.origin c.in_ok-rules.rules named root
+    (file_states c.args.self.now.robots c.args.text.now c.args.count c.args.behind.now c.in-Some.bytes.now c.in-Some.after.now c.in_ok-origin.origin c.in_ok-rules.rules has c.in_ok-rules.ensures.rules is)
+    none (rw c.new.ensures at c.in_ok-insert.ensures.entries ∙ put) refl refl

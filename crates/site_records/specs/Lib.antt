@@ -1,0 +1,6 @@
+pub mod EntryLines
+pub mod Said
+pub mod Entries
+pub mod Records
+pub mod Readings
+pub mod RecordSites

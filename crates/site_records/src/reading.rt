@@ -1,0 +1,169 @@
+//! A record in mid-read: the answers and the rule sets that the entries so far state.
+ghost use Rattle.std.specs.Prelude.{◌≡◌, ◌<◌, [], IfOk, MatchResult, length};
+ghost use Rattle.site_maps.specs.Readings.{IsVacant};
+ghost use Rattle.site_records.specs.EntryLines.{page, fault, file, free, closed};
+ghost use Rattle.site_records.specs.Said.{said};
+ghost use Rattle.site_records.specs.Readings.{Takes, Reads, IsBad};
+
+use crate::entry_line::EntryLine;
+use crate::first_line::{counted, first_line};
+use crate::replayed::{answer_of, no_response};
+use address::{Address, Origin};
+use fetcher::{Answer, FaultKind};
+use indexmap::IndexMap;
+use robots_rules::{RuleSet, parse};
+use site_maps::{KeptRules, LineFault, read_address, read_origin};
+use std::alloc::Global;
+use std::str;
+
+/// What the entries read so far state.
+#[derive(Drop)]
+pub(crate) struct Reading {
+    pub(crate) alloc: Global,
+    pub(crate) robots: bool,
+    pub(crate) answers: IndexMap<Address, Answer>,
+    pub(crate) rules: IndexMap<Origin, KeptRules>,
+}
+
+impl Reading {
+    // Before the first entry.
+    pub(crate) fn new(alloc: Global, robots: bool) -> Self
+        ensures robots { result.robots ≡ robots }
+        ensures answers { result.answers.entries ≡ [] }
+        ensures rules { result.rules.entries ≡ [] }
+    {
+        Reading {
+            alloc,
+            robots,
+            answers: IndexMap::new(alloc),
+            rules: IndexMap::new(alloc),
+        }
+    }
+
+    // Refuses an address for which an answer is kept. Takes no memory.
+    fn unstated(&self, at: &Address) -> Result<(), LineFault>
+        ensures { IsVacant self.now.answers.entries at.now result }
+    {
+        if self.answers.contains_key(at) {
+            return Err(LineFault::Line);
+        }
+        Ok(())
+    }
+
+    // Refuses an origin for which rules are kept. Takes no memory.
+    fn unruled(&self, origin: &Origin) -> Result<(), LineFault>
+        ensures { IsVacant self.now.rules.entries origin.now result }
+    {
+        if self.rules.contains_key(origin) {
+            return Err(LineFault::Line);
+        }
+        Ok(())
+    }
+
+    // Takes a line with an address's response, which has so many bytes.
+    fn add_page<'a>(
+        &mut self,
+        text: &str,
+        count: usize,
+        behind: &'a [u8],
+    ) -> Result<&'a [u8], LineFault>
+        ensures { Takes self.old (page text.now count) behind.now result self.new }
+    {
+        let at = read_address(self.alloc, text)?;
+        self.unstated(&at)?;
+        let Some((bytes, after)) = counted(behind, count) else {
+            return Err(LineFault::Line);
+        };
+        let answer = answer_of(self.alloc, &at, bytes, self.robots)?;
+        self.answers.insert(at, answer)?;
+        Ok(after)
+    }
+
+    // Takes a line with the fault of an address.
+    fn add_fault<'a>(
+        &mut self,
+        kind: FaultKind,
+        text: &str,
+        behind: &'a [u8],
+    ) -> Result<&'a [u8], LineFault>
+        ensures { Takes self.old (fault kind text.now) behind.now result self.new }
+    {
+        let at = read_address(self.alloc, text)?;
+        self.unstated(&at)?;
+        self.answers.insert(at, no_response(self.alloc, kind))?;
+        Ok(behind)
+    }
+
+    // Takes a line with an origin's robots file, which has so many bytes.
+    fn add_robots<'a>(
+        &mut self,
+        text: &str,
+        count: usize,
+        behind: &'a [u8],
+    ) -> Result<&'a [u8], LineFault>
+        ensures { Takes self.old (file text.now count) behind.now result self.new }
+    {
+        let origin = read_origin(self.alloc, text)?;
+        self.unruled(&origin)?;
+        let Some((bytes, after)) = counted(behind, count) else {
+            return Err(LineFault::Line);
+        };
+        let rules = parse(self.alloc, bytes)?;
+        self.rules
+            .insert(origin, KeptRules::new(self.alloc, rules))?;
+        Ok(after)
+    }
+
+    // Takes a line that says that everything is allowed at an origin.
+    fn add_free<'a>(&mut self, text: &str, behind: &'a [u8]) -> Result<&'a [u8], LineFault>
+        ensures { Takes self.old (free text.now) behind.now result self.new }
+    {
+        let origin = read_origin(self.alloc, text)?;
+        self.unruled(&origin)?;
+        self.rules
+            .insert(origin, KeptRules::new(self.alloc, RuleSet::all()))?;
+        Ok(behind)
+    }
+
+    // Takes a line that says that nothing is allowed at an origin.
+    fn add_closed<'a>(&mut self, text: &str, behind: &'a [u8]) -> Result<&'a [u8], LineFault>
+        ensures { Takes self.old (closed text.now) behind.now result self.new }
+    {
+        let origin = read_origin(self.alloc, text)?;
+        self.unruled(&origin)?;
+        self.rules
+            .insert(origin, KeptRules::new(self.alloc, RuleSet::none()))?;
+        Ok(behind)
+    }
+
+    // Takes what a line says, with what is behind it.
+    fn add<'a>(&mut self, line: EntryLine<'_>, behind: &'a [u8]) -> Result<&'a [u8], LineFault>
+        ensures { Takes self.old (said line.entry) behind.now result self.new }
+    {
+        match line {
+            EntryLine::Page(text, count) => self.add_page(text, count, behind),
+            EntryLine::Fault(kind, text) => self.add_fault(kind, text, behind),
+            EntryLine::Robots(text, count) => self.add_robots(text, count, behind),
+            EntryLine::Free(text) => self.add_free(text, behind),
+            EntryLine::Closed(text) => self.add_closed(text, behind),
+        }
+    }
+
+    /// Takes the entry that the text begins with, and gives what follows it. An error says what is
+    /// wrong with it; then nothing more may be read.
+    pub(crate) fn read_entry<'a>(&mut self, text: &'a [u8]) -> Result<&'a [u8], LineFault>
+        ensures read { MatchResult result (λ after. Reads self.old text.now after.now self.new) (λ f. IsBad self.old text.now f) }
+        ensures shorter { IfOk result (λ after. length after.now < length text.now) }
+    {
+        let Some((line, behind)) = first_line(text) else {
+            return Err(LineFault::Line);
+        };
+        let Ok(line) = str::from_utf8(line) else {
+            return Err(LineFault::Line);
+        };
+        let Some(line) = EntryLine::of(line) else {
+            return Err(LineFault::Line);
+        };
+        self.add(line, behind)
+    }
+}

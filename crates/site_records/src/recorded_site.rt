@@ -1,0 +1,162 @@
+//! Sites that are read from a record of responses.
+use crate::reading::Reading;
+use crate::replayed::copy_of;
+use address::{Address, Origin};
+use fetcher::{Answer, Ask, Body, Fetcher, Outcome};
+use indexmap::IndexMap;
+use robots_rules::RuleSet;
+use site_maps::{InputFault, KeptRules};
+use std::alloc::{AllocError, Global};
+use std::marker::Model;
+use std::sync::Arc;
+
+/// The first line of a record.
+const VERSION_LINE: &[u8] = b"wgetr-record 1\n";
+
+/// The status of an address that a record doesn't name: Not Found (RFC 9110, section 15.5.5).
+const NOT_FOUND: u16 = 404;
+
+/// What a record states.
+#[derive(Drop)]
+pub(crate) struct Stated {
+    pub(crate) answers: IndexMap<Address, Answer>,
+    pub(crate) rules: IndexMap<Origin, KeptRules>,
+}
+
+/// A site in memory, read from a record. It gives each address one answer, and each origin one rule
+/// set. Copies share what the record states. Contracts see the answers and the rule sets that the
+/// record states, and what was asked.
+#[derive(Drop)]
+pub struct RecordedSite {
+    alloc: Global,
+    stated: Arc<Stated>,
+    asks: Vec<Ask>,
+}
+
+impl Model for RecordedSite {
+    ghost use Rattle.std.specs.Arc.{arc_value};
+    ghost use Rattle.site_records.specs.RecordSites.{RecordValue};
+
+    ghost Value = { RecordValue };
+
+    ghost view = { λ m. record { answers = (arc_value m.stated).answers.entries; rules = (arc_value m.stated).rules.entries; asks = m.asks.items } };
+}
+
+impl RecordedSite {
+    ghost use Rattle.std.specs.Prelude.{◌≡◌, [], List, IfOk, IfErr};
+    ghost use Rattle.site_maps.specs.Maps.{rules_at};
+    ghost use Rattle.site_records.specs.Entries.{Entry};
+    ghost use Rattle.site_records.specs.Records.{IsRecord, answers_of, rules_of, answer_in, IsFault};
+
+    /// Reads a record. Each `page` entry states the answer of an address by its response, each
+    /// `fault` entry that there was none, and each `robots` and `rules` entry the rules of an origin.
+    /// Where `robots` says so, a page that asks that its links aren't followed has no edges. The error
+    /// names the first bad line, or says that memory ran out.
+    pub fn read(alloc: Global, bytes: &[u8], robots: bool) -> Result<RecordedSite, InputFault>
+        ensures record { IfOk result (λ m. (said : List Entry) × IsRecord robots bytes.now said × (m ≡ record { answers = answers_of said; rules = rules_of said; asks = [] })) }
+        ensures fault { IfErr result (λ f. IsFault robots bytes.now f) }
+    {
+        let Some(mut rest) = bytes.strip_prefix(VERSION_LINE) else {
+            return Err(InputFault::Line(1));
+        };
+        let mut reading = Reading::new(alloc, robots);
+        let mut number = 1;
+        'entries: while !rest.is_empty() {
+            number += 1;
+            match reading.read_entry(rest) {
+                Ok(after) => rest = after,
+                Err(fault) => return Err(fault.at(number)),
+            }
+        }
+        Ok(RecordedSite::of(reading)?)
+    }
+
+    // The site of the answers and the rule sets that were read.
+    fn of(reading: Reading) -> Result<RecordedSite, AllocError>
+        ensures { IfOk result (λ m. m ≡ record { answers = reading.answers.entries; rules = reading.rules.entries; asks = [] }) }
+    {
+        let Reading {
+            alloc,
+            answers,
+            rules,
+            robots: _,
+        } = reading;
+        Ok(RecordedSite {
+            alloc,
+            stated: Arc::new(alloc, Stated { answers, rules })?,
+            asks: Vec::new(alloc),
+        })
+    }
+
+    /// An equal site, with the same asks, which shares what the record states, or an error where
+    /// memory ran out.
+    pub fn try_clone(&self) -> Result<RecordedSite, AllocError>
+        ensures { IfOk result (λ copy. copy ≡ self.now) }
+    {
+        Ok(RecordedSite {
+            alloc: self.alloc,
+            stated: self.stated.clone()?,
+            asks: self.asks.clone()?,
+        })
+    }
+
+    // What the record says of an address.
+    fn answer(&self, at: &Address) -> Result<Answer, AllocError>
+        ensures { IfOk result (λ a. a ≡ answer_in self.now.answers at.now) }
+    {
+        match self.stated.answers.get(at) {
+            Some(answer) => copy_of(self.alloc, answer),
+            None => Ok(Answer {
+                outcome: Outcome::Leaf(NOT_FOUND),
+                body: Body::new(Vec::new(self.alloc)),
+            }),
+        }
+    }
+
+    // What the record says of an origin.
+    fn rule_set(&self, of: &Origin) -> Result<RuleSet, AllocError>
+        ensures { IfOk result (λ r. r ≡ rules_at self.now.rules of.now) }
+    {
+        match self.stated.rules.get(of) {
+            Some(kept) => kept.rule_set(),
+            None => Ok(RuleSet::all()),
+        }
+    }
+}
+
+impl Fetcher for RecordedSite {
+    ghost use Rattle.std.specs.Prelude.{◌≡◌, ℕ, List, [], ◌∷◌, ◌++◌, IfOk, OnOk, OnErr};
+    ghost use Rattle.fetcher.specs.declared.outcome.Outcome.{Outcome};
+    ghost use Rattle.fetcher.specs.declared.fetcher.Ask.TheVariants.{Page, Rules};
+    ghost use Rattle.fetcher.specs.Logs.{GainedAtMost};
+    ghost use Rattle.site_records.specs.Records.{RecordedAnswers, GivesAnswer, GivesRules, says_of};
+
+    ghost Site = { RecordedAnswers };
+
+    ghost site = { λ m. says_of m.answers m.rules };
+
+    ghost says = { GivesAnswer };
+
+    ghost rules = { GivesRules };
+
+    ghost log = { λ m. m.asks };
+
+    /// Asks for the page of an address. The answer is what the record says of it, with a copy of its
+    /// body; the ask is logged first, and the record stays what it is.
+    fn ask(&mut self, at: &Address) -> Result<Answer, AllocError> {
+        self.asks.push(Ask::Page(at.try_clone()?))?;
+        self.answer(at)
+    }
+
+    /// Asks for the robots rules of an origin. They are those that the record states, and allow
+    /// everything where it states none; the ask is logged first, and the record stays what it is.
+    fn ask_robots(&mut self, of: &Origin) -> Result<RuleSet, AllocError> {
+        self.asks.push(Ask::Rules(of.try_clone()?))?;
+        self.rule_set(of)
+    }
+
+    /// What was asked, in order.
+    fn asks(&self) -> &[Ask] {
+        self.asks.as_slice()
+    }
+}
