@@ -1,7 +1,8 @@
 -- What a person is told, and how a program ends that has no words.
-use Rattle.std.proofs.Common.{◌≡◌, ◌∙◌, ◌++◌, ℕ, List, [], Option, None, refl, sym, ap, inl, inr, append-nil}
+use Rattle.std.proofs.Common.{◌≡◌, ◌∙◌, ◌++◌, ℕ, List, [], ◌∷◌, map, Option, None, refl, sym, ap, inl, inr, append-nil}
 use Rattle.std.specs.Prelude.{Result, Ok, Err, OnOk, OnErr}
 use Rattle.std.specs.Io.KnownBytes.{Appends}
+use Rattle.std.specs.List.{flat_map}
 use Rattle.std.proofs.KnownBytes.{Appends-nil}
 use Rattle.options.specs.Order.{Ordered, said_by}
 use Rattle.options.specs.declared.fault.LineFault.TheVariants as line
@@ -57,3 +58,9 @@ runs_memory words known old new status (inr told) = record { ending = Failed fau
 
 pub told_memory : (words : List (List ℕ)) (contents : Option (List ℕ)) → IsTold words contents contents
 told_memory words contents = (fault.Line line.Memory, inr refl, nothing_of contents [])
+
+-- ---- texts of words
+
+pub flat_map-map : {X : Type 0} (f : List ℕ → List ℕ) (now : X → List ℕ) (xs : List X) → flat_map (λ x. f (now x)) xs ≡ flat_map f (map now xs)
+flat_map-map f now [] = refl
+flat_map-map f now (x ∷ xs) = ap (λ rest. f (now x) ++ rest) (flat_map-map f now xs)

@@ -1,7 +1,8 @@
 //! What is said to a person of words that are refused: what is wrong and what is accepted, or what the program is for.
 
-ghost use Rattle.std.specs.Prelude.{◌≡◌, IfOk, map, option_map, string_bytes};
-ghost use Rattle.wgetr.specs.Advice.{wrong_start, told_by, told_of_kind, told_on, told_on_line, correction_text, said};
+ghost use Rattle.std.specs.Prelude.{◌≡◌, ◌++◌, IfOk, codes, map, option_map, string_bytes};
+ghost use Rattle.std.specs.List.{flat_map};
+ghost use Rattle.wgetr.specs.Advice.{wrong_start, told_by, told_of_kind, told_on, told_on_line, said, word_text};
 
 use crate::fault::Fault;
 use address::AddressFault;
@@ -108,7 +109,8 @@ fn correction_text(
     accepted: &str,
     words: &[&str],
 ) -> Result<String, AllocError>
-    ensures { IfOk result (λ text. string_bytes text ≡ correction_text (map (λ word. word.now) words.now) wrong.now accepted.now) }
+    ensures { IfOk result (λ text. string_bytes text ≡ codes "wgetr: " ++ wrong.now ++ codes ", in:"
+        ++ flat_map (λ word. word_text word.now) words.now ++ codes "\n" ++ accepted.now ++ codes "\n") }
 {
     let mut text = format!(in alloc; "wgetr: {wrong}, in:")?;
     for word in words {
