@@ -12,8 +12,8 @@ use Rattle.robots_rules.specs.Access.{RuleSetValue}
 use Rattle.robots_rules.specs.Groups.{rules_in}
 use Rattle.fetcher.specs.declared.answer.Answer.{Answer}
 use Rattle.fetcher.specs.declared.fault_kind.FaultKind.{FaultKind}
-use Rattle.site_maps.specs.declared.input_fault.LineFault.{LineFault}
-use Rattle.site_maps.specs.declared.input_fault.LineFault.TheVariants.{Line, Address, Memory}
+use Rattle.site_maps.specs.declared.input_fault.InputLineFault.{InputLineFault}
+use Rattle.site_maps.specs.declared.input_fault.InputLineFault.TheVariants.{Line, Address, Memory}
 use Rattle.site_maps.specs.Maps.{named, IsNamed}
 use Rattle.site_maps.proofs.ReadingLaws.{names}
 use Rattle.site_records.specs.declared.reading.Reading.{Reading}
@@ -23,12 +23,12 @@ use Rattle.site_records.specs.Records.{answers_of, rules_of}
 use Rattle.site_records.specs.Readings.{Keeps, Adds, IsWrong, Takes, IsBad, Reads}
 
 -- a line whose address isn't read
-pub unread : (old : Reading) (s : Statement) (behind : List ℕ) (f : LineFault) → (f ≡ Memory) ⊎ ((f ≡ Address) × ¬ IsNamed (text_of s)) → IsWrong old s behind f
+pub unread : (old : Reading) (s : Statement) (behind : List ℕ) (f : InputLineFault) → (f ≡ Memory) ⊎ ((f ≡ Address) × ¬ IsNamed (text_of s)) → IsWrong old s behind f
 unread old s behind f (inl e) = rw e tt
 unread old s behind f (inr h) = rw h.0 h.1
 
 -- a line whose origin isn't read
-pub unrooted : (old : Reading) (s : Statement) (behind : List ℕ) (f : LineFault) → (IsAtRoot s → path_query_of (named (text_of s)) ≡ codes "/")
+pub unrooted : (old : Reading) (s : Statement) (behind : List ℕ) (f : InputLineFault) → (IsAtRoot s → path_query_of (named (text_of s)) ≡ codes "/")
     → (f ≡ Memory) ⊎ ((f ≡ Address) × ¬ IsNamed (text_of s)) ⊎ ((f ≡ Line) × IsNamed (text_of s) × (path_query_of (named (text_of s)) ≢ codes "/")) → IsWrong old s behind f
 unrooted old s behind f root (inl e) = rw e tt
 unrooted old s behind f root (inr (inl h)) = rw h.0 h.1
@@ -86,7 +86,7 @@ no_form text line behind is none s after b =
     none s (rw e at b.form)
 
 -- a line that is taken, or refused, is an entry that is
-pub reads_entry : (old new : Reading) (r : Result (Bor (List ℕ)) LineFault) (text line behind : List ℕ) (s : Statement) → IsLine text line behind → HasForm line s
+pub reads_entry : (old new : Reading) (r : Result (Bor (List ℕ)) InputLineFault) (text line behind : List ℕ) (s : Statement) → IsLine text line behind → HasForm line s
     → Takes old s behind r new → MatchResult r (λ after. Reads old text after.now new) (λ f. IsBad old text f)
 reads_entry old new (Ok after) text line behind s is form t = record {
   entry = t.entry;
@@ -115,7 +115,7 @@ shorter_line text line behind is =
     rw (is.behind_is, length-drop) (omega (arith, within))
 
 -- what follows an entry is shorter than the text
-pub shorter : (old new : Reading) (r : Result (Bor (List ℕ)) LineFault) (text line behind : List ℕ) (s : Statement) → IsLine text line behind
+pub shorter : (old new : Reading) (r : Result (Bor (List ℕ)) InputLineFault) (text line behind : List ℕ) (s : Statement) → IsLine text line behind
     → Takes old s behind r new → IfOk r (λ after. length after.now < length text)
 shorter old new (Ok after) text line behind s is t =
     let one = shorter_line text line behind is in
@@ -126,7 +126,7 @@ shorter old new (Err f) text line behind s is t = tt
 -- ---- lines that are refused behind their address
 
 -- an address that has an answer
-pub answered_before : (old : Reading) (s : Statement) (behind at : List ℕ) (f : LineFault) → read_address (text_of s) ≡ Ok at
+pub answered_before : (old : Reading) (s : Statement) (behind at : List ℕ) (f : InputLineFault) → read_address (text_of s) ≡ Ok at
     → (IsSome (lookup (bytes_eq (named (text_of s))) old.answers.entries) → IsRepeated old.answers.entries old.rules.entries s)
     → (f ≡ Line) × IsSome (lookup (bytes_eq at) old.answers.entries) → IsWrong old s behind f
 answered_before old s behind at f reads to h =
@@ -134,7 +134,7 @@ answered_before old s behind at f reads to h =
     rw h.0 (k.0, inr (inl (to (rw k.1 h.1))))
 
 -- an origin that has rules
-pub ruled_before : (old : Reading) (s : Statement) (behind of : List ℕ) (f : LineFault) → IsNamed (text_of s) → origin_of (named (text_of s)) ≡ of
+pub ruled_before : (old : Reading) (s : Statement) (behind of : List ℕ) (f : InputLineFault) → IsNamed (text_of s) → origin_of (named (text_of s)) ≡ of
     → (IsSome (lookup (bytes_eq (origin_of (named (text_of s)))) old.rules.entries) → IsRepeated old.answers.entries old.rules.entries s)
     → (f ≡ Line) × IsSome (lookup (bytes_eq of) old.rules.entries) → IsWrong old s behind f
 ruled_before old s behind of f named_is is to h = rw h.0 (named_is, inr (inl (to (rw is h.1))))

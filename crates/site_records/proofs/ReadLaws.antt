@@ -5,8 +5,8 @@ use Rattle.std.proofs.lemmas.List.{take-append-drop, length-append}
 use Rattle.std.proofs.lemmas.Bool.{eqb-true}
 use Rattle.std.proofs.lemmas.Slice.Eq.{bytes_eq-Decides}
 use Rattle.std.proofs.Math.Seq.{take-append_seam}
-use Rattle.site_maps.specs.declared.input_fault.LineFault.{LineFault}
-use Rattle.site_maps.specs.declared.input_fault.LineFault.TheVariants.{Line, Address, Memory}
+use Rattle.site_maps.specs.declared.input_fault.InputLineFault.{InputLineFault}
+use Rattle.site_maps.specs.declared.input_fault.InputLineFault.TheVariants.{Line, Address, Memory}
 use Rattle.site_maps.specs.Faults.{numbered}
 use Rattle.site_records.specs.declared.reading.Reading.{Reading}
 use Rattle.site_records.specs.Entries.{Entry, answered, ruled, IsEntry, IsNew}
@@ -84,7 +84,7 @@ goes_on robots bytes old new number rest after so_far r less =
     }
 
 -- a bad entry is the first
-pub first_bad : (robots : Bool) (bytes : List ℕ) (old : Reading) (number : ℕ) (rest : List ℕ) (f : LineFault) → IsReadTo robots bytes old number rest
+pub first_bad : (robots : Bool) (bytes : List ℕ) (old : Reading) (number : ℕ) (rest : List ℕ) (f : InputLineFault) → IsReadTo robots bytes old number rest
     → rest ≢ [] → IsBad old rest f → IsFault robots bytes (numbered f (number + 1))
 first_bad robots bytes old number rest Line s more bad = inr (record {
   text = s.text;

@@ -1,8 +1,8 @@
 -- A record in mid-read: what is kept, and what a line more adds to it.
 use Rattle.std.specs.Prelude.{◌≡◌, ◌<◌, ◌⊎◌, ◌++◌, ℕ, Bool, List, [], ◌∷◌, Result, MatchResult, length}
 use Rattle.std.specs.Borrow.{Bor}
-use Rattle.site_maps.specs.declared.input_fault.LineFault.{LineFault}
-use Rattle.site_maps.specs.declared.input_fault.LineFault.TheVariants.{Line, Address, Memory}
+use Rattle.site_maps.specs.declared.input_fault.InputLineFault.{InputLineFault}
+use Rattle.site_maps.specs.declared.input_fault.InputLineFault.TheVariants.{Line, Address, Memory}
 use Rattle.site_maps.specs.Maps.{IsNamed}
 use Rattle.site_records.specs.declared.reading.Reading.{Reading}
 use Rattle.site_records.specs.EntryLines.{Statement, text_of}
@@ -25,19 +25,19 @@ pub record Adds (old : Reading) (s : Statement) (behind : List ℕ) (after : Lis
   pub keeps : Keeps old entry new
 
 -- what is wrong with a line that says this
-abbrev pub IsWrong : Reading → Statement → List ℕ → LineFault → Type 0
+abbrev pub IsWrong : Reading → Statement → List ℕ → InputLineFault → Type 0
 IsWrong old s behind Line = IsNamed (text_of s) × IsMisplaced old.answers.entries old.rules.entries s behind
 IsWrong old s behind Address = ¬ IsNamed (text_of s)
 IsWrong old s behind Memory = Unit {0}
 
 -- a line that says this is taken with what is behind it, or is refused for what is wrong with it
-abbrev pub Takes : Reading → Statement → List ℕ → Result (Bor (List ℕ)) LineFault → Reading → Type 0
+abbrev pub Takes : Reading → Statement → List ℕ → Result (Bor (List ℕ)) InputLineFault → Reading → Type 0
 Takes old s behind result new = MatchResult result (λ after. Adds old s behind after.now new) (λ f. IsWrong old s behind f)
 
 -- ---- one entry more, as bytes
 
 -- what is wrong with the entry that the text begins with
-abbrev pub IsBad : Reading → List ℕ → LineFault → Type 0
+abbrev pub IsBad : Reading → List ℕ → InputLineFault → Type 0
 IsBad old text Line = IsBadLine old.answers.entries old.rules.entries text
 IsBad old text Address = IsBadAddress text
 IsBad old text Memory = IsFormed text

@@ -12,7 +12,7 @@ use address::{Address, Origin};
 use fetcher::{Answer, FaultKind};
 use indexmap::IndexMap;
 use robots_rules::{RuleSet, parse};
-use site_maps::{KeptRules, LineFault, read_address, read_origin};
+use site_maps::{KeptRules, InputLineFault, read_address, read_origin};
 use std::alloc::Global;
 use std::str;
 
@@ -41,21 +41,21 @@ impl Reading {
     }
 
     // Refuses an address for which an answer is kept. Takes no memory.
-    fn unstated(&self, at: &Address) -> Result<(), LineFault>
+    fn unstated(&self, at: &Address) -> Result<(), InputLineFault>
         ensures { IsVacant self.now.answers.entries at.now result }
     {
         if self.answers.contains_key(at) {
-            return Err(LineFault::Line);
+            return Err(InputLineFault::Line);
         }
         Ok(())
     }
 
     // Refuses an origin for which rules are kept. Takes no memory.
-    fn unruled(&self, origin: &Origin) -> Result<(), LineFault>
+    fn unruled(&self, origin: &Origin) -> Result<(), InputLineFault>
         ensures { IsVacant self.now.rules.entries origin.now result }
     {
         if self.rules.contains_key(origin) {
-            return Err(LineFault::Line);
+            return Err(InputLineFault::Line);
         }
         Ok(())
     }
@@ -66,13 +66,13 @@ impl Reading {
         text: &str,
         count: usize,
         behind: &'a [u8],
-    ) -> Result<&'a [u8], LineFault>
+    ) -> Result<&'a [u8], InputLineFault>
         ensures { Takes self.old (page text.now count) behind.now result self.new }
     {
         let at = read_address(self.alloc, text)?;
         self.unstated(&at)?;
         let Some((bytes, after)) = counted(behind, count) else {
-            return Err(LineFault::Line);
+            return Err(InputLineFault::Line);
         };
         let answer = answer_of(self.alloc, &at, bytes, self.robots)?;
         self.answers.insert(at, answer)?;
@@ -85,7 +85,7 @@ impl Reading {
         kind: FaultKind,
         text: &str,
         behind: &'a [u8],
-    ) -> Result<&'a [u8], LineFault>
+    ) -> Result<&'a [u8], InputLineFault>
         ensures { Takes self.old (fault kind text.now) behind.now result self.new }
     {
         let at = read_address(self.alloc, text)?;
@@ -100,13 +100,13 @@ impl Reading {
         text: &str,
         count: usize,
         behind: &'a [u8],
-    ) -> Result<&'a [u8], LineFault>
+    ) -> Result<&'a [u8], InputLineFault>
         ensures { Takes self.old (file text.now count) behind.now result self.new }
     {
         let origin = read_origin(self.alloc, text)?;
         self.unruled(&origin)?;
         let Some((bytes, after)) = counted(behind, count) else {
-            return Err(LineFault::Line);
+            return Err(InputLineFault::Line);
         };
         let rules = parse(self.alloc, bytes)?;
         self.rules
@@ -115,7 +115,7 @@ impl Reading {
     }
 
     // Takes a line that says that everything is allowed at an origin.
-    fn add_free<'a>(&mut self, text: &str, behind: &'a [u8]) -> Result<&'a [u8], LineFault>
+    fn add_free<'a>(&mut self, text: &str, behind: &'a [u8]) -> Result<&'a [u8], InputLineFault>
         ensures { Takes self.old (free text.now) behind.now result self.new }
     {
         let origin = read_origin(self.alloc, text)?;
@@ -126,7 +126,7 @@ impl Reading {
     }
 
     // Takes a line that says that nothing is allowed at an origin.
-    fn add_closed<'a>(&mut self, text: &str, behind: &'a [u8]) -> Result<&'a [u8], LineFault>
+    fn add_closed<'a>(&mut self, text: &str, behind: &'a [u8]) -> Result<&'a [u8], InputLineFault>
         ensures { Takes self.old (closed text.now) behind.now result self.new }
     {
         let origin = read_origin(self.alloc, text)?;
@@ -137,7 +137,7 @@ impl Reading {
     }
 
     // Takes what a line says, with what is behind it.
-    fn add<'a>(&mut self, line: EntryLine<'_>, behind: &'a [u8]) -> Result<&'a [u8], LineFault>
+    fn add<'a>(&mut self, line: EntryLine<'_>, behind: &'a [u8]) -> Result<&'a [u8], InputLineFault>
         ensures { Takes self.old (said line.entry) behind.now result self.new }
     {
         match line {
@@ -151,18 +151,18 @@ impl Reading {
 
     /// Takes the entry that the text begins with, and gives what follows it. An error says what is
     /// wrong with it; then nothing more may be read.
-    pub(crate) fn read_entry<'a>(&mut self, text: &'a [u8]) -> Result<&'a [u8], LineFault>
+    pub(crate) fn read_entry<'a>(&mut self, text: &'a [u8]) -> Result<&'a [u8], InputLineFault>
         ensures read { MatchResult result (λ after. Reads self.old text.now after.now self.new) (λ f. IsBad self.old text.now f) }
         ensures shorter { IfOk result (λ after. length after.now < length text.now) }
     {
         let Some((line, behind)) = first_line(text) else {
-            return Err(LineFault::Line);
+            return Err(InputLineFault::Line);
         };
         let Ok(line) = str::from_utf8(line) else {
-            return Err(LineFault::Line);
+            return Err(InputLineFault::Line);
         };
         let Some(line) = EntryLine::of(line) else {
-            return Err(LineFault::Line);
+            return Err(InputLineFault::Line);
         };
         self.add(line, behind)
     }
