@@ -1,0 +1,152 @@
+//! The lock round a frontier.
+ghost use Rattle.std.specs.Prelude.{◌≡◌, OnErr, IfOk, IfErr};
+ghost use Rattle.frontier_lock.specs.Permits.{IsFor};
+
+use fetcher::Outcome;
+use frontier_core::{
+    AnswerFault, Cause, Frontier, OriginPermit, Permit, Rejected, RejectedRules, SpreadFault, Work,
+};
+use robots_rules::RuleSet;
+use std::alloc::AllocError;
+use std::sync::{Condvar, Mutex, Wait};
+
+/// A permit with what was answered. It can't be dropped: it is given, or taken apart.
+pub enum Done {
+    /// The page's outcome.
+    Page(Permit, Outcome),
+    /// The origin's robots rules (RFC 9309, section 2.3).
+    Rules(OriginPermit, RuleSet),
+}
+
+/// A permit that is given up.
+pub enum Held {
+    /// That of a page.
+    Page(Permit),
+    /// That of an origin's robots rules.
+    Rules(OriginPermit),
+}
+
+/// An answer that the frontier didn't take.
+pub struct Refused {
+    /// The permit, still to be answered or given up, and the answer.
+    pub done: Done,
+    /// Why it wasn't taken.
+    pub fault: AnswerFault,
+}
+
+/// A frontier that many workers share. Each call makes one locked step.
+#[derive(Drop)]
+pub struct FrontierLock {
+    core: Mutex<Frontier>,
+    moved: Condvar,
+}
+
+// Hands an answer over.
+fn hand_over(core: &mut Frontier, done: Done) -> Result<(), Refused>
+    ensures same { OnErr result (core.new ≡ core.old) }
+    ensures back { IfErr result (λ refused. refused.done ≡ done) }
+    ensures stray { IfErr result (λ refused. refused.fault ≡ AnswerFault.Stray) }
+{
+    match done {
+        Done::Page(permit, outcome) => match core.answer(permit, outcome) {
+            Ok(()) => Ok(()),
+            Err(rejected) => {
+                let Rejected {
+                    permit,
+                    outcome,
+                    fault,
+                } = rejected;
+                Err(Refused {
+                    done: Done::Page(permit, outcome),
+                    fault,
+                })
+            }
+        },
+        Done::Rules(permit, rules) => match core.robots_answer(permit, rules) {
+            Ok(()) => Ok(()),
+            Err(rejected) => {
+                let RejectedRules {
+                    permit,
+                    rules,
+                    fault,
+                } = rejected;
+                Err(Refused {
+                    done: Done::Rules(permit, rules),
+                    fault,
+                })
+            }
+        },
+    }
+}
+
+// Gives a permit up where there is one, and stops.
+fn give_up(core: &mut Frontier, held: Option<Held>, cause: Cause) {
+    match held {
+        None => core.stop(cause),
+        Some(Held::Page(permit)) => core.abandon(permit, cause),
+        Some(Held::Rules(permit)) => core.abandon_robots(permit, cause),
+    }
+}
+
+impl FrontierLock {
+    /// Shares a frontier. Takes no memory.
+    pub fn new(core: Frontier) -> Self {
+        FrontierLock {
+            core: Mutex::new(core),
+            moved: Condvar::new(),
+        }
+    }
+
+    /// What the worker is to do now, as `Frontier::take` answers. A permit is for this worker.
+    pub fn next<R: Wait>(&self, rt: &R, worker: u32) -> Result<Work, AllocError>
+        ensures { IfOk result (IsFor worker) }
+    {
+        self.core.lock(rt).take(worker)
+    }
+
+    /// As [`FrontierLock::next`], but where others are at work it sleeps until one of them changed the frontier. It answers
+    /// Busy under the same lock under which it goes to sleep.
+    pub fn next_or_wait<R: Wait>(&self, rt: &R, worker: u32) -> Result<Work, AllocError>
+        ensures { IfOk result (IsFor worker) }
+    {
+        let mut core = self.core.lock(rt);
+        for _ in rt.forever() {
+            match core.take(worker) {
+                Ok(Work::Busy) => core = self.moved.wait(rt, core),
+                other => return other,
+            }
+        }
+        unreachable!()
+    }
+
+    /// Offers the edges of one due address, as `Frontier::spread` does.
+    pub fn spread<R: Wait>(&self, rt: &R) -> Result<(), SpreadFault> {
+        let spread = self.core.lock(rt).spread();
+        self.moved.notify_all();
+        spread
+    }
+
+    /// Hands an answer over, as `Frontier::answer` and `Frontier::robots_answer` do. Where it isn't taken, which is where the
+    /// permit is stray, the permit and the answer are handed back.
+    pub fn give<R: Wait>(&self, rt: &R, done: Done) -> Result<(), Refused>
+        ensures back { IfErr result (λ refused. refused.done ≡ done) }
+        ensures stray { IfErr result (λ refused. refused.fault ≡ AnswerFault.Stray) }
+    {
+        let given = hand_over(&mut self.core.lock(rt), done);
+        self.moved.notify_all();
+        given
+    }
+
+    /// Gives up the permit where there is one, as `Frontier::abandon` and `Frontier::abandon_robots` do, and stops the
+    /// frontier where nothing stopped it yet. Takes no memory.
+    pub fn halt<R: Wait>(&self, rt: &R, held: Option<Held>, cause: Cause) {
+        give_up(&mut self.core.lock(rt), held, cause);
+        self.moved.notify_all();
+    }
+
+    /// The frontier again. Takes no memory.
+    pub fn into_frontier(self) -> Frontier {
+        let FrontierLock { core, moved: _ } = self;
+        core.into_inner()
+    }
+}
