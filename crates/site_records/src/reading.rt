@@ -12,7 +12,7 @@ use address::{Address, Origin};
 use fetcher::{Answer, FaultKind};
 use indexmap::IndexMap;
 use robots_rules::{RuleSet, parse};
-use site_maps::{KeptRules, InputLineFault, read_address, read_origin};
+use site_maps::{InputLineFault, KeptRules, read_address, read_origin};
 use std::alloc::Global;
 use std::str;
 

@@ -7,5 +7,5 @@ use Rattle.wgetr.proofs.advice.advice_text.Goals as goal
 
 pub returns-in-Correction : goal.returns-in-Correction
 returns-in-Correction c =
-    IfOk-weaker c.correction_text.result _ _ (λ text says. says ∙ ap (λ (words : List ℕ). codes "wgetr: " ++ c.in-Correction.wrong.now ++ codes ", in:" ++ words ++ codes "\n" ++ c.in-Correction.accepted.now ++ codes "\n")
-    (flat_map-map word_text (λ (w : Bor (List ℕ)). w.now) c.args.words.now)) c.correction_text.ensures
+    rw c.in-Correction.is (IfOk-weaker c.correction_text.result _ _ (λ text says. says ∙ ap (λ (words : List ℕ). codes "wgetr: " ++ c.in-Correction.wrong.now ++ codes ", in:" ++ words ++ codes "\n" ++ c.in-Correction.accepted.now ++ codes "\n")
+    (flat_map-map word_text (λ (w : Bor (List ℕ)). w.now) c.args.words.now)) c.correction_text.ensures)
