@@ -3,3 +3,5 @@ pub mod PlainLaws
 pub mod NamingLaws
 pub mod TakenLaws
 pub mod OrderLaws
+pub mod LocalLaws
+pub mod FolderLaws

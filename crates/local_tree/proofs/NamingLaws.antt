@@ -1,8 +1,8 @@
 -- What the names of a list of pages have, and how they are given one after another.
-use Rattle.std.proofs.Common.{zero, suc, ◌≡◌, ◌≢◌, ℕ, ◌+◌, ◌≤◌, ◌<◌, ◌⊎◌, ◌/◌, ◌%◌, ◌^◌, ◌==◌, nat_lt, Bool, true, false, ◌&&◌, cond, map, List, [], ◌∷◌, ◌++◌, length, get_or, take, Contains, Option, Some, None, IsSome, is_some, unwrap_or, ◌↔◌, sym, refl, ap, ◌∙◌, subst, inl, inr, arith}
-use Rattle.std.proofs.lemmas.Bool.{cond_both, cond-true, cond-false, ne_eqb, cases_Bool, cases_lt, both_ways, lt-ltb, ltb-true, false_from_ne_true}
+use Rattle.std.proofs.Common.{zero, suc, ◌≡◌, ◌≢◌, ℕ, ◌+◌, ◌≤◌, ◌<◌, ◌⊎◌, ◌/◌, ◌%◌, ◌^◌, ◌==◌, nat_lt, Bool, true, false, ◌&&◌, cond, map, List, [], ◌∷◌, ◌++◌, length, get_or, take, Contains, Option, Some, None, IsSome, unwrap_or, ◌↔◌, sym, refl, ap, ◌∙◌, subst, inl, inr, arith}
+use Rattle.std.proofs.lemmas.Bool.{cond_both, cond-false, ne_eqb, cases_lt, lt-ltb, ltb-true, false_from_ne_true}
 use Rattle.std.proofs.lemmas.Fmt.{decimal_injective}
-use Rattle.std.proofs.lemmas.List.{get_or-take, length-take-le, get_or_read, append_cancel_left, length-append, take-append-le, take_at, get_or_append_left, get_or_push, ext_get_or}
+use Rattle.std.proofs.lemmas.List.{get_or-take, length-take-le, get_or_read, append_cancel_left, length-append, take-append-le, take_at, get_or_append_left, get_or_push}
 use Rattle.std.proofs.lemmas.List.Elements.{Contains-get_or, Contains-push, Contains-push_cases, Contains-append_left}
 use Rattle.std.proofs.lemmas.Slice.Eq.{bytes_eq-Decides}
 use Rattle.std.proofs.Math.Seq.{take-suc}

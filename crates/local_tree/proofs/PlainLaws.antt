@@ -1,15 +1,15 @@
 -- Plain names of addresses: their segments, and that each name made of one stays inside its folder.
-use Rattle.std.proofs.Common.{zero, suc, ◌≡◌, ◌≢◌, ℕ, ◌+◌, ◌≤◌, ◌<◌, List, [], ◌∷◌, ◌++◌, length, map, get_or, codes, All, sym, refl, ap, ◌∙◌, subst, arith, append_assoc, drop}
+use Rattle.std.proofs.Common.{zero, suc, ◌≡◌, ℕ, ◌+◌, ◌<◌, List, [], ◌∷◌, ◌++◌, length, map, get_or, codes, All, sym, refl, ap, ◌∙◌, subst, arith, append_assoc, drop}
 use Rattle.std.proofs.lemmas.Grind.{flat_map-append}
-use Rattle.std.proofs.lemmas.List.{append-nil, map-append, get_or-map, get_or_read, length-map}
+use Rattle.std.proofs.lemmas.List.{append-nil, map-append, get_or-map, length-map}
 use Rattle.std.proofs.lemmas.List.Elements.{All-nil, All-cons, All-append, All-map, All-weaker, All-head, All-tail}
 use Rattle.std.proofs.lemmas.Str.{IsUtf8-from_ascii}
 use Rattle.std.proofs.lemmas.Str.Ascii.{IsAscii-from_all}
 use Rattle.std.proofs.Math.Seq.{drop-append-add, drop-append_seam}
 use Rattle.std.specs.Fmt.{decimal}
 use Rattle.std.specs.List.{slice_split, flat_map, join_with_byte}
-use Rattle.std.specs.Str.{IsUtf8, IsAscii}
-use Rattle.address.specs.Address.{AddressText, IsAddress, IsAddressByte, IsAuthorityByte, authority_of, host_of, port_of, port_text, origin_of, path_query_of, dir_of, file_of, query_of}
+use Rattle.std.specs.Str.{IsUtf8}
+use Rattle.address.specs.Address.{AddressText, IsAddress, IsAddressByte, authority_of, host_of, port_of, port_text, origin_of, path_query_of, dir_of, file_of, query_of}
 use Rattle.local_tree.specs.PlainNames.{slash, is_slash, local_segment, dir_segments, last_segment, segments_of, plain_name_of}
 use Rattle.local_tree.specs.Names.{numbered, IsNaming}
 use Rattle.local_tree.specs.LocalNames.{IsInner, StaysInside, IsVisible, IsShort, HasShortSegments}

@@ -1,5 +1,5 @@
 -- Segments that are joined and split again, and what each segment of a name has.
-use Rattle.std.proofs.Common.{zero, suc, ◌≡◌, ◌≢◌, ℕ, ◌+◌, ◌-◌, ◌≤◌, ◌<◌, ◌/◌, ◌%◌, ◌==◌, nat_lt, Bool, true, false, not, ◌&&◌, cond, Option, None, List, [], ◌∷◌, ◌++◌, length, take, map, codes, min, All, sym, refl, ap, ◌∙◌, subst, arith, append_assoc}
+use Rattle.std.proofs.Common.{zero, suc, ◌≡◌, ◌≢◌, ℕ, ◌+◌, ◌≤◌, ◌<◌, ◌/◌, ◌%◌, ◌==◌, nat_lt, Bool, true, false, not, ◌&&◌, cond, Option, None, List, [], ◌∷◌, ◌++◌, length, take, map, codes, All, sym, refl, ap, ◌∙◌, arith, append_assoc}
 use Rattle.std.proofs.lemmas.Bool.{cond_both, both_ways, ne_eqb, lt-ltb}
 use Rattle.std.proofs.lemmas.Bool.Decides.{nat_tests}
 use Rattle.std.proofs.lemmas.List.Sums.{AllPass-from_list_all}
@@ -10,9 +10,9 @@ use Rattle.std.proofs.lemmas.Iterator.{YieldsList}
 use Rattle.std.proofs.lemmas.Iterator.Consumers.{YieldsList-end}
 use Rattle.std.specs.Iterator.{Yields}
 use Rattle.std.specs.Fmt.{decimal, digits, digits_onto, digit_glyph}
-use Rattle.std.specs.List.{slice_split, onto_first, list_all, flat_map, filter, join_with_byte}
+use Rattle.std.specs.List.{slice_split, onto_first, list_all, flat_map, join_with_byte}
 use Rattle.local_tree.specs.PlainNames.{slash, is_slash, is_dot, has_bytes, without_slashes, without_dots, local_segment, dir_segments, file_or_index, last_segment}
-use Rattle.local_tree.specs.LocalNames.{IsInner, StaysInside, IsVisible, IsShort}
+use Rattle.local_tree.specs.LocalNames.{IsInner, IsVisible, IsShort}
 use Rattle.local_tree.specs.declared.plain_name.TheConstants.{MAX_SEGMENT}
 
 -- ---- bytes

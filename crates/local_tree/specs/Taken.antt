@@ -1,5 +1,5 @@
 -- Which names are taken while names are given.
-use Rattle.std.specs.Prelude.{◌↔◌, ◌⊎◌, ℕ, ◌+◌, nat_lt, Bool, ◌&&◌, List, Option, Some, IsSome, Contains, bytes_eq, if◌then◌else◌}
+use Rattle.std.specs.Prelude.{◌↔◌, ◌⊎◌, ℕ, ◌+◌, nat_lt, ◌&&◌, List, Option, Some, IsSome, Contains, bytes_eq, if◌then◌else◌}
 use Rattle.std.specs.BTreeMap.{BTreeMap, get_by_text}
 use Rattle.std.specs.declared.cmp.Ordering.{Ordering}
 use Rattle.std.specs.declared.string.String.{String}

@@ -10,10 +10,20 @@
 //! ```
 #![tactic(auto)]
 
+pub use crate::disk_folder::DiskFolder;
+pub use crate::folder::{Folder, FolderFault};
+pub use crate::local_name::is_local_name;
+pub use crate::memory_folder::MemoryFolder;
 pub use crate::naming::{ascend, names};
 pub use crate::plain_name::MAX_SEGMENT;
 
+mod disk_folder;
+mod folder;
+#[cfg(test)]
+mod folder_tests;
 mod free_name;
+mod local_name;
+mod memory_folder;
 mod naming;
 mod plain_name;
 #[cfg(test)]

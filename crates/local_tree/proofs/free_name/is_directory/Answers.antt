@@ -1,4 +1,4 @@
-use Rattle.std.proofs.Common.{rules, ◌≡◌, ◌∙◌, length}
+use Rattle.std.proofs.Common.{rules, ◌∙◌}
 use Rattle.std.proofs.lemmas.Fn.{always_returns_same}
 use Rattle.local_tree.proofs.OrderLaws.{front_order, directory_found}
 use Rattle.local_tree.proofs.free_name.is_directory.Goals as goal

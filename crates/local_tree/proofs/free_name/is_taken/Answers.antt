@@ -1,4 +1,4 @@
-use Rattle.std.proofs.Common.{◌≡◌, ◌⊎◌, inl, inr, refl, sym, ◌∙◌}
+use Rattle.std.proofs.Common.{inl, inr, refl, sym, ◌∙◌}
 use Rattle.std.proofs.lemmas.Bool.{both_ways}
 use Rattle.local_tree.proofs.free_name.is_taken.Goals as goal
 

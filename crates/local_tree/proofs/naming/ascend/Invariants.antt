@@ -1,4 +1,4 @@
-use Rattle.std.proofs.Common.{◌≡◌, ℕ, ◌<◌, List, get_or}
+use Rattle.std.proofs.Common.{ℕ, ◌<◌, List, get_or}
 use Rattle.address.specs.AddressOrder.{IsBefore}
 use Rattle.local_tree.proofs.naming.ascend.Given as goal
 

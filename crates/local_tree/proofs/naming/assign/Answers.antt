@@ -2,8 +2,8 @@ use Rattle.std.proofs.Common.{◌≡◌, ◌+◌, ◌<◌, ◌⊎◌, ℕ, List,
 use Rattle.std.proofs.lemmas.List.{get_or-map, length-map, length_push}
 use Rattle.std.specs.BTreeMap.{get_by_text}
 use Rattle.std.specs.String.{string_bytes}
-use Rattle.local_tree.specs.Names.{IsDirectory, IsNaming, numbered}
-use Rattle.local_tree.specs.Taken.{text_of, IsTaken, remembered, HasSameNames}
+use Rattle.local_tree.specs.Names.{IsDirectory, numbered}
+use Rattle.local_tree.specs.Taken.{text_of, remembered, HasSameNames}
 use Rattle.local_tree.proofs.NamingLaws.{Assigned, Assigned-start, Assigned-step, IsNaming_from, same_directories, map_push}
 use Rattle.local_tree.proofs.naming.assign.Goals as goal
 

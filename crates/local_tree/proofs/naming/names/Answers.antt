@@ -1,4 +1,4 @@
-use Rattle.std.proofs.Common.{◌≡◌, List, ℕ, map, All, sym, ap, ◌∙◌, subst}
+use Rattle.std.proofs.Common.{map, All, ap, ◌∙◌, subst}
 use Rattle.std.specs.String.{string_bytes}
 use Rattle.local_tree.specs.PlainNames.{plain_name_of}
 use Rattle.local_tree.specs.Names.{numbered, IsNaming}

@@ -1,4 +1,4 @@
-use Rattle.std.proofs.Common.{◌≡◌, sym, subst}
+use Rattle.std.proofs.Common.{sym, subst}
 use Rattle.std.specs.Str.{IsUtf8}
 use Rattle.local_tree.proofs.PlainLaws.{plain_utf8}
 use Rattle.local_tree.proofs.plain_name.plain_name_of.Goals as goal

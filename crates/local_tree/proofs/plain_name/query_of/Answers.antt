@@ -1,4 +1,4 @@
-use Rattle.std.proofs.Common.{◌≡◌, ◌+◌, length, drop, sym, ap, ◌∙◌}
+use Rattle.std.proofs.Common.{◌+◌, length, drop, ap, ◌∙◌}
 use Rattle.std.proofs.lemmas.List.{take_rest}
 use Rattle.local_tree.proofs.PlainLaws.{query_behind}
 use Rattle.address.specs.Address.{dir_of, file_of, query_of}

@@ -1,0 +1,35 @@
+-- Folders: what stands in them, and what a put leaves.
+use Rattle.std.specs.Prelude.{◌≡◌, ◌≢◌, ℕ, ◌+◌, ◌^◌, ◌-◌, ◌<◌, ◌≤◌, ◌⊎◌, min, max, List, Option, Some, None, Result, Ok, Err, ⊤, bytes_eq, if◌then◌else◌}
+
+-- what stands under each name: a file's bytes, or nothing
+abbrev pub Files : Type 0
+Files = List ℕ → Option (List ℕ)
+
+-- the files with this one among them
+abbrev pub with_file : Files → List ℕ → List ℕ → Files
+with_file files name bytes other = if bytes_eq name other then Some bytes else files other
+
+-- the file was put and no other changed, where the folder tells its files
+abbrev pub Puts : Option Files → Option Files → List ℕ → List ℕ → Type 0
+Puts (Some old) (Some new) name bytes = (other : List ℕ) → new other ≡ with_file old name bytes other
+Puts None None name bytes = ⊤
+Puts _ _ name bytes = ⊥
+
+-- every other file is as before, where the folder tells its files; this one may hold anything
+abbrev pub KeepsOthers : Option Files → Option Files → List ℕ → Type 0
+KeepsOthers (Some old) (Some new) name = (other : List ℕ) → other ≢ name → new other ≡ old other
+KeepsOthers None None name = ⊤
+KeepsOthers _ _ name = ⊥
+
+-- the count after one more failed call: it stays at 2 ^ 64 - 1, and never falls
+abbrev pub counted : ℕ → ℕ
+counted failures = max failures (min (failures + 1) (2 ^ 64 - 1))
+
+-- a call that answered an error is counted
+abbrev pub CountsFault : {A E : Type 0} → ℕ → ℕ → Result A E → Type 0
+CountsFault old new (Ok a) = new ≡ old
+CountsFault old new (Err e) = new ≡ counted old
+
+-- the count has risen, or stands where it can't rise
+abbrev pub HasRisen : ℕ → ℕ → Type 0
+HasRisen old new = (old < new) ⊎ (2 ^ 64 - 1 ≤ new)

@@ -1,0 +1,175 @@
+//! A folder on a disk. Nothing of what a disk holds is proved; the tests show it.
+ghost use Rattle.std.specs.Prelude.{◌≡◌, None, IfOk};
+ghost use Rattle.local_tree.specs.Folders.{CountsFault};
+
+use crate::folder::{Folder, FolderFault};
+use crate::local_name::is_local_name;
+use std::alloc::Global;
+use std::fs::{File, Files};
+use std::io::{Error, ErrorKind, Write};
+use std::marker::Model;
+use std::{fs, io};
+
+/// What the file is called, directly below the folder, that is written before it gets its name; a
+/// number follows. No host has a `%` (URL Standard, section 3.1), so no page has a name that begins so.
+const PART: &str = ".wgetr%part";
+
+/// Files below a folder of the system. A file is written under another name and gets its own when it
+/// is whole, so nobody sees half of it, and what stood there stays until then.
+///
+/// A symbolic link that stands below the folder where a directory or a file is to stand is refused,
+/// and so is anything else that is neither. Links that others make while a file is put aren't seen:
+/// the system's calls by which one would see them aren't offered.
+#[derive(Drop)]
+pub struct DiskFolder<'a, R: Files> {
+    rt: &'a R,
+    alloc: Global,
+    prefix: String,
+    part: String,
+    // The directory that was last found or made; empty at first, and after a put that failed.
+    known: String,
+    failed: u64,
+}
+
+// Contracts see how many puts answered an error.
+impl<'a, R: Files> Model for DiskFolder<'a, R> {
+    ghost use Rattle.std.specs.Prelude.{ℕ};
+
+    ghost Value = { ℕ };
+
+    ghost view = { λ f. f.failed };
+}
+
+// The path of a name below another.
+fn path_below(alloc: Global, folder: &str, name: &str) -> io::Result<String> {
+    let mut path = String::new(alloc);
+    path.push_str(folder)?;
+    path.push_str("/")?;
+    path.push_str(name)?;
+    Ok(path)
+}
+
+// Makes a directory, unless it is there. What else is there is refused, a symbolic link too.
+fn make_dir<R: Files>(rt: &R, path: &str) -> io::Result<()> {
+    match rt.symlink_metadata(path) {
+        Ok(found) if found.is_dir() => Ok(()),
+        Ok(_) => Err(Error::from(ErrorKind::NotADirectory)),
+        Err(e) if e.kind() == ErrorKind::NotFound => rt.create_dir(path),
+        Err(e) => Err(e),
+    }
+}
+
+// Refuses what stands where a file is to stand, unless it is a file or nothing.
+fn look_for_file<R: Files>(rt: &R, path: &str) -> io::Result<()> {
+    match rt.symlink_metadata(path) {
+        Ok(found) if found.is_file() => Ok(()),
+        Ok(_) => Err(Error::from(ErrorKind::AlreadyExists)),
+        Err(e) if e.kind() == ErrorKind::NotFound => Ok(()),
+        Err(e) => Err(e),
+    }
+}
+
+// Writes a new file. What a killed run left there is taken away first; a link isn't followed.
+fn write_new<R: Files>(rt: &R, path: &str, bytes: &[u8]) -> io::Result<()> {
+    let mut file = match File::create_new(rt, path) {
+        Ok(file) => file,
+        Err(e) if e.kind() == ErrorKind::AlreadyExists => {
+            rt.remove_file(path)?;
+            File::create_new(rt, path)?
+        }
+        Err(e) => return Err(e),
+    };
+    file.write_all(bytes)
+}
+
+// Writes a file under another name, and gives it its own when it is whole.
+fn put_by_way_of<R: Files>(rt: &R, part: &str, path: &str, bytes: &[u8]) -> io::Result<()> {
+    write_new(rt, part, bytes)?;
+    rt.rename(part, path)
+}
+
+impl<'a, R: Files> DiskFolder<'a, R> {
+    /// The folder at this path; the empty path is `.`. The folder is made at the first put, where it
+    /// isn't there, and may itself be a link. Runs that put into one folder at a time need different
+    /// numbers, as their processes have. The error is that memory is wanting.
+    pub fn new(rt: &'a R, alloc: Global, path: &str, process: u32) -> io::Result<DiskFolder<'a, R>>
+        ensures { IfOk result (λ folder. folder ≡ 0) }
+    {
+        let path = if path.is_empty() { "." } else { path };
+        let prefix = String::from_str(alloc, path)?;
+        let part = format!(in alloc; "{path}/{PART}{process}")?;
+        Ok(DiskFolder {
+            rt,
+            alloc,
+            prefix,
+            part,
+            known: String::new(alloc),
+            failed: 0,
+        })
+    }
+
+    // Finds or makes the directories of a name, from the top down.
+    fn make_dirs(&mut self, dirs: &str) -> io::Result<()>
+        ensures { self.new ≡ self.old }
+    {
+        if !self.known.is_empty() && self.known.as_str() == dirs {
+            return Ok(());
+        }
+        fs::create_dir_all(self.rt, self.prefix.as_str())?;
+        let mut path = String::from_str(self.alloc, self.prefix.as_str())?;
+        for segment in dirs.split('/') {
+            path.push_str("/")?;
+            path.push_str(segment)?;
+            make_dir(self.rt, path.as_str())?;
+        }
+        self.known.clear();
+        self.known.push_str(dirs)?;
+        Ok(())
+    }
+
+    // Writes the file and gives it its name.
+    fn write(&mut self, name: &str, bytes: &[u8]) -> io::Result<()>
+        ensures { self.new ≡ self.old }
+    {
+        if !is_local_name(name) {
+            return Err(Error::from(ErrorKind::InvalidInput));
+        }
+        if let Some((dirs, _)) = name.rsplit_once('/') {
+            self.make_dirs(dirs)?;
+        }
+        let path = path_below(self.alloc, self.prefix.as_str(), name)?;
+        look_for_file(self.rt, path.as_str())?;
+        let put = put_by_way_of(self.rt, self.part.as_str(), path.as_str(), bytes);
+        if put.is_err() {
+            // A part that stays is taken away before the next file.
+            let _ = self.rt.remove_file(self.part.as_str());
+        }
+        put
+    }
+}
+
+impl<'a, R: Files> Folder for DiskFolder<'a, R> {
+    ghost use Rattle.std.specs.Prelude.{None};
+
+    ghost files = { λ f. None };
+
+    ghost failed = { λ f. f };
+
+    /// Puts the file. A name that isn't local is refused, and so are a path that is too long for the
+    /// disk, a directory where the file is to stand, and a file or a link where a directory is.
+    fn put(&mut self, name: &str, bytes: &[u8]) -> Result<(), FolderFault> {
+        match self.write(name, bytes) {
+            Ok(()) => Ok(()),
+            Err(_) => {
+                // The directory may have gone.
+                self.known.clear();
+                self.failed = self.failed.saturating_add(1);
+                Err(FolderFault::Device)
+            }
+        }
+    }
+
+    fn failures(&self) -> u64 {
+        self.failed
+    }
+}
