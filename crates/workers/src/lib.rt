@@ -11,6 +11,8 @@ pub use harvest::{Entry, Harvest};
 mod frontier_tests;
 #[cfg(test)]
 mod long_tests;
+#[cfg(test)]
+mod memory_tests;
 mod retrieval;
 #[cfg(test)]
 mod script;

@@ -1,0 +1,76 @@
+//! A retrieval that stops for want of memory keeps what it found.
+use crate::script::plan;
+use crate::{Halt, retrieve_in_order};
+use address::{Address, Origin};
+use fetcher::{Answer, Ask, Fetcher};
+use frontier_core::{Cause, Event};
+use robots_rules::RuleSet;
+use site_maps::MapSite;
+use std::alloc::AllocError;
+
+/// The start leads to `/a`.
+const PAIR: &str = "page 200 http://h/
+link http://h/a
+leaf 200 http://h/a
+";
+
+/// A site that answers one ask for a page, and finds no memory for another.
+#[derive(Drop)]
+struct Short {
+    site: MapSite,
+    is_spent: bool,
+}
+
+impl Fetcher for Short {
+    ghost use Rattle.site_maps.specs.Maps.{says_of};
+    ghost use Rattle.fetcher.specs.Sites.{SiteAnswers, GivesOutcome, GivesRules};
+
+    ghost Site = { SiteAnswers };
+
+    ghost site = { λ s. says_of s.site.answers s.site.rules };
+
+    ghost says = { GivesOutcome };
+
+    ghost rules = { GivesRules };
+
+    ghost log = { λ s. s.site.asks };
+
+    fn ask(&mut self, at: &Address) -> Result<Answer, AllocError> {
+        if self.is_spent {
+            return Err(AllocError);
+        }
+        self.is_spent = true;
+        self.site.ask(at)
+    }
+
+    fn ask_robots(&mut self, of: &Origin) -> Result<RuleSet, AllocError> {
+        self.site.ask_robots(of)
+    }
+
+    fn asks(&self) -> &[Ask] {
+        self.site.asks()
+    }
+}
+
+/// Whether the retrieval stopped for want of memory with one record, its plan, and a trace that ends so.
+fn kept_one(halt: &Halt) -> bool {
+    let harvest = &halt.harvest;
+    halt.cause == Cause::Memory
+        && harvest.records().len() == 1
+        && harvest.plan().is_some()
+        && matches!(harvest.trace().last(), Some(Event::Stop(Cause::Memory)))
+}
+
+#[test]
+fn a_stop_for_memory_keeps_what_was_found(rt: HostRuntime) {
+    let site = MapSite::read(rt.alloc(), PAIR.as_bytes()).expect(&rt, "a map");
+    let mut short = Short {
+        site,
+        is_spent: false,
+    };
+    let plan = plan(&rt, rt.alloc(), 3, 100);
+    match retrieve_in_order(rt.alloc(), &plan, &mut short) {
+        Ok(_) => panic!(rt; "no halt"),
+        Err(halt) => assert!(rt; kept_one(&halt)),
+    }
+}
