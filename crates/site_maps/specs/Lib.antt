@@ -3,5 +3,6 @@ pub mod Lines
 pub mod Said
 pub mod Faults
 pub mod Maps
+pub mod Known
 pub mod Readings
 pub mod MapSites

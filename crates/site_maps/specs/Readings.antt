@@ -99,11 +99,6 @@ IsWrong above s Line =
 IsWrong above s Address = IsInPlace above s × ¬ All IsNamed (texts_of s)
 IsWrong above s Memory = IsInPlace above s
 
--- the text is read as this address, or is refused
-abbrev pub Names : List ℕ → Result (List ℕ) InputLineFault → Type 0
-Names text result =
-    MatchResult result (λ address. read_address text ≡ Ok address) (λ f. (f ≡ Memory) ⊎ ((f ≡ Address) × ¬ IsNamed text))
-
 -- the address is its origin's `/`, or the line is bad
 abbrev pub IsRoot : {U : Type 0} → List ℕ → Result U InputLineFault → Type 0
 IsRoot address result =

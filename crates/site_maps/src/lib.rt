@@ -6,6 +6,7 @@
 mod field;
 mod input_fault;
 mod kept_rules;
+mod known;
 mod map_line;
 mod map_site;
 mod naming;

@@ -1,6 +1,7 @@
 //! Sites that are read from a map.
 use crate::input_fault::InputFault;
 use crate::kept_rules::KeptRules;
+use crate::known::KnownAddresses;
 use crate::reading::Reading;
 use crate::steady_map::SteadyMap;
 use address::{Address, Origin};
@@ -56,10 +57,11 @@ impl MapSite {
         ensures fault { IfErr result (λ f. IsFault text.now f) }
     {
         let mut reading = Reading::new(alloc);
+        let mut known = KnownAddresses::new(alloc);
         let mut number = 0;
         for line in text.split(|byte| *byte == b'\n') {
             number += 1;
-            if let Err(fault) = reading.read_line(line) {
+            if let Err(fault) = reading.read_line(&mut known, line) {
                 return Err(fault.at(number));
             }
         }

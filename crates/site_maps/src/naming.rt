@@ -1,5 +1,6 @@
 //! Addresses and origins that a line names (URL Standard, section 4.4; RFC 9309, section 2.3).
-ghost use Rattle.site_maps.specs.Readings.{IsRoot, Names, NamesOrigin};
+ghost use Rattle.site_maps.specs.Known.{Names};
+ghost use Rattle.site_maps.specs.Readings.{IsRoot, NamesOrigin};
 
 use crate::input_fault::InputLineFault;
 use address::{Address, Origin};

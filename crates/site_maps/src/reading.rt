@@ -6,8 +6,9 @@ ghost use Rattle.site_maps.specs.Readings.{IsFresh, IsVacant, Tells, Closes, Cla
 
 use crate::input_fault::InputLineFault;
 use crate::kept_rules::KeptRules;
+use crate::known::KnownAddresses;
 use crate::map_line::MapLine;
-use crate::naming::{read_address, read_origin};
+use crate::naming::read_origin;
 use crate::open_robots::OpenRobots;
 use crate::rule_kind::RuleKind;
 use address::{Address, Origin};
@@ -127,10 +128,15 @@ impl Reading {
     }
 
     // Takes a page line.
-    fn add_page(&mut self, status: u16, text: &str) -> Result<(), InputLineFault>
+    fn add_page<'a>(
+        &mut self,
+        known: &mut KnownAddresses<'a>,
+        status: u16,
+        text: &'a str,
+    ) -> Result<(), InputLineFault>
         ensures { Takes self.old (page status text.now) result self.new }
     {
-        let address = read_address(self.alloc, text)?;
+        let address = known.read(text)?;
         self.claim(&address)?;
         self.open = Some(Open::Page(OpenPage {
             address,
@@ -141,12 +147,17 @@ impl Reading {
     }
 
     // Takes an edge line.
-    fn add_edge(&mut self, kind: EdgeKind, text: &str) -> Result<(), InputLineFault>
+    fn add_edge<'a>(
+        &mut self,
+        known: &mut KnownAddresses<'a>,
+        kind: EdgeKind,
+        text: &'a str,
+    ) -> Result<(), InputLineFault>
         ensures { Takes self.old (edge kind text.now) result self.new }
     {
         match &mut self.open {
             Some(Open::Page(above)) => {
-                let target = read_address(self.alloc, text)?;
+                let target = known.read(text)?;
                 above.edges.push(Edge { target, kind })?;
                 Ok(())
             }
@@ -155,27 +166,43 @@ impl Reading {
     }
 
     // Takes a moved line.
-    fn add_moved(&mut self, status: u16, text: &str, target: &str) -> Result<(), InputLineFault>
+    fn add_moved<'a>(
+        &mut self,
+        known: &mut KnownAddresses<'a>,
+        status: u16,
+        text: &'a str,
+        target: &'a str,
+    ) -> Result<(), InputLineFault>
         ensures { Takes self.old (moved status text.now target.now) result self.new }
     {
-        let address = read_address(self.alloc, text)?;
-        let target = read_address(self.alloc, target)?;
+        let address = known.read(text)?;
+        let target = known.read(target)?;
         self.add_answer(address, Outcome::Moved(status, target))
     }
 
     // Takes a leaf line.
-    fn add_leaf(&mut self, status: u16, text: &str) -> Result<(), InputLineFault>
+    fn add_leaf<'a>(
+        &mut self,
+        known: &mut KnownAddresses<'a>,
+        status: u16,
+        text: &'a str,
+    ) -> Result<(), InputLineFault>
         ensures { Takes self.old (leaf status text.now) result self.new }
     {
-        let address = read_address(self.alloc, text)?;
+        let address = known.read(text)?;
         self.add_answer(address, Outcome::Leaf(status))
     }
 
     // Takes a fault line.
-    fn add_fault(&mut self, kind: FaultKind, text: &str) -> Result<(), InputLineFault>
+    fn add_fault<'a>(
+        &mut self,
+        known: &mut KnownAddresses<'a>,
+        kind: FaultKind,
+        text: &'a str,
+    ) -> Result<(), InputLineFault>
         ensures { Takes self.old (fault kind text.now) result self.new }
     {
-        let address = read_address(self.alloc, text)?;
+        let address = known.read(text)?;
         self.add_answer(address, Outcome::Fault(kind))
     }
 
@@ -212,24 +239,33 @@ impl Reading {
     }
 
     // Takes what a line says.
-    fn add(&mut self, line: MapLine<'_>) -> Result<(), InputLineFault>
+    fn add<'a>(
+        &mut self,
+        known: &mut KnownAddresses<'a>,
+        line: MapLine<'a>,
+    ) -> Result<(), InputLineFault>
         ensures { Takes self.old (said line.entry) result self.new }
     {
         match line {
             MapLine::Skipped => Ok(()),
-            MapLine::Page(status, text) => self.add_page(status, text),
-            MapLine::Edge(kind, text) => self.add_edge(kind, text),
-            MapLine::Moved(status, text, target) => self.add_moved(status, text, target),
-            MapLine::Leaf(status, text) => self.add_leaf(status, text),
-            MapLine::Fault(kind, text) => self.add_fault(kind, text),
+            MapLine::Page(status, text) => self.add_page(known, status, text),
+            MapLine::Edge(kind, text) => self.add_edge(known, kind, text),
+            MapLine::Moved(status, text, target) => self.add_moved(known, status, text, target),
+            MapLine::Leaf(status, text) => self.add_leaf(known, status, text),
+            MapLine::Fault(kind, text) => self.add_fault(known, kind, text),
             MapLine::Robots(text) => self.add_robots(text),
             MapLine::Closed(text) => self.add_closed(text),
             MapLine::Rule(kind, rest) => self.add_rule(kind, rest),
         }
     }
 
-    /// Takes one more line. An error says what is wrong with it; then nothing more may be read.
-    pub(crate) fn read_line(&mut self, line: &[u8]) -> Result<(), InputLineFault>
+    /// Takes one more line; the addresses that it names are read where no line above named them. An error says what is
+    /// wrong with it; then nothing more may be read.
+    pub(crate) fn read_line<'a>(
+        &mut self,
+        known: &mut KnownAddresses<'a>,
+        line: &'a [u8],
+    ) -> Result<(), InputLineFault>
         ensures { Reads self.old line.now result self.new }
     {
         let Ok(text) = str::from_utf8(line) else {
@@ -238,6 +274,6 @@ impl Reading {
         let Some(line) = MapLine::of(text) else {
             return Err(InputLineFault::Line);
         };
-        self.add(line)
+        self.add(known, line)
     }
 }
