@@ -14,6 +14,3 @@ pub use edge::{Edge, EdgeKind, Edges};
 pub use fault_kind::FaultKind;
 pub use fetcher::{Ask, Fetcher, SteadyFetcher};
 pub use outcome::Outcome;
-
-#[cfg(test)]
-mod tests;

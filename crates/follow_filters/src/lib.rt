@@ -25,6 +25,4 @@ mod plan;
 mod plan_copies;
 mod rule;
 mod spelling;
-#[cfg(test)]
-mod tests;
 mod wildcards;

@@ -11,6 +11,3 @@ mod read;
 pub use crate::fault::LineFault;
 pub use crate::order::{MAX_WORKERS, Order, Prefix, Source};
 pub use crate::read::read_order;
-
-#[cfg(test)]
-mod tests;

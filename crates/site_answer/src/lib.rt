@@ -17,6 +17,3 @@ pub use fetcher::{
 pub use read_fault::kind_of_fault;
 pub use site_maps::{InputFault, MapSite, SteadyMap};
 pub use whole_response::{digest, into_answer};
-
-#[cfg(test)]
-mod digest_tests;

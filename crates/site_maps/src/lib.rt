@@ -21,6 +21,3 @@ pub use kept_rules::KeptRules;
 pub use map_site::MapSite;
 pub use naming::{read_address, read_origin};
 pub use steady_map::SteadyMap;
-
-#[cfg(test)]
-mod tests;

@@ -10,6 +10,3 @@ mod recorded_site;
 mod replayed;
 
 pub use recorded_site::RecordedSite;
-
-#[cfg(test)]
-mod tests;

@@ -7,15 +7,5 @@
 pub use crate::retrieval::{Halt, retrieve_in_order};
 pub use harvest::{Entry, Harvest};
 
-#[cfg(test)]
-mod frontier_tests;
-#[cfg(test)]
-mod long_tests;
-#[cfg(test)]
-mod memory_tests;
 mod retrieval;
-#[cfg(test)]
-mod script;
-#[cfg(test)]
-mod tests;
 mod turn;

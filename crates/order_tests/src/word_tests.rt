@@ -1,8 +1,8 @@
 //! Words and what they order: the manual's options, the defaults, and which fault is named.
-use crate::{LineFault, Source, read_order};
 use address::AddressFault;
 use clap::error::ErrorKind;
 use follow_filters::Limit;
+use options::{LineFault, Source, read_order};
 use std::alloc::Global;
 use std::test::Fail;
 

@@ -1,7 +1,7 @@
 //! Responses in examples: what each answers, whole and in pieces, and each call once.
-use crate::{Answer, Digester, FaultKind, digest, into_answer, kind_of_fault};
 use address::Address;
 use response_reader::{Head, ReadFault, Response, Sink, SliceWire, read_response};
+use site_answer::{Answer, Digester, FaultKind, digest, into_answer, kind_of_fault};
 use std::alloc::{AllocError, Global};
 use std::test::Fail;
 

@@ -1,7 +1,7 @@
 //! Maps in examples: what each line says, which line is bad, and each call once.
-use crate::{InputFault, MapSite};
 use address::{Address, Origin};
 use fetcher::{Answer, Fetcher, SteadyFetcher};
+use site_maps::{InputFault, MapSite};
 use std::alloc::{AllocError, Global};
 use std::test::Fail;
 

@@ -1,12 +1,12 @@
 //! A retrieval that stops for want of memory keeps what it found.
 use crate::script::plan;
-use crate::{Halt, retrieve_in_order};
 use address::{Address, Origin};
 use fetcher::{Answer, Ask, Fetcher};
 use frontier_core::{Cause, Event};
 use robots_rules::RuleSet;
 use site_maps::MapSite;
 use std::alloc::AllocError;
+use workers::{Halt, retrieve_in_order};
 
 /// The start leads to `/a`.
 const PAIR: &str = "page 200 http://h/

@@ -1,8 +1,8 @@
 //! Records in examples: what each entry says, which entry is bad, and each call once.
-use crate::RecordedSite;
 use address::{Address, Origin};
 use fetcher::{Ask, Fetcher};
 use site_maps::InputFault;
+use site_records::RecordedSite;
 use std::alloc::{AllocError, Global};
 use std::test::Fail;
 

@@ -1,6 +1,6 @@
 //! Outcomes and their parts, each call once.
-use crate::{Ask, Body, Edge, EdgeKind, Edges, FaultKind, Outcome};
 use address::Address;
+use fetcher::{Ask, Body, Edge, EdgeKind, Edges, FaultKind, Outcome};
 use std::alloc::Global;
 use std::test::Fail;
 

@@ -1,0 +1,12 @@
+//! Sites in examples: tests alone, of outcomes, maps, records and what a response answers. They stand above the crates that
+//! they are of, so none is proved once more with them.
+#![tactic(auto)]
+
+#[cfg(test)]
+mod digest_tests;
+#[cfg(test)]
+mod map_tests;
+#[cfg(test)]
+mod outcome_tests;
+#[cfg(test)]
+mod record_tests;
