@@ -7,7 +7,7 @@ use Rattle.std.proofs.KnownBytes.{Appends-nil}
 use Rattle.options.specs.Order.{Ordered, said_by}
 use Rattle.options.specs.declared.fault.LineFault.TheVariants as line
 use Rattle.wgetr.specs.Advice.{told_on}
-use Rattle.wgetr.specs.Order.{AreForMap, IsRefused}
+use Rattle.wgetr.specs.Order.{AreForInput, IsRefused}
 use Rattle.wgetr.specs.Parts.{IsRefusal}
 use Rattle.wgetr.specs.Program.{IsTold}
 use Rattle.wgetr.specs.Run.{Failed, Runs}
@@ -25,29 +25,29 @@ pub wrote : {F : Type 0} (r : Result (Unit {0}) F) (old new : Option (List ℕ))
 wrote (Ok x) old new text ok err = record { front = text; rest = []; parts = sym (append-nil text); appended = ok }
 wrote (Err e) old new text ok err = err
 
--- nothing is told of want of memory over words for a map
-pub silent : (words : List (List ℕ)) (wrong : Fault) → AreForMap words → IsRefused words wrong → told_on wrong ≡ None
+-- nothing is told of want of memory over words for an input
+pub silent : (words : List (List ℕ)) (wrong : Fault) → AreForInput words → IsRefused words wrong → told_on wrong ≡ None
 silent words (fault.Line line.Memory) good refused = refl
-silent words (fault.Line (line.Words kind)) (order, (is, map)) (inl e) = cc
+silent words (fault.Line (line.Words kind)) (order, (is, input)) (inl e) = cc
 silent words (fault.Line (line.Words kind)) good (inr e) = cc
-silent words (fault.Line line.Depth) (order, (is, map)) (inl e) = cc
+silent words (fault.Line line.Depth) (order, (is, input)) (inl e) = cc
 silent words (fault.Line line.Depth) good (inr e) = cc
-silent words (fault.Line line.Pattern) (order, (is, map)) (inl e) = cc
+silent words (fault.Line line.Pattern) (order, (is, input)) (inl e) = cc
 silent words (fault.Line line.Pattern) good (inr e) = cc
-silent words (fault.Line line.Directory) (order, (is, map)) (inl e) = cc
+silent words (fault.Line line.Directory) (order, (is, input)) (inl e) = cc
 silent words (fault.Line line.Directory) good (inr e) = cc
-silent words (fault.Line line.Domain) (order, (is, map)) (inl e) = cc
+silent words (fault.Line line.Domain) (order, (is, input)) (inl e) = cc
 silent words (fault.Line line.Domain) good (inr e) = cc
-silent words (fault.Line (line.Start why)) (order, (is, map)) (inl e) = cc
+silent words (fault.Line (line.Start why)) (order, (is, input)) (inl e) = cc
 silent words (fault.Line (line.Start why)) good (inr e) = cc
-silent words (fault.Line line.StartIsRobots) (order, (is, map)) (inl e) = cc
+silent words (fault.Line line.StartIsRobots) (order, (is, input)) (inl e) = cc
 silent words (fault.Line line.StartIsRobots) good (inr e) = cc
 silent words fault.NotText good refused = absurd refused
-silent words fault.NoSite (order, (is, map)) (ordered, says, other) =
+silent words fault.NoSite (order, (is, input)) (ordered, says, live) =
     let same : ordered ≡ said_by order = cc in
-    absurd (other (ap (λ (o : Ordered). o.source) same ∙ map))
+    absurd (input (sym (ap (λ (o : Ordered). o.source) same) ∙ live))
 silent words (fault.Read w) good refused = absurd refused
-silent words (fault.Map w) good refused = absurd refused
+silent words (fault.Input w) good refused = absurd refused
 silent words fault.Memory good refused = absurd refused
 
 -- ---- want of memory before a run

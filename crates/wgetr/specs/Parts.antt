@@ -1,41 +1,53 @@
 -- What the parts of a run come to.
 use Rattle.std.specs.Prelude.{◌≡◌, ◌≤◌, ◌<◌, ◌⊎◌, ◌++◌, ℕ, Bool, true, false, List, [], length, codes, Option, Result, Ok, Err, IfSome}
 use Rattle.std.specs.Io.KnownBytes.{Appends}
-use Rattle.site_maps.specs.Lines.{Statement}
-use Rattle.site_maps.specs.Maps.{lines_of, IsMap, IsFault, says_of}
-use Rattle.site_maps.specs.MapSites.{MapValue}
+use Rattle.options.specs.declared.order.Order.{Order}
+use Rattle.fetcher.specs.Sites.{SiteAnswers}
+use Rattle.site_maps.specs.declared.input_fault.InputFault.{InputFault}
 use Rattle.frontier_core.specs.Invariants.{IsSound}
 use Rattle.frontier_core.specs.Plans.{policy}
+use Rattle.frontier_core.specs.Routes.{Answers}
 use Rattle.frontier_core.specs.declared.event.Event.{Event}
 use Rattle.harvest.specs.Gathered.{AreEntries, AreRecords}
 use Rattle.harvest.specs.Harvests.{Harvested}
 use Rattle.workers.specs.declared.retrieval.Halt.{Halt}
 use Rattle.wgetr.specs.Entries.{lines_of as harvest_lines}
 use Rattle.wgetr.specs.declared.input.TheConstants.{MAX_INPUT}
-use Rattle.wgetr.specs.Retrieved.{Finish, Reported, Stopped}
-use Rattle.wgetr.specs.Run.{fault_words, fault_status}
-use Rattle.wgetr.specs.Site.{site_told}
+use Rattle.wgetr.specs.Retrieved.{Finish, Reported, Stopped, Finishes}
+use Rattle.wgetr.specs.Run.{fault_words, fault_status, finish_text, finish_status}
+use Rattle.wgetr.specs.Site.{whole_of}
 use Rattle.wgetr.specs.Streams.{IsInput, AppendsFront}
+use Rattle.wgetr.specs.Trace.{trace_text}
 use Rattle.wgetr.specs.declared.fault.Fault.{Fault}
 use Rattle.wgetr.specs.declared.fault.Fault.TheVariants as fault
 use Rattle.wgetr.specs.declared.input.ReadFault.TheVariants as reading
 
--- what the reader has left is a map, and the site has its answers
-abbrev pub TellsOf : Option (List ℕ) → MapValue → Type 0
-TellsOf known site =
-    (input : List ℕ) × IsInput known input × (length input ≤ MAX_INPUT)
-    × (said : List Statement) × IsMap (lines_of input) said × (says_of site.answers site.rules ≡ site_told said)
+-- what the reader has left tells this site
+abbrev pub TellsOf : (List ℕ → SiteAnswers → Type 0) → Option (List ℕ) → SiteAnswers → Type 0
+TellsOf IsOf known site = (input : List ℕ) × IsInput known input × (length input ≤ MAX_INPUT) × IsOf input site
 
 -- what the reader has left comes to this fault
-abbrev pub TellsFault : Option (List ℕ) → Fault → Type 0
-TellsFault known (fault.Line wrong) = ⊥
-TellsFault known fault.NotText = ⊥
-TellsFault known fault.NoSite = ⊥
-TellsFault known (fault.Read reading.Long) = (input : List ℕ) × IsInput known input × (MAX_INPUT < length input)
-TellsFault known (fault.Read reading.Failed) = Unit {0}
-TellsFault known (fault.Read reading.Memory) = Unit {0}
-TellsFault known (fault.Map wrong) = (input : List ℕ) × IsInput known input × (length input ≤ MAX_INPUT) × IsFault input wrong
-TellsFault known fault.Memory = Unit {0}
+abbrev pub TellsFault : (List ℕ → InputFault → Type 0) → Option (List ℕ) → Fault → Type 0
+TellsFault IsWrong known (fault.Line wrong) = ⊥
+TellsFault IsWrong known fault.NotText = ⊥
+TellsFault IsWrong known fault.NoSite = ⊥
+TellsFault IsWrong known (fault.Read reading.Long) = (input : List ℕ) × IsInput known input × (MAX_INPUT < length input)
+TellsFault IsWrong known (fault.Read reading.Failed) = Unit {0}
+TellsFault IsWrong known (fault.Read reading.Memory) = Unit {0}
+TellsFault IsWrong known (fault.Input wrong) = (input : List ℕ) × IsInput known input × (length input ≤ MAX_INPUT) × IsWrong input wrong
+TellsFault IsWrong known fault.Memory = Unit {0}
+
+-- the retrieval of a site comes to this text and this status
+pub record IsOutputOf (order : Order) (whole : Answers) (text : List ℕ) (status : ℕ) : Type 0 where
+  pub shown : List Event
+  pub finish : Finish
+  pub finishes : Finishes order whole shown finish
+  pub text_is : text ≡ trace_text shown ++ finish_text finish
+  pub status_is : status ≡ finish_status finish
+
+-- what the reader has left tells a site, and its retrieval comes to this text and this status
+abbrev pub IsOutput : (List ℕ → SiteAnswers → Type 0) → Order → Option (List ℕ) → List ℕ → ℕ → Type 0
+IsOutput IsOf order known text status = (site : SiteAnswers) × TellsOf IsOf known site × IsOutputOf order (whole_of site) text status
 
 -- the writer gained the text and the status is this one, or the writer failed and the status is 1
 abbrev pub IsDelivered : Option (List ℕ) → Option (List ℕ) → List ℕ → ℕ → ℕ → Type 0

@@ -4,20 +4,19 @@ use Rattle.std.specs.Fmt.{decimal}
 use Rattle.std.specs.Io.KnownBytes.{Appends}
 use Rattle.address.specs.declared.fault.AddressFault.{AddressFault}
 use Rattle.address.specs.declared.fault.AddressFault.TheVariants as refused
-use Rattle.site_maps.specs.Lines.{Statement}
-use Rattle.site_maps.specs.Maps.{lines_of, IsMap, IsFault}
+use Rattle.fetcher.specs.Sites.{SiteAnswers}
 use Rattle.site_maps.specs.declared.input_fault.InputFault.{InputFault}
-use Rattle.site_maps.specs.declared.input_fault.InputFault.TheVariants as map
+use Rattle.site_maps.specs.declared.input_fault.InputFault.TheVariants as input
 use Rattle.frontier_core.specs.declared.event.Event.{Event}
 use Rattle.options.specs.Order.{order_of, without_kind}
 use Rattle.options.specs.declared.fault.LineFault.{LineFault}
 use Rattle.options.specs.declared.fault.LineFault.TheVariants as line
 use Rattle.options.specs.declared.order.Order.{Order}
 use Rattle.wgetr.specs.declared.input.TheConstants.{MAX_INPUT}
-use Rattle.wgetr.specs.Order.{IsOrdered, AreForMap, AreForOther}
+use Rattle.wgetr.specs.Order.{IsOrdered, AreForInput, AreForLive}
 use Rattle.wgetr.specs.Report.{report_text}
 use Rattle.wgetr.specs.Retrieved.{Finish, Reported, Stopped, Finishes}
-use Rattle.wgetr.specs.Site.{site_told, whole_of}
+use Rattle.wgetr.specs.Site.{IsToldBy, IsWrongBy, whole_of}
 use Rattle.wgetr.specs.Streams.{IsInput, AppendsFront}
 use Rattle.wgetr.specs.Trace.{cause_word, trace_text}
 use Rattle.wgetr.specs.declared.fault.Fault.{Fault}
@@ -30,11 +29,12 @@ abbrev pub Comes : List (List ℕ) → List ℕ → Fault → Type 0
 Comes words input (fault.Line line.Memory) = Unit {0}
 Comes words input (fault.Line wrong) = order_of words ≡ Err (without_kind wrong)
 Comes words input fault.NotText = ⊥
-Comes words input fault.NoSite = AreForOther words
-Comes words input (fault.Read reading.Long) = AreForMap words × (MAX_INPUT < length input)
-Comes words input (fault.Read reading.Failed) = AreForMap words
+Comes words input fault.NoSite = AreForLive words
+Comes words input (fault.Read reading.Long) = AreForInput words × (MAX_INPUT < length input)
+Comes words input (fault.Read reading.Failed) = AreForInput words
 Comes words input (fault.Read reading.Memory) = Unit {0}
-Comes words input (fault.Map wrong) = AreForMap words × (length input ≤ MAX_INPUT) × IsFault input wrong
+Comes words input (fault.Input wrong) =
+    (order : Order) × IsOrdered words order × (length input ≤ MAX_INPUT) × IsWrongBy order.source order.plan.robots input wrong
 Comes words input fault.Memory = Unit {0}
 
 -- ---- texts and statuses
@@ -64,11 +64,11 @@ reading_words reading.Long = codes "input long"
 reading_words reading.Failed = codes "input read"
 reading_words reading.Memory = codes "stopped memory"
 
--- the words for the first bad line of a map
-abbrev pub map_words : InputFault → List ℕ
-map_words (map.Line n) = codes "input line " ++ decimal n
-map_words (map.Address n) = codes "input address " ++ decimal n
-map_words map.Memory = codes "stopped memory"
+-- the words for the first bad line of a map or a record
+abbrev pub input_words : InputFault → List ℕ
+input_words (input.Line n) = codes "input line " ++ decimal n
+input_words (input.Address n) = codes "input address " ++ decimal n
+input_words input.Memory = codes "stopped memory"
 
 -- what is written for a fault, in words
 abbrev pub fault_words : Fault → List ℕ
@@ -76,7 +76,7 @@ fault_words (fault.Line wrong) = line_words wrong
 fault_words fault.NotText = codes "line words"
 fault_words fault.NoSite = codes "line no-site"
 fault_words (fault.Read wrong) = reading_words wrong
-fault_words (fault.Map wrong) = map_words wrong
+fault_words (fault.Input wrong) = input_words wrong
 fault_words fault.Memory = codes "stopped memory"
 
 -- 2 for what the words or the input say, 1 for what memory, a reader or a plan's bound stopped
@@ -89,9 +89,9 @@ fault_status fault.NoSite = 2
 fault_status (fault.Read reading.Long) = 2
 fault_status (fault.Read reading.Failed) = 1
 fault_status (fault.Read reading.Memory) = 1
-fault_status (fault.Map map.Memory) = 1
-fault_status (fault.Map (map.Line n)) = 2
-fault_status (fault.Map (map.Address n)) = 2
+fault_status (fault.Input input.Memory) = 1
+fault_status (fault.Input (input.Line n)) = 2
+fault_status (fault.Input (input.Address n)) = 2
 fault_status fault.Memory = 1
 
 -- ---- a retrieval
@@ -123,10 +123,10 @@ abbrev pub ending_status : Ending → ℕ
 ending_status (Failed wrong) = fault_status wrong
 ending_status (Ended shown finish) = finish_status finish
 
--- what the input says is a site of which the retrieval that is ordered comes to this
+-- the input tells a site of which the retrieval that is ordered comes to this
 abbrev pub FinishesOn : Order → List ℕ → List Event → Finish → Type 0
 FinishesOn order input shown finish =
-    (length input ≤ MAX_INPUT) × (said : List Statement) × IsMap (lines_of input) said × Finishes order (whole_of (site_told said)) shown finish
+    (length input ≤ MAX_INPUT) × (site : SiteAnswers) × IsToldBy order.source order.plan.robots input site × Finishes order (whole_of site) shown finish
 
 -- the words and the input come to this ending
 abbrev pub Ends : List (List ℕ) → List ℕ → Ending → Type 0

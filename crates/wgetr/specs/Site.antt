@@ -1,15 +1,52 @@
--- The report of a whole site.
-use Rattle.std.specs.Prelude.{◌≡◌, ◌≤◌, false, List, Some, All, Any, IsTrue, length}
-use Rattle.site_maps.specs.Lines.{Statement}
-use Rattle.site_maps.specs.Maps.{answers_of, rules_of, says_of}
+-- The site that an input tells, and the report of a whole site.
+use Rattle.std.specs.Prelude.{◌≡◌, ◌≤◌, ℕ, Bool, false, List, Some, All, Any, IsTrue, length}
 use Rattle.fetcher.specs.Sites.{SiteAnswers}
+use Rattle.site_maps.specs.Lines.{Statement}
+use Rattle.site_maps.specs.Maps.{lines_of, IsMap, answers_of, rules_of, says_of, IsFault as IsFaultOfMap}
+use Rattle.site_maps.specs.declared.input_fault.InputFault.{InputFault}
+use Rattle.site_records.specs.Entries.{Entry}
+use Rattle.site_records.specs.Records.{RecordedAnswers, IsRecord, answers_of as recorded_answers, rules_of as recorded_rules, says_of as record_says, IsFault as IsFaultOfRecord}
+use Rattle.options.specs.declared.order.Source.{Source}
+use Rattle.options.specs.declared.order.Source.TheVariants as source
 use Rattle.frontier_core.specs.Tables.{Text}
 use Rattle.frontier_core.specs.Routes.{Policy, Answers, IsCandidate, IsDepth, is_open}
 use Rattle.wgetr.specs.Report.{Line, Fate, Asked, Refused, IsAscending}
 
+-- ---- what an input tells
+
 -- the site that the lines of a map tell of
 abbrev pub site_told : List Statement → SiteAnswers
 site_told said = says_of (answers_of said) (rules_of said)
+
+-- the outcomes and the rule sets of what is recorded, without its bodies
+abbrev pub without_bodies : RecordedAnswers → SiteAnswers
+without_bodies site = record { outcome = λ at. (site.answer at).outcome; rules = site.rules }
+
+-- the site that the entries of a record tell of
+abbrev pub site_recorded : List Entry → SiteAnswers
+site_recorded said = without_bodies (record_says (recorded_answers said) (recorded_rules said))
+
+-- the input is a map, of this site
+abbrev pub IsMapOf : List ℕ → SiteAnswers → Type 0
+IsMapOf input site = (said : List Statement) × IsMap (lines_of input) said × (site ≡ site_told said)
+
+-- the input is a record, of this site; where robots are honoured, a page that forbids it isn't followed
+abbrev pub IsRecordOf : Bool → List ℕ → SiteAnswers → Type 0
+IsRecordOf robots input site = (said : List Entry) × IsRecord robots input said × (site ≡ site_recorded said)
+
+-- the input tells this site, as the source says
+abbrev pub IsToldBy : Source → Bool → List ℕ → SiteAnswers → Type 0
+IsToldBy source.Map robots input site = IsMapOf input site
+IsToldBy source.Recorded robots input site = IsRecordOf robots input site
+IsToldBy source.Live robots input site = ⊥
+
+-- what is wrong with an input that tells no site, as the source says
+abbrev pub IsWrongBy : Source → Bool → List ℕ → InputFault → Type 0
+IsWrongBy source.Map robots input wrong = IsFaultOfMap input wrong
+IsWrongBy source.Recorded robots input wrong = IsFaultOfRecord robots input wrong
+IsWrongBy source.Live robots input wrong = ⊥
+
+-- ---- a whole site
 
 -- all that there is to know of a site: each outcome and each rule set
 abbrev pub whole_of : SiteAnswers → Answers

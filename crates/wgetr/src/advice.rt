@@ -21,7 +21,7 @@ pub(crate) enum Advice {
 
 const USAGE: &str =
     "wgetr retrieves a site recursively and reports what it found: it follows links by GNU Wget's rules and heeds robots files.\n\
-usage: wgetr [options] --map START < MAP\n";
+usage: wgetr [options] --map START < MAP\n       wgetr [options] --record START < RECORD\n";
 
 const OPTIONS: &str =
     "accepted are START and, once each, -r, -l N, -np, -H, -D LIST, --exclude-domains LIST, \
@@ -96,9 +96,9 @@ pub(crate) fn advice_on(fault: Fault) -> Option<Advice>
         Fault::NotText => Some(Advice::Correction("a word isn't UTF-8", OPTIONS)),
         Fault::NoSite => Some(Advice::Correction(
             "the words name no site that can be read",
-            "with --map the site is told by a map on standard input",
+            "the site is told on standard input: with --map by a map, with --record by a record of responses",
         )),
-        Fault::Read(_) | Fault::Map(_) | Fault::Memory => None,
+        Fault::Read(_) | Fault::Input(_) | Fault::Memory => None,
     }
 }
 

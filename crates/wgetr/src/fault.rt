@@ -15,12 +15,12 @@ pub(crate) enum Fault {
     Line(LineFault),
     /// A word of the command line isn't UTF-8.
     NotText,
-    /// The words order another site than a map's.
+    /// The words order a site on the network.
     NoSite,
     /// The input can't be had.
     Read(ReadFault),
-    /// The input is no map.
-    Map(InputFault),
+    /// The input is no map, or no record.
+    Input(InputFault),
     /// Memory ran out.
     Memory,
 }
@@ -37,8 +37,8 @@ impl Fault {
             Fault::Line(LineFault::Memory | LineFault::Start(AddressFault::Memory)) => 1,
             Fault::Line(_) | Fault::NotText | Fault::NoSite | Fault::Read(ReadFault::Long) => 2,
             Fault::Read(ReadFault::Failed | ReadFault::Memory) => 1,
-            Fault::Map(InputFault::Memory) => 1,
-            Fault::Map(InputFault::Line(_) | InputFault::Address(_)) => 2,
+            Fault::Input(InputFault::Memory) => 1,
+            Fault::Input(InputFault::Line(_) | InputFault::Address(_)) => 2,
             Fault::Memory => 1,
         }
     }
@@ -93,9 +93,9 @@ pub(crate) fn fault_text(alloc: Global, fault: Fault) -> Result<String, AllocErr
         Fault::NotText => with_newline(alloc, "line words"),
         Fault::NoSite => with_newline(alloc, "line no-site"),
         Fault::Read(wrong) => with_newline(alloc, reading_words(wrong)),
-        Fault::Map(InputFault::Line(number)) => format!(in alloc; "input line {number}\n"),
-        Fault::Map(InputFault::Address(number)) => format!(in alloc; "input address {number}\n"),
-        Fault::Map(InputFault::Memory) => with_newline(alloc, "stopped memory"),
+        Fault::Input(InputFault::Line(number)) => format!(in alloc; "input line {number}\n"),
+        Fault::Input(InputFault::Address(number)) => format!(in alloc; "input address {number}\n"),
+        Fault::Input(InputFault::Memory) => with_newline(alloc, "stopped memory"),
         Fault::Memory => with_newline(alloc, "stopped memory"),
     }
 }
@@ -131,12 +131,12 @@ impl From<ReadFault> for Fault {
 
 impl From<InputFault> for Fault {
     ghost use Rattle.std.specs.Prelude.{◌≡◌};
-    ghost use Rattle.wgetr.specs.declared.fault.Fault.TheVariants.{Map};
+    ghost use Rattle.wgetr.specs.declared.fault.Fault.TheVariants.{Input};
 
-    ghost from_gives = { λ wrong fault. fault ≡ Map wrong };
+    ghost from_gives = { λ wrong fault. fault ≡ Input wrong };
 
     fn from(wrong: InputFault) -> Fault {
-        Fault::Map(wrong)
+        Fault::Input(wrong)
     }
 }
 

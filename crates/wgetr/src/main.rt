@@ -1,4 +1,4 @@
-//! The program wgetr: it retrieves a site that is told by a map on standard input, and prints a report. It holds no rule
+//! The program wgetr: it retrieves a site that a map or a record on standard input tells, and prints a report. It holds no rule
 //! of following; the crates below do. What a run writes for its words and its input is stated in `specs/Run.antt`, what the
 //! program makes of its arguments and its streams at `run_program`; `main` only names them.
 #![tactic(auto)]

@@ -3,7 +3,7 @@ ghost use Rattle.std.specs.Prelude.{◌≡◌, [], IfOk, IfErr, None, drop, map,
 ghost use Rattle.std.specs.IoError.{error_kind};
 ghost use Rattle.std.specs.Vec.Iter.{into_iter_items};
 ghost use Rattle.wgetr.specs.Advice.{told_by, told_on, said, said_of};
-ghost use Rattle.wgetr.specs.Order.{AreForMap};
+ghost use Rattle.wgetr.specs.Order.{AreForInput};
 ghost use Rattle.wgetr.specs.Program.{IsTold, words_behind, words_fault};
 ghost use Rattle.wgetr.specs.Parts.{IsRefusal};
 ghost use Rattle.wgetr.specs.Run.{Runs};
@@ -11,7 +11,7 @@ ghost use Rattle.wgetr.specs.Streams.{AppendsFront};
 
 use crate::advice::{Advice, advice_on, advice_text};
 use crate::fault::Fault;
-use crate::order::map_order;
+use crate::order::input_order;
 use crate::output::write_text;
 use crate::run::{refuse, run};
 use std::alloc::{AllocError, Global};
@@ -78,13 +78,13 @@ fn explain<E: Write>(alloc: Global, fault: Fault, words: &[&str], errors: &mut E
     }
 }
 
-// Tells a person what is wrong with words that order nothing of a map.
+// Tells a person what is wrong with words that order no site of an input.
 fn explain_words<E: Write>(alloc: Global, words: &[&str], errors: &mut E)
-    ensures told { ¬ AreForMap (map (λ word. word.now) words.now)
+    ensures told { ¬ AreForInput (map (λ word. word.now) words.now)
         → IsTold (map (λ word. word.now) words.now) (E.contents errors.old) (E.contents errors.new) }
-    ensures quiet { AreForMap (map (λ word. word.now) words.now) → errors.new ≡ errors.old }
+    ensures quiet { AreForInput (map (λ word. word.now) words.now) → errors.new ≡ errors.old }
 {
-    match map_order(alloc, words) {
+    match input_order(alloc, words) {
         Ok(_order) => {}
         Err(fault) => explain(alloc, fault, words, errors),
     }
@@ -99,9 +99,9 @@ fn run_words<R: Read, W: Write, E: Write>(
     errors: &mut E,
 ) -> u8
     ensures runs { Runs (words_behind all.now) (R.remaining reader.old) (W.contents writer.old) (W.contents writer.new) result }
-    ensures unread { ¬ AreForMap (words_behind all.now) → reader.new ≡ reader.old }
-    ensures told { ¬ AreForMap (words_behind all.now) → IsTold (words_behind all.now) (E.contents errors.old) (E.contents errors.new) }
-    ensures quiet { AreForMap (words_behind all.now) → errors.new ≡ errors.old }
+    ensures unread { ¬ AreForInput (words_behind all.now) → reader.new ≡ reader.old }
+    ensures told { ¬ AreForInput (words_behind all.now) → IsTold (words_behind all.now) (E.contents errors.old) (E.contents errors.new) }
+    ensures quiet { AreForInput (words_behind all.now) → errors.new ≡ errors.old }
 {
     match texts_behind(alloc, all) {
         Ok(words) => {
@@ -121,10 +121,10 @@ fn run_args<R: Read, W: Write, E: Write>(
     errors: &mut E,
 ) -> u8
     ensures runs { Runs (words_behind (into_iter_items args)) (R.remaining reader.old) (W.contents writer.old) (W.contents writer.new) result }
-    ensures unread { ¬ AreForMap (words_behind (into_iter_items args)) → reader.new ≡ reader.old }
-    ensures told { ¬ AreForMap (words_behind (into_iter_items args))
+    ensures unread { ¬ AreForInput (words_behind (into_iter_items args)) → reader.new ≡ reader.old }
+    ensures told { ¬ AreForInput (words_behind (into_iter_items args))
         → IsTold (words_behind (into_iter_items args)) (E.contents errors.old) (E.contents errors.new) }
-    ensures quiet { AreForMap (words_behind (into_iter_items args)) → errors.new ≡ errors.old }
+    ensures quiet { AreForInput (words_behind (into_iter_items args)) → errors.new ≡ errors.old }
 {
     match all_words(alloc, args) {
         Ok(all) => run_words(alloc, all.as_slice(), reader, writer, errors),
@@ -133,8 +133,8 @@ fn run_args<R: Read, W: Write, E: Write>(
 }
 
 /// Runs the program on its arguments, the program's name first, and its three streams: `run` gets all words behind that name.
-/// What is wrong with words that order nothing of a map is told to a person on `errors`; where the writer of that fails a
-/// front of it may be written, and nothing is written there of words for a map. Arguments that can't be had, since one isn't
+/// What is wrong with words that order no site of an input is told to a person on `errors`; where the writer of that fails a
+/// front of it may be written, and nothing is written there of words for an input. Arguments that can't be had, since one isn't
 /// text or memory ran out, end the program as refused words do, with no byte read. Answers the status.
 pub fn run_program<R: Read, W: Write, E: Write>(
     alloc: Global,
@@ -144,10 +144,10 @@ pub fn run_program<R: Read, W: Write, E: Write>(
     errors: &mut E,
 ) -> u8
     ensures runs { IfOk args (λ all. Runs (words_behind (into_iter_items all)) (R.remaining reader.old) (W.contents writer.old) (W.contents writer.new) result) }
-    ensures unread { IfOk args (λ all. ¬ AreForMap (words_behind (into_iter_items all)) → reader.new ≡ reader.old) }
-    ensures told { IfOk args (λ all. ¬ AreForMap (words_behind (into_iter_items all))
+    ensures unread { IfOk args (λ all. ¬ AreForInput (words_behind (into_iter_items all)) → reader.new ≡ reader.old) }
+    ensures told { IfOk args (λ all. ¬ AreForInput (words_behind (into_iter_items all))
         → IsTold (words_behind (into_iter_items all)) (E.contents errors.old) (E.contents errors.new)) }
-    ensures quiet { IfOk args (λ all. AreForMap (words_behind (into_iter_items all)) → errors.new ≡ errors.old) }
+    ensures quiet { IfOk args (λ all. AreForInput (words_behind (into_iter_items all)) → errors.new ≡ errors.old) }
     ensures refused { IfErr args (λ error. IsRefusal (W.contents writer.old) (W.contents writer.new) (words_fault (error_kind error)) result
         × AppendsFront (E.contents errors.old) (E.contents errors.new) (said_of [] (words_fault (error_kind error)))) }
     ensures untouched { IfErr args (λ error. reader.new ≡ reader.old) }

@@ -1,36 +1,49 @@
 //! A run: from the words and the input to what is written.
-ghost use Rattle.std.specs.Prelude.{◌≡◌, ◌++◌, List, IfOk, IfErr, OnOk, map, string_bytes};
-ghost use Rattle.site_maps.specs.Maps.{says_of};
-ghost use Rattle.frontier_core.specs.declared.event.Event.{Event};
+ghost use Rattle.std.specs.Prelude.{◌≡◌, ◌≢◌, ◌++◌, IfOk, IfErr, OnOk, map, string_bytes};
+ghost use Rattle.site_maps.specs.Maps.{says_of, IsFault as IsFaultOfMap};
+ghost use Rattle.site_records.specs.Records.{says_of as record_says, IsFault as IsFaultOfRecord};
+ghost use Rattle.frontier_core.specs.Routes.{Answers};
+ghost use Rattle.workers.specs.Sites.{Fits};
 ghost use Rattle.wgetr.specs.Entries.{lines_of};
-ghost use Rattle.wgetr.specs.Order.{AreForMap};
+ghost use Rattle.wgetr.specs.Order.{AreForInput};
 ghost use Rattle.wgetr.specs.Report.{report_text};
-ghost use Rattle.wgetr.specs.Retrieved.{Finish, Stopped, Finishes};
-ghost use Rattle.wgetr.specs.Site.{whole_of};
+ghost use Rattle.wgetr.specs.Retrieved.{Stopped};
+ghost use Rattle.wgetr.specs.Site.{IsMapOf, IsRecordOf, IsToldBy, IsWrongBy, without_bodies};
 ghost use Rattle.wgetr.specs.Trace.{trace_text};
-ghost use Rattle.wgetr.specs.Parts.{TellsOf, TellsFault, IsDelivered, IsRefusal, IsRead, shown_of, trace_in, finish_of};
+ghost use Rattle.wgetr.specs.Parts.{TellsOf, TellsFault, IsOutput, IsOutputOf, IsDelivered, IsRefusal, IsRead, shown_of, trace_in, finish_of};
 ghost use Rattle.wgetr.specs.Run.{EndsFor, Ending, Failed, Runs, ending_text, ending_status, finish_text, finish_status};
 
 use crate::fault::{Fault, fault_text};
 use crate::input::{MAX_INPUT, read_input};
-use crate::order::map_order;
+use crate::order::input_order;
 use crate::output::write_text;
 use crate::report::{push_report, rows_of};
 use crate::trace::{cause_word, push_trace};
+use fetcher::Fetcher;
 use frontier_core::Event;
-use options::Order;
+use options::{Order, Source};
 use site_maps::MapSite;
+use site_records::RecordedSite;
 use std::alloc::{AllocError, Global};
 use std::io::{Read, Write};
 use workers::{Halt, Harvest, retrieve_in_order};
 
-// The site that the input tells of.
-fn site_of<R: Read>(alloc: Global, reader: &mut R) -> Result<MapSite, Fault>
-    ensures ok { IfOk result (λ site. TellsOf (R.remaining reader.old) site) }
-    ensures err { IfErr result (TellsFault (R.remaining reader.old)) }
+// The site of the map that is the input.
+fn map_of<R: Read>(alloc: Global, reader: &mut R) -> Result<MapSite, Fault>
+    ensures ok { IfOk result (λ site. TellsOf IsMapOf (R.remaining reader.old) (says_of site.answers site.rules)) }
+    ensures err { IfErr result (TellsFault IsFaultOfMap (R.remaining reader.old)) }
 {
     let input = read_input(alloc, reader, MAX_INPUT)?;
     Ok(MapSite::read(alloc, input.as_slice())?)
+}
+
+// The site of the record that is the input, by whether robots are honoured. The record's own bytes are let go.
+fn record_of<R: Read>(alloc: Global, reader: &mut R, robots: bool) -> Result<RecordedSite, Fault>
+    ensures ok { IfOk result (λ site. TellsOf (IsRecordOf robots) (R.remaining reader.old) (without_bodies (record_says site.answers site.rules))) }
+    ensures err { IfErr result (TellsFault (IsFaultOfRecord robots) (R.remaining reader.old)) }
+{
+    let input = read_input(alloc, reader, MAX_INPUT)?;
+    Ok(RecordedSite::read(alloc, input.as_slice(), robots)?)
 }
 
 // What a run has to write, and the status with which it ends.
@@ -98,27 +111,55 @@ fn told_of(
     }
 }
 
-// What is told of the retrieval of a site.
-fn retrieve(alloc: Global, order: &Order, mut site: MapSite) -> Result<Output, AllocError>
-    ensures { IfOk result (λ output. (shown : List Event) × (finish : Finish) × Finishes order.now (whole_of (says_of site.answers site.rules)) shown finish
-        × (string_bytes output.text ≡ trace_text shown ++ finish_text finish) × (output.status ≡ finish_status finish)) }
+// What is told of the retrieval of a site that gives each address one outcome, and each origin one rule set.
+fn retrieve<F: Fetcher>(alloc: Global, order: &Order, mut site: F) -> Result<Output, AllocError>
+    ensures { (whole : Answers) → Fits (F.says (F.site site)) (F.rules (F.site site)) whole → IfOk result (λ output. IsOutputOf order.now whole (string_bytes output.text) output.status) }
 {
     let brought = retrieve_in_order(alloc, &order.plan, &mut site);
     told_of(alloc, order.trace, &brought)
 }
 
+// What is told of the retrieval of the map that is the input.
+fn output_of_map<R: Read>(alloc: Global, order: &Order, reader: &mut R) -> Result<Output, Fault>
+    ensures ok { IfOk result (λ output. IsOutput IsMapOf order.now (R.remaining reader.old) (string_bytes output.text) output.status) }
+    ensures err { IfErr result (TellsFault IsFaultOfMap (R.remaining reader.old)) }
+{
+    let site = map_of(alloc, reader)?;
+    Ok(retrieve(alloc, order, site)?)
+}
+
+// What is told of the retrieval of the record that is the input.
+fn output_of_record<R: Read>(alloc: Global, order: &Order, reader: &mut R) -> Result<Output, Fault>
+    ensures ok { IfOk result (λ output. IsOutput (IsRecordOf order.now.plan.robots) order.now (R.remaining reader.old) (string_bytes output.text) output.status) }
+    ensures err { IfErr result (TellsFault (IsFaultOfRecord order.now.plan.robots) (R.remaining reader.old)) }
+{
+    let site = record_of(alloc, reader, order.plan.robots)?;
+    Ok(retrieve(alloc, order, site)?)
+}
+
+// What is told of the retrieval of the input, which is what the order's source says.
+fn output_of_input<R: Read>(alloc: Global, order: &Order, reader: &mut R) -> Result<Output, Fault>
+    requires input { order.now.source ≢ Source.Live }
+    ensures ok { IfOk result (λ output. IsOutput (IsToldBy order.now.source order.now.plan.robots) order.now (R.remaining reader.old) (string_bytes output.text) output.status) }
+    ensures err { IfErr result (TellsFault (IsWrongBy order.now.source order.now.plan.robots) (R.remaining reader.old)) }
+{
+    match order.source {
+        Source::Map => output_of_map(alloc, order, reader),
+        Source::Recorded => output_of_record(alloc, order, reader),
+        Source::Live => unreachable!(),
+    }
+}
+
 // What is told of the retrieval that the words order of the input.
-// No byte is read where the words order nothing of a map.
+// No byte is read where the words order no site of an input.
 fn output_of<R: Read>(alloc: Global, words: &[&str], reader: &mut R) -> Result<Output, Fault>
     ensures ok { IfOk result (λ output. (ending : Ending) × EndsFor (map (λ word. word.now) words.now) (R.remaining reader.old) ending
         × (string_bytes output.text ≡ ending_text ending) × (output.status ≡ ending_status ending)) }
     ensures err { IfErr result (λ fault. EndsFor (map (λ word. word.now) words.now) (R.remaining reader.old) (Failed fault)) }
-    ensures unread { ¬ AreForMap (map (λ word. word.now) words.now) → reader.new ≡ reader.old }
+    ensures unread { ¬ AreForInput (map (λ word. word.now) words.now) → reader.new ≡ reader.old }
 {
-    let order = map_order(alloc, words)?;
-    let site = site_of(alloc, reader)?;
-    let output = retrieve(alloc, &order, site)?;
-    Ok(output)
+    let order = input_order(alloc, words)?;
+    output_of_input(alloc, &order, reader)
 }
 
 // Writes a text, and gives the status of the run: this one, or 1 where the writer fails.
@@ -141,15 +182,15 @@ pub(crate) fn refuse<W: Write>(alloc: Global, fault: Fault, writer: &mut W) -> u
     }
 }
 
-/// Runs the program: reads its words as an order, then the whole input as a map, retrieves what the order's plan says, and
-/// writes the report or one line of words; the first fault ends it. Where the order asks for the trace, its lines stand
-/// before the report, or before the line of a retrieval that stopped. Answers the status: 0 for a report, 2 where the words
-/// or the input are wrong or the site isn't a map, 1 where the reader or the writer fails, more addresses are found than
-/// may be held, or memory runs out. Where the writer fails a front of the text may be written. Words that order nothing of a
-/// map end the run before the first byte is read.
+/// Runs the program: reads its words as an order, then the whole input as a map, or as a record where the order says so,
+/// retrieves what the order's plan says, and writes the report or one line of words; the first fault ends it. Where the order
+/// asks for the trace, its lines stand before the report, or before the line of a retrieval that stopped. Answers the status:
+/// 0 for a report, 2 where the words or the input are wrong or the site is on the network, 1 where the reader or the writer
+/// fails, more addresses are found than may be held, or memory runs out. Where the writer fails a front of the text may be
+/// written. Words that order no site of an input end the run before the first byte is read.
 pub fn run<R: Read, W: Write>(alloc: Global, words: &[&str], reader: &mut R, writer: &mut W) -> u8
     ensures runs { Runs (map (λ word. word.now) words.now) (R.remaining reader.old) (W.contents writer.old) (W.contents writer.new) result }
-    ensures unread { ¬ AreForMap (map (λ word. word.now) words.now) → reader.new ≡ reader.old }
+    ensures unread { ¬ AreForInput (map (λ word. word.now) words.now) → reader.new ≡ reader.old }
 {
     match output_of(alloc, words, reader) {
         Ok(output) => deliver(writer, output.text.as_bytes(), output.status),

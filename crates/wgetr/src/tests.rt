@@ -1,4 +1,4 @@
-//! Runs on worked sites, on wrong words and maps, and over readers and writers that fail; the program over three streams.
+//! Runs on worked sites, told by maps and by records, on wrong words and inputs, and over readers and writers that fail; the program over three streams.
 use crate::input::{ReadFault, read_input};
 use crate::program::run_program;
 use crate::run::run;
@@ -26,7 +26,11 @@ const MANUAL_WHOLE: &str =
     "1 200 http://h/1.gif -\n0 200 http://h/1.html -\n2 200 http://h/2.gif -\n1 200 http://h/2.html -\n\
 3 200 http://h/3.gif -\n2 200 http://h/3.html -\nfetched 6 kept 0 refused 0 failed 0\n";
 
-const CASES: [Case; 36] = [
+const FORBIDDING: &str =
+    "wgetr-record 1\npage http://h/ 90\nHTTP/1.1 200 OK\r\nContent-Type: text/html\r\n\r\n\
+<meta name=robots content=\"a, NONE\"><a href=b>\n";
+
+const CASES: [Case; 43] = [
     Case {
         name: "one page",
         words: &["--map", "http://h/"],
@@ -308,10 +312,60 @@ page 200 http://h/3\nlink http://h/4\npage 200 http://h/4\nlink http://h/5\npage
         status: 2,
     },
     Case {
-        name: "a recorded site",
+        name: "a recorded page, and a link that the record doesn't name",
+        words: &["-r", "--record", "http://h/"],
+        input: "wgetr-record 1\npage http://h/ 54\nHTTP/1.1 200 OK\r\nContent-Type: text/html\r\n\r\n<a href=b>\n",
+        text: "0 200 http://h/ -\n1 404 http://h/b -\nfetched 2 kept 0 refused 0 failed 1\n",
+        status: 0,
+    },
+    Case {
+        name: "the record of examples/page.record",
+        words: &["-r", "--record", "http://h/"],
+        input: "wgetr-record 1\npage http://h/ 54\nHTTP/1.1 200 OK\r\nContent-Type: text/html\r\n\r\n<a href=b>\n\
+fault connect http://h/b\nrobots http://h/ 27\nUser-agent: *\nDisallow: /b/\nrules none http://k/\n",
+        text: "0 200 http://h/ -\n1 connect http://h/b -\nfetched 2 kept 0 refused 0 failed 1\n",
+        status: 0,
+    },
+    Case {
+        name: "a recorded page that asks that its links aren't followed",
+        words: &["-r", "--record", "http://h/"],
+        input: FORBIDDING,
+        text: "0 200 http://h/ -\nfetched 1 kept 0 refused 0 failed 0\n",
+        status: 0,
+    },
+    Case {
+        name: "the same, with robots off",
+        words: &["-r", "-e", "robots=off", "--record", "http://h/"],
+        input: FORBIDDING,
+        text: "0 200 http://h/ -\n1 404 http://h/b -\nfetched 2 kept 0 refused 0 failed 1\n",
+        status: 0,
+    },
+    Case {
+        name: "a map counts before a record",
+        words: &["--record", "--map", "http://h/"],
+        input: "leaf 200 http://h/",
+        text: "0 200 http://h/ -\nfetched 1 kept 0 refused 0 failed 0\n",
+        status: 0,
+    },
+    Case {
+        name: "a record of another version",
+        words: &["-r", "--record", "http://h/"],
+        input: "wgetr-record 3\n",
+        text: "input line 1\n",
+        status: 2,
+    },
+    Case {
+        name: "a record without its last line feed",
+        words: &["-r", "--record", "http://h/"],
+        input: "wgetr-record 1\npage http://h/ 54\nHTTP/1.1 200 OK\r\nContent-Type: text/html\r\n\r\n<a href=b>",
+        text: "input line 2\n",
+        status: 2,
+    },
+    Case {
+        name: "a record of an address that is refused",
         words: &["--record", "http://h/"],
-        input: "wgetr-record 1\n",
-        text: "line no-site\n",
+        input: "wgetr-record 1\nfault connect http://k/\nrules all https://h/\n",
+        text: "input address 3\n",
         status: 2,
     },
 ];
@@ -348,7 +402,7 @@ a level is inf or decimal digits, at most 1000000\n",
         arguments: &["wgetr", "http://h/"],
         text: "line no-site\n",
         told: "wgetr: the words name no site that can be read, in: http://h/\n\
-with --map the site is told by a map on standard input\n",
+the site is told on standard input: with --map by a map, with --record by a record of responses\n",
         status: 2,
     },
     Call {

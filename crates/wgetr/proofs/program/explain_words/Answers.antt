@@ -1,4 +1,4 @@
--- Words for a map leave nothing to tell, others have their fault told.
+-- Words for an input leave nothing to tell, others have their fault told.
 use Rattle.std.proofs.Common.{refl}
 use Rattle.wgetr.proofs.ProgramLaws.{silent}
 use Rattle.wgetr.proofs.program.explain_words.Goals as goal

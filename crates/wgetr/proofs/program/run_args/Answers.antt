@@ -1,6 +1,6 @@
 -- Want of memory before the run ends it with its line.
 use Rattle.std.proofs.Common.{◌≡◌, ◌∙◌, List, String, Global, refl, subst}
-use Rattle.wgetr.specs.Order.{AreForMap}
+use Rattle.wgetr.specs.Order.{AreForInput}
 use Rattle.wgetr.specs.Program.{IsTold, words_behind}
 use Rattle.wgetr.proofs.ProgramLaws.{runs_memory, told_memory}
 use Rattle.wgetr.proofs.program.run_args.Goals as goal
@@ -15,12 +15,12 @@ returns-in-Err g c = record {
 
 pub returns-in-Ok-clause-unread : goal.returns-in-Ok-clause-unread
 returns-in-Ok-clause-unread g c =
-    subst (λ (xs : List (String Global)). ¬ AreForMap (words_behind xs) → c.run_words.new.reader ≡ c.args.reader.now) (c.as_slice.ensures.value ∙ c.in-Ok.ensures) c.run_words.ensures.unread
+    subst (λ (xs : List (String Global)). ¬ AreForInput (words_behind xs) → c.run_words.new.reader ≡ c.args.reader.now) (c.as_slice.ensures.value ∙ c.in-Ok.ensures) c.run_words.ensures.unread
 
 pub returns-in-Ok-clause-told : goal.returns-in-Ok-clause-told
 returns-in-Ok-clause-told g c =
-    subst (λ (xs : List (String Global)). ¬ AreForMap (words_behind xs) → IsTold (words_behind xs) (g.E.Write.contents c.args.errors.now) (g.E.Write.contents c.run_words.new.errors)) (c.as_slice.ensures.value ∙ c.in-Ok.ensures) c.run_words.ensures.told
+    subst (λ (xs : List (String Global)). ¬ AreForInput (words_behind xs) → IsTold (words_behind xs) (g.E.Write.contents c.args.errors.now) (g.E.Write.contents c.run_words.new.errors)) (c.as_slice.ensures.value ∙ c.in-Ok.ensures) c.run_words.ensures.told
 
 pub returns-in-Ok-clause-quiet : goal.returns-in-Ok-clause-quiet
 returns-in-Ok-clause-quiet g c =
-    subst (λ (xs : List (String Global)). AreForMap (words_behind xs) → c.run_words.new.errors ≡ c.args.errors.now) (c.as_slice.ensures.value ∙ c.in-Ok.ensures) c.run_words.ensures.quiet
+    subst (λ (xs : List (String Global)). AreForInput (words_behind xs) → c.run_words.new.errors ≡ c.args.errors.now) (c.as_slice.ensures.value ∙ c.in-Ok.ensures) c.run_words.ensures.quiet

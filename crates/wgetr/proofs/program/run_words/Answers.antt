@@ -1,6 +1,6 @@
 -- Want of memory before the run ends it with its line.
 use Rattle.std.proofs.Common.{◌≡◌, ◌∙◌, ℕ, List, Bor, map, refl, ap, subst}
-use Rattle.wgetr.specs.Order.{AreForMap}
+use Rattle.wgetr.specs.Order.{AreForInput}
 use Rattle.wgetr.specs.Program.{IsTold}
 use Rattle.wgetr.proofs.ProgramLaws.{runs_memory, told_memory}
 use Rattle.wgetr.proofs.program.run_words.Goals as goal
@@ -15,12 +15,12 @@ returns-in-Err g c = record {
 
 pub returns-in-Ok-clause-unread : goal.returns-in-Ok-clause-unread
 returns-in-Ok-clause-unread g c =
-    subst (λ (xs : List (List ℕ)). ¬ AreForMap (xs) → c.run.new.reader ≡ c.args.reader.now) (ap (map (λ (w : Bor (List ℕ)). w.now)) c.as_slice-in-Ok.ensures.value ∙ c.in-Ok.ensures) c.run.ensures.unread
+    subst (λ (xs : List (List ℕ)). ¬ AreForInput (xs) → c.run.new.reader ≡ c.args.reader.now) (ap (map (λ (w : Bor (List ℕ)). w.now)) c.as_slice-in-Ok.ensures.value ∙ c.in-Ok.ensures) c.run.ensures.unread
 
 pub returns-in-Ok-clause-told : goal.returns-in-Ok-clause-told
 returns-in-Ok-clause-told g c =
-    subst (λ (xs : List (List ℕ)). ¬ AreForMap (xs) → IsTold (xs) (g.E.Write.contents c.args.errors.now) (g.E.Write.contents c.explain_words.new.errors)) (ap (map (λ (w : Bor (List ℕ)). w.now)) c.as_slice.ensures.value ∙ c.in-Ok.ensures) c.explain_words.ensures.told
+    subst (λ (xs : List (List ℕ)). ¬ AreForInput (xs) → IsTold (xs) (g.E.Write.contents c.args.errors.now) (g.E.Write.contents c.explain_words.new.errors)) (ap (map (λ (w : Bor (List ℕ)). w.now)) c.as_slice.ensures.value ∙ c.in-Ok.ensures) c.explain_words.ensures.told
 
 pub returns-in-Ok-clause-quiet : goal.returns-in-Ok-clause-quiet
 returns-in-Ok-clause-quiet g c =
-    subst (λ (xs : List (List ℕ)). AreForMap (xs) → c.explain_words.new.errors ≡ c.args.errors.now) (ap (map (λ (w : Bor (List ℕ)). w.now)) c.as_slice.ensures.value ∙ c.in-Ok.ensures) c.explain_words.ensures.quiet
+    subst (λ (xs : List (List ℕ)). AreForInput (xs) → c.explain_words.new.errors ≡ c.args.errors.now) (ap (map (λ (w : Bor (List ℕ)). w.now)) c.as_slice.ensures.value ∙ c.in-Ok.ensures) c.explain_words.ensures.quiet
