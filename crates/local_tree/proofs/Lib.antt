@@ -5,3 +5,4 @@ pub mod TakenLaws
 pub mod OrderLaws
 pub mod LocalLaws
 pub mod FolderLaws
+pub mod SiteFilesLaws

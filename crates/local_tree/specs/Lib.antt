@@ -4,3 +4,4 @@ pub mod LocalNames
 pub mod Taken
 pub mod Folders
 pub mod MemoryFolders
+pub mod SiteFiles

@@ -1,5 +1,6 @@
 //! Local names: where the pages of a site stand in a folder. This crate knows which name each page of
-//! a list has, whatever the order in which they came; it knows nothing of sites or retrievals.
+//! a list has, whatever the order in which they came, and puts the pages that a harvest keeps into a
+//! folder; it asks no site for anything.
 //!
 //! Host and path of a page become directories below the folder. Where two pages would have one name,
 //! or one page's name is a directory of another's, a number is added. What the names are stands in
@@ -16,6 +17,7 @@ pub use crate::local_name::is_local_name;
 pub use crate::memory_folder::MemoryFolder;
 pub use crate::naming::{ascend, names};
 pub use crate::plain_name::MAX_SEGMENT;
+pub use crate::site_files::{WriteFault, write_site};
 
 mod disk_folder;
 mod folder;
@@ -26,5 +28,6 @@ mod local_name;
 mod memory_folder;
 mod naming;
 mod plain_name;
+mod site_files;
 #[cfg(test)]
 mod tests;

@@ -1,9 +1,9 @@
 -- The text has gained the lines of the rows so far.
 use Rattle.std.proofs.Common.{◌≡◌, ◌++◌, map, string_bytes, take}
 use Rattle.std.specs.List.{flat_map}
-use Rattle.wgetr.specs.Report.{line_text}
-use Rattle.wgetr.specs.Rows.{line_of}
-use Rattle.wgetr.proofs.report.push_report.Given as goal
+use Rattle.report.specs.Report.{line_text}
+use Rattle.report.specs.Rows.{line_of}
+use Rattle.report.proofs.text.push_report.Given as goal
 
 abbrev pub invariant-loop-row : goal.invariant-loop-row
 invariant-loop-row l = string_bytes l.text ≡ string_bytes l.initial.text ++ flat_map line_text (map line_of (take l.row-index l.rows))

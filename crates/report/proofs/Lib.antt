@@ -1,0 +1,7 @@
+pub mod ListLaws
+pub mod TableLaws
+pub mod NameLaws
+pub mod HarvestLaws
+pub mod NamedLaws
+pub mod StatusLaws
+mod StandardFacts

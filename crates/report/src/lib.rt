@@ -1,0 +1,15 @@
+//! The report of a retrieval, and the exit status. This crate knows what a person is told of a
+//! harvest; it knows nothing of words, sites or folders.
+//!
+//! A report has a line for each address that was found, and the counts. What it says stands in
+//! `specs/Report.antt`, the exit status in `specs/ExitStatus.antt`.
+#![tactic(auto)]
+
+pub use crate::status::exit_status;
+pub use crate::text::report_text;
+
+mod rows;
+mod status;
+#[cfg(test)]
+mod tests;
+mod text;

@@ -1,0 +1,52 @@
+//! The exit status of a retrieval (GNU Wget manual, Exit Status).
+ghost use Rattle.std.specs.Prelude.{◌≡◌, map};
+ghost use Rattle.report.specs.ExitStatus.{is_loss, is_network_fault, is_fault, exit_status};
+
+use crate::text::is_failed;
+use fetcher::{FaultKind, Outcome};
+use harvest::Harvest;
+
+// Whether nobody took the connection, or it was lost.
+fn is_loss(kind: FaultKind) -> bool
+    ensures { result ≡ is_loss kind }
+{
+    matches!(
+        kind,
+        FaultKind::Connect | FaultKind::Device | FaultKind::Ended
+    )
+}
+
+// Whether the network failed.
+fn is_network_fault(outcome: &Outcome) -> bool
+    ensures { result ≡ is_network_fault outcome.now }
+{
+    match outcome {
+        Outcome::Fault(kind) => is_loss(*kind),
+        Outcome::Page(_, _) | Outcome::Moved(_, _) | Outcome::Leaf(_) => false,
+    }
+}
+
+// Whether there was a fault.
+fn is_fault(outcome: &Outcome) -> bool
+    ensures { result ≡ is_fault outcome.now }
+{
+    matches!(outcome, Outcome::Fault(_))
+}
+
+/// The exit status of a harvest: 4 where the network failed for an address, else 7 where there was
+/// another fault, else 8 where a status was 400 or more, else 0. Robots files don't count. Takes no
+/// memory.
+pub fn exit_status(harvest: &Harvest) -> u8
+    ensures { result ≡ exit_status (map (λ recorded. recorded.1) harvest.now.records) }
+{
+    let records = harvest.records();
+    if records.iter().any(|(_, outcome)| is_network_fault(outcome)) {
+        4
+    } else if records.iter().any(|(_, outcome)| is_fault(outcome)) {
+        7
+    } else if records.iter().any(|(_, outcome)| is_failed(outcome)) {
+        8
+    } else {
+        0
+    }
+}

@@ -1,0 +1,182 @@
+//! The text of a report: a line for each address, and the counts.
+ghost use Rattle.std.specs.Prelude.{◌≡◌, ◌++◌, IfOk, OnOk, length, map, string_bytes};
+ghost use Rattle.report.specs.Report.{outcome_word, is_failed, fate_word, was_asked, was_refused, has_failed, is_kept, report_text, counts_text, line_text};
+ghost use Rattle.report.specs.Rows.{line_of, fate_of};
+ghost use Rattle.report.specs.Entries.{lines_of};
+ghost use Rattle.report.specs.OutcomeWord.{word_text};
+
+use crate::rows::{Fate, Row, rows_of};
+use fetcher::{FaultKind, Outcome};
+use harvest::Harvest;
+use std::alloc::{AllocError, Global};
+use std::fmt;
+
+// The word of a fate.
+#[derive(Clone, Copy)]
+enum Word {
+    Status(u16),
+    Fault(FaultKind),
+    Robots,
+}
+
+impl fmt::Display for Word {
+    ghost use Rattle.std.specs.Prelude.{Some};
+    ghost use Rattle.report.specs.OutcomeWord.{word_text};
+
+    ghost output = { λ word. Some (word_text word) };
+
+    fn fmt<W: fmt::Write>(&self, f: &mut fmt::Formatter<W>) -> fmt::Result {
+        match self {
+            Word::Status(status) => write!(f, "{status}"),
+            Word::Fault(kind) => write!(f, "{kind}"),
+            Word::Robots => f.write_str("rob"),
+        }
+    }
+}
+
+// The status of an outcome, or its fault.
+fn outcome_word(outcome: &Outcome) -> Word
+    ensures { word_text result ≡ outcome_word outcome.now }
+{
+    match outcome {
+        Outcome::Page(status, _) | Outcome::Moved(status, _) | Outcome::Leaf(status) => {
+            Word::Status(*status)
+        }
+        Outcome::Fault(kind) => Word::Fault(*kind),
+    }
+}
+
+// The word of a fate.
+fn word_of(fate: Fate<'_>) -> Word
+    ensures { word_text result ≡ fate_word (fate_of fate.entry) }
+{
+    match fate {
+        Fate::Asked(outcome) => outcome_word(outcome),
+        Fate::Refused => Word::Robots,
+    }
+}
+
+// A fault, or a status of 400 or more.
+pub(crate) fn is_failed(outcome: &Outcome) -> bool
+    ensures { result ≡ is_failed outcome.now }
+{
+    match outcome {
+        Outcome::Page(status, _) | Outcome::Moved(status, _) | Outcome::Leaf(status) => {
+            *status >= 400
+        }
+        Outcome::Fault(_) => true,
+    }
+}
+
+// How many addresses of a report were asked for, how many pages are kept, how many addresses robots
+// rules refuse, and how many failed.
+#[derive(Clone, Copy)]
+struct Counts {
+    asked: usize,
+    kept: usize,
+    refused: usize,
+    failed: usize,
+}
+
+impl Counts {
+    ghost use Rattle.std.specs.Prelude.{◌≡◌, map};
+    ghost use Rattle.report.specs.Report.{was_asked, was_refused, has_failed, count_of, count_kept};
+    ghost use Rattle.report.specs.Rows.{line_of};
+
+    // The counts of these rows.
+    fn of(rows: &[Row<'_>]) -> Counts
+        ensures asked { result.asked ≡ count_of was_asked (map line_of rows.now) }
+        ensures kept { result.kept ≡ count_kept (map line_of rows.now) }
+        ensures refused { result.refused ≡ count_of was_refused (map line_of rows.now) }
+        ensures failed { result.failed ≡ count_of has_failed (map line_of rows.now) }
+    {
+        Counts {
+            asked: rows.iter().filter(|row| was_asked(row.fate)).count(),
+            kept: rows.iter().filter(|row| is_kept(row)).count(),
+            refused: rows.iter().filter(|row| was_refused(row.fate)).count(),
+            failed: rows.iter().filter(|row| has_failed(row.fate)).count(),
+        }
+    }
+}
+
+// Whether it was asked for.
+fn was_asked(fate: Fate<'_>) -> bool
+    ensures { result ≡ was_asked (fate_of fate.entry) }
+{
+    matches!(fate, Fate::Asked(_))
+}
+
+// Whether robots rules refuse it.
+fn was_refused(fate: Fate<'_>) -> bool
+    ensures { result ≡ was_refused (fate_of fate.entry) }
+{
+    matches!(fate, Fate::Refused)
+}
+
+// Whether its page is kept.
+fn is_kept(row: &Row<'_>) -> bool
+    ensures { result ≡ is_kept (line_of row.now) }
+{
+    row.name.is_some()
+}
+
+// Whether it was asked for, and failed.
+fn has_failed(fate: Fate<'_>) -> bool
+    ensures { result ≡ has_failed (fate_of fate.entry) }
+{
+    match fate {
+        Fate::Asked(outcome) => is_failed(outcome),
+        Fate::Refused => false,
+    }
+}
+
+// Adds the line of one address.
+fn push_line(text: &mut String, row: Row<'_>) -> Result<(), AllocError>
+    ensures ok { OnOk result (string_bytes text.new ≡ string_bytes text.old ++ line_text (line_of row.entry)) }
+{
+    let depth = row.depth;
+    let word = word_of(row.fate);
+    let address = row.address;
+    let name = row.name.unwrap_or("-");
+    writeln!(text, "{depth} {word} {address} {name}")
+}
+
+// Adds the counts.
+fn push_counts(text: &mut String, counts: Counts) -> Result<(), AllocError>
+    ensures ok { OnOk result (string_bytes text.new ≡ string_bytes text.old ++ counts_text counts.asked counts.kept counts.refused counts.failed) }
+{
+    let Counts {
+        asked,
+        kept,
+        refused,
+        failed,
+    } = counts;
+    writeln!(
+        text,
+        "fetched {asked} kept {kept} refused {refused} failed {failed}"
+    )
+}
+
+/// Adds the report over these rows.
+pub(crate) fn push_report(text: &mut String, rows: &[Row<'_>]) -> Result<(), AllocError>
+    ensures ok { OnOk result (string_bytes text.new ≡ string_bytes text.old ++ report_text (map line_of rows.now)) }
+{
+    for row in rows {
+        push_line(text, *row)?;
+    }
+    push_counts(text, Counts::of(rows))
+}
+
+/// The report of a harvest whose kept pages have these names, each in its page's place: a line
+/// `depth word address name` for each address that was asked for or that robots rules refuse, in
+/// address order, the name `-` where the page isn't kept, and last the line
+/// `fetched A kept B refused C failed D`. The error is that memory is wanting.
+pub fn report_text(alloc: Global, harvest: &Harvest, names: &[String]) -> Result<String, AllocError>
+    requires { length names.now ≡ length harvest.now.kept }
+    ensures { IfOk result (λ text. string_bytes text ≡ report_text (lines_of harvest.now (map string_bytes names.now))) }
+{
+    let rows = rows_of(alloc, harvest, names)?;
+    let mut text = String::new(alloc);
+    push_report(&mut text, &rows)?;
+    Ok(text)
+}
