@@ -1,9 +1,9 @@
 -- What several fetchers bring in or leave, from what was noted and concluded.
-use Rattle.std.proofs.Common.{◌≡◌, ◌≢◌, ◌⊎◌, ℕ, ◌≤◌, inl, inr, true, false, List, [], ◌∷◌, ◌++◌, length, get_or, slice_set, arith, Some, None, Result, Ok, Err, refl, sym, ap, ◌∙◌, subst}
+use Rattle.std.proofs.Common.{◌≡◌, ◌≢◌, ◌⊎◌, ℕ, ◌≤◌, inl, inr, true, false, List, [], ◌∷◌, ◌++◌, length, get_or, slice_set, take, arith, Some, None, Result, Ok, Err, refl, sym, ap, ◌∙◌, subst}
 use Rattle.std.specs.Prelude.{Contains, IfOk, IfErr, IsOk, IsErr}
 use Rattle.std.specs.List.{AllZip}
 use Rattle.std.proofs.lemmas.Bool.{false≢true}
-use Rattle.std.proofs.lemmas.List.{append-nil}
+use Rattle.std.proofs.lemmas.List.{append-nil, take-append-le, take_all}
 use Rattle.follow_filters.specs.declared.plan.Plan.{Plan}
 use Rattle.robots_rules.specs.Access.{RuleSetValue}
 use Rattle.fetcher.specs.declared.fetcher.Ask.{Ask}
@@ -23,7 +23,10 @@ use Rattle.workers.specs.declared.retrieval.Halt.{Halt}
 use Rattle.workers.specs.declared.worker.Seat.{Seat}
 use Rattle.workers.specs.declared.crew_retrieval.Retrieved.{Retrieved}
 use Rattle.workers.specs.declared.crew_retrieval.Stopped.{Stopped}
-use Rattle.workers.specs.Answered.{IsBrought, IsLeftBy}
+use Rattle.workers.specs.Answered.{IsBrought, IsLeftBy, IsAccount}
+use Rattle.workers.specs.declared.crew_retrieval.Noted.{Noted}
+use Rattle.workers.specs.declared.crew_retrieval.Noted.TheVariants as known
+use Rattle.workers.specs.declared.note.Notes.{Notes}
 use Rattle.workers.specs.Apart.{IsOrdered}
 use Rattle.workers.specs.Asks.{gained, pages_asked, origins_asked, AreOnce}
 use Rattle.workers.specs.Concluded.{IsConcluded, IsBare}
@@ -44,6 +47,10 @@ use Rattle.workers.proofs.SiteLaws.{fits_extend, complete_for, too_many_up, not_
 -- more candidates than the plan lets be held, and a full table that shows it
 abbrev pub IsFull : Plan → State → Type 0
 IsFull plan s = HasTooMany (policy plan) (answers s) × IsOverfull (policy plan) s
+
+-- what a vector holds whose elements were all written
+pub written : {X : Type 0} (n : ℕ) (new rest : List X) → length new ≡ n → take n (new ++ rest) ≡ new
+written n new rest is = take-append-le n new rest (omega arith) ∙ take_all n new (omega arith)
 
 module _ {F S : Type 0} (site : F → S) (says : S → Text → Outcome → List ℕ → Type 0) (rules : S → Text → RuleSetValue → Type 0) (log : F → List Ask) (plan : Plan) where
   -- ---- fetchers of which nothing was asked
@@ -105,6 +112,28 @@ module _ {F S : Type 0} (site : F → S) (says : S → Text → Outcome → List
     full = λ is. absurd (let other : why.Mismatch ≡ why.Full = sym wrong ∙ is in cc);
   }
 
+  -- ---- by what was noted
+
+  pub account_all : (old new : List F) (noted : Noted) (notes : Notes) → IsAccount site says rules log plan old new noted → noted ≡ known.All notes
+      → AreNoted (SomeSays site says log old new) (SomeRules site rules log old new) plan (all_gained log old new) notes.pages.items notes.rules.items
+  account_all old new noted notes account is = subst (λ (n : Noted). IsAccount site says rules log plan old new n) is account
+
+  pub account_once : (old new : List F) (noted : Noted) → IsAccount site says rules log plan old new noted → noted ≡ known.Once → AreOnce (all_gained log old new)
+  account_once old new noted account is = subst (λ (n : Noted). IsAccount site says rules log plan old new n) is account
+
+  pub all_brought : (old new : List F) (t : Traced) (notes : List PageNote) (sets : List RulesNote) (concluded : Result Harvested Halt) → AreLater site log old new
+      → AreNoted (SomeSays site says log old new) (SomeRules site rules log old new) plan (all_gained log old new) notes sets
+      → IfOk concluded (λ h. IsConcluded plan t notes sets h × IsQuiet t.state × IsComplete (policy t.plan) t.state) → IfOk concluded (λ h. IsBrought site says rules log plan old new h)
+  all_brought old new t notes sets (Ok h) later noted ok = brought old new t notes sets h later noted ok
+  all_brought old new t notes sets (Err halt) later noted ok = tt
+
+  pub all_left : (old new : List F) (t : Traced) (notes : List PageNote) (sets : List RulesNote) (concluded : Result Harvested Halt) → AreLater site log old new
+      → AreNoted (SomeSays site says log old new) (SomeRules site rules log old new) plan (all_gained log old new) notes sets
+      → IfErr concluded (λ halt. halt.cause ≢ why.Mismatch → IsBare notes sets halt.cause halt.harvest ⊎ (IsConcluded plan t notes sets halt.harvest × (t.state.cause ≡ Some halt.cause)))
+      → IfErr concluded (λ halt. halt.cause ≡ why.Full → IsFull t.plan t.state) → IfErr concluded (λ halt. IsLeftBy site says rules log plan old new halt.cause halt.harvest)
+  all_left old new t notes sets (Ok h) later noted err full = tt
+  all_left old new t notes sets (Err halt) later noted err full = left old new t notes sets halt.cause halt.harvest later noted err full
+
   -- ---- one fetcher
 
   pub one_later : (f g : F) → site g ≡ site f → log g ≡ log f ++ gained (log f) (log g) → AreLater site log (f ∷ []) (g ∷ [])
@@ -139,21 +168,20 @@ module _ {F S : Type 0} (site : F → S) (says : S → Text → Outcome → List
     full = full;
   }
 
-  pub alone_brought : (fs : List F) (f g : F) (r : Result Harvested Halt) → length fs ≡ 1 → f ≡ get_or fs 0 f → site g ≡ site f → log g ≡ log f ++ gained (log f) (log g)
-      → IfOk r (Brings (says (site f)) (rules (site f)) plan (gained (log f) (log g))) → IfOk r (λ h. IsBrought site says rules log plan fs (slice_set fs 0 g) h)
-  alone_brought [] f g r one is site_is log_is ok = absurd (omega arith)
-  alone_brought (z ∷ []) f g (Ok h) one is site_is log_is ok = subst (λ (x : F). IsBrought site says rules log plan (x ∷ []) (g ∷ []) h) is (one_brought f g h site_is log_is ok)
-  alone_brought (z ∷ []) f g (Err halt) one is site_is log_is ok = tt
-  alone_brought (z ∷ w ∷ fs) f g r one is site_is log_is ok = absurd (omega arith)
+  pub alone_brought : (fs : List F) (d g : F) (r : Result Harvested Halt) → length fs ≡ 1 → site g ≡ site (get_or fs 0 d) → log g ≡ log (get_or fs 0 d) ++ gained (log (get_or fs 0 d)) (log g)
+      → IfOk r (Brings (says (site (get_or fs 0 d))) (rules (site (get_or fs 0 d))) plan (gained (log (get_or fs 0 d)) (log g))) → IfOk r (λ h. IsBrought site says rules log plan fs (slice_set fs 0 g) h)
+  alone_brought [] d g r one site_is log_is ok = absurd (omega arith)
+  alone_brought (f ∷ []) d g (Ok h) one site_is log_is ok = one_brought f g h site_is log_is ok
+  alone_brought (f ∷ []) d g (Err halt) one site_is log_is ok = tt
+  alone_brought (f ∷ e ∷ fs) d g r one site_is log_is ok = absurd (omega arith)
 
-  pub alone_left : (fs : List F) (f g : F) (r : Result Harvested Halt) → length fs ≡ 1 → f ≡ get_or fs 0 f → site g ≡ site f → log g ≡ log f ++ gained (log f) (log g)
-      → IfErr r (λ halt. IsLeft (says (site f)) (rules (site f)) plan (gained (log f) (log g)) halt.cause halt.harvest) → IfErr r (λ halt. halt.cause ≡ why.Full → IsFull plan halt.harvest.state)
-      → IfErr r (λ halt. IsLeftBy site says rules log plan fs (slice_set fs 0 g) halt.cause halt.harvest)
-  alone_left [] f g r one is site_is log_is err full = absurd (omega arith)
-  alone_left (z ∷ []) f g (Ok h) one is site_is log_is err full = tt
-  alone_left (z ∷ []) f g (Err halt) one is site_is log_is err full =
-      subst (λ (x : F). IsLeftBy site says rules log plan (x ∷ []) (g ∷ []) halt.cause halt.harvest) is (one_left f g halt.cause halt.harvest site_is log_is err full)
-  alone_left (z ∷ w ∷ fs) f g r one is site_is log_is err full = absurd (omega arith)
+  pub alone_left : (fs : List F) (d g : F) (r : Result Harvested Halt) → length fs ≡ 1 → site g ≡ site (get_or fs 0 d) → log g ≡ log (get_or fs 0 d) ++ gained (log (get_or fs 0 d)) (log g)
+      → IfErr r (λ halt. IsLeft (says (site (get_or fs 0 d))) (rules (site (get_or fs 0 d))) plan (gained (log (get_or fs 0 d)) (log g)) halt.cause halt.harvest)
+      → IfErr r (λ halt. halt.cause ≡ why.Full → IsFull plan halt.harvest.state) → IfErr r (λ halt. IsLeftBy site says rules log plan fs (slice_set fs 0 g) halt.cause halt.harvest)
+  alone_left [] d g r one site_is log_is err full = absurd (omega arith)
+  alone_left (f ∷ []) d g (Ok h) one site_is log_is err full = tt
+  alone_left (f ∷ []) d g (Err halt) one site_is log_is err full = one_left f g halt.cause halt.harvest site_is log_is err full
+  alone_left (f ∷ e ∷ fs) d g r one site_is log_is err full = absurd (omega arith)
 
   -- ---- for a whole site
 
