@@ -153,7 +153,7 @@ module _ {F S : Type 0} (site : F → S) (says : S → Text → Outcome → List
   one_brought f g h site_is log_is brings = record {
     later = one_later f g site_is log_is;
     brings = subst (λ (asks : List Ask). Brings (SomeSays site says log (f ∷ []) (g ∷ [])) (SomeRules site rules log (f ∷ []) (g ∷ [])) plan asks h) (sym (one_gained f g))
-    (brings_more (says (site f)) (SomeSays site says log (f ∷ []) (g ∷ [])) (rules (site f)) (SomeRules site rules log (f ∷ []) (g ∷ [])) (gained (log f) (log g)) (one_says f g) (one_rules f g) plan h brings);
+        (brings_more (says (site f)) (SomeSays site says log (f ∷ []) (g ∷ [])) (rules (site f)) (SomeRules site rules log (f ∷ []) (g ∷ [])) (gained (log f) (log g)) (one_says f g) (one_rules f g) plan h brings);
   }
 
   pub one_left : (f g : F) (cause : Cause) (h : Harvested) → site g ≡ site f → log g ≡ log f ++ gained (log f) (log g)

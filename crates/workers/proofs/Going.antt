@@ -17,7 +17,6 @@ use Rattle.workers.specs.declared.note.Notes.{Notes}
 use Rattle.workers.specs.Asks.{page_asked, origin_asked}
 use Rattle.workers.specs.Notes.{Goes, IsToldPage, IsToldRules}
 
-
 -- an ask that found no memory was logged or not, as the log's length says
 pub not_logged : (old new : List Ask) (a : Ask) → GainedAtMost old new a → length new ≡ length old → new ≡ old
 not_logged old new a (inl is) same = is

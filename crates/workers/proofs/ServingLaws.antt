@@ -156,14 +156,20 @@ module _ (may_say : Text → Outcome → List ℕ → Type 0) (may_rule : Text �
       record {
         serving = serving t asks notes sets follows replay noted agrees;
         recorded = record {
-          pages = λ u. ((λ among. elim (all.pages u among) [
-            | inl some ↦ some
-            | inr lost ↦ absurd (let done = held_done t.state.entries u (slot lost.0 (Out Nobody)) quiet.entries lost.1 in false≢true done)
-          ]), all.recorded u);
-          origins = λ o. ((λ among. elim (all.origins o among) [
-            | inl some ↦ some
-            | inr lost ↦ absurd (let known = origin_known t.state.origins o (Asked Nobody) quiet.origins lost in false≢true known)
-          ]), all.ruled o);
+          pages = λ u. (
+            (λ among. elim (all.pages u among) [
+              | inl some ↦ some
+              | inr lost ↦ absurd (let done = held_done t.state.entries u (slot lost.0 (Out Nobody)) quiet.entries lost.1 in false≢true done)
+            ]),
+            all.recorded u,
+          );
+          origins = λ o. (
+            (λ among. elim (all.origins o among) [
+              | inl some ↦ some
+              | inr lost ↦ absurd (let known = origin_known t.state.origins o (Asked Nobody) quiet.origins lost in false≢true known)
+            ]),
+            all.ruled o,
+          );
         };
         quiet = quiet;
         complete = subst (λ (x : Plan). IsComplete (policy x) t.state) follows complete;

@@ -6,10 +6,10 @@ ghost use Rattle.workers.specs.Notes.{addresses, origins};
 ghost use Rattle.workers.specs.Noted.{StandsPage, StandsRules, Agrees};
 ghost use Rattle.address.specs.AddressOrder.{IsAscending};
 
-use harvest::Named;
 use crate::note::{Notes, PageNote, RulesNote};
 use address::{Address, Origin};
 use frontier_core::Frontier;
+use harvest::Named;
 
 /// Sorts things by their names' bytes, and says whether no two are named alike.
 pub fn sort_and_ascend<T: Named>(things: &mut Vec<T>) -> bool

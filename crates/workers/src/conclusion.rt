@@ -10,12 +10,11 @@ ghost use Rattle.workers.specs.Concluded.{HasBody, IsConcluded, IsBare};
 ghost use Rattle.workers.specs.Noted.{page_of};
 
 use crate::comparison::agree;
-use harvest::Harvest;
 use crate::note::{Notes, PageNote};
-use harvest::KeptPage;
 use crate::retrieval::{Halt, finish};
 use follow_filters::Plan;
 use frontier_core::{Cause, Frontier};
+use harvest::{Harvest, KeptPage};
 use std::alloc::{AllocError, Global};
 
 // How a frontier was left: quiet, or stopped for a cause that is borne out; as Mismatch otherwise.

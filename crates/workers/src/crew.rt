@@ -4,9 +4,9 @@ ghost use Rattle.std.specs.Thread.{IsSync, IsSend};
 ghost use Rattle.workers.specs.Seats.{AllGo};
 
 use crate::worker::{Seat, work_at};
+use fetcher::Fetcher;
 use follow_filters::Plan;
 use frontier_lock::FrontierLock;
-use fetcher::Fetcher;
 use std::alloc::Global;
 use std::sync::Wait;
 use std::thread::{Threads, join_mut};
@@ -25,14 +25,7 @@ fn work_alone<F: Fetcher, R: Wait>(rt: &R, shared: &Shared, worker: u32, seats: 
     ensures { AllGo F.site F.says F.rules F.log shared.now.plan.now seats.old seats.new }
 {
     if let [seat] = seats {
-        work_at(
-            rt,
-            shared.alloc,
-            shared.lock,
-            shared.plan,
-            worker,
-            seat,
-        );
+        work_at(rt, shared.alloc, shared.lock, shared.plan, worker, seat);
     }
 }
 

@@ -11,16 +11,16 @@ ghost use Rattle.workers.specs.Sites.{IsCompleteFor};
 
 use crate::conclusion::conclude;
 use crate::crew::run_crew;
-use harvest::Harvest;
 use crate::note::Notes;
 use crate::once::is_once_in_place;
 use crate::retrieval::{Halt, retrieve_in_order};
 use crate::seats::{Left, leave_all, leave_bare, note_room, seat_all};
 use crate::worker::Seat;
+use fetcher::Fetcher;
 use follow_filters::Plan;
 use frontier_core::{Cause, Frontier};
 use frontier_lock::FrontierLock;
-use fetcher::Fetcher;
+use harvest::Harvest;
 use std::alloc::{AllocError, Global};
 use std::sync::Wait;
 use std::thread::Threads;
@@ -46,7 +46,10 @@ pub struct Stopped<F> {
 }
 
 // What a crew brings in or leaves, with its fetchers.
-fn answer<F: Drop>(concluded: Result<Harvest, Halt>, fetchers: Vec<F>) -> Result<Retrieved<F>, Stopped<F>>
+fn answer<F: Drop>(
+    concluded: Result<Harvest, Halt>,
+    fetchers: Vec<F>,
+) -> Result<Retrieved<F>, Stopped<F>>
     ensures ok { IfOk result (λ r. (r.fetchers.items ≡ fetchers.items) × IfOk concluded (λ h. r.harvest ≡ h) × IsOk concluded) }
     ensures err { IfErr result (λ s. (s.fetchers.items ≡ fetchers.items) × IfErr concluded (λ halt. (s.cause ≡ halt.cause) × (s.harvest ≡ halt.harvest)) × IsErr concluded) }
 {

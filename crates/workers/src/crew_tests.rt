@@ -172,12 +172,7 @@ fn asked(fetchers: &[MapSite]) -> (usize, usize) {
 }
 
 // So many workers come to the row's report, and ask for just what is recorded.
-fn comes_to(
-    rt: &(impl Abort + Threads + Wait + Sync),
-    alloc: Global,
-    row: &Row,
-    workers: usize,
-) {
+fn comes_to(rt: &(impl Abort + Threads + Wait + Sync), alloc: Global, row: &Row, workers: usize) {
     let sites = sites(rt, alloc, row.map, workers);
     let plan = plan_of(rt, alloc, row);
     assert!(rt; 0 < sites.len() && sites.len() <= 64);

@@ -4,12 +4,12 @@ ghost use Rattle.workers.specs.Notes.{Goes, body_of};
 ghost use Rattle.workers.specs.Seats.{SeatGoes};
 
 use crate::note::{Notes, PageNote, RulesNote};
-use harvest::is_success;
 use address::{Address, Origin};
+use fetcher::{Answer, Body, Fetcher, Outcome};
 use follow_filters::Plan;
 use frontier_core::{AnswerFault, Cause, OriginPermit, Permit, SpreadFault, Work};
 use frontier_lock::{Done, FrontierLock, Held, Refused};
-use fetcher::{Answer, Body, Fetcher, Outcome};
+use harvest::is_success;
 use std::alloc::{AllocError, Global};
 use std::sync::Wait;
 
@@ -148,6 +148,7 @@ fn serve_rules<F: Fetcher, R: Wait>(
 )
     ensures { Goes F.site F.says F.rules F.log plan.now fetcher.old notes.old fetcher.new notes.new }
 {
+    // The plan is named by the contract alone.
     let _ = plan;
     let Ok(origin) = make_rules_room(notes, permit.origin()) else {
         lock.halt(rt, Some(Held::Rules(permit)), Cause::Memory);

@@ -78,7 +78,7 @@ returns-clause-err c =
       nothing = nothing;
     } in
     let B : Halt → Type 0 = λ halt. halt.cause ≢ why.Mismatch → IsBare c.args.notes.pages.items c.args.notes.rules.items halt.cause halt.harvest
-        ⊎ (IsConcluded c.args.plan.now c.args.frontier c.args.notes.pages.items c.args.notes.rules.items halt.harvest × (c.args.frontier.state.cause ≡ Some halt.cause)) in
+    ⊎ (IsConcluded c.args.plan.now c.args.frontier c.args.notes.pages.items c.args.notes.rules.items halt.harvest × (c.args.frontier.state.cause ≡ Some halt.cause)) in
     let turn : (halt : Halt) → Halts c halt → B halt = λ halt either other. elim either [
       | inl nothing ↦ inl (bare halt nothing)
       | inr both ↦ inr (concluded c halt.harvest both.1, on_err c.end_of-ended.result halt.cause (λ cause. cause ≢ why.Mismatch → c.args.frontier.state.cause ≡ Some cause) both.0 c.end_of-ended.ensures.stopped other)
