@@ -6,6 +6,7 @@
 
 pub use crate::entry::Entry;
 pub use crate::harvest::Harvest;
+pub use crate::named::Named;
 pub use crate::page::{KeptPage, is_success};
 
 mod entry;

@@ -5,3 +5,11 @@ pub mod WorkerLaws
 pub mod RestLaws
 pub mod SiteLaws
 pub mod RetrievalLaws
+pub mod Going
+pub mod Eachs
+pub mod ComparisonLaws
+pub mod ConclusionLaws
+pub mod ApartLaws
+pub mod ServingLaws
+pub mod CrewLaws
+pub mod CrewEnds

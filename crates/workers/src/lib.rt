@@ -1,11 +1,25 @@
 //! Retrievals: who asks the site for what a frontier wants. Its one idea: a driver asks and hands over, and everything
 //! that it may claim is read from the frontier's own record. What that means stands in `specs/`: `Retrieval` what a
 //! retrieval brings in, `Asks` what was asked for and told, `Sites` what holds of a site that gives each address one
-//! outcome. What is brought in is `harvest`'s.
+//! outcome, `Crews` several fetchers together. What is brought in is `harvest`'s.
+//!
+//! `retrieve_in_order` is one thread's retrieval. `retrieve` has a worker for each fetcher, in threads: each notes what it was
+//! told, and once all are done the notes are compared with the frontier that they left.
 #![tactic(auto)]
 
+pub use crate::crew_retrieval::{Retrieved, Stopped, retrieve};
 pub use crate::retrieval::{Halt, retrieve_in_order};
 pub use harvest::{Entry, Harvest};
 
+mod comparison;
+mod conclusion;
+mod crew;
+mod crew_retrieval;
+#[cfg(test)]
+mod crew_tests;
+mod note;
+mod once;
 mod retrieval;
+mod seats;
 mod turn;
+mod worker;

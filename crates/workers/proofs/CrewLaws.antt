@@ -1,0 +1,146 @@
+-- From what the workers did at their seats to what the fetchers were asked and what they may have said.
+use Rattle.std.proofs.Common.{◌≡◌, ◌⊎◌, ℕ, List, [], ◌∷◌, ◌++◌, length, get_or, map, refl, sym, ap, ◌∙◌, subst, inl, inr, arith, Option, Some, None}
+use Rattle.std.specs.Prelude.{All, Contains, MatchOption, IfSome, IsPermutation}
+use Rattle.std.specs.List.{filter_map, AllZip}
+use Rattle.std.proofs.lemmas.List.{map-append, length-map, get_or-map}
+use Rattle.std.proofs.lemmas.List.Elements.{All-append, All-nil, All-weaker, filter_map-append}
+use Rattle.std.proofs.lemmas.List.Sorted.{IsPermutation-refl}
+use Rattle.follow_filters.specs.declared.plan.Plan.{Plan}
+use Rattle.robots_rules.specs.Access.{RuleSetValue}
+use Rattle.fetcher.specs.declared.fetcher.Ask.{Ask}
+use Rattle.fetcher.specs.declared.outcome.Outcome.{Outcome}
+use Rattle.frontier_core.specs.Tables.{Text}
+use Rattle.workers.specs.declared.note.PageNote.{PageNote}
+use Rattle.workers.specs.declared.note.RulesNote.{RulesNote}
+use Rattle.workers.specs.declared.worker.Seat.{Seat}
+use Rattle.workers.specs.Asks.{gained, page_asked, origin_asked, pages_asked, origins_asked}
+use Rattle.workers.specs.Crews.{IsLater, AreLater, all_gained, SomeSays, SomeRules}
+use Rattle.workers.specs.Noted.{AreNoted}
+use Rattle.workers.specs.Notes.{Goes, IsToldPage, IsToldRules, addresses, origins, body_of}
+use Rattle.workers.specs.Seats.{SeatGoes, AllGo, fetchers_of, page_notes, rules_notes}
+use Rattle.workers.proofs.RetrievalLaws.{gained_is, log_is}
+
+nil_left : {X : Type 0} (xs ys : List X) → xs ++ ys ≡ [] → xs ≡ []
+nil_left [] ys e = refl
+nil_left (x ∷ xs) ys e = cc
+
+nil_right : {X : Type 0} (xs ys : List X) → xs ++ ys ≡ [] → ys ≡ []
+nil_right [] ys e = e
+nil_right (x ∷ xs) ys e = cc
+
+fresh : {X : Type 0} (old more new : List X) → new ≡ old ++ more → old ≡ [] → new ≡ more
+fresh {X = X} old more new is none = is ∙ ap (λ (xs : List X). xs ++ more) none
+
+-- what is noted stands among the names
+named_all : {X : Type 0} (key : X → Text) (xs : List X) → All (λ x. Contains (map key xs) (key x)) xs
+named_all key xs k d lt = (k, omega (arith, length-map xs key), get_or-map key xs k d (key (get_or xs k d)) lt)
+
+-- what may be said of a page may be said by more
+told_more : (may may' : Text → Outcome → List ℕ → Type 0) (plan : Plan) (note : PageNote) → ((x : Outcome) (body : List ℕ) → may note.address x body → may' note.address x body)
+    → IsToldPage may plan note → IsToldPage may' plan note
+told_more may may' plan note more h = go note.told h
+  where
+    go : (o : Option Outcome) → MatchOption o (note.body ≡ None) (λ x. (body : List ℕ) × may note.address x body × (note.body ≡ body_of plan note.address x body))
+        → MatchOption o (note.body ≡ None) (λ x. (body : List ℕ) × may' note.address x body × (note.body ≡ body_of plan note.address x body))
+    go None is = is
+    go (Some x) (body, said, is) = (body, more x body said, is)
+
+ruled_more : (may may' : Text → RuleSetValue → Type 0) (note : RulesNote) → ((r : RuleSetValue) → may note.origin r → may' note.origin r) → IsToldRules may note → IsToldRules may' note
+ruled_more may may' note more h = go note.told h
+  where
+    go : (o : Option RuleSetValue) → IfSome o (λ r. may note.origin r) → IfSome o (λ r. may' note.origin r)
+    go None is = tt
+    go (Some r) is = more r is
+
+all_both : {X : Type 0} (P Q R : X → Type 0) (xs : List X) → ((x : X) → P x → Q x → R x) → All P xs → All Q xs → All R xs
+all_both P Q R xs turn a b k d lt = turn (get_or xs k d) (a k d lt) (b k d lt)
+
+module _ {F S : Type 0} (site : F → S) (says : S → Text → Outcome → List ℕ → Type 0) (rules : S → Text → RuleSetValue → Type 0) (log : F → List Ask) (plan : Plan) where
+  pub all_later : (ss ts : List (Seat F)) → AllGo site says rules log plan ss ts → AreLater site log (fetchers_of ss) (fetchers_of ts)
+  all_later [] [] go = tt
+  all_later [] (t ∷ ts) go = absurd go
+  all_later (s ∷ ss) [] go = absurd go
+  all_later (s ∷ ss) (t ∷ ts) go =
+      (record { site_is = go.0.site_is; log_is = log_is (log s.fetcher) (log t.fetcher) go.0.asks go.0.log_is }, all_later ss ts go.1)
+
+  -- at a seat without notes what is noted is what was asked
+  one_noted : (s t : Seat F) (go : SeatGoes site says rules log plan s t) → s.notes.pages.items ≡ [] → pages_asked (gained (log s.fetcher) (log t.fetcher)) ≡ addresses t.notes.pages.items
+  one_noted s t go none =
+      ap pages_asked (gained_is (log s.fetcher) (log t.fetcher) go.asks go.log_is) ∙ (go.pages_noted ∙ ap addresses (sym (fresh s.notes.pages.items go.pages t.notes.pages.items go.pages_are none)))
+
+  one_ruled : (s t : Seat F) (go : SeatGoes site says rules log plan s t) → s.notes.rules.items ≡ [] → origins_asked (gained (log s.fetcher) (log t.fetcher)) ≡ origins t.notes.rules.items
+  one_ruled s t go none =
+      ap origins_asked (gained_is (log s.fetcher) (log t.fetcher) go.asks go.log_is) ∙ (go.rules_noted ∙ ap origins (sym (fresh s.notes.rules.items go.sets t.notes.rules.items go.sets_are none)))
+
+  pub pages_are_noted : (ss ts : List (Seat F)) → AllGo site says rules log plan ss ts → page_notes ss ≡ [] → pages_asked (all_gained log (fetchers_of ss) (fetchers_of ts)) ≡ addresses (page_notes ts)
+  pages_are_noted [] [] go none = refl
+  pages_are_noted [] (t ∷ ts) go none = absurd go
+  pages_are_noted (s ∷ ss) [] go none = absurd go
+  pages_are_noted (s ∷ ss) (t ∷ ts) go none =
+      let one = one_noted s t go.0 (nil_left s.notes.pages.items (page_notes ss) none) in
+      let rest = pages_are_noted ss ts go.1 (nil_right s.notes.pages.items (page_notes ss) none) in
+      filter_map-append page_asked (gained (log s.fetcher) (log t.fetcher)) (all_gained log (fetchers_of ss) (fetchers_of ts))
+      ∙ (ap (λ (us : List Text). us ++ pages_asked (all_gained log (fetchers_of ss) (fetchers_of ts))) one
+      ∙ (ap (λ (us : List Text). addresses t.notes.pages.items ++ us) rest ∙ sym (map-append (λ (note : PageNote). note.address) t.notes.pages.items (page_notes ts))))
+
+  pub rules_are_noted : (ss ts : List (Seat F)) → AllGo site says rules log plan ss ts → rules_notes ss ≡ [] → origins_asked (all_gained log (fetchers_of ss) (fetchers_of ts)) ≡ origins (rules_notes ts)
+  rules_are_noted [] [] go none = refl
+  rules_are_noted [] (t ∷ ts) go none = absurd go
+  rules_are_noted (s ∷ ss) [] go none = absurd go
+  rules_are_noted (s ∷ ss) (t ∷ ts) go none =
+      let one = one_ruled s t go.0 (nil_left s.notes.rules.items (rules_notes ss) none) in
+      let rest = rules_are_noted ss ts go.1 (nil_right s.notes.rules.items (rules_notes ss) none) in
+      filter_map-append origin_asked (gained (log s.fetcher) (log t.fetcher)) (all_gained log (fetchers_of ss) (fetchers_of ts))
+      ∙ (ap (λ (us : List Text). us ++ origins_asked (all_gained log (fetchers_of ss) (fetchers_of ts))) one
+      ∙ (ap (λ (us : List Text). origins t.notes.rules.items ++ us) rest ∙ sym (map-append (λ (note : RulesNote). note.origin) t.notes.rules.items (rules_notes ts))))
+
+  pub all_told : (ss ts : List (Seat F)) → AllGo site says rules log plan ss ts → page_notes ss ≡ [] → All (IsToldPage (SomeSays site says log (fetchers_of ss) (fetchers_of ts)) plan) (page_notes ts)
+  all_told [] [] go none = All-nil (IsToldPage (SomeSays site says log [] []) plan)
+  all_told [] (t ∷ ts) go none = absurd go
+  all_told (s ∷ ss) [] go none = absurd go
+  all_told (s ∷ ss) (t ∷ ts) go none =
+      let may = SomeSays site says log (fetchers_of (s ∷ ss)) (fetchers_of (t ∷ ts)) in
+      let here = nil_left s.notes.pages.items (page_notes ss) none in
+      let asked = one_noted s t go.0 here in
+      let told : All (IsToldPage (says (site s.fetcher)) plan) t.notes.pages.items =
+      subst (λ (notes : List PageNote). All (IsToldPage (says (site s.fetcher)) plan) notes) (sym (fresh s.notes.pages.items go.0.pages t.notes.pages.items go.0.pages_are here)) go.0.told in
+      let among : All (λ (note : PageNote). Contains (pages_asked (gained (log s.fetcher) (log t.fetcher))) note.address) t.notes.pages.items =
+      subst (λ (us : List Text). All (λ (note : PageNote). Contains us note.address) t.notes.pages.items) (sym asked) (named_all (λ (note : PageNote). note.address) t.notes.pages.items) in
+      All-append (IsToldPage may plan) t.notes.pages.items (page_notes ts)
+      (all_both (λ (note : PageNote). Contains (pages_asked (gained (log s.fetcher) (log t.fetcher))) note.address) (IsToldPage (says (site s.fetcher)) plan) (IsToldPage may plan) t.notes.pages.items
+      (λ note c h. told_more (says (site s.fetcher)) may plan note (λ x body said. inl (c, said)) h) among told)
+      (All-weaker (IsToldPage (SomeSays site says log (fetchers_of ss) (fetchers_of ts)) plan) (IsToldPage may plan)
+      (λ note h. told_more (SomeSays site says log (fetchers_of ss) (fetchers_of ts)) may plan note (λ x body said. inr said) h) (page_notes ts)
+      (all_told ss ts go.1 (nil_right s.notes.pages.items (page_notes ss) none)))
+
+  pub all_ruled : (ss ts : List (Seat F)) → AllGo site says rules log plan ss ts → rules_notes ss ≡ [] → All (IsToldRules (SomeRules site rules log (fetchers_of ss) (fetchers_of ts))) (rules_notes ts)
+  all_ruled [] [] go none = All-nil (IsToldRules (SomeRules site rules log [] []))
+  all_ruled [] (t ∷ ts) go none = absurd go
+  all_ruled (s ∷ ss) [] go none = absurd go
+  all_ruled (s ∷ ss) (t ∷ ts) go none =
+      let may = SomeRules site rules log (fetchers_of (s ∷ ss)) (fetchers_of (t ∷ ts)) in
+      let here = nil_left s.notes.rules.items (rules_notes ss) none in
+      let asked = one_ruled s t go.0 here in
+      let told : All (IsToldRules (rules (site s.fetcher))) t.notes.rules.items =
+      subst (λ (notes : List RulesNote). All (IsToldRules (rules (site s.fetcher))) notes) (sym (fresh s.notes.rules.items go.0.sets t.notes.rules.items go.0.sets_are here)) go.0.ruled in
+      let among : All (λ (note : RulesNote). Contains (origins_asked (gained (log s.fetcher) (log t.fetcher))) note.origin) t.notes.rules.items =
+      subst (λ (us : List Text). All (λ (note : RulesNote). Contains us note.origin) t.notes.rules.items) (sym asked) (named_all (λ (note : RulesNote). note.origin) t.notes.rules.items) in
+      All-append (IsToldRules may) t.notes.rules.items (rules_notes ts)
+      (all_both (λ (note : RulesNote). Contains (origins_asked (gained (log s.fetcher) (log t.fetcher))) note.origin) (IsToldRules (rules (site s.fetcher))) (IsToldRules may) t.notes.rules.items
+      (λ note c h. ruled_more (rules (site s.fetcher)) may note (λ r said. inl (c, said)) h) among told)
+      (All-weaker (IsToldRules (SomeRules site rules log (fetchers_of ss) (fetchers_of ts))) (IsToldRules may)
+      (λ note h. ruled_more (SomeRules site rules log (fetchers_of ss) (fetchers_of ts)) may note (λ r said. inr said) h) (rules_notes ts)
+      (all_ruled ss ts go.1 (nil_right s.notes.rules.items (rules_notes ss) none)))
+
+  pub crew_later : (old new : List F) (ss ts : List (Seat F)) → fetchers_of ss ≡ old → new ≡ fetchers_of ts → AllGo site says rules log plan ss ts → AreLater site log old new
+  crew_later old new ss ts from to go = rw (← from, to) (all_later ss ts go)
+
+  pub crew_noted : (old new : List F) (ss ts : List (Seat F)) (pages : List PageNote) (sets : List RulesNote) → fetchers_of ss ≡ old → new ≡ fetchers_of ts
+      → page_notes ss ≡ [] → rules_notes ss ≡ [] → pages ≡ page_notes ts → sets ≡ rules_notes ts → AllGo site says rules log plan ss ts
+      → AreNoted (SomeSays site says log old new) (SomeRules site rules log old new) plan (all_gained log old new) pages sets
+  crew_noted old new ss ts pages sets from to no_pages no_sets pages_is sets_is go = rw (← from, to, pages_is, sets_is) record {
+    pages = subst (λ (us : List Text). IsPermutation us (addresses (page_notes ts))) (sym (pages_are_noted ss ts go no_pages)) (IsPermutation-refl (addresses (page_notes ts)));
+    rules = subst (λ (us : List Text). IsPermutation us (origins (rules_notes ts))) (sym (rules_are_noted ss ts go no_sets)) (IsPermutation-refl (origins (rules_notes ts)));
+    told = all_told ss ts go no_pages;
+    ruled = all_ruled ss ts go no_sets;
+  }

@@ -1,0 +1,117 @@
+-- What a worker does, step by step.
+use Rattle.std.proofs.Common.{◌≡◌, ℕ, List, [], ◌∷◌, ◌++◌, length, length-append, map, refl, sym, ap, ◌∙◌, subst, append_assoc, inl, inr, arith}
+use Rattle.std.specs.Prelude.{All}
+use Rattle.std.specs.List.{filter_map}
+use Rattle.std.proofs.lemmas.List.{map-append, append-nil}
+use Rattle.std.proofs.lemmas.List.Elements.{All-append, All-nil, All-cons, filter_map-append}
+use Rattle.follow_filters.specs.declared.plan.Plan.{Plan}
+use Rattle.robots_rules.specs.Access.{RuleSetValue}
+use Rattle.fetcher.specs.declared.fetcher.Ask.{Ask}
+use Rattle.fetcher.specs.declared.fetcher.Ask.TheVariants as ask
+use Rattle.fetcher.specs.Logs.{GainedAtMost}
+use Rattle.fetcher.specs.declared.outcome.Outcome.{Outcome}
+use Rattle.frontier_core.specs.Tables.{Text}
+use Rattle.workers.specs.declared.note.PageNote.{PageNote}
+use Rattle.workers.specs.declared.note.RulesNote.{RulesNote}
+use Rattle.workers.specs.declared.note.Notes.{Notes}
+use Rattle.workers.specs.Asks.{page_asked, origin_asked}
+use Rattle.workers.specs.Notes.{Goes, IsToldPage, IsToldRules}
+
+-- an ask that found no memory was logged or not, as the log's length says
+pub not_logged : (old new : List Ask) (a : Ask) → GainedAtMost old new a → length new ≡ length old → new ≡ old
+not_logged old new a (inl is) same = is
+not_logged old new a (inr is) same = absurd (let long : length new ≡ length (old ++ a ∷ []) = ap length is in omega (arith, long, same, length-append old (a ∷ [])))
+
+pub was_logged : (old new : List Ask) (a : Ask) → GainedAtMost old new a → (length new ≡ length old → ⊥) → new ≡ old ++ a ∷ []
+was_logged old new a (inl is) other = absurd (other (ap length is))
+was_logged old new a (inr is) other = is
+
+-- one more at the end of a list that had stayed as it was
+pub noted_after : {X : Type 0} (old mid new : List X) (x : X) → new ≡ mid ++ x ∷ [] → mid ≡ old → new ≡ old ++ x ∷ []
+noted_after {X = X} old mid new x more same = more ∙ ap (λ (xs : List X). xs ++ x ∷ []) same
+
+module _ {F S : Type 0} (site : F → S) (says : S → Text → Outcome → List ℕ → Type 0) (rules : S → Text → RuleSetValue → Type 0) (log : F → List Ask) (plan : Plan) where
+  -- nothing was done
+  pub goes_none : (f : F) (notes : Notes) → Goes site says rules log plan f notes f notes
+  goes_none f notes = record {
+    asks = [];
+    pages = [];
+    sets = [];
+    site_is = refl;
+    log_is = sym (append-nil (log f));
+    pages_are = sym (append-nil notes.pages.items);
+    sets_are = sym (append-nil notes.rules.items);
+    pages_noted = refl;
+    rules_noted = refl;
+    told = All-nil (IsToldPage (says (site f)) plan);
+    ruled = All-nil (IsToldRules (rules (site f)));
+  }
+
+  -- nothing was asked, and nothing noted
+  pub goes_idle : (f : F) (n : Notes) (g : F) (m : Notes) → site g ≡ site f → log g ≡ log f → m.pages.items ≡ n.pages.items → m.rules.items ≡ n.rules.items
+      → Goes site says rules log plan f n g m
+  goes_idle f n g m same_site same_log same_pages same_sets = record {
+    asks = [];
+    pages = [];
+    sets = [];
+    site_is = same_site;
+    log_is = same_log ∙ sym (append-nil (log f));
+    pages_are = same_pages ∙ sym (append-nil n.pages.items);
+    sets_are = same_sets ∙ sym (append-nil n.rules.items);
+    pages_noted = refl;
+    rules_noted = refl;
+    told = All-nil (IsToldPage (says (site f)) plan);
+    ruled = All-nil (IsToldRules (rules (site f)));
+  }
+
+  -- a page was asked for, and noted
+  pub goes_page : (f : F) (n : Notes) (g : F) (m : Notes) (note : PageNote) → site g ≡ site f → log g ≡ log f ++ ask.Page note.address ∷ []
+      → m.pages.items ≡ n.pages.items ++ note ∷ [] → m.rules.items ≡ n.rules.items → IsToldPage (says (site f)) plan note → Goes site says rules log plan f n g m
+  goes_page f n g m note same_site logged noted same_sets told = record {
+    asks = ask.Page note.address ∷ [];
+    pages = note ∷ [];
+    sets = [];
+    site_is = same_site;
+    log_is = logged;
+    pages_are = noted;
+    sets_are = same_sets ∙ sym (append-nil n.rules.items);
+    pages_noted = refl;
+    rules_noted = refl;
+    told = All-cons (IsToldPage (says (site f)) plan) note [] told (All-nil (IsToldPage (says (site f)) plan));
+    ruled = All-nil (IsToldRules (rules (site f)));
+  }
+
+  -- an origin's rules were asked for, and noted
+  pub goes_rules : (f : F) (n : Notes) (g : F) (m : Notes) (note : RulesNote) → site g ≡ site f → log g ≡ log f ++ ask.Rules note.origin ∷ []
+      → m.pages.items ≡ n.pages.items → m.rules.items ≡ n.rules.items ++ note ∷ [] → IsToldRules (rules (site f)) note → Goes site says rules log plan f n g m
+  goes_rules f n g m note same_site logged same_pages noted told = record {
+    asks = ask.Rules note.origin ∷ [];
+    pages = [];
+    sets = note ∷ [];
+    site_is = same_site;
+    log_is = logged;
+    pages_are = same_pages ∙ sym (append-nil n.pages.items);
+    sets_are = noted;
+    pages_noted = refl;
+    rules_noted = refl;
+    told = All-nil (IsToldPage (says (site f)) plan);
+    ruled = All-cons (IsToldRules (rules (site f))) note [] told (All-nil (IsToldRules (rules (site f))));
+  }
+
+  -- one thing was done after the other
+  pub goes_on : (f : F) (n : Notes) (g : F) (m : Notes) (h : F) (l : Notes) → Goes site says rules log plan f n g m → Goes site says rules log plan g m h l → Goes site says rules log plan f n h l
+  goes_on f n g m h l a b = record {
+    asks = a.asks ++ b.asks;
+    pages = a.pages ++ b.pages;
+    sets = a.sets ++ b.sets;
+    site_is = b.site_is ∙ a.site_is;
+    log_is = b.log_is ∙ (ap (λ (x : List Ask). x ++ b.asks) a.log_is ∙ append_assoc (log f) a.asks b.asks);
+    pages_are = b.pages_are ∙ (ap (λ (x : List PageNote). x ++ b.pages) a.pages_are ∙ append_assoc n.pages.items a.pages b.pages);
+    sets_are = b.sets_are ∙ (ap (λ (x : List RulesNote). x ++ b.sets) a.sets_are ∙ append_assoc n.rules.items a.sets b.sets);
+    pages_noted = filter_map-append page_asked a.asks b.asks ∙ (ap (λ (x : List Text). x ++ filter_map page_asked b.asks) a.pages_noted
+        ∙ (ap (λ (x : List Text). map (λ (note : PageNote). note.address) a.pages ++ x) b.pages_noted ∙ sym (map-append (λ (note : PageNote). note.address) a.pages b.pages)));
+    rules_noted = filter_map-append origin_asked a.asks b.asks ∙ (ap (λ (x : List Text). x ++ filter_map origin_asked b.asks) a.rules_noted
+        ∙ (ap (λ (x : List Text). map (λ (note : RulesNote). note.origin) a.sets ++ x) b.rules_noted ∙ sym (map-append (λ (note : RulesNote). note.origin) a.sets b.sets)));
+    told = All-append (IsToldPage (says (site f)) plan) a.pages b.pages a.told (subst (λ (s : S). All (IsToldPage (says s) plan) b.pages) a.site_is b.told);
+    ruled = All-append (IsToldRules (rules (site f))) a.sets b.sets a.ruled (subst (λ (s : S). All (IsToldRules (rules s)) b.sets) a.site_is b.ruled);
+  }

@@ -1,0 +1,13 @@
+use Rattle.std.proofs.Common.{length, List, ℕ}
+use Rattle.std.specs.Prelude.{Contains}
+use Rattle.harvest.specs.Entries.{recorded_addresses}
+use Rattle.workers.specs.Notes.{addresses}
+use Rattle.workers.proofs.comparison.records_are_noted.Given as goal
+
+-- where what is left was noted, all was
+abbrev pub invariant-records : goal.invariant-records
+invariant-records l = ((u : List ℕ) → Contains (recorded_addresses l.records) u → Contains (addresses l.notes) u)
+    → (u : List ℕ) → Contains (recorded_addresses l.initial.records) u → Contains (addresses l.notes) u
+
+abbrev pub decreases-records : goal.decreases-records
+decreases-records l = length l.records

@@ -1,0 +1,79 @@
+use Rattle.std.proofs.Common.{◌≡◌, Ok, Err}
+use Rattle.workers.specs.Answered.{IsBrought, IsLeftBy, IsAccount}
+use Rattle.workers.specs.Crews.{SomeSays}
+use Rattle.workers.proofs.CrewEnds.{ok_told, err_told, left_nothing, left_wrong, later_self, none_once, account_all, account_once, all_brought, all_left}
+use Rattle.workers.proofs.ServingLaws.{all_has_body}
+use Rattle.workers.proofs.crew_retrieval.retrieve_together.Goals as goal
+
+pub returns-in_default-clause-ok : goal.returns-in_default-clause-ok
+returns-in_default-clause-ok g c =
+    let F = g.F.Fetcher in
+    ok_told c.answer.result (Err c.empty.result) c.args.fetchers.items (λ new h. IsBrought F.site F.says F.rules F.log c.args.plan.now c.args.fetchers.items new h) tt c.answer.ensures.ok
+
+pub returns-in_default-clause-err : goal.returns-in_default-clause-err
+returns-in_default-clause-err g c =
+    let F = g.F.Fetcher in
+    err_told c.answer.result (Err c.empty.result) c.args.fetchers.items (λ new cause h. IsLeftBy F.site F.says F.rules F.log c.args.plan.now c.args.fetchers.items new cause h)
+    (left_nothing F.site F.says F.rules F.log c.args.plan.now c.args.fetchers.items c.args.fetchers.items c.empty.result.cause c.empty.result.harvest
+    (later_self F.site F.says F.rules F.log c.args.plan.now c.args.fetchers.items) (none_once F.site F.says F.rules F.log c.args.plan.now c.args.fetchers.items) c.empty.ensures) c.answer.ensures.err
+
+pub conclude-requires : goal.conclude-requires
+conclude-requires g c =
+    let F = g.F.Fetcher in
+    let old = c.args.fetchers.items in
+    let new = c.work_all-fetchers.result.fetchers.items in
+    let account = account_all F.site F.says F.rules F.log c.args.plan.now old new c.work_all-fetchers.result.noted c.in-All.notes c.work_all-fetchers.ensures.noted c.in-All.is in
+    all_has_body (SomeSays F.site F.says F.log old new) c.args.plan.now c.in-All.notes.pages.items account.told
+
+pub returns-in-All-clause-ok : goal.returns-in-All-clause-ok
+returns-in-All-clause-ok g c =
+    let F = g.F.Fetcher in
+    let plan = c.args.plan.now in
+    let old = c.args.fetchers.items in
+    let new = c.work_all-fetchers.result.fetchers.items in
+    let account = account_all F.site F.says F.rules F.log plan old new c.work_all-fetchers.result.noted c.in-All.notes c.work_all-fetchers.ensures.noted c.in-All.is in
+    ok_told c.answer-in-All.result c.conclude.result new (λ fs h. IsBrought F.site F.says F.rules F.log plan old fs h)
+    (all_brought F.site F.says F.rules F.log plan old new c.into_frontier-frontier.result c.in-All.notes.pages.items c.in-All.notes.rules.items c.conclude.result
+    c.work_all-fetchers.ensures.later account c.conclude.ensures.ok) c.answer-in-All.ensures.ok
+
+pub returns-in-All-clause-err : goal.returns-in-All-clause-err
+returns-in-All-clause-err g c =
+    let F = g.F.Fetcher in
+    let plan = c.args.plan.now in
+    let old = c.args.fetchers.items in
+    let new = c.work_all-fetchers.result.fetchers.items in
+    let account = account_all F.site F.says F.rules F.log plan old new c.work_all-fetchers.result.noted c.in-All.notes c.work_all-fetchers.ensures.noted c.in-All.is in
+    err_told c.answer-in-All.result c.conclude.result new (λ fs cause h. IsLeftBy F.site F.says F.rules F.log plan old fs cause h)
+    (all_left F.site F.says F.rules F.log plan old new c.into_frontier-frontier.result c.in-All.notes.pages.items c.in-All.notes.rules.items c.conclude.result
+    c.work_all-fetchers.ensures.later account c.conclude.ensures.err c.conclude.ensures.full) c.answer-in-All.ensures.err
+
+pub returns-in-Once-clause-ok : goal.returns-in-Once-clause-ok
+returns-in-Once-clause-ok g c =
+    let F = g.F.Fetcher in
+    ok_told c.answer-in-Once.result (Err c.empty-in-Once.result) c.work_all-fetchers.result.fetchers.items (λ new h. IsBrought F.site F.says F.rules F.log c.args.plan.now c.args.fetchers.items new h)
+    tt c.answer-in-Once.ensures.ok
+
+pub returns-in-Once-clause-err : goal.returns-in-Once-clause-err
+returns-in-Once-clause-err g c =
+    let F = g.F.Fetcher in
+    let plan = c.args.plan.now in
+    let old = c.args.fetchers.items in
+    let new = c.work_all-fetchers.result.fetchers.items in
+    err_told c.answer-in-Once.result (Err c.empty-in-Once.result) new (λ fs cause h. IsLeftBy F.site F.says F.rules F.log plan old fs cause h)
+    (left_nothing F.site F.says F.rules F.log plan old new c.empty-in-Once.result.cause c.empty-in-Once.result.harvest c.work_all-fetchers.ensures.later
+    (account_once F.site F.says F.rules F.log plan old new c.work_all-fetchers.result.noted c.work_all-fetchers.ensures.noted c.in-Once.is) c.empty-in-Once.ensures) c.answer-in-Once.ensures.err
+
+pub returns-in-Twice-clause-ok : goal.returns-in-Twice-clause-ok
+returns-in-Twice-clause-ok g c =
+    let F = g.F.Fetcher in
+    ok_told c.answer-in-Twice.result (Err c.mismatch.result) c.work_all-fetchers.result.fetchers.items (λ new h. IsBrought F.site F.says F.rules F.log c.args.plan.now c.args.fetchers.items new h)
+    tt c.answer-in-Twice.ensures.ok
+
+pub returns-in-Twice-clause-err : goal.returns-in-Twice-clause-err
+returns-in-Twice-clause-err g c =
+    let F = g.F.Fetcher in
+    let plan = c.args.plan.now in
+    let old = c.args.fetchers.items in
+    let new = c.work_all-fetchers.result.fetchers.items in
+    err_told c.answer-in-Twice.result (Err c.mismatch.result) new (λ fs cause h. IsLeftBy F.site F.says F.rules F.log plan old fs cause h)
+    (left_wrong F.site F.says F.rules F.log plan old new c.mismatch.result.cause c.mismatch.result.harvest c.work_all-fetchers.ensures.later c.mismatch.ensures) c.answer-in-Twice.ensures.err

@@ -1,0 +1,39 @@
+-- What several fetchers bring in or leave.
+use Rattle.std.specs.Prelude.{◌≡◌, ◌≢◌, ℕ, List}
+use Rattle.follow_filters.specs.declared.plan.Plan.{Plan}
+use Rattle.robots_rules.specs.Access.{RuleSetValue}
+use Rattle.fetcher.specs.declared.fetcher.Ask.{Ask}
+use Rattle.fetcher.specs.declared.outcome.Outcome.{Outcome}
+use Rattle.frontier_core.specs.Tables.{Text}
+use Rattle.frontier_core.specs.Routes.{HasTooMany}
+use Rattle.frontier_core.specs.Plans.{policy}
+use Rattle.frontier_core.specs.Machine.{answers}
+use Rattle.frontier_core.specs.Invariants.{IsOverfull}
+use Rattle.frontier_core.specs.declared.event.Cause.{Cause}
+use Rattle.frontier_core.specs.declared.event.Cause.TheVariants as why
+use Rattle.workers.specs.declared.crew_retrieval.Noted.{Noted}
+use Rattle.workers.specs.declared.crew_retrieval.Noted.TheVariants as known
+use Rattle.workers.specs.Asks.{AreOnce}
+use Rattle.workers.specs.Crews.{AreLater, all_gained, SomeSays, SomeRules}
+use Rattle.harvest.specs.Harvests.{Harvested}
+use Rattle.workers.specs.Noted.{AreNoted}
+use Rattle.workers.specs.Retrieval.{Brings, IsLeft}
+
+module _ {F S : Type 0} (site : F → S) (says : S → Text → Outcome → List ℕ → Type 0) (rules : S → Text → RuleSetValue → Type 0) (log : F → List Ask) where
+  -- the fetchers came back in their order, and the retrieval has found what is to be found
+  pub record IsBrought (plan : Plan) (old new : List F) (h : Harvested) : Type 0 where
+    pub later : AreLater site log old new
+    pub brings : Brings (SomeSays site says log old new) (SomeRules site rules log old new) plan (all_gained log old new) h
+
+  -- the fetchers came back in their order; where no check failed, what was found is left, or there was no memory for it
+  pub record IsLeftBy (plan : Plan) (old new : List F) (cause : Cause) (h : Harvested) : Type 0 where
+    pub later : AreLater site log old new
+    pub left : cause ≢ why.Mismatch → IsLeft (SomeSays site says log old new) (SomeRules site rules log old new) plan (all_gained log old new) cause h
+    pub full : cause ≡ why.Full → HasTooMany (policy plan) (answers h.state) × IsOverfull (policy plan) h.state
+
+  -- what is known of the notes: all of them, or that nothing was asked for twice
+  abbrev pub IsAccount : Plan → List F → List F → Noted → Type 0
+  IsAccount plan old new (known.All notes) =
+      AreNoted (SomeSays site says log old new) (SomeRules site rules log old new) plan (all_gained log old new) notes.pages.items notes.rules.items
+  IsAccount plan old new known.Once = AreOnce (all_gained log old new)
+  IsAccount plan old new known.Twice = Unit {0}

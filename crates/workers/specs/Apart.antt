@@ -1,0 +1,22 @@
+-- Notes of several workers that are put in order where they stand.
+use Rattle.std.specs.Prelude.{◌≡◌, ℕ, List, Contains, IsPermutation}
+use Rattle.frontier_core.specs.Tables.{Text}
+use Rattle.workers.specs.declared.note.Notes.{Notes}
+use Rattle.workers.specs.declared.worker.Seat.{Seat}
+use Rattle.workers.specs.Notes.{addresses, origins}
+use Rattle.address.specs.AddressOrder.{IsAscending}
+
+-- the notes are in the order of addresses and origins, and none stands twice
+pub record AreInOrder (notes : Notes) : Type 0 where
+  pub pages : IsAscending (addresses notes.pages.items)
+  pub rules : IsAscending (origins notes.rules.items)
+
+-- the same fetcher sits there, and what was noted is noted in some order
+pub record IsOrdered {F : Type 0} (old new : Seat F) : Type 0 where
+  pub fetcher : new.fetcher ≡ old.fetcher
+  pub pages : IsPermutation old.notes.pages.items new.notes.pages.items
+  pub rules : IsPermutation old.notes.rules.items new.notes.rules.items
+
+-- no name stands in both lists
+pub record AreApart (names others : List Text) : Type 0 where
+  pub apart : (u : Text) → Contains names u → ¬ Contains others u

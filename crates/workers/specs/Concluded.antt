@@ -1,0 +1,43 @@
+-- What is concluded from the notes of all workers and the frontier that they left.
+use Rattle.std.specs.Prelude.{◌≡◌, ◌≢◌, ◌⊎◌, ℕ, List, Option, None, Some, All, IsTrue, IsPermutation, MatchOption, ◌&&◌, Bool, true, false, if◌then◌else◌, map}
+use Rattle.std.specs.List.{filter_map}
+use Rattle.std.specs.Option.{is_some}
+use Rattle.follow_filters.specs.Rules.{keeps_of}
+use Rattle.follow_filters.specs.declared.plan.Plan.{Plan}
+use Rattle.frontier_core.specs.Tables.{Text, IsOnce}
+use Rattle.frontier_core.specs.Machine.{IsQuiet}
+use Rattle.frontier_core.specs.Plans.{policy}
+use Rattle.frontier_core.specs.Lines.{IsReplay}
+use Rattle.frontier_core.specs.Invariants.{IsComplete}
+use Rattle.frontier_core.specs.Traced.{Traced}
+use Rattle.frontier_core.specs.declared.event.Cause.{Cause}
+use Rattle.workers.specs.declared.note.PageNote.{PageNote}
+use Rattle.workers.specs.declared.note.RulesNote.{RulesNote}
+use Rattle.harvest.specs.Harvests.{Harvested}
+use Rattle.workers.specs.Noted.{Agrees, page_of}
+use Rattle.workers.specs.Notes.{addresses, origins}
+use Rattle.harvest.specs.Pages.{is_success}
+use Rattle.harvest.specs.Gathered.{IsHarvestOf}
+use Rattle.workers.specs.Turns.{IsNothing}
+
+-- a body is noted just where the page is kept
+abbrev pub HasBody : Plan → PageNote → Type 0
+HasBody plan note = MatchOption note.told (note.body ≡ None) (λ x. is_some note.body ≡ (keeps_of plan note.address && is_success x))
+
+-- The frontier went by the plan and is the replay of its trace; what was noted, put in order, agrees with its table; and the
+-- harvest is made of both.
+pub record IsConcluded (plan : Plan) (frontier : Traced) (notes : List PageNote) (sets : List RulesNote) (h : Harvested) : Type 0 where
+  pub sorted : List PageNote
+  pub sorted_sets : List RulesNote
+  pub moved : IsPermutation notes sorted
+  pub moved_sets : IsPermutation sets sorted_sets
+  pub follows : frontier.plan ≡ plan
+  pub replay : IsReplay (policy frontier.plan) frontier.trace frontier.state
+  pub agrees : Agrees frontier.state sorted sorted_sets
+  pub harvest : IsHarvestOf frontier (filter_map page_of sorted) h
+
+-- nothing was asked for twice, and there was no memory for a harvest
+pub record IsBare (notes : List PageNote) (sets : List RulesNote) (cause : Cause) (h : Harvested) : Type 0 where
+  pub once : IsOnce (addresses notes)
+  pub once_origins : IsOnce (origins sets)
+  pub nothing : IsNothing cause h

@@ -1,0 +1,50 @@
+-- What a worker notes of its asks.
+use Rattle.std.specs.Prelude.{◌≡◌, ◌++◌, ℕ, List, map, Option, Some, None, All, IfSome, MatchOption, ◌&&◌, if◌then◌else◌}
+use Rattle.std.specs.List.{flat_map}
+use Rattle.follow_filters.specs.Rules.{keeps_of}
+use Rattle.follow_filters.specs.declared.plan.Plan.{Plan}
+use Rattle.robots_rules.specs.Access.{RuleSetValue}
+use Rattle.fetcher.specs.declared.fetcher.Ask.{Ask}
+use Rattle.fetcher.specs.declared.outcome.Outcome.{Outcome}
+use Rattle.frontier_core.specs.Tables.{Text}
+use Rattle.workers.specs.Asks.{pages_asked, origins_asked}
+use Rattle.harvest.specs.Pages.{is_success}
+use Rattle.workers.specs.declared.note.PageNote.{PageNote}
+use Rattle.workers.specs.declared.note.RulesNote.{RulesNote}
+use Rattle.workers.specs.declared.note.Notes.{Notes}
+
+-- the body that is kept with an outcome, if the page is kept
+abbrev pub body_of : Plan → Text → Outcome → List ℕ → Option (List ℕ)
+body_of plan u x body = if keeps_of plan u && is_success x then Some body else None
+
+-- what was noted of a page is what may be said of it: the outcome goes with some body, which is noted where
+-- the page is kept
+abbrev pub IsToldPage : (Text → Outcome → List ℕ → Type 0) → Plan → PageNote → Type 0
+IsToldPage may_say plan note = MatchOption note.told (note.body ≡ None) (λ x. (body : List ℕ) × may_say note.address x body × (note.body ≡ body_of plan note.address x body))
+
+-- the rules that were noted of an origin are some that it may have
+abbrev pub IsToldRules : (Text → RuleSetValue → Type 0) → RulesNote → Type 0
+IsToldRules may_rule note = IfSome note.told (λ rules. may_rule note.origin rules)
+
+-- the addresses of notes, and the origins
+abbrev pub addresses : List PageNote → List Text
+addresses notes = map (λ note. note.address) notes
+
+abbrev pub origins : List RulesNote → List Text
+origins notes = map (λ note. note.origin) notes
+
+-- What a worker does with its fetcher and its notes: the site stays what it is; each ask that the log gains has its note, in
+-- order, and what was noted of an answer is what the site may give.
+pub record Goes {F S : Type 0} (site : F → S) (says : S → Text → Outcome → List ℕ → Type 0) (rules : S → Text → RuleSetValue → Type 0) (log : F → List Ask)
+    (plan : Plan) (old : F) (notes : Notes) (new : F) (notes' : Notes) : Type 0 where
+  pub asks : List Ask
+  pub pages : List PageNote
+  pub sets : List RulesNote
+  pub site_is : site new ≡ site old
+  pub log_is : log new ≡ log old ++ asks
+  pub pages_are : notes'.pages.items ≡ notes.pages.items ++ pages
+  pub sets_are : notes'.rules.items ≡ notes.rules.items ++ sets
+  pub pages_noted : pages_asked asks ≡ addresses pages
+  pub rules_noted : origins_asked asks ≡ origins sets
+  pub told : All (IsToldPage (says (site old)) plan) pages
+  pub ruled : All (IsToldRules (rules (site old))) sets

@@ -1,0 +1,31 @@
+-- What workers do at their seats.
+use Rattle.std.specs.Prelude.{ℕ, List, [], map}
+use Rattle.std.specs.List.{AllZip, flat_map}
+use Rattle.follow_filters.specs.declared.plan.Plan.{Plan}
+use Rattle.robots_rules.specs.Access.{RuleSetValue}
+use Rattle.fetcher.specs.declared.fetcher.Ask.{Ask}
+use Rattle.fetcher.specs.declared.outcome.Outcome.{Outcome}
+use Rattle.frontier_core.specs.Tables.{Text}
+use Rattle.workers.specs.declared.note.PageNote.{PageNote}
+use Rattle.workers.specs.declared.note.RulesNote.{RulesNote}
+use Rattle.workers.specs.declared.worker.Seat.{Seat}
+use Rattle.workers.specs.Notes.{Goes}
+
+-- what a worker did at its seat
+abbrev pub SeatGoes : {F S : Type 0} → (F → S) → (S → Text → Outcome → List ℕ → Type 0) → (S → Text → RuleSetValue → Type 0) → (F → List Ask) → Plan → Seat F → Seat F → Type 0
+SeatGoes site says rules log plan old new = Goes site says rules log plan old.fetcher old.notes new.fetcher new.notes
+
+-- what the workers did, each at its own seat
+abbrev pub AllGo : {F S : Type 0} → (F → S) → (S → Text → Outcome → List ℕ → Type 0) → (S → Text → RuleSetValue → Type 0) → (F → List Ask) → Plan → List (Seat F) → List (Seat F) → Type 0
+AllGo site says rules log plan olds news = AllZip (SeatGoes site says rules log plan) olds news
+
+-- who sits there, in order
+abbrev pub fetchers_of : {F : Type 0} → List (Seat F) → List F
+fetchers_of seats = map (λ seat. seat.fetcher) seats
+
+-- all notes, seat by seat
+abbrev pub page_notes : {F : Type 0} → List (Seat F) → List PageNote
+page_notes seats = flat_map (λ seat. seat.notes.pages.items) seats
+
+abbrev pub rules_notes : {F : Type 0} → List (Seat F) → List RulesNote
+rules_notes seats = flat_map (λ seat. seat.notes.rules.items) seats

@@ -1,0 +1,156 @@
+//! The comparison of what the workers noted with what stands in the table.
+ghost use Rattle.std.specs.Prelude.{◌≡◌, ℕ, false, List, All, Contains, IsSome, IsTrue, IsPermutation, map};
+ghost use Rattle.frontier_core.specs.Machine.{answers};
+ghost use Rattle.frontier_core.specs.Tables.{Text};
+ghost use Rattle.workers.specs.Notes.{addresses, origins};
+ghost use Rattle.workers.specs.Noted.{StandsPage, StandsRules, Agrees};
+ghost use Rattle.address.specs.AddressOrder.{IsAscending};
+
+use crate::note::{Notes, PageNote, RulesNote};
+use address::{Address, Origin};
+use frontier_core::Frontier;
+use harvest::Named;
+
+/// Sorts things by their names' bytes, and says whether no two are named alike.
+pub fn sort_and_ascend<T: Named>(things: &mut Vec<T>) -> bool
+    ensures permutation { IsPermutation things.old.items things.new.items }
+    ensures ascending { IsTrue result → IsAscending (map T.text_of things.new.items) }
+{
+    things.sort_unstable_by(|thing, other| thing.name().cmp(other.name()));
+    ascend(things)
+}
+
+// Whether each name stands before the next one.
+fn ascend<T: Named>(things: &[T]) -> bool
+    ensures { IsTrue result → IsAscending (map T.text_of things.now) }
+{
+    for k in 1..things.len() {
+        let (thing, next) = (&things[k - 1], &things[k]);
+        if !thing.name().cmp(next.name()).is_lt() {
+            return false;
+        }
+    }
+    true
+}
+
+// Whether what was noted of a page stands in the table.
+fn page_stands(frontier: &Frontier, note: &PageNote) -> bool
+    ensures { IsTrue result → StandsPage frontier.now.state note.now }
+{
+    match &note.told {
+        Some(outcome) => match frontier.outcome_of(&note.address) {
+            Some(recorded) => outcome.same(recorded),
+            None => false,
+        },
+        None => frontier.is_given_up(&note.address),
+    }
+}
+
+// Whether what was noted of an origin stands in the table.
+fn rules_stand(frontier: &Frontier, note: &RulesNote) -> bool
+    ensures { IsTrue result → StandsRules frontier.now.state note.now }
+{
+    match &note.told {
+        Some(rules) => match frontier.rules_of(&note.origin) {
+            Some(known) => rules.same(known),
+            None => false,
+        },
+        None => frontier.are_rules_given_up(&note.origin),
+    }
+}
+
+// Whether all that was noted of pages stands in the table.
+fn pages_stand(frontier: &Frontier, notes: &[PageNote]) -> bool
+    ensures { IsTrue result → All (StandsPage frontier.now.state) notes.now }
+{
+    for note in notes {
+        if !page_stands(frontier, note) {
+            return false;
+        }
+    }
+    true
+}
+
+// Whether all that was noted of origins stands in the table.
+fn all_rules_stand(frontier: &Frontier, notes: &[RulesNote]) -> bool
+    ensures { IsTrue result → All (StandsRules frontier.now.state) notes.now }
+{
+    for note in notes {
+        if !rules_stand(frontier, note) {
+            return false;
+        }
+    }
+    true
+}
+
+/// Whether an address was noted, in notes that are in address order.
+pub fn is_noted(notes: &[PageNote], address: &Address) -> bool
+    ensures found { IsTrue result → Contains (addresses notes.now) address.now }
+    ensures absent { IsAscending (addresses notes.now) → result ≡ false → ¬ Contains (addresses notes.now) address.now }
+{
+    notes
+        .binary_search_by(|note| note.address.cmp(address))
+        .is_ok()
+}
+
+/// Whether an origin was noted, in notes that are in origin order.
+pub fn is_origin_noted(notes: &[RulesNote], origin: &Origin) -> bool
+    ensures found { IsTrue result → Contains (origins notes.now) origin.now }
+    ensures absent { IsAscending (origins notes.now) → result ≡ false → ¬ Contains (origins notes.now) origin.now }
+{
+    notes
+        .binary_search_by(|note| note.origin.cmp(origin))
+        .is_ok()
+}
+
+// Whether what is recorded was noted, in notes that are in address order.
+fn records_are_noted(frontier: &Frontier, notes: &[PageNote]) -> bool
+    ensures { IsTrue result → (u : Text) → IsSome ((answers frontier.now.state).outcome u) → Contains (addresses notes.now) u }
+{
+    let mut records = frontier.records();
+    'records: while let Some((address, _outcome)) = records.next() {
+        if !is_noted(notes, address) {
+            return false;
+        }
+    }
+    true
+}
+
+// Whether what is known of origins was noted, in notes that are in origin order.
+fn known_rules_are_noted(frontier: &Frontier, notes: &[RulesNote]) -> bool
+    ensures { IsTrue result → (o : Text) → IsSome ((answers frontier.now.state).rules o) → Contains (origins notes.now) o }
+{
+    let mut rules = frontier.rules();
+    'rules: while let Some((origin, _set)) = rules.next() {
+        if !is_origin_noted(notes, origin) {
+            return false;
+        }
+    }
+    true
+}
+
+/// Whether notes agree with the table. They are left in the order of addresses and origins. Takes no memory.
+pub fn agree(frontier: &Frontier, notes: &mut Notes) -> bool
+    ensures pages { IsPermutation notes.old.pages.items notes.new.pages.items }
+    ensures rules { IsPermutation notes.old.rules.items notes.new.rules.items }
+    ensures agrees { IsTrue result → Agrees frontier.now.state notes.new.pages.items notes.new.rules.items }
+{
+    let is_once = sort_and_ascend(&mut notes.pages);
+    let is_once_asked = sort_and_ascend(&mut notes.rules);
+    if !is_once {
+        return false;
+    }
+    if !is_once_asked {
+        return false;
+    }
+    if !pages_stand(frontier, &notes.pages) {
+        return false;
+    }
+    if !all_rules_stand(frontier, &notes.rules) {
+        return false;
+    }
+    if !records_are_noted(frontier, &notes.pages) {
+        return false;
+    }
+    known_rules_are_noted(frontier, &notes.rules)
+}

@@ -1,0 +1,85 @@
+//! What is concluded from the notes of all workers and the frontier that they left.
+ghost use Rattle.std.specs.Prelude.{◌≡◌, ◌≢◌, ◌⊎◌, ◌↔◌, ℕ, List, All, Contains, IfOk, IfErr, OnOk, map};
+ghost use Rattle.std.specs.List.{filter_map};
+ghost use Rattle.frontier_core.specs.Machine.{answers, IsQuiet};
+ghost use Rattle.frontier_core.specs.Invariants.{IsComplete, IsOverfull};
+ghost use Rattle.frontier_core.specs.Plans.{policy};
+ghost use Rattle.frontier_core.specs.Routes.{HasTooMany};
+ghost use Rattle.frontier_core.specs.Tables.{IsOnce};
+ghost use Rattle.workers.specs.Concluded.{HasBody, IsConcluded, IsBare};
+ghost use Rattle.workers.specs.Noted.{page_of};
+
+use crate::comparison::agree;
+use crate::note::{Notes, PageNote};
+use crate::retrieval::{Halt, finish};
+use follow_filters::Plan;
+use frontier_core::{Cause, Frontier};
+use harvest::{Harvest, KeptPage};
+use std::alloc::{AllocError, Global};
+
+// How a frontier was left: quiet, or stopped for a cause that is borne out; as Mismatch otherwise.
+fn end_of(frontier: &Frontier) -> Result<(), Cause>
+    ensures quiet { OnOk result (IsQuiet frontier.now.state × IsComplete (policy frontier.now.plan) frontier.now.state) }
+    ensures stopped { IfErr result (λ cause. cause ≢ Cause.Mismatch → frontier.now.state.cause ≡ Some cause) }
+    ensures full { result ≡ Err Cause.Full → HasTooMany (policy frontier.now.plan) (answers frontier.now.state) × IsOverfull (policy frontier.now.plan) frontier.now.state }
+{
+    if frontier.is_quiet() {
+        return Ok(());
+    }
+    match frontier.cause() {
+        Some(Cause::Full) => {
+            if frontier.is_overfull() {
+                return Err(Cause::Full);
+            }
+            Err(Cause::Mismatch)
+        }
+        Some(Cause::Memory) => Err(Cause::Memory),
+        Some(Cause::Mismatch) => Err(Cause::Mismatch),
+        None => Err(Cause::Mismatch),
+    }
+}
+
+// The pages that are kept of notes.
+fn keep_pages(alloc: Global, notes: Vec<PageNote>) -> Result<Vec<KeptPage>, AllocError>
+    ensures { IfOk result (λ pages. pages.items ≡ filter_map page_of notes.items) }
+{
+    let mut pages = Vec::new(alloc);
+    for note in notes {
+        let PageNote {
+            address,
+            told: _,
+            body,
+        } = note;
+        if let Some(body) = body {
+            pages.push(KeptPage { address, body })?;
+        }
+    }
+    Ok(pages)
+}
+
+/// What a crew brings in or leaves, by its notes and its frontier.
+pub fn conclude(
+    alloc: Global,
+    plan: &Plan,
+    frontier: Frontier,
+    mut notes: Notes,
+) -> Result<Harvest, Halt>
+    requires { All (HasBody plan.now) notes.pages.items }
+    ensures ok { IfOk result (λ h. IsConcluded plan.now frontier notes.pages.items notes.rules.items h × IsQuiet frontier.state × IsComplete (policy frontier.plan) frontier.state) }
+    ensures err { IfErr result (λ halt. halt.cause ≢ Cause.Mismatch → IsBare notes.pages.items notes.rules.items halt.cause halt.harvest
+        ⊎ (IsConcluded plan.now frontier notes.pages.items notes.rules.items halt.harvest × (frontier.state.cause ≡ Some halt.cause))) }
+    ensures full { IfErr result (λ halt. halt.cause ≡ Cause.Full → HasTooMany (policy frontier.plan) (answers frontier.state) × IsOverfull (policy frontier.plan) frontier.state) }
+{
+    if !frontier.plan().same(plan) {
+        return Err(Halt::mismatch(alloc));
+    }
+    if !agree(&frontier, &mut notes) {
+        return Err(Halt::mismatch(alloc));
+    }
+    let ended = end_of(&frontier);
+    let Notes { pages, rules: _ } = notes;
+    let Ok(pages) = keep_pages(alloc, pages) else {
+        return Err(Halt::empty(alloc));
+    };
+    finish(alloc, frontier, pages, ended)
+}

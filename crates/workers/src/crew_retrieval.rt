@@ -1,0 +1,255 @@
+//! The retrieval by several workers over one frontier.
+ghost use Rattle.std.specs.Prelude.{◌≡◌, ◌≢◌, ◌<◌, ◌≤◌, [], length, IfOk, IfErr, IsOk, IsErr, vec_len, vec_capacity};
+ghost use Rattle.frontier_core.specs.Machine.{answers};
+ghost use Rattle.frontier_core.specs.Invariants.{IsOverfull};
+ghost use Rattle.frontier_core.specs.Plans.{policy};
+ghost use Rattle.frontier_core.specs.Routes.{Answers, HasTooMany};
+ghost use Rattle.workers.specs.Crews.{AreLater, all_gained, SomeSays, SomeRules, AllFit};
+ghost use Rattle.workers.specs.Answered.{IsBrought, IsLeftBy, IsAccount};
+ghost use Rattle.workers.specs.Retrieval.{Brings, IsLeft};
+ghost use Rattle.workers.specs.Sites.{IsCompleteFor};
+
+use crate::conclusion::conclude;
+use crate::crew::run_crew;
+use crate::note::Notes;
+use crate::once::is_once_in_place;
+use crate::retrieval::{Halt, retrieve_in_order};
+use crate::seats::{Left, leave_all, leave_bare, note_room, seat_all};
+use crate::worker::Seat;
+use fetcher::Fetcher;
+use follow_filters::Plan;
+use frontier_core::{Cause, Frontier};
+use frontier_lock::FrontierLock;
+use harvest::Harvest;
+use std::alloc::{AllocError, Global};
+use std::sync::Wait;
+use std::thread::Threads;
+
+/// A retrieval that found what is to be found.
+#[derive(Drop)]
+pub struct Retrieved<F> {
+    /// What it found.
+    pub harvest: Harvest,
+    /// The fetchers, in their order.
+    pub fetchers: Vec<F>,
+}
+
+/// A retrieval that stopped.
+#[derive(Drop)]
+pub struct Stopped<F> {
+    /// Why it stopped.
+    pub cause: Cause,
+    /// What it had found until then; empty where there was no memory for more, or where a check of the workers failed.
+    pub harvest: Harvest,
+    /// The fetchers, in their order.
+    pub fetchers: Vec<F>,
+}
+
+// What a crew brings in or leaves, with its fetchers.
+fn answer<F: Drop>(
+    concluded: Result<Harvest, Halt>,
+    fetchers: Vec<F>,
+) -> Result<Retrieved<F>, Stopped<F>>
+    ensures ok { IfOk result (λ r. (r.fetchers.items ≡ fetchers.items) × IfOk concluded (λ h. r.harvest ≡ h) × IsOk concluded) }
+    ensures err { IfErr result (λ s. (s.fetchers.items ≡ fetchers.items) × IfErr concluded (λ halt. (s.cause ≡ halt.cause) × (s.harvest ≡ halt.harvest)) × IsErr concluded) }
+{
+    match concluded {
+        Ok(harvest) => Ok(Retrieved { harvest, fetchers }),
+        Err(halt) => {
+            let Halt { cause, harvest } = halt;
+            Err(Stopped {
+                cause,
+                harvest,
+                fetchers,
+            })
+        }
+    }
+}
+
+// The retrieval with one fetcher: it needs no other thread, and no lock.
+fn ask_alone<F: Fetcher>(alloc: Global, plan: &Plan, fetchers: &mut [F]) -> Result<Harvest, Halt>
+    requires { length fetchers.old ≡ 1 }
+    ensures ok { IfOk result (λ h. IsBrought F.site F.says F.rules F.log plan.now fetchers.old fetchers.new h) }
+    ensures err { IfErr result (λ halt. IsLeftBy F.site F.says F.rules F.log plan.now fetchers.old fetchers.new halt.cause halt.harvest) }
+    ensures mismatch { IfErr result (λ halt. halt.cause ≢ Cause.Mismatch) }
+{
+    if let [fetcher] = fetchers {
+        return retrieve_in_order(alloc, plan, fetcher);
+    }
+    unreachable!()
+}
+
+// The same, with the fetcher that is handed back.
+fn retrieve_alone<F: Fetcher>(
+    alloc: Global,
+    plan: &Plan,
+    mut fetchers: Vec<F>,
+) -> Result<Retrieved<F>, Stopped<F>>
+    requires { vec_len fetchers ≡ 1 }
+    ensures ok { IfOk result (λ r. IsBrought F.site F.says F.rules F.log plan.now fetchers.items r.fetchers.items r.harvest) }
+    ensures err { IfErr result (λ s. IsLeftBy F.site F.says F.rules F.log plan.now fetchers.items s.fetchers.items s.cause s.harvest) }
+    ensures mismatch { IfErr result (λ s. s.cause ≢ Cause.Mismatch) }
+{
+    let concluded = ask_alone(alloc, plan, &mut fetchers);
+    answer(concluded, fetchers)
+}
+
+// What is needed before any worker starts.
+#[derive(Drop)]
+struct Room<F> {
+    frontier: Frontier,
+    seats: Vec<Seat<F>>,
+    fetchers: Vec<F>,
+}
+
+impl<F: Drop> Room<F> {
+    // A frontier over a copy of the plan, with room for so many seats, and for the fetchers that come back.
+    fn new(alloc: Global, plan: &Plan, count: usize) -> Result<Self, AllocError>
+        ensures empty { IfOk result (λ room. (room.seats.items ≡ []) × (room.fetchers.items ≡ [])) }
+        ensures seats { IfOk result (λ room. count ≤ vec_capacity room.seats) }
+        ensures fetchers { IfOk result (λ room. count ≤ vec_capacity room.fetchers) }
+    {
+        Ok(Room {
+            frontier: Frontier::open(alloc, plan.try_clone()?)?,
+            seats: Vec::with_capacity(alloc, count)?,
+            fetchers: Vec::with_capacity(alloc, count)?,
+        })
+    }
+}
+
+// Who worked, and what was noted; only whether anything was asked for twice where there was no memory for more.
+#[derive(Drop)]
+struct Worked<F> {
+    fetchers: Vec<F>,
+    noted: Noted,
+}
+
+// What is known of the notes.
+#[derive(Drop)]
+enum Noted {
+    All(Notes),
+    // There was no memory to bring them together; nothing was asked for twice.
+    Once,
+    // There was no memory to bring them together; something was asked for twice.
+    Twice,
+}
+
+// Seats the fetchers, has them work, and takes the seats apart.
+fn work_all<F: Fetcher + Send, R: Threads + Wait + Sync>(
+    rt: &R,
+    alloc: Global,
+    lock: &FrontierLock,
+    plan: &Plan,
+    fetchers: Vec<F>,
+    seats: Vec<Seat<F>>,
+    room: Vec<F>,
+) -> Worked<F>
+    requires most { vec_len fetchers ≤ 64 }
+    requires seats { (seats.items ≡ []) × (vec_len fetchers ≤ vec_capacity seats) }
+    requires room { (room.items ≡ []) × (vec_len fetchers ≤ vec_capacity room) }
+    ensures later { AreLater F.site F.log fetchers.items result.fetchers.items }
+    ensures noted { IsAccount F.site F.says F.rules F.log plan.now fetchers.items result.fetchers.items result.noted }
+{
+    let seats = seat_all(alloc, fetchers, seats);
+    let mut seats = run_crew(rt, alloc, lock, plan, seats);
+    match note_room(alloc, &seats) {
+        Ok(notes) => {
+            let Left { fetchers, notes } = leave_all(seats, room, notes);
+            Worked {
+                fetchers,
+                noted: Noted::All(notes),
+            }
+        }
+        Err(_) => {
+            let is_once = is_once_in_place(&mut seats);
+            let fetchers = leave_bare(seats, room);
+            if !is_once {
+                return Worked {
+                    fetchers,
+                    noted: Noted::Twice,
+                };
+            }
+            Worked {
+                fetchers,
+                noted: Noted::Once,
+            }
+        }
+    }
+}
+
+// The retrieval with several fetchers.
+fn retrieve_together<F: Fetcher + Send, R: Threads + Wait + Sync>(
+    rt: &R,
+    alloc: Global,
+    plan: &Plan,
+    fetchers: Vec<F>,
+) -> Result<Retrieved<F>, Stopped<F>>
+    requires most { vec_len fetchers ≤ 64 }
+    ensures ok { IfOk result (λ r. IsBrought F.site F.says F.rules F.log plan.now fetchers.items r.fetchers.items r.harvest) }
+    ensures err { IfErr result (λ s. IsLeftBy F.site F.says F.rules F.log plan.now fetchers.items s.fetchers.items s.cause s.harvest) }
+{
+    let Ok(room) = Room::new(alloc, plan, fetchers.len()) else {
+        return answer(Err(Halt::empty(alloc)), fetchers);
+    };
+    let Room {
+        frontier,
+        seats,
+        fetchers: back,
+    } = room;
+    let lock = FrontierLock::new(frontier);
+    let Worked { fetchers, noted } = work_all(rt, alloc, &lock, plan, fetchers, seats, back);
+    let frontier = lock.into_frontier();
+    match noted {
+        Noted::All(notes) => answer(conclude(alloc, plan, frontier, notes), fetchers),
+        Noted::Once => answer(Err(Halt::empty(alloc)), fetchers),
+        Noted::Twice => answer(Err(Halt::mismatch(alloc)), fetchers),
+    }
+}
+
+// The retrieval with one fetcher or with several.
+fn retrieve_with<F: Fetcher + Send, R: Threads + Wait + Sync>(
+    rt: &R,
+    alloc: Global,
+    plan: &Plan,
+    fetchers: Vec<F>,
+) -> Result<Retrieved<F>, Stopped<F>>
+    requires most { vec_len fetchers ≤ 64 }
+    ensures ok { IfOk result (λ r. IsBrought F.site F.says F.rules F.log plan.now fetchers.items r.fetchers.items r.harvest) }
+    ensures err { IfErr result (λ s. IsLeftBy F.site F.says F.rules F.log plan.now fetchers.items s.fetchers.items s.cause s.harvest) }
+    ensures one { vec_len fetchers ≡ 1 → IfErr result (λ s. s.cause ≢ Cause.Mismatch) }
+{
+    if fetchers.len() == 1 {
+        return retrieve_alone(alloc, plan, fetchers);
+    }
+    retrieve_together(rt, alloc, plan, fetchers)
+}
+
+/// Asks for what the plan wants, with one worker for each fetcher, until nothing is left to do. The fetchers come back in their
+/// order, and the site of each is what it was. What they were asked, all together, and what some of them said is what
+/// [`retrieve_in_order`] says of one.
+///
+/// It stops as Mismatch where a check of what the workers noted fails; then nothing more is said, and with one fetcher that
+/// never comes.
+pub fn retrieve<F: Fetcher + Send, R: Threads + Wait + Sync>(
+    rt: &R,
+    alloc: Global,
+    plan: &Plan,
+    fetchers: Vec<F>,
+) -> Result<Retrieved<F>, Stopped<F>>
+    requires some { 0 < vec_len fetchers }
+    requires most { vec_len fetchers ≤ 64 }
+    ensures fetchers { IfOk result (λ r. AreLater F.site F.log fetchers.items r.fetchers.items) × IfErr result (λ s. AreLater F.site F.log fetchers.items s.fetchers.items) }
+    ensures ok { IfOk result (λ r. Brings (SomeSays F.site F.says F.log fetchers.items r.fetchers.items) (SomeRules F.site F.rules F.log fetchers.items r.fetchers.items)
+        plan.now (all_gained F.log fetchers.items r.fetchers.items) r.harvest) }
+    ensures err { IfErr result (λ s. s.cause ≢ Cause.Mismatch → IsLeft (SomeSays F.site F.says F.log fetchers.items s.fetchers.items)
+        (SomeRules F.site F.rules F.log fetchers.items s.fetchers.items) plan.now (all_gained F.log fetchers.items s.fetchers.items) s.cause s.harvest) }
+    ensures full { IfErr result (λ s. s.cause ≡ Cause.Full → HasTooMany (policy plan.now) (answers s.harvest.state) × IsOverfull (policy plan.now) s.harvest.state) }
+    ensures one { vec_len fetchers ≡ 1 → IfErr result (λ s. s.cause ≢ Cause.Mismatch) }
+
+    // What holds of fetchers whose sites give each address one outcome, and each origin one rule set, and the same.
+    ensures whole_site { (whole : Answers) → AllFit F.site F.says F.rules fetchers.items whole → IfOk result (λ r. IsCompleteFor (policy plan.now) whole r.harvest.state) }
+    ensures full_site { (whole : Answers) → AllFit F.site F.says F.rules fetchers.items whole → IfErr result (λ s. s.cause ≡ Cause.Full → HasTooMany (policy plan.now) whole) }
+    ensures crowded_site { (whole : Answers) → AllFit F.site F.says F.rules fetchers.items whole → HasTooMany (policy plan.now) whole → IsErr result }
+{
+    retrieve_with(rt, alloc, plan, fetchers)
+}

@@ -1,0 +1,62 @@
+//! What a worker notes of its asks.
+ghost use Rattle.std.specs.Prelude.{◌≡◌, []};
+
+use address::{Address, Origin};
+use fetcher::{Body, Outcome};
+use harvest::Named;
+use robots_rules::RuleSet;
+use std::alloc::Global;
+
+/// A page that was asked for.
+#[derive(Drop)]
+pub struct PageNote {
+    pub address: Address,
+    /// What was answered, where the frontier took it.
+    pub told: Option<Outcome>,
+    /// The body, where the page is kept.
+    pub body: Option<Body>,
+}
+
+/// Robots rules that were asked for.
+#[derive(Drop)]
+pub struct RulesNote {
+    pub origin: Origin,
+    /// The rules, where the frontier took them.
+    pub told: Option<RuleSet>,
+}
+
+impl Named for PageNote {
+    ghost text_of = { λ note. note.address };
+
+    fn name(&self) -> &str {
+        self.address.as_str()
+    }
+}
+
+impl Named for RulesNote {
+    ghost text_of = { λ note. note.origin };
+
+    fn name(&self) -> &str {
+        self.origin.as_str()
+    }
+}
+
+/// The notes of a worker, or of several.
+#[derive(Drop)]
+pub struct Notes {
+    pub pages: Vec<PageNote>,
+    pub rules: Vec<RulesNote>,
+}
+
+impl Notes {
+    /// No notes. Takes no memory.
+    pub fn new(alloc: Global) -> Self
+        ensures pages { result.pages.items ≡ [] }
+        ensures rules { result.rules.items ≡ [] }
+    {
+        Notes {
+            pages: Vec::new(alloc),
+            rules: Vec::new(alloc),
+        }
+    }
+}

@@ -1,0 +1,125 @@
+//! Whether several workers asked for nothing twice, found without memory: each worker's notes are put in order where they
+//! stand, and what one noted is looked for among what each later one noted.
+ghost use Rattle.std.specs.Prelude.{◌≡◌, IsTrue, All, IsPermutation};
+ghost use Rattle.std.specs.List.{AllZip};
+ghost use Rattle.frontier_core.specs.Tables.{IsOnce};
+ghost use Rattle.workers.specs.Apart.{AreInOrder, IsOrdered, AreApart};
+ghost use Rattle.workers.specs.Notes.{addresses, origins};
+ghost use Rattle.address.specs.AddressOrder.{IsAscending};
+ghost use Rattle.workers.specs.Seats.{page_notes, rules_notes};
+
+use crate::comparison::{is_noted, is_origin_noted, sort_and_ascend};
+use crate::note::{Notes, PageNote, RulesNote};
+use crate::worker::Seat;
+
+// Puts notes in order, and says whether nothing was noted twice.
+fn sort_notes(notes: &mut Notes) -> bool
+    ensures pages { IsPermutation notes.old.pages.items notes.new.pages.items }
+    ensures rules { IsPermutation notes.old.rules.items notes.new.rules.items }
+    ensures order { IsTrue result → AreInOrder notes.new }
+{
+    let are_pages_once = sort_and_ascend(&mut notes.pages);
+    let are_rules_once = sort_and_ascend(&mut notes.rules);
+    if !are_pages_once {
+        return false;
+    }
+    are_rules_once
+}
+
+// Puts the notes of a seat in order, and says whether nothing was noted there twice.
+fn sort_seat<F>(seat: &mut Seat<F>) -> bool
+    ensures ordered { IsOrdered seat.old seat.new }
+    ensures order { IsTrue result → AreInOrder seat.new.notes }
+{
+    sort_notes(&mut seat.notes)
+}
+
+// Puts the notes of each seat in order, and says whether nothing was noted twice at one.
+fn sort_all<F>(seats: &mut [Seat<F>]) -> bool
+    ensures ordered { AllZip IsOrdered seats.old seats.new }
+    ensures order { IsTrue result → All (λ seat. AreInOrder seat.notes) seats.new }
+{
+    let Some((seat, others)) = seats.split_first_mut() else {
+        return true;
+    };
+    let is_seat_once = sort_seat(seat);
+    let are_others_once = sort_all(others);
+    if !is_seat_once {
+        return false;
+    }
+    are_others_once
+}
+
+// Whether none of these pages was noted among the others, which are in order.
+fn are_pages_apart(notes: &[PageNote], others: &[PageNote]) -> bool
+    requires { IsAscending (addresses others.now) }
+    ensures { IsTrue result → AreApart (addresses notes.now) (addresses others.now) }
+{
+    for note in notes {
+        if is_noted(others, &note.address) {
+            return false;
+        }
+    }
+    true
+}
+
+// Whether none of these origins was noted among the others, which are in order.
+fn are_rules_apart(notes: &[RulesNote], others: &[RulesNote]) -> bool
+    requires { IsAscending (origins others.now) }
+    ensures { IsTrue result → AreApart (origins notes.now) (origins others.now) }
+{
+    for note in notes {
+        if is_origin_noted(others, &note.origin) {
+            return false;
+        }
+    }
+    true
+}
+
+// Whether nothing of these notes was noted at the seats, whose notes are in order.
+#[tactic(auto, using(crate::proofs::ApartLaws::apart_none, crate::proofs::ApartLaws::pages_apart, crate::proofs::ApartLaws::rules_apart))]
+fn is_apart<F>(notes: &Notes, seats: &[Seat<F>]) -> bool
+    requires { All (λ seat. AreInOrder seat.notes) seats.now }
+    ensures pages { IsTrue result → AreApart (addresses notes.now.pages.items) (addresses (page_notes seats.now)) }
+    ensures rules { IsTrue result → AreApart (origins notes.now.rules.items) (origins (rules_notes seats.now)) }
+{
+    let [seat, others @ ..] = seats else {
+        return true;
+    };
+    if !are_pages_apart(&notes.pages, &seat.notes.pages) {
+        return false;
+    }
+    if !are_rules_apart(&notes.rules, &seat.notes.rules) {
+        return false;
+    }
+    is_apart(notes, others)
+}
+
+// Whether nothing was noted at two of the seats, whose notes are in order.
+#[tactic(auto, using(crate::proofs::ApartLaws::pages_once, crate::proofs::ApartLaws::rules_once))]
+fn are_apart<F>(seats: &[Seat<F>]) -> bool
+    requires { All (λ seat. AreInOrder seat.notes) seats.now }
+    ensures pages { IsTrue result → IsOnce (addresses (page_notes seats.now)) }
+    ensures rules { IsTrue result → IsOnce (origins (rules_notes seats.now)) }
+{
+    let [seat, others @ ..] = seats else {
+        return true;
+    };
+    if !is_apart(&seat.notes, others) {
+        return false;
+    }
+    are_apart(others)
+}
+
+/// Whether nothing was noted twice. The notes of each seat are left in order. Takes no memory.
+#[tactic(auto, using(crate::proofs::ApartLaws::pages_once_before, crate::proofs::ApartLaws::rules_once_before))]
+pub fn is_once_in_place<F>(seats: &mut [Seat<F>]) -> bool
+    ensures ordered { AllZip IsOrdered seats.old seats.new }
+    ensures pages { IsTrue result → IsOnce (addresses (page_notes seats.old)) }
+    ensures rules { IsTrue result → IsOnce (origins (rules_notes seats.old)) }
+{
+    if !sort_all(seats) {
+        return false;
+    }
+    are_apart(seats)
+}

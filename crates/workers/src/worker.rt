@@ -1,0 +1,239 @@
+//! One worker: it takes work from a shared frontier, asks with the lock free, and hands the answers over.
+ghost use Rattle.std.specs.Prelude.{◌≡◌, ◌<◌, ◌++◌, ◌∷◌, [], List, IfOk, OnOk, vec_len, vec_capacity};
+ghost use Rattle.workers.specs.Notes.{Goes, body_of};
+ghost use Rattle.workers.specs.Seats.{SeatGoes};
+
+use crate::note::{Notes, PageNote, RulesNote};
+use address::{Address, Origin};
+use fetcher::{Answer, Body, Fetcher, Outcome};
+use follow_filters::Plan;
+use frontier_core::{AnswerFault, Cause, OriginPermit, Permit, SpreadFault, Work};
+use frontier_lock::{Done, FrontierLock, Held, Refused};
+use harvest::is_success;
+use std::alloc::{AllocError, Global};
+use std::sync::Wait;
+
+/// A worker's place: its fetcher, and its notes.
+#[derive(Drop)]
+pub struct Seat<F> {
+    pub fetcher: F,
+    pub notes: Notes,
+}
+
+// Makes room for the note of a page, and gives its address.
+fn make_page_room(notes: &mut Notes, address: &Address) -> Result<Address, AllocError>
+    ensures pages { notes.new.pages.items ≡ notes.old.pages.items }
+    ensures rules { notes.new.rules.items ≡ notes.old.rules.items }
+    ensures name { IfOk result (λ copy. copy ≡ address.now) }
+    ensures room { OnOk result (vec_len notes.new.pages < vec_capacity notes.new.pages) }
+{
+    notes.pages.reserve(1)?;
+    address.try_clone()
+}
+
+// Makes room for the note of an origin's rules, and gives the origin.
+fn make_rules_room(notes: &mut Notes, origin: &Origin) -> Result<Origin, AllocError>
+    ensures pages { notes.new.pages.items ≡ notes.old.pages.items }
+    ensures rules { notes.new.rules.items ≡ notes.old.rules.items }
+    ensures name { IfOk result (λ copy. copy ≡ origin.now) }
+    ensures room { OnOk result (vec_len notes.new.rules < vec_capacity notes.new.rules) }
+{
+    notes.rules.reserve(1)?;
+    origin.try_clone()
+}
+
+// The body, where the page is kept.
+fn body_of(plan: &Plan, address: &Address, outcome: &Outcome, body: Body) -> Option<Body>
+    ensures { result ≡ body_of plan.now address.now outcome.now body }
+{
+    if plan.keeps(address) && is_success(outcome) {
+        Some(body)
+    } else {
+        None
+    }
+}
+
+// Why an answer that wasn't taken stops the retrieval.
+fn cause_of(fault: AnswerFault) -> Cause {
+    match fault {
+        AnswerFault::Stray => Cause::Mismatch,
+        AnswerFault::Memory => Cause::Memory,
+    }
+}
+
+// The permit of an answer that wasn't taken.
+fn held_of(done: Done) -> Held {
+    match done {
+        Done::Page(permit, _outcome) => Held::Page(permit),
+        Done::Rules(permit, _rules) => Held::Rules(permit),
+    }
+}
+
+// Hands an answer over. Where it isn't taken the frontier stops.
+fn give<R: Wait>(rt: &R, lock: &FrontierLock, done: Done) -> bool {
+    match lock.give(rt, done) {
+        Ok(()) => true,
+        Err(refused) => {
+            let Refused { done, fault } = refused;
+            lock.halt(rt, Some(held_of(done)), cause_of(fault));
+            false
+        }
+    }
+}
+
+// Asks for the page of a permit with the lock free, and hands the outcome over.
+fn serve<F: Fetcher, R: Wait>(
+    rt: &R,
+    lock: &FrontierLock,
+    plan: &Plan,
+    fetcher: &mut F,
+    notes: &mut Notes,
+    permit: Permit,
+)
+    ensures { Goes F.site F.says F.rules F.log plan.now fetcher.old notes.old fetcher.new notes.new }
+{
+    let Ok(address) = make_page_room(notes, permit.address()) else {
+        lock.halt(rt, Some(Held::Page(permit)), Cause::Memory);
+        return;
+    };
+    let before = fetcher.asks().len();
+    let Ok(answer) = fetcher.ask(permit.address()) else {
+        if fetcher.asks().len() == before {
+            lock.halt(rt, Some(Held::Page(permit)), Cause::Memory);
+            return;
+        }
+        notes.pages.push_reserved(PageNote {
+            address,
+            told: None,
+            body: None,
+        });
+        lock.halt(rt, Some(Held::Page(permit)), Cause::Memory);
+        return;
+    };
+    let Answer { outcome, body } = answer;
+    let Ok(copy) = outcome.try_clone() else {
+        notes.pages.push_reserved(PageNote {
+            address,
+            told: None,
+            body: None,
+        });
+        lock.halt(rt, Some(Held::Page(permit)), Cause::Memory);
+        return;
+    };
+    if !give(rt, lock, Done::Page(permit, copy)) {
+        notes.pages.push_reserved(PageNote {
+            address,
+            told: None,
+            body: None,
+        });
+        return;
+    }
+    let body = body_of(plan, &address, &outcome, body);
+    notes.pages.push_reserved(PageNote {
+        address,
+        told: Some(outcome),
+        body,
+    });
+}
+
+// Asks for the robots rules of a permit's origin with the lock free, and hands them over.
+fn serve_rules<F: Fetcher, R: Wait>(
+    rt: &R,
+    alloc: Global,
+    lock: &FrontierLock,
+    plan: &Plan,
+    fetcher: &mut F,
+    notes: &mut Notes,
+    permit: OriginPermit,
+)
+    ensures { Goes F.site F.says F.rules F.log plan.now fetcher.old notes.old fetcher.new notes.new }
+{
+    // The plan is named by the contract alone.
+    let _ = plan;
+    let Ok(origin) = make_rules_room(notes, permit.origin()) else {
+        lock.halt(rt, Some(Held::Rules(permit)), Cause::Memory);
+        return;
+    };
+    let before = fetcher.asks().len();
+    let Ok(rules) = fetcher.ask_robots(permit.origin()) else {
+        if fetcher.asks().len() == before {
+            lock.halt(rt, Some(Held::Rules(permit)), Cause::Memory);
+            return;
+        }
+        notes.rules.push_reserved(RulesNote { origin, told: None });
+        lock.halt(rt, Some(Held::Rules(permit)), Cause::Memory);
+        return;
+    };
+    let Ok(copy) = rules.try_clone(alloc) else {
+        notes.rules.push_reserved(RulesNote { origin, told: None });
+        lock.halt(rt, Some(Held::Rules(permit)), Cause::Memory);
+        return;
+    };
+    if !give(rt, lock, Done::Rules(permit, copy)) {
+        notes.rules.push_reserved(RulesNote { origin, told: None });
+        return;
+    }
+    notes.rules.push_reserved(RulesNote {
+        origin,
+        told: Some(rules),
+    });
+}
+
+// Offers the edges of one due address. Where they are refused the frontier stops.
+fn spread<R: Wait>(rt: &R, lock: &FrontierLock) {
+    match lock.spread(rt) {
+        Ok(()) => {}
+        Err(SpreadFault::Full) => lock.halt(rt, None, Cause::Full),
+        Err(SpreadFault::Memory) => lock.halt(rt, None, Cause::Memory),
+    }
+}
+
+// Takes work and does it, until none is left or the frontier stopped.
+#[tactic(auto, using(crate::proofs::Going::goes_none, crate::proofs::Going::goes_on))]
+fn work<F: Fetcher, R: Wait>(
+    rt: &R,
+    alloc: Global,
+    lock: &FrontierLock,
+    plan: &Plan,
+    worker: u32,
+    fetcher: &mut F,
+    notes: &mut Notes,
+)
+    ensures { Goes F.site F.says F.rules F.log plan.now fetcher.old notes.old fetcher.new notes.new }
+{
+    for _ in rt.forever() {
+        match lock.next_or_wait(rt, worker) {
+            Err(_) => lock.halt(rt, None, Cause::Memory),
+            Ok(Work::Stopped(_)) => break,
+            Ok(Work::Quiet) => break,
+            Ok(Work::Busy) => {}
+            Ok(Work::Spread) => spread(rt, lock),
+            Ok(Work::Robots(permit)) => {
+                serve_rules(rt, alloc, lock, plan, fetcher, notes, permit)
+            }
+            Ok(Work::Page(permit)) => serve(rt, lock, plan, fetcher, notes, permit),
+        }
+    }
+}
+
+/// Has the worker of a seat work.
+pub fn work_at<F: Fetcher, R: Wait>(
+    rt: &R,
+    alloc: Global,
+    lock: &FrontierLock,
+    plan: &Plan,
+    worker: u32,
+    seat: &mut Seat<F>,
+)
+    ensures { SeatGoes F.site F.says F.rules F.log plan.now seat.old seat.new }
+{
+    work(
+        rt,
+        alloc,
+        lock,
+        plan,
+        worker,
+        &mut seat.fetcher,
+        &mut seat.notes,
+    );
+}
