@@ -169,18 +169,20 @@ module _ {F S : Type 0} (site : F → S) (says : S → Text → Outcome → List
   copies_fit whole one count copies are fits =
       subst (λ (fs : List F). AllFit site says rules fs whole) (sym are) (All-replicate (λ (copy : F). Fits (says (site copy)) (rules (site copy)) whole) count one fits)
 
-  pub crew_finishes : (order : Order) (whole : Answers) (olds : List F) (crew : Result (Retrieved F) (StoppedCrew F)) (result : Result Output AllocError)
-      → (order.workers ≢ 1) → AllFit site says rules olds whole
+  pub crew_finishes : (order : Order) (whole : Answers) (olds : List F) (crew : Result (Retrieved F) (StoppedCrew F)) (brought : Result Harvested Halt) (result : Result Output AllocError)
+      → (order.workers ≢ 1) → brought ≡ brought_by crew → AllFit site says rules olds whole
       → IfOk crew (λ r. Brings (SomeSays site says log olds r.fetchers.items) (SomeRules site rules log olds r.fetchers.items) order.plan (all_gained log olds r.fetchers.items) r.harvest)
       → IfOk crew (λ r. IsCompleteFor (policy order.plan) whole r.harvest.state)
       → IfErr crew (λ s. s.cause ≢ why.Mismatch → IsLeft (SomeSays site says log olds s.fetchers.items) (SomeRules site rules log olds s.fetchers.items) order.plan
       (all_gained log olds s.fetchers.items) s.cause s.harvest)
-      → IfErr crew (λ s. s.cause ≡ why.Full → HasTooMany (policy order.plan) whole) → IfOk (brought_by crew) IsRead
-      → IfOk result (λ output. IsToldOf order.trace (brought_by crew) (string_bytes output.text) output.status)
+      → IfErr crew (λ s. s.cause ≡ why.Full → HasTooMany (policy order.plan) whole) → IfOk brought IsRead
+      → IfOk result (λ output. IsToldOf order.trace brought (string_bytes output.text) output.status)
       → IfOk result (λ output. IsOutputOf order whole (string_bytes output.text) output.status)
-  crew_finishes order whole olds (Ok r) result several fit brings complete left many read told =
+  crew_finishes order whole olds (Ok r) brought result several is fit brings complete left many read told =
       told_finishes order _ _ whole _ (Ok r.harvest) result (crew_fits site says rules log olds r.fetchers.items whole fit) brings complete tt tt tt
-      ((λ one. absurd (several one)), tt) read told
-  crew_finishes order whole olds (Err s) result several fit brings complete left many read told =
+      ((λ one. absurd (several one)), tt) (subst (λ (b : Result Harvested Halt). IfOk b IsRead) is read)
+      (subst (λ (b : Result Harvested Halt). IfOk result (λ output. IsToldOf order.trace b (string_bytes output.text) output.status)) is told)
+  crew_finishes order whole olds (Err s) brought result several is fit brings complete left many read told =
       told_finishes order _ _ whole _ (Err (record { cause = s.cause; harvest = s.harvest })) result (crew_fits site says rules log olds s.fetchers.items whole fit) tt tt left many
-      (λ one. absurd (several one)) (tt, (λ one. absurd (several one))) tt told
+      (λ one. absurd (several one)) (tt, (λ one. absurd (several one))) tt
+      (subst (λ (b : Result Harvested Halt). IfOk result (λ output. IsToldOf order.trace b (string_bytes output.text) output.status)) is told)

@@ -1,5 +1,5 @@
 //! Copies of a site, one for each worker.
-ghost use Rattle.std.specs.Prelude.{◌≡◌, IfOk, replicate};
+ghost use Rattle.std.specs.Prelude.{◌≡◌, IfOk, replicate, vec_len};
 
 use fetcher::Fetcher;
 use site_maps::MapSite;
@@ -33,7 +33,8 @@ pub(crate) fn copies_of<F: Copied>(
     site: &F,
     count: u32,
 ) -> Result<Vec<F>, AllocError>
-    ensures { IfOk result (λ copies. copies.items ≡ replicate count site.now) }
+    ensures count { IfOk result (λ copies. vec_len copies ≡ count) }
+    ensures equal { IfOk result (λ copies. copies.items ≡ replicate count site.now) }
 {
     let mut copies = Vec::new(alloc);
     for _ in 0..count {

@@ -173,7 +173,7 @@ fn retrieve_together<H: Threads + Wait + Sync, F: Copied>(
     order: &Order,
     site: &F,
 ) -> Result<Output, AllocError>
-    requires several { order.now.workers ≢ 1 }
+    requires { order.now.workers ≢ 1 }
     ensures { (whole : Answers) → Fits (F.says (F.site site.now)) (F.rules (F.site site.now)) whole → IfOk result (λ output. IsOutputOf order.now whole (string_bytes output.text) output.status) }
 {
     let copies = copies_of(alloc, site, order.workers)?;
