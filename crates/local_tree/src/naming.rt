@@ -1,5 +1,5 @@
 //! The names of the pages of a list.
-ghost use Rattle.std.specs.Prelude.{◌≡◌, ◌↔◌, ◌<◌, ◌-◌, ◌^◌, ℕ, List, IsTrue, IfOk, OnOk, All, map, string_bytes};
+ghost use Rattle.std.specs.Prelude.{◌≡◌, ◌↔◌, ◌<◌, ◌-◌, ◌^◌, ℕ, List, IsTrue, IfOk, OnOk, All, length, map, string_bytes};
 ghost use Rattle.std.specs.BTreeMap.{get_by_text};
 ghost use Rattle.std.specs.List.Sorted.{IsSorted};
 ghost use Rattle.address.specs.Address.{IsAddress};
@@ -100,6 +100,7 @@ fn assign(alloc: Global, plain: &[String]) -> Result<Vec<String>, AllocError>
 pub fn names(alloc: Global, pages: &[Address]) -> Result<Vec<String>, AllocError>
     requires { IsAscending pages.now }
     ensures naming { IfOk result (λ names. IsNaming (map plain_name_of pages.now) (map string_bytes names.items)) }
+    ensures count { IfOk result (λ names. length names.items ≡ length pages.now) }
 
     // The names are a function of the list: no other names meet the rule.
     ensures sole { IfOk result (λ names. (others : List (List ℕ)) → IsNaming (map plain_name_of pages.now) others → others ≡ map string_bytes names.items) }

@@ -1,6 +1,8 @@
 -- What a retrieval comes to is what the whole site has, where it gives each address one outcome.
-use Rattle.std.proofs.Common.{◌≡◌, ℕ, inl, inr, Bool, true, false, List, [], ◌++◌, Option, Some, refl, sym, ap, subst}
-use Rattle.std.specs.Prelude.{IfSome, IfOk, IfErr, Result, Ok, Err, string_bytes}
+use Rattle.std.proofs.Common.{◌≡◌, ◌↔◌, ℕ, inl, inr, Bool, true, false, List, [], length, map, Option, Some, refl, sym, ap, ◌∙◌, subst}
+use Rattle.std.specs.Prelude.{Contains, IfSome, IfOk, IfErr, MatchOption, Result, Ok, Err, string_bytes}
+use Rattle.std.proofs.lemmas.List.{length-map}
+use Rattle.std.proofs.lemmas.List.Elements.{Contains-get_or}
 use Rattle.follow_filters.specs.declared.plan.Plan.{Plan}
 use Rattle.options.specs.declared.order.Order.{Order}
 use Rattle.robots_rules.specs.Access.{RuleSetValue}
@@ -11,26 +13,31 @@ use Rattle.frontier_core.specs.Invariants.{IsSound}
 use Rattle.frontier_core.specs.Machine.{answers, IsQuiet}
 use Rattle.frontier_core.specs.Plans.{policy}
 use Rattle.frontier_core.specs.Routes.{Answers, HasTooMany}
-use Rattle.frontier_core.specs.Tables.{Text}
+use Rattle.frontier_core.specs.Tables.{Text, keys, IsOnce}
 use Rattle.frontier_core.specs.declared.event.Cause.{Cause}
 use Rattle.frontier_core.specs.declared.event.Cause.TheVariants as why
 use Rattle.frontier_core.specs.declared.event.Event.{Event}
 use Rattle.workers.specs.Asks.{IsTold}
 use Rattle.site_records.specs.Records.{RecordedAnswers, GivesAnswer, GivesRules as GivesRecordedRules}
-use Rattle.harvest.specs.Gathered.{AreEntries, AreRecords}
+use Rattle.harvest.specs.Gathered.{AreEntries, AreRecords, ArePages}
 use Rattle.harvest.specs.Harvests.{Harvested}
+use Rattle.harvest.specs.Pages.{IsKept}
 use Rattle.workers.specs.OneWorker.{AreByOne}
 use Rattle.workers.specs.Retrieval.{Brings, Leaves, IsLeft}
 use Rattle.workers.specs.Sites.{Fits, IsCompleteFor}
-use Rattle.wgetr.specs.Entries.{lines_of}
+use Rattle.local_tree.specs.Names.{IsNaming}
+use Rattle.local_tree.specs.PlainNames.{plain_name_of}
+use Rattle.report.specs.Entries.{lines_of}
+use Rattle.report.specs.ExitStatus.{exit_status, outcomes_in}
+use Rattle.report.specs.Named.{named_pages}
+use Rattle.report.proofs.NamedLaws.{names_of_lines, pages_of_lines, line_to_keep}
+use Rattle.report.proofs.StatusLaws.{same_status}
 use Rattle.workers.specs.declared.retrieval.Halt.{Halt}
-use Rattle.wgetr.specs.Parts.{IsOutputOf, IsRead, shown_of, trace_in, finish_of}
-use Rattle.wgetr.specs.Retrieved.{Finish, IsPartOf, AreEventsOf, AreShown, HasStopped, Reported, Stopped, Finishes}
-use Rattle.wgetr.specs.Run.{finish_text, finish_status}
-use Rattle.wgetr.specs.Trace.{trace_text}
+use Rattle.wgetr.specs.Parts.{IsOutputOf, IsToldOf, IsRead, shown_of}
+use Rattle.wgetr.specs.Retrieved.{IsPartOf, AreEventsOf, AreShown, HasStopped, Reported, Stopped, Finishes}
 use Rattle.wgetr.specs.declared.run.Output.{Output}
 use Rattle.std.specs.declared.alloc.AllocError.{AllocError}
-use Rattle.wgetr.specs.Site.{whole_of, without_bodies}
+use Rattle.wgetr.specs.Site.{AreNamed, whole_of, without_bodies}
 use Rattle.wgetr.proofs.FoundLaws.{are_lines}
 
 -- a map's site gives what its answers name
@@ -58,14 +65,32 @@ none_shown false trace is = refl
 
 -- ---- a harvest
 
-pub reported : (order : Order) (may_say : Text → Outcome → List ℕ → Type 0) (may_rule : Text → RuleSetValue → Type 0) (whole : Answers) (asks : List Ask) (h : Harvested) → Fits may_say may_rule whole
-    → Brings may_say may_rule order.plan asks h → AreEntries h → AreRecords h → IfSome h.plan (λ plan. IsSound (policy plan) h.state) → IsCompleteFor (policy order.plan) whole h.state → AreByOne h.trace
-    → Finishes order whole (shown_of order.trace h.trace) (Reported (lines_of h))
-reported order may_say may_rule whole asks h fits brings are records sound complete by_one =
-    let is_sound = subst (λ (o : Option Plan). IfSome o (λ plan. IsSound (policy plan) h.state)) brings.follows sound in (
-      are_lines (policy order.plan) whole h are records is_sound.addresses is_sound.few complete brings.quiet,
+-- the lines of a harvest have the names of its kept pages
+are_named : (plan : Plan) (h : Harvested) (names : List (List ℕ)) → AreEntries h → AreRecords h → ArePages h → h.plan ≡ Some plan → IsOnce (keys h.state.entries)
+    → IsNaming (map plain_name_of h.kept) names → AreNamed plan (lines_of h names)
+are_named plan h names are records pages follows once naming =
+    let long : length names ≡ length h.kept = naming.count ∙ length-map h.kept plain_name_of in
+    let kept = subst (λ (o : Option Plan). MatchOption o (h.kept ≡ []) (λ plan. (u : Text) → Contains h.kept u ↔ IsKept plan (answers h.state) u)) follows pages.kept in
+    record {
+      kept = λ k d lt. line_to_keep plan h names are records once long kept _ (Contains-get_or (lines_of h names) k d lt);
+      names = subst (λ (given : List (List ℕ)). IsNaming (map plain_name_of (named_pages (lines_of h names))) given) (sym (names_of_lines h names are records pages long))
+          (subst (λ (kept : List Text). IsNaming (map plain_name_of kept) names) (sym (pages_of_lines h names are records pages long)) naming);
+    }
+
+pub reported : (order : Order) (may_say : Text → Outcome → List ℕ → Type 0) (may_rule : Text → RuleSetValue → Type 0) (whole : Answers) (asks : List Ask) (h : Harvested) (names : List (List ℕ))
+    → Fits may_say may_rule whole → Brings may_say may_rule order.plan asks h → IsRead h → IsCompleteFor (policy order.plan) whole h.state → AreByOne h.trace → IsNaming (map plain_name_of h.kept) names
+    → Finishes order whole (shown_of order.trace h.trace) (Reported (lines_of h names))
+reported order may_say may_rule whole asks h names fits brings read complete by_one naming =
+    let sound = subst (λ (o : Option Plan). IfSome o (λ plan. IsSound (policy plan) h.state)) brings.follows read.3 in (
+      are_lines (policy order.plan) whole h names read.0 read.1 sound.addresses sound.few complete brings.quiet,
+      are_named order.plan h names read.0 read.1 read.2 brings.follows sound.addresses naming,
       are_shown order.trace (AreEventsOf order.plan whole IsQuiet) h.trace (by_one, h.state, brings.replay, told_part may_say may_rule whole (answers h.state) fits brings.told, brings.quiet),
     )
+
+-- the exit status of a report is that of its lines
+status_of : (order : Order) (h : Harvested) (names : List (List ℕ)) → IsRead h → h.plan ≡ Some order.plan → exit_status (map (λ recorded. recorded.1) h.records) ≡ exit_status (outcomes_in (lines_of h names))
+status_of order h names read follows =
+    same_status h names read.0 read.1 (subst (λ (o : Option Plan). IfSome o (λ plan. IsSound (policy plan) h.state)) follows read.3).addresses
 
 -- ---- a stop
 
@@ -87,23 +112,29 @@ stopped order may_say may_rule whole asks why.Mismatch h fits left many never by
 
 -- ---- either
 
-pub finishes : (order : Order) (may_say : Text → Outcome → List ℕ → Type 0) (may_rule : Text → RuleSetValue → Type 0) (whole : Answers) (asks : List Ask) (brought : Result Harvested Halt)
-    → Fits may_say may_rule whole → IfOk brought (λ h. Brings may_say may_rule order.plan asks h) → IfOk brought (λ h. IsCompleteFor (policy order.plan) whole h.state)
+-- what is told of either is told of how the retrieval of the site finishes
+pub told_finishes : (order : Order) (may_say : Text → Outcome → List ℕ → Type 0) (may_rule : Text → RuleSetValue → Type 0) (whole : Answers) (asks : List Ask) (brought : Result Harvested Halt)
+    (result : Result Output AllocError) → Fits may_say may_rule whole → IfOk brought (λ h. Brings may_say may_rule order.plan asks h)
+    → IfOk brought (λ h. IsCompleteFor (policy order.plan) whole h.state)
     → IfErr brought (λ halt. IsLeft may_say may_rule order.plan asks halt.cause halt.harvest)
     → IfErr brought (λ halt. halt.cause ≡ why.Full → HasTooMany (policy order.plan) whole) → IfErr brought (λ halt. halt.cause ≡ why.Mismatch → ⊥)
     → IfOk brought (λ h. AreByOne h.trace) × IfErr brought (λ halt. AreByOne halt.harvest.trace) → IfOk brought IsRead
-    → Finishes order whole (shown_of order.trace (trace_in brought)) (finish_of brought)
-finishes order may_say may_rule whole asks (Ok h) fits brings complete left many never by_one read =
-    reported order may_say may_rule whole asks h fits brings read.0 read.1 read.2 complete by_one.0
-finishes order may_say may_rule whole asks (Err halt) fits brings complete left many never by_one read =
-    stopped order may_say may_rule whole asks halt.cause halt.harvest fits left many never by_one.1
-
--- what is told of either is told of how the retrieval of the site finishes
-pub told_finishes : (order : Order) (whole : Answers) (brought : Result Harvested Halt) (result : Result Output AllocError)
-    → Finishes order whole (shown_of order.trace (trace_in brought)) (finish_of brought)
-    → IfOk result (λ output. (string_bytes output.text ≡ trace_text (shown_of order.trace (trace_in brought)) ++ finish_text (finish_of brought))
-    × (output.status ≡ finish_status (finish_of brought)))
-    → IfOk result (λ output. IsOutputOf order whole (string_bytes output.text) output.status)
-told_finishes order whole brought (Ok output) ends told =
-    record { shown = shown_of order.trace (trace_in brought); finish = finish_of brought; finishes = ends; text_is = told.0; status_is = told.1 }
-told_finishes order whole brought (Err e) ends told = told
+    → IfOk result (λ output. IsToldOf order.trace brought (string_bytes output.text) output.status) → IfOk result (λ output. IsOutputOf order whole (string_bytes output.text) output.status)
+told_finishes order may_say may_rule whole asks (Ok h) (Ok output) fits brings complete left many never by_one read told =
+    let (names, naming, text, status) = told in
+    record {
+      shown = shown_of order.trace h.trace;
+      finish = Reported (lines_of h names);
+      finishes = reported order may_say may_rule whole asks h names fits brings read complete by_one.0 naming;
+      text_is = text;
+      status_is = status ∙ status_of order h names read brings.follows;
+    }
+told_finishes order may_say may_rule whole asks (Err halt) (Ok output) fits brings complete left many never by_one read told =
+    record {
+      shown = shown_of order.trace halt.harvest.trace;
+      finish = Stopped halt.cause;
+      finishes = stopped order may_say may_rule whole asks halt.cause halt.harvest fits left many never by_one.1;
+      text_is = told.0;
+      status_is = told.1;
+    }
+told_finishes order may_say may_rule whole asks brought (Err e) fits brings complete left many never by_one read told = told

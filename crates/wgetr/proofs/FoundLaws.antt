@@ -17,12 +17,12 @@ use Rattle.harvest.specs.Gathered.{AreEntries, AreRecords}
 use Rattle.harvest.specs.Harvests.{Harvested}
 use Rattle.workers.specs.Sites.{IsCompleteFor}
 use Rattle.harvest.specs.declared.entry.Entry.{Entry}
-use Rattle.wgetr.specs.Report.{Line, Fate, Asked, Refused}
-use Rattle.wgetr.specs.Entries.{fate_at, line_at, lines_of}
+use Rattle.report.specs.Report.{Line, Fate, Asked, Refused}
+use Rattle.report.specs.Entries.{fate_at, name_among, line_at, lines_of}
 use Rattle.wgetr.specs.Site.{IsFate, AreLines}
-use Rattle.wgetr.proofs.TableLemmas.{same, other, compare_texts}
-use Rattle.wgetr.proofs.ListLemmas.{contains_tail, to_map, from_map, to_given, from_given}
-use Rattle.wgetr.proofs.HarvestLaws.{Holds, held, answered, fate_from, by_rules, by_record, line_is, ascending_lines, length-lines_of}
+use Rattle.report.proofs.TableLaws.{found_stands}
+use Rattle.report.proofs.ListLaws.{to_map, from_map, to_given, from_given}
+use Rattle.report.proofs.HarvestLaws.{Holds, held, answered, unanswered, fate_from, by_rules, by_record, line_is, ascending_lines, length-lines_of}
 
 some_of : {X : Type 0} (o : Option X) → IsSome o → (x : X) × (o ≡ Some x)
 some_of None h = absurd (false≢true h)
@@ -34,16 +34,6 @@ some_is o x h = subst IsSome (sym h) refl
 not_true : (b : Bool) → (IsTrue b → ⊥) → b ≡ false
 not_true true never = absurd (never refl)
 not_true false never = refl
-
--- what is found in a table stands in it
-found_stands : (entries : List (Text × Slot)) (u : Text) (e : Slot) → lookup entries u ≡ Some e → Contains entries (u, e)
-found_stands [] u e found = cc
-found_stands (entry ∷ entries) u e found =
-    elim (compare_texts entry.0 u) [
-      | same h t ↦ (let there : Some entry.1 ≡ Some e = rw t at found in let is : entry.1 ≡ e = cc in
-          (zero, omega arith, ap (λ (v : Text). (v, entry.1)) h ∙ ap (λ (z : Slot). (u, z)) is))
-      | other h t ↦ contains_tail entry (u, e) entries (found_stands entries u e (rw t at found))
-    ]
 
 -- ---- what became of an address
 
@@ -58,14 +48,6 @@ came Waiting done = absurd (false≢true done)
 came (Out holder) done = absurd (false≢true done)
 came (Answered x turn) done = told x refl refl
 came progress.Refused done = refused refl refl
-
--- what robots rules refuse was not answered
-unanswered : (q : Progress) → is_refused (condition_of q) ≡ true → outcome_in q ≡ None
-unanswered Parked h = refl
-unanswered Waiting h = refl
-unanswered (Out holder) h = refl
-unanswered (Answered x turn) h = absurd (false≢true h)
-unanswered progress.Refused h = refl
 
 -- a candidate that wasn't answered isn't open
 fate_refused : (p : Policy) (s : State) (whole : Answers) → IsCompleteFor p whole s → (u : Text) (e : Slot) → lookup s.entries u ≡ Some e → outcome_in e.progress ≡ None
@@ -86,11 +68,11 @@ fate_asked p s whole complete u e x found is =
 -- ---- the lines
 
 -- what a line says is so of the whole site
-line_true : (p : Policy) (whole : Answers) (h : Harvested) → AreEntries h → AreRecords h → IsOnce (keys h.state.entries) → IsCompleteFor p whole h.state
-    → (line : Line) → Contains (lines_of h) line → IsDepth p whole line.address line.depth × IsFate p whole line.address line.fate
-line_true p whole h are records once complete line among =
-    let (e, there, is) = from_given (line_at h.records) h.entries line among in
-    let said = line_is e _ line is in
+line_true : (p : Policy) (whole : Answers) (h : Harvested) (names : List (List ℕ)) → AreEntries h → AreRecords h → IsOnce (keys h.state.entries) → IsCompleteFor p whole h.state
+    → (line : Line) → Contains (lines_of h names) line → IsDepth p whole line.address line.depth × IsFate p whole line.address line.fate
+line_true p whole h names are records once complete line among =
+    let (e, there, is) = from_given (line_at h names) h.entries line among in
+    let said = line_is h names e _ line is in
     let stands = held h are once e there in
     let (k, lt, at) = there in
     let placed = subst (λ (z : Entry). IsPlaceOf h.records z.address z.answer) at (are.places k e lt) in (
@@ -110,9 +92,9 @@ line_true p whole h are records once complete line among =
         ]
 
 -- an entry of which something became has a line
-has_line : (h : Harvested) (e : Entry) (fate : Fate) → Contains h.entries e → fate_at h.records e.refused e.answer ≡ Some fate
-    → Contains (lines_of h) (record { address = e.address; depth = e.depth; fate = fate })
-has_line h e fate there is = to_given (line_at h.records) h.entries e _ there (rw is refl)
+has_line : (h : Harvested) (names : List (List ℕ)) (e : Entry) (fate : Fate) → Contains h.entries e → fate_at h.records e.refused e.answer ≡ Some fate
+    → Contains (lines_of h names) (record { address = e.address; depth = e.depth; fate = fate; name = name_among h.kept names e.address })
+has_line h names e fate there is = to_given (line_at h names) h.entries e _ there (rw is refl)
 
 -- something became of each entry of a quiet frontier
 something : (h : Harvested) → AreEntries h → AreRecords h → (e : Entry) → Contains h.entries e → (slot : Slot) → lookup h.state.entries e.address ≡ Some slot
@@ -134,9 +116,9 @@ something h are records e there slot found refusal done =
     by_place (Some i) false free (x, is) among = (Asked x, rw is refl)
 
 -- a candidate of the whole site has a line
-candidate_line : (p : Policy) (whole : Answers) (h : Harvested) → AreEntries h → AreRecords h → IsOnce (keys h.state.entries) → IsCompleteFor p whole h.state → IsQuiet h.state
-    → (u : Text) (slot : Slot) → lookup h.state.entries u ≡ Some slot → (line : Line) × Contains (lines_of h) line × (line.address ≡ u)
-candidate_line p whole h are records once complete quiet u slot found =
+candidate_line : (p : Policy) (whole : Answers) (h : Harvested) (names : List (List ℕ)) → AreEntries h → AreRecords h → IsOnce (keys h.state.entries) → IsCompleteFor p whole h.state → IsQuiet h.state
+    → (u : Text) (slot : Slot) → lookup h.state.entries u ≡ Some slot → (line : Line) × Contains (lines_of h names) line × (line.address ≡ u)
+candidate_line p whole h names are records once complete quiet u slot found =
     let stands = found_stands h.state.entries u slot found in
     let seen = Contains-permutation (seen_in h.state) (map said_by h.entries) (u, slot.depth, is_refused (condition_of slot.progress)) are.same
     (to_map (λ (entry : Text × Slot). seen_of (entry_of entry)) h.state.entries (u, slot) stands) in
@@ -145,17 +127,17 @@ candidate_line p whole h are records once complete quiet u slot found =
     let (k, lt, at) = stands in
     let done = subst (λ (z : Text × Slot). is_done z.1.progress ≡ true) at (quiet.entries k (u, slot) lt) in
     let (fate, became) = something h are records e there slot (subst (λ (v : Text). lookup h.state.entries v ≡ Some slot) (sym named) found) (sym (ap (λ (z : Seen). z.2) is)) done in
-    (record { address = e.address; depth = e.depth; fate = fate }, has_line h e fate there became, named)
+    (record { address = e.address; depth = e.depth; fate = fate; name = name_among h.kept names e.address }, has_line h names e fate there became, named)
 
-pub are_lines : (p : Policy) (whole : Answers) (h : Harvested) → AreEntries h → AreRecords h → IsOnce (keys h.state.entries) → length h.state.entries ≤ p.max_urls
-    → IsCompleteFor p whole h.state → IsQuiet h.state → AreLines p whole (lines_of h)
-are_lines p whole h are records once few complete quiet = record {
-  ascending = ascending_lines h are;
-  each = λ k d lt. line_true p whole h are records once complete _ (Contains-get_or (lines_of h) k d lt);
+pub are_lines : (p : Policy) (whole : Answers) (h : Harvested) (names : List (List ℕ)) → AreEntries h → AreRecords h → IsOnce (keys h.state.entries) → length h.state.entries ≤ p.max_urls
+    → IsCompleteFor p whole h.state → IsQuiet h.state → AreLines p whole (lines_of h names)
+are_lines p whole h names are records once few complete quiet = record {
+  ascending = ascending_lines h names are;
+  each = λ k d lt. line_true p whole h names are records once complete _ (Contains-get_or (lines_of h names) k d lt);
   all = λ u candidate.
       let (slot, found) = some_of (lookup h.state.entries u) ((complete.candidates u).1 candidate) in
-      let (line, there, named) = candidate_line p whole h are records once complete quiet u slot found in
+      let (line, there, named) = candidate_line p whole h names are records once complete quiet u slot found in
       let (k, lt, at) = there in
       (k, line, lt, at, named);
-  few = omega (arith, length-lines_of h are, few);
+  few = omega (arith, length-lines_of h names are, few);
 }

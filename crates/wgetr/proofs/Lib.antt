@@ -1,7 +1,4 @@
 pub mod StandardFacts
-pub mod ListLemmas
-pub mod TableLemmas
-pub mod HarvestLaws
 pub mod FoundLaws
 pub mod EndLaws
 pub mod RunLaws

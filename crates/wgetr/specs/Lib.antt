@@ -1,10 +1,6 @@
 pub mod Order
 pub mod Streams
 pub mod Trace
-pub mod Report
-pub mod Rows
-pub mod OutcomeWord
-pub mod Entries
 pub mod Site
 pub mod Retrieved
 pub mod Run

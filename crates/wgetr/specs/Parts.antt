@@ -1,5 +1,5 @@
 -- What the parts of a run come to.
-use Rattle.std.specs.Prelude.{◌≡◌, ◌≤◌, ◌<◌, ◌⊎◌, ◌++◌, ℕ, Bool, true, false, List, [], length, codes, Option, Result, Ok, Err, IfSome}
+use Rattle.std.specs.Prelude.{◌≡◌, ◌≤◌, ◌<◌, ◌⊎◌, ◌++◌, ℕ, Bool, true, false, List, [], length, map, codes, Option, Result, Ok, Err, IfSome}
 use Rattle.std.specs.Io.KnownBytes.{Appends}
 use Rattle.options.specs.declared.order.Order.{Order}
 use Rattle.fetcher.specs.Sites.{SiteAnswers}
@@ -8,10 +8,14 @@ use Rattle.frontier_core.specs.Invariants.{IsSound}
 use Rattle.frontier_core.specs.Plans.{policy}
 use Rattle.frontier_core.specs.Routes.{Answers}
 use Rattle.frontier_core.specs.declared.event.Event.{Event}
-use Rattle.harvest.specs.Gathered.{AreEntries, AreRecords}
+use Rattle.harvest.specs.Gathered.{AreEntries, AreRecords, ArePages}
 use Rattle.harvest.specs.Harvests.{Harvested}
 use Rattle.workers.specs.declared.retrieval.Halt.{Halt}
-use Rattle.wgetr.specs.Entries.{lines_of as harvest_lines}
+use Rattle.local_tree.specs.Names.{IsNaming}
+use Rattle.local_tree.specs.PlainNames.{plain_name_of}
+use Rattle.report.specs.Entries.{lines_of as harvest_lines}
+use Rattle.report.specs.ExitStatus.{exit_status}
+use Rattle.report.specs.Report.{report_text}
 use Rattle.wgetr.specs.declared.input.TheConstants.{MAX_INPUT}
 use Rattle.wgetr.specs.Retrieved.{Finish, Reported, Stopped, Finishes}
 use Rattle.wgetr.specs.Run.{fault_words, fault_status, finish_text, finish_status}
@@ -64,16 +68,16 @@ abbrev pub shown_of : Bool → List Event → List Event
 shown_of true trace = trace
 shown_of false trace = []
 
--- the trace that a retrieval left
-abbrev pub trace_in : Result Harvested Halt → List Event
-trace_in (Ok h) = h.trace
-trace_in (Err halt) = halt.harvest.trace
+-- what is told of a retrieval: its report, in which the kept pages have their names, and the status of its records, or the
+-- cause for which it stopped; before either what is shown of its trace
+abbrev pub IsToldOf : Bool → Result Harvested Halt → List ℕ → ℕ → Type 0
+IsToldOf is_shown (Ok h) text status =
+    (names : List (List ℕ)) × IsNaming (map plain_name_of h.kept) names × (text ≡ trace_text (shown_of is_shown h.trace) ++ report_text (harvest_lines h names))
+    × (status ≡ exit_status (map (λ recorded. recorded.1) h.records))
+IsToldOf is_shown (Err halt) text status =
+    (text ≡ trace_text (shown_of is_shown halt.harvest.trace) ++ finish_text (Stopped halt.cause)) × (status ≡ 1)
 
--- what a retrieval comes to
-abbrev pub finish_of : Result Harvested Halt → Finish
-finish_of (Ok h) = Reported (harvest_lines h)
-finish_of (Err halt) = Stopped halt.cause
-
--- what is said of a harvest beside its contents: the entries and the records say what its state holds, which is sound
+-- what is said of a harvest beside its contents: the entries, the records and the kept pages say what its state holds,
+-- which is sound
 abbrev pub IsRead : Harvested → Type 0
-IsRead h = AreEntries h × AreRecords h × IfSome h.plan (λ plan. IsSound (policy plan) h.state)
+IsRead h = AreEntries h × AreRecords h × ArePages h × IfSome h.plan (λ plan. IsSound (policy plan) h.state)

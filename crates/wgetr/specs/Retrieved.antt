@@ -13,8 +13,8 @@ use Rattle.frontier_core.specs.declared.event.Cause.{Cause}
 use Rattle.frontier_core.specs.declared.event.Cause.TheVariants as cause
 use Rattle.frontier_core.specs.declared.event.Event.{Event}
 use Rattle.workers.specs.OneWorker.{AreByOne}
-use Rattle.wgetr.specs.Report.{Line}
-use Rattle.wgetr.specs.Site.{AreLines}
+use Rattle.report.specs.Report.{Line}
+use Rattle.wgetr.specs.Site.{AreLines, AreNamed}
 
 -- what is recorded is what the whole site has
 pub record IsPartOf (m whole : Answers) : Type 0 where
@@ -44,7 +44,7 @@ pub data Finish : Type 0 where
 -- may be nothing to show
 abbrev pub Finishes : Order → Answers → List Event → Finish → Type 0
 Finishes order whole shown (Reported lines) =
-    AreLines (policy order.plan) whole lines × AreShown order.trace (AreEventsOf order.plan whole IsQuiet) shown
+    AreLines (policy order.plan) whole lines × AreNamed order.plan lines × AreShown order.trace (AreEventsOf order.plan whole IsQuiet) shown
 Finishes order whole shown (Stopped cause.Full) =
     HasTooMany (policy order.plan) whole × AreShown order.trace (AreEventsOf order.plan whole (HasStopped cause.Full)) shown
 Finishes order whole shown (Stopped cause.Memory) =

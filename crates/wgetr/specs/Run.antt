@@ -14,7 +14,8 @@ use Rattle.options.specs.declared.fault.LineFault.TheVariants as line
 use Rattle.options.specs.declared.order.Order.{Order}
 use Rattle.wgetr.specs.declared.input.TheConstants.{MAX_INPUT}
 use Rattle.wgetr.specs.Order.{IsOrdered, AreForInput, AreForLive}
-use Rattle.wgetr.specs.Report.{report_text}
+use Rattle.report.specs.ExitStatus.{exit_status, outcomes_in}
+use Rattle.report.specs.Report.{report_text}
 use Rattle.wgetr.specs.Retrieved.{Finish, Reported, Stopped, Finishes}
 use Rattle.wgetr.specs.Site.{IsToldBy, IsWrongBy, whole_of}
 use Rattle.wgetr.specs.Streams.{IsInput, AppendsFront}
@@ -101,9 +102,9 @@ abbrev pub finish_text : Finish → List ℕ
 finish_text (Reported lines) = report_text lines
 finish_text (Stopped why) = codes "stopped " ++ cause_word why ++ codes "\n"
 
--- its status: a report that was printed ends well
+-- its status: that of a report is told by its outcomes
 abbrev pub finish_status : Finish → ℕ
-finish_status (Reported lines) = 0
+finish_status (Reported lines) = exit_status (outcomes_in lines)
 finish_status (Stopped why) = 1
 
 -- ---- a run

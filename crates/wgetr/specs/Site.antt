@@ -1,5 +1,5 @@
 -- The site that an input tells, and the report of a whole site.
-use Rattle.std.specs.Prelude.{◌≡◌, ◌≤◌, ℕ, Bool, false, List, Some, All, Any, IsTrue, length}
+use Rattle.std.specs.Prelude.{◌≡◌, ◌≤◌, ℕ, Bool, false, List, Some, All, Any, IsTrue, is_some, length, map}
 use Rattle.fetcher.specs.Sites.{SiteAnswers}
 use Rattle.site_maps.specs.Lines.{Statement}
 use Rattle.site_maps.specs.Maps.{lines_of, IsMap, answers_of, rules_of, says_of, IsFault as IsFaultOfMap}
@@ -10,7 +10,11 @@ use Rattle.options.specs.declared.order.Source.{Source}
 use Rattle.options.specs.declared.order.Source.TheVariants as source
 use Rattle.frontier_core.specs.Tables.{Text}
 use Rattle.frontier_core.specs.Routes.{Policy, Answers, IsCandidate, IsDepth, is_open}
-use Rattle.wgetr.specs.Report.{Line, Fate, Asked, Refused, IsAscending}
+use Rattle.follow_filters.specs.declared.plan.Plan.{Plan}
+use Rattle.local_tree.specs.Names.{IsNaming}
+use Rattle.local_tree.specs.PlainNames.{plain_name_of}
+use Rattle.report.specs.Named.{is_to_keep, named_pages, names_in}
+use Rattle.report.specs.Report.{Line, Fate, Asked, Refused, AreAscending}
 
 -- ---- what an input tells
 
@@ -61,7 +65,13 @@ IsFate p m u Refused = is_open p m u ≡ false
 -- The lines of what is known of a site: one for each candidate, in the order of the addresses' texts, with its least
 -- depth and what becomes of it (GNU Wget manual, Recursive Download); no more than the plan lets be held.
 pub record AreLines (p : Policy) (m : Answers) (lines : List Line) : Type 0 where
-  pub ascending : IsAscending lines
+  pub ascending : AreAscending lines
   pub each : All (λ line. IsDepth p m line.address line.depth × IsFate p m line.address line.fate) lines
   pub all : (u : Text) → IsCandidate p m u → Any (λ line. line.address ≡ u) lines
   pub few : length lines ≤ p.max_urls
+
+-- Just the pages to keep have a name, and it is the one that the list of all of them gives it, in the order of their
+-- addresses (GNU Wget manual, Directory Options).
+pub record AreNamed (plan : Plan) (lines : List Line) : Type 0 where
+  pub kept : All (λ line. is_some line.name ≡ is_to_keep plan line) lines
+  pub names : IsNaming (map plain_name_of (named_pages lines)) (names_in lines)

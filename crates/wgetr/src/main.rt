@@ -10,7 +10,6 @@ mod interruption;
 mod order;
 mod output;
 mod program;
-mod report;
 mod run;
 #[cfg(test)]
 mod tests;

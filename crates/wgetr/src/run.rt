@@ -1,27 +1,30 @@
 //! A run: from the words and the input to what is written.
-ghost use Rattle.std.specs.Prelude.{◌≡◌, ◌≢◌, ◌++◌, IfOk, IfErr, OnOk, map, string_bytes};
+ghost use Rattle.std.specs.Prelude.{◌≡◌, ◌≢◌, ◌++◌, ℕ, List, IfOk, IfErr, OnOk, map, string_bytes};
 ghost use Rattle.site_maps.specs.Maps.{says_of, IsFault as IsFaultOfMap};
 ghost use Rattle.site_records.specs.Records.{says_of as record_says, IsFault as IsFaultOfRecord};
 ghost use Rattle.frontier_core.specs.Routes.{Answers};
 ghost use Rattle.workers.specs.Sites.{Fits};
-ghost use Rattle.wgetr.specs.Entries.{lines_of};
+ghost use Rattle.local_tree.specs.Names.{IsNaming};
+ghost use Rattle.local_tree.specs.PlainNames.{plain_name_of};
+ghost use Rattle.report.specs.Entries.{lines_of};
+ghost use Rattle.report.specs.Report.{report_text};
 ghost use Rattle.wgetr.specs.Order.{AreForInput};
-ghost use Rattle.wgetr.specs.Report.{report_text};
 ghost use Rattle.wgetr.specs.Retrieved.{Stopped};
 ghost use Rattle.wgetr.specs.Site.{IsMapOf, IsRecordOf, IsToldBy, IsWrongBy, without_bodies};
 ghost use Rattle.wgetr.specs.Trace.{trace_text};
-ghost use Rattle.wgetr.specs.Parts.{TellsOf, TellsFault, IsOutput, IsOutputOf, IsDelivered, IsRefusal, IsRead, shown_of, trace_in, finish_of};
-ghost use Rattle.wgetr.specs.Run.{EndsFor, Ending, Failed, Runs, ending_text, ending_status, finish_text, finish_status};
+ghost use Rattle.wgetr.specs.Parts.{TellsOf, TellsFault, IsOutput, IsOutputOf, IsDelivered, IsRefusal, IsRead, IsToldOf, shown_of};
+ghost use Rattle.wgetr.specs.Run.{EndsFor, Ending, Failed, Runs, ending_text, ending_status, finish_text};
 
 use crate::fault::{Fault, fault_text};
 use crate::input::{MAX_INPUT, read_input};
 use crate::order::input_order;
 use crate::output::write_text;
-use crate::report::{push_report, rows_of};
 use crate::trace::{cause_word, push_trace};
 use fetcher::Fetcher;
 use frontier_core::Event;
+use local_tree::names;
 use options::{Order, Source};
+use report::{exit_status, report_text};
 use site_maps::MapSite;
 use site_records::RecordedSite;
 use std::alloc::{AllocError, Global};
@@ -63,14 +66,16 @@ fn push_shown(text: &mut String, is_shown: bool, trace: &[Event]) -> Result<(), 
     Ok(())
 }
 
-// The text of a harvest: its trace, where it is to be shown, and its report.
+// The text of a harvest: its trace, where it is to be shown, and its report, in which the kept pages have their names.
 fn harvest_text(alloc: Global, is_shown: bool, harvest: &Harvest) -> Result<String, AllocError>
-    ensures { IfOk result (λ text. string_bytes text ≡ trace_text (shown_of is_shown harvest.now.trace) ++ report_text (lines_of harvest.now)) }
+    ensures { IfOk result (λ text. (given : List (List ℕ)) × IsNaming (map plain_name_of harvest.now.kept) given
+        × (string_bytes text ≡ trace_text (shown_of is_shown harvest.now.trace) ++ report_text (lines_of harvest.now given))) }
 {
+    let given = names(alloc, harvest.kept())?;
+    let report = report_text(alloc, harvest, given.as_slice())?;
     let mut text = String::new(alloc);
     push_shown(&mut text, is_shown, harvest.trace())?;
-    let rows = rows_of(alloc, harvest)?;
-    push_report(&mut text, rows.as_slice())?;
+    text.push_str(report.as_str())?;
     Ok(text)
 }
 
@@ -91,18 +96,19 @@ fn told_of(
     is_shown: bool,
     brought: &Result<Harvest, Halt>,
 ) -> Result<Output, AllocError>
-    ensures told { IfOk result (λ output. (string_bytes output.text ≡ trace_text (shown_of is_shown (trace_in brought.now)) ++ finish_text (finish_of brought.now))
-        × (output.status ≡ finish_status (finish_of brought.now))) }
+    ensures told { IfOk result (λ output. IsToldOf is_shown brought.now (string_bytes output.text) output.status) }
     ensures read { IfOk brought.now IsRead }
 {
     match brought {
         Ok(harvest) => {
-            // The entries and the records say what the frontier holds, and the trace leads there.
+            // The entries, the records and the kept pages say what the frontier holds, and the trace leads there.
             let _entries = harvest.entries();
             let _records = harvest.records();
+            let _kept = harvest.kept();
             let _trace = harvest.trace();
             let text = harvest_text(alloc, is_shown, harvest)?;
-            Ok(Output { text, status: 0 })
+            let status = exit_status(harvest);
+            Ok(Output { text, status })
         }
         Err(halt) => {
             let text = halt_text(alloc, is_shown, halt)?;
@@ -185,7 +191,7 @@ pub(crate) fn refuse<W: Write>(alloc: Global, fault: Fault, writer: &mut W) -> u
 /// Runs the program: reads its words as an order, then the whole input as a map, or as a record where the order says so,
 /// retrieves what the order's plan says, and writes the report or one line of words; the first fault ends it. Where the order
 /// asks for the trace, its lines stand before the report, or before the line of a retrieval that stopped. Answers the status:
-/// 0 for a report, 2 where the words or the input are wrong or the site is on the network, 1 where the reader or the writer
+/// that of [`exit_status`] for a report, 2 where the words or the input are wrong or the site is on the network, 1 where the reader or the writer
 /// fails, more addresses are found than may be held, or memory runs out. Where the writer fails a front of the text may be
 /// written. Words that order no site of an input end the run before the first byte is read.
 pub fn run<R: Read, W: Write>(alloc: Global, words: &[&str], reader: &mut R, writer: &mut W) -> u8

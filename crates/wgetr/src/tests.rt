@@ -2,11 +2,15 @@
 use crate::input::{ReadFault, read_input};
 use crate::program::run_program;
 use crate::run::run;
+use local_tree::{Folder, MemoryFolder, WriteFault, names, write_site};
+use options::read_order;
+use site_records::RecordedSite;
 use std::alloc::{AllocError, Global};
 use std::env::Args;
 use std::io;
 use std::io::{Error, ErrorKind, Read, Write};
 use std::test::Fail;
+use workers::retrieve_in_order;
 
 // A run: its words, its input, what it writes and its status.
 struct Case {
@@ -23,15 +27,15 @@ page 200 http://h/2.html\ninline http://h/2.gif\nlink http://h/3.html\nleaf 200 
 page 200 http://h/3.html\ninline http://h/3.gif\nleaf 200 http://h/3.gif\n";
 
 const MANUAL_WHOLE: &str =
-    "1 200 http://h/1.gif -\n0 200 http://h/1.html -\n2 200 http://h/2.gif -\n1 200 http://h/2.html -\n\
-3 200 http://h/3.gif -\n2 200 http://h/3.html -\nfetched 6 kept 0 refused 0 failed 0\n";
+    "1 200 http://h/1.gif h/1.gif\n0 200 http://h/1.html h/1.html\n2 200 http://h/2.gif h/2.gif\n1 200 http://h/2.html h/2.html\n\
+3 200 http://h/3.gif h/3.gif\n2 200 http://h/3.html h/3.html\nfetched 6 kept 6 refused 0 failed 0\n";
 
-const CASES: [Case; 35] = [
+const CASES: [Case; 37] = [
     Case {
         name: "one page",
         words: &["--map", "http://h/"],
         input: "page 200 http://h/",
-        text: "0 200 http://h/ -\nfetched 1 kept 0 refused 0 failed 0\n",
+        text: "0 200 http://h/ h/index.html\nfetched 1 kept 1 refused 0 failed 0\n",
         status: 0,
     },
     Case {
@@ -40,8 +44,8 @@ const CASES: [Case; 35] = [
         input: "page 200 http://h/\nlink http://h/a\nlink http://h/z\npage 200 http://h/a\nlink http://h/b\n\
 page 200 http://h/b\nlink http://h/d\npage 200 http://h/z\nlink http://h/d\n\
 page 200 http://h/d\nlink http://h/e\npage 200 http://h/e\nlink http://h/f\n",
-        text: "0 200 http://h/ -\n1 200 http://h/a -\n2 200 http://h/b -\n2 200 http://h/d -\n3 200 http://h/e -\n\
-1 200 http://h/z -\nfetched 6 kept 0 refused 0 failed 0\n",
+        text: "0 200 http://h/ h/index.html\n1 200 http://h/a h/a\n2 200 http://h/b h/b\n2 200 http://h/d h/d\n3 200 http://h/e h/e\n\
+1 200 http://h/z h/z\nfetched 6 kept 6 refused 0 failed 0\n",
         status: 0,
     },
     Case {
@@ -55,36 +59,36 @@ page 200 http://h/d\nlink http://h/e\npage 200 http://h/e\nlink http://h/f\n",
         name: "a redirect is no hop",
         words: &["-r", "-l", "1", "--map", "http://h/"],
         input: "page 200 http://h/\nlink http://h/m\nmoved 301 http://h/m http://h/n\npage 200 http://h/n\nlink http://h/o\n",
-        text: "0 200 http://h/ -\n1 301 http://h/m -\n1 200 http://h/n -\nfetched 3 kept 0 refused 0 failed 0\n",
+        text: "0 200 http://h/ h/index.html\n1 301 http://h/m -\n1 200 http://h/n h/n\nfetched 3 kept 2 refused 0 failed 0\n",
         status: 0,
     },
     Case {
         name: "the manual's site, not recursive",
         words: &["--map", "http://h/1.html"],
         input: MANUAL,
-        text: "0 200 http://h/1.html -\nfetched 1 kept 0 refused 0 failed 0\n",
+        text: "0 200 http://h/1.html h/1.html\nfetched 1 kept 1 refused 0 failed 0\n",
         status: 0,
     },
     Case {
         name: "the manual's site, not recursive, with a level",
         words: &["-l", "3", "--map", "http://h/1.html"],
         input: MANUAL,
-        text: "0 200 http://h/1.html -\nfetched 1 kept 0 refused 0 failed 0\n",
+        text: "0 200 http://h/1.html h/1.html\nfetched 1 kept 1 refused 0 failed 0\n",
         status: 0,
     },
     Case {
         name: "the manual's site, one level",
         words: &["-r", "-l", "1", "--map", "http://h/1.html"],
         input: MANUAL,
-        text: "1 200 http://h/1.gif -\n0 200 http://h/1.html -\n1 200 http://h/2.html -\nfetched 3 kept 0 refused 0 failed 0\n",
+        text: "1 200 http://h/1.gif h/1.gif\n0 200 http://h/1.html h/1.html\n1 200 http://h/2.html h/2.html\nfetched 3 kept 3 refused 0 failed 0\n",
         status: 0,
     },
     Case {
         name: "the manual's site, two levels, the level first",
         words: &["-l", "2", "-r", "--map", "http://h/1.html"],
         input: MANUAL,
-        text: "1 200 http://h/1.gif -\n0 200 http://h/1.html -\n2 200 http://h/2.gif -\n1 200 http://h/2.html -\n\
-2 200 http://h/3.html -\nfetched 5 kept 0 refused 0 failed 0\n",
+        text: "1 200 http://h/1.gif h/1.gif\n0 200 http://h/1.html h/1.html\n2 200 http://h/2.gif h/2.gif\n1 200 http://h/2.html h/2.html\n\
+2 200 http://h/3.html h/3.html\nfetched 5 kept 5 refused 0 failed 0\n",
         status: 0,
     },
     Case {
@@ -107,15 +111,15 @@ page 200 http://h/d\nlink http://h/e\npage 200 http://h/e\nlink http://h/f\n",
         input: "page 200 http://h/\nlink http://h/page.html\nlink http://h/pic.gif\nlink http://h/pic.gif?x=1\n\
 link http://h/pic.GIF\nleaf 200 http://h/page.html\nleaf 200 http://h/pic.gif\nleaf 200 http://h/pic.gif?x=1\n\
 leaf 200 http://h/pic.GIF\n",
-        text: "0 200 http://h/ -\n1 200 http://h/page.html -\n1 200 http://h/pic.gif -\n1 200 http://h/pic.gif?x=1 -\n\
-fetched 4 kept 0 refused 0 failed 0\n",
+        text: "0 200 http://h/ -\n1 200 http://h/page.html -\n1 200 http://h/pic.gif h/pic.gif\n1 200 http://h/pic.gif?x=1 h/pic.gif?x=1\n\
+fetched 4 kept 2 refused 0 failed 0\n",
         status: 0,
     },
     Case {
         name: "as many addresses as may be held",
         words: &["-r", "--max-urls", "3", "--map", "http://h/"],
         input: "page 200 http://h/\nlink http://h/a\nlink http://h/b\nleaf 200 http://h/a\nleaf 200 http://h/b\n",
-        text: "0 200 http://h/ -\n1 200 http://h/a -\n1 200 http://h/b -\nfetched 3 kept 0 refused 0 failed 0\n",
+        text: "0 200 http://h/ h/index.html\n1 200 http://h/a h/a\n1 200 http://h/b h/b\nfetched 3 kept 3 refused 0 failed 0\n",
         status: 0,
     },
     Case {
@@ -132,7 +136,7 @@ fetched 4 kept 0 refused 0 failed 0\n",
 robots http://h/\ndisallow /s\n",
         text: "opened http://h/\npage 0 http://h/\nanswer 0 http://h/\nspread 0 http://h/ 2\nrules 0 http://h\nruled 0 http://h\n\
 page 0 http://h/t\nanswer 0 http://h/t\n\
-0 200 http://h/ -\n1 rob http://h/s/1 -\n1 200 http://h/t -\nfetched 2 kept 0 refused 1 failed 0\n",
+0 200 http://h/ h/index.html\n1 rob http://h/s/1 -\n1 200 http://h/t h/t\nfetched 2 kept 2 refused 1 failed 0\n",
         status: 0,
     },
     Case {
@@ -140,7 +144,7 @@ page 0 http://h/t\nanswer 0 http://h/t\n\
         words: &["-r", "-e", "robots=off", "--map", "http://h/"],
         input: "page 200 http://h/\nlink http://h/s/1\nlink http://h/t\nleaf 200 http://h/s/1\nleaf 200 http://h/t\n\
 robots http://h/\ndisallow /s\n",
-        text: "0 200 http://h/ -\n1 200 http://h/s/1 -\n1 200 http://h/t -\nfetched 3 kept 0 refused 0 failed 0\n",
+        text: "0 200 http://h/ h/index.html\n1 200 http://h/s/1 h/s/1\n1 200 http://h/t h/t\nfetched 3 kept 3 refused 0 failed 0\n",
         status: 0,
     },
     Case {
@@ -160,7 +164,7 @@ robots http://h/\ndisallow /s\n",
         input: "page 200 http://h/\nlink http://h/m\nmoved 301 http://h/m http://h/n\npage 200 http://h/n\nlink http://h/o\n",
         text: "opened http://h/\npage 0 http://h/\nanswer 0 http://h/\nspread 0 http://h/ 1\npage 0 http://h/m\n\
 answer 0 http://h/m\nspread 1 http://h/m 1\npage 0 http://h/n\nanswer 0 http://h/n\nspread 1 http://h/n 1\n\
-0 200 http://h/ -\n1 301 http://h/m -\n1 200 http://h/n -\nfetched 3 kept 0 refused 0 failed 0\n",
+0 200 http://h/ h/index.html\n1 301 http://h/m -\n1 200 http://h/n h/n\nfetched 3 kept 2 refused 0 failed 0\n",
         status: 0,
     },
     Case {
@@ -184,13 +188,27 @@ answer 0 http://h/m\nspread 1 http://h/m 1\npage 0 http://h/n\nanswer 0 http://h
         words: &["--map", "http://h/"],
         input: "",
         text: "0 404 http://h/ -\nfetched 1 kept 0 refused 0 failed 1\n",
-        status: 0,
+        status: 8,
     },
     Case {
         name: "a fault, and a page that isn't there",
         words: &["-r", "--map", "http://h/"],
         input: "page 200 http://h/\nlink http://h/a\nlink http://h/b\nfault connect http://h/a\n",
-        text: "0 200 http://h/ -\n1 connect http://h/a -\n1 404 http://h/b -\nfetched 3 kept 0 refused 0 failed 2\n",
+        text: "0 200 http://h/ h/index.html\n1 connect http://h/a -\n1 404 http://h/b -\nfetched 3 kept 1 refused 0 failed 2\n",
+        status: 4,
+    },
+    Case {
+        name: "a fault of the protocol, and a page that isn't there",
+        words: &["-r", "--map", "http://h/"],
+        input: "page 200 http://h/\nlink http://h/a\nlink http://h/b\nfault head http://h/b\n",
+        text: "0 200 http://h/ h/index.html\n1 404 http://h/a -\n1 head http://h/b -\nfetched 3 kept 1 refused 0 failed 2\n",
+        status: 7,
+    },
+    Case {
+        name: "pages whose names clash",
+        words: &["-r", "--map", "http://h/"],
+        input: "page 200 http://h/\nlink http://h/a/b\nlink http://h/a\nleaf 200 http://h/a\nleaf 200 http://h/a/b\n",
+        text: "0 200 http://h/ h/index.html\n1 200 http://h/a h/a.1\n1 200 http://h/a/b h/a/b\nfetched 3 kept 3 refused 0 failed 0\n",
         status: 0,
     },
     Case {
@@ -198,8 +216,8 @@ answer 0 http://h/m\nspread 1 http://h/m 1\npage 0 http://h/n\nanswer 0 http://h
         words: &["-r", "--map", "http://h/0"],
         input: "page 200 http://h/0\nlink http://h/1\npage 200 http://h/1\nlink http://h/2\npage 200 http://h/2\nlink http://h/3\n\
 page 200 http://h/3\nlink http://h/4\npage 200 http://h/4\nlink http://h/5\npage 200 http://h/5\nlink http://h/6\n",
-        text: "0 200 http://h/0 -\n1 200 http://h/1 -\n2 200 http://h/2 -\n3 200 http://h/3 -\n4 200 http://h/4 -\n\
-5 200 http://h/5 -\nfetched 6 kept 0 refused 0 failed 0\n",
+        text: "0 200 http://h/0 h/0\n1 200 http://h/1 h/1\n2 200 http://h/2 h/2\n3 200 http://h/3 h/3\n4 200 http://h/4 h/4\n\
+5 200 http://h/5 h/5\nfetched 6 kept 6 refused 0 failed 0\n",
         status: 0,
     },
     Case {
@@ -234,7 +252,7 @@ page 200 http://h/3\nlink http://h/4\npage 200 http://h/4\nlink http://h/5\npage
         name: "the greatest level, with a zero before it",
         words: &["-r", "-l", "01000000", "--map", "http://h/"],
         input: "leaf 200 http://h/",
-        text: "0 200 http://h/ -\nfetched 1 kept 0 refused 0 failed 0\n",
+        text: "0 200 http://h/ h/index.html\nfetched 1 kept 1 refused 0 failed 0\n",
         status: 0,
     },
     Case {
@@ -319,36 +337,36 @@ const RECORDED: [Case; 8] = [
         name: "a recorded page, and a link that the record doesn't name",
         words: &["-r", "--record", "http://h/"],
         input: "wgetr-record 1\npage http://h/ 54\nHTTP/1.1 200 OK\r\nContent-Type: text/html\r\n\r\n<a href=b>\n",
-        text: "0 200 http://h/ -\n1 404 http://h/b -\nfetched 2 kept 0 refused 0 failed 1\n",
-        status: 0,
+        text: "0 200 http://h/ h/index.html\n1 404 http://h/b -\nfetched 2 kept 1 refused 0 failed 1\n",
+        status: 8,
     },
     Case {
         name: "the record of examples/page.record",
         words: &["-r", "--record", "http://h/"],
         input: "wgetr-record 1\npage http://h/ 54\nHTTP/1.1 200 OK\r\nContent-Type: text/html\r\n\r\n<a href=b>\n\
 fault connect http://h/b\nrobots http://h/ 27\nUser-agent: *\nDisallow: /b/\nrules none http://k/\n",
-        text: "0 200 http://h/ -\n1 connect http://h/b -\nfetched 2 kept 0 refused 0 failed 1\n",
-        status: 0,
+        text: "0 200 http://h/ h/index.html\n1 connect http://h/b -\nfetched 2 kept 1 refused 0 failed 1\n",
+        status: 4,
     },
     Case {
         name: "a recorded page that asks that its links aren't followed",
         words: &["-r", "--record", "http://h/"],
         input: FORBIDDING,
-        text: "0 200 http://h/ -\nfetched 1 kept 0 refused 0 failed 0\n",
+        text: "0 200 http://h/ h/index.html\nfetched 1 kept 1 refused 0 failed 0\n",
         status: 0,
     },
     Case {
         name: "the same, with robots off",
         words: &["-r", "-e", "robots=off", "--record", "http://h/"],
         input: FORBIDDING,
-        text: "0 200 http://h/ -\n1 404 http://h/b -\nfetched 2 kept 0 refused 0 failed 1\n",
-        status: 0,
+        text: "0 200 http://h/ h/index.html\n1 404 http://h/b -\nfetched 2 kept 1 refused 0 failed 1\n",
+        status: 8,
     },
     Case {
         name: "a map counts before a record",
         words: &["--record", "--map", "http://h/"],
         input: "leaf 200 http://h/",
-        text: "0 200 http://h/ -\nfetched 1 kept 0 refused 0 failed 0\n",
+        text: "0 200 http://h/ h/index.html\nfetched 1 kept 1 refused 0 failed 0\n",
         status: 0,
     },
     Case {
@@ -453,9 +471,9 @@ the site is told on standard input: with --map by a map, with --record by a reco
             "--map",
             "http://h/",
         ],
-        text: "0 200 http://h/ -\n1 404 http://h/a -\nfetched 2 kept 0 refused 0 failed 1\n",
+        text: "0 200 http://h/ h/index.html\n1 404 http://h/a -\nfetched 2 kept 1 refused 0 failed 1\n",
         told: "",
-        status: 0,
+        status: 8,
     },
 ];
 
@@ -590,7 +608,7 @@ fn interrupted_reads_are_counted_over_the_whole_input(rt: HostRuntime) -> Result
         (
             999,
             "0 404 http://h/ -\nfetched 1 kept 0 refused 0 failed 1\n",
-            0,
+            8,
         ),
         (1000, "input read\n", 1),
     ] {
@@ -617,7 +635,7 @@ fn a_writer_that_fails_or_takes_nothing_ends_with_status_1(rt: HostRuntime) -> R
     // The address has 1,200 bytes, and the report 1,245.
     let start = lengthened(rt.alloc(), "http://h/", 1_191)?;
     for (interrupted, room, flushes, status) in [
-        (999, 1_245, true, 0),
+        (999, 1_245, true, 8),
         (1000, 1_245, true, 1),
         (0, 1_244, true, 1),
         (0, 0, true, 1),
@@ -642,5 +660,38 @@ fn an_input_above_its_limit_is_long(rt: HostRuntime) -> Result<(), Fail> {
     assert!(rt; long.err() == Some(ReadFault::Long));
     let input = read_input(rt.alloc(), &mut b"abc".as_slice(), 3)?;
     assert!(rt; input.as_slice() == b"abc".as_slice());
+    Ok(())
+}
+
+// Three pages, each with a body of its own.
+const THREE: &str =
+    "wgetr-record 1\npage http://h/ 64\nHTTP/1.1 200 OK\r\nContent-Type: text/html\r\n\r\n<a href=b><a href=c>\n\
+page http://h/b 20\nHTTP/1.1 200 OK\r\n\r\nb\npage http://h/c 20\nHTTP/1.1 200 OK\r\n\r\nc\n";
+
+// Puts the three pages into a folder. Gives how many files were put before the folder failed.
+fn put_three(alloc: Global, folder: &mut MemoryFolder) -> Result<Option<usize>, Fail> {
+    let order = read_order(alloc, &["-r", "--record", "http://h/"])?;
+    let mut site = RecordedSite::read(alloc, THREE.as_bytes(), true)?;
+    let Ok(harvest) = retrieve_in_order(alloc, &order.plan, &mut site) else {
+        return Ok(None);
+    };
+    let given = names(alloc, harvest.kept())?;
+    match write_site(folder, given.as_slice(), &harvest) {
+        Ok(()) => Ok(Some(given.len())),
+        Err(WriteFault::Device(whole)) => Ok(Some(whole)),
+    }
+}
+
+#[test]
+fn a_put_that_fails_leaves_the_files_before_it_whole(rt: HostRuntime) -> Result<(), Fail> {
+    let mut folder = MemoryFolder::failing_at(rt.alloc(), 1);
+    assert!(rt; put_three(rt.alloc(), &mut folder)? == Some(1));
+    assert!(rt; folder.file("h/index.html") == Some(b"<a href=b><a href=c>".as_slice()));
+    assert!(rt; folder.file("h/c").is_none());
+    assert_eq!(rt; folder.failures(), 1);
+    let mut folder = MemoryFolder::new(rt.alloc());
+    assert!(rt; put_three(rt.alloc(), &mut folder)? == Some(3));
+    assert!(rt; folder.file("h/b") == Some(b"b".as_slice()));
+    assert!(rt; folder.file("h/c") == Some(b"c".as_slice()));
     Ok(())
 }

@@ -1,4 +1,5 @@
-use Rattle.std.proofs.Common.{map, All, ap, ◌∙◌, subst}
+use Rattle.std.proofs.Common.{map, All, ap, sym, ◌∙◌, subst}
+use Rattle.std.proofs.lemmas.List.{length-map}
 use Rattle.std.specs.String.{string_bytes}
 use Rattle.local_tree.specs.PlainNames.{plain_name_of}
 use Rattle.local_tree.specs.Names.{numbered, IsNaming}
@@ -17,6 +18,7 @@ returns c =
     record {
       naming = naming;
       sole = λ others other. IsNaming-sole plain names others naming other;
+      count = sym (length-map c.in_ok-assign.field-0.items string_bytes) ∙ naming.count ∙ length-map pages plain_name_of;
       distinct = IsNaming-distinct plain names naming;
       apart = IsNaming-apart plain names naming;
       inside = all_names StaysInside pages names naming addresses (λ page k is. made_stays_inside (numbered (plain_name_of page) k) (numbered_made page k is));
