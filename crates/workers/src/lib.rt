@@ -16,8 +16,6 @@ mod conclusion;
 mod crew;
 mod crew_retrieval;
 #[cfg(test)]
-mod crew_tests;
-#[cfg(test)]
 mod frontier_tests;
 #[cfg(test)]
 mod long_tests;
