@@ -13,6 +13,30 @@ fn plan_from(alloc: Global, start: &str) -> Result<Plan, AddressFault> {
     Ok(Plan::unfiltered(alloc, start, Limit::Unlimited, 100))
 }
 
+fn patterns(alloc: Global, texts: &[&str]) -> Result<Elements<Pattern>, ElementFault> {
+    let mut items = Vec::new(alloc);
+    for text in texts {
+        items.push(Pattern::read(alloc, text)?)?;
+    }
+    Ok(Elements::of(items))
+}
+
+fn domains(alloc: Global, texts: &[&str]) -> Result<Elements<Domain>, ElementFault> {
+    let mut items = Vec::new(alloc);
+    for text in texts {
+        items.push(Domain::read(alloc, text)?)?;
+    }
+    Ok(Elements::of(items))
+}
+
+fn directories(alloc: Global, texts: &[&str]) -> Result<Elements<Directory>, ElementFault> {
+    let mut items = Vec::new(alloc);
+    for text in texts {
+        items.push(Directory::read(alloc, text)?)?;
+    }
+    Ok(Elements::of(items))
+}
+
 // How the plan's verdict on an address reads.
 fn verdict(alloc: Global, plan: &Plan, address: &str) -> Result<&'static str, AddressFault> {
     Ok(match plan.passes(&Address::read(alloc, address)?) {
@@ -112,8 +136,8 @@ fn judges(alloc: Global, plan: &Plan, rows: &[(&str, &str)]) -> Result<bool, Add
 #[test]
 fn hosts_and_domains_are_looked_at_in_order(rt: HostRuntime) -> Result<(), Fail> {
     let alloc = rt.alloc();
-    let followed = Elements::read(alloc, ".foo.edu")?;
-    let excluded = Elements::read(alloc, "WWW.foo.edu")?;
+    let followed = domains(alloc, &[".foo.edu"])?;
+    let excluded = domains(alloc, &["WWW.foo.edu"])?;
     let mut plan = plan_from(alloc, "http://foo.edu/")?;
     plan.domains = followed;
     let rows = [
@@ -136,9 +160,9 @@ fn hosts_and_domains_are_looked_at_in_order(rt: HostRuntime) -> Result<(), Fail>
 #[test]
 fn directories_begin_with_an_element_and_a_slash(rt: HostRuntime) -> Result<(), Fail> {
     let alloc = rt.alloc();
-    let one = Elements::read(alloc, "/a/")?;
-    let every = Elements::read(alloc, "//")?;
-    let excluded = Elements::read(alloc, "/x")?;
+    let one = directories(alloc, &["/a/"])?;
+    let every = directories(alloc, &["//"])?;
+    let excluded = directories(alloc, &["/x"])?;
     let mut plan = plan_from(alloc, "http://h/bar/")?;
     plan.include_dirs = one;
     let rows = [
@@ -159,8 +183,8 @@ fn directories_begin_with_an_element_and_a_slash(rt: HostRuntime) -> Result<(), 
 #[test]
 fn pages_are_followed_to_more_names_than_are_kept(rt: HostRuntime) -> Result<(), Fail> {
     let alloc = rt.alloc();
-    let accepted = Elements::read(alloc, "gif")?;
-    let rejected = Elements::read(alloc, "[xy]*")?;
+    let accepted = patterns(alloc, &["gif"])?;
+    let rejected = patterns(alloc, &["[xy]*"])?;
     let mut plan = plan_from(alloc, "http://h/")?;
     plan.accept = accepted;
     plan.reject = rejected;

@@ -80,24 +80,21 @@ fn a_start_has_8192_bytes_at_most(rt: HostRuntime) -> Result<(), Fail> {
 }
 
 #[test]
-fn defaults_are_the_manuals(rt: HostRuntime) {
-    let Ok(order) = read_order(rt.alloc(), &["-r", "http://h/a"]) else {
-        panic!(rt; "refused");
-    };
+fn defaults_are_the_manuals(rt: HostRuntime) -> Result<(), Fail> {
+    let order = read_order(rt.alloc(), &["-r", "http://h/a"]).map_err(|_| "refused")?;
     assert!(rt; order.plan.start.as_str() == "http://h/a" && order.plan.limit == Limit::AtMost(5));
     assert!(rt; order.plan.robots && !order.plan.no_parent && !order.plan.span_hosts);
     assert!(rt; order.workers == 4 && order.plan.per_host == 2 && order.plan.max_urls == 100_000);
     assert!(rt; order.source == Source::Live && !order.trace && order.prefix.as_str() == ".");
     let words = ["-l", "inf", "-P", "", "http://h/"];
-    let Ok(order) = read_order(rt.alloc(), &words) else {
-        panic!(rt; "refused");
-    };
+    let order = read_order(rt.alloc(), &words).map_err(|_| "refused")?;
     assert!(rt; order.plan.limit == Limit::AtMost(0) && !order.plan.robots);
     assert!(rt; order.prefix.as_str() == ".");
+    Ok(())
 }
 
 #[test]
-fn options_are_read_into_the_order(rt: HostRuntime) {
+fn options_are_read_into_the_order(rt: HostRuntime) -> Result<(), Fail> {
     let words = [
         "-r",
         "-l",
@@ -119,9 +116,7 @@ fn options_are_read_into_the_order(rt: HostRuntime) {
         "--trace",
         "http://h/",
     ];
-    let Ok(order) = read_order(rt.alloc(), &words) else {
-        panic!(rt; "refused");
-    };
+    let order = read_order(rt.alloc(), &words).map_err(|_| "refused")?;
     assert!(rt;
         order.plan.limit == Limit::AtMost(7)
             && order.plan.no_parent
@@ -139,4 +134,5 @@ fn options_are_read_into_the_order(rt: HostRuntime) {
             && order.plan.accept.as_slice().len() == 1
             && order.plan.reject.is_empty()
     );
+    Ok(())
 }
