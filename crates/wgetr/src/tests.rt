@@ -406,24 +406,9 @@ fn wrong_case(alloc: Global, cases: &[Case]) -> Option<&'static str> {
     None
 }
 
-// The name of the first case that a run doesn't meet, if there is one.
-fn first_wrong(alloc: Global, cases: &[Case]) -> Option<&'static str> {
-    for case in cases {
-        let mut reader = case.input.as_bytes();
-        let mut written: Vec<u8> = Vec::new(alloc);
-        let status = run(alloc, case.words, &mut reader, &mut written);
-        if written.as_slice() != case.text.as_bytes() || status != case.status {
-            return Some(case.name);
-        }
-    }
-    None
-}
-
 #[test]
 fn runs_write_what_was_worked_out(rt: HostRuntime) {
-    let wrong = first_wrong(rt.alloc(), &CASES);
-    let name = wrong.unwrap_or("none");
-    assert!(rt; wrong.is_none(), "{name}");
+    assert_eq!(rt; wrong_case(rt.alloc(), &CASES), None);
 }
 
 #[test]
