@@ -2,6 +2,7 @@
 use crate::input::{ReadFault, read_input};
 use crate::program::run_program;
 use crate::run::run;
+use follow_filters::Plan;
 use local_tree::{Folder, MemoryFolder, WriteFault, names, write_site};
 use options::read_order;
 use site_records::RecordedSite;
@@ -10,7 +11,7 @@ use std::env::Args;
 use std::io;
 use std::io::{Error, ErrorKind, Read, Write};
 use std::test::Fail;
-use workers::retrieve_in_order;
+use workers::{Halt, Harvest, retrieve_in_order};
 
 // A run: its words, its input, what it writes and its status.
 struct Case {
@@ -668,29 +669,49 @@ const THREE: &str =
     "wgetr-record 1\npage http://h/ 64\nHTTP/1.1 200 OK\r\nContent-Type: text/html\r\n\r\n<a href=b><a href=c>\n\
 page http://h/b 20\nHTTP/1.1 200 OK\r\n\r\nb\npage http://h/c 20\nHTTP/1.1 200 OK\r\n\r\nc\n";
 
-// Puts the three pages into a folder. Gives how many files were put before the folder failed.
-fn put_three(alloc: Global, folder: &mut MemoryFolder) -> Result<Option<usize>, Fail> {
-    let order = read_order(alloc, &["-r", "--record", "http://h/"])?;
-    let mut site = RecordedSite::read(alloc, THREE.as_bytes(), true)?;
-    let Ok(harvest) = retrieve_in_order(alloc, &order.plan, &mut site) else {
-        return Ok(None);
+// Puts the pages that a retrieval kept into a folder. Gives how many files were put before the folder failed.
+fn put_kept(
+    alloc: Global,
+    folder: &mut MemoryFolder,
+    brought: &Result<Harvest, Halt>,
+) -> Result<usize, AllocError> {
+    let Ok(harvest) = brought else {
+        return Ok(0);
     };
     let given = names(alloc, harvest.kept())?;
-    match write_site(folder, given.as_slice(), &harvest) {
-        Ok(()) => Ok(Some(given.len())),
-        Err(WriteFault::Device(whole)) => Ok(Some(whole)),
+    match write_site(folder, given.as_slice(), harvest) {
+        Ok(()) => Ok(given.len()),
+        Err(WriteFault::Device(whole)) => Ok(whole),
     }
+}
+
+// Retrieves a site and puts what is kept into a folder.
+fn put_site(
+    alloc: Global,
+    folder: &mut MemoryFolder,
+    plan: &Plan,
+    mut site: RecordedSite,
+) -> Result<usize, AllocError> {
+    let brought = retrieve_in_order(alloc, plan, &mut site);
+    put_kept(alloc, folder, &brought)
+}
+
+// Puts the three pages into a folder.
+fn put_three(alloc: Global, folder: &mut MemoryFolder) -> Result<usize, Fail> {
+    let order = read_order(alloc, &["-r", "--record", "http://h/"])?;
+    let site = RecordedSite::read(alloc, THREE.as_bytes(), true)?;
+    Ok(put_site(alloc, folder, &order.plan, site)?)
 }
 
 #[test]
 fn a_put_that_fails_leaves_the_files_before_it_whole(rt: HostRuntime) -> Result<(), Fail> {
     let mut folder = MemoryFolder::failing_at(rt.alloc(), 1);
-    assert!(rt; put_three(rt.alloc(), &mut folder)? == Some(1));
+    assert!(rt; put_three(rt.alloc(), &mut folder)? == 1);
     assert!(rt; folder.file("h/index.html") == Some(b"<a href=b><a href=c>".as_slice()));
     assert!(rt; folder.file("h/c").is_none());
     assert_eq!(rt; folder.failures(), 1);
     let mut folder = MemoryFolder::new(rt.alloc());
-    assert!(rt; put_three(rt.alloc(), &mut folder)? == Some(3));
+    assert!(rt; put_three(rt.alloc(), &mut folder)? == 3);
     assert!(rt; folder.file("h/b") == Some(b"b".as_slice()));
     assert!(rt; folder.file("h/c") == Some(b"c".as_slice()));
     Ok(())
