@@ -6,7 +6,5 @@
 #![tactic(auto)]
 
 mod labels;
-#[cfg(test)]
-mod tests;
 
 pub use labels::{LabelFault, Labels, Offer};

@@ -7,7 +7,7 @@ use Rattle.std.proofs.lemmas.List.{append_cancel_left}
 use Rattle.std.proofs.lemmas.List.Folds.{list_any-append}
 use Rattle.std.proofs.Math.Bool.{or-true}
 use Rattle.httparse.specs.Ascii.{line_feed, carriage_return, space}
-use Rattle.httparse.specs.Grammar.{LineEnd, ResponseHead, ReadsResponse, HasNoResponse, print_response, print_end, print_blank, print_version, print_reason, print_field}
+use Rattle.httparse.specs.Grammar.{LineEnd, ResponseHead, HasNoResponse, print_response, print_end, print_blank, print_version, print_reason, print_field}
 use Rattle.httparse.specs.Grammar.LineEnd.{crlf, lf}
 use Rattle.response_reader.specs.Fills.{HasNoLineEnd, line_end}
 use Rattle.response_reader.proofs.HeadStageLemmas.{front_in}

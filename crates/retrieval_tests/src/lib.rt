@@ -1,9 +1,13 @@
-//! Retrievals that were worked out by hand: tests alone, of the frontier and of those who drive it. They stand above both
-//! crates, so neither is proved once more with them, and their proofs see clauses and no fields.
+//! Retrievals that were worked out by hand: tests alone, of the frontier, of what it is made of and of those who drive it.
+//! They stand above these crates, so none is proved once more with them, and their proofs see clauses and no fields.
 #![tactic(auto)]
 
 #[cfg(test)]
+mod agenda_tests;
+#[cfg(test)]
 mod frontier_tests;
+#[cfg(test)]
+mod label_tests;
 #[cfg(test)]
 mod long_tests;
 #[cfg(test)]

@@ -6,7 +6,7 @@ use frontier_core::{Cause, Event};
 use robots_rules::RuleSet;
 use site_maps::MapSite;
 use std::alloc::AllocError;
-use workers::{Halt, retrieve_in_order};
+use workers::{Halt, Harvest, retrieve_in_order};
 
 /// The start leads to `/a`.
 const PAIR: &str = "page 200 http://h/
@@ -52,13 +52,28 @@ impl Fetcher for Short {
     }
 }
 
+/// How many addresses the harvest has an outcome of.
+fn record_count(harvest: &Harvest) -> usize {
+    harvest.records().len()
+}
+
+/// Whether the harvest has its plan.
+fn has_plan(harvest: &Harvest) -> bool {
+    harvest.plan().is_some()
+}
+
+/// Whether the trace ends with a stop for want of memory.
+fn ends_for_memory(harvest: &Harvest) -> bool {
+    matches!(harvest.trace().last(), Some(Event::Stop(Cause::Memory)))
+}
+
 /// Whether the retrieval stopped for want of memory with one record, its plan, and a trace that ends so.
 fn kept_one(halt: &Halt) -> bool {
     let harvest = &halt.harvest;
     halt.cause == Cause::Memory
-        && harvest.records().len() == 1
-        && harvest.plan().is_some()
-        && matches!(harvest.trace().last(), Some(Event::Stop(Cause::Memory)))
+        && record_count(harvest) == 1
+        && has_plan(harvest)
+        && ends_for_memory(harvest)
 }
 
 #[test]

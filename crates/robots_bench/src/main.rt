@@ -69,9 +69,12 @@ fn add_rule(file: &mut Vec<u8>, case: Case<'_>, number: usize) -> Result<(), All
     Ok(())
 }
 
-/// Rules for every agent, up to so many bytes.
+/// Rules for every agent, up to so many bytes: everything is refused but what a pattern matches. With no byte there is no rule.
 fn bad_file(alloc: Global, case: Case<'_>) -> Result<Vec<u8>, AllocError> {
     let mut file = Vec::from_slice(alloc, b"user-agent:*")?;
+    if 0 < case.file {
+        file.extend_from_slice(b"\ndisallow:/")?;
+    }
     for number in 0..case.file {
         if file.len() >= case.file {
             break;

@@ -1,10 +1,10 @@
 -- Which of the rules that were gone through decide.
-use Rattle.std.proofs.Common.{leb-true, le-leb, not, ◌≡◌, ◌≢◌, ◌↔◌, ℕ, ◌≤◌, ◌<◌, ◌⊎◌, Bool, true, false, ◌&&◌, ◌||◌, ◌==◌, List, [], ◌∷◌, ◌++◌, length, get_or, IsTrue, Contains, sym, refl, ap, ◌∙◌, subst, inl, inr, arith}
+use Rattle.std.proofs.Common.{Option, Some, None, leb-true, le-leb, not, ◌≡◌, ◌≢◌, ◌↔◌, ℕ, ◌≤◌, ◌<◌, ◌⊎◌, Bool, true, false, ◌&&◌, ◌||◌, ◌==◌, List, [], ◌∷◌, ◌++◌, length, get_or, IsTrue, Contains, sym, refl, ap, ◌∙◌, subst, inl, inr, arith}
 use Rattle.std.proofs.lemmas.Bool.{cases_Bool, both_ways, or_cases, or_left, or_right, or_parts, and_parts, and_from, eqb-true, eq-eqb, false_from_ne_true}
 use Rattle.std.proofs.lemmas.List.Elements.{Contains-get_or, Contains-append_left, Contains-push, Contains-push_cases}
 use Rattle.std.proofs.lemmas.List.Folds.{Any-from_list_any, list_any-from_Any}
 use Rattle.std.proofs.lemmas.List.Sums.{AllPass-from_list_all, list_all-from_AllPass}
-use Rattle.std.specs.Prelude.{nat_le}
+use Rattle.std.specs.Prelude.{nat_le, IfSome}
 use Rattle.std.specs.List.{list_any}
 use Rattle.part_match.specs.Cuts.{is_match}
 use Rattle.part_match.proofs.Decided.{is_match-cuts}
@@ -112,6 +112,12 @@ pub applies_by_value : (text : List ℕ) (rule : RuleValue) (b : Bool) → 1 ≤
 applies_by_value text rule b some is =
     let cut = is_match-cuts is_run takes (parts_of rule.pattern) text in
     (λ e. record { nonempty = some; matches = cut.0 (sym is ∙ e) }, λ (a : Applies text rule). is ∙ cut.1 a.matches)
+
+-- the same for every text with a front
+pub applies_if : (answer : Option Bool) (parts front : List ℕ) (rule : RuleValue) → 1 ≤ length rule.pattern → parts ≡ parts_of rule.pattern
+    → IfSome answer (λ b. (rest : List ℕ) → b ≡ is_match is_run takes parts (front ++ rest)) → IfSome answer (λ b. (rest : List ℕ) → IsTrue b ↔ Applies (front ++ rest) rule)
+applies_if None parts front rule some whole h = tt
+applies_if (Some b) parts front rule some whole h = λ rest. applies_by_value (front ++ rest) rule b some (h rest ∙ ap (λ ps. is_match is_run takes ps (front ++ rest)) whole)
 
 pub applies-is : (text : List ℕ) (rule : RuleValue) → IsTrue (applies text rule) ↔ Applies text rule
 applies-is text rule =

@@ -1,11 +1,12 @@
 -- Octets between two runs: where they match, and that their leftmost place is enough.
-use Rattle.std.proofs.Common.{◌≡◌, ◌↔◌, ℕ, zero, suc, ◌+◌, ◌-◌, ◌≤◌, ◌<◌, Bool, true, false, ◌&&◌, ◌==◌, List, [], ◌∷◌, ◌++◌, length, take, drop, get_or, IsTrue, sym, refl, ap, ◌∙◌, subst, inl, inr, arith, append_assoc, append-nil, length-append, length-drop, drop-drop, take-append-drop}
+use Rattle.std.proofs.Common.{◌≡◌, ◌↔◌, ℕ, zero, suc, ◌+◌, ◌-◌, ◌≤◌, ◌<◌, ◌⊎◌, Bool, true, false, ◌&&◌, Option, Some, None, List, [], ◌∷◌, ◌++◌, length, take, drop, get_or, IsTrue, sym, refl, ap, ◌∙◌, inl, inr, arith, append_assoc, append-nil, append_assoc, length-append, drop-drop, take-append-drop}
 use Rattle.std.proofs.Math.Seq.{take-append_seam, drop-append_seam}
-use Rattle.std.proofs.lemmas.List.{drop_more, drop_all, length-take-le}
-use Rattle.std.proofs.lemmas.Bool.{cases_Bool, both_ways, and_parts, eq-eqb, eqb-true, false_from_ne_true}
-use Rattle.std.specs.Borrow.{Bor}
+use Rattle.std.proofs.lemmas.List.{drop_more, drop_all}
+use Rattle.std.proofs.lemmas.Bool.{and_parts, eq-eqb, eqb-true, false_from_ne_true}
+use Rattle.std.specs.List.{list_all}
+use Rattle.std.specs.Prelude.{IfSome}
 use Rattle.part_match.specs.Cuts.{is_match, some_end, first_and}
-use Rattle.part_match.proofs.Decided.{is_match-run, is_match-one, some_end-here, some_end-drop, some_end_cut}
+use Rattle.part_match.proofs.Decided.{is_match-run, is_match-one, is_match-end, some_end-here, some_end-drop, some_end_cut}
 use Rattle.memchr.specs.Find.{OccursAt, Nowhere}
 use Rattle.memchr.proofs.lemmas.MatchLemmas.{OccursAt-split, OccursAt-from_part}
 use Rattle.robots_rules.specs.Patterns.{is_run, takes}
@@ -161,3 +162,57 @@ front_missing parts text run plain whole never =
     false_from_ne_true _ (λ h.
     let behind = matched-front (take run parts) (42 ∷ drop (run + 1) parts) text plain (ap (λ ps. matched ps text) whole ∙ h) in
     never behind.0 behind.1)
+
+-- ---- a front of a path, and what follows it
+
+-- parts match the text just where those behind a first piece match what follows it there
+pub piece_behind : (piece others text rest : List ℕ) → IsPiece piece → text ≡ piece ++ rest → matched (piece ++ others) text ≡ matched others rest
+piece_behind piece others text rest plain is = ap (matched (piece ++ others)) is ∙ matched-behind piece others rest plain
+
+-- a piece and a front of which neither begins the other: nothing with this front begins with the piece
+pub piece_missing : (piece others front rest : List ℕ) → IsPiece piece → ((more : List ℕ) → front ≡ piece ++ more → ⊥) → ((more : List ℕ) → piece ≡ front ++ more → ⊥)
+    → matched (piece ++ others) (front ++ rest) ≡ false
+piece_missing piece others front rest plain longer shorter =
+    false_from_ne_true _ (λ h.
+    let found = matched-front piece others (front ++ rest) plain h in
+    let both = fronts_agree front piece rest found.0 found.1 in
+    elim both [ inl more ↦ longer more.0 more.1 | inr more ↦ shorter more.0 more.1 ])
+  where
+    fronts_agree : (xs ys us vs : List ℕ) → xs ++ us ≡ ys ++ vs → ((more : List ℕ) × (xs ≡ ys ++ more)) ⊎ ((more : List ℕ) × (ys ≡ xs ++ more))
+    fronts_agree [] ys us vs e = inr (ys, refl)
+    fronts_agree (x ∷ xs) [] us vs e = inl (x ∷ xs, refl)
+    fronts_agree (x ∷ xs) (y ∷ ys) us vs e =
+        let first : x ≡ y = cc in
+        let others : xs ++ us ≡ ys ++ vs = cc in
+        elim (fronts_agree xs ys us vs others) [
+          | inl more ↦ inl (more.0, ap (λ z. z ∷ xs) first ∙ ap (λ zs. y ∷ zs) more.1)
+          | inr more ↦ inr (more.0, ap (λ z. z ∷ ys) (sym first) ∙ ap (λ zs. x ∷ zs) more.1)
+        ]
+
+-- no parts match no text that has octets
+pub none_left : (front rest : List ℕ) → (length front ≡ 0 → ⊥) → matched [] (front ++ rest) ≡ false
+none_left front rest some =
+    false_from_ne_true _ (λ h. some (omega (arith, ap length (matched-nil (front ++ rest) h), length-append front rest)))
+
+-- runs match every text
+pub runs_take : (parts text : List ℕ) → (length parts ≡ 0 → ⊥) → list_all is_run parts ≡ true → matched parts text ≡ true
+runs_take [] text some runs = absurd (some refl)
+runs_take (run ∷ parts) text some runs =
+    let both = and_parts _ _ runs in
+    is_match-run is_run takes run parts text both.0
+    ∙ some_end-drop (matched parts) (length text) text
+    (some_end-here (matched parts) (drop (length text) text) (ap (matched parts) (drop_all (length text) text (omega arith)) ∙ is_match-end is_run takes parts ∙ both.1))
+
+-- what matches behind a first piece matches the whole
+pub behind_if : (answer : Option Bool) (parts piece others front behind : List ℕ) → IsPiece piece → parts ≡ piece ++ others → front ≡ piece ++ behind
+    → IfSome answer (λ b. (rest : List ℕ) → b ≡ matched others (behind ++ rest)) → IfSome answer (λ b. (rest : List ℕ) → b ≡ matched parts (front ++ rest))
+behind_if None parts piece others front behind plain whole is h = tt
+behind_if (Some b) parts piece others front behind plain whole is h =
+    λ rest. h rest
+    ∙ sym
+    (ap (λ ps. matched ps (front ++ rest)) whole
+    ∙ piece_behind piece others (front ++ rest) (behind ++ rest) plain (ap (λ xs. xs ++ rest) is ∙ append_assoc piece behind rest))
+
+pub nil_is : (xs : List ℕ) → length xs ≡ 0 → xs ≡ []
+nil_is [] none = refl
+nil_is (x ∷ xs) none = absurd (omega arith)

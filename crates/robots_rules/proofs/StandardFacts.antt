@@ -1,11 +1,11 @@
 -- The examples of RFC 9309 and its own lists of octets hold of the definitions.
-use Rattle.std.proofs.Common.{◌≡◌, ℕ, Bool, true, false, List, [], ◌∷◌, ◌++◌, refl, filter}
+use Rattle.std.proofs.Common.{◌≡◌, true, false, [], ◌∷◌, ◌++◌, refl, filter}
 use Rattle.percent_encoding.specs.Percent.{percent_encode_byte}
 use Rattle.std.specs.Prelude.{codes}
-use Rattle.std.specs.List.{range_with_len, before_first}
-use Rattle.robots_rules.specs.Octets.{is_unreserved, normal, normal_path, normal_pattern}
+use Rattle.std.specs.List.{range_with_len}
+use Rattle.robots_rules.specs.Octets.{is_unreserved, normal, normal_path}
 use Rattle.robots_rules.specs.Patterns.{normal_of}
-use Rattle.robots_rules.specs.Lines.{is_line_end, is_blank, trimmed, uncommented}
+use Rattle.robots_rules.specs.Lines.{is_line_end, is_blank}
 use Rattle.robots_rules.specs.Groups.{is_in_token, token_of, names_all, names_us}
 
 -- the unreserved octets (RFC 3986, section 2.3)

@@ -1,5 +1,6 @@
 //! Paths and patterns in normal form, octet by octet.
 ghost use Rattle.std.specs.Prelude.{◌≡◌, ◌++◌, ◌∷◌, [], ℕ, Bool, List, ◌<◌, ◌≤◌, length, take, IfSome, IfNone, ◌↔◌, IsTrue};
+ghost use Rattle.robots_rules.specs.NormalTextView.{octets_of_text};
 ghost use Rattle.robots_rules.specs.Octets.{normal, normal_path, SplitsEscape, escape_if, is_unreserved, is_escaped};
 
 use part_match::Text;
@@ -14,7 +15,7 @@ pub(crate) struct NormalText<'a> {
 }
 
 impl<'a> NormalText<'a> {
-    ghost use Rattle.std.specs.Prelude.{◌≡◌, true, false};
+    ghost use Rattle.std.specs.Prelude.{◌≡◌, ◌↔◌, [], true, false, IsTrue};
     ghost use Rattle.robots_rules.specs.Octets.{normal_path, normal_pattern};
     ghost use Rattle.robots_rules.specs.NormalTextView.{octets_of_text};
 
@@ -35,6 +36,15 @@ impl<'a> NormalText<'a> {
             ready: &[],
             rest: pattern,
             in_path: false,
+        }
+    }
+
+    pub(crate) fn is_empty(&self) -> bool
+        ensures { IsTrue result ↔ (octets_of_text self.now ≡ []) }
+    {
+        match self.split_first() {
+            Some(_) => false,
+            None => true,
         }
     }
 }
@@ -113,23 +123,24 @@ fn is_escaped(in_path: bool, octet: u8) -> bool
     octet >= 128 || octet == b'$' || in_path && octet == b'*'
 }
 
-/// Whether a path is in normal form as it stands.
-pub(crate) fn is_normal(path: &str) -> bool
-    ensures { IsTrue result ↔ (normal_path path.now ≡ path.now) }
+/// The front of a path that is in normal form as it stands, and what follows it.
+pub(crate) fn split_normal(path: &str) -> (&[u8], NormalText<'_>)
+    ensures { normal_path path.now ≡ result.0.now ++ octets_of_text result.1 }
 {
+    let bytes = path.as_bytes();
+    let mut len = 0;
     let mut rest = NormalText::path(path);
-    let mut bytes = path.as_bytes();
-    while let Some((octet, behind)) = rest.split_first() {
-        let Some((first, others)) = bytes.split_first() else {
-            return false;
+    while len < bytes.len() {
+        let Some((octet, behind)) = rest.split_first() else {
+            break;
         };
-        if *first != octet {
-            return false;
+        if octet != bytes[len] {
+            break;
         }
+        len += 1;
         rest = behind;
-        bytes = others;
     }
-    bytes.is_empty()
+    (&bytes[..len], rest)
 }
 
 /// Writes a path in normal form into the buffer and gives its length, or `None` where it is longer than the buffer.

@@ -1,6 +1,7 @@
 //! Which paths the parts of a pattern match. The one idea: the octets between two `*` are a piece, and where a piece is found leftmost, the rest of the path is
 //! longest, so no other place of it needs a look.
-ghost use Rattle.std.specs.Prelude.{◌≡◌, ℕ, List};
+ghost use Rattle.std.specs.Prelude.{◌≡◌, ◌≤◌, ◌<◌, ◌++◌, true, ℕ, List, length, get_or, IfSome};
+ghost use Rattle.std.specs.List.{list_all};
 ghost use Rattle.part_match.specs.Cuts.{is_match, some_end};
 ghost use Rattle.robots_rules.specs.Patterns.{is_run, takes};
 
@@ -62,4 +63,51 @@ fn matches_some_end(parts: &[u8], path: &[u8]) -> bool
         parts = &parts[star + 1..];
     }
     path.ends_with(parts)
+}
+
+/// Whether the parts match every path with this front, or none, `None` where that hangs on what follows the front.
+pub(crate) fn matches_front(parts: &[u8], front: &[u8]) -> Option<bool>
+    ensures { IfSome result (λ matched. (rest : List ℕ) → matched ≡ is_match is_run takes parts.now (front.now ++ rest)) }
+{
+    let (piece, others) = parts.split_at(first_run(parts));
+    match front.strip_prefix(piece) {
+        Some(behind) => matches_behind(others, behind),
+        None => match piece.strip_prefix(front) {
+            Some(_) => None,
+            None => Some(false),
+        },
+    }
+}
+
+/// The same of the parts behind the first piece: none, or a `*` and what follows it.
+fn matches_behind(parts: &[u8], front: &[u8]) -> Option<bool>
+    ensures { IfSome result (λ matched. (rest : List ℕ) → matched ≡ is_match is_run takes parts.now (front.now ++ rest)) }
+{
+    if parts.is_empty() {
+        if front.is_empty() {
+            return None;
+        }
+        return Some(false);
+    }
+    if only_runs(parts) {
+        return Some(true);
+    }
+    None
+}
+
+fn only_runs(parts: &[u8]) -> bool
+    ensures { result ≡ list_all is_run parts.now }
+{
+    parts.iter().all(|part| *part == b'*')
+}
+
+/// Where the first `*` stands, or how many parts there are if none does.
+fn first_run(parts: &[u8]) -> usize
+    ensures within { result ≤ length parts.now }
+    ensures before { (k : ℕ) → k < result → is_run (get_or parts.now k 0) ≡ true → ⊥ }
+{
+    match memchr(b'*', parts) {
+        Some(star) => star,
+        None => parts.len(),
+    }
 }

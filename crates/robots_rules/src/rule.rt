@@ -1,10 +1,10 @@
 //! A rule of a robots file (RFC 9309, section 2.2.2).
-ghost use Rattle.std.specs.Prelude.{◌≡◌, ◌↔◌, [], IsTrue, IfOk, fold};
+ghost use Rattle.std.specs.Prelude.{◌≡◌, ◌↔◌, ◌++◌, [], ℕ, List, IsTrue, IfOk, IfSome, fold};
 ghost use Rattle.robots_rules.specs.Access.{RulesAllow, rules_allow};
 ghost use Rattle.robots_rules.specs.Groups.{with_rule};
 
 use crate::pattern::{ends_text, normal_of};
-use crate::pieces::NormalPath;
+use crate::pieces::{NormalPath, matches_front};
 use indexmap::IndexSet;
 use std::alloc::{AllocError, Global};
 use std::marker::Model;
@@ -30,7 +30,7 @@ impl Model for Rule {
 }
 
 impl Rule {
-    ghost use Rattle.std.specs.Prelude.{◌≡◌, ◌↔◌, ◌==◌, ◌||◌, ◌&&◌, IsTrue, IfOk, length};
+    ghost use Rattle.std.specs.Prelude.{◌≡◌, ◌↔◌, ◌==◌, ◌||◌, ◌&&◌, ◌++◌, ℕ, List, IsTrue, IfOk, IfSome, length};
     ghost use Rattle.robots_rules.specs.Access.{Applies};
     ghost use Rattle.robots_rules.specs.Groups.{rule_of};
 
@@ -75,6 +75,16 @@ impl Rule {
         ensures { IsTrue result ↔ Applies (T.octets path) self.now }
     {
         0 < self.octets() && path.is_matched(&self.parts)
+    }
+
+    /// Whether the rule speaks of every path in normal form with this front, or of none, `None` where that hangs on what follows the front.
+    fn applies_to_front(&self, front: &[u8]) -> Option<bool>
+        ensures { IfSome result (λ applies. (rest : List ℕ) → IsTrue applies ↔ Applies (front.now ++ rest) self.now) }
+    {
+        if self.octets() == 0 {
+            return Some(false);
+        }
+        matches_front(&self.parts, front)
     }
 
     /// What rules are told apart by: whether it allows, and its pattern.
@@ -125,6 +135,23 @@ pub(crate) fn rules_allow<T: NormalPath>(rules: &[Rule], path: T) -> bool
         }
     }
     is_allowed
+}
+
+/// What rules answer for every path in normal form with this front, `None` where a rule has to be compared with what follows the front.
+pub(crate) fn rules_allow_front(rules: &[Rule], front: &[u8]) -> Option<bool>
+    ensures value { IfSome result (λ allowed. (rest : List ℕ) → allowed ≡ rules_allow rules.now (front.now ++ rest)) }
+    ensures allowed { IfSome result (λ allowed. (rest : List ℕ) → IsTrue allowed ↔ RulesAllow rules.now (front.now ++ rest)) }
+{
+    let mut reached = 0;
+    let mut is_allowed = true;
+    for rule in rules {
+        let octets = rule.octets();
+        if reached <= octets && rule.applies_to_front(front)? {
+            is_allowed = rule.decides(reached, is_allowed);
+            reached = octets;
+        }
+    }
+    Some(is_allowed)
 }
 
 /// The rules in their order, without those that have no octets and those that stand before already.

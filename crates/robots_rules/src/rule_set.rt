@@ -7,8 +7,8 @@ ghost use Rattle.robots_rules.specs.Lines.{lines_in};
 
 use crate::groups::rules_for_us;
 use crate::lines::lines_in;
-use crate::octets::{NormalText, is_normal, write_path};
-use crate::rule::{Rule, kept_rules, rules_allow};
+use crate::octets::{NormalText, split_normal, write_path};
+use crate::rule::{Rule, kept_rules, rules_allow, rules_allow_front};
 use std::alloc::{AllocError, Global};
 use std::marker::Model;
 
@@ -36,7 +36,7 @@ impl Model for RuleSet {
 }
 
 /// What a robots file says to this agent, `wget` (RFC 9309, section 2.2). Only the first 512,000 bytes of the file are used; where it is longer and they do
-/// not end with a line end, their last line is passed over. No file is refused: the only error is want of memory.
+/// not end with a line end, their last line is passed over. Rules that change no answer aren't kept. No file is refused: the only error is want of memory.
 pub fn parse(alloc: Global, file: &[u8]) -> Result<RuleSet, AllocError>
     ensures rules { IfOk result (λ set. set ≡ rules_in file.now) }
     // a rule that isn't kept changes no answer
@@ -84,13 +84,18 @@ impl RuleSet {
         }
         let rules = self.rules();
         if rules.is_empty() {
-            true
-        } else if is_normal(path_query) {
-            rules_allow(rules, path_query.as_bytes())
+            return true;
+        }
+        let (front, rest) = split_normal(path_query);
+        if rest.is_empty() {
+            rules_allow(rules, front)
         } else if path_query.len() <= SHORT_PATH {
             short_is_allowed(rules, path_query)
         } else {
-            long_is_allowed(rules, path_query)
+            match rules_allow_front(rules, front) {
+                Some(is_allowed) => is_allowed,
+                None => long_is_allowed(rules, path_query),
+            }
         }
     }
 
@@ -141,7 +146,8 @@ const SHORT_PATH: usize = 256;
 /// The longest path that is brought into normal form in a buffer at all: that of an address of 8,192 bytes.
 const LONG_PATH: usize = 8_192;
 
-// A function pays for its buffer where it begins, so each buffer has a function to itself.
+// A function pays for its buffer where it begins, so each buffer has a function to itself. The large one is used only where a rule has to be compared with the path
+// behind its front in normal form.
 #[inline(never)]
 fn short_is_allowed(rules: &[Rule], path: &str) -> bool
     ensures value { result ≡ rules_allow rules.now (normal_path path.now) }

@@ -2,6 +2,7 @@
 use crate::input::{ReadFault, read_input};
 use crate::program::run_program;
 use crate::run::run;
+use follow_filters::Plan;
 use local_tree::{Folder, MemoryFolder, WriteFault, names, write_site};
 use options::read_order;
 use site_records::RecordedSite;
@@ -9,8 +10,10 @@ use std::alloc::{AllocError, Global};
 use std::env::Args;
 use std::io;
 use std::io::{Error, ErrorKind, Read, Write};
+use std::sync::Wait;
 use std::test::Fail;
-use workers::retrieve_in_order;
+use std::thread::Threads;
+use workers::{Halt, Harvest, retrieve_in_order};
 
 // A run: its words, its input, what it writes and its status.
 struct Case {
@@ -30,11 +33,7 @@ const MANUAL_WHOLE: &str =
     "1 200 http://h/1.gif h/1.gif\n0 200 http://h/1.html h/1.html\n2 200 http://h/2.gif h/2.gif\n1 200 http://h/2.html h/2.html\n\
 3 200 http://h/3.gif h/3.gif\n2 200 http://h/3.html h/3.html\nfetched 6 kept 6 refused 0 failed 0\n";
 
-const FORBIDDING: &str =
-    "wgetr-record 1\npage http://h/ 90\nHTTP/1.1 200 OK\r\nContent-Type: text/html\r\n\r\n\
-<meta name=robots content=\"a, NONE\"><a href=b>\n";
-
-const CASES: [Case; 45] = [
+const CASES: [Case; 37] = [
     Case {
         name: "one page",
         words: &["--map", "http://h/"],
@@ -331,6 +330,14 @@ page 200 http://h/3\nlink http://h/4\npage 200 http://h/4\nlink http://h/5\npage
         text: "line no-site\n",
         status: 2,
     },
+];
+
+// The same of records.
+const FORBIDDING: &str =
+    "wgetr-record 1\npage http://h/ 90\nHTTP/1.1 200 OK\r\nContent-Type: text/html\r\n\r\n\
+<meta name=robots content=\"a, NONE\"><a href=b>\n";
+
+const RECORDED: [Case; 8] = [
     Case {
         name: "a recorded page, and a link that the record doesn't name",
         words: &["-r", "--record", "http://h/"],
@@ -390,69 +397,103 @@ fault connect http://h/b\nrobots http://h/ 27\nUser-agent: *\nDisallow: /b/\nrul
     },
 ];
 
-#[test]
-fn runs_write_what_was_worked_out(rt: HostRuntime) {
-    for case in &CASES {
-        let name = case.name;
+// The first case that comes out otherwise.
+fn wrong_case<H: Threads + Wait + Sync>(
+    rt: &H,
+    alloc: Global,
+    cases: &[Case],
+) -> Option<&'static str> {
+    for case in cases {
         let mut reader = case.input.as_bytes();
-        let mut written: Vec<u8> = Vec::new(rt.alloc());
-        let status = run(&rt, rt.alloc(), case.words, &mut reader, &mut written);
-        assert!(rt; written.as_slice() == case.text.as_bytes(), "{name}");
-        assert!(rt; status == case.status, "{name}");
+        let mut written: Vec<u8> = Vec::new(alloc);
+        let status = run(rt, alloc, case.words, &mut reader, &mut written);
+        if written.as_slice() != case.text.as_bytes() || status != case.status {
+            return Some(case.name);
+        }
     }
+    None
 }
 
-// A site that is retrieved by any number of workers: its words, its map, and what is written.
+#[test]
+fn runs_write_what_was_worked_out(rt: HostRuntime) {
+    assert_eq!(rt; wrong_case(&rt, rt.alloc(), &CASES), None);
+}
+
+#[test]
+fn runs_of_records_write_what_was_worked_out(rt: HostRuntime) {
+    assert_eq!(rt; wrong_case(&rt, rt.alloc(), &RECORDED), None);
+}
+
+// A site that any number of workers retrieves: an option with its value, what the site is told by, and what is written.
 struct Crew {
-    options: &'static [&'static str],
-    map: &'static str,
+    option: &'static str,
+    value: &'static str,
+    source: &'static str,
+    input: &'static str,
     text: &'static str,
     status: u8,
 }
 
 const CREWS: [Crew; 3] = [
     Crew {
-        options: &["-r", "-l", "2", "--map", "http://h/"],
-        map: "page 200 http://h/\nlink http://h/a\nlink http://h/s/1\nlink http://h/m\npage 200 http://h/a\nlink http://h/b\n\
+        option: "-l",
+        value: "2",
+        source: "--map",
+        input: "page 200 http://h/\nlink http://h/a\nlink http://h/s/1\nlink http://h/m\npage 200 http://h/a\nlink http://h/b\n\
 page 200 http://h/b\nlink http://h/c\nmoved 301 http://h/m http://h/n\nrobots http://h/\ndisallow /s\n",
         text: "0 200 http://h/ h/index.html\n1 200 http://h/a h/a\n2 200 http://h/b h/b\n1 301 http://h/m -\n1 404 http://h/n -\n\
 1 rob http://h/s/1 -\nfetched 5 kept 3 refused 1 failed 1\n",
         status: 8,
     },
     Crew {
-        options: &["-r", "--max-urls", "2", "--map", "http://h/"],
-        map: "page 200 http://h/\nlink http://h/a\nlink http://h/b\n",
+        option: "--max-urls",
+        value: "2",
+        source: "--map",
+        input: "page 200 http://h/\nlink http://h/a\nlink http://h/b\n",
         text: "stopped full\n",
         status: 1,
     },
     Crew {
-        options: &["-r", "--record", "http://h/"],
-        map: FORBIDDING,
+        option: "--per-host",
+        value: "16",
+        source: "--record",
+        input: FORBIDDING,
         text: "0 200 http://h/ h/index.html\nfetched 1 kept 1 refused 0 failed 0\n",
         status: 0,
     },
 ];
 
-#[test]
-fn any_number_of_workers_writes_the_same(rt: HostRuntime) -> Result<(), Fail> {
-    for crew in &CREWS {
-        for count in ["1", "2", "8", "64"] {
-            let mut words = Vec::new(rt.alloc());
-            words.extend_from_slice(&["--workers", count])?;
-            words.extend_from_slice(crew.options)?;
-            let mut written: Vec<u8> = Vec::new(rt.alloc());
-            let status = run(
-                &rt,
-                rt.alloc(),
-                words.as_slice(),
-                &mut crew.map.as_bytes(),
-                &mut written,
-            );
-            assert!(rt; written.as_slice() == crew.text.as_bytes(), "{count}");
-            assert!(rt; status == crew.status, "{count}");
+// The first number of workers for which it comes out otherwise.
+fn wrong_count<H: Threads + Wait + Sync>(
+    rt: &H,
+    alloc: Global,
+    crew: &Crew,
+) -> Option<&'static str> {
+    for count in ["1", "2", "8", "64"] {
+        let words = [
+            "--workers",
+            count,
+            "-r",
+            crew.option,
+            crew.value,
+            crew.source,
+            "http://h/",
+        ];
+        let mut reader = crew.input.as_bytes();
+        let mut written: Vec<u8> = Vec::new(alloc);
+        let status = run(rt, alloc, &words, &mut reader, &mut written);
+        if written.as_slice() != crew.text.as_bytes() || status != crew.status {
+            return Some(count);
         }
     }
-    Ok(())
+    None
+}
+
+#[test]
+fn any_number_of_workers_writes_the_same(rt: HostRuntime) {
+    for crew in &CREWS {
+        assert_eq!(rt; wrong_count(&rt, rt.alloc(), crew), None);
+    }
 }
 
 // The program on its arguments: what it writes, how what a person is told begins, and its status.
@@ -711,29 +752,49 @@ const THREE: &str =
     "wgetr-record 1\npage http://h/ 64\nHTTP/1.1 200 OK\r\nContent-Type: text/html\r\n\r\n<a href=b><a href=c>\n\
 page http://h/b 20\nHTTP/1.1 200 OK\r\n\r\nb\npage http://h/c 20\nHTTP/1.1 200 OK\r\n\r\nc\n";
 
-// Puts the three pages into a folder. Gives how many files were put before the folder failed.
-fn put_three(alloc: Global, folder: &mut MemoryFolder) -> Result<Option<usize>, Fail> {
-    let order = read_order(alloc, &["-r", "--record", "http://h/"])?;
-    let mut site = RecordedSite::read(alloc, THREE.as_bytes(), true)?;
-    let Ok(harvest) = retrieve_in_order(alloc, &order.plan, &mut site) else {
-        return Ok(None);
+// Puts the pages that a retrieval kept into a folder. Gives how many files were put before the folder failed.
+fn put_kept(
+    alloc: Global,
+    folder: &mut MemoryFolder,
+    brought: &Result<Harvest, Halt>,
+) -> Result<usize, AllocError> {
+    let Ok(harvest) = brought else {
+        return Ok(0);
     };
     let given = names(alloc, harvest.kept())?;
-    match write_site(folder, given.as_slice(), &harvest) {
-        Ok(()) => Ok(Some(given.len())),
-        Err(WriteFault::Device(whole)) => Ok(Some(whole)),
+    match write_site(folder, given.as_slice(), harvest) {
+        Ok(()) => Ok(given.len()),
+        Err(WriteFault::Device(whole)) => Ok(whole),
     }
+}
+
+// Retrieves a site and puts what is kept into a folder.
+fn put_site(
+    alloc: Global,
+    folder: &mut MemoryFolder,
+    plan: &Plan,
+    mut site: RecordedSite,
+) -> Result<usize, AllocError> {
+    let brought = retrieve_in_order(alloc, plan, &mut site);
+    put_kept(alloc, folder, &brought)
+}
+
+// Puts the three pages into a folder.
+fn put_three(alloc: Global, folder: &mut MemoryFolder) -> Result<usize, Fail> {
+    let order = read_order(alloc, &["-r", "--record", "http://h/"])?;
+    let site = RecordedSite::read(alloc, THREE.as_bytes(), true)?;
+    Ok(put_site(alloc, folder, &order.plan, site)?)
 }
 
 #[test]
 fn a_put_that_fails_leaves_the_files_before_it_whole(rt: HostRuntime) -> Result<(), Fail> {
     let mut folder = MemoryFolder::failing_at(rt.alloc(), 1);
-    assert!(rt; put_three(rt.alloc(), &mut folder)? == Some(1));
+    assert!(rt; put_three(rt.alloc(), &mut folder)? == 1);
     assert!(rt; folder.file("h/index.html") == Some(b"<a href=b><a href=c>".as_slice()));
     assert!(rt; folder.file("h/c").is_none());
     assert_eq!(rt; folder.failures(), 1);
     let mut folder = MemoryFolder::new(rt.alloc());
-    assert!(rt; put_three(rt.alloc(), &mut folder)? == Some(3));
+    assert!(rt; put_three(rt.alloc(), &mut folder)? == 3);
     assert!(rt; folder.file("h/b") == Some(b"b".as_slice()));
     assert!(rt; folder.file("h/c") == Some(b"c".as_slice()));
     Ok(())

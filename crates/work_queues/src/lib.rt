@@ -7,8 +7,6 @@ mod lists;
 mod pool;
 mod queues;
 mod task;
-#[cfg(test)]
-mod tests;
 
 pub use agenda::Agenda;
 pub use task::Task;

@@ -1,9 +1,8 @@
 -- What the comparison of notes with the table goes by.
-use Rattle.std.proofs.Common.{◌≡◌, ◌≢◌, ℕ, ◌+◌, ◌<◌, ◌≤◌, inl, inr, true, false, Bool, List, [], ◌∷◌, length, get_or, map, take, zero, suc, Some, None, Option, Result, Ok, Err, refl, sym, ap, ◌∙◌, subst, arith}
-use Rattle.std.specs.Prelude.{All, Contains, IsSome, IsTrue, if◌then◌else◌}
+use Rattle.std.proofs.Common.{◌≡◌, ℕ, ◌+◌, ◌<◌, ◌≤◌, inl, inr, true, List, [], ◌∷◌, length, get_or, map, zero, suc, Some, None, Option, Result, Ok, Err, refl, sym, ap, ◌∙◌, subst, arith}
+use Rattle.std.specs.Prelude.{All, Contains, IsSome}
 use Rattle.std.specs.List.{filter_map}
 use Rattle.std.specs.Result.{is_ok}
-use Rattle.std.specs.Str.{bytes_eq}
 use Rattle.std.proofs.lemmas.Bool.{false≢true}
 use Rattle.std.proofs.Math.Nat.{eq-or-lt_of_le}
 use Rattle.std.proofs.lemmas.List.{length-map, get_or-map, get_or_default}
@@ -15,11 +14,11 @@ use Rattle.std.specs.declared.cmp.Ordering.{Ordering}
 use Rattle.std.specs.declared.cmp.Ordering.TheVariants.{Less, Equal, Greater}
 use Rattle.std.proofs.lemmas.List.Elements.{All-nil, All-cons, All-weaker}
 use Rattle.std.proofs.lemmas.List.Kept.{AllPairs-cons}
-use Rattle.frontier_core.specs.Tables.{Text, lookup, IsOnce, keys}
-use Rattle.frontier_core.specs.Machine.{State, Slot, OriginRules, slot_outcome, outcome_in, rules_in}
+use Rattle.frontier_core.specs.Tables.{Text, lookup, IsOnce}
+use Rattle.frontier_core.specs.Machine.{Slot, OriginRules, slot_outcome, outcome_in, rules_in}
 use Rattle.frontier_core.specs.Readers.{record_of, ruled_of}
 use Rattle.frontier_core.proofs.TableLaws.{same, other, compare_texts}
-use Rattle.frontier_core.proofs.RouteLaws.{contains_tail, contains_cases}
+use Rattle.frontier_core.proofs.RouteLaws.{contains_tail}
 use Rattle.fetcher.specs.declared.outcome.Outcome.{Outcome}
 use Rattle.robots_rules.specs.Access.{RuleSetValue}
 use Rattle.harvest.specs.Entries.{recorded_addresses, ruled_origins}

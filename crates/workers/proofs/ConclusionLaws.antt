@@ -1,42 +1,29 @@
 -- From the notes and the table to what a retrieval brings in or leaves.
-use Rattle.std.proofs.Common.{◌≡◌, ◌≢◌, ◌⊎◌, ℕ, ◌<◌, inl, inr, true, false, Bool, ◌&&◌, List, [], ◌∷◌, ◌++◌, length, get_or, map, zero, suc, Some, None, Option, Result, Ok, Err, refl, sym, ap, ◌∙◌, subst, arith}
-use Rattle.std.specs.Prelude.{All, Contains, IsSome, IsTrue, IsPermutation, MatchOption, IfOk, IfErr, OnOk, IsOk}
-use Rattle.std.specs.List.{filter_map, AllZip}
+use Rattle.std.proofs.Common.{◌≡◌, ◌⊎◌, ℕ, inl, inr, true, false, Bool, ◌&&◌, List, [], ◌∷◌, map, zero, suc, Some, None, Option, Result, Ok, Err, refl, sym, ap, ◌∙◌, subst, arith}
+use Rattle.std.specs.Prelude.{All, Contains, IsSome, IsPermutation, MatchOption, IfOk, IfErr, OnOk, IsOk}
+use Rattle.std.specs.List.{filter_map}
 use Rattle.std.specs.Option.{is_some}
 use Rattle.std.proofs.lemmas.Bool.{false≢true}
-use Rattle.std.proofs.lemmas.List.{length-map, get_or-map}
-use Rattle.std.proofs.lemmas.List.Elements.{All-nil, All-cons, All-head, All-tail, All-weaker}
+use Rattle.std.proofs.lemmas.List.Elements.{All-head, All-tail}
 use Rattle.std.proofs.lemmas.List.Sorted.{All-permutation, IsPermutation-map, IsPermutation-sym, IsPermutation-trans, Contains-permutation}
 use Rattle.follow_filters.specs.Rules.{keeps_of}
 use Rattle.follow_filters.specs.declared.plan.Plan.{Plan}
 use Rattle.robots_rules.specs.Access.{RuleSetValue}
 use Rattle.fetcher.specs.declared.fetcher.Ask.{Ask}
 use Rattle.fetcher.specs.declared.outcome.Outcome.{Outcome}
-use Rattle.frontier_core.specs.Tables.{Text, IsOnce, lookup}
-use Rattle.frontier_core.specs.Plans.{policy}
-use Rattle.frontier_core.specs.Machine.{State, answers, IsQuiet, slot, slot_outcome, Out, Nobody, OriginRules, Asked, Known, rules_in}
-use Rattle.frontier_core.specs.Lines.{IsReplay}
-use Rattle.frontier_core.specs.Invariants.{IsComplete, IsGivenUp, AreRulesGivenUp, AreNeeded}
-use Rattle.frontier_core.specs.Routes.{IsNeeded}
-use Rattle.frontier_core.specs.Traced.{Traced}
-use Rattle.frontier_core.specs.declared.event.Cause.{Cause}
+use Rattle.frontier_core.specs.Tables.{Text, IsOnce}
+use Rattle.frontier_core.specs.Machine.{State, answers, slot_outcome}
+use Rattle.frontier_core.specs.Invariants.{IsGivenUp, AreRulesGivenUp}
 use Rattle.frontier_core.proofs.RouteLaws.{contains_tail, contains_cases}
-use Rattle.frontier_core.proofs.Needs.{needed_replay}
-use Rattle.frontier_core.proofs.Runs.{sound_replay, closed_replay}
 use Rattle.workers.specs.declared.note.PageNote.{PageNote}
 use Rattle.workers.specs.declared.note.RulesNote.{RulesNote}
 use Rattle.harvest.specs.declared.page.KeptPage.{KeptPage}
-use Rattle.workers.specs.Asks.{pages_asked, origins_asked, AreOnce, AreRecorded, AreRecordedOrLost, IsTold, IsLost, HasLostRules}
-use Rattle.workers.specs.Concluded.{HasBody, IsConcluded, IsBare}
-use Rattle.harvest.specs.Harvests.{Harvested}
-use Rattle.workers.specs.Noted.{AreNoted, Agrees, StandsPage, StandsRules, page_of, page_with}
-use Rattle.workers.specs.Notes.{IsToldPage, IsToldRules, addresses, origins, body_of}
-use Rattle.harvest.specs.Pages.{IsKept, IsBodyOf, AreKept, is_success}
-use Rattle.workers.specs.Retrieval.{Brings, Leaves, IsLeft}
-use Rattle.harvest.specs.Gathered.{IsHarvestOf}
-use Rattle.workers.specs.Turns.{IsServing, AtEnd, AtStop, IsNothing}
+use Rattle.workers.specs.Asks.{pages_asked, origins_asked, AreOnce, AreRecordedOrLost, IsLost, HasLostRules}
+use Rattle.workers.specs.Concluded.{HasBody}
+use Rattle.workers.specs.Noted.{AreNoted, Agrees, StandsPage, StandsRules, page_of}
+use Rattle.workers.specs.Notes.{IsToldPage, IsToldRules, addresses, origins}
+use Rattle.harvest.specs.Pages.{IsKept, is_success}
 use Rattle.harvest.proofs.OrderLaws.{Apart, Apart-from_once, Apart-IsPermutation}
-use Rattle.workers.proofs.RetrievalLaws.{brings, leaves}
 
 -- ---- orders of texts that stand once
 

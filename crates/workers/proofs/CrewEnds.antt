@@ -1,5 +1,5 @@
 -- What several fetchers bring in or leave, from what was noted and concluded.
-use Rattle.std.proofs.Common.{◌≡◌, ◌≢◌, ◌⊎◌, ℕ, ◌≤◌, inl, inr, true, false, List, [], ◌∷◌, ◌++◌, length, get_or, slice_set, take, arith, Some, None, Result, Ok, Err, refl, sym, ap, ◌∙◌, subst}
+use Rattle.std.proofs.Common.{◌≡◌, ◌≢◌, ◌⊎◌, ℕ, inl, inr, List, [], ◌∷◌, ◌++◌, length, get_or, slice_set, take, arith, Some, Result, Ok, Err, refl, sym, ap, ◌∙◌, subst}
 use Rattle.std.specs.Prelude.{Contains, IfOk, IfErr, IsOk, IsErr}
 use Rattle.std.specs.List.{AllZip}
 use Rattle.std.proofs.lemmas.Bool.{false≢true}
@@ -30,13 +30,13 @@ use Rattle.workers.specs.declared.note.Notes.{Notes}
 use Rattle.workers.specs.Apart.{IsOrdered}
 use Rattle.workers.specs.Asks.{gained, pages_asked, origins_asked, AreOnce}
 use Rattle.workers.specs.Concluded.{IsConcluded, IsBare}
-use Rattle.workers.specs.Crews.{IsLater, AreLater, all_gained, SomeSays, SomeRules, AllFit}
+use Rattle.workers.specs.Crews.{AreLater, all_gained, SomeSays, SomeRules, AllFit}
 use Rattle.harvest.specs.Harvests.{Harvested}
 use Rattle.workers.specs.Noted.{AreNoted}
 use Rattle.workers.specs.Notes.{addresses, origins}
 use Rattle.workers.specs.Retrieval.{Brings, Leaves, IsLeft}
 use Rattle.workers.specs.Seats.{AllGo, fetchers_of, page_notes, rules_notes}
-use Rattle.workers.specs.Sites.{Fits, IsCompleteFor}
+use Rattle.workers.specs.Sites.{IsCompleteFor}
 use Rattle.workers.specs.Turns.{IsNothing}
 use Rattle.workers.proofs.ApartLaws.{same_fetchers}
 use Rattle.workers.proofs.CrewLaws.{crew_later, pages_are_noted, rules_are_noted}

@@ -1,7 +1,6 @@
 -- From what the workers did at their seats to what the fetchers were asked and what they may have said.
-use Rattle.std.proofs.Common.{◌≡◌, ◌⊎◌, ℕ, List, [], ◌∷◌, ◌++◌, length, get_or, map, refl, sym, ap, ◌∙◌, subst, inl, inr, arith, Option, Some, None}
+use Rattle.std.proofs.Common.{◌≡◌, ℕ, List, [], ◌∷◌, ◌++◌, get_or, map, refl, sym, ap, ◌∙◌, subst, inl, inr, arith, Option, Some, None}
 use Rattle.std.specs.Prelude.{All, Contains, MatchOption, IfSome, IsPermutation}
-use Rattle.std.specs.List.{filter_map, AllZip}
 use Rattle.std.proofs.lemmas.List.{map-append, length-map, get_or-map}
 use Rattle.std.proofs.lemmas.List.Elements.{All-append, All-nil, All-weaker, filter_map-append}
 use Rattle.std.proofs.lemmas.List.Sorted.{IsPermutation-refl}
@@ -14,9 +13,9 @@ use Rattle.workers.specs.declared.note.PageNote.{PageNote}
 use Rattle.workers.specs.declared.note.RulesNote.{RulesNote}
 use Rattle.workers.specs.declared.worker.Seat.{Seat}
 use Rattle.workers.specs.Asks.{gained, page_asked, origin_asked, pages_asked, origins_asked}
-use Rattle.workers.specs.Crews.{IsLater, AreLater, all_gained, SomeSays, SomeRules}
+use Rattle.workers.specs.Crews.{AreLater, all_gained, SomeSays, SomeRules}
 use Rattle.workers.specs.Noted.{AreNoted}
-use Rattle.workers.specs.Notes.{Goes, IsToldPage, IsToldRules, addresses, origins, body_of}
+use Rattle.workers.specs.Notes.{IsToldPage, IsToldRules, addresses, origins, body_of}
 use Rattle.workers.specs.Seats.{SeatGoes, AllGo, fetchers_of, page_notes, rules_notes}
 use Rattle.workers.proofs.RetrievalLaws.{gained_is, log_is}
 

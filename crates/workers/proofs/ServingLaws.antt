@@ -1,6 +1,6 @@
 -- From what was noted and concluded to what a retrieval brings in or leaves.
-use Rattle.std.proofs.Common.{◌≡◌, ◌≢◌, ◌⊎◌, ℕ, inl, inr, true, false, Bool, ◌&&◌, List, [], ◌∷◌, map, zero, suc, Some, None, Option, Result, Ok, Err, refl, sym, ap, ◌∙◌, subst, arith}
-use Rattle.std.specs.Prelude.{All, Contains, IsSome, IsTrue, IsPermutation, MatchOption, IfSome, IfOk, IfErr, IsOk, IsErr, if◌then◌else◌}
+use Rattle.std.proofs.Common.{◌≡◌, ℕ, inl, inr, true, false, Bool, ◌&&◌, List, [], ◌∷◌, Some, None, Option, Result, Ok, Err, refl, sym, ap, ◌∙◌, subst}
+use Rattle.std.specs.Prelude.{All, Contains, IsSome, MatchOption, IfSome, IfOk, IfErr, IsOk, IsErr, if◌then◌else◌}
 use Rattle.std.specs.List.{filter_map, AllZip}
 use Rattle.std.specs.Option.{is_some}
 use Rattle.std.proofs.lemmas.Bool.{false≢true}
@@ -12,10 +12,10 @@ use Rattle.fetcher.specs.declared.fetcher.Ask.{Ask}
 use Rattle.fetcher.specs.declared.outcome.Outcome.{Outcome}
 use Rattle.frontier_core.specs.Tables.{Text, lookup}
 use Rattle.frontier_core.specs.Plans.{policy}
-use Rattle.frontier_core.specs.Machine.{State, Slot, answers, IsQuiet, is_done, is_known, slot, slot_outcome, Out, Nobody, OriginRules, Asked, Known, rules_in}
+use Rattle.frontier_core.specs.Machine.{State, Slot, answers, IsQuiet, is_done, is_known, slot, slot_outcome, Out, Nobody, OriginRules, Asked, rules_in}
 use Rattle.frontier_core.specs.Lines.{IsReplay}
 use Rattle.frontier_core.specs.Invariants.{IsComplete, IsGivenUp, AreRulesGivenUp}
-use Rattle.frontier_core.specs.Routes.{Answers, IsNeeded}
+use Rattle.frontier_core.specs.Routes.{Answers}
 use Rattle.workers.specs.Crews.{SomeSays, SomeRules, AllFit}
 use Rattle.workers.specs.Sites.{Fits}
 use Rattle.frontier_core.specs.Traced.{Traced}
@@ -27,16 +27,15 @@ use Rattle.workers.specs.declared.note.PageNote.{PageNote}
 use Rattle.workers.specs.declared.note.RulesNote.{RulesNote}
 use Rattle.harvest.specs.declared.page.KeptPage.{KeptPage}
 use Rattle.workers.specs.declared.retrieval.Halt.{Halt}
-use Rattle.workers.specs.Asks.{pages_asked, origins_asked, AreOnce, AreRecorded, AreRecordedOrLost, IsTold, IsLost, HasLostRules}
+use Rattle.workers.specs.Asks.{pages_asked, origins_asked, IsTold}
 use Rattle.workers.specs.Concluded.{HasBody, IsConcluded, IsBare}
 use Rattle.harvest.specs.Harvests.{Harvested}
 use Rattle.workers.specs.Noted.{AreNoted, Agrees, StandsPage, StandsRules, page_of}
-use Rattle.workers.specs.Notes.{IsToldPage, IsToldRules, addresses, origins, body_of}
-use Rattle.harvest.specs.Pages.{IsKept, IsBodyOf, AreKept, is_success}
+use Rattle.workers.specs.Notes.{IsToldPage, IsToldRules, origins, body_of}
+use Rattle.harvest.specs.Pages.{IsBodyOf, is_success}
 use Rattle.workers.specs.Retrieval.{Brings, Leaves, IsLeft}
-use Rattle.harvest.specs.Gathered.{IsHarvestOf}
-use Rattle.workers.specs.Turns.{IsServing, AtEnd, AtStop, IsNothing}
-use Rattle.workers.proofs.ConclusionLaws.{found_note, once_permutation, noted_moved, once_asked, rules_noted, recorded_or_lost, kept_once, kept_is}
+use Rattle.workers.specs.Turns.{IsServing, AtEnd, AtStop}
+use Rattle.workers.proofs.ConclusionLaws.{found_note, noted_moved, once_asked, rules_noted, recorded_or_lost, kept_once, kept_is}
 use Rattle.workers.proofs.RetrievalLaws.{brings, leaves}
 
 -- what holds of each entry holds of the one that is found

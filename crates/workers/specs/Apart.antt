@@ -1,5 +1,5 @@
 -- Notes of several workers that are put in order where they stand.
-use Rattle.std.specs.Prelude.{◌≡◌, ℕ, List, Contains, IsPermutation}
+use Rattle.std.specs.Prelude.{◌≡◌, List, Contains, IsPermutation}
 use Rattle.frontier_core.specs.Tables.{Text}
 use Rattle.workers.specs.declared.note.Notes.{Notes}
 use Rattle.workers.specs.declared.worker.Seat.{Seat}

@@ -1,14 +1,12 @@
 -- What is concluded from the notes of all workers and the frontier that they left.
-use Rattle.std.specs.Prelude.{◌≡◌, ◌≢◌, ◌⊎◌, ℕ, List, Option, None, Some, All, IsTrue, IsPermutation, MatchOption, ◌&&◌, Bool, true, false, if◌then◌else◌, map}
+use Rattle.std.specs.Prelude.{◌≡◌, List, None, IsPermutation, MatchOption, ◌&&◌}
 use Rattle.std.specs.List.{filter_map}
 use Rattle.std.specs.Option.{is_some}
 use Rattle.follow_filters.specs.Rules.{keeps_of}
 use Rattle.follow_filters.specs.declared.plan.Plan.{Plan}
-use Rattle.frontier_core.specs.Tables.{Text, IsOnce}
-use Rattle.frontier_core.specs.Machine.{IsQuiet}
+use Rattle.frontier_core.specs.Tables.{IsOnce}
 use Rattle.frontier_core.specs.Plans.{policy}
 use Rattle.frontier_core.specs.Lines.{IsReplay}
-use Rattle.frontier_core.specs.Invariants.{IsComplete}
 use Rattle.frontier_core.specs.Traced.{Traced}
 use Rattle.frontier_core.specs.declared.event.Cause.{Cause}
 use Rattle.workers.specs.declared.note.PageNote.{PageNote}

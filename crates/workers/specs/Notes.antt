@@ -1,6 +1,5 @@
 -- What a worker notes of its asks.
 use Rattle.std.specs.Prelude.{◌≡◌, ◌++◌, ℕ, List, map, Option, Some, None, All, IfSome, MatchOption, ◌&&◌, if◌then◌else◌}
-use Rattle.std.specs.List.{flat_map}
 use Rattle.follow_filters.specs.Rules.{keeps_of}
 use Rattle.follow_filters.specs.declared.plan.Plan.{Plan}
 use Rattle.robots_rules.specs.Access.{RuleSetValue}

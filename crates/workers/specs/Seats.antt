@@ -1,5 +1,5 @@
 -- What workers do at their seats.
-use Rattle.std.specs.Prelude.{ℕ, List, [], map}
+use Rattle.std.specs.Prelude.{ℕ, List, map}
 use Rattle.std.specs.List.{AllZip, flat_map}
 use Rattle.follow_filters.specs.declared.plan.Plan.{Plan}
 use Rattle.robots_rules.specs.Access.{RuleSetValue}

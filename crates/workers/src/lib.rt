@@ -15,8 +15,6 @@ mod comparison;
 mod conclusion;
 mod crew;
 mod crew_retrieval;
-#[cfg(test)]
-mod crew_tests;
 mod note;
 mod once;
 mod retrieval;

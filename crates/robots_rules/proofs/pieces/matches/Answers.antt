@@ -1,4 +1,4 @@
-use Rattle.std.proofs.Common.{Some, None, ◌≡◌, ◌∙◌, ◌+◌, List, ℕ, ◌∷◌, ◌++◌, length, take, drop, sym, subst, ap, arith}
+use Rattle.std.proofs.Common.{Some, None, ◌∙◌, ◌+◌, length, take, sym, subst, ap, arith}
 use Rattle.std.proofs.lemmas.List.{take_rest, take_all}
 use Rattle.std.proofs.lemmas.Slice.Eq.{slice_eq-Decides, strip_prefix_is}
 use Rattle.std.proofs.lemmas.Bool.Decides.{Decides-eqb}

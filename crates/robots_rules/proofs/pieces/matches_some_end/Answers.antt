@@ -1,4 +1,4 @@
-use Rattle.std.proofs.Common.{◌≡◌, ℕ, ◌∙◌, ◌+◌, List, ◌∷◌, ◌++◌, length, take, drop, sym, subst, ap, arith, length-drop}
+use Rattle.std.proofs.Common.{◌≡◌, ◌∙◌, ◌+◌, ◌∷◌, ◌++◌, length, take, drop, sym, subst, ap, arith, length-drop}
 use Rattle.std.proofs.lemmas.List.{take_rest, take_all, length-take-le}
 use Rattle.std.proofs.lemmas.Slice.Eq.{ends_is}
 use Rattle.std.proofs.lemmas.Bool.Decides.{Decides-eqb}

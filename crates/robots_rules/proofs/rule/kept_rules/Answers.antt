@@ -1,6 +1,5 @@
-use Rattle.std.proofs.Common.{◌≡◌, ◌≢◌, ◌∙◌, ◌++◌, ◌∷◌, [], true, false, length, map, sym, ap, arith}
+use Rattle.std.proofs.Common.{◌≡◌, ◌≢◌, ◌∙◌, true, false, length, sym, arith}
 use Rattle.std.specs.List.{list_any}
-use Rattle.robots_rules.specs.Groups.{is_same_rule}
 use Rattle.robots_rules.proofs.KeptLemmas.{rule_by, key_eq, rule_by-is, seen-is, keys-new, keys-old, kept-push, with_rule-new, with_rule-none, with_rule-old, false_from_not, true_from_not}
 use Rattle.robots_rules.proofs.rule.kept_rules.Goals as goal
 use Rattle.robots_rules.proofs.rule.kept_rules.Goals.{else-octets-gt0-via-then-octets-gt0+in_ok-key+in_ok-insert+else-branch, else-octets-gt0-via-else-octets-gt0}

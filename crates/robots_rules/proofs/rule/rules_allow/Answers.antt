@@ -1,7 +1,6 @@
 use Rattle.std.proofs.Common.{◌≡◌, ◌↔◌, ◌∙◌, ◌+◌, ◌||◌, ◌&&◌, ◌==◌, [], ◌∷◌, ◌++◌, length, take, IsTrue, arith, ap, sym, subst}
 use Rattle.std.proofs.lemmas.List.{take_more, take_all}
 use Rattle.std.proofs.lemmas.Bool.{both_ways}
-use Rattle.robots_rules.specs.Octets.{normal_path}
 use Rattle.robots_rules.specs.Access.{RuleValue, RulesAllow}
 use Rattle.robots_rules.proofs.AccessLemmas.{AnswersFor, AnswersFor-skip, AnswersFor-take, RulesAllow_from, rules_allow-is, same_truth}
 use Rattle.robots_rules.proofs.rule.rules_allow.Goals as goal

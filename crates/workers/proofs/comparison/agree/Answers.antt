@@ -1,10 +1,5 @@
-use Rattle.std.proofs.Common.{rules, ◌≡◌, ap, sym, ◌∙◌, refl, subst, List}
-use Rattle.std.specs.Prelude.{All, IsTrue}
-use Rattle.workers.specs.declared.note.PageNote.{PageNote}
-use Rattle.workers.specs.declared.note.RulesNote.{RulesNote}
+use Rattle.std.proofs.Common.{refl}
 use Rattle.workers.specs.Notes.{addresses, origins}
-use Rattle.workers.specs.Noted.{StandsPage, StandsRules, Agrees}
-use Rattle.address.specs.AddressOrder.{IsAscending}
 use Rattle.workers.proofs.ComparisonLaws.{once_ascending}
 use Rattle.workers.proofs.comparison.agree.Goals as goal
 

@@ -1,5 +1,4 @@
-use Rattle.std.proofs.Common.{arith, rules, ◌-◌, ◌≡◌, true, sym, ap, ◌∙◌}
-use Rattle.std.specs.Ordering.{is_lt}
+use Rattle.std.proofs.Common.{arith, rules, ◌-◌}
 use Rattle.address.specs.AddressOrder.{IsBefore}
 use Rattle.workers.proofs.ComparisonLaws.{ascends_more, ascends_whole}
 use Rattle.workers.proofs.comparison.ascend.Goals as goal

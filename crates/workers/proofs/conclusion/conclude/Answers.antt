@@ -1,6 +1,5 @@
 use Rattle.std.proofs.Common.{map, ◌≡◌, ◌≢◌, ◌⊎◌, inl, inr, refl, sym, ap, ◌∙◌, subst, List, Some, Err}
 use Rattle.std.specs.Prelude.{All, IsOk}
-use Rattle.std.specs.List.{filter_map}
 use Rattle.std.proofs.lemmas.List.Sorted.{All-permutation, IsPermutation-map, IsPermutation-sym}
 use Rattle.frontier_core.specs.Machine.{answers, IsQuiet}
 use Rattle.frontier_core.specs.Plans.{policy}
@@ -15,12 +14,9 @@ use Rattle.workers.specs.declared.note.RulesNote.{RulesNote}
 use Rattle.harvest.specs.declared.page.KeptPage.{KeptPage}
 use Rattle.workers.specs.Concluded.{HasBody, IsConcluded, IsBare}
 use Rattle.harvest.specs.Harvests.{Harvested}
-use Rattle.workers.specs.Notes.{addresses, origins}
-use Rattle.workers.specs.Noted.{Agrees, page_of}
 use Rattle.harvest.specs.Gathered.{IsHarvestOf}
 use Rattle.workers.specs.Turns.{IsNothing}
 use Rattle.workers.proofs.ConclusionLaws.{once_permutation, kept_once, kept_is, if_ok, if_err, on_ok, on_err}
-use Rattle.workers.proofs.ServingLaws.{crew_brings}
 use Rattle.workers.proofs.conclusion.conclude.Goals as goal
 
 pub returns-in_default-clause-err : goal.returns-in_default-clause-err

@@ -1,5 +1,5 @@
-use Rattle.std.proofs.Common.{◌≡◌, Ok, Err}
-use Rattle.workers.specs.Answered.{IsBrought, IsLeftBy, IsAccount}
+use Rattle.std.proofs.Common.{Err}
+use Rattle.workers.specs.Answered.{IsBrought, IsLeftBy}
 use Rattle.workers.specs.Crews.{SomeSays}
 use Rattle.workers.proofs.CrewEnds.{ok_told, err_told, left_nothing, left_wrong, later_self, none_once, account_all, account_once, all_brought, all_left}
 use Rattle.workers.proofs.ServingLaws.{all_has_body}

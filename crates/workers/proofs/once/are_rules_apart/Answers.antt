@@ -1,4 +1,4 @@
-use Rattle.std.proofs.Common.{arith, ◌≡◌, false}
+use Rattle.std.proofs.Common.{arith}
 use Rattle.std.specs.Prelude.{Contains}
 use Rattle.workers.specs.declared.note.RulesNote.{RulesNote}
 use Rattle.workers.specs.Notes.{origins}

@@ -1,9 +1,6 @@
-use Rattle.std.proofs.Common.{rules, ◌≡◌, [], ◌∷◌, ◌++◌, length, refl, sym, ap, ◌∙◌, subst, None, Some, List}
-use Rattle.fetcher.specs.declared.fetcher.Ask.{Ask}
+use Rattle.std.proofs.Common.{◌≡◌, [], ◌∷◌, ◌++◌, length, refl, sym, ap, ◌∙◌, subst, None, Some}
 use Rattle.fetcher.specs.declared.fetcher.Ask.TheVariants as ask
-use Rattle.workers.specs.declared.note.PageNote.{PageNote}
-use Rattle.workers.specs.declared.note.RulesNote.{RulesNote}
-use Rattle.workers.proofs.Going.{goes_idle, goes_page, goes_rules, not_logged, was_logged, noted_after}
+use Rattle.workers.proofs.Going.{goes_idle, goes_rules, not_logged, was_logged, noted_after}
 use Rattle.workers.proofs.worker.serve_rules.Goals as goal
 
 pub returns-in_default : goal.returns-in_default

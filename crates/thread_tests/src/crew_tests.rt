@@ -1,11 +1,9 @@
 //! Retrievals by several workers: the same as by one, and at the same time.
 ghost use Rattle.std.specs.Prelude.{◌<◌, ◌≤◌};
 
-use crate::script::{page, plan};
-use crate::{Harvest, Retrieved, retrieve};
 use address::{Address, Origin};
-use fetcher::{Answer, Ask, Body, FaultKind, Fetcher, Outcome};
-use follow_filters::Plan;
+use fetcher::{Answer, Ask, Body, Edge, EdgeKind, Edges, FaultKind, Fetcher, Outcome};
+use follow_filters::{Limit, Plan};
 use frontier_core::Cause;
 use robots_rules::RuleSet;
 use site_maps::MapSite;
@@ -16,6 +14,7 @@ use std::sync::atomic::{AtomicU64, Ordering};
 use std::test::Fail;
 use std::thread;
 use std::thread::Threads;
+use workers::{Harvest, Retrieved, retrieve};
 
 /// A map, how many hops its site is followed and how many addresses may be held, and what its retrieval comes to.
 #[derive(Clone, Copy)]
@@ -112,7 +111,7 @@ const LONE: Row = Row {
 ",
 };
 
-// So many copies of a map's site.
+/// So many copies of a map's site.
 fn sites(rt: &impl Abort, alloc: Global, map: &str, count: usize) -> Vec<MapSite> {
     let mut sites = Vec::new(alloc);
     for _ in 0..count {
@@ -122,17 +121,19 @@ fn sites(rt: &impl Abort, alloc: Global, map: &str, count: usize) -> Vec<MapSite
     sites
 }
 
-// The plan of a row, by robots rules.
-fn plan_of(rt: &impl Abort, alloc: Global, row: &Row) -> Plan {
-    if row.most == 0 {
-        panic!(rt; "no address may be held");
+/// A plan without filters from `http://h/` that honours robots rules, so many hops deep and for so many addresses.
+fn plan(rt: &impl Abort, alloc: Global, hops: u8, most: u8) -> Plan {
+    let start = Address::read(alloc, "http://h/").expect(rt, "an address");
+    if start.is_robots_file() || most == 0 {
+        panic!(rt; "no plan");
     }
-    let mut plan = plan(rt, alloc, row.hops, row.most);
+    let limit = Limit::AtMost(u32::from(hops));
+    let mut plan = Plan::unfiltered(alloc, start, limit, u32::from(most));
     plan.robots = true;
     plan
 }
 
-// The word of an entry that isn't answered by a response.
+/// The word of an entry that isn't answered by a response.
 fn word(harvest: &Harvest, is_refused: bool, answer: Option<usize>) -> &'static str {
     if is_refused {
         return "rob ";
@@ -146,7 +147,7 @@ fn word(harvest: &Harvest, is_refused: bool, answer: Option<usize>) -> &'static 
     }
 }
 
-// A line for each entry.
+/// A line for each entry.
 fn report(rt: &impl Abort, alloc: Global, harvest: &Harvest) -> String {
     let mut text = String::new(alloc);
     for entry in harvest.entries() {
@@ -157,7 +158,7 @@ fn report(rt: &impl Abort, alloc: Global, harvest: &Harvest) -> String {
     text
 }
 
-// How many pages, and the rules of how many origins, all fetchers together were asked for.
+/// How many pages, and the rules of how many origins, all fetchers together were asked for.
 fn asked(fetchers: &[MapSite]) -> (usize, usize) {
     let (mut pages, mut rules) = (0usize, 0usize);
     for site in fetchers {
@@ -171,10 +172,10 @@ fn asked(fetchers: &[MapSite]) -> (usize, usize) {
     (pages, rules)
 }
 
-// So many workers come to the row's report, and ask for just what is recorded.
+/// So many workers come to the row's report, and ask for just what is recorded.
 fn comes_to(rt: &(impl Abort + Threads + Wait + Sync), alloc: Global, row: &Row, workers: usize) {
     let sites = sites(rt, alloc, row.map, workers);
-    let plan = plan_of(rt, alloc, row);
+    let plan = plan(rt, alloc, row.hops, row.most);
     assert!(rt; 0 < sites.len() && sites.len() <= 64);
     let Ok(found) = retrieve(rt, alloc, &plan, sites) else {
         panic!(rt; "stopped");
@@ -213,7 +214,7 @@ fn a_full_table_stops_all_workers(rt: HostRuntime) {
     }
 }
 
-// Answers a page other than the start only once as many are being asked for as there are links.
+/// Answers a page other than the start only once as many are being asked for as there are links.
 #[derive(Drop)]
 struct Meeting<'a> {
     alloc: Global,
@@ -270,7 +271,18 @@ impl<'a> Fetcher for Meeting<'a> {
     }
 }
 
-// How many faults were recorded.
+/// A page with links to these addresses.
+fn page(rt: &impl Abort, alloc: Global, links: &[&str]) -> Outcome {
+    let mut edges = Vec::new(alloc);
+    for link in links {
+        let target = Address::read(alloc, link).expect(rt, "an address");
+        let kind = EdgeKind::Link;
+        edges.push(Edge { target, kind }).expect(rt, "memory");
+    }
+    Outcome::Page(200, Edges::new(edges).expect(rt, "memory"))
+}
+
+/// How many faults were recorded.
 fn faults(harvest: &Harvest) -> usize {
     let mut faults = 0usize;
     for (_, outcome) in harvest.records() {
@@ -281,7 +293,7 @@ fn faults(harvest: &Harvest) -> usize {
     faults
 }
 
-// So many workers over a front page with as many links, each answered only once all are being asked for.
+/// So many workers over a front page with as many links, each answered only once all are being asked for.
 fn meet(
     rt: &(impl Abort + Threads + Wait + Sync),
     alloc: Global,

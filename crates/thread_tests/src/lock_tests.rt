@@ -1,9 +1,9 @@
 //! A frontier behind a lock: what each call does with ample memory, and that a worker sleeps until another is done.
-use crate::{Done, FrontierLock, Held, Refused};
 use address::Address;
 use fetcher::{Edge, EdgeKind, Edges, Outcome};
 use follow_filters::{Limit, Plan};
 use frontier_core::{Cause, Frontier, Permit, Work};
+use frontier_lock::{Done, FrontierLock, Held, Refused};
 use std::alloc::Global;
 use std::process::Abort;
 use std::sync::Wait;

@@ -1,8 +1,8 @@
 //! Numbers by label, before and after one is lowered, and by what is left to do.
-use crate::{Agenda, Task};
 use address::{Address, Origin};
 use std::alloc::Global;
 use std::test::Fail;
+use work_queues::{Agenda, Task};
 
 // What is added, each with its origin's address and its label. Then number 6 is lowered to 3.
 const ADDED: [(&str, u32); 10] = [

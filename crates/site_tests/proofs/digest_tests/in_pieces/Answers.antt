@@ -1,7 +1,7 @@
 -- A digester that took the head of a response has one.
 use Rattle.std.proofs.Common.{inl}
 use Rattle.site_answer.proofs.DigestLemmas.{stage_has_head}
-use Rattle.site_answer.proofs.digest_tests.in_pieces.Goals as goal
+use Rattle.site_tests.proofs.digest_tests.in_pieces.Goals as goal
 
 pub finish-requires : goal.finish-requires
 finish-requires c =

@@ -1,6 +1,6 @@
 //! A table of two addresses: what each offer answers, and what is read back.
-use crate::{LabelFault, Labels, Offer};
 use address::Address;
+use depth_labels::{LabelFault, Labels, Offer};
 use std::test::Fail;
 
 #[test]
