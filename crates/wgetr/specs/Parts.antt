@@ -1,5 +1,5 @@
 -- What the parts of a run come to.
-use Rattle.std.specs.Prelude.{◌≡◌, ◌≤◌, ◌<◌, ◌⊎◌, ◌++◌, ℕ, Bool, true, false, List, [], length, map, codes, Option, Result, Ok, Err, IfSome}
+use Rattle.std.specs.Prelude.{◌≡◌, ◌≤◌, ◌<◌, ◌⊎◌, ◌++◌, ◌&&◌, ℕ, Bool, true, false, List, [], length, map, codes, Option, Result, Ok, Err, IfSome}
 use Rattle.std.specs.Io.KnownBytes.{Appends}
 use Rattle.options.specs.declared.order.Order.{Order}
 use Rattle.fetcher.specs.Sites.{SiteAnswers}
@@ -7,9 +7,13 @@ use Rattle.site_maps.specs.declared.input_fault.InputFault.{InputFault}
 use Rattle.frontier_core.specs.Invariants.{IsSound}
 use Rattle.frontier_core.specs.Plans.{policy}
 use Rattle.frontier_core.specs.Routes.{Answers}
+use Rattle.frontier_core.specs.declared.event.Cause.{Cause}
+use Rattle.frontier_core.specs.declared.event.Cause.TheVariants as cause
 use Rattle.frontier_core.specs.declared.event.Event.{Event}
 use Rattle.harvest.specs.Gathered.{AreEntries, AreRecords, ArePages}
 use Rattle.harvest.specs.Harvests.{Harvested}
+use Rattle.workers.specs.declared.crew_retrieval.Retrieved.{Retrieved}
+use Rattle.workers.specs.declared.crew_retrieval.Stopped.{Stopped as StoppedCrew}
 use Rattle.workers.specs.declared.retrieval.Halt.{Halt}
 use Rattle.local_tree.specs.Names.{IsNaming}
 use Rattle.local_tree.specs.PlainNames.{plain_name_of}
@@ -68,14 +72,25 @@ abbrev pub shown_of : Bool → List Event → List Event
 shown_of true trace = trace
 shown_of false trace = []
 
+-- whether the checks of a retrieval that stopped for this cause bear out what it found
+abbrev pub is_borne_out : Cause → Bool
+is_borne_out cause.Full = true
+is_borne_out cause.Memory = true
+is_borne_out cause.Mismatch = false
+
+-- what a crew brings, without its fetchers
+abbrev pub brought_by : {F : Type 0} → Result (Retrieved F) (StoppedCrew F) → Result Harvested Halt
+brought_by (Ok r) = Ok r.harvest
+brought_by (Err s) = Err (record { cause = s.cause; harvest = s.harvest })
+
 -- what is told of a retrieval: its report, in which the kept pages have their names, and the status of its records, or the
--- cause for which it stopped; before either what is shown of its trace
+-- cause for which it stopped; before either what is shown of its trace, which is nothing where a check failed
 abbrev pub IsToldOf : Bool → Result Harvested Halt → List ℕ → ℕ → Type 0
 IsToldOf is_shown (Ok h) text status =
     (names : List (List ℕ)) × IsNaming (map plain_name_of h.kept) names × (text ≡ trace_text (shown_of is_shown h.trace) ++ report_text (harvest_lines h names))
     × (status ≡ exit_status (map (λ recorded. recorded.1) h.records))
 IsToldOf is_shown (Err halt) text status =
-    (text ≡ trace_text (shown_of is_shown halt.harvest.trace) ++ finish_text (Stopped halt.cause)) × (status ≡ 1)
+    (text ≡ trace_text (shown_of (is_borne_out halt.cause && is_shown) halt.harvest.trace) ++ finish_text (Stopped halt.cause)) × (status ≡ 1)
 
 -- what is said of a harvest beside its contents: the entries, the records and the kept pages say what its state holds,
 -- which is sound

@@ -1,5 +1,5 @@
 -- What a retrieval of a site comes to, with what is shown of its trace.
-use Rattle.std.specs.Prelude.{◌≡◌, ◌⊎◌, Bool, true, false, List, [], Some}
+use Rattle.std.specs.Prelude.{◌≡◌, ◌≢◌, ◌⊎◌, ℕ, Bool, true, false, List, [], Some}
 use Rattle.follow_filters.specs.declared.plan.Plan.{Plan}
 use Rattle.options.specs.declared.order.Order.{Order}
 use Rattle.fetcher.specs.declared.outcome.Outcome.{Outcome}
@@ -21,10 +21,15 @@ pub record IsPartOf (m whole : Answers) : Type 0 where
   pub outcomes : (u : Text) (x : Outcome) → m.outcome u ≡ Some x → whole.outcome u ≡ Some x
   pub rules : (o : Text) (rules : RuleSetValue) → m.rules o ≡ Some rules → whole.rules o ≡ Some rules
 
--- the events are those of a frontier that goes by the plan, is told what the site has, and is left in such a state; one
--- worker drives it
-abbrev pub AreEventsOf : Plan → Answers → (State → Type 0) → List Event → Type 0
-AreEventsOf plan whole IsSuch events = AreByOne events × (s : State) × IsReplay (policy plan) events s × IsPartOf (answers s) whole × IsSuch s
+-- the events are of so many workers: where it is one, they name no other
+abbrev pub AreBy : ℕ → List Event → Type 0
+AreBy workers events = workers ≡ 1 → AreByOne events
+
+-- the events are those of a frontier that goes by the plan, is told what the site has, and is left in such a state; so many
+-- workers drive it, of which several may come in any order
+abbrev pub AreEventsOf : ℕ → Plan → Answers → (State → Type 0) → List Event → Type 0
+AreEventsOf workers plan whole IsSuch events =
+    AreBy workers events × (s : State) × IsReplay (policy plan) events s × IsPartOf (answers s) whole × IsSuch s
 
 -- what is shown are such events, where they are to be shown, else none
 abbrev pub AreShown : Bool → (List Event → Type 0) → List Event → Type 0
@@ -41,12 +46,12 @@ pub data Finish : Type 0 where
   Stopped : Cause → Finish
 
 -- the retrieval that is ordered of a site comes to this, and this is shown of its trace; where memory was short there
--- may be nothing to show
+-- may be nothing to show. A check of several workers may fail; one worker has none
 abbrev pub Finishes : Order → Answers → List Event → Finish → Type 0
 Finishes order whole shown (Reported lines) =
-    AreLines (policy order.plan) whole lines × AreNamed order.plan lines × AreShown order.trace (AreEventsOf order.plan whole IsQuiet) shown
+    AreLines (policy order.plan) whole lines × AreNamed order.plan lines × AreShown order.trace (AreEventsOf order.workers order.plan whole IsQuiet) shown
 Finishes order whole shown (Stopped cause.Full) =
-    HasTooMany (policy order.plan) whole × AreShown order.trace (AreEventsOf order.plan whole (HasStopped cause.Full)) shown
+    HasTooMany (policy order.plan) whole × AreShown order.trace (AreEventsOf order.workers order.plan whole (HasStopped cause.Full)) shown
 Finishes order whole shown (Stopped cause.Memory) =
-    (shown ≡ []) ⊎ AreShown order.trace (AreEventsOf order.plan whole (HasStopped cause.Memory)) shown
-Finishes order whole shown (Stopped cause.Mismatch) = ⊥
+    (shown ≡ []) ⊎ AreShown order.trace (AreEventsOf order.workers order.plan whole (HasStopped cause.Memory)) shown
+Finishes order whole shown (Stopped cause.Mismatch) = (order.workers ≢ 1) × (shown ≡ [])

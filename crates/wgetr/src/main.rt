@@ -4,6 +4,7 @@
 #![tactic(auto)]
 
 mod advice;
+mod copies;
 mod fault;
 mod input;
 mod interruption;
@@ -21,6 +22,7 @@ use std::process::ExitCode;
 
 fn main(rt: HostRuntime) -> ExitCode {
     let status = run_program(
+        &rt,
         rt.alloc(),
         env::args(&rt),
         &mut rt.stdin(),

@@ -18,6 +18,8 @@ use std::alloc::{AllocError, Global};
 use std::env::Args;
 use std::io;
 use std::io::{ErrorKind, Read, Write};
+use std::sync::Wait;
+use std::thread::Threads;
 
 // All words of the command line, the program's name first.
 fn all_words(alloc: Global, args: Args) -> Result<Vec<String>, AllocError>
@@ -91,7 +93,8 @@ fn explain_words<E: Write>(alloc: Global, words: &[&str], errors: &mut E)
 }
 
 // Runs on these words, the program's name first.
-fn run_words<R: Read, W: Write, E: Write>(
+fn run_words<H: Threads + Wait + Sync, R: Read, W: Write, E: Write>(
+    rt: &H,
     alloc: Global,
     all: &[String],
     reader: &mut R,
@@ -106,14 +109,15 @@ fn run_words<R: Read, W: Write, E: Write>(
     match texts_behind(alloc, all) {
         Ok(words) => {
             explain_words(alloc, words.as_slice(), errors);
-            run(alloc, words.as_slice(), reader, writer)
+            run(rt, alloc, words.as_slice(), reader, writer)
         }
         Err(_) => refuse(alloc, Fault::Memory, writer),
     }
 }
 
 // Runs on the arguments of the program.
-fn run_args<R: Read, W: Write, E: Write>(
+fn run_args<H: Threads + Wait + Sync, R: Read, W: Write, E: Write>(
+    rt: &H,
     alloc: Global,
     args: Args,
     reader: &mut R,
@@ -127,7 +131,7 @@ fn run_args<R: Read, W: Write, E: Write>(
     ensures quiet { AreForInput (words_behind (into_iter_items args)) → errors.new ≡ errors.old }
 {
     match all_words(alloc, args) {
-        Ok(all) => run_words(alloc, all.as_slice(), reader, writer, errors),
+        Ok(all) => run_words(rt, alloc, all.as_slice(), reader, writer, errors),
         Err(_) => refuse(alloc, Fault::Memory, writer),
     }
 }
@@ -136,7 +140,8 @@ fn run_args<R: Read, W: Write, E: Write>(
 /// What is wrong with words that order no site of an input is told to a person on `errors`; where the writer of that fails a
 /// front of it may be written, and nothing is written there of words for an input. Arguments that can't be had, since one isn't
 /// text or memory ran out, end the program as refused words do, with no byte read. Answers the status.
-pub fn run_program<R: Read, W: Write, E: Write>(
+pub fn run_program<H: Threads + Wait + Sync, R: Read, W: Write, E: Write>(
+    rt: &H,
     alloc: Global,
     args: io::Result<Args>,
     reader: &mut R,
@@ -153,7 +158,7 @@ pub fn run_program<R: Read, W: Write, E: Write>(
     ensures untouched { IfErr args (λ error. reader.new ≡ reader.old) }
 {
     match args {
-        Ok(args) => run_args(alloc, args, reader, writer, errors),
+        Ok(args) => run_args(rt, alloc, args, reader, writer, errors),
         Err(error) => {
             let fault = words_fault(&error);
             explain(alloc, fault, &[], errors);

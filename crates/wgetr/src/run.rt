@@ -1,5 +1,5 @@
 //! A run: from the words and the input to what is written.
-ghost use Rattle.std.specs.Prelude.{◌≡◌, ◌≢◌, ◌++◌, ℕ, List, IfOk, IfErr, OnOk, map, string_bytes};
+ghost use Rattle.std.specs.Prelude.{◌≡◌, ◌≢◌, ◌++◌, ◌&&◌, ℕ, List, IfOk, IfErr, OnOk, map, string_bytes};
 ghost use Rattle.site_maps.specs.Maps.{says_of, IsFault as IsFaultOfMap};
 ghost use Rattle.site_records.specs.Records.{says_of as record_says, IsFault as IsFaultOfRecord};
 ghost use Rattle.frontier_core.specs.Routes.{Answers};
@@ -9,19 +9,20 @@ ghost use Rattle.local_tree.specs.PlainNames.{plain_name_of};
 ghost use Rattle.report.specs.Entries.{lines_of};
 ghost use Rattle.report.specs.Report.{report_text};
 ghost use Rattle.wgetr.specs.Order.{AreForInput};
-ghost use Rattle.wgetr.specs.Retrieved.{Stopped};
+ghost use Rattle.wgetr.specs.Retrieved.{Stopped as StoppedFor};
 ghost use Rattle.wgetr.specs.Site.{IsMapOf, IsRecordOf, IsToldBy, IsWrongBy, without_bodies};
 ghost use Rattle.wgetr.specs.Trace.{trace_text};
-ghost use Rattle.wgetr.specs.Parts.{TellsOf, TellsFault, IsOutput, IsOutputOf, IsDelivered, IsRefusal, IsRead, IsToldOf, shown_of};
+ghost use Rattle.wgetr.specs.Parts.{TellsOf, TellsFault, IsOutput, IsOutputOf, IsDelivered, IsRefusal, IsRead, IsToldOf, brought_by, is_borne_out, shown_of};
 ghost use Rattle.wgetr.specs.Run.{EndsFor, Ending, Failed, Runs, ending_text, ending_status, finish_text};
 
+use crate::copies::{Copied, copies_of};
 use crate::fault::{Fault, fault_text};
 use crate::input::{MAX_INPUT, read_input};
 use crate::order::input_order;
 use crate::output::write_text;
 use crate::trace::{cause_word, push_trace};
 use fetcher::Fetcher;
-use frontier_core::Event;
+use frontier_core::{Cause, Event};
 use local_tree::names;
 use options::{Order, Source};
 use report::{exit_status, report_text};
@@ -29,7 +30,9 @@ use site_maps::MapSite;
 use site_records::RecordedSite;
 use std::alloc::{AllocError, Global};
 use std::io::{Read, Write};
-use workers::{Halt, Harvest, retrieve_in_order};
+use std::sync::Wait;
+use std::thread::Threads;
+use workers::{Halt, Harvest, Retrieved, Stopped, retrieve_in_order};
 
 // The site of the map that is the input.
 fn map_of<R: Read>(alloc: Global, reader: &mut R) -> Result<MapSite, Fault>
@@ -79,11 +82,22 @@ fn harvest_text(alloc: Global, is_shown: bool, harvest: &Harvest) -> Result<Stri
     Ok(text)
 }
 
-// The text of a retrieval that stopped: its trace, where it is to be shown, and the line of the cause.
+// Whether the checks of a retrieval that stopped for this cause bear out what it found.
+fn is_borne_out(cause: Cause) -> bool
+    ensures { result ≡ is_borne_out cause }
+{
+    match cause {
+        Cause::Full | Cause::Memory => true,
+        Cause::Mismatch => false,
+    }
+}
+
+// The text of a retrieval that stopped: its trace, where it is to be shown and no check failed, and the line of the cause.
 fn halt_text(alloc: Global, is_shown: bool, halt: &Halt) -> Result<String, AllocError>
-    ensures { IfOk result (λ text. string_bytes text ≡ trace_text (shown_of is_shown halt.now.harvest.trace) ++ finish_text (Stopped halt.now.cause)) }
+    ensures { IfOk result (λ text. string_bytes text ≡ trace_text (shown_of (is_borne_out halt.now.cause && is_shown) halt.now.harvest.trace) ++ finish_text (StoppedFor halt.now.cause)) }
 {
     let mut text = String::new(alloc);
+    let is_shown = is_borne_out(halt.cause) && is_shown;
     push_shown(&mut text, is_shown, halt.harvest.trace())?;
     let word = cause_word(halt.cause);
     writeln!(text, "stopped {word}")?;
@@ -117,55 +131,132 @@ fn told_of(
     }
 }
 
-// What is told of the retrieval of a site that gives each address one outcome, and each origin one rule set.
-fn retrieve<F: Fetcher>(alloc: Global, order: &Order, mut site: F) -> Result<Output, AllocError>
+// What is told of the retrieval by one worker.
+fn retrieve_alone<F: Fetcher>(
+    alloc: Global,
+    order: &Order,
+    mut site: F,
+) -> Result<Output, AllocError>
     ensures { (whole : Answers) → Fits (F.says (F.site site)) (F.rules (F.site site)) whole → IfOk result (λ output. IsOutputOf order.now whole (string_bytes output.text) output.status) }
 {
     let brought = retrieve_in_order(alloc, &order.plan, &mut site);
     told_of(alloc, order.trace, &brought)
 }
 
+// What a crew brings, without its fetchers.
+fn brought_by<F: Drop>(crew: Result<Retrieved<F>, Stopped<F>>) -> Result<Harvest, Halt>
+    ensures { result ≡ brought_by crew }
+{
+    match crew {
+        Ok(retrieved) => {
+            let Retrieved {
+                harvest,
+                fetchers: _,
+            } = retrieved;
+            Ok(harvest)
+        }
+        Err(stopped) => {
+            let Stopped {
+                cause,
+                harvest,
+                fetchers: _,
+            } = stopped;
+            Err(Halt { cause, harvest })
+        }
+    }
+}
+
+// What is told of the retrieval by several workers, each with a copy of the site.
+fn retrieve_together<H: Threads + Wait + Sync, F: Copied>(
+    rt: &H,
+    alloc: Global,
+    order: &Order,
+    site: &F,
+) -> Result<Output, AllocError>
+    requires { order.now.workers ≢ 1 }
+    ensures { (whole : Answers) → Fits (F.says (F.site site.now)) (F.rules (F.site site.now)) whole → IfOk result (λ output. IsOutputOf order.now whole (string_bytes output.text) output.status) }
+{
+    let copies = copies_of(alloc, site, order.workers)?;
+    let brought = brought_by(workers::retrieve(rt, alloc, &order.plan, copies));
+    told_of(alloc, order.trace, &brought)
+}
+
+// What is told of the retrieval of a site that gives each address one outcome, and each origin one rule set.
+fn retrieve<H: Threads + Wait + Sync, F: Copied>(
+    rt: &H,
+    alloc: Global,
+    order: &Order,
+    site: F,
+) -> Result<Output, AllocError>
+    ensures { (whole : Answers) → Fits (F.says (F.site site)) (F.rules (F.site site)) whole → IfOk result (λ output. IsOutputOf order.now whole (string_bytes output.text) output.status) }
+{
+    if order.workers == 1 {
+        return retrieve_alone(alloc, order, site);
+    }
+    retrieve_together(rt, alloc, order, &site)
+}
+
 // What is told of the retrieval of the map that is the input.
-fn output_of_map<R: Read>(alloc: Global, order: &Order, reader: &mut R) -> Result<Output, Fault>
+fn output_of_map<H: Threads + Wait + Sync, R: Read>(
+    rt: &H,
+    alloc: Global,
+    order: &Order,
+    reader: &mut R,
+) -> Result<Output, Fault>
     ensures ok { IfOk result (λ output. IsOutput IsMapOf order.now (R.remaining reader.old) (string_bytes output.text) output.status) }
     ensures err { IfErr result (TellsFault IsFaultOfMap (R.remaining reader.old)) }
 {
     let site = map_of(alloc, reader)?;
-    Ok(retrieve(alloc, order, site)?)
+    Ok(retrieve(rt, alloc, order, site)?)
 }
 
 // What is told of the retrieval of the record that is the input.
-fn output_of_record<R: Read>(alloc: Global, order: &Order, reader: &mut R) -> Result<Output, Fault>
+fn output_of_record<H: Threads + Wait + Sync, R: Read>(
+    rt: &H,
+    alloc: Global,
+    order: &Order,
+    reader: &mut R,
+) -> Result<Output, Fault>
     ensures ok { IfOk result (λ output. IsOutput (IsRecordOf order.now.plan.robots) order.now (R.remaining reader.old) (string_bytes output.text) output.status) }
     ensures err { IfErr result (TellsFault (IsFaultOfRecord order.now.plan.robots) (R.remaining reader.old)) }
 {
     let site = record_of(alloc, reader, order.plan.robots)?;
-    Ok(retrieve(alloc, order, site)?)
+    Ok(retrieve(rt, alloc, order, site)?)
 }
 
 // What is told of the retrieval of the input, which is what the order's source says.
-fn output_of_input<R: Read>(alloc: Global, order: &Order, reader: &mut R) -> Result<Output, Fault>
+fn output_of_input<H: Threads + Wait + Sync, R: Read>(
+    rt: &H,
+    alloc: Global,
+    order: &Order,
+    reader: &mut R,
+) -> Result<Output, Fault>
     requires input { order.now.source ≢ Source.Live }
     ensures ok { IfOk result (λ output. IsOutput (IsToldBy order.now.source order.now.plan.robots) order.now (R.remaining reader.old) (string_bytes output.text) output.status) }
     ensures err { IfErr result (TellsFault (IsWrongBy order.now.source order.now.plan.robots) (R.remaining reader.old)) }
 {
     match order.source {
-        Source::Map => output_of_map(alloc, order, reader),
-        Source::Recorded => output_of_record(alloc, order, reader),
+        Source::Map => output_of_map(rt, alloc, order, reader),
+        Source::Recorded => output_of_record(rt, alloc, order, reader),
         Source::Live => unreachable!(),
     }
 }
 
 // What is told of the retrieval that the words order of the input.
 // No byte is read where the words order no site of an input.
-fn output_of<R: Read>(alloc: Global, words: &[&str], reader: &mut R) -> Result<Output, Fault>
+fn output_of<H: Threads + Wait + Sync, R: Read>(
+    rt: &H,
+    alloc: Global,
+    words: &[&str],
+    reader: &mut R,
+) -> Result<Output, Fault>
     ensures ok { IfOk result (λ output. (ending : Ending) × EndsFor (map (λ word. word.now) words.now) (R.remaining reader.old) ending
         × (string_bytes output.text ≡ ending_text ending) × (output.status ≡ ending_status ending)) }
     ensures err { IfErr result (λ fault. EndsFor (map (λ word. word.now) words.now) (R.remaining reader.old) (Failed fault)) }
     ensures unread { ¬ AreForInput (map (λ word. word.now) words.now) → reader.new ≡ reader.old }
 {
     let order = input_order(alloc, words)?;
-    output_of_input(alloc, &order, reader)
+    output_of_input(rt, alloc, &order, reader)
 }
 
 // Writes a text, and gives the status of the run: this one, or 1 where the writer fails.
@@ -189,16 +280,23 @@ pub(crate) fn refuse<W: Write>(alloc: Global, fault: Fault, writer: &mut W) -> u
 }
 
 /// Runs the program: reads its words as an order, then the whole input as a map, or as a record where the order says so,
-/// retrieves what the order's plan says, and writes the report or one line of words; the first fault ends it. Where the order
+/// retrieves what the order's plan says with as many workers as the order has, and writes the report or one line of words; the
+/// first fault ends it. The report is the same for each number of workers. Where the order
 /// asks for the trace, its lines stand before the report, or before the line of a retrieval that stopped. Answers the status:
 /// that of [`exit_status`] for a report, 2 where the words or the input are wrong or the site is on the network, 1 where the reader or the writer
-/// fails, more addresses are found than may be held, or memory runs out. Where the writer fails a front of the text may be
+/// fails, more addresses are found than may be held, memory runs out, or a check of several workers fails. Where the writer fails a front of the text may be
 /// written. Words that order no site of an input end the run before the first byte is read.
-pub fn run<R: Read, W: Write>(alloc: Global, words: &[&str], reader: &mut R, writer: &mut W) -> u8
+pub fn run<H: Threads + Wait + Sync, R: Read, W: Write>(
+    rt: &H,
+    alloc: Global,
+    words: &[&str],
+    reader: &mut R,
+    writer: &mut W,
+) -> u8
     ensures runs { Runs (map (λ word. word.now) words.now) (R.remaining reader.old) (W.contents writer.old) (W.contents writer.new) result }
     ensures unread { ¬ AreForInput (map (λ word. word.now) words.now) → reader.new ≡ reader.old }
 {
-    match output_of(alloc, words, reader) {
+    match output_of(rt, alloc, words, reader) {
         Ok(output) => deliver(writer, output.text.as_bytes(), output.status),
         Err(fault) => refuse(alloc, fault, writer),
     }

@@ -10,7 +10,9 @@ use std::alloc::{AllocError, Global};
 use std::env::Args;
 use std::io;
 use std::io::{Error, ErrorKind, Read, Write};
+use std::sync::Wait;
 use std::test::Fail;
+use std::thread::Threads;
 use workers::{Halt, Harvest, retrieve_in_order};
 
 // A run: its words, its input, what it writes and its status.
@@ -132,7 +134,7 @@ fetched 4 kept 2 refused 0 failed 0\n",
     },
     Case {
         name: "an address that robots rules refuse, behind a trace",
-        words: &["-r", "--trace", "--map", "http://h/"],
+        words: &["-r", "--trace", "--workers", "1", "--map", "http://h/"],
         input: "page 200 http://h/\nlink http://h/s/1\nlink http://h/t\nleaf 200 http://h/s/1\nleaf 200 http://h/t\n\
 robots http://h/\ndisallow /s\n",
         text: "opened http://h/\npage 0 http://h/\nanswer 0 http://h/\nspread 0 http://h/ 2\nrules 0 http://h\nruled 0 http://h\n\
@@ -173,6 +175,8 @@ answer 0 http://h/m\nspread 1 http://h/m 1\npage 0 http://h/n\nanswer 0 http://h
         words: &[
             "-r",
             "--trace",
+            "--workers",
+            "1",
             "--max-urls",
             "1",
             "-e",
@@ -394,11 +398,15 @@ fault connect http://h/b\nrobots http://h/ 27\nUser-agent: *\nDisallow: /b/\nrul
 ];
 
 // The first case that comes out otherwise.
-fn wrong_case(alloc: Global, cases: &[Case]) -> Option<&'static str> {
+fn wrong_case<H: Threads + Wait + Sync>(
+    rt: &H,
+    alloc: Global,
+    cases: &[Case],
+) -> Option<&'static str> {
     for case in cases {
         let mut reader = case.input.as_bytes();
         let mut written: Vec<u8> = Vec::new(alloc);
-        let status = run(alloc, case.words, &mut reader, &mut written);
+        let status = run(rt, alloc, case.words, &mut reader, &mut written);
         if written.as_slice() != case.text.as_bytes() || status != case.status {
             return Some(case.name);
         }
@@ -408,12 +416,65 @@ fn wrong_case(alloc: Global, cases: &[Case]) -> Option<&'static str> {
 
 #[test]
 fn runs_write_what_was_worked_out(rt: HostRuntime) {
-    assert_eq!(rt; wrong_case(rt.alloc(), &CASES), None);
+    assert_eq!(rt; wrong_case(&rt, rt.alloc(), &CASES), None);
 }
 
 #[test]
 fn runs_of_records_write_what_was_worked_out(rt: HostRuntime) {
-    assert_eq!(rt; wrong_case(rt.alloc(), &RECORDED), None);
+    assert_eq!(rt; wrong_case(&rt, rt.alloc(), &RECORDED), None);
+}
+
+// A site that is retrieved by any number of workers: its words, its map, and what is written.
+struct Crew {
+    options: &'static [&'static str],
+    map: &'static str,
+    text: &'static str,
+    status: u8,
+}
+
+const CREWS: [Crew; 3] = [
+    Crew {
+        options: &["-r", "-l", "2", "--map", "http://h/"],
+        map: "page 200 http://h/\nlink http://h/a\nlink http://h/s/1\nlink http://h/m\npage 200 http://h/a\nlink http://h/b\n\
+page 200 http://h/b\nlink http://h/c\nmoved 301 http://h/m http://h/n\nrobots http://h/\ndisallow /s\n",
+        text: "0 200 http://h/ h/index.html\n1 200 http://h/a h/a\n2 200 http://h/b h/b\n1 301 http://h/m -\n1 404 http://h/n -\n\
+1 rob http://h/s/1 -\nfetched 5 kept 3 refused 1 failed 1\n",
+        status: 8,
+    },
+    Crew {
+        options: &["-r", "--max-urls", "2", "--map", "http://h/"],
+        map: "page 200 http://h/\nlink http://h/a\nlink http://h/b\n",
+        text: "stopped full\n",
+        status: 1,
+    },
+    Crew {
+        options: &["-r", "--record", "http://h/"],
+        map: FORBIDDING,
+        text: "0 200 http://h/ h/index.html\nfetched 1 kept 1 refused 0 failed 0\n",
+        status: 0,
+    },
+];
+
+#[test]
+fn any_number_of_workers_writes_the_same(rt: HostRuntime) -> Result<(), Fail> {
+    for crew in &CREWS {
+        for count in ["1", "2", "8", "64"] {
+            let mut words = Vec::new(rt.alloc());
+            words.extend_from_slice(&["--workers", count])?;
+            words.extend_from_slice(crew.options)?;
+            let mut written: Vec<u8> = Vec::new(rt.alloc());
+            let status = run(
+                &rt,
+                rt.alloc(),
+                words.as_slice(),
+                &mut crew.map.as_bytes(),
+                &mut written,
+            );
+            assert!(rt; written.as_slice() == crew.text.as_bytes(), "{count}");
+            assert!(rt; status == crew.status, "{count}");
+        }
+    }
+    Ok(())
 }
 
 // The program on its arguments: what it writes, how what a person is told begins, and its status.
@@ -494,6 +555,7 @@ fn a_person_is_told_what_is_wrong_beside_the_line(rt: HostRuntime) -> Result<(),
         let mut written: Vec<u8> = Vec::new(rt.alloc());
         let mut told: Vec<u8> = Vec::new(rt.alloc());
         let status = run_program(
+            &rt,
             rt.alloc(),
             Ok(arguments_of(rt.alloc(), call.arguments)?),
             &mut reader,
@@ -522,6 +584,7 @@ fn arguments_that_cannot_be_had_end_the_program(rt: HostRuntime) {
         let mut written: Vec<u8> = Vec::new(rt.alloc());
         let mut errors: Vec<u8> = Vec::new(rt.alloc());
         let answer = run_program(
+            &rt,
             rt.alloc(),
             Err(Error::from(kind)),
             &mut b"".as_slice(),
@@ -620,6 +683,7 @@ fn interrupted_reads_are_counted_over_the_whole_input(rt: HostRuntime) -> Result
         };
         let mut written: Vec<u8> = Vec::new(rt.alloc());
         let answer = run(
+            &rt,
             rt.alloc(),
             &["--map", "http://h/"],
             &mut reader,
@@ -649,7 +713,7 @@ fn a_writer_that_fails_or_takes_nothing_ends_with_status_1(rt: HostRuntime) -> R
             flushes,
         };
         let words = ["--map", start.as_str()];
-        let answer = run(rt.alloc(), &words, &mut b"".as_slice(), &mut writer);
+        let answer = run(&rt, rt.alloc(), &words, &mut b"".as_slice(), &mut writer);
         assert!(rt; answer == status, "{interrupted} {room} {flushes}");
     }
     Ok(())
