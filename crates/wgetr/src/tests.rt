@@ -424,76 +424,57 @@ fn runs_of_records_write_what_was_worked_out(rt: HostRuntime) {
     assert_eq!(rt; wrong_case(&rt, rt.alloc(), &RECORDED), None);
 }
 
-// A site that any number of workers retrieves: an option with its value, what the site is told by, and what is written.
+// A site that is retrieved by any number of workers: its words, its map, and what is written.
 struct Crew {
-    option: &'static str,
-    value: &'static str,
-    source: &'static str,
-    input: &'static str,
+    options: &'static [&'static str],
+    map: &'static str,
     text: &'static str,
     status: u8,
 }
 
 const CREWS: [Crew; 3] = [
     Crew {
-        option: "-l",
-        value: "2",
-        source: "--map",
-        input: "page 200 http://h/\nlink http://h/a\nlink http://h/s/1\nlink http://h/m\npage 200 http://h/a\nlink http://h/b\n\
+        options: &["-r", "-l", "2", "--map", "http://h/"],
+        map: "page 200 http://h/\nlink http://h/a\nlink http://h/s/1\nlink http://h/m\npage 200 http://h/a\nlink http://h/b\n\
 page 200 http://h/b\nlink http://h/c\nmoved 301 http://h/m http://h/n\nrobots http://h/\ndisallow /s\n",
         text: "0 200 http://h/ h/index.html\n1 200 http://h/a h/a\n2 200 http://h/b h/b\n1 301 http://h/m -\n1 404 http://h/n -\n\
 1 rob http://h/s/1 -\nfetched 5 kept 3 refused 1 failed 1\n",
         status: 8,
     },
     Crew {
-        option: "--max-urls",
-        value: "2",
-        source: "--map",
-        input: "page 200 http://h/\nlink http://h/a\nlink http://h/b\n",
+        options: &["-r", "--max-urls", "2", "--map", "http://h/"],
+        map: "page 200 http://h/\nlink http://h/a\nlink http://h/b\n",
         text: "stopped full\n",
         status: 1,
     },
     Crew {
-        option: "--per-host",
-        value: "16",
-        source: "--record",
-        input: FORBIDDING,
+        options: &["-r", "--record", "http://h/"],
+        map: FORBIDDING,
         text: "0 200 http://h/ h/index.html\nfetched 1 kept 1 refused 0 failed 0\n",
         status: 0,
     },
 ];
 
-// The first number of workers for which it comes out otherwise.
-fn wrong_count<H: Threads + Wait + Sync>(
-    rt: &H,
-    alloc: Global,
-    crew: &Crew,
-) -> Option<&'static str> {
-    for count in ["1", "2", "8", "64"] {
-        let words = [
-            "--workers",
-            count,
-            "-r",
-            crew.option,
-            crew.value,
-            crew.source,
-            "http://h/",
-        ];
-        let mut reader = crew.input.as_bytes();
-        let mut written: Vec<u8> = Vec::new(alloc);
-        let status = run(rt, alloc, &words, &mut reader, &mut written);
-        if written.as_slice() != crew.text.as_bytes() || status != crew.status {
-            return Some(count);
+#[test]
+fn any_number_of_workers_writes_the_same(rt: HostRuntime) -> Result<(), Fail> {
+    for crew in &CREWS {
+        for count in ["1", "2", "8", "64"] {
+            let mut words = Vec::new(rt.alloc());
+            words.extend_from_slice(&["--workers", count])?;
+            words.extend_from_slice(crew.options)?;
+            let mut written: Vec<u8> = Vec::new(rt.alloc());
+            let status = run(
+                &rt,
+                rt.alloc(),
+                words.as_slice(),
+                &mut crew.map.as_bytes(),
+                &mut written,
+            );
+            assert!(rt; written.as_slice() == crew.text.as_bytes(), "{count}");
+            assert!(rt; status == crew.status, "{count}");
         }
     }
-    None
-}
-
-#[test]
-fn any_number_of_workers_writes_the_same(rt: HostRuntime) {
-    for crew in &CREWS {
-        assert_eq!(rt; wrong_count(&rt, rt.alloc(), crew), None);
-    }
+    Ok(())
 }
 
 // The program on its arguments: what it writes, how what a person is told begins, and its status.
