@@ -1,10 +1,8 @@
 //! Runs on worked sites, told by maps and by records, on wrong words and inputs, and over readers and writers that fail; the program over three streams.
-use crate::input::{ReadFault, read_input};
-use crate::program::run_program;
-use crate::run::run;
 use follow_filters::Plan;
 use local_tree::{Folder, MemoryFolder, WriteFault, names, write_site};
 use options::read_order;
+use retriever::{ReadFault, read_input, run, run_program};
 use site_records::RecordedSite;
 use std::alloc::{AllocError, Global};
 use std::env::Args;

@@ -1,0 +1,188 @@
+-- What a retrieval comes to is what the whole site has, where it gives each address one outcome.
+use Rattle.std.proofs.Common.{◌≡◌, ◌≢◌, ◌↔◌, ℕ, inl, inr, Bool, true, false, List, [], length, map, replicate, Option, Some, refl, sym, ap, ◌∙◌, subst}
+use Rattle.std.specs.Prelude.{◌&&◌, Contains, IfSome, IfOk, IfErr, MatchOption, Result, Ok, Err, string_bytes}
+use Rattle.std.proofs.lemmas.List.{length-map}
+use Rattle.std.proofs.lemmas.List.Elements.{All-replicate, Contains-get_or}
+use Rattle.follow_filters.specs.declared.plan.Plan.{Plan}
+use Rattle.options.specs.declared.order.Order.{Order}
+use Rattle.robots_rules.specs.Access.{RuleSetValue}
+use Rattle.fetcher.specs.Sites.{SiteAnswers, GivesOutcome, GivesRules}
+use Rattle.fetcher.specs.declared.fetcher.Ask.{Ask}
+use Rattle.fetcher.specs.declared.outcome.Outcome.{Outcome}
+use Rattle.frontier_core.specs.Invariants.{IsSound}
+use Rattle.frontier_core.specs.Machine.{answers, IsQuiet}
+use Rattle.frontier_core.specs.Plans.{policy}
+use Rattle.frontier_core.specs.Routes.{Answers, HasTooMany}
+use Rattle.frontier_core.specs.Tables.{Text, keys, IsOnce}
+use Rattle.frontier_core.specs.declared.event.Cause.{Cause}
+use Rattle.frontier_core.specs.declared.event.Cause.TheVariants as why
+use Rattle.frontier_core.specs.declared.event.Event.{Event}
+use Rattle.workers.specs.Asks.{IsTold}
+use Rattle.site_records.specs.Records.{RecordedAnswers, GivesAnswer, GivesRules as GivesRecordedRules}
+use Rattle.harvest.specs.Gathered.{AreEntries, AreRecords, ArePages}
+use Rattle.harvest.specs.Harvests.{Harvested}
+use Rattle.harvest.specs.Pages.{IsKept}
+use Rattle.workers.specs.OneWorker.{AreByOne}
+use Rattle.workers.specs.Retrieval.{Brings, Leaves, IsLeft}
+use Rattle.workers.specs.Sites.{Fits, IsCompleteFor}
+use Rattle.local_tree.specs.Names.{IsNaming}
+use Rattle.local_tree.specs.PlainNames.{plain_name_of}
+use Rattle.report.specs.Entries.{lines_of}
+use Rattle.report.specs.ExitStatus.{exit_status, outcomes_in}
+use Rattle.report.specs.Named.{named_pages}
+use Rattle.report.proofs.NamedLaws.{names_of_lines, pages_of_lines, line_to_keep}
+use Rattle.report.proofs.StatusLaws.{same_status}
+use Rattle.workers.specs.Crews.{AllFit, SomeSays, SomeRules, all_gained}
+use Rattle.workers.proofs.ServingLaws.{crew_fits}
+use Rattle.workers.specs.declared.crew_retrieval.Retrieved.{Retrieved}
+use Rattle.workers.specs.declared.crew_retrieval.Stopped.{Stopped as StoppedCrew}
+use Rattle.workers.specs.declared.retrieval.Halt.{Halt}
+use Rattle.retriever.specs.Parts.{IsOutputOf, IsToldOf, IsRead, brought_by, is_borne_out, shown_of}
+use Rattle.retriever.specs.Retrieved.{IsPartOf, AreBy, AreEventsOf, AreShown, HasStopped, Reported, Stopped, Finishes}
+use Rattle.retriever.specs.declared.run.Output.{Output}
+use Rattle.std.specs.declared.alloc.AllocError.{AllocError}
+use Rattle.retriever.specs.Site.{AreNamed, whole_of, without_bodies}
+use Rattle.retriever.proofs.FoundLaws.{are_lines}
+
+-- a map's site gives what its answers name
+pub map_fits : (site : SiteAnswers) → Fits (GivesOutcome site) (GivesRules site) (whole_of site)
+map_fits site = record { outcomes = λ u x body says. ap Some (sym says.0); rules = λ o rules is. ap Some (sym is) }
+
+-- a recorded site gives what its answers name
+pub record_fits : (site : RecordedAnswers) → Fits (GivesAnswer site) (GivesRecordedRules site) (whole_of (without_bodies site))
+record_fits site = record { outcomes = λ u x body says. ap Some (sym says.0); rules = λ o rules is. ap Some (sym is) }
+
+told_part : (may_say : Text → Outcome → List ℕ → Type 0) (may_rule : Text → RuleSetValue → Type 0) (whole m : Answers) → Fits may_say may_rule whole → IsTold may_say may_rule m
+    → IsPartOf m whole
+told_part may_say may_rule whole m fits told = record {
+  outcomes = λ u x is. (let (body, says) = told.outcomes u x is in fits.outcomes u x body says);
+  rules = λ o rules is. fits.rules o rules (told.rules o rules is);
+}
+
+are_shown : (b : Bool) (AreSuch : List Event → Type 0) (trace : List Event) → AreSuch trace → AreShown b AreSuch (shown_of b trace)
+are_shown true AreSuch trace such = such
+are_shown false AreSuch trace such = refl
+
+none_shown : (b : Bool) (trace : List Event) → trace ≡ [] → shown_of b trace ≡ []
+none_shown true trace is = is
+none_shown false trace is = refl
+
+-- ---- a harvest
+
+-- the lines of a harvest have the names of its kept pages
+are_named : (plan : Plan) (h : Harvested) (names : List (List ℕ)) → AreEntries h → AreRecords h → ArePages h → h.plan ≡ Some plan → IsOnce (keys h.state.entries)
+    → IsNaming (map plain_name_of h.kept) names → AreNamed plan (lines_of h names)
+are_named plan h names are records pages follows once naming =
+    let long : length names ≡ length h.kept = naming.count ∙ length-map h.kept plain_name_of in
+    let kept = subst (λ (o : Option Plan). MatchOption o (h.kept ≡ []) (λ plan. (u : Text) → Contains h.kept u ↔ IsKept plan (answers h.state) u)) follows pages.kept in
+    record {
+      kept = λ k d lt. line_to_keep plan h names are records once long kept _ (Contains-get_or (lines_of h names) k d lt);
+      names = subst (λ (given : List (List ℕ)). IsNaming (map plain_name_of (named_pages (lines_of h names))) given) (sym (names_of_lines h names are records pages long))
+          (subst (λ (kept : List Text). IsNaming (map plain_name_of kept) names) (sym (pages_of_lines h names are records pages long)) naming);
+    }
+
+pub reported : (order : Order) (may_say : Text → Outcome → List ℕ → Type 0) (may_rule : Text → RuleSetValue → Type 0) (whole : Answers) (asks : List Ask) (h : Harvested) (names : List (List ℕ))
+    → Fits may_say may_rule whole → Brings may_say may_rule order.plan asks h → IsRead h → IsCompleteFor (policy order.plan) whole h.state → AreBy order.workers h.trace → IsNaming (map plain_name_of h.kept) names
+    → Finishes order whole (shown_of order.trace h.trace) (Reported (lines_of h names))
+reported order may_say may_rule whole asks h names fits brings read complete by_one naming =
+    let sound = subst (λ (o : Option Plan). IfSome o (λ plan. IsSound (policy plan) h.state)) brings.follows read.3 in (
+      are_lines (policy order.plan) whole h names read.0 read.1 sound.addresses sound.few complete brings.quiet,
+      are_named order.plan h names read.0 read.1 read.2 brings.follows sound.addresses naming,
+      are_shown order.trace (AreEventsOf order.workers order.plan whole IsQuiet) h.trace (by_one, h.state, brings.replay, told_part may_say may_rule whole (answers h.state) fits brings.told, brings.quiet),
+    )
+
+-- the exit status of a report is that of its lines
+status_of : (order : Order) (h : Harvested) (names : List (List ℕ)) → IsRead h → h.plan ≡ Some order.plan → exit_status (map (λ recorded. recorded.1) h.records) ≡ exit_status (outcomes_in (lines_of h names))
+status_of order h names read follows =
+    same_status h names read.0 read.1 (subst (λ (o : Option Plan). IfSome o (λ plan. IsSound (policy plan) h.state)) follows read.3).addresses
+
+-- ---- a stop
+
+stop_events : (order : Order) (may_say : Text → Outcome → List ℕ → Type 0) (may_rule : Text → RuleSetValue → Type 0) (whole : Answers) (asks : List Ask) (cause : Cause) (h : Harvested)
+    → Fits may_say may_rule whole → Leaves may_say may_rule order.plan asks cause h → AreBy order.workers h.trace
+    → AreShown order.trace (AreEventsOf order.workers order.plan whole (HasStopped cause)) (shown_of order.trace h.trace)
+stop_events order may_say may_rule whole asks cause h fits left by_one =
+    are_shown order.trace (AreEventsOf order.workers order.plan whole (HasStopped cause)) h.trace (by_one, h.state, left.replay, told_part may_say may_rule whole (answers h.state) fits left.told, left.stopped)
+
+pub stopped : (order : Order) (may_say : Text → Outcome → List ℕ → Type 0) (may_rule : Text → RuleSetValue → Type 0) (whole : Answers) (asks : List Ask) (cause : Cause) (h : Harvested)
+    → Fits may_say may_rule whole → (cause ≢ why.Mismatch → IsLeft may_say may_rule order.plan asks cause h)
+    → (cause ≡ why.Full → HasTooMany (policy order.plan) whole) → (order.workers ≡ 1 → cause ≢ why.Mismatch) → AreBy order.workers h.trace
+    → Finishes order whole (shown_of (is_borne_out cause && order.trace) h.trace) (Stopped cause)
+stopped order may_say may_rule whole asks why.Full h fits left many never by =
+    elim (left (λ is. cc)) [
+      | inl leaves ↦ (many refl, stop_events order may_say may_rule whole asks why.Full h fits leaves by)
+      | inr empty ↦ (let same = empty.memory in cc)
+    ]
+stopped order may_say may_rule whole asks why.Memory h fits left many never by =
+    elim (left (λ is. cc)) [
+      | inl leaves ↦ inr (stop_events order may_say may_rule whole asks why.Memory h fits leaves by)
+      | inr empty ↦ inl (none_shown order.trace h.trace empty.trace)
+    ]
+stopped order may_say may_rule whole asks why.Mismatch h fits left many never by = ((λ one. never one refl), refl)
+
+-- ---- either
+
+-- what is told of either is told of how the retrieval of the site finishes
+pub told_finishes : (order : Order) (may_say : Text → Outcome → List ℕ → Type 0) (may_rule : Text → RuleSetValue → Type 0) (whole : Answers) (asks : List Ask) (brought : Result Harvested Halt)
+    (result : Result Output AllocError) → Fits may_say may_rule whole → IfOk brought (λ h. Brings may_say may_rule order.plan asks h)
+    → IfOk brought (λ h. IsCompleteFor (policy order.plan) whole h.state)
+    → IfErr brought (λ halt. halt.cause ≢ why.Mismatch → IsLeft may_say may_rule order.plan asks halt.cause halt.harvest)
+    → IfErr brought (λ halt. halt.cause ≡ why.Full → HasTooMany (policy order.plan) whole) → IfErr brought (λ halt. order.workers ≡ 1 → halt.cause ≢ why.Mismatch)
+    → IfOk brought (λ h. AreBy order.workers h.trace) × IfErr brought (λ halt. AreBy order.workers halt.harvest.trace) → IfOk brought IsRead
+    → IfOk result (λ output. IsToldOf order.trace brought (string_bytes output.text) output.status) → IfOk result (λ output. IsOutputOf order whole (string_bytes output.text) output.status)
+told_finishes order may_say may_rule whole asks (Ok h) (Ok output) fits brings complete left many never by read told =
+    let (names, naming, text, status) = told in
+    record {
+      shown = shown_of order.trace h.trace;
+      finish = Reported (lines_of h names);
+      finishes = reported order may_say may_rule whole asks h names fits brings read complete by.0 naming;
+      text_is = text;
+      status_is = status ∙ status_of order h names read brings.follows;
+    }
+told_finishes order may_say may_rule whole asks (Err halt) (Ok output) fits brings complete left many never by read told =
+    record {
+      shown = shown_of (is_borne_out halt.cause && order.trace) halt.harvest.trace;
+      finish = Stopped halt.cause;
+      finishes = stopped order may_say may_rule whole asks halt.cause halt.harvest fits left many never by.1;
+      text_is = told.0;
+      status_is = told.1;
+    }
+told_finishes order may_say may_rule whole asks brought (Err e) fits brings complete left many never by read told = told
+
+-- what is told of one worker's retrieval
+pub alone_finishes : (order : Order) (may_say : Text → Outcome → List ℕ → Type 0) (may_rule : Text → RuleSetValue → Type 0) (whole : Answers) (asks : List Ask) (brought : Result Harvested Halt)
+    (result : Result Output AllocError) → Fits may_say may_rule whole → IfOk brought (λ h. Brings may_say may_rule order.plan asks h)
+    → IfOk brought (λ h. IsCompleteFor (policy order.plan) whole h.state)
+    → IfErr brought (λ halt. IsLeft may_say may_rule order.plan asks halt.cause halt.harvest)
+    → IfErr brought (λ halt. halt.cause ≡ why.Full → HasTooMany (policy order.plan) whole) → IfErr brought (λ halt. halt.cause ≢ why.Mismatch)
+    → IfOk brought (λ h. AreByOne h.trace) × IfErr brought (λ halt. AreByOne halt.harvest.trace) → IfOk brought IsRead
+    → IfOk result (λ output. IsToldOf order.trace brought (string_bytes output.text) output.status) → IfOk result (λ output. IsOutputOf order whole (string_bytes output.text) output.status)
+alone_finishes order may_say may_rule whole asks (Ok h) result fits brings complete left many never by read told =
+    told_finishes order may_say may_rule whole asks (Ok h) result fits brings complete tt tt tt ((λ _. by.0), tt) read told
+alone_finishes order may_say may_rule whole asks (Err halt) result fits brings complete left many never by read told =
+    told_finishes order may_say may_rule whole asks (Err halt) result fits tt tt (λ _. left) many (λ _. never) (tt, (λ _. by.1)) tt told
+
+-- what is told of the retrieval by a crew, each with a copy of the site
+module _ {F S : Type 0} (site : F → S) (says : S → Text → Outcome → List ℕ → Type 0) (rules : S → Text → RuleSetValue → Type 0) (log : F → List Ask) where
+  -- copies fit where the site does
+  pub copies_fit : (whole : Answers) (one : F) (count : ℕ) (copies : List F) → copies ≡ replicate count one → Fits (says (site one)) (rules (site one)) whole → AllFit site says rules copies whole
+  copies_fit whole one count copies are fits =
+      subst (λ (fs : List F). AllFit site says rules fs whole) (sym are) (All-replicate (λ (copy : F). Fits (says (site copy)) (rules (site copy)) whole) count one fits)
+
+  pub crew_finishes : (order : Order) (whole : Answers) (olds : List F) (crew : Result (Retrieved F) (StoppedCrew F)) (brought : Result Harvested Halt) (result : Result Output AllocError)
+      → (order.workers ≢ 1) → brought ≡ brought_by crew → AllFit site says rules olds whole
+      → IfOk crew (λ r. Brings (SomeSays site says log olds r.fetchers.items) (SomeRules site rules log olds r.fetchers.items) order.plan (all_gained log olds r.fetchers.items) r.harvest)
+      → IfOk crew (λ r. IsCompleteFor (policy order.plan) whole r.harvest.state)
+      → IfErr crew (λ s. s.cause ≢ why.Mismatch → IsLeft (SomeSays site says log olds s.fetchers.items) (SomeRules site rules log olds s.fetchers.items) order.plan
+      (all_gained log olds s.fetchers.items) s.cause s.harvest)
+      → IfErr crew (λ s. s.cause ≡ why.Full → HasTooMany (policy order.plan) whole) → IfOk brought IsRead
+      → IfOk result (λ output. IsToldOf order.trace brought (string_bytes output.text) output.status)
+      → IfOk result (λ output. IsOutputOf order whole (string_bytes output.text) output.status)
+  crew_finishes order whole olds (Ok r) brought result several is fit brings complete left many read told =
+      told_finishes order _ _ whole _ (Ok r.harvest) result (crew_fits site says rules log olds r.fetchers.items whole fit) brings complete tt tt tt
+      ((λ one. absurd (several one)), tt) (subst (λ (b : Result Harvested Halt). IfOk b IsRead) is read)
+      (subst (λ (b : Result Harvested Halt). IfOk result (λ output. IsToldOf order.trace b (string_bytes output.text) output.status)) is told)
+  crew_finishes order whole olds (Err s) brought result several is fit brings complete left many read told =
+      told_finishes order _ _ whole _ (Err (record { cause = s.cause; harvest = s.harvest })) result (crew_fits site says rules log olds s.fetchers.items whole fit) tt tt left many
+      (λ one. absurd (several one)) (tt, (λ one. absurd (several one))) tt
+      (subst (λ (b : Result Harvested Halt). IfOk result (λ output. IsToldOf order.trace b (string_bytes output.text) output.status)) is told)

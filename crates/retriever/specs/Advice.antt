@@ -1,0 +1,108 @@
+-- What a person is told of faults of the words.
+use Rattle.std.specs.Prelude.{ℕ, List, [], Option, Some, None, ◌++◌, codes, option_map}
+use Rattle.std.specs.List.{flat_map}
+use Rattle.std.specs.Option.{option_map_or}
+use Rattle.clap.specs.Values.{kind_text}
+use Rattle.clap.specs.declared.error.ErrorKind.{ErrorKind}
+use Rattle.address.specs.declared.fault.AddressFault.{AddressFault}
+use Rattle.address.specs.declared.fault.AddressFault.TheVariants as refused
+use Rattle.options.specs.declared.fault.LineFault.{LineFault}
+use Rattle.options.specs.declared.fault.LineFault.TheVariants as line
+use Rattle.retriever.specs.declared.advice.Advice.{Advice}
+use Rattle.retriever.specs.declared.advice.Advice.TheVariants as advice
+use Rattle.retriever.specs.declared.fault.Fault.{Fault}
+use Rattle.retriever.specs.declared.fault.Fault.TheVariants as fault
+
+-- what a person is told: what the program is for and its usage, or what is wrong and what is accepted in its place
+pub data Told : Type 0 where
+  Usage : Told
+  Correction : List ℕ → List ℕ → Told
+
+-- what an advice tells
+abbrev pub told_by : Advice → Told
+told_by advice.Usage = Usage
+told_by (advice.Correction wrong accepted) = Correction wrong.now accepted.now
+
+-- ---- what is accepted
+
+-- as words
+abbrev pub accepted_words : List ℕ
+accepted_words =
+    codes "accepted are START and, once each, -r, -l N, -np, -H, -D LIST, --exclude-domains LIST, -I LIST, -X LIST, -A LIST, -R LIST, -e robots=on, -e robots=off, -P DIR, --workers 1 to 64, --per-host 1 to 16, --max-urls 1 to 1000000, --map, --record and --trace"
+
+-- as a start
+abbrev pub accepted_start : List ℕ
+accepted_start =
+    codes "START is an address as http://host/path?query, without user name and password, with at most 8192 bytes and a host of at most 255"
+
+-- ---- what is told
+
+-- what is wrong with a start that is no address; nothing where memory ran out
+abbrev pub wrong_start : AddressFault → Option (List ℕ)
+wrong_start refused.TooLong = Some (codes "START is too long")
+wrong_start refused.NotUrl = Some (codes "START is no URL")
+wrong_start refused.NotHttp = Some (codes "START isn't an http address")
+wrong_start refused.UserInfo = Some (codes "START has a user name or a password")
+wrong_start refused.Memory = None
+
+-- of the parser's short text on words that it refuses; it has none of a request for help, which the usage answers
+abbrev pub told_of_text : Option (List ℕ) → Told
+told_of_text None = Usage
+told_of_text (Some wrong) = Correction wrong accepted_words
+
+-- of words that the parser refuses
+abbrev pub told_of_kind : ErrorKind → Told
+told_of_kind why = told_of_text (kind_text why)
+
+-- of words that are no order; nothing where memory ran out
+abbrev pub told_on_line : LineFault → Option Told
+told_on_line (line.Words why) = Some (told_of_kind why)
+told_on_line line.Depth =
+    Some (Correction (codes "the value of -l, --level is no level") (codes "a level is inf or decimal digits, at most 1000000"))
+told_on_line line.Pattern =
+    Some (Correction (codes "an element of -A, --accept or -R, --reject is no pattern")
+    (codes "an element is a suffix, or a pattern with *, ? and classes as [a-z], each closed"))
+told_on_line line.Directory =
+    Some (Correction (codes "an element of -I, --include-directories or -X, --exclude-directories is no directory")
+    (codes "an element begins with / and has none of *, ?, [ and ]"))
+told_on_line line.Domain =
+    Some (Correction (codes "an element of -D, --domains or --exclude-domains is no domain")
+    (codes "an element is letters, digits, -, _ and dots, as example.org"))
+told_on_line (line.Start why) = option_map (λ wrong. Correction wrong accepted_start) (wrong_start why)
+told_on_line line.StartIsRobots = Some (Correction (codes "START is a robots file") (codes "START is any other page"))
+told_on_line line.Memory = None
+
+-- of a fault of the words; nothing of other faults
+abbrev pub told_on : Fault → Option Told
+told_on (fault.Line wrong) = told_on_line wrong
+told_on fault.NotText = Some (Correction (codes "a word isn't UTF-8") accepted_words)
+told_on fault.NoSite =
+    Some (Correction (codes "the words name no site that can be read") (codes "the site is told on standard input: with --map by a map, with --record by a record of responses"))
+told_on (fault.Read wrong) = None
+told_on (fault.Input wrong) = None
+told_on fault.Memory = None
+
+-- ---- the text
+
+-- what the program is for, and its usage
+abbrev pub usage : List ℕ
+usage =
+    codes "wgetr retrieves a site recursively and reports what it found: it follows links by GNU Wget's rules and heeds robots files.\nusage: wgetr [options] --map START < MAP\n       wgetr [options] --record START < RECORD\n"
+
+-- a word behind a space
+abbrev pub word_text : List ℕ → List ℕ
+word_text word = codes " " ++ word
+
+-- what is wrong, in these words, and what is accepted: two lines
+abbrev pub correction_text : List (List ℕ) → List ℕ → List ℕ → List ℕ
+correction_text words wrong accepted =
+    codes "wgetr: " ++ wrong ++ codes ", in:" ++ flat_map word_text words ++ codes "\n" ++ accepted ++ codes "\n"
+
+-- the lines of what is told of these words
+abbrev pub said : List (List ℕ) → Told → List ℕ
+said words Usage = usage ++ accepted_words ++ codes "\n"
+said words (Correction wrong accepted) = correction_text words wrong accepted
+
+-- the lines on a fault of these words, none where nothing is told
+abbrev pub said_of : List (List ℕ) → Fault → List ℕ
+said_of words wrong = option_map_or (said words) (told_on wrong) []

@@ -1,0 +1,26 @@
+-- What the words of a run order of a site that its input tells, or what is wrong with them.
+use Rattle.std.specs.Prelude.{◌≡◌, ◌≢◌, ◌⊎◌, ℕ, List, Ok, Err}
+use Rattle.options.specs.Order.{Ordered, order_of, said_by, without_kind}
+use Rattle.options.specs.declared.fault.LineFault.TheVariants as line
+use Rattle.options.specs.declared.order.Order.{Order}
+use Rattle.options.specs.declared.order.Source.TheVariants as source
+use Rattle.retriever.specs.declared.fault.Fault.{Fault}
+use Rattle.retriever.specs.declared.fault.Fault.TheVariants as fault
+
+-- the words order just this, of a site that isn't on the network
+abbrev pub IsOrdered : List (List ℕ) → Order → Type 0
+IsOrdered words order = (order_of words ≡ Ok (said_by order)) × (order.source ≢ source.Live)
+
+-- the words order something of a site that the input tells
+abbrev pub AreForInput : List (List ℕ) → Type 0
+AreForInput words = (order : Order) × IsOrdered words order
+
+-- the words order something of a site on the network
+abbrev pub AreForLive : List (List ℕ) → Type 0
+AreForLive words = (ordered : Ordered) × (order_of words ≡ Ok ordered) × (ordered.source ≡ source.Live)
+
+-- the fault is the one of the words, unless memory ran out
+abbrev pub IsRefused : List (List ℕ) → Fault → Type 0
+IsRefused words (fault.Line wrong) = (order_of words ≡ Err (without_kind wrong)) ⊎ (wrong ≡ line.Memory)
+IsRefused words fault.NoSite = AreForLive words
+IsRefused words _ = ⊥

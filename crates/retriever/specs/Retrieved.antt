@@ -1,0 +1,57 @@
+-- What a retrieval of a site comes to, with what is shown of its trace.
+use Rattle.std.specs.Prelude.{◌≡◌, ◌≢◌, ◌⊎◌, ℕ, Bool, true, false, List, [], Some}
+use Rattle.follow_filters.specs.declared.plan.Plan.{Plan}
+use Rattle.options.specs.declared.order.Order.{Order}
+use Rattle.fetcher.specs.declared.outcome.Outcome.{Outcome}
+use Rattle.robots_rules.specs.Access.{RuleSetValue}
+use Rattle.frontier_core.specs.Tables.{Text}
+use Rattle.frontier_core.specs.Routes.{Answers, HasTooMany}
+use Rattle.frontier_core.specs.Machine.{State, answers, IsQuiet}
+use Rattle.frontier_core.specs.Lines.{IsReplay}
+use Rattle.frontier_core.specs.Plans.{policy}
+use Rattle.frontier_core.specs.declared.event.Cause.{Cause}
+use Rattle.frontier_core.specs.declared.event.Cause.TheVariants as cause
+use Rattle.frontier_core.specs.declared.event.Event.{Event}
+use Rattle.workers.specs.OneWorker.{AreByOne}
+use Rattle.report.specs.Report.{Line}
+use Rattle.retriever.specs.Site.{AreLines, AreNamed}
+
+-- what is recorded is what the whole site has
+pub record IsPartOf (m whole : Answers) : Type 0 where
+  pub outcomes : (u : Text) (x : Outcome) → m.outcome u ≡ Some x → whole.outcome u ≡ Some x
+  pub rules : (o : Text) (rules : RuleSetValue) → m.rules o ≡ Some rules → whole.rules o ≡ Some rules
+
+-- the events are of so many workers: where it is one, they name no other
+abbrev pub AreBy : ℕ → List Event → Type 0
+AreBy workers events = workers ≡ 1 → AreByOne events
+
+-- the events are those of a frontier that goes by the plan, is told what the site has, and is left in such a state; so many
+-- workers drive it, of which several may come in any order
+abbrev pub AreEventsOf : ℕ → Plan → Answers → (State → Type 0) → List Event → Type 0
+AreEventsOf workers plan whole IsSuch events =
+    AreBy workers events × (s : State) × IsReplay (policy plan) events s × IsPartOf (answers s) whole × IsSuch s
+
+-- what is shown are such events, where they are to be shown, else none
+abbrev pub AreShown : Bool → (List Event → Type 0) → List Event → Type 0
+AreShown true AreSuch shown = AreSuch shown
+AreShown false AreSuch shown = shown ≡ []
+
+-- the state stopped for this cause
+abbrev pub HasStopped : Cause → State → Type 0
+HasStopped why s = s.cause ≡ Some why
+
+-- what a retrieval comes to: the lines of a report, or the cause for which it stopped
+pub data Finish : Type 0 where
+  Reported : List Line → Finish
+  Stopped : Cause → Finish
+
+-- the retrieval that is ordered of a site comes to this, and this is shown of its trace; where memory was short there
+-- may be nothing to show. A check of several workers may fail; one worker has none
+abbrev pub Finishes : Order → Answers → List Event → Finish → Type 0
+Finishes order whole shown (Reported lines) =
+    AreLines (policy order.plan) whole lines × AreNamed order.plan lines × AreShown order.trace (AreEventsOf order.workers order.plan whole IsQuiet) shown
+Finishes order whole shown (Stopped cause.Full) =
+    HasTooMany (policy order.plan) whole × AreShown order.trace (AreEventsOf order.workers order.plan whole (HasStopped cause.Full)) shown
+Finishes order whole shown (Stopped cause.Memory) =
+    (shown ≡ []) ⊎ AreShown order.trace (AreEventsOf order.workers order.plan whole (HasStopped cause.Memory)) shown
+Finishes order whole shown (Stopped cause.Mismatch) = (order.workers ≢ 1) × (shown ≡ [])

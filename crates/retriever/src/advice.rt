@@ -1,0 +1,135 @@
+//! What is said to a person of words that are refused: what is wrong and what is accepted, or what the program is for.
+
+ghost use Rattle.std.specs.Prelude.{◌≡◌, ◌++◌, IfOk, codes, map, option_map, string_bytes};
+ghost use Rattle.std.specs.List.{flat_map};
+ghost use Rattle.retriever.specs.Advice.{wrong_start, told_by, told_of_kind, told_on, told_on_line, said, word_text};
+
+use crate::fault::Fault;
+use address::AddressFault;
+use clap::error::ErrorKind;
+use options::LineFault;
+use std::alloc::{AllocError, Global};
+
+/// What a person is told.
+#[derive(Clone, Copy)]
+pub(crate) enum Advice {
+    /// What the program is for, and its usage.
+    Usage,
+    /// What is wrong with the words, and what is accepted in its place.
+    Correction(&'static str, &'static str),
+}
+
+const USAGE: &str =
+    "wgetr retrieves a site recursively and reports what it found: it follows links by GNU Wget's rules and heeds robots files.\n\
+usage: wgetr [options] --map START < MAP\n       wgetr [options] --record START < RECORD\n";
+
+const OPTIONS: &str =
+    "accepted are START and, once each, -r, -l N, -np, -H, -D LIST, --exclude-domains LIST, \
+-I LIST, -X LIST, -A LIST, -R LIST, -e robots=on, -e robots=off, -P DIR, --workers 1 to 64, --per-host 1 to 16, \
+--max-urls 1 to 1000000, --map, --record and --trace";
+
+const START: &str =
+    "START is an address as http://host/path?query, without user name and password, with at most \
+8192 bytes and a host of at most 255";
+
+// What is wrong with a start that is no address.
+fn wrong_start(refused: AddressFault) -> Option<&'static str>
+    ensures { option_map (λ wrong. wrong.now) result ≡ wrong_start refused }
+{
+    match refused {
+        AddressFault::TooLong => Some("START is too long"),
+        AddressFault::NotUrl => Some("START is no URL"),
+        AddressFault::NotHttp => Some("START isn't an http address"),
+        AddressFault::UserInfo => Some("START has a user name or a password"),
+        AddressFault::Memory => None,
+    }
+}
+
+// What is said of words that the parser refuses: its own short text. It has none of a request for help, which the usage
+// answers.
+fn kind_advice(kind: ErrorKind) -> Advice
+    ensures { told_by result ≡ told_of_kind kind }
+{
+    match kind.as_str() {
+        Some(wrong) => Advice::Correction(wrong, OPTIONS),
+        None => Advice::Usage,
+    }
+}
+
+// What is said of words that are no order; nothing of want of memory.
+fn line_advice(wrong: LineFault) -> Option<Advice>
+    ensures { option_map told_by result ≡ told_on_line wrong }
+{
+    match wrong {
+        LineFault::Words(kind) => Some(kind_advice(kind)),
+        LineFault::Depth => Some(Advice::Correction(
+            "the value of -l, --level is no level",
+            "a level is inf or decimal digits, at most 1000000",
+        )),
+        LineFault::Pattern => Some(Advice::Correction(
+            "an element of -A, --accept or -R, --reject is no pattern",
+            "an element is a suffix, or a pattern with *, ? and classes as [a-z], each closed",
+        )),
+        LineFault::Directory => Some(Advice::Correction(
+            "an element of -I, --include-directories or -X, --exclude-directories is no directory",
+            "an element begins with / and has none of *, ?, [ and ]",
+        )),
+        LineFault::Domain => Some(Advice::Correction(
+            "an element of -D, --domains or --exclude-domains is no domain",
+            "an element is letters, digits, -, _ and dots, as example.org",
+        )),
+        LineFault::Start(refused) => Some(Advice::Correction(wrong_start(refused)?, START)),
+        LineFault::StartIsRobots => Some(Advice::Correction(
+            "START is a robots file",
+            "START is any other page",
+        )),
+        LineFault::Memory => None,
+    }
+}
+
+/// What is said of a fault of the words; nothing of other faults.
+pub(crate) fn advice_on(fault: Fault) -> Option<Advice>
+    ensures { option_map told_by result ≡ told_on fault }
+{
+    match fault {
+        Fault::Line(wrong) => line_advice(wrong),
+        Fault::NotText => Some(Advice::Correction("a word isn't UTF-8", OPTIONS)),
+        Fault::NoSite => Some(Advice::Correction(
+            "the words name no site that can be read",
+            "the site is told on standard input: with --map by a map, with --record by a record of responses",
+        )),
+        Fault::Read(_) | Fault::Input(_) | Fault::Memory => None,
+    }
+}
+
+// The lines of a correction: what is wrong, in these words, and what is accepted.
+fn correction_text(
+    alloc: Global,
+    wrong: &str,
+    accepted: &str,
+    words: &[&str],
+) -> Result<String, AllocError>
+    ensures { IfOk result (λ text. string_bytes text ≡ codes "wgetr: " ++ wrong.now ++ codes ", in:"
+        ++ flat_map (λ word. word_text word.now) words.now ++ codes "\n" ++ accepted.now ++ codes "\n") }
+{
+    let mut text = format!(in alloc; "wgetr: {wrong}, in:")?;
+    for word in words {
+        write!(text, " {word}")?;
+    }
+    writeln!(text, "\n{accepted}")?;
+    Ok(text)
+}
+
+/// The lines of an advice on these words.
+pub(crate) fn advice_text(
+    alloc: Global,
+    advice: Advice,
+    words: &[&str],
+) -> Result<String, AllocError>
+    ensures { IfOk result (λ text. string_bytes text ≡ said (map (λ word. word.now) words.now) (told_by advice)) }
+{
+    match advice {
+        Advice::Usage => format!(in alloc; "{USAGE}{OPTIONS}\n"),
+        Advice::Correction(wrong, accepted) => correction_text(alloc, wrong, accepted, words),
+    }
+}

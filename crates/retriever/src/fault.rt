@@ -1,0 +1,152 @@
+//! Faults of a run: the line that is written in place of a report, and the status.
+ghost use Rattle.std.specs.Prelude.{◌≡◌, ◌++◌, IfOk, codes, string_bytes};
+ghost use Rattle.retriever.specs.Run.{start_words, line_words, reading_words, fault_words};
+
+use crate::input::ReadFault;
+use address::AddressFault;
+use options::LineFault;
+use site_maps::InputFault;
+use std::alloc::{AllocError, Global};
+
+/// Why a run has no report.
+#[derive(Clone, Copy)]
+pub(crate) enum Fault {
+    /// The words are no order.
+    Line(LineFault),
+    /// A word of the command line isn't UTF-8.
+    NotText,
+    /// The words order a site on the network.
+    NoSite,
+    /// The input can't be had.
+    Read(ReadFault),
+    /// The input is no map, or no record.
+    Input(InputFault),
+    /// Memory ran out.
+    Memory,
+}
+
+impl Fault {
+    ghost use Rattle.std.specs.Prelude.{◌≡◌};
+    ghost use Rattle.retriever.specs.Run.{fault_status};
+
+    /// The status with which a run ends: 2 for what the words or the input say, else 1.
+    pub(crate) fn status(&self) -> u8
+        ensures { result ≡ fault_status self.now }
+    {
+        match self {
+            Fault::Line(LineFault::Memory | LineFault::Start(AddressFault::Memory)) => 1,
+            Fault::Line(_) | Fault::NotText | Fault::NoSite | Fault::Read(ReadFault::Long) => 2,
+            Fault::Read(ReadFault::Failed | ReadFault::Memory) => 1,
+            Fault::Input(InputFault::Memory) => 1,
+            Fault::Input(InputFault::Line(_) | InputFault::Address(_)) => 2,
+            Fault::Memory => 1,
+        }
+    }
+}
+
+// The words for a start that is no address.
+fn start_words(refused: AddressFault) -> &'static str
+    ensures { result.now ≡ start_words refused }
+{
+    match refused {
+        AddressFault::TooLong => "line start too-long",
+        AddressFault::NotUrl => "line start not-url",
+        AddressFault::NotHttp => "line start not-http",
+        AddressFault::UserInfo => "line start user-info",
+        AddressFault::Memory => "stopped memory",
+    }
+}
+
+// The words for what is wrong with a command line.
+fn line_words(wrong: LineFault) -> &'static str
+    ensures { result.now ≡ line_words wrong }
+{
+    match wrong {
+        LineFault::Words(_) => "line words",
+        LineFault::Depth => "line depth",
+        LineFault::Pattern => "line pattern",
+        LineFault::Directory => "line directory",
+        LineFault::Domain => "line domain",
+        LineFault::Start(refused) => start_words(refused),
+        LineFault::StartIsRobots => "line start-robots",
+        LineFault::Memory => "stopped memory",
+    }
+}
+
+// The words for an input that can't be had.
+fn reading_words(wrong: ReadFault) -> &'static str
+    ensures { result.now ≡ reading_words wrong }
+{
+    match wrong {
+        ReadFault::Long => "input long",
+        ReadFault::Failed => "input read",
+        ReadFault::Memory => "stopped memory",
+    }
+}
+
+/// The line of a fault.
+pub(crate) fn fault_text(alloc: Global, fault: Fault) -> Result<String, AllocError>
+    ensures { IfOk result (λ text. string_bytes text ≡ fault_words fault ++ codes "\n") }
+{
+    match fault {
+        Fault::Line(wrong) => with_newline(alloc, line_words(wrong)),
+        Fault::NotText => with_newline(alloc, "line words"),
+        Fault::NoSite => with_newline(alloc, "line no-site"),
+        Fault::Read(wrong) => with_newline(alloc, reading_words(wrong)),
+        Fault::Input(InputFault::Line(number)) => format!(in alloc; "input line {number}\n"),
+        Fault::Input(InputFault::Address(number)) => format!(in alloc; "input address {number}\n"),
+        Fault::Input(InputFault::Memory) => with_newline(alloc, "stopped memory"),
+        Fault::Memory => with_newline(alloc, "stopped memory"),
+    }
+}
+
+// One line of words.
+fn with_newline(alloc: Global, words: &str) -> Result<String, AllocError>
+    ensures { IfOk result (λ text. string_bytes text ≡ words.now ++ codes "\n") }
+{
+    format!(in alloc; "{words}\n")
+}
+
+impl From<LineFault> for Fault {
+    ghost use Rattle.std.specs.Prelude.{◌≡◌};
+    ghost use Rattle.retriever.specs.declared.fault.Fault.TheVariants.{Line};
+
+    ghost from_gives = { λ wrong fault. fault ≡ Line wrong };
+
+    fn from(wrong: LineFault) -> Fault {
+        Fault::Line(wrong)
+    }
+}
+
+impl From<ReadFault> for Fault {
+    ghost use Rattle.std.specs.Prelude.{◌≡◌};
+    ghost use Rattle.retriever.specs.declared.fault.Fault.TheVariants.{Read};
+
+    ghost from_gives = { λ wrong fault. fault ≡ Read wrong };
+
+    fn from(wrong: ReadFault) -> Fault {
+        Fault::Read(wrong)
+    }
+}
+
+impl From<InputFault> for Fault {
+    ghost use Rattle.std.specs.Prelude.{◌≡◌};
+    ghost use Rattle.retriever.specs.declared.fault.Fault.TheVariants.{Input};
+
+    ghost from_gives = { λ wrong fault. fault ≡ Input wrong };
+
+    fn from(wrong: InputFault) -> Fault {
+        Fault::Input(wrong)
+    }
+}
+
+impl From<AllocError> for Fault {
+    ghost use Rattle.std.specs.Prelude.{◌≡◌};
+    ghost use Rattle.retriever.specs.declared.fault.Fault.TheVariants.{Memory};
+
+    ghost from_gives = { λ _ fault. fault ≡ Memory };
+
+    fn from(_: AllocError) -> Fault {
+        Fault::Memory
+    }
+}

@@ -1,0 +1,19 @@
+//! The retriever: from the words and the input to what is written. Its one idea: a run is glue over the crates below, and what
+//! it writes for its words and its input is one definition. It holds no rule of following. What a run comes to stands in
+//! `specs/Run.antt`, what is made of the program's arguments and told to a person in `specs/Program.antt`.
+#![tactic(auto)]
+
+pub use crate::input::{ReadFault, read_input};
+pub use crate::program::run_program;
+pub use crate::run::run;
+
+mod advice;
+mod copies;
+mod fault;
+mod input;
+mod interruption;
+mod order;
+mod output;
+mod program;
+mod run;
+mod trace;
