@@ -86,6 +86,7 @@ pub(crate) fn first_free(
     ensures free { IfOk result (λ found. ¬ IsTaken (map text_of sorted.now) next.now (string_bytes found.0)) }
     ensures before { IfOk result (λ found. (k : ℕ) → k < found.1 → IsTaken (map text_of sorted.now) next.now (numbered plain.now k)) }
 {
+    // The table has fewer names than there are numbers.
     let _names = next.len();
     for number in start..u64::MAX {
         let name = numbered(alloc, plain, number)?;

@@ -101,6 +101,7 @@ fn file_or_index(page: &Address) -> &str
 fn query_of(page: &Address) -> &[u8]
     ensures { result.now ≡ query_of page.now }
 {
+    // What every address is: its path and query begin with its directory and its file name.
     let _text = page.as_str();
     let path_query = page.path_query().as_bytes();
     &path_query[page.dir().len() + page.file().len()..]
@@ -133,6 +134,7 @@ pub(crate) fn plain_name_of(alloc: Global, page: &Address) -> Result<String, All
     ensures name { IfOk result (λ name. string_bytes name ≡ plain_name_of page.now) }
     ensures address { IfOk result (λ _. IsAddress page.now) }
 {
+    // What every address is: ASCII among it.
     let _text = page.as_str();
     match String::from_utf8(plain_bytes(alloc, page)?) {
         Ok(name) => Ok(name),

@@ -1,4 +1,4 @@
--- The examples of RFC 9309 and its own lists of octets hold of the definitions.
+-- The limits are the documented numbers, and the examples of RFC 9309 and its own lists of octets hold of the definitions.
 use Rattle.std.proofs.Common.{◌≡◌, true, false, [], ◌∷◌, ◌++◌, refl, filter}
 use Rattle.percent_encoding.specs.Percent.{percent_encode_byte}
 use Rattle.std.specs.Prelude.{codes}
@@ -7,6 +7,16 @@ use Rattle.robots_rules.specs.Octets.{is_unreserved, normal, normal_path}
 use Rattle.robots_rules.specs.Patterns.{normal_of}
 use Rattle.robots_rules.specs.Lines.{is_line_end, is_blank}
 use Rattle.robots_rules.specs.Groups.{is_in_token, token_of, names_all, names_us}
+use Rattle.robots_rules.specs.declared.lines.TheConstants.{MAX_BYTES}
+use Rattle.robots_rules.specs.declared.rule_set.TheConstants.{LONG_PATH}
+
+-- bytes of a file that are used
+longest_file : MAX_BYTES ≡ 512000
+longest_file = refl
+
+-- bytes of an address, and so of its path, that is brought into normal form in a buffer
+longest_path : LONG_PATH ≡ 8192
+longest_path = refl
 
 -- the unreserved octets (RFC 3986, section 2.3)
 unreserved_octets : filter is_unreserved (range_with_len 0 256) ≡ codes "-.0123456789ABCDEFGHIJKLMNOPQRSTUVWXYZ_abcdefghijklmnopqrstuvwxyz~"

@@ -104,6 +104,7 @@ fn only_runs(parts: &[u8]) -> bool
 /// Where the first `*` stands, or how many parts there are if none does.
 fn first_run(parts: &[u8]) -> usize
     ensures within { result ≤ length parts.now }
+    ensures run { result < length parts.now → is_run (get_or parts.now result 0) ≡ true }
     ensures before { (k : ℕ) → k < result → is_run (get_or parts.now k 0) ≡ true → ⊥ }
 {
     match memchr(b'*', parts) {
