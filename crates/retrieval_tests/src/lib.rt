@@ -14,5 +14,3 @@ mod long_tests;
 mod memory_tests;
 #[cfg(test)]
 mod script;
-#[cfg(test)]
-mod small_tests;
