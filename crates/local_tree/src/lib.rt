@@ -21,13 +21,9 @@ pub use crate::site_files::{WriteFault, write_site};
 
 mod disk_folder;
 mod folder;
-#[cfg(test)]
-mod folder_tests;
 mod free_name;
 mod local_name;
 mod memory_folder;
 mod naming;
 mod plain_name;
 mod site_files;
-#[cfg(test)]
-mod tests;

@@ -1,7 +1,9 @@
-//! Words and rules as the manual and worked examples have them: tests alone, of the command line and of what may be
-//! followed. They stand above both crates, so neither is proved once more with them.
+//! Addresses, words and rules as the standards, the manual and worked examples have them: tests alone, of addresses, of the
+//! command line and of what may be followed. They stand above these crates, so none is proved once more with them.
 #![tactic(auto)]
 
+#[cfg(test)]
+mod address_tests;
 #[cfg(test)]
 mod filter_tests;
 #[cfg(test)]

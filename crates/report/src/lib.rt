@@ -10,6 +10,4 @@ pub use crate::text::report_text;
 
 mod rows;
 mod status;
-#[cfg(test)]
-mod tests;
 mod text;

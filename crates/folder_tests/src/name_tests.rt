@@ -1,6 +1,6 @@
 //! Names worked out by hand: of pages that clash, of odd segments, and of segments that are too long.
-use crate::{ascend, names};
 use address::Address;
+use local_tree::{ascend, names};
 use std::alloc::Global;
 use std::test::Fail;
 

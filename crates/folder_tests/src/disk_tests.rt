@@ -1,6 +1,6 @@
 //! Files on a disk: made with their directories, replaced, and never put through a link. Files in
 //! memory, and a put that fails.
-use crate::{DiskFolder, Folder, MemoryFolder};
+use local_tree::{DiskFolder, Folder, MemoryFolder};
 use std::fs;
 use std::fs::Files;
 use std::test::Fail;
