@@ -2,8 +2,10 @@
 //! connections did, so it holds no lock and changes nothing of what is asked for or answered. No clause speaks of the line.
 #![tactic(auto)]
 
+mod behind_line;
 mod progress;
 mod watched;
 
+pub use crate::behind_line::BehindLine;
 pub use crate::progress::Progress;
 pub use crate::watched::{Watched, WatchedWire};

@@ -73,9 +73,10 @@ impl<'a, R: Clock + Eprint> Progress<'a, R> {
         );
     }
 
-    /// Clears the line at the end of a run.
+    /// Ends the line, and clears it where it was shown: no other is written. Later calls change nothing.
     pub fn clear(&self) {
-        if self.start.is_some() {
+        let due = self.due.swap(u64::MAX, Ordering::SeqCst);
+        if due != PAUSE && due != u64::MAX {
             let _ = eprint!(self.rt; "\r{:79}\r", "");
         }
     }
