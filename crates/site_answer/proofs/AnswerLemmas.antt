@@ -33,9 +33,16 @@ pub answers_of_response : (before after : ℕ) (purpose : Purpose) (known : Opti
     → ((h : HeadParts) (body : List ℕ) → HasTaken d (Some h) body → x ≡ digest_of d.robots d.at (record { head = h; body = body }))
     → ((h : HeadParts) (body : List ℕ) → HasTaken d (Some h) body → kept ≡ kept_body h.status body)
     → OfBytes known (AnswersBytes purpose.robots purpose.at before after x kept)
-answers_of_response before after purpose known d taken x kept is_for fresh (bytes, tells, (r, rest, is, adds)) outcome body =
-    (bytes, tells, inl (r, (rest, is),
-    outcome r.head r.body (adds fresh) ∙ ap (λ p. digest_of p.robots p.at r) is_for, body r.head r.body (adds fresh)))
+answers_of_response before after purpose known d taken x kept is_for fresh (bytes, tells, (r, rest, is, adds)) outcome body = (
+  bytes,
+  tells,
+  inl (
+    r,
+    (rest, is),
+    outcome r.head r.body (adds fresh) ∙ ap (λ p. digest_of p.robots p.at r) is_for,
+    body r.head r.body (adds fresh),
+  ),
+)
 
 -- what a fault says is what the bytes say
 pub answers_of_fault : (robots : Bool) (at : AddressText) (before after : ℕ) (known : Option (List ℕ)) (f : ReadFault) (kind : FaultKind) (x : Outcome) (kept : List ℕ)

@@ -81,7 +81,14 @@ pub record Talk : Type 0 where
 -- the next connection, over which nothing was written yet
 abbrev pub fresh : Site → Talk
 fresh s = record {
-  answers = s.answers; failures = s.failures; connection = s.made; request = []; rest = None; calls = 0; failed = 0; lost = false;
+  answers = s.answers;
+  failures = s.failures;
+  connection = s.made;
+  request = [];
+  rest = None;
+  calls = 0;
+  failed = 0;
+  lost = false;
 }
 
 -- one more call

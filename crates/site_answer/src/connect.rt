@@ -54,8 +54,7 @@ pub trait Connect: Drop {
         ensures made { made self.new ≡ made self.old }
         ensures failed { failed self.new ≡ failed self.old }
         ensures refused { refused self.new ≡ refused self.old }
-    {
-    }
+    {}
 
     /// How many calls answered an error; at the largest number it stays.
     fn failures(&self) -> u64

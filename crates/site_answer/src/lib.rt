@@ -22,9 +22,7 @@ pub use fetcher::{
     Answer, Ask, Body, Edge, EdgeKind, Edges, FaultKind, Fetcher, Outcome, SteadyFetcher,
 };
 pub use http_fetcher::HttpFetcher;
-pub use memory_connect::{
-    FailingPlace, MemoryConnect, PlannedFailure, StoredAnswer, StoredWire,
-};
+pub use memory_connect::{FailingPlace, MemoryConnect, PlannedFailure, StoredAnswer, StoredWire};
 pub use read_fault::kind_of_fault;
 pub use site_maps::{InputFault, MapSite, SteadyMap};
 pub use whole_response::{digest, into_answer};

@@ -89,9 +89,7 @@ impl<'a> MemoryConnect<'a> {
 fn is_refused(failures: &[PlannedFailure], connection: u64) -> bool
     ensures { result ≡ is_refused failures.now connection }
 {
-    failures
-        .iter()
-        .any(|planned| planned.connection == connection && is_connect(&planned.place))
+    failures.iter().any(|planned| planned.connection == connection && is_connect(&planned.place))
 }
 
 fn is_connect(place: &FailingPlace) -> bool

@@ -10,7 +10,7 @@ pub returns-in-Ok-clause-told : goal.returns-in-Ok-clause-told
 returns-in-Ok-clause-told g c =
     rw (sym c.self.view_is) (if_ok_both c.finish.result _ _ _ c.finish.ensures.outcome c.finish.ensures.body
     (λ a outcome body. answers_of_response _ _ _ _ c.read_into.new.sink _ a.outcome a.body
-        (c.in-Ok.ensures.purpose ∙ c.in_ok-digester.ensures.purpose) c.in_ok-digester.ensures.fresh c.in-Ok.ensures.response outcome body))
+    (c.in-Ok.ensures.purpose ∙ c.in_ok-digester.ensures.purpose) c.in_ok-digester.ensures.fresh c.in-Ok.ensures.response outcome body))
 
 pub returns-in-Some-clause-told : goal.returns-in-Some-clause-told
 returns-in-Some-clause-told g c =
