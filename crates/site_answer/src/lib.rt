@@ -3,6 +3,7 @@
 //! `Digests` what a response answers, `Digesting` what a sink in mid-response stands for.
 #![tactic(auto)]
 
+mod connect;
 mod digester;
 mod head_kind;
 mod links;
@@ -10,6 +11,7 @@ mod read_fault;
 mod stage;
 mod whole_response;
 
+pub use connect::{Connect, ConnectFault};
 pub use digester::Digester;
 pub use fetcher::{
     Answer, Ask, Body, Edge, EdgeKind, Edges, FaultKind, Fetcher, Outcome, SteadyFetcher,
