@@ -1,0 +1,139 @@
+"""Web servers for the scripts that measure, and how a program is measured beside them."""
+import asyncio
+import contextlib
+import os
+import shutil
+import socket
+import subprocess
+import sys
+import time
+
+PROGRAM = os.path.join(os.path.dirname(os.path.dirname(os.path.abspath(__file__))), "crates", "wgetr", "out", "wgetr")
+
+
+def need(wgetr, *programs):
+    """Ends the script where wgetr or one of the other programs isn't there."""
+    missing = [program for program in programs if not shutil.which(program, path=os.environ["PATH"] + ":/usr/sbin")]
+    if missing:
+        sys.exit(f"{', '.join(missing)} is needed, and isn't there: apt-get install nginx-light wget wget2")
+    if not os.access(wgetr, os.X_OK):
+        sys.exit(f"{wgetr} isn't built yet: ./wgetr -h builds it")
+
+
+def free_port():
+    with socket.socket() as probe:
+        probe.bind(("127.0.0.1", 0))
+        return probe.getsockname()[1]
+
+
+def wait_for(port):
+    """Waits until somebody listens at the port."""
+    for _ in range(200):
+        with socket.socket() as probe:
+            if probe.connect_ex(("127.0.0.1", port)) == 0:
+                return
+        time.sleep(0.05)
+    sys.exit(f"nobody listens at port {port}")
+
+
+NGINX = """daemon off;
+worker_processes 2;
+pid {folder}/nginx.pid;
+error_log {folder}/error.log;
+events {{ worker_connections 1024; }}
+http {{
+  types {{ text/html html htm; text/css css; text/plain txt; image/png png; image/svg+xml svg; application/javascript js; }}
+  default_type application/octet-stream;
+  log_format paths "$request_uri";
+  access_log {log} paths;
+  client_body_temp_path {folder}/body; proxy_temp_path {folder}/proxy; fastcgi_temp_path {folder}/fcgi;
+  uwsgi_temp_path {folder}/uwsgi; scgi_temp_path {folder}/scgi;
+  server {{ listen 127.0.0.1:{port}; root {root}; absolute_redirect on; port_in_redirect on; }}
+}}
+"""
+
+
+@contextlib.contextmanager
+def nginx(folder, root, log):
+    """nginx over the files below root; gives its port. Each request's path becomes a line of the log."""
+    port = free_port()
+    configuration = os.path.join(folder, f"nginx-{port}.conf")
+    with open(configuration, "w") as out:
+        out.write(NGINX.format(folder=folder, root=root, log=log, port=port))
+    program = shutil.which("nginx", path=os.environ["PATH"] + ":/usr/sbin")
+    # A folder that only its owner may enter is closed to nginx where its workers are another user.
+    server = subprocess.Popen([program, "-p", folder, "-e", os.path.join(folder, "error.log"), "-c", configuration,
+                               "-g", f"user {os.environ.get('USER', 'root')};" if os.geteuid() == 0 else ""])
+    try:
+        wait_for(port)
+        yield port
+    finally:
+        server.terminate()
+        server.wait()
+
+
+async def answer_slowly(pages, delay, log, reader, writer):
+    """Answers the requests of a connection, each that long after it came."""
+    with contextlib.suppress(ConnectionError, asyncio.IncompleteReadError):
+        while True:
+            head = await reader.readuntil(b"\r\n\r\n")
+            path = head.split(b" ", 2)[1].decode()
+            await asyncio.sleep(delay)
+            body = pages.get(path)
+            ends = b"connection: close" in head.lower()
+            status, body = ("404 Not Found", b"") if body is None else ("200 OK", body)
+            log.write(path + "\n")
+            writer.write(f"HTTP/1.1 {status}\r\nContent-Type: text/html\r\nContent-Length: {len(body)}\r\n"
+                         f"{'Connection: close' + chr(13) + chr(10) if ends else ''}\r\n".encode() + body)
+            await writer.drain()
+            if ends:
+                break
+    writer.close()
+
+
+def serve_slowly(root, delay, port, log_path):
+    """Serves the files below root, which it holds in memory, until it is ended."""
+    pages = {}
+    for folder, _, names in os.walk(root):
+        for name in names:
+            path = os.path.join(folder, name)
+            with open(path, "rb") as file:
+                pages["/" + os.path.relpath(path, root)] = file.read()
+    pages["/"] = pages["/index.html"]
+
+    async def run():
+        with open(log_path, "w", buffering=1) as log:
+            server = await asyncio.start_server(lambda r, w: answer_slowly(pages, delay, log, r, w), "127.0.0.1", port,
+                                                backlog=1024)
+            await server.serve_forever()
+
+    asyncio.run(run())
+
+
+@contextlib.contextmanager
+def slow(root, delay, log):
+    """A server that answers each request that many seconds after it came; gives its port."""
+    port = free_port()
+    child = os.fork()
+    if child == 0:
+        serve_slowly(root, delay, port, log)
+    try:
+        wait_for(port)
+        yield port
+    finally:
+        os.kill(child, 15)
+        os.waitpid(child, 0)
+
+
+def measure(words, output):
+    """Runs a program; gives the seconds that passed, those of the processor, the most bytes held, and the exit status."""
+    began = time.monotonic()
+    child = os.fork()
+    if child == 0:
+        os.dup2(os.open(os.devnull, os.O_RDONLY), 0)
+        os.dup2(os.open(output, os.O_WRONLY | os.O_CREAT | os.O_TRUNC, 0o644), 1)
+        os.dup2(os.open(output + ".errors", os.O_WRONLY | os.O_CREAT | os.O_TRUNC, 0o644), 2)
+        os.execvp(words[0], words)
+    _, status, usage = os.wait4(child, 0)
+    wall = time.monotonic() - began
+    return wall, usage.ru_utime + usage.ru_stime, usage.ru_maxrss * 1024, os.waitstatus_to_exitcode(status)

@@ -1,0 +1,9 @@
+//! What a person sees on a terminal while a site is retrieved: one line, which is rewritten now and then. It counts what
+//! connections did, so it holds no lock and changes nothing of what is asked for or answered. No clause speaks of the line.
+#![tactic(auto)]
+
+mod progress;
+mod watched;
+
+pub use crate::progress::Progress;
+pub use crate::watched::{Watched, WatchedWire};

@@ -1,0 +1,82 @@
+//! The line, and what it counts.
+use std::sync::atomic::{AtomicU64, Ordering};
+use std::time::{Clock, Instant};
+
+/// The least milliseconds between two lines.
+const PAUSE: u64 = 250;
+
+/// Counts what the connections of a run did, and tells it on standard error at most four times a second. All workers of a
+/// run share it.
+#[derive(Drop)]
+pub struct Progress<'a, R: Clock + Eprint> {
+    rt: &'a R,
+    // When the run began; none where nothing is to be shown.
+    start: Option<Instant>,
+    answered: AtomicU64,
+    failed: AtomicU64,
+    bytes: AtomicU64,
+    // How many milliseconds after the start the next line may be written.
+    due: AtomicU64,
+}
+
+impl<'a, R: Clock + Eprint> Progress<'a, R> {
+    /// The progress of a run that begins now. It is shown where this is true, as where standard error is a terminal, and the
+    /// clock can be read. Takes no memory.
+    pub fn new(rt: &'a R, shown: bool) -> Progress<'a, R> {
+        let start = if shown { Instant::now(rt).ok() } else { None };
+        Progress {
+            rt,
+            start,
+            answered: AtomicU64::new(0),
+            failed: AtomicU64::new(0),
+            bytes: AtomicU64::new(0),
+            due: AtomicU64::new(PAUSE),
+        }
+    }
+
+    // Counts a connection that has ended, over which so many bytes came, and shows the line where it is due.
+    pub(crate) fn ended(&self, failed: bool, bytes: u64) {
+        let Some(start) = &self.start else {
+            return;
+        };
+        let count = if failed { &self.failed } else { &self.answered };
+        count.fetch_add(1, Ordering::SeqCst);
+        self.bytes.fetch_add(bytes, Ordering::SeqCst);
+        let Ok(elapsed) = start.elapsed(self.rt) else {
+            return;
+        };
+        let now = u64::try_from(elapsed.as_millis()).unwrap_or(u64::MAX);
+        if self.is_due(now) {
+            self.show(now);
+        }
+    }
+
+    // Whether the line is due, and this caller is the one to write it.
+    fn is_due(&self, now: u64) -> bool {
+        let due = self.due.load(Ordering::SeqCst);
+        let next = now.saturating_add(PAUSE);
+        now >= due
+            && self
+                .due
+                .compare_exchange(due, next, Ordering::SeqCst, Ordering::SeqCst)
+                .is_ok()
+    }
+
+    // Writes the line over the one before. Blanks behind it cover a longer one. Where it can't be written, nobody sees it.
+    fn show(&self, now: u64) {
+        let answered = self.answered.load(Ordering::SeqCst);
+        let failed = self.failed.load(Ordering::SeqCst);
+        let kilobytes = self.bytes.load(Ordering::SeqCst) / 1000;
+        let rate = kilobytes.saturating_mul(1000) / now.max(1);
+        let _ = eprint!(self.rt;
+            "\r{answered} answered, {failed} failed, {kilobytes} kB, {rate} kB/s        "
+        );
+    }
+
+    /// Clears the line at the end of a run.
+    pub fn clear(&self) {
+        if self.start.is_some() {
+            let _ = eprint!(self.rt; "\r{:79}\r", "");
+        }
+    }
+}

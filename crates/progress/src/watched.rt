@@ -1,0 +1,122 @@
+//! Connections that are counted.
+ghost use Rattle.std.specs.Prelude.{◌≡◌};
+ghost use Rattle.response_reader.specs.Wire.{CountsFault, NotesLoss, counted};
+ghost use Rattle.site_answer.specs.Connects.{CountsRefusal};
+
+use crate::progress::Progress;
+use address::Origin;
+use response_reader::{Wire, WireFault};
+use site_answer::{Connect, ConnectFault};
+use std::marker::Model;
+use std::time::Clock;
+
+/// Makes the connections of another, and counts what becomes of them.
+#[derive(Drop)]
+pub struct Watched<'a, C: Connect, R: Clock + Eprint> {
+    inner: C,
+    progress: &'a Progress<'a, R>,
+}
+
+/// A connection of another, with what came over it.
+#[derive(Drop)]
+pub struct WatchedWire<W: Wire + Drop> {
+    wire: W,
+    bytes: u64,
+    broke: bool,
+}
+
+// Contracts see the other's connections alone.
+impl<'a, C: Connect, R: Clock + Eprint> Model for Watched<'a, C, R> {
+    ghost Value = { C };
+
+    ghost view = { λ c. c.inner };
+}
+
+impl<W: Wire + Drop> Model for WatchedWire<W> {
+    ghost Value = { W };
+
+    ghost view = { λ w. w.wire };
+}
+
+impl<'a, C: Connect, R: Clock + Eprint> Watched<'a, C, R> {
+    /// Counts the connections that `inner` makes. Takes no memory.
+    pub fn new(inner: C, progress: &'a Progress<'a, R>) -> Watched<'a, C, R>
+        ensures { result ≡ inner }
+    {
+        Watched { inner, progress }
+    }
+}
+
+impl<'a, C: Connect, R: Clock + Eprint> Connect for Watched<'a, C, R> {
+    type Wire = WatchedWire<C::Wire>;
+
+    ghost made = { λ c. C.made c };
+
+    ghost failed = { λ c. C.failed c };
+
+    ghost refused = { λ c. C.refused c };
+
+    ghost gives = { λ c of wire. C.gives c of wire };
+
+    fn connect(&mut self, of: &Origin) -> Result<WatchedWire<C::Wire>, ConnectFault> {
+        match self.inner.connect(of) {
+            Ok(wire) => Ok(WatchedWire {
+                wire,
+                bytes: 0,
+                broke: false,
+            }),
+            Err(fault) => {
+                self.progress.ended(true, 0);
+                Err(fault)
+            }
+        }
+    }
+
+    fn close(&mut self, wire: WatchedWire<C::Wire>) {
+        let WatchedWire { wire, bytes, broke } = wire;
+        self.inner.close(wire);
+        self.progress.ended(broke, bytes);
+    }
+
+    fn failures(&self) -> u64 {
+        self.inner.failures()
+    }
+}
+
+impl<W: Wire + Drop> Wire for WatchedWire<W> {
+    ghost incoming = { λ w. W.incoming w };
+
+    ghost outgoing = { λ w. W.outgoing w };
+
+    ghost failed = { λ w. W.failed w };
+
+    ghost lost = { λ w. W.lost w };
+
+    ghost reads_never_fail = { λ w. W.reads_never_fail w };
+
+    ghost writes_never_fail = { λ w. W.writes_never_fail w };
+
+    ghost never_errs = { λ w. W.never_errs w };
+
+    fn read(&mut self, room: &mut [u8]) -> Result<usize, WireFault> {
+        let answer = self.wire.read(room);
+        match &answer {
+            Ok(n) => self.bytes = self.bytes.saturating_add(*n as u64),
+            Err(WireFault::Failed) => self.broke = true,
+            Err(WireFault::Interrupted) => {}
+        }
+        answer
+    }
+
+    fn write(&mut self, bytes: &[u8]) -> Result<usize, WireFault> {
+        let answer = self.wire.write(bytes);
+        if answer == Err(WireFault::Failed) {
+            self.broke = true;
+        }
+        answer
+    }
+
+    fn failures(&self) -> u64 {
+        self.wire.failures()
+    }
+}

@@ -1,0 +1,111 @@
+//! A wire over a stream of bytes, as a TCP connection.
+ghost use Rattle.std.specs.Prelude.{◌≡◌, false, None};
+ghost use Rattle.response_reader.specs.Wire.{CountsFault, NotesLoss};
+
+use crate::wire::{Wire, WireFault};
+use std::io::{ErrorKind, Read, Write};
+use std::marker::Model;
+
+/// A connection over a stream, as a `TcpStream`. Of a stream of the system nothing is known, so
+/// contracts say only how its failures are counted. A time limit of the stream's that runs out, on a
+/// read or a write, is a failure: the connection is given up.
+#[derive(Drop)]
+pub struct TcpWire<S: Read + Write + Drop> {
+    stream: S,
+    failed: u64,
+    lost: bool,
+}
+
+// Contracts see how many calls answered an error, and whether one lost the connection.
+impl<S: Read + Write + Drop> Model for TcpWire<S> {
+    ghost use Rattle.std.specs.Prelude.{ℕ, Bool};
+
+    ghost Value = { ℕ × Bool };
+
+    ghost view = { λ w. (w.failed, w.lost) };
+}
+
+// What a fault of a stream is to a wire. An interrupted call may be made again; every other fault,
+// a time limit too (`WouldBlock` or `TimedOut`), ends the connection.
+fn wire_fault(kind: ErrorKind) -> WireFault {
+    match kind {
+        ErrorKind::Interrupted => WireFault::Interrupted,
+        _ => WireFault::Failed,
+    }
+}
+
+impl<S: Read + Write + Drop> TcpWire<S> {
+    /// A wire over a stream that is connected. Takes no memory.
+    pub fn new(stream: S) -> TcpWire<S>
+        ensures { result ≡ (0, false) }
+    {
+        TcpWire {
+            stream,
+            failed: 0,
+            lost: false,
+        }
+    }
+
+    /// The stream again, as for its own calls at the end.
+    pub fn into_stream(self) -> S {
+        let TcpWire {
+            stream,
+            failed: _,
+            lost: _,
+        } = self;
+        stream
+    }
+
+    // Counts a fault, and keeps whether one lost the connection.
+    fn note<T>(&mut self, answer: Result<T, WireFault>) -> Result<T, WireFault>
+        ensures same { result ≡ answer }
+        ensures counted { CountsFault self.old.0 self.new.0 answer }
+        ensures lost { NotesLoss self.old.1 self.new.1 answer }
+    {
+        if let Err(fault) = &answer {
+            self.failed = self.failed.saturating_add(1);
+            match fault {
+                WireFault::Interrupted => {}
+                WireFault::Failed => self.lost = true,
+            }
+        }
+        answer
+    }
+}
+
+impl<S: Read + Write + Drop> Wire for TcpWire<S> {
+    ghost incoming = { λ _. None };
+
+    ghost outgoing = { λ _. None };
+
+    ghost failed = { λ w. w.0 };
+
+    ghost lost = { λ w. w.1 };
+
+    ghost reads_never_fail = { λ _. false };
+
+    ghost writes_never_fail = { λ _. false };
+
+    ghost never_errs = { λ _. false };
+
+    fn read(&mut self, room: &mut [u8]) -> Result<usize, WireFault> {
+        let answer = match self.stream.read(room) {
+            Ok(n) => Ok(n),
+            Err(e) => Err(wire_fault(e.kind())),
+        };
+        self.note(answer)
+    }
+
+    fn write(&mut self, bytes: &[u8]) -> Result<usize, WireFault> {
+        let answer = match self.stream.write(bytes) {
+            Ok(0) if !bytes.is_empty() => Err(WireFault::Failed),
+            Ok(n) => Ok(n),
+            Err(e) => Err(wire_fault(e.kind())),
+        };
+        self.note(answer)
+    }
+
+    fn failures(&self) -> u64 {
+        self.failed
+    }
+}
