@@ -39,7 +39,7 @@ use Rattle.workers.specs.declared.crew_retrieval.Stopped.{Stopped as StoppedCrew
 use Rattle.workers.specs.declared.retrieval.Halt.{Halt}
 use Rattle.retriever.specs.Parts.{IsOutputOf, IsToldOf, IsRead, brought_by, is_borne_out, shown_of}
 use Rattle.retriever.specs.Retrieved.{IsPartOf, AreBy, AreEventsOf, AreShown, HasStopped, Reported, Stopped, Finishes}
-use Rattle.retriever.specs.declared.run.Output.{Output}
+use Rattle.retriever.specs.declared.input_run.Output.{Output}
 use Rattle.std.specs.declared.alloc.AllocError.{AllocError}
 use Rattle.retriever.specs.Site.{AreNamed, whole_of, without_bodies}
 use Rattle.retriever.proofs.FoundLaws.{are_lines}
