@@ -5,6 +5,7 @@
 
 pub use crate::input::{ReadFault, read_input};
 pub use crate::input_run::run;
+pub use crate::live_run::live;
 pub use crate::program::run_program;
 
 mod advice;
@@ -13,7 +14,9 @@ mod fault;
 mod input;
 mod input_run;
 mod interruption;
+mod live_run;
 mod order;
 mod output;
 mod program;
+mod told;
 mod trace;
