@@ -11,9 +11,9 @@ ghost use Rattle.retriever.specs.Streams.{AppendsFront};
 
 use crate::advice::{Advice, advice_on, advice_text};
 use crate::fault::Fault;
+use crate::input_run::{refuse, run};
 use crate::order::input_order;
 use crate::output::write_text;
-use crate::run::{refuse, run};
 use std::alloc::{AllocError, Global};
 use std::env::Args;
 use std::io;

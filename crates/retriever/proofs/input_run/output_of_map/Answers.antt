@@ -2,7 +2,7 @@
 use Rattle.site_maps.specs.Maps.{says_of}
 use Rattle.retriever.specs.Site.{whole_of}
 use Rattle.retriever.proofs.EndLaws.{map_fits}
-use Rattle.retriever.proofs.run.output_of_map.Goals as goal
+use Rattle.retriever.proofs.input_run.output_of_map.Goals as goal
 
 pub returns-clause-ok : goal.returns-clause-ok
 returns-clause-ok g c =

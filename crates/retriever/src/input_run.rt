@@ -1,38 +1,29 @@
 //! A run: from the words and the input to what is written.
-ghost use Rattle.std.specs.Prelude.{◌≡◌, ◌≢◌, ◌++◌, ◌&&◌, ℕ, List, IfOk, IfErr, OnOk, map, string_bytes};
+ghost use Rattle.std.specs.Prelude.{◌≡◌, ◌≢◌, IfOk, IfErr, map, string_bytes};
 ghost use Rattle.site_maps.specs.Maps.{says_of, IsFault as IsFaultOfMap};
 ghost use Rattle.site_records.specs.Records.{says_of as record_says, IsFault as IsFaultOfRecord};
 ghost use Rattle.frontier_core.specs.Routes.{Answers};
 ghost use Rattle.workers.specs.Sites.{Fits};
-ghost use Rattle.local_tree.specs.Names.{IsNaming};
-ghost use Rattle.local_tree.specs.PlainNames.{plain_name_of};
-ghost use Rattle.report.specs.Entries.{lines_of};
-ghost use Rattle.report.specs.Report.{report_text};
 ghost use Rattle.retriever.specs.Order.{AreForInput};
-ghost use Rattle.retriever.specs.Retrieved.{Stopped as StoppedFor};
 ghost use Rattle.retriever.specs.Site.{IsMapOf, IsRecordOf, IsToldBy, IsWrongBy, without_bodies};
-ghost use Rattle.retriever.specs.Trace.{trace_text};
-ghost use Rattle.retriever.specs.Parts.{TellsOf, TellsFault, IsOutput, IsOutputOf, IsDelivered, IsRefusal, IsRead, IsToldOf, brought_by, is_borne_out, shown_of};
-ghost use Rattle.retriever.specs.Run.{EndsFor, Ending, Failed, Runs, ending_text, ending_status, finish_text};
+ghost use Rattle.retriever.specs.Parts.{TellsOf, TellsFault, IsOutput, IsOutputOf, IsDelivered, IsRefusal};
+ghost use Rattle.retriever.specs.Run.{EndsFor, Ending, Failed, Runs, ending_text, ending_status};
 
 use crate::copies::{Copied, copies_of};
 use crate::fault::{Fault, fault_text};
 use crate::input::{MAX_INPUT, read_input};
 use crate::order::input_order;
 use crate::output::write_text;
-use crate::trace::{cause_word, push_trace};
+use crate::told::{Output, brought_by, told_of};
 use fetcher::Fetcher;
-use frontier_core::{Cause, Event};
-use local_tree::names;
 use options::{Order, Source};
-use report::{exit_status, report_text};
 use site_maps::MapSite;
 use site_records::RecordedSite;
 use std::alloc::{AllocError, Global};
 use std::io::{Read, Write};
 use std::sync::Wait;
 use std::thread::Threads;
-use workers::{Halt, Harvest, Retrieved, Stopped, retrieve_in_order};
+use workers::retrieve_in_order;
 
 // The site of the map that is the input.
 fn map_of<R: Read>(alloc: Global, reader: &mut R) -> Result<MapSite, Fault>
@@ -52,85 +43,6 @@ fn record_of<R: Read>(alloc: Global, reader: &mut R, robots: bool) -> Result<Rec
     Ok(RecordedSite::read(alloc, input.as_slice(), robots)?)
 }
 
-// What a run has to write, and the status with which it ends.
-#[derive(Drop)]
-struct Output {
-    text: String,
-    status: u8,
-}
-
-// Adds the trace, where it is to be shown.
-fn push_shown(text: &mut String, is_shown: bool, trace: &[Event]) -> Result<(), AllocError>
-    ensures ok { OnOk result (string_bytes text.new ≡ string_bytes text.old ++ trace_text (shown_of is_shown trace.now)) }
-{
-    if is_shown {
-        return push_trace(text, trace);
-    }
-    Ok(())
-}
-
-// The text of a harvest: its trace, where it is to be shown, and its report, in which the kept pages have their names.
-fn harvest_text(alloc: Global, is_shown: bool, harvest: &Harvest) -> Result<String, AllocError>
-    ensures { IfOk result (λ text. (given : List (List ℕ)) × IsNaming (map plain_name_of harvest.now.kept) given
-        × (string_bytes text ≡ trace_text (shown_of is_shown harvest.now.trace) ++ report_text (lines_of harvest.now given))) }
-{
-    let given = names(alloc, harvest.kept())?;
-    let report = report_text(alloc, harvest, given.as_slice())?;
-    let mut text = String::new(alloc);
-    push_shown(&mut text, is_shown, harvest.trace())?;
-    text.push_str(report.as_str())?;
-    Ok(text)
-}
-
-// Whether the checks of a retrieval that stopped for this cause bear out what it found.
-fn is_borne_out(cause: Cause) -> bool
-    ensures { result ≡ is_borne_out cause }
-{
-    match cause {
-        Cause::Full | Cause::Memory => true,
-        Cause::Mismatch => false,
-    }
-}
-
-// The text of a retrieval that stopped: its trace, where it is to be shown and no check failed, and the line of the cause.
-fn halt_text(alloc: Global, is_shown: bool, halt: &Halt) -> Result<String, AllocError>
-    ensures { IfOk result (λ text. string_bytes text ≡ trace_text (shown_of (is_borne_out halt.now.cause && is_shown) halt.now.harvest.trace) ++ finish_text (StoppedFor halt.now.cause)) }
-{
-    let mut text = String::new(alloc);
-    let is_shown = is_borne_out(halt.cause) && is_shown;
-    push_shown(&mut text, is_shown, halt.harvest.trace())?;
-    let word = cause_word(halt.cause);
-    writeln!(text, "stopped {word}")?;
-    Ok(text)
-}
-
-// What is told of what a retrieval brought.
-fn told_of(
-    alloc: Global,
-    is_shown: bool,
-    brought: &Result<Harvest, Halt>,
-) -> Result<Output, AllocError>
-    ensures told { IfOk result (λ output. IsToldOf is_shown brought.now (string_bytes output.text) output.status) }
-    ensures read { IfOk brought.now IsRead }
-{
-    match brought {
-        Ok(harvest) => {
-            // The entries, the records and the kept pages say what the frontier holds, and the trace leads there.
-            let _entries = harvest.entries();
-            let _records = harvest.records();
-            let _kept = harvest.kept();
-            let _trace = harvest.trace();
-            let text = harvest_text(alloc, is_shown, harvest)?;
-            let status = exit_status(harvest);
-            Ok(Output { text, status })
-        }
-        Err(halt) => {
-            let text = halt_text(alloc, is_shown, halt)?;
-            Ok(Output { text, status: 1 })
-        }
-    }
-}
-
 // What is told of the retrieval by one worker.
 fn retrieve_alone<F: Fetcher>(
     alloc: Global,
@@ -141,29 +53,6 @@ fn retrieve_alone<F: Fetcher>(
 {
     let brought = retrieve_in_order(alloc, &order.plan, &mut site);
     told_of(alloc, order.trace, &brought)
-}
-
-// What a crew brings, without its fetchers.
-fn brought_by<F: Drop>(crew: Result<Retrieved<F>, Stopped<F>>) -> Result<Harvest, Halt>
-    ensures { result ≡ brought_by crew }
-{
-    match crew {
-        Ok(retrieved) => {
-            let Retrieved {
-                harvest,
-                fetchers: _,
-            } = retrieved;
-            Ok(harvest)
-        }
-        Err(stopped) => {
-            let Stopped {
-                cause,
-                harvest,
-                fetchers: _,
-            } = stopped;
-            Err(Halt { cause, harvest })
-        }
-    }
 }
 
 // What is told of the retrieval by several workers, each with a copy of the site.
@@ -259,8 +148,8 @@ fn output_of<H: Threads + Wait + Sync, R: Read>(
     output_of_input(rt, alloc, &order, reader)
 }
 
-// Writes a text, and gives the status of the run: this one, or 1 where the writer fails.
-fn deliver<W: Write>(writer: &mut W, text: &[u8], status: u8) -> u8
+/// Writes a text, and gives the status of the run: this one, or 1 where the writer fails.
+pub(crate) fn deliver<W: Write>(writer: &mut W, text: &[u8], status: u8) -> u8
     ensures { IsDelivered (W.contents writer.old) (W.contents writer.new) text.now status result }
 {
     match write_text(writer, text) {

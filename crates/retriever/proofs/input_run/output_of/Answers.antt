@@ -1,7 +1,7 @@
 -- Each part's fault is the run's, and so is what it tells.
 use Rattle.std.proofs.lemmas.Result.{err_from_is_err_and}
 use Rattle.retriever.proofs.RunLaws.{ends_refused, ends_fault, ends_output}
-use Rattle.retriever.proofs.run.output_of.Goals as goal
+use Rattle.retriever.proofs.input_run.output_of.Goals as goal
 
 pub returns-in_err-order-clause-err : goal.returns-in_err-order-clause-err
 returns-in_err-order-clause-err g c =

@@ -2,7 +2,7 @@
 use Rattle.site_records.specs.Records.{says_of}
 use Rattle.retriever.specs.Site.{whole_of, without_bodies}
 use Rattle.retriever.proofs.EndLaws.{record_fits}
-use Rattle.retriever.proofs.run.output_of_record.Goals as goal
+use Rattle.retriever.proofs.input_run.output_of_record.Goals as goal
 
 pub returns-clause-ok : goal.returns-clause-ok
 returns-clause-ok g c =

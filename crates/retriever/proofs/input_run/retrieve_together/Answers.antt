@@ -1,6 +1,6 @@
 -- What the crew retrieved is what the site has.
 use Rattle.retriever.proofs.EndLaws.{copies_fit, crew_finishes}
-use Rattle.retriever.proofs.run.retrieve_together.Goals as goal
+use Rattle.retriever.proofs.input_run.retrieve_together.Goals as goal
 
 pub returns : goal.returns
 returns g c = λ whole fits.

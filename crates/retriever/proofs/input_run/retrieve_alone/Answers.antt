@@ -1,6 +1,6 @@
 -- What was retrieved is what the site has.
 use Rattle.retriever.proofs.EndLaws.{alone_finishes}
-use Rattle.retriever.proofs.run.retrieve_alone.Goals as goal
+use Rattle.retriever.proofs.input_run.retrieve_alone.Goals as goal
 
 pub returns : goal.returns
 returns g c = λ whole fits.

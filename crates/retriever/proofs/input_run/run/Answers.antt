@@ -4,7 +4,7 @@ use Rattle.retriever.specs.Parts.{IsDelivered}
 use Rattle.retriever.specs.Run.{Failed, ending_text}
 use Rattle.retriever.specs.declared.fault.Fault.TheVariants as fault
 use Rattle.retriever.proofs.RunLaws.{ends_memory}
-use Rattle.retriever.proofs.run.run.Goals as goal
+use Rattle.retriever.proofs.input_run.run.Goals as goal
 
 pub returns-in-Ok : goal.returns-in-Ok
 returns-in-Ok g c =
