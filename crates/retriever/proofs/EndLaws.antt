@@ -39,7 +39,7 @@ use Rattle.workers.specs.declared.crew_retrieval.Stopped.{Stopped as StoppedCrew
 use Rattle.workers.specs.declared.retrieval.Halt.{Halt}
 use Rattle.retriever.specs.Parts.{IsOutputOf, IsToldOf, IsRead, brought_by, is_borne_out, shown_of}
 use Rattle.retriever.specs.Retrieved.{IsPartOf, AreBy, AreEventsOf, AreShown, HasStopped, Reported, Stopped, Finishes}
-use Rattle.retriever.specs.declared.run.Output.{Output}
+use Rattle.retriever.specs.declared.told.Output.{Output}
 use Rattle.std.specs.declared.alloc.AllocError.{AllocError}
 use Rattle.retriever.specs.Site.{AreNamed, whole_of, without_bodies}
 use Rattle.retriever.proofs.FoundLaws.{are_lines}
@@ -63,14 +63,14 @@ are_shown : (b : Bool) (AreSuch : List Event → Type 0) (trace : List Event) �
 are_shown true AreSuch trace such = such
 are_shown false AreSuch trace such = refl
 
-none_shown : (b : Bool) (trace : List Event) → trace ≡ [] → shown_of b trace ≡ []
+pub none_shown : (b : Bool) (trace : List Event) → trace ≡ [] → shown_of b trace ≡ []
 none_shown true trace is = is
 none_shown false trace is = refl
 
 -- ---- a harvest
 
 -- the lines of a harvest have the names of its kept pages
-are_named : (plan : Plan) (h : Harvested) (names : List (List ℕ)) → AreEntries h → AreRecords h → ArePages h → h.plan ≡ Some plan → IsOnce (keys h.state.entries)
+pub are_named : (plan : Plan) (h : Harvested) (names : List (List ℕ)) → AreEntries h → AreRecords h → ArePages h → h.plan ≡ Some plan → IsOnce (keys h.state.entries)
     → IsNaming (map plain_name_of h.kept) names → AreNamed plan (lines_of h names)
 are_named plan h names are records pages follows once naming =
     let long : length names ≡ length h.kept = naming.count ∙ length-map h.kept plain_name_of in
@@ -92,7 +92,7 @@ reported order may_say may_rule whole asks h names fits brings read complete by_
     )
 
 -- the exit status of a report is that of its lines
-status_of : (order : Order) (h : Harvested) (names : List (List ℕ)) → IsRead h → h.plan ≡ Some order.plan → exit_status (map (λ recorded. recorded.1) h.records) ≡ exit_status (outcomes_in (lines_of h names))
+pub status_of : (order : Order) (h : Harvested) (names : List (List ℕ)) → IsRead h → h.plan ≡ Some order.plan → exit_status (map (λ recorded. recorded.1) h.records) ≡ exit_status (outcomes_in (lines_of h names))
 status_of order h names read follows =
     same_status h names read.0 read.1 (subst (λ (o : Option Plan). IfSome o (λ plan. IsSound (policy plan) h.state)) follows read.3).addresses
 

@@ -3,3 +3,4 @@ pub mod FoundLaws
 pub mod EndLaws
 pub mod RunLaws
 pub mod ProgramLaws
+pub mod LiveLaws

@@ -12,7 +12,7 @@ use Rattle.retriever.specs.Streams.{IsInput}
 use Rattle.retriever.specs.declared.fault.Fault.{Fault}
 use Rattle.retriever.specs.declared.fault.Fault.TheVariants as fault
 use Rattle.retriever.specs.declared.input.ReadFault.TheVariants as reading
-use Rattle.retriever.specs.declared.run.Output.{Output}
+use Rattle.retriever.specs.declared.told.Output.{Output}
 
 -- some bytes are what the reader has left
 some_input : (known : Option (List ℕ)) → (input : List ℕ) × IsInput known input

@@ -7,3 +7,5 @@ pub mod Run
 pub mod Parts
 pub mod Advice
 pub mod Program
+pub mod Live
+pub mod Puts

@@ -4,16 +4,21 @@
 #![tactic(auto)]
 
 pub use crate::input::{ReadFault, read_input};
+pub use crate::input_run::run;
+pub use crate::live_run::live;
 pub use crate::program::run_program;
-pub use crate::run::run;
+pub use crate::system::System;
 
 mod advice;
 mod copies;
 mod fault;
 mod input;
+mod input_run;
 mod interruption;
+mod live_run;
 mod order;
 mod output;
 mod program;
-mod run;
+mod system;
+mod told;
 mod trace;

@@ -1,2 +1,5 @@
 pub mod DigestLemmas
 pub mod LinkLemmas
+pub mod AnswerLemmas
+pub mod TalkLemmas
+pub mod ChainLemmas

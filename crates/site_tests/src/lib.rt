@@ -1,9 +1,11 @@
-//! Sites in examples: tests alone, of outcomes, maps, records and what a response answers. They stand above the crates that
-//! they are of, so none is proved once more with them.
+//! Sites in examples: tests alone, of outcomes, maps, records, what a response answers and sites that are asked over
+//! connections. They stand above the crates that they are of, so none is proved once more with them.
 #![tactic(auto)]
 
 #[cfg(test)]
 mod digest_tests;
+#[cfg(test)]
+mod fetch_tests;
 #[cfg(test)]
 mod map_tests;
 #[cfg(test)]

@@ -1,0 +1,205 @@
+-- What is put and told of what a crew brought is the end of a live retrieval.
+use Rattle.std.proofs.Common.{◌≡◌, ◌≢◌, ◌⊎◌, ◌∙◌, ◌++◌, ℕ, inl, inr, Bool, codes, ⊤, List, [], ◌∷◌, length, map, Option, Some, refl, sym, subst, append_assoc}
+use Rattle.std.specs.Prelude.{IfSome, IfOk, IfErr, Result, Ok, Err}
+use Rattle.std.specs.List.{AllZip}
+use Rattle.std.proofs.lemmas.List.{length-map}
+use Rattle.follow_filters.specs.declared.plan.Plan.{Plan}
+use Rattle.options.specs.declared.order.Order.{Order}
+use Rattle.robots_rules.specs.Access.{RuleSetValue}
+use Rattle.fetcher.specs.declared.fetcher.Ask.{Ask}
+use Rattle.fetcher.specs.declared.outcome.Outcome.{Outcome}
+use Rattle.frontier_core.specs.Invariants.{IsSound, IsComplete, IsOverfull}
+use Rattle.frontier_core.specs.Machine.{State, answers}
+use Rattle.frontier_core.specs.Plans.{policy}
+use Rattle.frontier_core.specs.Routes.{Policy, HasTooMany}
+use Rattle.frontier_core.specs.Tables.{Text}
+use Rattle.frontier_core.specs.declared.event.Cause.{Cause}
+use Rattle.frontier_core.specs.declared.event.Cause.TheVariants as why
+use Rattle.frontier_core.specs.declared.event.Event.{Event}
+use Rattle.harvest.specs.Harvests.{Harvested}
+use Rattle.harvest.specs.Pages.{IsBodyOf}
+use Rattle.workers.specs.Asks.{AreOnce}
+use Rattle.workers.specs.Crews.{AreLater, SomeSays, SomeRules, all_gained}
+use Rattle.workers.specs.Retrieval.{Brings, Leaves, IsLeft}
+use Rattle.workers.specs.Sites.{IsCompleteFor}
+use Rattle.workers.specs.declared.crew_retrieval.Retrieved.{Retrieved}
+use Rattle.workers.specs.declared.crew_retrieval.Stopped.{Stopped as StoppedCrew}
+use Rattle.workers.specs.declared.retrieval.Halt.{Halt}
+use Rattle.local_tree.specs.Names.{IsNaming}
+use Rattle.local_tree.specs.PlainNames.{plain_name_of}
+use Rattle.local_tree.specs.SiteFiles.{IsWhole, IsTorn}
+use Rattle.report.specs.Entries.{lines_of}
+use Rattle.report.specs.Named.{names_in}
+use Rattle.report.specs.Report.{report_text}
+use Rattle.report.proofs.NamedLaws.{names_of_lines, pages_of_lines}
+use Rattle.retriever.specs.Live.{IsRetrieved, HasHalted, Holding, LiveEnd, Whole, Torn, Halted, EndsLive, Lives, live_text, live_status, torn_line}
+use Rattle.retriever.specs.Parts.{IsDelivered, IsRead, brought_by, shown_of}
+use Rattle.retriever.specs.Puts.{IsHaltTold, IsPutOf}
+use Rattle.retriever.specs.Trace.{trace_text}
+use Rattle.retriever.proofs.FoundLaws.{are_lines}
+use Rattle.retriever.proofs.EndLaws.{are_named, none_shown, status_of}
+
+-- what is complete by its own record is complete for that
+complete_for : (p : Policy) (s : State) → IsComplete p s → IsCompleteFor p (answers s) s
+complete_for p s complete = record {
+  candidates = complete.candidates;
+  depths = complete.depths;
+  wanted = complete.wanted;
+  needed = complete.needed;
+  outcomes = λ u x is. is;
+  rules = λ o rules is. is;
+}
+
+-- ---- a harvest
+
+retrieved : (may_say : Text → Outcome → List ℕ → Type 0) (may_rule : Text → RuleSetValue → Type 0) (plan : Plan) (asks : List Ask) (h : Harvested) (names : List (List ℕ))
+    → Brings may_say may_rule plan asks h → IsRead h → IsNaming (map plain_name_of h.kept) names → IsRetrieved may_say may_rule plan asks h.trace (lines_of h names) h.bodies
+retrieved may_say may_rule plan asks h names brings read naming =
+    let sound = subst (λ (o : Option Plan). IfSome o (λ plan. IsSound (policy plan) h.state)) brings.follows read.3 in
+    let long : length names ≡ length h.kept = naming.count ∙ length-map h.kept plain_name_of in
+    record {
+      state = h.state;
+      replay = brings.replay;
+      quiet = brings.quiet;
+      once = brings.once;
+      recorded = brings.recorded;
+      wanted = λ u. ((λ asked. (brings.complete.wanted u).0 ((brings.recorded.pages u).0 asked)), (λ wanted. (brings.recorded.pages u).1 ((brings.complete.wanted u).1 wanted)));
+      needed = λ o. ((λ asked. (brings.complete.needed o).0 ((brings.recorded.origins o).0 asked)), (λ needed. (brings.recorded.origins o).1 ((brings.complete.needed o).1 needed)));
+      told = brings.told;
+      reported = are_lines (policy plan) (answers h.state) h names read.0 read.1 sound.addresses sound.few (complete_for (policy plan) h.state brings.complete) brings.quiet;
+      named = are_named plan h names read.0 read.1 read.2 brings.follows sound.addresses naming;
+      kept = subst (λ (pages : List Text). AllZip (IsBodyOf may_say (answers h.state)) pages h.bodies) (sym (pages_of_lines h names read.0 read.1 read.2 long)) brings.bodies;
+    }
+
+-- the names in the lines of a harvest are those that were given
+given : (h : Harvested) (names : List (List ℕ)) → IsRead h → IsNaming (map plain_name_of h.kept) names → names ≡ names_in (lines_of h names)
+given h names read naming = sym (names_of_lines h names read.0 read.1 read.2 (naming.count ∙ length-map h.kept plain_name_of))
+
+halted : (may_say : Text → Outcome → List ℕ → Type 0) (may_rule : Text → RuleSetValue → Type 0) (plan : Plan) (asks : List Ask) (cause : Cause) (h : Harvested)
+    → Leaves may_say may_rule plan asks cause h → (cause ≡ why.Full → HasTooMany (policy plan) (answers h.state)) → HasHalted may_say may_rule plan asks cause h.trace
+halted may_say may_rule plan asks cause h leaves many = record {
+  state = h.state;
+  replay = leaves.replay;
+  stopped = leaves.stopped;
+  once = leaves.once;
+  recorded = leaves.recorded;
+  wanted = leaves.wanted;
+  needed = leaves.needed;
+  told = leaves.told;
+  full = many;
+}
+
+-- each ask was made once, whether or not there was memory for a harvest
+once_left : (may_say : Text → Outcome → List ℕ → Type 0) (may_rule : Text → RuleSetValue → Type 0) (plan : Plan) (asks : List Ask) (cause : Cause) (h : Harvested) → IsLeft may_say may_rule plan asks cause h → AreOnce asks
+once_left may_say may_rule plan asks cause h (inl leaves) = leaves.once
+once_left may_say may_rule plan asks cause h (inr empty) = empty.once
+
+-- ---- an end
+
+module _ (may_say : Text → Outcome → List ℕ → Type 0) (may_rule : Text → RuleSetValue → Type 0) (order : Order) (workers : ℕ) (asks : List Ask) (old new : Holding)
+    (before after : Option (List ℕ)) (status : ℕ) where
+  -- an end, with what is shown, and its text
+  Finished : Type 0
+  Finished =
+      (shown : List Event) × (ending : LiveEnd) × EndsLive may_say may_rule order workers asks old new shown ending
+      × IsDelivered before after (trace_text shown ++ live_text ending) (live_status ending) status
+
+  ended : (h : Harvested) → Brings may_say may_rule order.plan asks h → IsRead h → IsPutOf order.trace (Ok h) old new before after status → Finished
+  ended h brings read (inl (same, told)) = ([], Halted why.Memory, (brings.once, inl refl, inl same), told)
+  ended h brings read (inr (names, naming, inl (whole, quiet, told))) =
+      let lines = lines_of h names in (
+        shown_of order.trace h.trace,
+        Whole lines,
+        (
+          h.trace,
+          h.bodies,
+          retrieved may_say may_rule order.plan asks h names brings read naming,
+          refl,
+          (subst (λ (given : List (List ℕ)). IsWhole given h.bodies old.files new.files) (given h names read naming) whole, quiet),
+        ),
+        subst (λ (wanted : ℕ). IsDelivered before after (trace_text (shown_of order.trace h.trace) ++ report_text lines) wanted status) (status_of order h names read brings.follows) told,
+      )
+  ended h brings read (inr (names, naming, inr (whole, torn, inl told))) =
+      let lines = lines_of h names in (
+        shown_of order.trace h.trace,
+        Torn lines whole,
+        (
+          h.trace,
+          h.bodies,
+          retrieved may_say may_rule order.plan asks h names brings read naming,
+          refl,
+          subst (λ (given : List (List ℕ)). IsTorn given h.bodies old.files new.files old.failed new.failed whole) (given h names read naming) torn,
+        ),
+        subst (λ (text : List ℕ). IsDelivered before after text 3 status) (append_assoc (trace_text (shown_of order.trace h.trace)) (report_text lines) (torn_line whole)) told,
+      )
+  ended h brings read (inr (names, naming, inr (whole, torn, inr told))) = (
+    [],
+    Halted why.Memory,
+    (
+      brings.once,
+      inl refl,
+      inr (
+        h.trace,
+        lines_of h names,
+        h.bodies,
+        whole,
+        retrieved may_say may_rule order.plan asks h names brings read naming,
+        subst (λ (given : List (List ℕ)). IsTorn given h.bodies old.files new.files old.failed new.failed whole) (given h names read naming) torn,
+      ),
+    ),
+    told,
+  )
+
+  -- a stop whose trace there was memory for
+  left_halted : (cause : Cause) (h : Harvested) → IsLeft may_say may_rule order.plan asks cause h → (cause ≡ why.Full → HasTooMany (policy order.plan) (answers h.state))
+      → (shown_of order.trace h.trace ≡ []) ⊎ ((events : List Event) × HasHalted may_say may_rule order.plan asks cause events × (shown_of order.trace h.trace ≡ shown_of order.trace events))
+  left_halted cause h (inl leaves) many = inr (h.trace, halted may_say may_rule order.plan asks cause h leaves many, refl)
+  left_halted cause h (inr empty) many = inl (none_shown order.trace h.trace empty.trace)
+
+  stopped : (cause : Cause) (h : Harvested) → (cause ≢ why.Mismatch → IsLeft may_say may_rule order.plan asks cause h) → (cause ≡ why.Full → HasTooMany (policy order.plan) (answers h.state))
+      → (workers ≡ 1 → cause ≢ why.Mismatch) → new ≡ old → IsHaltTold order.trace (record { cause = cause; harvest = h }) before after status → Finished
+  stopped why.Full h left many one same (inl told) =
+      elim (left (λ is. cc)) [
+        | inl leaves ↦ (shown_of order.trace h.trace, Halted why.Full, (h.trace, halted may_say may_rule order.plan asks why.Full h leaves many, refl, same), told)
+        | inr empty ↦ (let memory = empty.memory in cc)
+      ]
+  stopped why.Full h left many one same (inr told) =
+      ([], Halted why.Memory, (once_left may_say may_rule order.plan asks why.Full h (left (λ is. cc)), inl refl, inl same), told)
+  stopped why.Memory h left many one same (inl told) = (
+    shown_of order.trace h.trace,
+    Halted why.Memory,
+    (once_left may_say may_rule order.plan asks why.Memory h (left (λ is. cc)), left_halted why.Memory h (left (λ is. cc)) many, inl same),
+    told,
+  )
+  stopped why.Memory h left many one same (inr told) =
+      ([], Halted why.Memory, (once_left may_say may_rule order.plan asks why.Memory h (left (λ is. cc)), inl refl, inl same), told)
+  stopped why.Mismatch h left many one same (inl told) = ([], Halted why.Mismatch, ((λ is. one is refl), refl, same), told)
+  stopped why.Mismatch h left many one same (inr told) = ([], Halted why.Mismatch, ((λ is. one is refl), refl, same), told)
+
+-- ---- a crew
+
+module _ {F S : Type 0} (site : F → S) (says : S → Text → Outcome → List ℕ → Type 0) (rules : S → Text → RuleSetValue → Type 0) (log : F → List Ask) where
+  -- an end of what is known of the fetchers is that of a live retrieval
+  lives_from : (order : Order) (olds news : List F) (old new : Holding) (before after : Option (List ℕ)) (status : ℕ) → AreLater site log olds news
+      → Finished (SomeSays site says log olds news) (SomeRules site rules log olds news) order (length olds) (all_gained log olds news) old new before after status
+      → Lives site says rules log order olds old new before after status
+  lives_from order olds news old new before after status later (shown, ending, ends, written) =
+      record { left = news; later = later; shown = shown; ending = ending; ends = ends; written = written }
+
+  pub crew_lives : (order : Order) (olds : List F) (crew : Result (Retrieved F) (StoppedCrew F)) (brought : Result Harvested Halt) (old new : Holding) (before after : Option (List ℕ)) (status : ℕ)
+      → brought ≡ brought_by crew
+      → IfOk crew (λ r. AreLater site log olds r.fetchers.items) × IfErr crew (λ s. AreLater site log olds s.fetchers.items)
+      → IfOk crew (λ r. Brings (SomeSays site says log olds r.fetchers.items) (SomeRules site rules log olds r.fetchers.items) order.plan (all_gained log olds r.fetchers.items) r.harvest)
+      → IfErr crew (λ s. s.cause ≢ why.Mismatch → IsLeft (SomeSays site says log olds s.fetchers.items) (SomeRules site rules log olds s.fetchers.items) order.plan
+      (all_gained log olds s.fetchers.items) s.cause s.harvest)
+      → IfErr crew (λ s. s.cause ≡ why.Full → HasTooMany (policy order.plan) (answers s.harvest.state) × IsOverfull (policy order.plan) s.harvest.state)
+      → (length olds ≡ 1 → IfErr crew (λ s. s.cause ≢ why.Mismatch)) → IfOk brought IsRead → IsPutOf order.trace brought old new before after status
+      → Lives site says rules log order olds old new before after status
+  crew_lives order olds (Ok r) brought old new before after status is later brings left full one read put =
+      lives_from order olds r.fetchers.items old new before after status later.0
+      (ended _ _ order (length olds) _ old new before after status r.harvest brings (subst (λ (b : Result Harvested Halt). IfOk b IsRead) is read)
+      (subst (λ (b : Result Harvested Halt). IsPutOf order.trace b old new before after status) is put))
+  crew_lives order olds (Err s) brought old new before after status is later brings left full one read put =
+      let told = subst (λ (b : Result Harvested Halt). IsPutOf order.trace b old new before after status) is put in
+      lives_from order olds s.fetchers.items old new before after status later.1
+      (stopped _ _ order (length olds) _ old new before after status s.cause s.harvest left (λ why. (full why).0) one told.0 told.1)

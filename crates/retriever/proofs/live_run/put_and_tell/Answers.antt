@@ -1,0 +1,23 @@
+-- The files are whole, or so many are as the fault says.
+use Rattle.std.proofs.Common.{ℕ, List, Option, inl, inr, sym, subst}
+use Rattle.local_tree.specs.Folders.{Files}
+use Rattle.local_tree.specs.SiteFiles.{IsTorn, IsTornBy}
+use Rattle.local_tree.specs.declared.site_files.WriteFault.{WriteFault}
+use Rattle.local_tree.specs.declared.site_files.WriteFault.TheVariants.{Device}
+use Rattle.retriever.specs.Puts.{files_whole}
+use Rattle.retriever.proofs.live_run.put_and_tell.Goals as goal
+
+torn_at : (names bodies : List (List ℕ)) (old new : Option Files) (failed_old failed_new : ℕ) (fault : WriteFault) → IsTornBy names bodies old new failed_old failed_new fault
+    → IsTorn names bodies old new failed_old failed_new (files_whole fault)
+torn_at names bodies old new failed_old failed_new (Device whole) torn = torn
+
+pub returns-in-Ok : goal.returns-in-Ok
+returns-in-Ok g c = inl (c.in-Ok.ensures.whole, c.in-Ok.ensures.quiet, c.tell_report.ensures)
+
+pub returns-in-Err : goal.returns-in-Err
+returns-in-Err g c =
+    inr (
+      c.files_whole.result,
+      subst (λ (whole : ℕ). IsTorn _ _ _ _ _ _ whole) (sym c.files_whole.ensures) (torn_at _ _ _ _ _ _ c.in-Err.fault c.in-Err.ensures.torn),
+      c.tell_torn.ensures,
+    )

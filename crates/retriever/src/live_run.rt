@@ -1,0 +1,138 @@
+//! A live retrieval: fetchers ask the site, its kept pages are put into a folder, and then the report is written.
+ghost use Rattle.std.specs.Prelude.{◌≡◌, ◌<◌, ◌≤◌, IfOk, length, map, string_bytes, vec_len};
+ghost use Rattle.report.specs.ExitStatus.{exit_status};
+ghost use Rattle.local_tree.specs.Names.{AreDistinct};
+ghost use Rattle.retriever.specs.Live.{IsTornTold, Lives, holding};
+ghost use Rattle.retriever.specs.Parts.{IsDelivered, IsRead};
+ghost use Rattle.retriever.specs.Puts.{IsHaltTold, IsPutAndTold, IsPutOf, bare_cause, files_whole};
+ghost use Rattle.retriever.specs.Retrieved.{Stopped};
+ghost use Rattle.retriever.specs.Run.{finish_text};
+
+use crate::input_run::deliver;
+use crate::told::{brought_by, halt_text, telling_of};
+use fetcher::Fetcher;
+use frontier_core::Cause;
+use local_tree::{Folder, WriteFault, write_site};
+use options::Order;
+use report::exit_status;
+use std::alloc::Global;
+use std::io::Write;
+use std::sync::Wait;
+use std::thread::Threads;
+use workers::{Halt, Harvest};
+
+// The line for a cause where there is no memory for more.
+fn bare_line(cause: Cause) -> &'static str
+    ensures { result.now ≡ finish_text (Stopped (bare_cause cause)) }
+{
+    match cause {
+        Cause::Full | Cause::Memory => "stopped memory\n",
+        Cause::Mismatch => "stopped mismatch\n",
+    }
+}
+
+// Tells of a retrieval that stopped.
+fn tell_halt<W: Write>(alloc: Global, is_shown: bool, halt: &Halt, writer: &mut W) -> u8
+    ensures { IsHaltTold is_shown halt.now (W.contents writer.old) (W.contents writer.new) result }
+{
+    match halt_text(alloc, is_shown, halt) {
+        Ok(text) => deliver(writer, text.as_bytes(), 1),
+        Err(_) => deliver(writer, bare_line(halt.cause).as_bytes(), 1),
+    }
+}
+
+// Tells a harvest's text, with the status of its report.
+fn tell_report<W: Write>(harvest: &Harvest, text: &str, writer: &mut W) -> u8
+    ensures { IsDelivered (W.contents writer.old) (W.contents writer.new) text.now (exit_status (map (λ recorded. recorded.1) harvest.now.records)) result }
+{
+    deliver(writer, text.as_bytes(), exit_status(harvest))
+}
+
+// Tells a harvest's text, and behind it how many files were whole when a put failed.
+fn tell_torn<W: Write>(alloc: Global, text: &str, whole: usize, writer: &mut W) -> u8
+    ensures { IsTornTold text.now whole (W.contents writer.old) (W.contents writer.new) result }
+{
+    match format!(in alloc; "{text}files written {whole}\n") {
+        Ok(text) => deliver(writer, text.as_bytes(), 3),
+        Err(_) => deliver(writer, b"stopped memory\n", 1),
+    }
+}
+
+// How many files were whole when a put failed.
+fn files_whole(fault: WriteFault) -> usize
+    ensures { result ≡ files_whole fault }
+{
+    match fault {
+        WriteFault::Device(whole) => whole,
+    }
+}
+
+// Puts the kept pages of a harvest into the folder under these names, and then tells its text.
+fn put_and_tell<D: Folder, W: Write>(
+    alloc: Global,
+    names: &[String],
+    text: &str,
+    harvest: &Harvest,
+    folder: &mut D,
+    writer: &mut W,
+) -> u8
+    requires count { length names.now ≡ length harvest.now.kept }
+    requires distinct { AreDistinct (map string_bytes names.now) }
+    ensures { IsPutAndTold (map string_bytes names.now) harvest.now.bodies text.now (exit_status (map (λ recorded. recorded.1) harvest.now.records))
+        (holding D.files D.failed folder.old) (holding D.files D.failed folder.new) (W.contents writer.old) (W.contents writer.new) result }
+{
+    match write_site(folder, names, harvest) {
+        Ok(()) => tell_report(harvest, text, writer),
+        Err(fault) => tell_torn(alloc, text, files_whole(fault), writer),
+    }
+}
+
+// Puts and tells what a retrieval brought.
+fn finish<D: Folder, W: Write>(
+    alloc: Global,
+    is_shown: bool,
+    brought: &Result<Harvest, Halt>,
+    folder: &mut D,
+    writer: &mut W,
+) -> u8
+    ensures told { IsPutOf is_shown brought.now (holding D.files D.failed folder.old) (holding D.files D.failed folder.new) (W.contents writer.old) (W.contents writer.new) result }
+    ensures read { IfOk brought.now IsRead }
+{
+    match brought {
+        Ok(harvest) => match telling_of(alloc, is_shown, harvest) {
+            Ok(telling) => put_and_tell(
+                alloc,
+                telling.names.as_slice(),
+                telling.text.as_str(),
+                harvest,
+                folder,
+                writer,
+            ),
+            Err(_) => deliver(writer, b"stopped memory\n", 1),
+        },
+        Err(halt) => tell_halt(alloc, is_shown, halt, writer),
+    }
+}
+
+/// Retrieves the live site that the order says by these fetchers, a worker for each, 1 to 64 of them: asks for what its plan
+/// wants, puts the kept pages into the folder, each whole and under its name, and then writes the report, behind the trace
+/// where the order asks for it. Answers the status: that of [`exit_status`] for a report. Where a put fails no other is made,
+/// and the line `files written K` stands behind the report, K being how many files are whole; the status is 3. Where the
+/// retrieval stopped the line of its cause stands in place of the report, nothing is put, and the status is 1; so it is where
+/// memory runs out. Where the writer fails the status is 1, and a front of the text may have been written.
+pub fn live<H: Threads + Wait + Sync, F: Fetcher + Send, D: Folder, W: Write>(
+    rt: &H,
+    alloc: Global,
+    order: &Order,
+    fetchers: Vec<F>,
+    folder: &mut D,
+    writer: &mut W,
+) -> u8
+    requires some { 0 < vec_len fetchers }
+    requires most { vec_len fetchers ≤ 64 }
+    ensures lives { Lives F.site F.says F.rules F.log order.now fetchers.items (holding D.files D.failed folder.old) (holding D.files D.failed folder.new)
+        (W.contents writer.old) (W.contents writer.new) result }
+{
+    let brought = brought_by(workers::retrieve(rt, alloc, &order.plan, fetchers));
+    finish(alloc, order.trace, &brought, folder, writer)
+}

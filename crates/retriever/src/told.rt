@@ -1,0 +1,135 @@
+//! What is told of a retrieval: its report, or the line of the cause for which it stopped.
+ghost use Rattle.std.specs.Prelude.{◌≡◌, ◌++◌, ◌&&◌, IfOk, OnOk, length, map, string_bytes};
+ghost use Rattle.local_tree.specs.Names.{AreDistinct, IsNaming};
+ghost use Rattle.local_tree.specs.PlainNames.{plain_name_of};
+ghost use Rattle.report.specs.Entries.{lines_of};
+ghost use Rattle.report.specs.Report.{report_text};
+ghost use Rattle.retriever.specs.Parts.{IsRead, IsToldOf, brought_by, is_borne_out, shown_of};
+ghost use Rattle.retriever.specs.Retrieved.{Stopped as StoppedFor};
+ghost use Rattle.retriever.specs.Run.{finish_text};
+ghost use Rattle.retriever.specs.Trace.{trace_text};
+
+use crate::trace::{cause_word, push_trace};
+use frontier_core::{Cause, Event};
+use local_tree::names;
+use report::{exit_status, report_text};
+use std::alloc::{AllocError, Global};
+use workers::{Halt, Harvest, Retrieved, Stopped};
+
+/// What a run has to write, and the status with which it ends.
+#[derive(Drop)]
+pub(crate) struct Output {
+    pub(crate) text: String,
+    pub(crate) status: u8,
+}
+
+/// The names of a harvest's kept pages, and the text that tells of it.
+#[derive(Drop)]
+pub(crate) struct Telling {
+    pub(crate) names: Vec<String>,
+    pub(crate) text: String,
+}
+
+// Adds the trace, where it is to be shown.
+fn push_shown(text: &mut String, is_shown: bool, trace: &[Event]) -> Result<(), AllocError>
+    ensures ok { OnOk result (string_bytes text.new ≡ string_bytes text.old ++ trace_text (shown_of is_shown trace.now)) }
+{
+    if is_shown {
+        return push_trace(text, trace);
+    }
+    Ok(())
+}
+
+/// The names of a harvest's kept pages, and its text: its trace, where it is to be shown, and its report, in which these pages
+/// have their names.
+pub(crate) fn telling_of(
+    alloc: Global,
+    is_shown: bool,
+    harvest: &Harvest,
+) -> Result<Telling, AllocError>
+    ensures naming { IfOk result (λ telling. IsNaming (map plain_name_of harvest.now.kept) (map string_bytes telling.names.items)) }
+    ensures count { IfOk result (λ telling. length telling.names.items ≡ length harvest.now.kept) }
+    ensures distinct { IfOk result (λ telling. AreDistinct (map string_bytes telling.names.items)) }
+    ensures text { IfOk result (λ telling. string_bytes telling.text
+        ≡ trace_text (shown_of is_shown harvest.now.trace) ++ report_text (lines_of harvest.now (map string_bytes telling.names.items))) }
+    ensures read { IsRead harvest.now }
+{
+    // The entries, the records and the kept pages say what the frontier holds, and the trace leads there.
+    let _entries = harvest.entries();
+    let _records = harvest.records();
+    let _kept = harvest.kept();
+    let _trace = harvest.trace();
+    let names = names(alloc, harvest.kept())?;
+    let report = report_text(alloc, harvest, names.as_slice())?;
+    let mut text = String::new(alloc);
+    push_shown(&mut text, is_shown, harvest.trace())?;
+    text.push_str(report.as_str())?;
+    Ok(Telling { names, text })
+}
+
+// Whether the checks of a retrieval that stopped for this cause bear out what it found.
+fn is_borne_out(cause: Cause) -> bool
+    ensures { result ≡ is_borne_out cause }
+{
+    match cause {
+        Cause::Full | Cause::Memory => true,
+        Cause::Mismatch => false,
+    }
+}
+
+/// The text of a retrieval that stopped: its trace, where it is to be shown and no check failed, and the line of the cause.
+pub(crate) fn halt_text(alloc: Global, is_shown: bool, halt: &Halt) -> Result<String, AllocError>
+    ensures { IfOk result (λ text. string_bytes text ≡ trace_text (shown_of (is_borne_out halt.now.cause && is_shown) halt.now.harvest.trace) ++ finish_text (StoppedFor halt.now.cause)) }
+{
+    let mut text = String::new(alloc);
+    let is_shown = is_borne_out(halt.cause) && is_shown;
+    push_shown(&mut text, is_shown, halt.harvest.trace())?;
+    let word = cause_word(halt.cause);
+    writeln!(text, "stopped {word}")?;
+    Ok(text)
+}
+
+/// What is told of what a retrieval brought.
+pub(crate) fn told_of(
+    alloc: Global,
+    is_shown: bool,
+    brought: &Result<Harvest, Halt>,
+) -> Result<Output, AllocError>
+    ensures told { IfOk result (λ output. IsToldOf is_shown brought.now (string_bytes output.text) output.status) }
+    ensures read { IfOk brought.now IsRead }
+{
+    match brought {
+        Ok(harvest) => {
+            let Telling { names: _, text } = telling_of(alloc, is_shown, harvest)?;
+            let status = exit_status(harvest);
+            Ok(Output { text, status })
+        }
+        Err(halt) => {
+            let text = halt_text(alloc, is_shown, halt)?;
+            Ok(Output { text, status: 1 })
+        }
+    }
+}
+
+/// What a crew brings, without its fetchers.
+pub(crate) fn brought_by<F: Drop>(crew: Result<Retrieved<F>, Stopped<F>>) -> Result<Harvest, Halt>
+    ensures { result ≡ brought_by crew }
+{
+    match crew {
+        Ok(retrieved) => {
+            let Retrieved {
+                harvest,
+                fetchers: _,
+            } = retrieved;
+            Ok(harvest)
+        }
+        Err(stopped) => {
+            let Stopped {
+                cause,
+                harvest,
+                fetchers: _,
+            } = stopped;
+            Err(Halt { cause, harvest })
+        }
+    }
+}

@@ -1,0 +1,18 @@
+use Rattle.std.proofs.Common.{◌≡◌, ◌≤◌, ◌+◌, ◌++◌, codes}
+use Rattle.robots_rules.specs.Access.{RuleSetValue}
+use Rattle.site_answer.specs.Chains.{IsChain, max_redirects}
+use Rattle.site_answer.specs.Fetching.{IsGiven}
+use Rattle.site_answer.proofs.http_fetcher.HttpFetcher.follow.Given as goal
+
+abbrev pub invariant-hops : goal.invariant-hops
+invariant-hops g l =
+  let Told = IsGiven g.C.Connect.gives g.C.Connect.refused g.C.Wire.Wire.incoming g.C.Wire.Wire.outgoing g.C.Wire.Wire.failed l.fn.self.robots in record {
+  asks : l.self.asks ≡ l.fn.self.asks;
+  robots : l.self.robots ≡ l.fn.self.robots;
+  left : l.left ≤ max_redirects;
+  few : g.C.Connect.made l.self.connect + l.left ≤ g.C.Connect.made l.fn.self.connect + max_redirects;
+  chain : (r : RuleSetValue) → IsChain Told l.left l.at r → IsChain Told max_redirects (l.fn.of ++ codes "/robots.txt") r;
+}
+
+abbrev pub decreases-hops : goal.decreases-hops
+decreases-hops g l = l.left

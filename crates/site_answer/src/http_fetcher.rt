@@ -1,0 +1,200 @@
+//! A fetcher that asks over connections, a new one for each question (RFC 9112, section 9.6).
+ghost use Rattle.std.specs.Prelude.{◌≡◌, ◌⊎◌, ◌≤◌, ◌+◌, ℕ, List, [], ◌∷◌, ◌++◌, ⊤, IfOk, OnOk, OnErr, codes};
+ghost use Rattle.std.specs.Io.KnownBytes.{Appends, Keeps};
+ghost use Rattle.response_reader.specs.Wire.{counted, HasRisen, OfBytes};
+ghost use Rattle.response_reader.specs.Request.{request_text};
+ghost use Rattle.fetcher.specs.declared.outcome.Outcome.TheVariants.{Fault};
+ghost use Rattle.fetcher.specs.declared.fetcher.Ask.TheVariants as ask;
+ghost use Rattle.fetcher.specs.Logs.{GainedAtMost};
+ghost use Rattle.site_answer.specs.Chains.{IsChain, max_redirects};
+ghost use Rattle.site_answer.specs.Fetching.{AnswersBytes, ComesOver, IsGiven, IsToldBy, IsUnmade, IsUnwritten};
+
+use crate::chain::{Hop, read_hop};
+use crate::connect::{Connect, ConnectFault};
+use crate::digester::Digester;
+use crate::read_fault::kind_of_fault;
+use address::{Address, Origin};
+use fetcher::{Answer, Ask, Body, FaultKind, Fetcher, Outcome};
+use response_reader::{read_into, write_request};
+use robots_rules::RuleSet;
+use std::alloc::{AllocError, Global};
+use std::marker::Model;
+
+/// How many redirects of a robots file are followed (RFC 9309, section 2.3.1.2).
+const MAX_REDIRECTS: u32 = 5;
+
+/// Asks a site over connections, a new one for each page and for each hop of a robots file. What
+/// such a site answers is unknown: it may give any outcome, and any rule set.
+#[derive(Drop)]
+pub struct HttpFetcher<C: Connect> {
+    alloc: Global,
+    connect: C,
+    robots: bool,
+    asks: Vec<Ask>,
+}
+
+impl<C: Connect> Model for HttpFetcher<C> {
+    ghost use Rattle.site_answer.specs.Fetching.{Fetching};
+
+    ghost Value = { Fetching C };
+
+    ghost view = { λ f. record { connect = f.connect; robots = f.robots; asks = f.asks.items } };
+}
+
+impl<C: Connect> HttpFetcher<C> {
+    /// Asks over these connections. Where robots rules are honoured, a page that asks that its links
+    /// aren't followed has no edges. Takes no memory; later growth comes from `alloc`.
+    pub fn new(alloc: Global, connect: C, robots: bool) -> HttpFetcher<C>
+        ensures connect { result.connect ≡ connect }
+        ensures robots { result.robots ≡ robots }
+        ensures asks { result.asks ≡ [] }
+    {
+        HttpFetcher {
+            alloc,
+            connect,
+            robots,
+            asks: Vec::new(alloc),
+        }
+    }
+
+    /// What makes the connections.
+    pub fn connect(&self) -> &C
+        ensures { result.now ≡ self.now.connect }
+    {
+        &self.connect
+    }
+
+    // The answer of a question that has no response.
+    fn without_response(&self, kind: FaultKind) -> Answer
+        ensures outcome { result.outcome ≡ Fault kind }
+        ensures body { result.body ≡ [] }
+    {
+        Answer {
+            outcome: Outcome::Fault(kind),
+            body: Body::new(Vec::new(self.alloc)),
+        }
+    }
+
+    // The answer that a wire tells, once the request was written. The error is want of memory.
+    fn read_answer(&self, wire: &mut C::Wire, at: &Address) -> Result<Answer, AllocError>
+        ensures told { IfOk result (λ a. OfBytes (C.Wire.incoming wire.old)
+            (AnswersBytes self.now.robots at.now (C.Wire.failed wire.old) (C.Wire.failed wire.new) a.outcome a.body)) }
+        ensures written { Keeps (C.Wire.outgoing wire.old) (C.Wire.outgoing wire.new) }
+    {
+        let mut digester = Digester::new(self.alloc, at, self.robots)?;
+        match read_into(self.alloc, wire, &mut digester) {
+            Ok(()) => digester.finish(),
+            Err(fault) => match kind_of_fault(fault) {
+                Some(kind) => Ok(self.without_response(kind)),
+                None => Err(AllocError),
+            },
+        }
+    }
+
+    // The answer that comes over a wire. The error is want of memory.
+    fn answer_over(&self, wire: &mut C::Wire, at: &Address) -> Result<Answer, AllocError>
+        ensures told { IfOk result (λ a. ComesOver C.Wire.incoming C.Wire.outgoing C.Wire.failed self.now.robots at.now wire.old a.outcome a.body) }
+        // Nothing is written behind the request.
+        ensures sent { Appends (C.Wire.outgoing wire.old) (C.Wire.outgoing wire.new) (request_text at.now)
+            ⊎ HasRisen (C.Wire.failed wire.old) (C.Wire.failed wire.new) }
+    {
+        match write_request(wire, at) {
+            Ok(()) => self.read_answer(wire, at),
+            Err(_) => Ok(self.without_response(FaultKind::Device)),
+        }
+    }
+
+    // Asks one question over one new connection. The error is want of memory.
+    fn exchange(&mut self, at: &Address) -> Result<Answer, AllocError>
+        ensures asks { self.new.asks ≡ self.old.asks }
+        ensures robots { self.new.robots ≡ self.old.robots }
+        ensures one { OnOk result (C.made self.new.connect ≡ counted (C.made self.old.connect) 1) }
+        ensures most { C.made self.new.connect ≤ C.made self.old.connect + 1 }
+        ensures told { IfOk result (λ a. IsUnmade (C.refused self.old.connect) (C.refused self.new.connect) a.outcome a.body
+            ⊎ IsToldBy (C.gives self.old.connect) C.Wire.incoming C.Wire.outgoing C.Wire.failed self.old.robots at.now a.outcome a.body) }
+    {
+        let origin = Origin::of(at)?;
+        match self.connect.connect(&origin) {
+            Ok(mut wire) => {
+                let answer = self.answer_over(&mut wire, at);
+                self.connect.close(wire);
+                answer
+            }
+            Err(ConnectFault::Failed) => Ok(self.without_response(FaultKind::Connect)),
+            Err(ConnectFault::Memory) => Err(AllocError),
+        }
+    }
+
+    // The rules at the end of the chain of redirects that begins at an origin's robots file. The
+    // error is want of memory.
+    fn follow(&mut self, of: &Origin) -> Result<RuleSet, AllocError>
+        ensures asks { self.new.asks ≡ self.old.asks }
+        ensures robots { self.new.robots ≡ self.old.robots }
+        ensures few { C.made self.new.connect ≤ C.made self.old.connect + (max_redirects + 1) }
+        ensures chain { IfOk result (IsChain
+            (IsGiven C.gives C.refused C.Wire.incoming C.Wire.outgoing C.Wire.failed self.old.robots)
+            max_redirects (of.now ++ codes "/robots.txt")) }
+    {
+        let alloc = self.alloc;
+        let mut at = of.robots_file()?;
+        let mut left = MAX_REDIRECTS;
+        'hops: loop {
+            let answer = self.exchange(&at)?;
+            match read_hop(alloc, answer, left)? {
+                Hop::Last(rules) => return Ok(rules),
+                Hop::Next(next) => {
+                    at = next;
+                    left -= 1;
+                }
+            }
+        }
+    }
+}
+
+impl<C: Connect> Fetcher for HttpFetcher<C> {
+    ghost use Rattle.std.specs.Prelude.{ℕ, List, ⊤};
+    ghost use Rattle.fetcher.specs.declared.outcome.Outcome.{Outcome};
+    ghost use Rattle.robots_rules.specs.Access.{RuleSetValue};
+
+    ghost Site = { ⊤ };
+
+    ghost site = { λ _. tt };
+
+    ghost says = { λ _ _ _ _. ⊤ };
+
+    ghost rules = { λ _ _ _. ⊤ };
+
+    ghost log = { λ f. f.asks };
+
+    fn ask(&mut self, at: &Address) -> Result<Answer, AllocError>
+        ensures asked { OnOk result (self.new.asks ≡ self.old.asks ++ ask.Page at.now ∷ []) }
+        ensures refused { OnErr result (GainedAtMost self.old.asks self.new.asks (ask.Page at.now)) }
+        ensures robots { self.new.robots ≡ self.old.robots }
+        // One connection is asked for, and the answer is what came over it.
+        ensures one { OnOk result (C.made self.new.connect ≡ counted (C.made self.old.connect) 1) }
+        ensures most { C.made self.new.connect ≤ C.made self.old.connect + 1 }
+        ensures told { IfOk result (λ a. IsUnmade (C.refused self.old.connect) (C.refused self.new.connect) a.outcome a.body
+            ⊎ IsToldBy (C.gives self.old.connect) C.Wire.incoming C.Wire.outgoing C.Wire.failed self.old.robots at.now a.outcome a.body) }
+    {
+        self.asks.push(Ask::Page(at.try_clone()?))?;
+        self.exchange(at)
+    }
+
+    fn ask_robots(&mut self, of: &Origin) -> Result<RuleSet, AllocError>
+        ensures asked { OnOk result (self.new.asks ≡ self.old.asks ++ ask.Rules of.now ∷ []) }
+        ensures refused { OnErr result (GainedAtMost self.old.asks self.new.asks (ask.Rules of.now)) }
+        ensures robots { self.new.robots ≡ self.old.robots }
+        // The rules are those at the end of the chain of redirects that begins at the origin's file.
+        ensures few { C.made self.new.connect ≤ C.made self.old.connect + (max_redirects + 1) }
+        ensures chain { IfOk result (IsChain
+            (IsGiven C.gives C.refused C.Wire.incoming C.Wire.outgoing C.Wire.failed self.old.robots)
+            max_redirects (of.now ++ codes "/robots.txt")) }
+    {
+        self.asks.push(Ask::Rules(of.try_clone()?))?;
+        self.follow(of)
+    }
+
+    fn asks(&self) -> &[Ask] {
+        self.asks.as_slice()
+    }
+}
