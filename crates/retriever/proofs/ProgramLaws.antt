@@ -1,20 +1,23 @@
 -- What a person is told, and how a program ends that has no words.
-use Rattle.std.proofs.Common.{◌≡◌, ◌∙◌, ◌++◌, ℕ, List, [], ◌∷◌, map, Option, None, refl, sym, ap, inl, inr, append-nil}
+use Rattle.std.proofs.Common.{◌≡◌, ◌≢◌, ◌⊎◌, ◌∙◌, ◌++◌, ℕ, List, [], ◌∷◌, map, Option, None, refl, sym, ap, subst, inl, inr, append-nil}
 use Rattle.std.specs.Prelude.{Result, Ok, Err, OnOk, OnErr}
 use Rattle.std.specs.Io.KnownBytes.{Appends}
 use Rattle.std.specs.List.{flat_map}
 use Rattle.std.proofs.KnownBytes.{Appends-nil}
-use Rattle.options.specs.Order.{Ordered, said_by}
+use Rattle.options.specs.Order.{Ordered, order_of, said_by}
+use Rattle.options.specs.declared.fault.LineFault.{LineFault}
 use Rattle.options.specs.declared.fault.LineFault.TheVariants as line
-use Rattle.retriever.specs.Advice.{told_on}
-use Rattle.retriever.specs.Order.{AreForInput, IsRefused}
+use Rattle.options.specs.declared.order.Order.{Order}
+use Rattle.options.specs.declared.order.Source.TheVariants as source
+use Rattle.retriever.specs.Advice.{said_of, told_on}
+use Rattle.retriever.specs.Order.{IsRefused}
 use Rattle.retriever.specs.Parts.{IsRefusal}
-use Rattle.retriever.specs.Program.{IsTold}
+use Rattle.retriever.specs.Program.{IsTold, Starts}
 use Rattle.retriever.specs.Run.{Failed, Runs}
 use Rattle.retriever.specs.Streams.{AppendsFront}
 use Rattle.retriever.specs.declared.fault.Fault.{Fault}
 use Rattle.retriever.specs.declared.fault.Fault.TheVariants as fault
-use Rattle.retriever.proofs.RunLaws.{ends_memory}
+use Rattle.retriever.proofs.RunLaws.{ends_memory, ends_refused}
 
 -- nothing is a front of each text
 pub nothing_of : (contents : Option (List ℕ)) (text : List ℕ) → AppendsFront contents contents text
@@ -25,30 +28,10 @@ pub wrote : {F : Type 0} (r : Result (Unit {0}) F) (old new : Option (List ℕ))
 wrote (Ok x) old new text ok err = record { front = text; rest = []; parts = sym (append-nil text); appended = ok }
 wrote (Err e) old new text ok err = err
 
--- nothing is told of want of memory over words for an input
-pub silent : (words : List (List ℕ)) (wrong : Fault) → AreForInput words → IsRefused words wrong → told_on wrong ≡ None
-silent words (fault.Line line.Memory) good refused = refl
-silent words (fault.Line (line.Words kind)) (order, (is, input)) (inl e) = cc
-silent words (fault.Line (line.Words kind)) good (inr e) = cc
-silent words (fault.Line line.Depth) (order, (is, input)) (inl e) = cc
-silent words (fault.Line line.Depth) good (inr e) = cc
-silent words (fault.Line line.Pattern) (order, (is, input)) (inl e) = cc
-silent words (fault.Line line.Pattern) good (inr e) = cc
-silent words (fault.Line line.Directory) (order, (is, input)) (inl e) = cc
-silent words (fault.Line line.Directory) good (inr e) = cc
-silent words (fault.Line line.Domain) (order, (is, input)) (inl e) = cc
-silent words (fault.Line line.Domain) good (inr e) = cc
-silent words (fault.Line (line.Start why)) (order, (is, input)) (inl e) = cc
-silent words (fault.Line (line.Start why)) good (inr e) = cc
-silent words (fault.Line line.StartIsRobots) (order, (is, input)) (inl e) = cc
-silent words (fault.Line line.StartIsRobots) good (inr e) = cc
-silent words fault.NotText good refused = absurd refused
-silent words fault.NoSite (order, (is, input)) (ordered, says, live) =
-    let same : ordered ≡ said_by order = cc in
-    absurd (input (sym (ap (λ (o : Ordered). o.source) same) ∙ live))
-silent words (fault.Read w) good refused = absurd refused
-silent words (fault.Input w) good refused = absurd refused
-silent words fault.Memory good refused = absurd refused
+-- of words that order something only memory is wanting
+only_memory : (words : List (List ℕ)) (ordered : Ordered) (wrong : LineFault) → order_of words ≡ Ok ordered → IsRefused words (fault.Line wrong) → wrong ≡ line.Memory
+only_memory words ordered wrong says (inl e) = cc
+only_memory words ordered wrong says (inr e) = e
 
 -- ---- want of memory before a run
 
@@ -58,6 +41,70 @@ runs_memory words known old new status (inr told) = record { ending = Failed fau
 
 pub told_memory : (words : List (List ℕ)) (contents : Option (List ℕ)) → IsTold words contents contents
 told_memory words contents = (fault.Line line.Memory, inr refl, nothing_of contents [])
+
+-- the line of a fault of the words is a run's
+runs_refused : (words : List (List ℕ)) (known old new : Option (List ℕ)) (status : ℕ) (wrong : Fault) → IsRefused words wrong → IsRefusal old new wrong status → Runs words known old new status
+runs_refused words known old new status wrong refused (inl told) = record { ending = Failed wrong; ends = ends_refused words known wrong refused; written = told }
+runs_refused words known old new status wrong refused (inr told) = runs_memory words known old new status (inr told)
+
+-- ---- the program
+
+module _ {R E : Type 0} (Lives : List (List ℕ) → Type 0) (remaining before after : Option (List ℕ)) (status : ℕ) where
+  -- want of memory before the words are read
+  pub starts_memory : (reader : R) (errors : E) (told : Option (List ℕ)) (words : List (List ℕ)) → Lives words → IsRefusal before after fault.Memory status
+      → Starts Lives remaining before after reader reader errors errors told told status words
+  starts_memory reader errors told words lives refusal = record {
+    runs = λ not. runs_memory words remaining before after status refusal;
+    lives = λ live. lives;
+    unread = λ no. refl;
+    told = λ no none. told_memory words told;
+    quiet = λ either. refl;
+  }
+
+  -- words for an input
+  pub starts_run : (reader_old reader_new : R) (errors : E) (told : Option (List ℕ)) (words : List (List ℕ)) (order : Order) → order_of words ≡ Ok (said_by order) → (order.source ≢ source.Live)
+      → Runs words remaining before after status
+      → Starts Lives remaining before after reader_old reader_new errors errors told told status words
+  starts_run reader_old reader_new errors told words order says input runs = record {
+    runs = λ not. runs;
+    lives = λ live.
+        let (ordered, said, is) = live in
+        let same : ordered ≡ said_by order = cc in
+        absurd (input (sym (ap (λ (o : Ordered). o.source) same) ∙ is));
+    unread = λ no. absurd (no (order, says, input));
+    told = λ no none. absurd (no (order, says, input));
+    quiet = λ either. refl;
+  }
+
+  -- words for a site on the network
+  pub starts_live : (reader : R) (errors : E) (told : Option (List ℕ)) (words : List (List ℕ)) (order : Order) → order_of words ≡ Ok (said_by order) → order.source ≡ source.Live
+      → Lives words
+      → Starts Lives remaining before after reader reader errors errors told told status words
+  starts_live reader errors told words order says live lives = record {
+    runs = λ not. absurd (not (said_by order, says, live));
+    lives = λ for_live. lives;
+    unread = λ no. refl;
+    told = λ no none. absurd (none (said_by order, says, live));
+    quiet = λ either. refl;
+  }
+
+  -- words that order nothing, or for which there is no memory
+  pub starts_wrong : (reader : R) (errors_old errors_new : E) (told_before told_after : Option (List ℕ)) (words : List (List ℕ)) (wrong : LineFault) → IsRefused words (fault.Line wrong)
+      → (IsRefusal before after fault.Memory status → Lives words) → IsRefusal before after (fault.Line wrong) status → AppendsFront told_before told_after (said_of words (fault.Line wrong))
+      → (told_on (fault.Line wrong) ≡ None → errors_new ≡ errors_old)
+      → Starts Lives remaining before after reader reader errors_old errors_new told_before told_after status words
+  starts_wrong reader errors_old errors_new told_before told_after words wrong refused lives refusal told quiet = record {
+    runs = λ not. runs_refused words remaining before after status (fault.Line wrong) refused refusal;
+    lives = λ live.
+        let (ordered, says, is) = live in
+        lives (subst (λ (w : LineFault). IsRefusal before after (fault.Line w) status) (only_memory words ordered wrong says refused) refusal);
+    unread = λ no. refl;
+    told = λ no none. (fault.Line wrong, refused, told);
+    quiet = λ either. elim either [
+      | inl input ↦ (let (order, ordered) = input in quiet (ap (λ (w : LineFault). told_on (fault.Line w)) (only_memory words (said_by order) wrong ordered.0 refused)))
+      | inr live ↦ (let (ordered, says, is) = live in quiet (ap (λ (w : LineFault). told_on (fault.Line w)) (only_memory words ordered wrong says refused)))
+    ];
+  }
 
 -- ---- texts of words
 

@@ -76,8 +76,7 @@ told_on_line line.Memory = None
 abbrev pub told_on : Fault → Option Told
 told_on (fault.Line wrong) = told_on_line wrong
 told_on fault.NotText = Some (Correction (codes "a word isn't UTF-8") accepted_words)
-told_on fault.NoSite =
-    Some (Correction (codes "the words name no site that can be read") (codes "the site is told on standard input: with --map by a map, with --record by a record of responses"))
+told_on fault.NoSite = None
 told_on (fault.Read wrong) = None
 told_on (fault.Input wrong) = None
 told_on fault.Memory = None
@@ -87,7 +86,7 @@ told_on fault.Memory = None
 -- what the program is for, and its usage
 abbrev pub usage : List ℕ
 usage =
-    codes "wgetr retrieves a site recursively and reports what it found: it follows links by GNU Wget's rules and heeds robots files.\nusage: wgetr [options] --map START < MAP\n       wgetr [options] --record START < RECORD\n"
+    codes "wgetr retrieves a site recursively and reports what it found: it follows links by GNU Wget's rules and heeds robots files.\nusage: wgetr [options] START\n       wgetr [options] --map START < MAP\n       wgetr [options] --record START < RECORD\n"
 
 -- a word behind a space
 abbrev pub word_text : List ℕ → List ℕ

@@ -15,6 +15,10 @@ IsOrdered words order = (order_of words ≡ Ok (said_by order)) × (order.source
 abbrev pub AreForInput : List (List ℕ) → Type 0
 AreForInput words = (order : Order) × IsOrdered words order
 
+-- the words order just this, of a site on the network
+abbrev pub IsLiveOrder : List (List ℕ) → Order → Type 0
+IsLiveOrder words order = (order_of words ≡ Ok (said_by order)) × (order.source ≡ source.Live)
+
 -- the words order something of a site on the network
 abbrev pub AreForLive : List (List ℕ) → Type 0
 AreForLive words = (ordered : Ordered) × (order_of words ≡ Ok ordered) × (ordered.source ≡ source.Live)

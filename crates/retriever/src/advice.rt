@@ -21,7 +21,7 @@ pub(crate) enum Advice {
 
 const USAGE: &str =
     "wgetr retrieves a site recursively and reports what it found: it follows links by GNU Wget's rules and heeds robots files.\n\
-usage: wgetr [options] --map START < MAP\n       wgetr [options] --record START < RECORD\n";
+usage: wgetr [options] START\n       wgetr [options] --map START < MAP\n       wgetr [options] --record START < RECORD\n";
 
 const OPTIONS: &str =
     "accepted are START and, once each, -r, -l N, -np, -H, -D LIST, --exclude-domains LIST, \
@@ -94,11 +94,7 @@ pub(crate) fn advice_on(fault: Fault) -> Option<Advice>
     match fault {
         Fault::Line(wrong) => line_advice(wrong),
         Fault::NotText => Some(Advice::Correction("a word isn't UTF-8", OPTIONS)),
-        Fault::NoSite => Some(Advice::Correction(
-            "the words name no site that can be read",
-            "the site is told on standard input: with --map by a map, with --record by a record of responses",
-        )),
-        Fault::Read(_) | Fault::Input(_) | Fault::Memory => None,
+        Fault::NoSite | Fault::Read(_) | Fault::Input(_) | Fault::Memory => None,
     }
 }
 

@@ -7,6 +7,7 @@ pub use crate::input::{ReadFault, read_input};
 pub use crate::input_run::run;
 pub use crate::live_run::live;
 pub use crate::program::run_program;
+pub use crate::system::System;
 
 mod advice;
 mod copies;
@@ -18,5 +19,6 @@ mod live_run;
 mod order;
 mod output;
 mod program;
+mod system;
 mod told;
 mod trace;

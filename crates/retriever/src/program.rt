@@ -1,10 +1,10 @@
-//! The program on its words and its three streams: what a person is told, and the run.
-ghost use Rattle.std.specs.Prelude.{◌≡◌, [], IfOk, IfErr, None, drop, map, string_bytes};
+//! The program on its words, its three streams and the system: what a person is told, and the run, or the live retrieval.
+ghost use Rattle.std.specs.Prelude.{◌≡◌, ◌⊎◌, [], All, IfOk, IfErr, OnErr, None, drop, map, string_bytes, vec_len};
 ghost use Rattle.std.specs.IoError.{error_kind};
 ghost use Rattle.std.specs.Vec.Iter.{into_iter_items};
 ghost use Rattle.retriever.specs.Advice.{told_by, told_on, said, said_of};
-ghost use Rattle.retriever.specs.Order.{AreForInput};
-ghost use Rattle.retriever.specs.Program.{IsTold, words_behind, words_fault};
+ghost use Rattle.retriever.specs.Order.{AreForInput, AreForLive};
+ghost use Rattle.retriever.specs.Program.{IsTold, LivesFor, LivesIn, Starts, words_behind, words_fault};
 ghost use Rattle.retriever.specs.Parts.{IsRefusal};
 ghost use Rattle.retriever.specs.Run.{Runs};
 ghost use Rattle.retriever.specs.Streams.{AppendsFront};
@@ -12,8 +12,10 @@ ghost use Rattle.retriever.specs.Streams.{AppendsFront};
 use crate::advice::{Advice, advice_on, advice_text};
 use crate::fault::Fault;
 use crate::input_run::{refuse, run};
-use crate::order::input_order;
+use crate::live_run::live;
 use crate::output::write_text;
+use crate::system::System;
+use options::{Order, Source, read_order};
 use std::alloc::{AllocError, Global};
 use std::env::Args;
 use std::io;
@@ -80,85 +82,150 @@ fn explain<E: Write>(alloc: Global, fault: Fault, words: &[&str], errors: &mut E
     }
 }
 
-// Tells a person what is wrong with words that order no site of an input.
-fn explain_words<E: Write>(alloc: Global, words: &[&str], errors: &mut E)
-    ensures told { ¬ AreForInput (map (λ word. word.now) words.now)
-        → IsTold (map (λ word. word.now) words.now) (E.contents errors.old) (E.contents errors.new) }
-    ensures quiet { AreForInput (map (λ word. word.now) words.now) → errors.new ≡ errors.old }
+// Fetchers for so many workers.
+fn fetchers_of<S: System>(
+    alloc: Global,
+    system: &S,
+    robots: bool,
+    count: u32,
+) -> Result<Vec<S::Fetcher>, AllocError>
+    ensures count { IfOk result (λ fetchers. vec_len fetchers ≡ count) }
+    ensures made { IfOk result (λ fetchers. All (S.makes system.now robots) fetchers.items) }
 {
-    match input_order(alloc, words) {
-        Ok(_order) => {}
-        Err(fault) => explain(alloc, fault, words, errors),
+    let mut fetchers = Vec::new(alloc);
+    for _ in 0..count {
+        fetchers.push(system.fetcher(robots))?;
+    }
+    Ok(fetchers)
+}
+
+// Retrieves the live site that the order says, by fetchers of the system, into its folder.
+fn live_in<H: Threads + Wait + Sync, S: System, W: Write>(
+    rt: &H,
+    alloc: Global,
+    system: &S,
+    order: &Order,
+    writer: &mut W,
+) -> Result<u8, AllocError>
+    ensures lives { IfOk result (LivesIn S.Fetcher.site S.Fetcher.says S.Fetcher.rules S.Fetcher.log (S.makes system.now) (S.opens system.now) S.Folder.files S.Folder.failed order.now (W.contents writer.old) (W.contents writer.new)) }
+    ensures unwritten { OnErr result (writer.new ≡ writer.old) }
+{
+    let fetchers = fetchers_of(alloc, system, order.plan.robots, order.workers)?;
+    let mut folder = system.folder(order.prefix.as_str())?;
+    Ok(live(rt, alloc, order, fetchers, &mut folder, writer))
+}
+
+// The same, with its line where memory runs out before.
+fn live_of<H: Threads + Wait + Sync, S: System, W: Write>(
+    rt: &H,
+    alloc: Global,
+    system: &S,
+    order: &Order,
+    writer: &mut W,
+) -> u8
+    ensures { LivesIn S.Fetcher.site S.Fetcher.says S.Fetcher.rules S.Fetcher.log (S.makes system.now) (S.opens system.now) S.Folder.files S.Folder.failed order.now (W.contents writer.old) (W.contents writer.new) result
+        ⊎ IsRefusal (W.contents writer.old) (W.contents writer.new) Fault.Memory result }
+{
+    match live_in(rt, alloc, system, order, writer) {
+        Ok(status) => status,
+        Err(_) => refuse(alloc, Fault::Memory, writer),
+    }
+}
+
+// Runs on these words: of a site on the network by the system, of another by the input.
+fn run_texts<H: Threads + Wait + Sync, S: System, R: Read, W: Write, E: Write>(
+    rt: &H,
+    alloc: Global,
+    system: &S,
+    words: &[&str],
+    reader: &mut R,
+    writer: &mut W,
+    errors: &mut E,
+) -> u8
+    ensures { Starts (LivesFor S.Fetcher.site S.Fetcher.says S.Fetcher.rules S.Fetcher.log (S.makes system.now) (S.opens system.now) S.Folder.files S.Folder.failed (W.contents writer.old) (W.contents writer.new) result)
+        (R.remaining reader.old) (W.contents writer.old) (W.contents writer.new) reader.old reader.new errors.old errors.new (E.contents errors.old) (E.contents errors.new) result
+        (map (λ word. word.now) words.now) }
+{
+    match read_order(alloc, words) {
+        Ok(order) => match order.source {
+            Source::Map | Source::Recorded => run(rt, alloc, words, reader, writer),
+            Source::Live => live_of(rt, alloc, system, &order, writer),
+        },
+        Err(wrong) => {
+            explain(alloc, Fault::Line(wrong), words, errors);
+            refuse(alloc, Fault::Line(wrong), writer)
+        }
     }
 }
 
 // Runs on these words, the program's name first.
-fn run_words<H: Threads + Wait + Sync, R: Read, W: Write, E: Write>(
+fn run_words<H: Threads + Wait + Sync, S: System, R: Read, W: Write, E: Write>(
     rt: &H,
     alloc: Global,
+    system: &S,
     all: &[String],
     reader: &mut R,
     writer: &mut W,
     errors: &mut E,
 ) -> u8
-    ensures runs { Runs (words_behind all.now) (R.remaining reader.old) (W.contents writer.old) (W.contents writer.new) result }
-    ensures unread { ¬ AreForInput (words_behind all.now) → reader.new ≡ reader.old }
-    ensures told { ¬ AreForInput (words_behind all.now) → IsTold (words_behind all.now) (E.contents errors.old) (E.contents errors.new) }
-    ensures quiet { AreForInput (words_behind all.now) → errors.new ≡ errors.old }
+    ensures { Starts (LivesFor S.Fetcher.site S.Fetcher.says S.Fetcher.rules S.Fetcher.log (S.makes system.now) (S.opens system.now) S.Folder.files S.Folder.failed (W.contents writer.old) (W.contents writer.new) result)
+        (R.remaining reader.old) (W.contents writer.old) (W.contents writer.new) reader.old reader.new errors.old errors.new (E.contents errors.old) (E.contents errors.new) result
+        (words_behind all.now) }
 {
     match texts_behind(alloc, all) {
-        Ok(words) => {
-            explain_words(alloc, words.as_slice(), errors);
-            run(rt, alloc, words.as_slice(), reader, writer)
-        }
+        Ok(words) => run_texts(rt, alloc, system, words.as_slice(), reader, writer, errors),
         Err(_) => refuse(alloc, Fault::Memory, writer),
     }
 }
 
 // Runs on the arguments of the program.
-fn run_args<H: Threads + Wait + Sync, R: Read, W: Write, E: Write>(
+fn run_args<H: Threads + Wait + Sync, S: System, R: Read, W: Write, E: Write>(
     rt: &H,
     alloc: Global,
+    system: &S,
     args: Args,
     reader: &mut R,
     writer: &mut W,
     errors: &mut E,
 ) -> u8
-    ensures runs { Runs (words_behind (into_iter_items args)) (R.remaining reader.old) (W.contents writer.old) (W.contents writer.new) result }
-    ensures unread { ¬ AreForInput (words_behind (into_iter_items args)) → reader.new ≡ reader.old }
-    ensures told { ¬ AreForInput (words_behind (into_iter_items args))
-        → IsTold (words_behind (into_iter_items args)) (E.contents errors.old) (E.contents errors.new) }
-    ensures quiet { AreForInput (words_behind (into_iter_items args)) → errors.new ≡ errors.old }
+    ensures { Starts (LivesFor S.Fetcher.site S.Fetcher.says S.Fetcher.rules S.Fetcher.log (S.makes system.now) (S.opens system.now) S.Folder.files S.Folder.failed (W.contents writer.old) (W.contents writer.new) result)
+        (R.remaining reader.old) (W.contents writer.old) (W.contents writer.new) reader.old reader.new errors.old errors.new (E.contents errors.old) (E.contents errors.new) result
+        (words_behind (into_iter_items args)) }
 {
     match all_words(alloc, args) {
-        Ok(all) => run_words(rt, alloc, all.as_slice(), reader, writer, errors),
+        Ok(all) => run_words(rt, alloc, system, all.as_slice(), reader, writer, errors),
         Err(_) => refuse(alloc, Fault::Memory, writer),
     }
 }
 
-/// Runs the program on its arguments, the program's name first, and its three streams: `run` gets all words behind that name.
-/// What is wrong with words that order no site of an input is told to a person on `errors`; where the writer of that fails a
-/// front of it may be written, and nothing is written there of words for an input. Arguments that can't be had, since one isn't
-/// text or memory ran out, end the program as refused words do, with no byte read. Answers the status.
-pub fn run_program<H: Threads + Wait + Sync, R: Read, W: Write, E: Write>(
+/// Runs the program on its arguments, the program's name first, and its three streams. Words that order a site on the network
+/// are retrieved by [`live`], with as many fetchers of the system as they order workers, into its folder at their prefix;
+/// `run` gets all others behind that name. What is wrong with words that order nothing is told to a person on `errors`; where
+/// the writer of that fails a front of it may be written, and nothing is written there of other words. Arguments that can't
+/// be had, since one isn't text or memory ran out, end the program as refused words do, with no byte read. Answers the status.
+pub fn run_program<H: Threads + Wait + Sync, S: System, R: Read, W: Write, E: Write>(
     rt: &H,
     alloc: Global,
+    system: &S,
     args: io::Result<Args>,
     reader: &mut R,
     writer: &mut W,
     errors: &mut E,
 ) -> u8
-    ensures runs { IfOk args (λ all. Runs (words_behind (into_iter_items all)) (R.remaining reader.old) (W.contents writer.old) (W.contents writer.new) result) }
+    ensures runs { IfOk args (λ all. ¬ AreForLive (words_behind (into_iter_items all))
+        → Runs (words_behind (into_iter_items all)) (R.remaining reader.old) (W.contents writer.old) (W.contents writer.new) result) }
+    ensures lives { IfOk args (λ all. AreForLive (words_behind (into_iter_items all))
+        → LivesFor S.Fetcher.site S.Fetcher.says S.Fetcher.rules S.Fetcher.log (S.makes system.now) (S.opens system.now) S.Folder.files S.Folder.failed (W.contents writer.old) (W.contents writer.new) result (words_behind (into_iter_items all))) }
     ensures unread { IfOk args (λ all. ¬ AreForInput (words_behind (into_iter_items all)) → reader.new ≡ reader.old) }
-    ensures told { IfOk args (λ all. ¬ AreForInput (words_behind (into_iter_items all))
+    ensures told { IfOk args (λ all. ¬ AreForInput (words_behind (into_iter_items all)) → ¬ AreForLive (words_behind (into_iter_items all))
         → IsTold (words_behind (into_iter_items all)) (E.contents errors.old) (E.contents errors.new)) }
-    ensures quiet { IfOk args (λ all. AreForInput (words_behind (into_iter_items all)) → errors.new ≡ errors.old) }
+    ensures quiet { IfOk args (λ all. AreForInput (words_behind (into_iter_items all)) ⊎ AreForLive (words_behind (into_iter_items all)) → errors.new ≡ errors.old) }
     ensures refused { IfErr args (λ error. IsRefusal (W.contents writer.old) (W.contents writer.new) (words_fault (error_kind error)) result
         × AppendsFront (E.contents errors.old) (E.contents errors.new) (said_of [] (words_fault (error_kind error)))) }
     ensures untouched { IfErr args (λ error. reader.new ≡ reader.old) }
 {
     match args {
-        Ok(args) => run_args(rt, alloc, args, reader, writer, errors),
+        Ok(args) => run_args(rt, alloc, system, args, reader, writer, errors),
         Err(error) => {
             let fault = words_fault(&error);
             explain(alloc, fault, &[], errors);

@@ -1,21 +1,36 @@
-//! The program wgetr: it retrieves a site that a map or a record on standard input tells, and prints a report. What it makes of
-//! its arguments and its streams is stated at `retriever::run_program`; `main` only names them.
+//! The program wgetr: it retrieves a site recursively, puts its pages into a folder, and prints a report. What it makes of
+//! its arguments and its streams is stated at `retriever::run_program`; `main` only names them, and what the system gives.
 #![tactic(auto)]
 
+mod network;
 #[cfg(test)]
 mod tests;
 
+use network::Network;
+use progress::{BehindLine, Progress};
 use retriever::run_program;
-use std::env;
+use std::io::IsTerminal;
 use std::process::ExitCode;
+use std::{env, process};
+use tcp_connect::Hosts;
 
 fn main(rt: HostRuntime) -> ExitCode {
+    let hosts = Hosts::new(rt.alloc());
+    let progress = Progress::new(&rt, rt.stderr().is_terminal());
+    let network = Network::new(
+        &rt,
+        rt.alloc(),
+        &hosts,
+        &progress,
+        process::id(rt.process()),
+    );
     let status = run_program(
         &rt,
         rt.alloc(),
+        &network,
         env::args(&rt),
         &mut rt.stdin(),
-        &mut rt.stdout(),
+        &mut BehindLine::new(rt.stdout(), &progress),
         &mut rt.stderr(),
     );
     ExitCode::from(status)

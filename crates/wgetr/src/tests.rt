@@ -1,8 +1,10 @@
 //! Runs on worked sites, told by maps and by records, on wrong words and inputs, and over readers and writers that fail; the program over three streams.
+use address::Address;
 use follow_filters::Plan;
 use local_tree::{Folder, MemoryFolder, WriteFault, names, write_site};
 use options::read_order;
-use retriever::{ReadFault, read_input, run, run_program};
+use retriever::{ReadFault, System, read_input, run, run_program};
+use site_answer::{HttpFetcher, MemoryConnect, StoredAnswer};
 use site_records::RecordedSite;
 use std::alloc::{AllocError, Global};
 use std::env::Args;
@@ -492,11 +494,10 @@ a level is inf or decimal digits, at most 1000000\n",
         status: 2,
     },
     Call {
-        arguments: &["wgetr", "http://h/"],
-        text: "line no-site\n",
-        told: "wgetr: the words name no site that can be read, in: http://h/\n\
-the site is told on standard input: with --map by a map, with --record by a record of responses\n",
-        status: 2,
+        arguments: &["wgetr", "-r", "--workers", "2", "http://h/"],
+        text: "0 200 http://h/ h/index.html\n1 404 http://h/b -\nfetched 2 kept 1 refused 0 failed 1\n",
+        told: "",
+        status: 8,
     },
     Call {
         arguments: &["wgetr", "-q"],
@@ -537,6 +538,41 @@ the site is told on standard input: with --map by a map, with --record by a reco
     },
 ];
 
+// A site on the network that is in memory: its start alone is stored. Its folder is let go with its files.
+#[derive(Drop)]
+struct Stored<'a> {
+    alloc: Global,
+    answers: &'a [StoredAnswer],
+}
+
+impl<'a> System for Stored<'a> {
+    ghost use Rattle.std.specs.Prelude.{◌≡◌, ⊤};
+
+    type Fetcher = HttpFetcher<MemoryConnect<'a>>;
+
+    type Folder = MemoryFolder;
+
+    ghost makes = { λ stored robots fetcher. fetcher.robots ≡ robots };
+
+    ghost opens = { λ stored path folder. ⊤ };
+
+    fn fetcher(&self, robots: bool) -> HttpFetcher<MemoryConnect<'a>> {
+        let connect = MemoryConnect::new(self.alloc, self.answers, &[]);
+        HttpFetcher::new(self.alloc, connect, robots)
+    }
+
+    fn folder(&self, _path: &str) -> Result<MemoryFolder, AllocError> {
+        Ok(MemoryFolder::new(self.alloc))
+    }
+}
+
+// The start of the stored site.
+fn stored_start(alloc: Global) -> Result<[StoredAnswer; 1], Fail> {
+    let at = Address::read(alloc, "http://h/")?;
+    let bytes = b"HTTP/1.1 200 OK\r\nContent-Type: text/html\r\n\r\n<a href=b>".to_vec(alloc)?;
+    Ok([StoredAnswer { at, bytes }])
+}
+
 // The arguments of a program, as the system gives them.
 fn arguments_of(alloc: Global, texts: &[&str]) -> Result<Args, AllocError> {
     let mut all = Vec::new(alloc);
@@ -548,6 +584,11 @@ fn arguments_of(alloc: Global, texts: &[&str]) -> Result<Args, AllocError> {
 
 #[test]
 fn a_person_is_told_what_is_wrong_beside_the_line(rt: HostRuntime) -> Result<(), Fail> {
+    let answers = stored_start(rt.alloc())?;
+    let system = Stored {
+        alloc: rt.alloc(),
+        answers: &answers,
+    };
     for call in &CALLS {
         let mut reader = b"page 200 http://h/\nlink http://h/a\n".as_slice();
         let mut written: Vec<u8> = Vec::new(rt.alloc());
@@ -555,6 +596,7 @@ fn a_person_is_told_what_is_wrong_beside_the_line(rt: HostRuntime) -> Result<(),
         let status = run_program(
             &rt,
             rt.alloc(),
+            &system,
             Ok(arguments_of(rt.alloc(), call.arguments)?),
             &mut reader,
             &mut written,
@@ -584,6 +626,10 @@ fn arguments_that_cannot_be_had_end_the_program(rt: HostRuntime) {
         let answer = run_program(
             &rt,
             rt.alloc(),
+            &Stored {
+                alloc: rt.alloc(),
+                answers: &[],
+            },
             Err(Error::from(kind)),
             &mut b"".as_slice(),
             &mut written,

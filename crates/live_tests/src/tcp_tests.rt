@@ -1,0 +1,116 @@
+//! A site that a thread of the test serves on loopback, retrieved over TCP.
+use crate::server::{Answered, serve};
+use local_tree::MemoryFolder;
+use options::{Order, read_order};
+use retriever::live;
+use site_answer::HttpFetcher;
+use std::alloc::Global;
+use std::net::{Net, TcpListener, TcpStream};
+use std::sync::Wait;
+use std::test::Fail;
+use std::thread::{Threads, join};
+use tcp_connect::{Hosts, TcpConnect};
+
+const SITE: &[Answered] = &[
+    (
+        "GET / ",
+        "HTTP/1.1 200 OK\r\nContent-Type: text/html\r\n\r\n<a href=a><a href=moved>",
+    ),
+    (
+        "GET /moved ",
+        "HTTP/1.1 302 Found\r\nLocation: /b\r\nContent-Length: 0\r\n\r\n",
+    ),
+    (
+        "GET /a ",
+        "HTTP/1.1 200 OK\r\nContent-Type: text/plain\r\nContent-Length: 1\r\n\r\na",
+    ),
+    (
+        "GET /b ",
+        "HTTP/1.1 200 OK\r\nContent-Type: text/plain\r\nTransfer-Encoding: chunked\r\n\r\n1\r\nb\r\n0\r\n\r\n",
+    ),
+];
+
+// Retrieves what the order says over TCP, by two workers, into the folder. Gives what is written, and the status.
+fn live_over_tcp<R: Net + Threads + Wait + Sync>(
+    rt: &R,
+    alloc: Global,
+    order: &Order,
+    folder: &mut MemoryFolder,
+) -> Result<(Vec<u8>, u8), Fail> {
+    let hosts = Hosts::new(alloc);
+    let mut fetchers = Vec::new(alloc);
+    let one = TcpConnect::new(rt, alloc, &hosts);
+    fetchers.push(HttpFetcher::new(alloc, one, order.plan.robots))?;
+    let other = TcpConnect::new(rt, alloc, &hosts);
+    fetchers.push(HttpFetcher::new(alloc, other, order.plan.robots))?;
+    let mut written = Vec::new(alloc);
+    let status = live(rt, alloc, order, fetchers, folder, &mut written);
+    Ok((written, status))
+}
+
+// The text of the request for a path.
+fn request_for(alloc: Global, port: u16, path: &str) -> Result<String, Fail> {
+    Ok(format!(in alloc;
+        "GET /{path} HTTP/1.1\r\nHost: 127.0.0.1:{port}\r\nUser-Agent: wgetr/1.0\r\nAccept: */*\r\nAccept-Encoding: identity\r\nConnection: close\r\n\r\n"
+    )?)
+}
+
+#[test]
+fn a_live_site_is_retrieved_into_a_folder(rt: HostRuntime) -> Result<(), Fail> {
+    let alloc = rt.alloc();
+    let listener = TcpListener::bind(&rt, "127.0.0.1:0")?;
+    let here = listener.local_addr()?;
+    let port = here.port();
+    let start = format!(in alloc; "http://127.0.0.1:{port}/")?;
+    let order = read_order(alloc, &["-r", start.as_str()])?;
+    let mut folder = MemoryFolder::new(alloc);
+    let (requests, done) = join(
+        &rt,
+        || serve(alloc, &listener, SITE),
+        || {
+            let done = live_over_tcp(&rt, alloc, &order, &mut folder);
+            // A connection without a request ends the server.
+            let _ = TcpStream::connect(&rt, here);
+            done
+        },
+    );
+    let (written, status) = done?;
+    let requests = requests?;
+    let name = format!(in alloc; "127.0.0.1:{port}")?;
+    let wanted = format!(in alloc;
+        "0 200 http://{name}/ {name}/index.html\n1 200 http://{name}/a {name}/a\n1 200 http://{name}/b {name}/b\n\
+1 302 http://{name}/moved -\nfetched 4 kept 3 refused 0 failed 0\n"
+    )?;
+    assert!(rt; written.as_slice() == wanted.as_bytes());
+    assert!(rt; status == 0);
+    for (file, body) in [
+        ("index.html", "<a href=a><a href=moved>"),
+        ("a", "a"),
+        ("b", "b"),
+    ] {
+        let file = format!(in alloc; "{name}/{file}")?;
+        assert!(rt; folder.file(file.as_str()) == Some(body.as_bytes()));
+    }
+    assert!(rt; requests.len() == 5);
+    for path in ["", "a", "b", "moved", "robots.txt"] {
+        let text = request_for(alloc, port, path)?;
+        assert!(rt; requests.iter().any(|request| request.as_slice() == text.as_bytes()), "{path}");
+    }
+    Ok(())
+}
+
+#[test]
+fn nobody_listens_where_a_live_site_should_be(rt: HostRuntime) -> Result<(), Fail> {
+    let alloc = rt.alloc();
+    let listener = TcpListener::bind(&rt, "127.0.0.1:0")?;
+    let port = listener.local_addr()?.port();
+    drop(listener);
+    let start = format!(in alloc; "http://127.0.0.1:{port}/")?;
+    let order = read_order(alloc, &["-r", start.as_str()])?;
+    let mut folder = MemoryFolder::new(alloc);
+    let (written, status) = live_over_tcp(&rt, alloc, &order, &mut folder)?;
+    let wanted = format!(in alloc; "0 connect {start} -\nfetched 1 kept 0 refused 0 failed 1\n")?;
+    assert!(rt; written.as_slice() == wanted.as_bytes());
+    assert!(rt; status == 4);
+    Ok(())
+}

@@ -1,0 +1,14 @@
+-- The fetchers and the folder are the system's.
+use Rattle.std.proofs.Common.{◌∙◌, sym}
+use Rattle.retriever.proofs.program.live_in.Goals as goal
+
+pub returns-clause-lives : goal.returns-clause-lives
+returns-clause-lives g c = record {
+  fetchers = c.in_ok-fetchers.fetchers.items;
+  made = c.in_ok-fetchers.ensures.made;
+  count = sym c.in_ok-fetchers.fetchers.ok.0 ∙ c.in_ok-fetchers.ensures.count;
+  folder = c.in_ok-folder.folder;
+  opened = c.in_ok-folder.ensures;
+  left = c.live.new.folder;
+  lives = c.live.ensures;
+}
