@@ -1,5 +1,5 @@
 -- What a person is told, and how a program ends that has no words.
-use Rattle.std.proofs.Common.{◌≡◌, ◌≢◌, ◌⊎◌, ◌∙◌, ◌++◌, ℕ, List, [], ◌∷◌, map, Option, None, refl, sym, ap, subst, inl, inr, append-nil}
+use Rattle.std.proofs.Common.{◌≡◌, ◌≢◌, ◌⊎◌, ◌∙◌, ◌++◌, ℕ, Bool, true, false, List, [], ◌∷◌, map, Option, None, refl, sym, ap, subst, inl, inr, append-nil}
 use Rattle.std.specs.Prelude.{Result, Ok, Err, OnOk, OnErr}
 use Rattle.std.specs.Io.KnownBytes.{Appends}
 use Rattle.std.specs.List.{flat_map}
@@ -8,6 +8,7 @@ use Rattle.options.specs.Order.{Ordered, order_of, said_by}
 use Rattle.options.specs.declared.fault.LineFault.{LineFault}
 use Rattle.options.specs.declared.fault.LineFault.TheVariants as line
 use Rattle.options.specs.declared.order.Order.{Order}
+use Rattle.options.specs.declared.order.Source.{Source}
 use Rattle.options.specs.declared.order.Source.TheVariants as source
 use Rattle.retriever.specs.Advice.{said_of, told_on}
 use Rattle.retriever.specs.Order.{IsRefused}
@@ -32,6 +33,26 @@ wrote (Err e) old new text ok err = err
 only_memory : (words : List (List ℕ)) (ordered : Ordered) (wrong : LineFault) → order_of words ≡ Ok ordered → IsRefused words (fault.Line wrong) → wrong ≡ line.Memory
 only_memory words ordered wrong says (inl e) = cc
 only_memory words ordered wrong says (inr e) = e
+
+-- whether a source is the network
+abbrev is_network : Source → Bool
+is_network source.Live = true
+is_network source.Map = false
+is_network source.Recorded = false
+
+-- a map isn't on the network
+pub map_is_not_live : source.Map ≡ source.Live → ⊥
+map_is_not_live is = (let truth : false ≡ true = ap (λ (s : Source). is_network s) is in cc)
+
+-- a record isn't on the network
+pub record_is_not_live : source.Recorded ≡ source.Live → ⊥
+record_is_not_live is = (let truth : false ≡ true = ap (λ (s : Source). is_network s) is in cc)
+
+-- a source that is no other is the network
+pub is_live : (s : Source) → ((s ≡ source.Live → ⊥) → ⊥) → s ≡ source.Live
+is_live source.Live never = refl
+is_live source.Map never = absurd (never map_is_not_live)
+is_live source.Recorded never = absurd (never record_is_not_live)
 
 -- ---- want of memory before a run
 
@@ -61,30 +82,25 @@ module _ {R E : Type 0} (Lives : List (List ℕ) → Type 0) (remaining before a
     quiet = λ either. refl;
   }
 
-  -- words for an input
-  pub starts_run : (reader_old reader_new : R) (errors : E) (told : Option (List ℕ)) (words : List (List ℕ)) (order : Order) → order_of words ≡ Ok (said_by order) → (order.source ≢ source.Live)
-      → Runs words remaining before after status
+  -- the same of equal words
+  pub starts_as : (reader_old reader_new : R) (errors_old errors_new : E) (told_before told_after : Option (List ℕ)) (given words : List (List ℕ)) → given ≡ words
+      → Starts Lives remaining before after reader_old reader_new errors_old errors_new told_before told_after status given
+      → Starts Lives remaining before after reader_old reader_new errors_old errors_new told_before told_after status words
+  starts_as reader_old reader_new errors_old errors_new told_before told_after given words same starts =
+      subst (λ (w : List (List ℕ)). Starts Lives remaining before after reader_old reader_new errors_old errors_new told_before told_after status w) same starts
+
+  -- words that order something: of a site on the network, or of one that the input tells
+  pub starts_order : (reader_old reader_new : R) (errors : E) (told : Option (List ℕ)) (words : List (List ℕ)) (order : Order) → order_of words ≡ Ok (said_by order)
+      → (order.source ≢ source.Live → Runs words remaining before after status) → (order.source ≡ source.Live → Lives words) → (order.source ≡ source.Live → reader_new ≡ reader_old)
       → Starts Lives remaining before after reader_old reader_new errors errors told told status words
-  starts_run reader_old reader_new errors told words order says input runs = record {
-    runs = λ not. runs;
+  starts_order reader_old reader_new errors told words order says runs lives unread = record {
+    runs = λ not. runs (λ is. not (said_by order, says, is));
     lives = λ live.
         let (ordered, said, is) = live in
         let same : ordered ≡ said_by order = cc in
-        absurd (input (sym (ap (λ (o : Ordered). o.source) same) ∙ is));
-    unread = λ no. absurd (no (order, says, input));
-    told = λ no none. absurd (no (order, says, input));
-    quiet = λ either. refl;
-  }
-
-  -- words for a site on the network
-  pub starts_live : (reader : R) (errors : E) (told : Option (List ℕ)) (words : List (List ℕ)) (order : Order) → order_of words ≡ Ok (said_by order) → order.source ≡ source.Live
-      → Lives words
-      → Starts Lives remaining before after reader reader errors errors told told status words
-  starts_live reader errors told words order says live lives = record {
-    runs = λ not. absurd (not (said_by order, says, live));
-    lives = λ for_live. lives;
-    unread = λ no. refl;
-    told = λ no none. absurd (none (said_by order, says, live));
+        lives (sym (ap (λ (o : Ordered). o.source) same) ∙ is);
+    unread = λ no. unread (is_live order.source (λ not. no (order, (says, not))));
+    told = λ no none. absurd (none (said_by order, says, is_live order.source (λ not. no (order, (says, not)))));
     quiet = λ either. refl;
   }
 

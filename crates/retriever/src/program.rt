@@ -1,7 +1,8 @@
 //! The program on its words, its three streams and the system: what a person is told, and the run, or the live retrieval.
-ghost use Rattle.std.specs.Prelude.{◌≡◌, ◌⊎◌, [], All, IfOk, IfErr, OnErr, None, drop, map, string_bytes, vec_len};
+ghost use Rattle.std.specs.Prelude.{◌≡◌, ◌≢◌, ◌⊎◌, [], All, IfOk, IfErr, OnErr, Ok, None, drop, map, string_bytes, vec_len};
 ghost use Rattle.std.specs.IoError.{error_kind};
 ghost use Rattle.std.specs.Vec.Iter.{into_iter_items};
+ghost use Rattle.options.specs.Order.{order_of, said_by};
 ghost use Rattle.retriever.specs.Advice.{told_by, told_on, said, said_of};
 ghost use Rattle.retriever.specs.Order.{AreForInput, AreForLive};
 ghost use Rattle.retriever.specs.Program.{IsTold, LivesFor, LivesIn, Starts, words_behind, words_fault};
@@ -132,6 +133,29 @@ fn live_of<H: Threads + Wait + Sync, S: System, W: Write>(
     }
 }
 
+// Retrieves the site on the network that the words order by the system, and runs on those for an input.
+fn run_order<H: Threads + Wait + Sync, S: System, R: Read, W: Write>(
+    rt: &H,
+    alloc: Global,
+    system: &S,
+    words: &[&str],
+    order: &Order,
+    reader: &mut R,
+    writer: &mut W,
+) -> u8
+    requires said { order_of (map (λ word. word.now) words.now) ≡ Ok (said_by order.now) }
+    ensures runs { order.now.source ≢ Source.Live → Runs (map (λ word. word.now) words.now) (R.remaining reader.old) (W.contents writer.old) (W.contents writer.new) result }
+    ensures lives { order.now.source ≡ Source.Live
+        → LivesFor S.Fetcher.site S.Fetcher.says S.Fetcher.rules S.Fetcher.log (S.makes system.now) (S.opens system.now) S.Folder.files S.Folder.failed (W.contents writer.old) (W.contents writer.new) result (map (λ word. word.now) words.now) }
+    ensures unread { order.now.source ≡ Source.Live → reader.new ≡ reader.old }
+{
+    match order.source {
+        Source::Live => live_of(rt, alloc, system, order, writer),
+        Source::Map => run(rt, alloc, words, reader, writer),
+        Source::Recorded => run(rt, alloc, words, reader, writer),
+    }
+}
+
 // Runs on these words: of a site on the network by the system, of another by the input.
 fn run_texts<H: Threads + Wait + Sync, S: System, R: Read, W: Write, E: Write>(
     rt: &H,
@@ -147,10 +171,7 @@ fn run_texts<H: Threads + Wait + Sync, S: System, R: Read, W: Write, E: Write>(
         (map (λ word. word.now) words.now) }
 {
     match read_order(alloc, words) {
-        Ok(order) => match order.source {
-            Source::Map | Source::Recorded => run(rt, alloc, words, reader, writer),
-            Source::Live => live_of(rt, alloc, system, &order, writer),
-        },
+        Ok(order) => run_order(rt, alloc, system, words, &order, reader, writer),
         Err(wrong) => {
             explain(alloc, Fault::Line(wrong), words, errors);
             refuse(alloc, Fault::Line(wrong), writer)

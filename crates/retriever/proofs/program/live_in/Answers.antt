@@ -1,5 +1,5 @@
 -- The fetchers and the folder are the system's.
-use Rattle.std.proofs.Common.{◌∙◌, sym}
+use Rattle.std.proofs.Common.{◌∙◌, ℕ, List, sym, subst}
 use Rattle.retriever.proofs.program.live_in.Goals as goal
 
 pub returns-clause-lives : goal.returns-clause-lives
@@ -8,7 +8,7 @@ returns-clause-lives g c = record {
   made = c.in_ok-fetchers.ensures.made;
   count = sym c.in_ok-fetchers.fetchers.ok.0 ∙ c.in_ok-fetchers.ensures.count;
   folder = c.in_ok-folder.folder;
-  opened = c.in_ok-folder.ensures;
+  opened = subst (λ (path : List ℕ). g.S.System.opens c.args.system.now path c.in_ok-folder.folder) c.as_str.ensures c.in_ok-folder.ensures;
   left = c.live.new.folder;
-  lives = c.live.ensures;
+  lives = c.live.ensures.lives;
 }

@@ -1,17 +1,11 @@
 -- Words that order something are run or retrieved, others have their fault told.
-use Rattle.std.proofs.Common.{inl, inr}
-use Rattle.retriever.proofs.ProgramLaws.{starts_run, starts_live, starts_wrong}
+use Rattle.std.proofs.Common.{inr}
+use Rattle.retriever.proofs.ProgramLaws.{starts_order, starts_wrong}
 use Rattle.retriever.proofs.program.run_texts.Goals as goal
 
-pub returns-in-Map : goal.returns-in-Map
-returns-in-Map g c = starts_run _ _ _ _ _ _ _ _ _ _ c.in-Ok.order c.in-Ok.ensures (λ live. cc) c.run.ensures.runs
-
-pub returns-in-Live : goal.returns-in-Live
-returns-in-Live g c = starts_live _ _ _ _ _ _ _ _ _ c.in-Ok.order c.in-Ok.ensures c.in-Live.is
-    (elim c.live_of.ensures [
-      | inl done ↦ inl (c.in-Ok.order, (c.in-Ok.ensures, c.in-Live.is), done)
-      | inr refused ↦ inr refused
-    ])
+pub returns-in-Ok : goal.returns-in-Ok
+returns-in-Ok g c =
+    starts_order _ _ _ _ _ _ _ _ _ _ c.in-Ok.order c.in-Ok.ensures c.run_order.ensures.runs c.run_order.ensures.lives c.run_order.ensures.unread
 
 pub returns-in-Err : goal.returns-in-Err
 returns-in-Err g c = starts_wrong _ _ _ _ _ _ _ _ _ _ _ c.in-Err.wrong c.in-Err.ensures (λ refused. inr refused) c.refuse.ensures c.explain.ensures.told c.explain.ensures.quiet
