@@ -3,6 +3,8 @@
 #![tactic(auto)]
 
 #[cfg(test)]
+mod chain_tests;
+#[cfg(test)]
 mod memory_tests;
 #[cfg(test)]
 mod server;

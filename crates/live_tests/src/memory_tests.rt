@@ -177,29 +177,39 @@ struct Failing {
 
 // The first connection is the start's, the second its robots file's.
 const START: u64 = 0;
+
 const ROBOTS: u64 = 1;
+
 const A: u64 = 2;
+
 const B: u64 = 3;
 
 const WRITE: FailingPlace = FailingPlace::Call(PlannedFault {
     call: 0,
     fault: WireFault::Failed,
 });
+
 const READ: FailingPlace = FailingPlace::Call(PlannedFault {
     call: 1,
     fault: WireFault::Failed,
 });
 
 const NO_START: &str = "0 connect http://h/ -\nfetched 1 kept 0 refused 0 failed 1\n";
+
 const LOST_START: &str = "0 device http://h/ -\nfetched 1 kept 0 refused 0 failed 1\n";
+
 const NO_ROBOTS: &str =
     "0 200 http://h/ h/index.html\n1 rob http://h/a -\n1 rob http://h/b -\nfetched 1 kept 1 refused 2 failed 0\n";
+
 const NO_A: &str =
     "0 200 http://h/ h/index.html\n1 connect http://h/a -\n1 200 http://h/b h/b\nfetched 3 kept 2 refused 0 failed 1\n";
+
 const LOST_A: &str =
     "0 200 http://h/ h/index.html\n1 device http://h/a -\n1 200 http://h/b h/b\nfetched 3 kept 2 refused 0 failed 1\n";
+
 const NO_B: &str =
     "0 200 http://h/ h/index.html\n1 200 http://h/a h/a\n1 connect http://h/b -\nfetched 3 kept 2 refused 0 failed 1\n";
+
 const LOST_B: &str =
     "0 200 http://h/ h/index.html\n1 200 http://h/a h/a\n1 device http://h/b -\nfetched 3 kept 2 refused 0 failed 1\n";
 

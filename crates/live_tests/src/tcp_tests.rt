@@ -1,14 +1,14 @@
 //! A site that a thread of the test serves on loopback, retrieved over TCP.
 use crate::server::{Answered, serve};
 use local_tree::MemoryFolder;
-use options::{Order, read_order};
+use options::read_order;
 use retriever::live;
 use site_answer::HttpFetcher;
-use std::alloc::Global;
+use std::alloc::{AllocError, Global};
 use std::net::{Net, TcpListener, TcpStream};
 use std::sync::Wait;
 use std::test::Fail;
-use std::thread::{Threads, join};
+use std::thread::join;
 use tcp_connect::{Hosts, TcpConnect};
 
 const SITE: &[Answered] = &[
@@ -30,22 +30,18 @@ const SITE: &[Answered] = &[
     ),
 ];
 
-// Retrieves what the order says over TCP, by two workers, into the folder. Gives what is written, and the status.
-fn live_over_tcp<R: Net + Threads + Wait + Sync>(
-    rt: &R,
+// Two fetchers over TCP.
+fn over_tcp<'a, R: Net + Wait>(
+    rt: &'a R,
     alloc: Global,
-    order: &Order,
-    folder: &mut MemoryFolder,
-) -> Result<(Vec<u8>, u8), Fail> {
-    let hosts = Hosts::new(alloc);
+    hosts: &'a Hosts,
+    robots: bool,
+) -> Result<Vec<HttpFetcher<TcpConnect<'a, R>>>, AllocError> {
     let mut fetchers = Vec::new(alloc);
-    let one = TcpConnect::new(rt, alloc, &hosts);
-    fetchers.push(HttpFetcher::new(alloc, one, order.plan.robots))?;
-    let other = TcpConnect::new(rt, alloc, &hosts);
-    fetchers.push(HttpFetcher::new(alloc, other, order.plan.robots))?;
-    let mut written = Vec::new(alloc);
-    let status = live(rt, alloc, order, fetchers, folder, &mut written);
-    Ok((written, status))
+    for _ in 0..2 {
+        fetchers.push(HttpFetcher::new(alloc, TcpConnect::new(rt, alloc, hosts), robots))?;
+    }
+    Ok(fetchers)
 }
 
 // The text of the request for a path.
@@ -58,23 +54,25 @@ fn request_for(alloc: Global, port: u16, path: &str) -> Result<String, Fail> {
 #[test]
 fn a_live_site_is_retrieved_into_a_folder(rt: HostRuntime) -> Result<(), Fail> {
     let alloc = rt.alloc();
+    let hosts = Hosts::new(alloc);
+    let fetchers = over_tcp(&rt, alloc, &hosts, true)?;
     let listener = TcpListener::bind(&rt, "127.0.0.1:0")?;
     let here = listener.local_addr()?;
     let port = here.port();
     let start = format!(in alloc; "http://127.0.0.1:{port}/")?;
     let order = read_order(alloc, &["-r", start.as_str()])?;
     let mut folder = MemoryFolder::new(alloc);
-    let (requests, done) = join(
+    let mut written: Vec<u8> = Vec::new(alloc);
+    let (requests, status) = join(
         &rt,
         || serve(alloc, &listener, SITE),
         || {
-            let done = live_over_tcp(&rt, alloc, &order, &mut folder);
+            let status = live(&rt, alloc, &order, fetchers, &mut folder, &mut written);
             // A connection without a request ends the server.
             let _ = TcpStream::connect(&rt, here);
-            done
+            status
         },
     );
-    let (written, status) = done?;
     let requests = requests?;
     let name = format!(in alloc; "127.0.0.1:{port}")?;
     let wanted = format!(in alloc;
@@ -94,7 +92,12 @@ fn a_live_site_is_retrieved_into_a_folder(rt: HostRuntime) -> Result<(), Fail> {
     assert!(rt; requests.len() == 5);
     for path in ["", "a", "b", "moved", "robots.txt"] {
         let text = request_for(alloc, port, path)?;
-        assert!(rt; requests.iter().any(|request| request.as_slice() == text.as_bytes()), "{path}");
+        assert!(rt;
+            requests
+                .iter()
+                .any(|request| request.as_slice() == text.as_bytes()),
+            "{path}"
+        );
     }
     Ok(())
 }
@@ -108,7 +111,10 @@ fn nobody_listens_where_a_live_site_should_be(rt: HostRuntime) -> Result<(), Fai
     let start = format!(in alloc; "http://127.0.0.1:{port}/")?;
     let order = read_order(alloc, &["-r", start.as_str()])?;
     let mut folder = MemoryFolder::new(alloc);
-    let (written, status) = live_over_tcp(&rt, alloc, &order, &mut folder)?;
+    let hosts = Hosts::new(alloc);
+    let fetchers = over_tcp(&rt, alloc, &hosts, order.plan.robots)?;
+    let mut written: Vec<u8> = Vec::new(alloc);
+    let status = live(&rt, alloc, &order, fetchers, &mut folder, &mut written);
     let wanted = format!(in alloc; "0 connect {start} -\nfetched 1 kept 0 refused 0 failed 1\n")?;
     assert!(rt; written.as_slice() == wanted.as_bytes());
     assert!(rt; status == 4);

@@ -1,10 +1,7 @@
 //! Responses in examples: what each answers, whole and in pieces, and each call once.
 use address::Address;
 use response_reader::{Head, ReadFault, Response, Sink, SliceWire, read_response};
-use site_answer::{
-    Answer, Digester, FaultKind, Fetcher, HttpFetcher, MemoryConnect, StoredAnswer, digest,
-    into_answer, kind_of_fault,
-};
+use site_answer::{Answer, Digester, FaultKind, digest, into_answer, kind_of_fault};
 use std::alloc::{AllocError, Global};
 use std::test::Fail;
 
@@ -83,8 +80,8 @@ const ANSWERS: [(&str, &str, bool, &str); 12] = [
     ("HTTP/1.1 301 X||", "", true, "Leaf(301)"),
 ];
 
-// The bytes of a response of these parts.
-fn response_bytes(alloc: Global, head: &str, body: &str) -> Result<Vec<u8>, AllocError> {
+// The response of these parts.
+fn response(alloc: Global, head: &str, body: &str) -> Result<Response, Fail> {
     let mut bytes = Vec::new(alloc);
     for b in head.as_bytes() {
         match b {
@@ -93,12 +90,6 @@ fn response_bytes(alloc: Global, head: &str, body: &str) -> Result<Vec<u8>, Allo
         }
     }
     bytes.extend_from_slice(body.as_bytes())?;
-    Ok(bytes)
-}
-
-// The response of these parts.
-fn response(alloc: Global, head: &str, body: &str) -> Result<Response, Fail> {
-    let bytes = response_bytes(alloc, head, body)?;
     Ok(read_response(alloc, &mut SliceWire::new(&bytes))?)
 }
 
@@ -130,22 +121,6 @@ fn in_pieces(
     digester.finish()
 }
 
-// The answer of a site that gives this response, asked over a connection.
-fn over_connection(
-    alloc: Global,
-    at: &Address,
-    head: &str,
-    body: &str,
-    robots: bool,
-) -> Result<Answer, Fail> {
-    let answers = [StoredAnswer {
-        at: at.try_clone()?,
-        bytes: response_bytes(alloc, head, body)?,
-    }];
-    let mut fetcher = HttpFetcher::new(alloc, MemoryConnect::new(alloc, &answers, &[]), robots);
-    Ok(fetcher.ask(at)?)
-}
-
 // Whether the answer has this body, where it is one that is kept, and else none.
 fn has_body(answer: &Answer, body: &str, is_kept: bool) -> bool {
     if is_kept {
@@ -173,9 +148,6 @@ fn a_response_answers_by_its_head_and_its_links(rt: HostRuntime) -> Result<(), F
         let pieces = in_pieces(alloc, &at, response(alloc, head, body)?, robots)?;
         assert!(rt; pieces.outcome.same(&answer.outcome), "at {head}");
         assert!(rt; has_body(&pieces, body, is_kept), "at {head}");
-        let asked = over_connection(alloc, &at, head, body, robots)?;
-        assert!(rt; asked.outcome.same(&answer.outcome), "at {head}");
-        assert!(rt; has_body(&asked, body, is_kept), "at {head}");
     }
     Ok(())
 }
