@@ -54,8 +54,6 @@ fn request_for(alloc: Global, port: u16, path: &str) -> Result<String, Fail> {
 #[test]
 fn a_live_site_is_retrieved_into_a_folder(rt: HostRuntime) -> Result<(), Fail> {
     let alloc = rt.alloc();
-    let hosts = Hosts::new(alloc);
-    let fetchers = over_tcp(&rt, alloc, &hosts, true)?;
     let listener = TcpListener::bind(&rt, "127.0.0.1:0")?;
     let here = listener.local_addr()?;
     let port = here.port();
@@ -63,11 +61,15 @@ fn a_live_site_is_retrieved_into_a_folder(rt: HostRuntime) -> Result<(), Fail> {
     let order = read_order(alloc, &["-r", start.as_str()])?;
     let mut folder = MemoryFolder::new(alloc);
     let mut written: Vec<u8> = Vec::new(alloc);
+    let hosts = Hosts::new(alloc);
     let (requests, status) = join(
         &rt,
         || serve(alloc, &listener, SITE),
         || {
-            let status = live(&rt, alloc, &order, fetchers, &mut folder, &mut written);
+            let status = match over_tcp(&rt, alloc, &hosts, order.plan.robots) {
+                Ok(fetchers) => live(&rt, alloc, &order, fetchers, &mut folder, &mut written),
+                Err(_) => u8::MAX,
+            };
             // A connection without a request ends the server.
             let _ = TcpStream::connect(&rt, here);
             status
