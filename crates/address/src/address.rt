@@ -204,3 +204,18 @@ impl Address {
         self.path_query() == "/robots.txt"
     }
 }
+
+#[cfg(test)]
+mod tests {
+    use super::*;
+    use std::test::Fail;
+
+    #[test]
+    fn a_copy_shares_the_url(rt: HostRuntime) -> Result<(), Fail> {
+        let page = Address::read(rt.alloc(), "http://h/a")?;
+        assert!(rt; Arc::strong_count(&page.url) == 1);
+        let copy = page.try_clone()?;
+        assert!(rt; Arc::strong_count(&copy.url) == 2);
+        Ok(())
+    }
+}
