@@ -1,14 +1,13 @@
 -- Octets between two runs: where they match, and that their leftmost place is enough.
-use Rattle.std.proofs.Common.{◌≡◌, ◌↔◌, ℕ, zero, suc, ◌+◌, ◌-◌, ◌≤◌, ◌<◌, ◌⊎◌, Bool, true, false, ◌&&◌, Option, Some, None, List, [], ◌∷◌, ◌++◌, length, take, drop, get_or, IsTrue, sym, refl, ap, ◌∙◌, inl, inr, arith, append_assoc, append-nil, append_assoc, length-append, drop-drop, take-append-drop}
-use Rattle.std.proofs.Math.Seq.{take-append_seam, drop-append_seam}
-use Rattle.std.proofs.lemmas.List.{drop_more, drop_all}
+use Rattle.std.proofs.Common.{◌≡◌, ◌≢◌, ◌↔◌, ℕ, zero, suc, ◌+◌, ◌-◌, ◌≤◌, ◌<◌, ◌⊎◌, Bool, true, false, ◌&&◌, Option, Some, None, List, [], ◌∷◌, ◌++◌, length, take, drop, get_or, IsTrue, sym, refl, ap, ◌∙◌, inl, inr, arith, append_assoc, append-nil, append_assoc, length-append, drop-drop}
+use Rattle.std.proofs.Math.Seq.{drop-append_seam}
+use Rattle.std.proofs.lemmas.List.{drop_all}
 use Rattle.std.proofs.lemmas.Bool.{and_parts, eq-eqb, eqb-true, false_from_ne_true}
 use Rattle.std.specs.List.{list_all}
 use Rattle.std.specs.Prelude.{IfSome}
 use Rattle.part_match.specs.Cuts.{is_match, some_end, first_and}
 use Rattle.part_match.proofs.Decided.{is_match-run, is_match-one, is_match-end, some_end-here, some_end-drop, some_end_cut}
-use Rattle.memchr.specs.Find.{OccursAt, Nowhere}
-use Rattle.memchr.proofs.lemmas.MatchLemmas.{OccursAt-split, OccursAt-from_part}
+use Rattle.std.specs.Str.Pattern.{HasTextAt, LacksTextAt}
 use Rattle.robots_rules.specs.Patterns.{is_run, takes}
 
 -- whether the parts match the whole text
@@ -33,6 +32,11 @@ IsPiece-take [] (suc n) within none = absurd (omega arith)
 IsPiece-take (x ∷ xs) (suc n) within none =
     (false_from_ne_true _ (none 0 (omega arith)), IsPiece-take xs n (omega arith) (λ k below. none (suc k) (omega arith)))
 
+-- octets among which no `*` is found are a piece
+pub IsPiece-free : (xs : List ℕ) → ((k : ℕ) → k < length xs → get_or xs k 0 ≢ 42) → IsPiece xs
+IsPiece-free [] free = tt
+IsPiece-free (x ∷ xs) free = (false_from_ne_true _ (λ h. free 0 (omega arith) (eqb-true x 42 h)), IsPiece-free xs (λ k below. free (suc k) (omega arith)))
+
 -- ---- a piece at the front
 
 pub matched-behind : (piece ps rest : List ℕ) → IsPiece piece → matched (piece ++ ps) (piece ++ rest) ≡ matched ps rest
@@ -54,54 +58,42 @@ matched-front (x ∷ piece) ps (y ∷ text) plain h =
 
 -- ---- a piece in the middle
 
-occurs_front : (front piece rest text : List ℕ) → front ++ (piece ++ rest) ≡ text → OccursAt text piece (length front)
-occurs_front front piece rest text is =
-    let behind : drop (length front) text ≡ piece ++ rest = ap (drop (length front)) (sym is) ∙ drop-append_seam front (piece ++ rest) in
-    OccursAt-from_part text piece (length front)
-    (omega (arith, ap length is, length-append front (piece ++ rest), length-append piece rest))
-    (ap (take (length piece)) behind ∙ take-append_seam piece rest)
-
 -- where some end of the text matches, the piece stands at a place of it behind which some end matches the rest
 pub place_of : (piece ps text : List ℕ) → IsPiece piece → some_end (matched (piece ++ 42 ∷ ps)) text ≡ true
-    → (j : ℕ) × (j < length text + 1) × OccursAt text piece j × (some_end (matched ps) (drop (j + length piece) text) ≡ true)
+    → (j : ℕ) × (rest : List ℕ) × (j ≤ length text) × (drop j text ≡ piece ++ rest) × (some_end (matched ps) rest ≡ true)
 place_of piece ps text plain h =
     let cut = some_end_cut (matched (piece ++ 42 ∷ ps)) text h in
     let behind = matched-front piece (42 ∷ ps) cut.1 plain cut.3 in
-    let whole : cut.0 ++ (piece ++ behind.0) ≡ text = ap (λ xs. cut.0 ++ xs) (sym behind.1) ∙ cut.2 in
+    let at : drop (length (cut.0)) text ≡ piece ++ behind.0 = ap (drop (length (cut.0))) (sym cut.2) ∙ drop-append_seam cut.0 cut.1 ∙ behind.1 in
     let later : some_end (matched ps) behind.0 ≡ true =
     sym (matched-behind piece (42 ∷ ps) behind.0 plain ∙ is_match-run is_run takes 42 ps behind.0 refl) ∙ ap (matched (piece ++ 42 ∷ ps)) (sym behind.1) ∙ cut.3 in
-    let rest : drop (length (cut.0) + length piece) text ≡ behind.0 =
-    sym (drop-drop (length piece) (length (cut.0)) text)
-    ∙ ap (λ xs. drop (length piece) (drop (length (cut.0)) xs)) (sym whole)
-    ∙ ap (drop (length piece)) (drop-append_seam cut.0 (piece ++ behind.0))
-    ∙ drop-append_seam piece behind.0 in
-    (length (cut.0), omega (arith, ap length whole, length-append cut.0 (piece ++ behind.0)), occurs_front cut.0 piece behind.0 text whole, ap (some_end (matched ps)) rest ∙ later)
+    (length (cut.0), behind.0, omega (arith, ap length cut.2, length-append cut.0 cut.1), at, later)
 
 -- a piece that stands nowhere matches no end
-pub some_end-nowhere : (piece ps text : List ℕ) → IsPiece piece → Nowhere (OccursAt text piece) 0 (length text + 1) → some_end (matched (piece ++ 42 ∷ ps)) text ≡ false
+pub some_end-nowhere : (piece ps text : List ℕ) → IsPiece piece → ((i : ℕ) → i ≤ length text → LacksTextAt piece text i) → some_end (matched (piece ++ 42 ∷ ps)) text ≡ false
 some_end-nowhere piece ps text plain none =
-    false_from_ne_true _ (λ h. let place = place_of piece ps text plain h in none place.0 (omega arith) place.1 place.2)
+    false_from_ne_true _ (λ h. let place = place_of piece ps text plain h in none place.0 place.2 place.1 place.3)
 
 -- a piece may as well stand at its leftmost place: an end behind any other place of it is an end behind this one
-pub some_end-leftmost : (piece ps text : List ℕ) (k : ℕ) → IsPiece piece → Nowhere (OccursAt text piece) 0 k → OccursAt text piece k
-    → some_end (matched (piece ++ 42 ∷ ps)) text ≡ some_end (matched ps) (drop (k + length piece) text)
-some_end-leftmost piece ps text k plain before here =
-    let rest = drop (k + length piece) text in
+pub some_end-leftmost : (piece ps text : List ℕ) (i k : ℕ) → IsPiece piece → ((j : ℕ) → j < i → LacksTextAt piece text j) → HasTextAt piece text i k
+    → some_end (matched (piece ++ 42 ∷ ps)) text ≡ some_end (matched ps) (drop k text)
+some_end-leftmost piece ps text i k plain before here =
     same_bool _ _
     (λ h.
     let place = place_of piece ps text plain h in
     let j = place.0 in
-    let ordered : k ≤ j = order k j (λ less. before j (omega arith) less place.2) in
-    let farther : drop (j - k) rest ≡ drop (j + length piece) text =
-    drop-drop (j - k) (k + length piece) text ∙ ap (λ n. drop n text) (let e : k + length piece + (j - k) ≡ j + length piece = omega arith in e) in
-    some_end-drop (matched ps) (j - k) rest (ap (some_end (matched ps)) farther ∙ place.3))
+    let ordered : i ≤ j = order i j (λ less. before j less place.1 place.3) in
+    let farther : drop (j - i) (drop k text) ≡ place.1 =
+    drop-drop (j - i) k text ∙ ap (λ n. drop n text) (let e : k + (j - i) ≡ j + length piece = omega (arith, here.ends) in e)
+    ∙ sym (drop-drop (length piece) j text) ∙ ap (drop (length piece)) place.3 ∙ drop-append_seam piece place.1 in
+    some_end-drop (matched ps) (j - i) (drop k text) (ap (some_end (matched ps)) farther ∙ place.4))
     (λ h.
-    some_end-drop (matched (piece ++ 42 ∷ ps)) k text
-    (some_end-here (matched (piece ++ 42 ∷ ps)) (drop k text)
-    (ap (matched (piece ++ 42 ∷ ps)) (OccursAt-split text piece k here) ∙ matched-behind piece (42 ∷ ps) rest plain ∙ is_match-run is_run takes 42 ps rest refl ∙ h)))
+    some_end-drop (matched (piece ++ 42 ∷ ps)) i text
+    (some_end-here (matched (piece ++ 42 ∷ ps)) (drop i text)
+    (ap (matched (piece ++ 42 ∷ ps)) here.split ∙ matched-behind piece (42 ∷ ps) (drop k text) plain ∙ is_match-run is_run takes 42 ps (drop k text) refl ∙ h)))
   where
-    order : (k j : ℕ) → (j < k → ⊥) → k ≤ j
-    order k j never = omega arith
+    order : (i j : ℕ) → (j < i → ⊥) → i ≤ j
+    order i j never = omega arith
 
 -- ---- a piece alone
 
@@ -142,32 +134,15 @@ same_end piece text b plain is from =
     let cut = some_end_cut (matched piece) text h in
     from cut.0 (sym (ap (λ xs. cut.0 ++ xs) ((matched-alone piece cut.1 plain).0 cut.3) ∙ cut.2)))
 
--- ---- the front of a pattern
-
--- the first `*` parts the octets into a piece and the rest
-pub at_run : (parts : List ℕ) (run : ℕ) → run < length parts → is_run (get_or parts run 0) ≡ true → take run parts ++ 42 ∷ drop (run + 1) parts ≡ parts
-at_run parts run below star =
-    ap (λ xs. take run parts ++ xs) (ap (λ x. x ∷ drop (run + 1) parts) (sym (eqb-true _ 42 star)) ∙ sym (drop_more parts run 0 below)) ∙ take-append-drop run parts
-
--- a first piece that stands at the front leaves the rest to some end
-pub front_behind : (parts text rest : List ℕ) (run : ℕ) → IsPiece (take run parts) → take run parts ++ 42 ∷ drop (run + 1) parts ≡ parts → text ≡ take run parts ++ rest → matched parts text ≡ some_end (matched (drop (run + 1) parts)) rest
-front_behind parts text rest run plain whole is =
-    ap (λ ps. matched ps text) (sym whole) ∙ ap (matched (take run parts ++ 42 ∷ drop (run + 1) parts)) is
-    ∙ matched-behind (take run parts) (42 ∷ drop (run + 1) parts) rest plain
-    ∙ is_match-run is_run takes 42 (drop (run + 1) parts) rest refl
-
--- one that doesn't matches nothing
-pub front_missing : (parts text : List ℕ) (run : ℕ) → IsPiece (take run parts) → take run parts ++ 42 ∷ drop (run + 1) parts ≡ parts → ((rest : List ℕ) → text ≡ take run parts ++ rest → ⊥) → matched parts text ≡ false
-front_missing parts text run plain whole never =
-    false_from_ne_true _ (λ h.
-    let behind = matched-front (take run parts) (42 ∷ drop (run + 1) parts) text plain (ap (λ ps. matched ps text) whole ∙ h) in
-    never behind.0 behind.1)
-
 -- ---- a front of a path, and what follows it
 
 -- parts match the text just where those behind a first piece match what follows it there
 pub piece_behind : (piece others text rest : List ℕ) → IsPiece piece → text ≡ piece ++ rest → matched (piece ++ others) text ≡ matched others rest
 piece_behind piece others text rest plain is = ap (matched (piece ++ others)) is ∙ matched-behind piece others rest plain
+
+-- parts match no text at whose front their first piece is missing
+pub piece_absent : (piece others text : List ℕ) → IsPiece piece → ((rest : List ℕ) → text ≡ piece ++ rest → ⊥) → matched (piece ++ others) text ≡ false
+piece_absent piece others text plain never = false_from_ne_true _ (λ h. let found = matched-front piece others text plain h in never found.0 found.1)
 
 -- a piece and a front of which neither begins the other: nothing with this front begins with the piece
 pub piece_missing : (piece others front rest : List ℕ) → IsPiece piece → ((more : List ℕ) → front ≡ piece ++ more → ⊥) → ((more : List ℕ) → piece ≡ front ++ more → ⊥)

@@ -6,7 +6,7 @@ ghost use Rattle.part_match.specs.Cuts.{is_match, some_end};
 ghost use Rattle.robots_rules.specs.Patterns.{is_run, takes};
 
 use crate::octets::NormalText;
-use memchr::{memchr, memmem};
+use std::str;
 
 /// A path in normal form.
 pub(crate) trait NormalPath: Copy {
@@ -36,31 +36,43 @@ impl NormalPath for NormalText<'_> {
     }
 }
 
-/// Whether the parts match the whole path: the piece before the first `*` stands at its front, and some end of what follows matches the rest.
+/// Whether the parts match the whole path: the piece before the first `*` stands at its front, and the others match the rest.
 fn matches(parts: &[u8], path: &[u8]) -> bool
     ensures { result ≡ is_match is_run takes parts.now path.now }
 {
-    let Some(star) = memchr(b'*', parts) else {
-        return parts == path;
-    };
-    match path.strip_prefix(&parts[..star]) {
-        Some(rest) => matches_some_end(&parts[star + 1..], rest),
+    let (piece, others) = parts.split_at(first_run(parts));
+    match path.strip_prefix(piece) {
+        Some(rest) => matches_others(others, rest),
         None => false,
     }
 }
 
+/// The same of the parts behind the first piece: none, or a `*` and what follows it, which matches some end of the path.
+fn matches_others(parts: &[u8], path: &[u8]) -> bool
+    ensures { result ≡ is_match is_run takes parts.now path.now }
+{
+    let Some(others) = parts.strip_prefix(b"*") else {
+        return part_match::matches(parts, path);
+    };
+    match (str::from_utf8(others), str::from_utf8(path)) {
+        (Ok(others), Ok(path)) => matches_some_end(others, path),
+        // Normal forms are ASCII, so this isn't come to.
+        _ => part_match::matches(parts, path),
+    }
+}
+
 /// Whether the parts match some end of the path: each piece before a `*` is found leftmost behind the one before it, and the last one stands at the end.
-fn matches_some_end(parts: &[u8], path: &[u8]) -> bool
+fn matches_some_end(parts: &str, path: &str) -> bool
     ensures { result ≡ some_end (is_match is_run takes parts.now) path.now }
 {
     let mut parts = parts;
     let mut path = path;
-    while let Some(star) = memchr(b'*', parts) {
-        let Some(at) = memmem::find(path, &parts[..star]) else {
+    while let Some((piece, others)) = parts.split_once('*') {
+        let Some((_, behind)) = path.split_once(piece) else {
             return false;
         };
-        path = &path[at + star..];
-        parts = &parts[star + 1..];
+        path = behind;
+        parts = others;
     }
     path.ends_with(parts)
 }
@@ -107,8 +119,8 @@ fn first_run(parts: &[u8]) -> usize
     ensures run { result < length parts.now → is_run (get_or parts.now result 0) ≡ true }
     ensures before { (k : ℕ) → k < result → is_run (get_or parts.now k 0) ≡ true → ⊥ }
 {
-    match memchr(b'*', parts) {
-        Some(star) => star,
-        None => parts.len(),
-    }
+    parts
+        .iter()
+        .position(|part| *part == b'*')
+        .unwrap_or(parts.len())
 }

@@ -1,33 +1,27 @@
-use Rattle.std.proofs.Common.{Some, None, ◌∙◌, ◌+◌, length, take, sym, subst, ap, arith}
-use Rattle.std.proofs.lemmas.List.{take_rest, take_all}
-use Rattle.std.proofs.lemmas.Slice.Eq.{slice_eq-Decides, strip_prefix_is}
+use Rattle.std.proofs.Common.{Some, None, ◌∙◌, sym, subst, ap}
+use Rattle.std.proofs.lemmas.Slice.Eq.{strip_prefix_is}
 use Rattle.std.proofs.lemmas.Bool.Decides.{Decides-eqb}
-use Rattle.part_match.specs.Cuts.{some_end}
-use Rattle.robots_rules.proofs.PieceLemmas.{matched, IsPiece, IsPiece-take, at_run, front_behind, front_missing, same_alone}
+use Rattle.robots_rules.proofs.PieceLemmas.{matched, IsPiece, IsPiece-take, piece_behind, piece_absent}
 use Rattle.robots_rules.proofs.pieces.matches.Goals as goal
 
-pub returns-in_default : goal.returns-in_default
-returns-in_default c =
+pub returns-in-Some : goal.returns-in-Some
+returns-in-Some c =
     let parts = c.args.parts.now in
-    let plain : IsPiece parts = subst IsPiece (take_all (length parts) parts (omega arith)) (IsPiece-take parts (length parts) (omega arith) (λ k below. c.in_default.ensures k (omega arith) below)) in
-    same_alone parts c.args.path.now c.eq.result plain (slice_eq-Decides Decides-eqb parts c.args.path.now c.eq.result c.eq.ensures)
-
-pub returns-in-Some-strip_prefix : goal.returns-in-Some-strip_prefix
-returns-in-Some-strip_prefix c =
-    let parts = c.args.parts.now in
-    let star = c.in-Some.star in
-    let found = c.in-Some.ensures in
-    let high = found.0.high in
-    let plain : IsPiece (take star parts) = IsPiece-take parts star (omega arith) (λ k below. found.0.before k (omega arith) below) in
-    c.matches_some_end.ensures
-    ∙ ap (λ ps. some_end (matched ps) c.in-Some-strip_prefix.rest.now) (take_rest parts (star + 1))
-    ∙ sym (front_behind parts c.args.path.now c.in-Some-strip_prefix.rest.now star plain (at_run parts star high found.1) (strip_prefix_is Decides-eqb c.args.path.now (take star parts) (Some c.in-Some-strip_prefix.rest) c.in-Some-strip_prefix.ensures.cases))
+    let path = c.args.path.now in
+    let found = c.first_run.ensures in
+    let cut = c.split_at.ensures in
+    let piece = c.split_at.result.0.now in
+    let others = c.split_at.result.1.now in
+    let plain : IsPiece piece = subst IsPiece (sym cut.front) (IsPiece-take parts c.first_run.result found.within found.before) in
+    let front = strip_prefix_is Decides-eqb path piece (Some c.in-Some.rest) c.in-Some.ensures.cases in
+    c.matches_others.ensures ∙ sym (ap (λ ps. matched ps path) cut.by_index.0 ∙ piece_behind piece others path c.in-Some.rest.now plain front)
 
 pub returns-in-None : goal.returns-in-None
 returns-in-None c =
     let parts = c.args.parts.now in
-    let star = c.in-Some.star in
-    let found = c.in-Some.ensures in
-    let high = found.0.high in
-    let plain : IsPiece (take star parts) = IsPiece-take parts star (omega arith) (λ k below. found.0.before k (omega arith) below) in
-    sym (front_missing parts c.args.path.now star plain (at_run parts star high found.1) (strip_prefix_is Decides-eqb c.args.path.now (take star parts) None c.in-None.ensures.cases))
+    let path = c.args.path.now in
+    let found = c.first_run.ensures in
+    let cut = c.split_at.ensures in
+    let piece = c.split_at.result.0.now in
+    let plain : IsPiece piece = subst IsPiece (sym cut.front) (IsPiece-take parts c.first_run.result found.within found.before) in
+    sym (ap (λ ps. matched ps path) cut.by_index.0 ∙ piece_absent piece c.split_at.result.1.now path plain (strip_prefix_is Decides-eqb path piece None c.in-None.ensures.cases))
