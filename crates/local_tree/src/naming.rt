@@ -80,10 +80,11 @@ fn assign(alloc: Global, plain: &[String]) -> Result<Vec<String>, AllocError>
     // its numbered names is free.
     let mut next: BTreeMap<String, u64> = BTreeMap::new(alloc);
     let mut names = Vec::new(alloc);
-    for own in plain {
+    for (i, own) in plain.iter().enumerate() {
         let own = own.as_str();
-        let start = next.get(own).copied().unwrap_or(0);
-        let (name, number) = first_free(alloc, &sorted, &next, own, start)?;
+        // The pages ascend, so their plain names nearly do: what would stand in a directory of this
+        // name mostly stands just behind as many names.
+        let (name, number) = first_free(alloc, &sorted, &next, own, i + 1)?;
         remember(alloc, &mut next, own, name.as_str(), number)?;
         names.push(name)?;
     }

@@ -40,7 +40,7 @@ before_differs : (page u : Text) → IsBefore page u → page ≢ u
 before_differs page u before same = not_before_itself u (subst (λ (v : Text). IsBefore v u) same before)
 
 -- the name of the page at a place
-name_at : (kept : List Text) (names : List (List ℕ)) (i : ℕ) (u : Text) → IsAscending kept → length names ≡ length kept → i < length kept → get_or kept i [] ≡ u → name_among kept names u ≡ Some (get_or names i [])
+pub name_at : (kept : List Text) (names : List (List ℕ)) (i : ℕ) (u : Text) → IsAscending kept → length names ≡ length kept → i < length kept → get_or kept i [] ≡ u → name_among kept names u ≡ Some (get_or names i [])
 name_at [] names i u up long below is = absurd (omega arith)
 name_at (page ∷ kept) [] i u up long below is = absurd (omega arith)
 name_at (page ∷ kept) (name ∷ names) zero u up long below is = cond-true (bytes_eq page u) (Some name) (name_among kept names u) ((bytes_eq-Decides page u).1 is)

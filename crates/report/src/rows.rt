@@ -1,5 +1,5 @@
 //! Rows of a report: what is said of each address of a harvest.
-ghost use Rattle.std.specs.Prelude.{◌≡◌, List, length, IfOk, map, option_map, string_bytes};
+ghost use Rattle.std.specs.Prelude.{◌≡◌, ◌<◌, List, [], IsTrue, length, IfOk, map, option_map, slice_index_or, string_bytes};
 ghost use Rattle.address.specs.AddressOrder.{IsAscending};
 ghost use Rattle.report.specs.Rows.{line_of, fate_of};
 ghost use Rattle.report.specs.Entries.{name_among, fate_at, line_at, lines_of};
@@ -28,13 +28,28 @@ pub(crate) struct Row<'a> {
     pub name: Option<&'a str>,
 }
 
-// The name of a page among those that are kept, which ascend, each with its name in its place. It is
-// found by halves.
-fn name_of<'a>(kept: &[Address], names: &'a [String], page: &Address) -> Option<&'a str>
+// Whether this page has this place among those that are kept.
+fn stands_at(kept: &[Address], place: usize, page: &Address) -> bool
+    ensures { IsTrue result → (place < length kept.now) × (slice_index_or kept.now place [] ≡ page.now) }
+{
+    place < kept.len() && kept[place] == *page
+}
+
+// The name of a page among those that are kept, which ascend, each with its name in its place. The page
+// is looked for at this place, and then by halves.
+fn name_of<'a>(
+    kept: &[Address],
+    names: &'a [String],
+    page: &Address,
+    near: usize,
+) -> Option<&'a str>
     requires count { length names.now ≡ length kept.now }
     requires ascending { IsAscending kept.now }
     ensures { option_map (λ name. name.now) result ≡ name_among kept.now (map string_bytes names.now) page.now }
 {
+    if stands_at(kept, near, page) {
+        return Some(names[near].as_str());
+    }
     match kept.binary_search(page) {
         Ok(place) => Some(names[place].as_str()),
         Err(_) => None,
@@ -51,8 +66,14 @@ fn fate_of<'a>(entry: &Entry, records: &'a [(Address, Outcome)]) -> Option<Fate<
     Some(Fate::Asked(&records.get(entry.answer?)?.1))
 }
 
-// The row of an entry, where something became of it.
-fn row_of<'a>(harvest: &'a Harvest, names: &'a [String], entry: &'a Entry) -> Option<Row<'a>>
+// The row of an entry, where something became of it. Its page is looked for at this place among those
+// that are kept first.
+fn row_of<'a>(
+    harvest: &'a Harvest,
+    names: &'a [String],
+    entry: &'a Entry,
+    near: usize,
+) -> Option<Row<'a>>
     requires { length names.now ≡ length harvest.now.kept }
     ensures { option_map line_of result ≡ line_at harvest.now (map string_bytes names.now) entry.now }
 {
@@ -60,7 +81,7 @@ fn row_of<'a>(harvest: &'a Harvest, names: &'a [String], entry: &'a Entry) -> Op
         address: entry.address.as_str(),
         depth: entry.depth,
         fate: fate_of(entry, harvest.records())?,
-        name: name_of(harvest.kept(), names, &entry.address),
+        name: name_of(harvest.kept(), names, &entry.address, near),
     })
 }
 
@@ -74,10 +95,15 @@ pub(crate) fn rows_of<'a>(
     ensures { IfOk result (λ rows. map line_of rows.items ≡ lines_of harvest.now (map string_bytes names.now)) }
 {
     let mut rows = Vec::new(alloc);
+    // Entries ascend as kept pages do, so the next page that is kept stands behind as many.
+    let mut named = 0usize;
     for entry in harvest.entries() {
-        let Some(row) = row_of(harvest, names, entry) else {
+        let Some(row) = row_of(harvest, names, entry, named) else {
             continue;
         };
+        if row.name.is_some() {
+            named = named.saturating_add(1);
+        }
         rows.push(row)?;
     }
     Ok(rows)

@@ -8,9 +8,9 @@ returns-then-contains_key c =
 
 pub returns : goal.returns
 returns c = (
-  λ found. inl (c.in_ok-is_directory.ensures.0 found),
+  λ found. inl (c.is_directory.ensures.0 found),
   λ taken. elim taken [
-    | inl inside ↦ c.in_ok-is_directory.ensures.1 inside
+    | inl inside ↦ c.is_directory.ensures.1 inside
     | inr has ↦ absurd (both_ways c.contains_key.result c.if-contains_key.false (c.contains_key.ensures ∙ has))
   ],
 )

@@ -7,32 +7,32 @@ use Rattle.local_tree.specs.Taken.{text_of, remembered, HasSameNames}
 use Rattle.local_tree.proofs.NamingLaws.{Assigned, Assigned-start, Assigned-step, IsNaming_from, same_directories, map_push}
 use Rattle.local_tree.proofs.naming.assign.Goals as goal
 
-pub first_free-requires-clause-start : goal.first_free-requires-clause-start
-first_free-requires-clause-start c =
+pub first_free-requires-clause-passed : goal.first_free-requires-clause-passed
+first_free-requires-clause-passed c =
     let plain = map string_bytes c.args.plain.now in
-    let names = map string_bytes c.loop-own.names.items in
+    let names = map string_bytes c.loop-i.names.items in
     let own = c.as_str-own.result.now in
+    let next = get_by_text c.loop-i.next in
     let same : HasSameNames plain (map text_of c.deref.result.now) = subst (λ xs. HasSameNames plain (map text_of xs)) (sym c.deref.ensures.value) c.in_ok-sorted.ensures.same in
-    let begin : c.unwrap_or-start.result ≡ unwrap_or (get_by_text c.loop-own.next own) 0 = c.unwrap_or-start.ensures ∙ ap (λ o. unwrap_or o 0) (c.copied.ensures ∙ c.get.ensures.value) in
-    λ k below. elim (Assigned-start plain names (get_by_text c.loop-own.next) c.loop-own.invariant.assigned own c.unwrap_or-start.result begin k below) [
+    λ v k held below. elim (Assigned-start plain names next c.loop-i.invariant.assigned own v (sym (ap (λ o. unwrap_or o 0) held)) k below) [
       | inl inside ↦ inl ((same_directories plain (map text_of c.deref.result.now) same (numbered own k)).0 inside)
       | inr has ↦ inr has
     ]
 
-pub loop-own-preserved : goal.loop-own-preserved
-loop-own-preserved c =
-    let inv = c.loop-own.invariant in
+pub loop-i-preserved : goal.loop-i-preserved
+loop-i-preserved c =
+    let inv = c.loop-i.invariant in
     let plain = map string_bytes c.args.plain.now in
-    let names = map string_bytes c.loop-own.names.items in
+    let names = map string_bytes c.loop-i.names.items in
     let own = c.as_str-own.result.now in
     let name = string_bytes c.in_ok-name.name in
     let number = c.in_ok-name.number in
-    let next = get_by_text c.loop-own.next in
-    let long : length names ≡ c.loop-own.own-index = length-map c.loop-own.names.items string_bytes ∙ inv.count in
+    let next = get_by_text c.loop-i.next in
+    let long : length names ≡ c.loop-i.i = length-map c.loop-i.names.items string_bytes ∙ inv.count in
     let place : own ≡ get_or plain (length names) [] =
     c.as_str-own.ensures.value
-    ∙ ap string_bytes c.own-item.is
-    ∙ sym (get_or-map string_bytes c.args.plain.now c.loop-own.own-index c.own-item.result [] (omega arith))
+    ∙ ap string_bytes c.index-plain-i.is
+    ∙ sym (get_or-map string_bytes c.args.plain.now c.loop-i.i c.index-plain-i.result [] (omega arith))
     ∙ ap (λ i. get_or plain i []) (sym long) in
     let same : HasSameNames plain (map text_of c.deref.result.now) = subst (λ xs. HasSameNames plain (map text_of xs)) (sym c.deref.ensures.value) c.in_ok-sorted.ensures.same in
     let free : ¬ (IsDirectory plain name ⊎ IsSome (next name)) = λ taken. c.in_ok-name.ensures.free (elim taken [
@@ -46,16 +46,16 @@ loop-own-preserved c =
     let new : (q : List ℕ) → get_by_text c.remember.new.next q ≡ remembered next own name number q =
     λ q. c.in_ok-remember.ensures q ∙ ap (λ n. remembered next own n number q) c.as_str.ensures.value in
     let step = Assigned-step plain names next (get_by_text c.remember.new.next) own name number inv.assigned place c.in_ok-name.ensures.name free before new in
-    let pushed : map string_bytes c.push.new.self.items ≡ names ++ name ∷ [] = ap (map string_bytes) c.in_ok-push.ensures.items ∙ map_push string_bytes c.loop-own.names.items c.in_ok-name.name in
+    let pushed : map string_bytes c.push.new.self.items ≡ names ++ name ∷ [] = ap (map string_bytes) c.in_ok-push.ensures.items ∙ map_push string_bytes c.loop-i.names.items c.in_ok-name.name in
     record {
       assigned = subst (λ xs. Assigned plain xs (get_by_text c.remember.new.next)) (sym pushed) step;
-      count = ap length c.in_ok-push.ensures.items ∙ length_push c.loop-own.names.items c.in_ok-name.name ∙ ap (λ n. n + 1) inv.count;
+      count = ap length c.in_ok-push.ensures.items ∙ length_push c.loop-i.names.items c.in_ok-name.name ∙ ap (λ n. n + 1) inv.count;
     }
 
 pub returns : goal.returns
 returns c =
-    let inv = c.loop-own.invariant in
+    let inv = c.loop-i.invariant in
     let count = inv.count in
     let plain = map string_bytes c.args.plain.now in
-    let names = map string_bytes c.loop-own.names.items in
-    IsNaming_from plain names (get_by_text c.loop-own.next) inv.assigned (length-map c.loop-own.names.items string_bytes ∙ (let e : length c.loop-own.names.items ≡ length c.args.plain.now = omega arith in e) ∙ sym (length-map c.args.plain.now string_bytes))
+    let names = map string_bytes c.loop-i.names.items in
+    IsNaming_from plain names (get_by_text c.loop-i.next) inv.assigned (length-map c.loop-i.names.items string_bytes ∙ (let e : length c.loop-i.names.items ≡ length c.args.plain.now = omega arith in e) ∙ sym (length-map c.args.plain.now string_bytes))

@@ -4,9 +4,9 @@ use Rattle.std.specs.String.{string_bytes}
 use Rattle.local_tree.proofs.NamingLaws.{Assigned}
 use Rattle.local_tree.proofs.naming.assign.Given as goal
 
-abbrev pub invariant-loop-own : goal.invariant-loop-own
-invariant-loop-own l =
+abbrev pub invariant-loop-i : goal.invariant-loop-i
+invariant-loop-i l =
     record {
       assigned : Assigned (map string_bytes l.plain) (map string_bytes l.names.items) (get_by_text l.next);
-      count : length l.names.items ≡ l.own-index;
+      count : length l.names.items ≡ l.i;
     }
