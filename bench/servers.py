@@ -1,13 +1,17 @@
 """Web servers for the scripts that measure, and how a program is measured beside them."""
 import asyncio
 import contextlib
+import mmap
 import os
+import selectors
 import shutil
 import socket
 import subprocess
 import sys
 import time
 
+# Sixteen requests that come together would wait for one process to read them one after another.
+PROCESSES = 4
 PROGRAM = os.path.join(os.path.dirname(os.path.dirname(os.path.abspath(__file__))), "crates", "wgetr", "out", "wgetr")
 
 
@@ -72,13 +76,13 @@ def nginx(folder, root, log):
         server.wait()
 
 
-async def answer_slowly(pages, delay, log, reader, writer):
-    """Answers the requests of a connection, each that long after it came."""
+async def answer_slowly(pages, delay, early, log, reader, writer):
+    """Answers the requests of a connection, each that long after it came, and so much earlier as this server is late."""
     with contextlib.suppress(ConnectionError, asyncio.IncompleteReadError):
         while True:
             head = await reader.readuntil(b"\r\n\r\n")
             path = head.split(b" ", 2)[1].decode()
-            await asyncio.sleep(delay)
+            await asyncio.sleep(max(0, delay - early[0]))
             body = pages.get(path)
             ends = b"connection: close" in head.lower()
             status, body = ("404 Not Found", b"") if body is None else ("200 OK", body)
@@ -91,7 +95,7 @@ async def answer_slowly(pages, delay, log, reader, writer):
     writer.close()
 
 
-def serve_slowly(root, delay, port, log_path):
+def serve_slowly(root, delay, early, port, log_path):
     """Serves the files below root, which it holds in memory, until it is ended."""
     pages = {}
     for folder, _, names in os.walk(root):
@@ -102,27 +106,52 @@ def serve_slowly(root, delay, port, log_path):
     pages["/"] = pages["/index.html"]
 
     async def run():
-        with open(log_path, "w", buffering=1) as log:
-            server = await asyncio.start_server(lambda r, w: answer_slowly(pages, delay, log, r, w), "127.0.0.1", port,
-                                                backlog=1024)
+        with open(log_path, "a", buffering=1) as log:
+            server = await asyncio.start_server(lambda r, w: answer_slowly(pages, delay, early, log, r, w), "127.0.0.1",
+                                                port, backlog=1024, reuse_port=True)
             await server.serve_forever()
 
-    asyncio.run(run())
+    # The selector that asyncio would take wakes up to a millisecond late, which is a twentieth of the delay.
+    asyncio.SelectorEventLoop(selectors.SelectSelector()).run_until_complete(run())
+
+
+def lateness(port, delay):
+    """How much later than that a client that asks alone has its answer: the median of some requests."""
+    took = []
+    for _ in range(100):
+        began = time.monotonic()
+        with socket.create_connection(("127.0.0.1", port)) as client:
+            client.sendall(b"GET / HTTP/1.1\r\nConnection: close\r\n\r\n")
+            while client.recv(65536):
+                pass
+        took.append(time.monotonic() - began)
+    return sorted(took)[50] - delay
 
 
 @contextlib.contextmanager
 def slow(root, delay, log):
-    """A server that answers each request that many seconds after it came; gives its port."""
+    """A server whose answer a client that asks alone has that many seconds after it asked; gives its port."""
     port = free_port()
-    child = os.fork()
-    if child == 0:
-        serve_slowly(root, delay, port, log)
+    # What all processes of the server see.
+    early = memoryview(mmap.mmap(-1, 8)).cast("d")
+    children = []
+    for _ in range(PROCESSES):
+        child = os.fork()
+        if child == 0:
+            serve_slowly(root, delay, early, port, log)
+        children.append(child)
     try:
         wait_for(port)
+        # The other processes listen a moment later at most.
+        time.sleep(1)
+        early[0] = max(0, lateness(port, delay))
+        late = lateness(port, delay)
+        print(f"  (one client has an answer after {(delay + late) * 1000:.1f} ms, where {early[0] * 1000:.1f} ms are the server's own)", flush=True)
         yield port
     finally:
-        os.kill(child, 15)
-        os.waitpid(child, 0)
+        for child in children:
+            os.kill(child, 15)
+            os.waitpid(child, 0)
 
 
 def measure(words, output):

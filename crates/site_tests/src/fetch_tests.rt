@@ -1,7 +1,7 @@
-//! Connections in memory: what each answers to the text of a request.
+//! Connections in memory: what each answers to the text of a request, and that each is ended.
 use address::{Address, Origin};
 use response_reader::Wire;
-use site_answer::{Connect, MemoryConnect, StoredAnswer};
+use site_answer::{Connect, ConnectFault, Fetcher, HttpFetcher, MemoryConnect, StoredAnswer};
 use std::alloc::{AllocError, Global};
 use std::test::Fail;
 
@@ -69,5 +69,61 @@ fn a_connection_answers_the_text_of_a_request(rt: HostRuntime) -> Result<(), Fai
         assert_eq!(rt; wire.failures(), 0);
         connect.close(wire);
     }
+    Ok(())
+}
+
+// Makes the connections of another, and counts how many were ended.
+#[derive(Drop)]
+struct Ended<C: Connect> {
+    inner: C,
+    ended: u32,
+}
+
+impl<C: Connect> Connect for Ended<C> {
+    type Wire = C::Wire;
+
+    ghost made = { λ e. C.made e.inner };
+
+    ghost failed = { λ e. C.failed e.inner };
+
+    ghost refused = { λ e. C.refused e.inner };
+
+    ghost gives = { λ e of wire. C.gives e.inner of wire };
+
+    fn connect(&mut self, of: &Origin) -> Result<C::Wire, ConnectFault> {
+        self.inner.connect(of)
+    }
+
+    fn close(&mut self, wire: C::Wire) {
+        self.inner.close(wire);
+        self.ended = self.ended.saturating_add(1);
+    }
+
+    fn failures(&self) -> u64 {
+        self.inner.failures()
+    }
+}
+
+// A page, one that is cut, and a robots file behind a redirect.
+const ENDING: &str = "http://h/ HTTP/1.1 200 ||a\nhttp://h/cut HTTP/1.1 2\n\
+http://h/robots.txt HTTP/1.1 302 |Location: /r|Content-Length: 0||\nhttp://h/r HTTP/1.1 200 ||";
+
+// Whether each connection that is asked for is ended, whatever came over it.
+fn are_all_ended<C: Connect>(alloc: Global, inner: C) -> Result<bool, Fail> {
+    let mut fetcher = HttpFetcher::new(alloc, Ended { inner, ended: 0 }, true);
+    for at in ["http://h/", "http://h/cut", "http://h/none"] {
+        let _ = fetcher.ask(&Address::read(alloc, at)?)?;
+    }
+    let pages = fetcher.connect().ended;
+    let _ = fetcher.ask_robots(&Origin::of(&Address::read(alloc, "http://h/")?)?)?;
+    let all = fetcher.connect().ended;
+    Ok(pages == 3 && all == 5)
+}
+
+#[test]
+fn each_connection_is_ended_once(rt: HostRuntime) -> Result<(), Fail> {
+    let alloc = rt.alloc();
+    let answers = site_of(alloc, ENDING)?;
+    assert!(rt; are_all_ended(alloc, MemoryConnect::new(alloc, &answers, &[]))?);
     Ok(())
 }
