@@ -1,6 +1,4 @@
 //! Retrievals by several workers: the same as by one, and at the same time.
-ghost use Rattle.std.specs.Prelude.{◌<◌, ◌≤◌};
-
 use address::{Address, Origin};
 use fetcher::{Answer, Ask, Body, Edge, EdgeKind, Edges, FaultKind, Fetcher, Outcome};
 use follow_filters::{Limit, Plan};
@@ -11,17 +9,18 @@ use std::alloc::{AllocError, Global};
 use std::process::Abort;
 use std::sync::Wait;
 use std::sync::atomic::{AtomicU64, Ordering};
-use std::test::Fail;
 use std::thread;
 use std::thread::Threads;
-use workers::{Harvest, Retrieved, retrieve};
+use workers::{Harvest, retrieve};
 
-/// A map, how many hops its site is followed and how many addresses may be held, and what its retrieval comes to.
+/// A map, how many hops its site is followed, how many addresses may be held and whether robots rules are honoured, and
+/// what its retrieval comes to.
 #[derive(Clone, Copy)]
 struct Row {
     map: &'static str,
     hops: u8,
     most: u8,
+    robots: bool,
     report: &'static str,
 }
 
@@ -43,12 +42,13 @@ link http://h/f
 ",
     hops: 3,
     most: 100,
-    report: "0 http://h/
-1 http://h/a
-2 http://h/b
-2 http://h/d
-3 http://h/e
-1 http://h/z
+    robots: false,
+    report: "0 - http://h/
+1 - http://h/a
+2 - http://h/b
+2 - http://h/d
+3 - http://h/e
+1 - http://h/z
 ",
 };
 
@@ -62,31 +62,58 @@ leaf 200 http://h/b
 ",
     hops: 5,
     most: 3,
-    report: "0 http://h/
-1 http://h/a
-1 http://h/b
+    robots: true,
+    report: "0 - http://h/
+1 - http://h/a
+1 - http://h/b
 ",
 };
 
-/// Robots rules refuse `/s/1` and allow `/t`.
-const REFUSED: Row = Row {
-    map: "robots http://h/
+/// The same site with one address more.
+const OVERFULL: &str = "page 200 http://h/
+link http://h/a
+link http://h/b
+link http://h/c
+leaf 200 http://h/a
+leaf 200 http://h/b
+leaf 200 http://h/c
+";
+
+/// A site whose robots rules refuse `/s/1` and allow `/t`.
+const SECRET: &str = "robots http://h/
 disallow /s
 page 200 http://h/
 link http://h/s/1
 link http://h/t
 leaf 200 http://h/s/1
 leaf 200 http://h/t
-",
+";
+
+/// That site where robots rules are honoured.
+const REFUSED: Row = Row {
+    map: SECRET,
     hops: 5,
     most: 100,
-    report: "0 http://h/
+    robots: true,
+    report: "0 - http://h/
 1 rob http://h/s/1
-1 http://h/t
+1 - http://h/t
 ",
 };
 
-/// `/a` can't be connected to.
+/// That site where they aren't.
+const ADMITTED: Row = Row {
+    map: SECRET,
+    hops: 5,
+    most: 100,
+    robots: false,
+    report: "0 - http://h/
+1 - http://h/s/1
+1 - http://h/t
+",
+};
+
+/// `/a` can't be connected to, and of `/b` the map says nothing.
 const FAULTY: Row = Row {
     map: "page 200 http://h/
 link http://h/a
@@ -95,9 +122,49 @@ fault connect http://h/a
 ",
     hops: 5,
     most: 100,
-    report: "0 http://h/
-1 fault http://h/a
-1 http://h/b
+    robots: true,
+    report: "0 - http://h/
+1 connect http://h/a
+1 404 http://h/b
+",
+};
+
+/// `/c` is found behind `/b` at 3, and behind the redirect `/q` at 1, so that `/d` is found only once its depth has fallen;
+/// `/r` and `/s` redirect to one another, and robots rules refuse `/p/1`.
+const WEB: Row = Row {
+    map: "robots http://h/
+disallow /p
+page 200 http://h/
+link http://h/a
+link http://h/q
+link http://h/r
+link http://h/p/1
+page 200 http://h/a
+link http://h/b
+page 200 http://h/b
+link http://h/c
+page 200 http://h/c
+link http://h/d
+page 200 http://h/d
+link http://h/e
+leaf 200 http://h/e
+moved 301 http://h/q http://h/c
+moved 301 http://h/r http://h/s
+moved 301 http://h/s http://h/r
+",
+    hops: 3,
+    most: 100,
+    robots: true,
+    report: "0 - http://h/
+1 - http://h/a
+2 - http://h/b
+1 - http://h/c
+2 - http://h/d
+3 - http://h/e
+1 rob http://h/p/1
+1 - http://h/q
+1 - http://h/r
+1 - http://h/s
 ",
 };
 
@@ -107,43 +174,92 @@ const LONE: Row = Row {
 ",
     hops: 0,
     most: 1,
-    report: "0 http://h/
+    robots: true,
+    report: "0 - http://h/
 ",
 };
 
-/// So many copies of a map's site.
-fn sites(rt: &impl Abort, alloc: Global, map: &str, count: usize) -> Vec<MapSite> {
+/// A map's site that lets other threads run before it answers, as often as its seed says.
+#[derive(Drop)]
+struct Hesitant {
+    site: MapSite,
+    seed: u64,
+}
+
+/// Lets other threads run up to 63 times, and gives the next seed.
+fn hesitate(seed: u64) -> u64 {
+    for _ in 0..seed >> 58 {
+        thread::yield_now();
+    }
+    seed.wrapping_mul(6_364_136_223_846_793_005)
+        .wrapping_add(1_442_695_040_888_963_407)
+}
+
+impl Fetcher for Hesitant {
+    ghost use Rattle.site_maps.specs.Maps.{says_of};
+    ghost use Rattle.fetcher.specs.Sites.{SiteAnswers, GivesOutcome, GivesRules};
+
+    ghost Site = { SiteAnswers };
+
+    ghost site = { λ s. says_of s.site.answers s.site.rules };
+
+    ghost says = { GivesOutcome };
+
+    ghost rules = { GivesRules };
+
+    ghost log = { λ s. s.site.asks };
+
+    fn ask(&mut self, at: &Address) -> Result<Answer, AllocError> {
+        self.seed = hesitate(self.seed);
+        self.site.ask(at)
+    }
+
+    fn ask_robots(&mut self, of: &Origin) -> Result<RuleSet, AllocError> {
+        self.seed = hesitate(self.seed);
+        self.site.ask_robots(of)
+    }
+
+    fn asks(&self) -> &[Ask] {
+        self.site.asks()
+    }
+}
+
+/// So many copies of a map's site, each with a seed of its own.
+fn sites(rt: &impl Abort, alloc: Global, map: &str, count: u8, seed: u64) -> Vec<Hesitant> {
     let mut sites = Vec::new(alloc);
+    let mut seed = seed;
     for _ in 0..count {
+        seed = hesitate(seed);
         let site = MapSite::read(alloc, map.as_bytes()).expect(rt, "a map");
-        sites.push(site).expect(rt, "memory");
+        sites.push(Hesitant { site, seed }).expect(rt, "memory");
     }
     sites
 }
 
-/// A plan without filters from `http://h/` that honours robots rules, so many hops deep and for so many addresses.
-fn plan(rt: &impl Abort, alloc: Global, hops: u8, most: u8) -> Plan {
+/// A plan without filters from `http://h/`, so many hops deep and for so many addresses.
+fn plan(rt: &impl Abort, alloc: Global, hops: u8, most: u8, robots: bool) -> Plan {
     let start = Address::read(alloc, "http://h/").expect(rt, "an address");
     if start.is_robots_file() || most == 0 {
         panic!(rt; "no plan");
     }
     let limit = Limit::AtMost(u32::from(hops));
     let mut plan = Plan::unfiltered(alloc, start, limit, u32::from(most));
-    plan.robots = true;
+    plan.robots = robots;
     plan
 }
 
-/// The word of an entry that isn't answered by a response.
+/// The word of an entry: that it is refused, its fault, that it isn't there, or `-`.
 fn word(harvest: &Harvest, is_refused: bool, answer: Option<usize>) -> &'static str {
     if is_refused {
-        return "rob ";
+        return "rob";
     }
     let Some(place) = answer else {
-        return "none ";
+        return "none";
     };
     match harvest.records().get(place) {
-        Some((_, outcome)) if outcome.is_fault() => "fault ",
-        _ => "",
+        Some((_, Outcome::Fault(kind))) => kind.word(),
+        Some((_, Outcome::Leaf(404))) => "404",
+        _ => "-",
     }
 }
 
@@ -153,16 +269,16 @@ fn report(rt: &impl Abort, alloc: Global, harvest: &Harvest) -> String {
     for entry in harvest.entries() {
         let word = word(harvest, entry.refused, entry.answer);
         let address = entry.address.as_str();
-        writeln!(text, "{} {word}{address}", entry.depth).expect(rt, "memory");
+        writeln!(text, "{} {word} {address}", entry.depth).expect(rt, "memory");
     }
     text
 }
 
 /// How many pages, and the rules of how many origins, all fetchers together were asked for.
-fn asked(fetchers: &[MapSite]) -> (usize, usize) {
+fn asked(fetchers: &[Hesitant]) -> (usize, usize) {
     let (mut pages, mut rules) = (0usize, 0usize);
-    for site in fetchers {
-        for ask in site.asks() {
+    for fetcher in fetchers {
+        for ask in fetcher.asks() {
             match ask {
                 Ask::Page(_) => pages = pages.wrapping_add(1),
                 Ask::Rules(_) => rules = rules.wrapping_add(1),
@@ -172,45 +288,81 @@ fn asked(fetchers: &[MapSite]) -> (usize, usize) {
     (pages, rules)
 }
 
-/// So many workers come to the row's report, and ask for just what is recorded.
-fn comes_to(rt: &(impl Abort + Threads + Wait + Sync), alloc: Global, row: &Row, workers: usize) {
-    let sites = sites(rt, alloc, row.map, workers);
-    let plan = plan(rt, alloc, row.hops, row.most);
-    assert!(rt; 0 < sites.len() && sites.len() <= 64);
-    let Ok(found) = retrieve(rt, alloc, &plan, sites) else {
-        panic!(rt; "stopped");
-    };
-    let Retrieved { harvest, fetchers } = found;
-    assert_eq!(rt; fetchers.len(), workers);
-    let (pages, rules) = asked(&fetchers);
-    assert_eq!(rt; pages, harvest.records().len());
-    assert_eq!(rt; rules, harvest.rules().len());
-    assert!(rt; report(rt, alloc, &harvest).as_str() == row.report);
+/// The harvest has the row's report, and just what is recorded was asked for.
+fn is_reported(
+    rt: &impl Abort,
+    alloc: Global,
+    row: &Row,
+    harvest: &Harvest,
+    fetchers: &[Hesitant],
+) -> bool {
+    let (pages, rules) = asked(fetchers);
+    if pages != harvest.records().len() || rules != harvest.rules().len() {
+        return false;
+    }
+    report(rt, alloc, harvest).as_str() == row.report
+}
+
+/// Whether so many workers come to the row's report.
+fn come_to<R: Abort + Threads + Wait + Sync>(
+    rt: &R,
+    alloc: Global,
+    row: &Row,
+    workers: u8,
+    seed: u64,
+) -> bool {
+    let plan = plan(rt, alloc, row.hops, row.most, row.robots);
+    let sites = sites(rt, alloc, row.map, workers, seed);
+    if sites.is_empty() || sites.len() > 64 {
+        return false;
+    }
+    match retrieve(rt, alloc, &plan, sites) {
+        Ok(found) => is_reported(rt, alloc, row, &found.harvest, &found.fetchers),
+        Err(_) => false,
+    }
 }
 
 #[test]
 fn any_number_of_workers_comes_to_one_report(rt: HostRuntime) {
     let alloc = rt.alloc();
     for workers in [1, 2, 8, 64] {
-        for row in [&DIAMOND, &JUST_FULL, &REFUSED, &FAULTY, &LONE] {
-            comes_to(&rt, alloc, row, workers);
+        for row in [
+            &DIAMOND, &JUST_FULL, &REFUSED, &ADMITTED, &FAULTY, &LONE, &WEB,
+        ] {
+            assert!(rt; come_to(&rt, alloc, row, workers, 1));
         }
+    }
+}
+
+/// How many seeds are tried. More are tried outside the gate, by a greater number here and `rt try --test`.
+const SEEDS: u64 = 20;
+
+#[test]
+fn whatever_the_interleaving_the_report_is_one(rt: HostRuntime) {
+    for seed in 0..SEEDS {
+        for workers in [2, 5, 64] {
+            assert!(rt; come_to(&rt, rt.alloc(), &WEB, workers, seed));
+        }
+    }
+}
+
+/// Whether so many workers stop since three addresses are held and there are more.
+fn stop_full<R: Abort + Threads + Wait + Sync>(rt: &R, alloc: Global, workers: u8) -> bool {
+    let plan = plan(rt, alloc, 5, 3, true);
+    let sites = sites(rt, alloc, OVERFULL, workers, 1);
+    if sites.is_empty() || sites.len() > 64 {
+        return false;
+    }
+    match retrieve(rt, alloc, &plan, sites) {
+        Ok(_) => false,
+        Err(stopped) => { stopped.cause == Cause::Full && stopped.harvest.entries().len() == 3 }
     }
 }
 
 #[test]
 fn a_full_table_stops_all_workers(rt: HostRuntime) {
-    let alloc = rt.alloc();
-    for workers in [1, 4] {
-        let sites = sites(&rt, alloc, DIAMOND.map, workers);
-        let plan = plan(&rt, alloc, 3, 3);
-        assert!(rt; 0 < sites.len() && sites.len() <= 64);
-        let Err(stopped) = retrieve(&rt, alloc, &plan, sites) else {
-            panic!(rt; "not stopped");
-        };
-        assert!(rt; stopped.cause == Cause::Full);
-        assert_eq!(rt; stopped.harvest.entries().len(), 3);
-        assert_eq!(rt; stopped.fetchers.len(), workers);
+    for workers in [1, 2, 4, 8] {
+        assert!(rt; stop_full(&rt, rt.alloc(), workers));
     }
 }
 
@@ -293,54 +445,62 @@ fn faults(harvest: &Harvest) -> usize {
     faults
 }
 
-/// So many workers over a front page with as many links, each answered only once all are being asked for.
-fn meet(
-    rt: &(impl Abort + Threads + Wait + Sync),
+/// So many fetchers of a front page with these links.
+fn meetings<'a>(
+    rt: &impl Abort,
     alloc: Global,
     links: &[&str],
-) -> Result<(), Fail> {
-    let arrived = AtomicU64::new(0);
+    arrived: &'a AtomicU64,
+) -> Vec<Meeting<'a>> {
     let mut fetchers = Vec::new(alloc);
     for _ in 0..links.len() {
-        fetchers.push(Meeting {
+        let fetcher = Meeting {
             alloc,
             front: page(rt, alloc, links),
             links: links.len() as u64,
-            arrived: &arrived,
+            arrived,
             log: Vec::new(alloc),
-        })?;
+        };
+        fetchers.push(fetcher).expect(rt, "memory");
     }
-    let mut plan = plan(rt, alloc, 1, 100);
-    plan.per_host = 8;
-    assert!(rt; 0 < fetchers.len() && fetchers.len() <= 64);
-    let Ok(found) = retrieve(rt, alloc, &plan, fetchers) else {
-        assert!(rt; false, "stopped");
-        return Ok(());
-    };
-    assert_eq!(rt; faults(&found.harvest), 0);
-    assert_eq!(rt; found.harvest.records().len(), links.len() + 1);
-    Ok(())
+    fetchers
+}
+
+/// Whether all links of a front page are answered by as many workers, each only once all are being asked for. No more of a
+/// host are asked for at a time than there are links.
+fn meet<R: Abort + Threads + Wait + Sync>(rt: &R, alloc: Global, links: &[&str]) -> bool {
+    let arrived = AtomicU64::new(0);
+    let mut plan = plan(rt, alloc, 1, 100, false);
+    plan.per_host = if links.len() == 2 { 2 } else { 8 };
+    let fetchers = meetings(rt, alloc, links, &arrived);
+    if fetchers.is_empty() || fetchers.len() > 64 {
+        return false;
+    }
+    match retrieve(rt, alloc, &plan, fetchers) {
+        Ok(found) => faults(&found.harvest) == 0
+            && found.harvest.records().len() == links.len() + 1,
+        Err(_) => false,
+    }
 }
 
 #[test]
-fn two_workers_meet(rt: HostRuntime) -> Result<(), Fail> {
-    meet(&rt, rt.alloc(), &["http://h/a", "http://h/b"])
+fn two_workers_meet(rt: HostRuntime) {
+    assert!(rt; meet(&rt, rt.alloc(), &["http://h/a", "http://h/b"]));
 }
 
+/// Eight links.
+const EIGHT: [&str; 8] = [
+    "http://h/a",
+    "http://h/b",
+    "http://h/c",
+    "http://h/d",
+    "http://h/e",
+    "http://h/f",
+    "http://h/g",
+    "http://h/i",
+];
+
 #[test]
-fn eight_workers_meet(rt: HostRuntime) -> Result<(), Fail> {
-    meet(
-        &rt,
-        rt.alloc(),
-        &[
-            "http://h/a",
-            "http://h/b",
-            "http://h/c",
-            "http://h/d",
-            "http://h/e",
-            "http://h/f",
-            "http://h/g",
-            "http://h/i",
-        ],
-    )
+fn eight_workers_meet(rt: HostRuntime) {
+    assert!(rt; meet(&rt, rt.alloc(), &EIGHT));
 }

@@ -6,3 +6,5 @@
 mod crew_tests;
 #[cfg(test)]
 mod lock_tests;
+#[cfg(test)]
+mod long_tests;
