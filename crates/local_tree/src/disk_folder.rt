@@ -49,13 +49,23 @@ fn path_below(alloc: Global, folder: &str, name: &str) -> io::Result<String> {
     Ok(path)
 }
 
-// Makes a directory, unless it is there. What else is there is refused, a symbolic link too.
-fn make_dir<R: Files>(rt: &R, path: &str) -> io::Result<()> {
+// Refuses what isn't a directory, a symbolic link too.
+fn look_for_dir<R: Files>(rt: &R, path: &str) -> io::Result<()> {
     match rt.symlink_metadata(path) {
         Ok(found) if found.is_dir() => Ok(()),
         Ok(_) => Err(Error::from(ErrorKind::NotADirectory)),
-        Err(e) if e.kind() == ErrorKind::NotFound => rt.create_dir(path),
         Err(e) => Err(e),
+    }
+}
+
+// Makes a directory, unless it is there. Where another run makes it meanwhile, it is looked at again.
+fn make_dir<R: Files>(rt: &R, path: &str) -> io::Result<()> {
+    match look_for_dir(rt, path) {
+        Err(e) if e.kind() == ErrorKind::NotFound => match rt.create_dir(path) {
+            Err(e) if e.kind() == ErrorKind::AlreadyExists => look_for_dir(rt, path),
+            made => made,
+        },
+        looked => looked,
     }
 }
 
