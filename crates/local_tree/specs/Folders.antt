@@ -1,5 +1,5 @@
 -- Folders: what stands in them, and what a put leaves.
-use Rattle.std.specs.Prelude.{◌≡◌, ◌≢◌, ℕ, ◌+◌, ◌^◌, ◌-◌, ◌<◌, ◌≤◌, ◌⊎◌, min, max, List, Option, Some, None, Result, Ok, Err, ⊤, bytes_eq, if◌then◌else◌}
+use Rattle.std.specs.Prelude.{◌≡◌, ◌≢◌, ℕ, ◌+◌, ◌^◌, ◌-◌, ◌<◌, ◌≤◌, ◌⊎◌, min, max, List, [], ◌∷◌, Option, Some, None, Result, Ok, Err, ⊤, bytes_eq, if◌then◌else◌}
 
 -- what stands under each name: a file's bytes, or nothing
 abbrev pub Files : Type 0
@@ -33,3 +33,13 @@ CountsFault old new (Err e) = new ≡ counted old
 -- the count has risen, or stands where it can't rise
 abbrev pub HasRisen : ℕ → ℕ → Type 0
 HasRisen old new = (old < new) ⊎ (2 ^ 64 - 1 ≤ new)
+
+-- a folder on a disk: its path, and how many puts answered an error
+pub record DiskValue : Type 0 where
+  pub path : List ℕ
+  pub failed : ℕ
+
+-- the folder at a path, before any put; the empty path is `.`
+abbrev pub opened_at : List ℕ → DiskValue
+opened_at [] = record { path = 46 ∷ []; failed = 0 }
+opened_at (b ∷ bytes) = record { path = b ∷ bytes; failed = 0 }

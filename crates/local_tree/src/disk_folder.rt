@@ -1,6 +1,6 @@
 //! A folder on a disk. Nothing of what a disk holds is proved; the tests show it.
 ghost use Rattle.std.specs.Prelude.{◌≡◌, None, IfOk};
-ghost use Rattle.local_tree.specs.Folders.{CountsFault};
+ghost use Rattle.local_tree.specs.Folders.{CountsFault, opened_at};
 
 use crate::folder::{Folder, FolderFault};
 use crate::local_name::is_local_name;
@@ -31,13 +31,14 @@ pub struct DiskFolder<'a, R: Files> {
     failed: u64,
 }
 
-// Contracts see how many puts answered an error.
+// Contracts see where the folder is, and how many puts answered an error.
 impl<'a, R: Files> Model for DiskFolder<'a, R> {
-    ghost use Rattle.std.specs.Prelude.{ℕ};
+    ghost use Rattle.std.specs.Prelude.{string_bytes};
+    ghost use Rattle.local_tree.specs.Folders.{DiskValue};
 
-    ghost Value = { ℕ };
+    ghost Value = { DiskValue };
 
-    ghost view = { λ f. f.failed };
+    ghost view = { λ f. record { path = string_bytes f.prefix; failed = f.failed } };
 }
 
 // The path of a name below another.
@@ -103,7 +104,7 @@ impl<'a, R: Files> DiskFolder<'a, R> {
     /// isn't there, and may itself be a link. Runs that put into one folder at a time need different
     /// numbers, as their processes have. The error is that memory is wanting.
     pub fn new(rt: &'a R, alloc: Global, path: &str, process: u32) -> io::Result<DiskFolder<'a, R>>
-        ensures { IfOk result (λ folder. folder ≡ 0) }
+        ensures { IfOk result (λ folder. folder ≡ opened_at path.now) }
     {
         let path = if path.is_empty() { "." } else { path };
         let prefix = String::from_str(alloc, path)?;
@@ -163,7 +164,7 @@ impl<'a, R: Files> Folder for DiskFolder<'a, R> {
 
     ghost files = { λ f. None };
 
-    ghost failed = { λ f. f };
+    ghost failed = { λ f. f.failed };
 
     /// Puts the file. A name that isn't local is refused, and so are a path that is too long for the
     /// disk, a directory where the file is to stand, and a file or a link where a directory is.

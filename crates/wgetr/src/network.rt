@@ -41,7 +41,8 @@ impl<'a, R: Net + Wait + Files + Clock + Eprint> Network<'a, R> {
 }
 
 impl<'a, R: Net + Wait + Files + Clock + Eprint + Sync> System for Network<'a, R> {
-    ghost use Rattle.std.specs.Prelude.{◌≡◌, ⊤};
+    ghost use Rattle.std.specs.Prelude.{◌≡◌};
+    ghost use Rattle.local_tree.specs.Folders.{opened_at};
 
     type Fetcher = HttpFetcher<Watched<'a, TcpConnect<'a, R>, R>>;
 
@@ -49,7 +50,7 @@ impl<'a, R: Net + Wait + Files + Clock + Eprint + Sync> System for Network<'a, R
 
     ghost makes = { λ network robots fetcher. fetcher.robots ≡ robots };
 
-    ghost opens = { λ network path folder. folder ≡ 0 };
+    ghost opens = { λ network path folder. folder ≡ opened_at path };
 
     fn fetcher(&self, robots: bool) -> HttpFetcher<Watched<'a, TcpConnect<'a, R>, R>> {
         let connect = TcpConnect::new(self.rt, self.alloc, self.hosts);
