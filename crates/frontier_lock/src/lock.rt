@@ -1,6 +1,7 @@
 //! The lock round a frontier.
-ghost use Rattle.std.specs.Prelude.{◌≡◌, OnErr, IfOk, IfErr};
+ghost use Rattle.std.specs.Prelude.{◌≡◌, OnOk, OnErr, IfOk, IfErr};
 ghost use Rattle.frontier_lock.specs.Permits.{IsFor};
+ghost use Rattle.frontier_lock.specs.Steps.{Records, GivesUp};
 
 use fetcher::Outcome;
 use frontier_core::{
@@ -43,6 +44,7 @@ pub struct FrontierLock {
 
 // Hands an answer over.
 fn hand_over(core: &mut Frontier, done: Done) -> Result<(), Refused>
+    ensures recorded { OnOk result (Records core.old done core.new) }
     ensures same { OnErr result (core.new ≡ core.old) }
     ensures back { IfErr result (λ refused. refused.done ≡ done) }
     ensures stray { IfErr result (λ refused. refused.fault ≡ AnswerFault.Stray) }
@@ -80,7 +82,9 @@ fn hand_over(core: &mut Frontier, done: Done) -> Result<(), Refused>
 }
 
 // Gives a permit up where there is one, and stops.
-fn give_up(core: &mut Frontier, held: Option<Held>, cause: Cause) {
+fn give_up(core: &mut Frontier, held: Option<Held>, cause: Cause)
+    ensures { GivesUp core.old held cause core.new }
+{
     match held {
         None => core.stop(cause),
         Some(Held::Page(permit)) => core.abandon(permit, cause),
