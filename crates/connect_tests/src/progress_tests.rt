@@ -53,12 +53,12 @@ impl<R: Abort + Wait> Eprint for Terminal<'_, R> {
     }
 }
 
-/// When a connection ends, and where it goes. What can be made brings 2,000 bytes.
-const ENDS: &[(u64, &str)] = &[
-    (1100, "http://two:82/"),
-    (1300, "http://two:82/"),
-    (1500, "http://none/"),
-    (1600, "http://two:82/"),
+/// When a connection ends, where it goes, and how many addresses wait then. What can be made brings 2,000 bytes.
+const ENDS: &[(u64, &str, usize)] = &[
+    (1100, "http://two:82/", 4),
+    (1300, "http://two:82/", 17),
+    (1500, "http://none/", 16),
+    (1600, "http://two:82/", 0),
 ];
 
 /// Makes these connections in a run that begins at 1000.
@@ -67,8 +67,9 @@ fn run<R: Abort + Wait>(rt: &R, alloc: Global, terminal: &Terminal<'_, R>, is_te
     let network = Network::new(rt, alloc);
     let hosts = Hosts::new(alloc);
     let mut connect = Watched::new(TcpConnect::new(&network, alloc, &hosts), &progress);
-    for (at, text) in ENDS {
+    for (at, text, waiting) in ENDS {
         terminal.now.store(*at, Ordering::SeqCst);
+        connect.tell_waiting(*waiting);
         if let Ok(mut wire) = connect.connect(&origin(rt, alloc, text)) {
             assert!(rt; wire.read(&mut [0u8; 2000]) == Ok(2000));
             connect.close(wire);
@@ -83,7 +84,7 @@ fn one_line_counts_at_most_four_times_a_second(rt: HostRuntime) {
     let terminal = Terminal::new(&rt, alloc);
     run(&rt, alloc, &terminal, true);
     let lines =
-        "\r2 answered, 0 failed, 4 kB, 13 kB/s        \r3 answered, 1 failed, 6 kB, 10 kB/s        ";
+        "\r2 answered, 17 waiting, 0 failed, 4 kB, 13 kB/s        \r3 answered, 0 waiting, 1 failed, 6 kB, 10 kB/s        ";
     let blank = format!(in alloc; "\r{:79}\r", "").expect(&rt, "memory");
     let text = terminal.text.lock(&rt);
     assert!(rt; text.as_str().strip_prefix(lines) == Some(blank.as_str()));

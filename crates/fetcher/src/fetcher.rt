@@ -82,6 +82,13 @@ pub trait Fetcher: Drop {
     /// What was asked, in order.
     fn asks(&self) -> &[Ask]
         ensures { result.now ≡ log self.now };
+
+    /// Is told now and then how many addresses wait to be asked for, for somebody who looks on.
+    /// Nothing that is asked or answered depends on it.
+    fn tell_waiting(&mut self, waiting: usize)
+        ensures site { site self.new ≡ site self.old }
+        ensures log { log self.new ≡ log self.old }
+    {}
 }
 
 /// Fetches of a steady site: each address has exactly one outcome, which is no fault, and each

@@ -9,6 +9,7 @@ use frontier_core::{
 };
 use robots_rules::RuleSet;
 use std::alloc::AllocError;
+use std::sync::atomic::{AtomicUsize, Ordering};
 use std::sync::{Condvar, Mutex, Wait};
 
 /// A permit with what was answered. It can't be dropped: it is given, or taken apart.
@@ -40,6 +41,8 @@ pub struct Refused {
 pub struct FrontierLock {
     core: Mutex<Frontier>,
     moved: Condvar,
+    // How many addresses waited when last something was taken or changed. It is read without the lock.
+    waiting: AtomicUsize,
 }
 
 // Hands an answer over.
@@ -98,6 +101,7 @@ impl FrontierLock {
         FrontierLock {
             core: Mutex::new(core),
             moved: Condvar::new(),
+            waiting: AtomicUsize::new(1),
         }
     }
 
@@ -105,7 +109,10 @@ impl FrontierLock {
     pub fn next<R: Wait>(&self, rt: &R, worker: u32) -> Result<Work, AllocError>
         ensures { IfOk result (IsFor worker) }
     {
-        self.core.lock(rt).take(worker)
+        let mut core = self.core.lock(rt);
+        let work = core.take(worker);
+        self.note_waiting(&core);
+        work
     }
 
     /// As [`FrontierLock::next`], but where others are at work it sleeps until one of them changed the frontier. It answers
@@ -117,7 +124,10 @@ impl FrontierLock {
         for _ in rt.forever() {
             match core.take(worker) {
                 Ok(Work::Busy) => core = self.moved.wait(rt, core),
-                other => return other,
+                other => {
+                    self.note_waiting(&core);
+                    return other;
+                }
             }
         }
         unreachable!()
@@ -148,9 +158,24 @@ impl FrontierLock {
         self.moved.notify_all();
     }
 
+    // Notes how many addresses wait.
+    fn note_waiting(&self, core: &Frontier) {
+        self.waiting.store(core.waiting(), Ordering::Relaxed);
+    }
+
+    /// How many addresses waited when something was last taken from the frontier, as `Frontier::waiting` counts them. It takes
+    /// no lock, so it is for those who look on: no clause speaks of it.
+    pub fn waiting(&self) -> usize {
+        self.waiting.load(Ordering::Relaxed)
+    }
+
     /// The frontier again. Takes no memory.
     pub fn into_frontier(self) -> Frontier {
-        let FrontierLock { core, moved: _ } = self;
+        let FrontierLock {
+            core,
+            moved: _,
+            waiting: _,
+        } = self;
         core.into_inner()
     }
 }

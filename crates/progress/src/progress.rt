@@ -1,5 +1,5 @@
 //! The line, and what it counts.
-use std::sync::atomic::{AtomicU64, Ordering};
+use std::sync::atomic::{AtomicU64, AtomicUsize, Ordering};
 use std::time::{Clock, Instant};
 
 /// The least milliseconds between two lines.
@@ -14,6 +14,8 @@ pub struct Progress<'a, R: Clock + Eprint> {
     start: Option<Instant>,
     answered: AtomicU64,
     failed: AtomicU64,
+    // How many addresses wait, as far as was told.
+    waiting: AtomicUsize,
     bytes: AtomicU64,
     // How many milliseconds after the start the next line may be written.
     due: AtomicU64,
@@ -29,6 +31,7 @@ impl<'a, R: Clock + Eprint> Progress<'a, R> {
             start,
             answered: AtomicU64::new(0),
             failed: AtomicU64::new(0),
+            waiting: AtomicUsize::new(0),
             bytes: AtomicU64::new(0),
             due: AtomicU64::new(PAUSE),
         }
@@ -51,6 +54,11 @@ impl<'a, R: Clock + Eprint> Progress<'a, R> {
         }
     }
 
+    // So many addresses wait from now on.
+    pub(crate) fn set_waiting(&self, waiting: usize) {
+        self.waiting.store(waiting, Ordering::Relaxed);
+    }
+
     // Whether the line is due, and this caller is the one to write it.
     fn is_due(&self, now: u64) -> bool {
         let due = self.due.load(Ordering::SeqCst);
@@ -66,10 +74,11 @@ impl<'a, R: Clock + Eprint> Progress<'a, R> {
     fn show(&self, now: u64) {
         let answered = self.answered.load(Ordering::SeqCst);
         let failed = self.failed.load(Ordering::SeqCst);
+        let waiting = self.waiting.load(Ordering::Relaxed);
         let kilobytes = self.bytes.load(Ordering::SeqCst) / 1000;
         let rate = kilobytes.saturating_mul(1000) / now.max(1);
         let _ = eprint!(self.rt;
-            "\r{answered} answered, {failed} failed, {kilobytes} kB, {rate} kB/s        "
+            "\r{answered} answered, {waiting} waiting, {failed} failed, {kilobytes} kB, {rate} kB/s        "
         );
     }
 

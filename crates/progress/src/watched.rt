@@ -78,6 +78,11 @@ impl<'a, C: Connect, R: Clock + Eprint> Connect for Watched<'a, C, R> {
         self.progress.ended(broke, bytes);
     }
 
+    fn tell_waiting(&mut self, waiting: usize) {
+        self.progress.set_waiting(waiting);
+        self.inner.tell_waiting(waiting);
+    }
+
     fn failures(&self) -> u64 {
         self.inner.failures()
     }

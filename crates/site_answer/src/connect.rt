@@ -56,6 +56,13 @@ pub trait Connect: Drop {
         ensures refused { refused self.new ≡ refused self.old }
     {}
 
+    /// Is told now and then how many addresses wait to be asked for, for somebody who looks on.
+    fn tell_waiting(&mut self, waiting: usize)
+        ensures made { made self.new ≡ made self.old }
+        ensures failed { failed self.new ≡ failed self.old }
+        ensures refused { refused self.new ≡ refused self.old }
+    {}
+
     /// How many calls answered an error; at the largest number it stays.
     fn failures(&self) -> u64
         ensures { result ≡ failed self.now };

@@ -197,4 +197,12 @@ impl<C: Connect> Fetcher for HttpFetcher<C> {
     fn asks(&self) -> &[Ask] {
         self.asks.as_slice()
     }
+
+    fn tell_waiting(&mut self, waiting: usize)
+        ensures asks { self.new.asks ≡ self.old.asks }
+        ensures robots { self.new.robots ≡ self.old.robots }
+        ensures made { C.made self.new.connect ≡ C.made self.old.connect }
+    {
+        self.connect.tell_waiting(waiting);
+    }
 }

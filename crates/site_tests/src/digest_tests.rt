@@ -1,7 +1,10 @@
 //! Responses in examples: what each answers, whole and in pieces, and each call once.
 use address::Address;
 use response_reader::{Head, ReadFault, Response, Sink, SliceWire, read_response};
-use site_answer::{Answer, Digester, FaultKind, digest, into_answer, kind_of_fault};
+use site_answer::{
+    Answer, Connect, Digester, FaultKind, Fetcher, HttpFetcher, MemoryConnect, StoredAnswer,
+    digest, into_answer, kind_of_fault,
+};
 use std::alloc::{AllocError, Global};
 use std::test::Fail;
 
@@ -80,8 +83,8 @@ const ANSWERS: [(&str, &str, bool, &str); 12] = [
     ("HTTP/1.1 301 X||", "", true, "Leaf(301)"),
 ];
 
-// The response of these parts.
-fn response(alloc: Global, head: &str, body: &str) -> Result<Response, Fail> {
+// The bytes of a response of these parts.
+fn bytes_of(alloc: Global, head: &str, body: &str) -> Result<Vec<u8>, AllocError> {
     let mut bytes = Vec::new(alloc);
     for b in head.as_bytes() {
         match b {
@@ -90,7 +93,41 @@ fn response(alloc: Global, head: &str, body: &str) -> Result<Response, Fail> {
         }
     }
     bytes.extend_from_slice(body.as_bytes())?;
+    Ok(bytes)
+}
+
+// The response of these parts.
+fn response(alloc: Global, head: &str, body: &str) -> Result<Response, Fail> {
+    let bytes = bytes_of(alloc, head, body)?;
     Ok(read_response(alloc, &mut SliceWire::new(&bytes))?)
+}
+
+// What comes over one of these connections.
+fn over<C: Connect>(
+    alloc: Global,
+    connect: C,
+    at: &Address,
+    robots: bool,
+) -> Result<Answer, AllocError> {
+    let mut fetcher = HttpFetcher::new(alloc, connect, robots);
+    fetcher.ask(at)
+}
+
+// What comes over a connection that tells the response of these parts.
+fn fetched(
+    alloc: Global,
+    at: &Address,
+    head: &str,
+    body: &str,
+    robots: bool,
+) -> Result<Answer, AllocError> {
+    let mut answers = Vec::new(alloc);
+    let bytes = bytes_of(alloc, head, body)?;
+    answers.push(StoredAnswer {
+        at: at.try_clone()?,
+        bytes,
+    })?;
+    over(alloc, MemoryConnect::new(alloc, &answers, &[]), at, robots)
 }
 
 // The answer of a response whose body arrives in two pieces.
@@ -148,6 +185,9 @@ fn a_response_answers_by_its_head_and_its_links(rt: HostRuntime) -> Result<(), F
         let pieces = in_pieces(alloc, &at, response(alloc, head, body)?, robots)?;
         assert!(rt; pieces.outcome.same(&answer.outcome), "at {head}");
         assert!(rt; has_body(&pieces, body, is_kept), "at {head}");
+        let asked = fetched(alloc, &at, head, body, robots)?;
+        assert!(rt; asked.outcome.same(&answer.outcome), "at {head}");
+        assert!(rt; has_body(&asked, body, is_kept), "at {head}");
     }
     Ok(())
 }

@@ -184,6 +184,8 @@ const LONE: Row = Row {
 struct Hesitant {
     site: MapSite,
     seed: u64,
+    // The most addresses that it was told wait.
+    waiting: usize,
 }
 
 /// Lets other threads run up to 63 times, and gives the next seed.
@@ -222,6 +224,10 @@ impl Fetcher for Hesitant {
     fn asks(&self) -> &[Ask] {
         self.site.asks()
     }
+
+    fn tell_waiting(&mut self, waiting: usize) {
+        self.waiting = self.waiting.max(waiting);
+    }
 }
 
 /// So many copies of a map's site, each with a seed of its own.
@@ -231,7 +237,13 @@ fn sites(rt: &impl Abort, alloc: Global, map: &str, count: u8, seed: u64) -> Vec
     for _ in 0..count {
         seed = hesitate(seed);
         let site = MapSite::read(alloc, map.as_bytes()).expect(rt, "a map");
-        sites.push(Hesitant { site, seed }).expect(rt, "memory");
+        sites
+            .push(Hesitant {
+                site,
+                seed,
+                waiting: 0,
+            })
+            .expect(rt, "memory");
     }
     sites
 }
@@ -364,6 +376,41 @@ fn a_full_table_stops_all_workers(rt: HostRuntime) {
     for workers in [1, 2, 4, 8] {
         assert!(rt; stop_full(&rt, rt.alloc(), workers));
     }
+}
+
+/// A page with five links.
+const STAR: &str = "page 200 http://h/
+link http://h/1
+link http://h/2
+link http://h/3
+link http://h/4
+link http://h/5
+";
+
+/// The most addresses that one of so many workers was told wait.
+fn most_waiting<R: Abort + Threads + Wait + Sync>(rt: &R, alloc: Global, workers: u8) -> usize {
+    let plan = plan(rt, alloc, 1, 100, false);
+    let sites = sites(rt, alloc, STAR, workers, 1);
+    if sites.is_empty() || sites.len() > 64 {
+        return 0;
+    }
+    match retrieve(rt, alloc, &plan, sites) {
+        Ok(found) => found
+            .fetchers
+            .iter()
+            .map(|site| -> usize { site.waiting })
+            .max()
+            .unwrap_or(0),
+        Err(_) => 0,
+    }
+}
+
+#[test]
+fn workers_are_told_how_many_addresses_wait(rt: HostRuntime) {
+    // Of five, one is asked for, or two are.
+    assert!(rt; most_waiting(&rt, rt.alloc(), 1) == 4);
+    let most = most_waiting(&rt, rt.alloc(), 2);
+    assert!(rt; most == 3 || most == 4);
 }
 
 /// Answers a page other than the start only once as many are being asked for as there are links.

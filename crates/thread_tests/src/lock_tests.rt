@@ -90,11 +90,15 @@ fn give(rt: &impl Wait, lock: &FrontierLock, permit: Permit, outcome: Outcome) {
 fn the_edges_of_a_page_are_offered(rt: HostRuntime) {
     let alloc = rt.alloc();
     let lock = locked(&rt, alloc);
+    assert!(rt; lock.waiting() == 1);
     let permit = page_permit(&rt, &lock, 0);
+    assert!(rt; lock.waiting() == 0);
     give(&rt, &lock, permit, page(&rt, alloc));
     assert!(rt; told_now(&rt, &lock) == Told::Spread);
+    assert!(rt; lock.waiting() == 1);
     assert!(rt; lock.spread(&rt).is_ok());
     let permit = page_permit(&rt, &lock, 0);
+    assert!(rt; lock.waiting() == 0);
     assert!(rt; permit.address().as_str() == "http://h/a");
     assert!(rt; told_now(&rt, &lock) == Told::Busy);
     give(&rt, &lock, permit, Outcome::Leaf(200));

@@ -136,6 +136,22 @@ fn serve<F: Fetcher, R: Wait>(
     });
 }
 
+// Tells the fetcher how many addresses wait, and asks for the page of a permit.
+#[tactic(auto, using(crate::proofs::Going::goes_idle, crate::proofs::Going::goes_on))]
+fn serve_page<F: Fetcher, R: Wait>(
+    rt: &R,
+    lock: &FrontierLock,
+    plan: &Plan,
+    fetcher: &mut F,
+    notes: &mut Notes,
+    permit: Permit,
+)
+    ensures { Goes F.site F.says F.rules F.log plan.now fetcher.old notes.old fetcher.new notes.new }
+{
+    fetcher.tell_waiting(lock.waiting());
+    serve(rt, lock, plan, fetcher, notes, permit);
+}
+
 // Asks for the robots rules of a permit's origin with the lock free, and hands them over.
 fn serve_rules<F: Fetcher, R: Wait>(
     rt: &R,
@@ -211,7 +227,7 @@ fn work<F: Fetcher, R: Wait>(
             Ok(Work::Robots(permit)) => {
                 serve_rules(rt, alloc, lock, plan, fetcher, notes, permit)
             }
-            Ok(Work::Page(permit)) => serve(rt, lock, plan, fetcher, notes, permit),
+            Ok(Work::Page(permit)) => serve_page(rt, lock, plan, fetcher, notes, permit),
         }
     }
 }
