@@ -1,5 +1,6 @@
 //! A folder on a disk. Nothing of what a disk holds is proved; the tests show it.
-ghost use Rattle.std.specs.Prelude.{◌≡◌, None, IfOk};
+ghost use Rattle.std.specs.Prelude.{◌≡◌, None, IfOk, IfErr};
+ghost use Rattle.std.specs.IoError.{error_kind};
 ghost use Rattle.local_tree.specs.Folders.{CountsFault, opened_at};
 
 use crate::folder::{Folder, FolderFault};
@@ -104,7 +105,8 @@ impl<'a, R: Files> DiskFolder<'a, R> {
     /// isn't there, and may itself be a link. Runs that put into one folder at a time need different
     /// numbers, as their processes have. The error is that memory is wanting.
     pub fn new(rt: &'a R, alloc: Global, path: &str, process: u32) -> io::Result<DiskFolder<'a, R>>
-        ensures { IfOk result (λ folder. folder ≡ opened_at path.now) }
+        ensures opened { IfOk result (λ folder. folder ≡ opened_at path.now) }
+        ensures memory { IfErr result (λ error. error_kind error ≡ ErrorKind.OutOfMemory) }
     {
         let path = if path.is_empty() { "." } else { path };
         let prefix = String::from_str(alloc, path)?;
