@@ -70,7 +70,9 @@ fn pages_that_clash_are_numbered(rt: HostRuntime) -> Result<(), Fail> {
         "http://h/z",
     ];
     let lines = named(rt.alloc(), &texts)?;
-    assert!(rt; lines.as_str() == "h/index.html\nh/a\nh/b\nh/index.html.1\nh/index.html.1.1\nh/z\n");
+    assert!(rt;
+        lines.as_str() == "h/index.html\nh/a\nh/b\nh/index.html.1\nh/index.html.1.1\nh/z\n"
+    );
     Ok(())
 }
 
