@@ -60,6 +60,19 @@ fn pages_that_clash_are_numbered(rt: HostRuntime) -> Result<(), Fail> {
     ];
     let lines = named(rt.alloc(), &texts)?;
     assert!(rt; lines.as_str() == "h/c\nh/a.2\nh/a.1/x\nh/a/b\nh/c.1\nh/c.1.1\n");
+    // A name is taken however many pages stand between.
+    let texts = [
+        "http://h/",
+        "http://h/a",
+        "http://h/b",
+        "http://h/index.html",
+        "http://h/index.html.1",
+        "http://h/z",
+    ];
+    let lines = named(rt.alloc(), &texts)?;
+    assert!(rt;
+        lines.as_str() == "h/index.html\nh/a\nh/b\nh/index.html.1\nh/index.html.1.1\nh/z\n"
+    );
     Ok(())
 }
 

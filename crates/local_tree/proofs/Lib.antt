@@ -3,6 +3,7 @@ pub mod PlainLaws
 pub mod NamingLaws
 pub mod TakenLaws
 pub mod OrderLaws
+pub mod LeastLaws
 pub mod LocalLaws
 pub mod FolderLaws
 pub mod SiteFilesLaws

@@ -128,10 +128,14 @@ numbered-injective own (suc m) (suc n) small small' same =
 
 -- ---- the names that were given so far
 
--- the first names, and beside each of them and some plain names a number below which all its numbered names are taken
+-- no page from this place on asks for the name
+abbrev pub IsBehind : List (List ℕ) → ℕ → List ℕ → Type 0
+IsBehind plain i name = (j k : ℕ) → i ≤ j → j < length plain → numbered (get_or plain j []) k ≢ name
+
+-- the first names, and beside each that may be asked for again and some plain names a number below which all its numbered names are taken
 pub record Assigned (plain names : List (List ℕ)) (next : List ℕ → Option ℕ) : Type 0 where
   pub each : (k : ℕ) → k < length names → IsFirstFree plain (take k names) (get_or plain k []) (get_or names k [])
-  pub held : (d : List ℕ) → Contains names d → IsSome (next d)
+  pub held : (d : List ℕ) → Contains names d → IsSome (next d) ⊎ IsBehind plain (length names) d
   pub passed : (q : List ℕ) (v : ℕ) → next q ≡ Some v → (0 < v) × ((k : ℕ) → k < v → IsDirectory plain (numbered q k) ⊎ Contains names (numbered q k))
 
 pub Assigned-first : (plain : List (List ℕ)) (next : List ℕ → Option ℕ) → ((q : List ℕ) → next q ≡ None) → Assigned plain [] next
@@ -150,14 +154,21 @@ entry_is_taken plain names next so q (Some v) e has = let at = so.passed q v e i
 pub taken_names : (plain names : List (List ℕ)) (next : List ℕ → Option ℕ) → Assigned plain names next → (q : List ℕ) → IsDirectory plain q ⊎ IsSome (next q) → IsDirectory plain q ⊎ Contains names q
 taken_names plain names next so q taken = elim taken [ inl inside ↦ inl inside | inr has ↦ entry_is_taken plain names next so q (next q) refl has ]
 
--- where to begin
-start_by : (plain names : List (List ℕ)) (next : List ℕ → Option ℕ) → Assigned plain names next → (q : List ℕ) (o : Option ℕ) (start : ℕ) → next q ≡ o → start ≡ unwrap_or o 0 → (k : ℕ) → k < start → IsDirectory plain (numbered q k) ⊎ IsSome (next (numbered q k))
-start_by plain names next so q None start e is k below = absurd (omega arith)
-start_by plain names next so q (Some v) start e is k below =
-    elim ((so.passed q v e).1 k (omega arith)) [ inl inside ↦ inl inside | inr given ↦ inr (so.held (numbered q k) given) ]
+-- a name that the next page asks for is held
+asked_is_held : (plain names : List (List ℕ)) (next : List ℕ → Option ℕ) → Assigned plain names next → (own : List ℕ) (k : ℕ) → own ≡ get_or plain (length names) [] → length names < length plain → Contains names (numbered own k) → IsSome (next (numbered own k))
+asked_is_held plain names next so own k place inside given = elim (so.held (numbered own k) given) [
+  | inl has ↦ has
+  | inr behind ↦ absurd (behind (length names) k (omega arith) inside (ap (λ x. numbered x k) (sym place)))
+]
 
-pub Assigned-start : (plain names : List (List ℕ)) (next : List ℕ → Option ℕ) → Assigned plain names next → (q : List ℕ) (start : ℕ) → start ≡ unwrap_or (next q) 0 → (k : ℕ) → k < start → IsDirectory plain (numbered q k) ⊎ IsSome (next (numbered q k))
-Assigned-start plain names next so q start is = start_by plain names next so q (next q) start refl is
+-- where to begin
+start_by : (plain names : List (List ℕ)) (next : List ℕ → Option ℕ) → Assigned plain names next → (q : List ℕ) → q ≡ get_or plain (length names) [] → length names < length plain → (o : Option ℕ) (start : ℕ) → next q ≡ o → start ≡ unwrap_or o 0 → (k : ℕ) → k < start → IsDirectory plain (numbered q k) ⊎ IsSome (next (numbered q k))
+start_by plain names next so q place inside None start e is k below = absurd (omega arith)
+start_by plain names next so q place inside (Some v) start e is k below =
+    elim ((so.passed q v e).1 k (omega arith)) [ inl under ↦ inl under | inr given ↦ inr (asked_is_held plain names next so q k place inside given) ]
+
+pub Assigned-start : (plain names : List (List ℕ)) (next : List ℕ → Option ℕ) → Assigned plain names next → (q : List ℕ) → q ≡ get_or plain (length names) [] → length names < length plain → (start : ℕ) → start ≡ unwrap_or (next q) 0 → (k : ℕ) → k < start → IsDirectory plain (numbered q k) ⊎ IsSome (next (numbered q k))
+Assigned-start plain names next so q place inside start is = start_by plain names next so q place inside (next q) start refl is
 
 -- the same directories of the same names
 pub same_directories : (names others : List (List ℕ)) → HasSameNames names others → (d : List ℕ) → IsDirectory names d ↔ IsDirectory others d
@@ -194,12 +205,12 @@ which true false false n v o e = inr (inr e)
 which false b true n v o e = inr (inl (refl, cc))
 which false b false n v o e = inr (inr e)
 
-pub Assigned-step : (plain names : List (List ℕ)) (next next' : List ℕ → Option ℕ) (own name : List ℕ) (number : ℕ) → Assigned plain names next → own ≡ get_or plain (length names) [] → name ≡ numbered own number → ¬ (IsDirectory plain name ⊎ IsSome (next name)) → ((k : ℕ) → k < number → IsDirectory plain (numbered own k) ⊎ IsSome (next (numbered own k))) → ((q : List ℕ) → next' q ≡ remembered next own name number q) → Assigned plain (names ++ name ∷ []) next'
-Assigned-step plain names next next' own name number so place is free before new =
+pub Assigned-step : (plain names : List (List ℕ)) (next next' : List ℕ → Option ℕ) (own name : List ℕ) (number : ℕ) → Assigned plain names next → own ≡ get_or plain (length names) [] → length names < length plain → name ≡ numbered own number → ¬ (IsDirectory plain name ⊎ IsSome (next name)) → ((k : ℕ) → k < number → IsDirectory plain (numbered own k) ⊎ IsSome (next (numbered own k))) → ((q : List ℕ) → next' q ≡ remembered next own name number q) ⊎ (IsBehind plain (length names + 1) name × ((q : List ℕ) → next' q ≡ next q)) → Assigned plain (names ++ name ∷ []) next'
+Assigned-step plain names next next' own name number so place inside is free before new =
     let this : IsFirstFree plain names own name = record {
       number = number;
       is = is;
-      free = record { no_directory = λ inside. free (inl inside); not_given = λ given. free (inr (so.held name given)) };
+      free = record { no_directory = λ inside. free (inl inside); not_given = λ given. free (inr (subst (λ x. IsSome (next x)) (sym is) (asked_is_held plain names next so own number place inside (subst (Contains names) is given)))) };
       first = λ k less loose. elim (taken_names plain names next so (numbered own k) (before k less)) [ inl inside ↦ loose.no_directory inside | inr given ↦ loose.not_given given ];
     } in
     let more : (q : List ℕ) → IsDirectory plain q ⊎ Contains names q → IsDirectory plain q ⊎ Contains (names ++ name ∷ []) q =
@@ -223,19 +234,37 @@ Assigned-step plain names next next' own name number so place is free before new
                 let read : get_or (names ++ name ∷ []) k [] ≡ name = get_or_push names name [] k (sym at) in
                 rw (front, read, at, ← place) this)
           ];
-      held = λ d given. elim (Contains-push_cases names name d given) [
-        | inl old ↦ subst IsSome (sym (new d)) (kept_some (nat_lt 0 number && bytes_eq own d) (bytes_eq name d) (number + 1) (next d) (so.held d old))
-        | inr last ↦ subst IsSome (sym (new d)) (held_some (nat_lt 0 number && bytes_eq own d) (bytes_eq name d) (number + 1) (next d) ((bytes_eq-Decides name d).1 last))
-      ];
-      passed = λ q v e. elim (which (nat_lt 0 number) (bytes_eq own q) (bytes_eq name q) (number + 1) v (next q) (sym (new q) ∙ e)) [
-        | inl (same, is_next) ↦ (omega arith, λ k below. subst (λ x. IsDirectory plain (numbered x k) ⊎ Contains (names ++ name ∷ []) (numbered x k)) ((bytes_eq-Decides own q).0 same) (own_taken k (omega arith)))
-        | inr (inl (same, is_one)) ↦ (
-          omega arith,
-          λ k below.
-              let at : k ≡ 0 = omega arith in
-              inr (subst (λ j. Contains (names ++ name ∷ []) (numbered q j)) (sym at) (subst (Contains (names ++ name ∷ [])) ((bytes_eq-Decides name q).0 same) (Contains-push names name))),
-        )
-        | inr (inr old) ↦ (let at = so.passed q v old in (at.0, λ k below. more (numbered q k) (at.1 k below)))
+      held = λ d given.
+          let long = length-append names (name ∷ []) in
+          let later : IsBehind plain (length names) d → IsBehind plain (length (names ++ name ∷ [])) d = λ behind j k low within. behind j k (omega (arith, low, long)) within in
+          elim new [
+            | inl put ↦ elim (Contains-push_cases names name d given) [
+              | inl old ↦ elim (so.held d old) [
+                | inl has ↦ inl (subst IsSome (sym (put d)) (kept_some (nat_lt 0 number && bytes_eq own d) (bytes_eq name d) (number + 1) (next d) has))
+                | inr behind ↦ inr (later behind)
+              ]
+              | inr last ↦ inl (subst IsSome (sym (put d)) (held_some (nat_lt 0 number && bytes_eq own d) (bytes_eq name d) (number + 1) (next d) ((bytes_eq-Decides name d).1 last)))
+            ]
+            | inr (past, kept) ↦ elim (Contains-push_cases names name d given) [
+              | inl old ↦ elim (so.held d old) [
+                | inl has ↦ inl (subst IsSome (sym (kept d)) has)
+                | inr behind ↦ inr (later behind)
+              ]
+              | inr last ↦ inr (λ j k low within same. past j k (omega (arith, low, long)) within (same ∙ sym last))
+            ]
+          ];
+      passed = λ q v e. elim new [
+        | inl put ↦ elim (which (nat_lt 0 number) (bytes_eq own q) (bytes_eq name q) (number + 1) v (next q) (sym (put q) ∙ e)) [
+          | inl (same, is_next) ↦ (omega arith, λ k below. subst (λ x. IsDirectory plain (numbered x k) ⊎ Contains (names ++ name ∷ []) (numbered x k)) ((bytes_eq-Decides own q).0 same) (own_taken k (omega arith)))
+          | inr (inl (same, is_one)) ↦ (
+            omega arith,
+            λ k below.
+                let at : k ≡ 0 = omega arith in
+                inr (subst (λ j. Contains (names ++ name ∷ []) (numbered q j)) (sym at) (subst (Contains (names ++ name ∷ [])) ((bytes_eq-Decides name q).0 same) (Contains-push names name))),
+          )
+          | inr (inr old) ↦ (let at = so.passed q v old in (at.0, λ k below. more (numbered q k) (at.1 k below)))
+        ]
+        | inr (past, kept) ↦ (let at = so.passed q v (sym (kept q) ∙ e) in (at.0, λ k below. more (numbered q k) (at.1 k below)))
       ];
     }
 

@@ -38,13 +38,13 @@ equal_from_is_eq Less e = cc
 equal_from_is_eq Equal e = refl
 equal_from_is_eq Greater e = cc
 
-texts_equal : (xs ys : List ℕ) → slice_cmp nat_cmp xs ys ≡ Equal → xs ≡ ys
+pub texts_equal : (xs ys : List ℕ) → slice_cmp nat_cmp xs ys ≡ Equal → xs ≡ ys
 texts_equal xs ys e = (bytes_eq-Decides xs ys).0 (sym (is_eq-slice_cmp xs ys) ∙ ap is_eq e)
 
-equal_texts : (xs ys : List ℕ) → xs ≡ ys → slice_cmp nat_cmp xs ys ≡ Equal
+pub equal_texts : (xs ys : List ℕ) → xs ≡ ys → slice_cmp nat_cmp xs ys ≡ Equal
 equal_texts xs ys same = equal_from_is_eq (slice_cmp nat_cmp xs ys) (is_eq-slice_cmp xs ys ∙ (bytes_eq-Decides xs ys).1 same)
 
-less_from_is_lt : (o : Ordering) → is_lt o ≡ true → o ≡ Less
+pub less_from_is_lt : (o : Ordering) → is_lt o ≡ true → o ≡ Less
 less_from_is_lt Less e = refl
 less_from_is_lt Equal e = cc
 less_from_is_lt Greater e = cc

@@ -1,10 +1,10 @@
 -- Which names are taken while names are given.
-use Rattle.std.specs.Prelude.{◌↔◌, ◌⊎◌, ℕ, ◌+◌, nat_lt, ◌&&◌, List, [], ◌∷◌, ◌++◌, take, length, Option, Some, IsSome, Contains, bytes_eq, if◌then◌else◌}
+use Rattle.std.specs.Prelude.{◌≡◌, ◌↔◌, ◌⊎◌, ℕ, ◌+◌, ◌-◌, ◌<◌, ◌≤◌, true, false, nat_lt, slice_index_or, ◌&&◌, List, [], ◌∷◌, ◌++◌, take, length, Option, Some, IsSome, Contains, bytes_eq, if◌then◌else◌}
 use Rattle.std.specs.BTreeMap.{BTreeMap, get_by_text}
 use Rattle.std.specs.declared.cmp.Ordering.{Ordering}
 use Rattle.std.specs.declared.string.String.{String}
 use Rattle.std.specs.Cmp.Lexicographic.{slice_cmp}
-use Rattle.std.specs.Ordering.{nat_cmp}
+use Rattle.std.specs.Ordering.{nat_cmp, is_lt}
 use denote.Ref.{Bor}
 use Rattle.local_tree.specs.PlainNames.{slash}
 use Rattle.local_tree.specs.Names.{IsDirectory}
@@ -33,3 +33,16 @@ IsTaken plain next name = IsDirectory plain name ⊎ IsSome (get_by_text next na
 abbrev pub remembered : (List ℕ → Option ℕ) → List ℕ → List ℕ → ℕ → List ℕ → Option ℕ
 remembered old own name number q =
     if nat_lt 0 number && bytes_eq own q then Some (number + 1) else (if bytes_eq name q then Some 1 else old q)
+
+-- of each place of the names, the last first, a name that is none greater than those from there on
+pub record AreLeast (names least : List (List ℕ)) : Type 0 where
+  pub count : length least ≡ length names
+  pub low : (m j : ℕ) → m < length names → length names ≤ m + 1 + j → j < length names → is_lt (slice_cmp nat_cmp (slice_index_or names j []) (slice_index_or least m [])) ≡ false
+
+-- the name stands before the least one behind this place
+abbrev pub IsPast : List (List ℕ) → ℕ → List ℕ → Type 0
+IsPast least i name = i + 1 < length least → is_lt (slice_cmp nat_cmp name (slice_index_or least (length least - (i + 2)) [])) ≡ true
+
+-- a page at this place was given a name with this number: it has entries then, or no page behind asks for the name
+abbrev pub IsNoted : List (List ℕ) → ℕ → (List ℕ → Option ℕ) → (List ℕ → Option ℕ) → List ℕ → List ℕ → ℕ → Type 0
+IsNoted least i old new own name number = ((q : List ℕ) → new q ≡ remembered old own name number q) ⊎ (IsPast least i name × ((q : List ℕ) → new q ≡ old q))

@@ -1,13 +1,15 @@
 //! The names of the pages of a list.
-ghost use Rattle.std.specs.Prelude.{◌≡◌, ◌↔◌, ◌<◌, ◌-◌, ◌^◌, ℕ, List, IsTrue, IfOk, OnOk, All, length, map, string_bytes};
+ghost use Rattle.std.specs.Prelude.{◌≡◌, ◌↔◌, ◌<◌, ◌+◌, ◌-◌, ◌^◌, ℕ, List, IsTrue, IfOk, OnOk, HoldsAt, All, true, false, length, map, string_bytes};
 ghost use Rattle.std.specs.BTreeMap.{get_by_text};
+ghost use Rattle.std.specs.Cmp.Lexicographic.{slice_cmp};
 ghost use Rattle.std.specs.List.Sorted.{IsSorted};
+ghost use Rattle.std.specs.Ordering.{nat_cmp, is_lt};
 ghost use Rattle.address.specs.Address.{IsAddress};
 ghost use Rattle.address.specs.AddressOrder.{IsAscending};
 ghost use Rattle.local_tree.specs.PlainNames.{plain_name_of};
 ghost use Rattle.local_tree.specs.Names.{IsNaming, AreDistinct, AreApart};
 ghost use Rattle.local_tree.specs.LocalNames.{StaysInside, HasShortSegments, IsVisible};
-ghost use Rattle.local_tree.specs.Taken.{text_of, text_cmp, HasSameNames, remembered};
+ghost use Rattle.local_tree.specs.Taken.{text_of, text_cmp, HasSameNames, AreLeast, IsNoted, remembered};
 
 use crate::free_name::first_free;
 use crate::plain_name::plain_name_of;
@@ -52,6 +54,39 @@ fn in_order(alloc: Global, names: &[String]) -> Result<Vec<&str>, AllocError>
     Ok(sorted)
 }
 
+// The least of a name and these, of which each is the least so far.
+fn least_with<'a>(least: &[&'a str], name: &'a str) -> &'a str
+    ensures own { is_lt (slice_cmp nat_cmp name.now result.now) ≡ false }
+    ensures others { 0 < length least.now → HoldsAt (λ low. is_lt (slice_cmp nat_cmp low.now result.now) ≡ false) least.now (length least.now - 1) }
+{
+    if least.is_empty() {
+        return name;
+    }
+    let low = least[least.len() - 1];
+    if low.cmp(name).is_lt() { low } else { name }
+}
+
+// The least of these names from each place to their end, that of the last place first.
+fn least_names(alloc: Global, names: &[String]) -> Result<Vec<&str>, AllocError>
+    ensures { IfOk result (λ least. AreLeast (map string_bytes names.now) (map text_of least.items)) }
+{
+    let mut least: Vec<&str> = Vec::new(alloc);
+    for i in 0..names.len() {
+        let low = least_with(&least, names[names.len() - 1 - i].as_str());
+        least.push(low)?;
+    }
+    Ok(least)
+}
+
+// Whether this name stands before all plain names behind this place. Then no page there asks for it,
+// since a name with a number stands behind the plain one.
+fn is_past(least: &[&str], i: usize, name: &str) -> bool
+    requires { i < length least.now }
+    ensures { IsTrue result → i + 1 < length least.now → HoldsAt (λ low. is_lt (slice_cmp nat_cmp name.now low.now) ≡ true) least.now (length least.now - (i + 2)) }
+{
+    i + 1 >= least.len() || name.cmp(least[least.len() - (i + 2)]).is_lt()
+}
+
 // Notes that a page was given this name, which has this number: the number behind it is where to go on
 // with the page's plain name, and 1 with the name itself.
 fn remember(
@@ -71,13 +106,34 @@ fn remember(
     Ok(())
 }
 
+// Notes the same where a page behind this place may ask for the name.
+fn note(
+    alloc: Global,
+    next: &mut BTreeMap<String, u64>,
+    least: &[&str],
+    i: usize,
+    own: &str,
+    name: &str,
+    number: u64,
+) -> Result<(), AllocError>
+    requires place { i < length least.now }
+    requires small { number < 2 ^ 64 - 1 }
+    ensures { OnOk result (IsNoted (map text_of least.now) i (get_by_text next.old) (get_by_text next.new) own.now name.now number) }
+{
+    if is_past(least, i, name) {
+        return Ok(());
+    }
+    remember(alloc, next, own, name, number)
+}
+
 // The names of the pages with these plain names.
 fn assign(alloc: Global, plain: &[String]) -> Result<Vec<String>, AllocError>
     ensures { IfOk result (λ names. IsNaming (map string_bytes plain.now) (map string_bytes names.items)) }
 {
     let sorted = in_order(alloc, plain)?;
-    // Beside each given name, and each plain name that was asked for, a number below which none of
-    // its numbered names is free.
+    let least = least_names(alloc, plain)?;
+    // Beside each given name that may be asked for again, and plain names that were asked for, a
+    // number below which none of its numbered names is free.
     let mut next: BTreeMap<String, u64> = BTreeMap::new(alloc);
     let mut names = Vec::new(alloc);
     for (i, own) in plain.iter().enumerate() {
@@ -85,7 +141,7 @@ fn assign(alloc: Global, plain: &[String]) -> Result<Vec<String>, AllocError>
         // The pages ascend, so their plain names nearly do: what would stand in a directory of this
         // name mostly stands just behind as many names.
         let (name, number) = first_free(alloc, &sorted, &next, own, i + 1)?;
-        remember(alloc, &mut next, own, name.as_str(), number)?;
+        note(alloc, &mut next, &least, i, own, name.as_str(), number)?;
         names.push(name)?;
     }
     Ok(names)
