@@ -1,4 +1,5 @@
 //! That as many workers are at work as are ordered, which no report shows.
+use crate::texts::{arguments_of, behind, status_of, text_of};
 use address::{Address, Origin};
 use fetcher::{Answer, Ask, Body, FaultKind, Fetcher, Outcome};
 use local_tree::MemoryFolder;
@@ -6,10 +7,9 @@ use retriever::{System, run, run_program};
 use robots_rules::RuleSet;
 use site_maps::MapSite;
 use std::alloc::{AllocError, Global};
-use std::env::Args;
+use std::process::Abort;
 use std::sync::Wait;
 use std::sync::atomic::{AtomicU64, Ordering};
-use std::test::Fail;
 use std::thread;
 use std::thread::Threads;
 
@@ -105,80 +105,82 @@ impl<'a> System for Meetings<'a> {
     }
 }
 
-// A live retrieval: its arguments, the map of its start, how many links that has, and what is written where all links are
-// asked for at one time.
-const RETRIEVALS: [(&str, &str, u64, &str); 2] = [
-    (
-        "wgetr -r -l 1 -e robots=off --workers 2 --per-host 2 http://h/",
-        "page 200 http://h/\nlink http://h/a\nlink http://h/b\n",
-        2,
-        "0 200 http://h/ h/index.html\n1 200 http://h/a h/a\n1 200 http://h/b h/b\nfetched 3 kept 3 refused 0 failed 0\n",
-    ),
-    (
-        "wgetr -r -l 1 -e robots=off --workers 8 --per-host 8 http://h/",
-        "page 200 http://h/\nlink http://h/a\nlink http://h/b\nlink http://h/c\nlink http://h/d\nlink http://h/e\n\
-link http://h/f\nlink http://h/g\nlink http://h/i\n",
-        8,
-        "0 200 http://h/ h/index.html\n1 200 http://h/a h/a\n1 200 http://h/b h/b\n1 200 http://h/c h/c\n1 200 http://h/d h/d\n\
-1 200 http://h/e h/e\n1 200 http://h/f h/f\n1 200 http://h/g h/g\n1 200 http://h/i h/i\nfetched 9 kept 9 refused 0 failed 0\n",
-    ),
-];
+/// Live retrievals, as in `texts.rt`; `<` stands before the lines of a map that tell of the start alone. The text is written
+/// where as many links are asked for at one time as `=` says.
+const RETRIEVALS: &str = "two workers
+$ wgetr -r -l 1 -e robots=off --workers 2 --per-host 2 http://h/
+< page 200 http://h/
+< link http://h/a
+< link http://h/b
+> 0 200 http://h/ h/index.html
+> 1 200 http://h/a h/a
+> 1 200 http://h/b h/b
+> fetched 3 kept 3 refused 0 failed 0
+= 2
 
-// The words of a text, as the system gives them.
-fn arguments_of(alloc: Global, text: &str) -> Result<Args, AllocError> {
-    let mut all = Vec::new(alloc);
-    for word in text.split(' ') {
-        all.push(String::from_str(alloc, word)?)?;
-    }
-    Ok(all.into_iter())
+eight workers
+$ wgetr -r -l 1 -e robots=off --workers 8 --per-host 8 http://h/
+< page 200 http://h/
+< link http://h/a
+< link http://h/b
+< link http://h/c
+< link http://h/d
+< link http://h/e
+< link http://h/f
+< link http://h/g
+< link http://h/i
+> 0 200 http://h/ h/index.html
+> 1 200 http://h/a h/a
+> 1 200 http://h/b h/b
+> 1 200 http://h/c h/c
+> 1 200 http://h/d h/d
+> 1 200 http://h/e h/e
+> 1 200 http://h/f h/f
+> 1 200 http://h/g h/g
+> 1 200 http://h/i h/i
+> fetched 9 kept 9 refused 0 failed 0
+= 8";
+
+/// What the start of a map answers.
+fn start_of(rt: &impl Abort, alloc: Global, map: &[u8]) -> Outcome {
+    let Ok(mut site) = MapSite::read(alloc, map) else {
+        panic!(rt; "no map");
+    };
+    let at = Address::read(alloc, "http://h/").expect(rt, "an address");
+    let Answer { outcome, body: _ } = site.ask(&at).expect(rt, "memory");
+    outcome
 }
 
-// What the start of a map answers.
-fn start_of(alloc: Global, map: &str) -> Result<Outcome, Fail> {
-    let mut site = MapSite::read(alloc, map.as_bytes())?;
-    let Answer { outcome, body: _ } = site.ask(&Address::read(alloc, "http://h/")?)?;
-    Ok(outcome)
-}
-
-// What the program writes over a network whose fetchers meet.
-fn written_of<R: Threads + Wait + Sync>(
-    rt: &R,
-    alloc: Global,
-    words: &str,
-    start: &Outcome,
-    wanted: u64,
-) -> Result<Vec<u8>, AllocError> {
+/// Whether the program writes what is wanted over a network whose fetchers meet.
+fn meets<R: Abort + Threads + Wait + Sync>(rt: &R, alloc: Global, text: &str) -> bool {
+    let start = start_of(rt, alloc, &text_of(rt, alloc, text, "<", "none"));
     let arrived = AtomicU64::new(0);
     let system = Meetings {
         alloc,
-        start,
-        wanted,
+        start: &start,
+        wanted: u64::from(status_of(text)),
         arrived: &arrived,
     };
-    let args = Ok(arguments_of(alloc, words)?);
+    let args = arguments_of(rt, alloc, behind(text, "$"));
     let mut written: Vec<u8> = Vec::new(alloc);
     let mut told: Vec<u8> = Vec::new(alloc);
-    let mut reader = b"".as_slice();
-    let _ = run_program(
+    run_program(
         rt,
         alloc,
         &system,
-        args,
-        &mut reader,
+        Ok(args),
+        &mut b"".as_slice(),
         &mut written,
         &mut told,
     );
-    Ok(written)
+    written.as_slice() == text_of(rt, alloc, text, ">", "none").as_slice()
 }
 
 #[test]
-fn as_many_workers_ask_as_are_ordered(rt: HostRuntime) -> Result<(), Fail> {
-    for (words, map, wanted, text) in RETRIEVALS {
-        let start = start_of(rt.alloc(), map)?;
-        let written = written_of(&rt, rt.alloc(), words, &start, wanted)?;
-        assert!(rt; written.as_slice() == text.as_bytes(), "{wanted}");
+fn as_many_workers_ask_as_are_ordered(rt: HostRuntime) {
+    for text in RETRIEVALS.split("\n\n") {
+        assert!(rt; meets(&rt, rt.alloc(), text), "{text}");
     }
-    Ok(())
 }
 
 // Whether the trace of a run by so many workers begins like this, in one of a thousand tries.

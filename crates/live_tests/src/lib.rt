@@ -1,5 +1,7 @@
-//! Live retrievals: tests alone, of `retriever::live` over connections in memory that fail where they are told to, and over TCP
-//! to a server in a thread of the test; and that as many workers retrieve as are ordered, live and from a map.
+//! Runs of the retriever: tests alone, of `retriever::run` and `retriever::run_program` on worked sites, of `retriever::live`
+//! over connections in memory that fail where they are told to, and over TCP to a server in a thread of the test; and that as
+//! many workers retrieve as are ordered, live and from a map. They stand above the program's crates, so that the program isn't
+//! proved once more with them.
 #![tactic(auto)]
 
 #[cfg(test)]
@@ -9,6 +11,10 @@ mod crew_tests;
 #[cfg(test)]
 mod memory_tests;
 #[cfg(test)]
+mod run_tests;
+#[cfg(test)]
 mod server;
 #[cfg(test)]
 mod tcp_tests;
+#[cfg(test)]
+mod texts;

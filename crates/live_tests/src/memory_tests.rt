@@ -1,37 +1,33 @@
 //! Live retrievals over connections in memory, each of which can be made to fail.
+//!
+//! A live run is a text as in `texts.rt`. Each of its lines behind `<` is an address and the bytes that answer it, and behind
+//! `!` stand the number of a connection and the place where that fails: `connect`, `write` or `read`. The first connection is
+//! the start's, the second its robots file's. A run is made once for each line that names a place, and else once.
+ghost use Rattle.std.specs.Prelude.{◌≡◌, vec_len};
+
+use crate::texts::{append, behind, status_of, text_of, words_of};
 use address::Address;
 use local_tree::{Folder, MemoryFolder};
 use options::read_order;
 use response_reader::{PlannedFault, WireFault};
 use retriever::live;
-use site_answer::{FailingPlace, HttpFetcher, MemoryConnect, PlannedFailure, StoredAnswer};
+use site_answer::{
+    Connect, FailingPlace, HttpFetcher, MemoryConnect, PlannedFailure, StoredAnswer,
+};
 use std::alloc::Global;
 use std::io;
 use std::io::Write;
+use std::process::Abort;
 use std::sync::Wait;
-use std::test::Fail;
 use std::thread::Threads;
 
-// A stored answer: its address and its bytes.
-type Stored = (&'static str, &'static str);
+/// A start with two pages.
+const SITE: &str =
+    "< http://h/ HTTP/1.1 200 OK|Content-Type: text/html|Content-Length: 20||<a href=a><a href=b>
+< http://h/a HTTP/1.1 200 OK|Content-Length: 1||A
+< http://h/b HTTP/1.1 200 OK|Content-Length: 1||B";
 
-// A start with two pages.
-const SITE: &[Stored] = &[
-    (
-        "http://h/",
-        "HTTP/1.1 200 OK\r\nContent-Type: text/html\r\nContent-Length: 20\r\n\r\n<a href=a><a href=b>",
-    ),
-    (
-        "http://h/a",
-        "HTTP/1.1 200 OK\r\nContent-Length: 1\r\n\r\nA",
-    ),
-    (
-        "http://h/b",
-        "HTTP/1.1 200 OK\r\nContent-Length: 1\r\n\r\nB",
-    ),
-];
-
-// What is written of it, and its files.
+/// What is written of it, and its files.
 const WHOLE: &str =
     "0 200 http://h/ h/index.html\n1 200 http://h/a h/a\n1 200 http://h/b h/b\nfetched 3 kept 3 refused 0 failed 0\n";
 
@@ -41,307 +37,268 @@ const FILES: [(&str, &str); 3] = [
     ("h/b", "B"),
 ];
 
-// The stored answers of a table.
-fn stored(alloc: Global, table: &[Stored]) -> Result<Vec<StoredAnswer>, Fail> {
+/// The stored answers of a run.
+pub(crate) fn stored(rt: &impl Abort, alloc: Global, run: &str) -> Vec<StoredAnswer> {
     let mut answers = Vec::new(alloc);
-    for (at, text) in table {
-        let at = Address::read(alloc, at)?;
-        let bytes = text.as_bytes().to_vec(alloc)?;
-        answers.push(StoredAnswer { at, bytes })?;
+    for line in run.lines() {
+        if let Some(("<", answer)) = line.split_once(' ') {
+            let (at, text) = answer.split_once(' ').unwrap_or((answer, ""));
+            let at = Address::read(alloc, at).expect(rt, "an address");
+            let mut bytes = Vec::new(alloc);
+            append(rt, &mut bytes, text);
+            answers
+                .push(StoredAnswer { at, bytes })
+                .expect(rt, "memory");
+        }
     }
-    Ok(answers)
+    answers
 }
 
-// Retrieves live, by one worker, over connections that fail at these places.
-fn live_alone<R: Threads + Wait + Sync, D: Folder, W: Write>(
+/// One fetcher over these connections.
+fn lone<C: Connect>(rt: &impl Abort, alloc: Global, connect: C, robots: bool) -> Vec<HttpFetcher<C>>
+    ensures { vec_len result ≡ 1 }
+{
+    let mut fetchers = Vec::new(alloc);
+    let Ok(()) = fetchers.push(HttpFetcher::new(alloc, connect, robots)) else {
+        panic!(rt; "memory");
+    };
+    fetchers
+}
+
+/// Retrieves live, by one worker, over connections that fail at these places. Gives the status.
+pub(crate) fn live_alone<R: Abort + Threads + Wait + Sync, D: Folder, W: Write>(
     rt: &R,
     alloc: Global,
-    words: &[&str],
-    table: &[Stored],
+    words: &str,
+    answers: &[StoredAnswer],
     failures: &[PlannedFailure],
     folder: &mut D,
     writer: &mut W,
-) -> Result<u8, Fail> {
-    let order = read_order(alloc, words)?;
-    let answers = stored(alloc, table)?;
-    let connect = MemoryConnect::new(alloc, &answers, failures);
-    let mut fetchers = Vec::new(alloc);
-    fetchers.push(HttpFetcher::new(alloc, connect, order.plan.robots))?;
-    Ok(live(rt, alloc, &order, fetchers, folder, writer))
+) -> u8 {
+    let words = words_of(rt, alloc, "", words);
+    let Ok(order) = read_order(alloc, &words) else {
+        panic!(rt; "no order");
+    };
+    let connect = MemoryConnect::new(alloc, answers, failures);
+    let fetchers = lone(rt, alloc, connect, order.plan.robots);
+    live(rt, alloc, &order, fetchers, folder, writer)
 }
 
-// A live site: its words, its answers, what is written, and the status.
-struct Site {
-    words: &'static [&'static str],
-    table: &'static [Stored],
-    text: &'static str,
-    status: u8,
+/// Whether a run over a site comes out as it says, with a file for the start where that is kept.
+fn comes_out<R: Abort + Threads + Wait + Sync>(
+    rt: &R,
+    alloc: Global,
+    site: &str,
+    run: &str,
+    failures: &[PlannedFailure],
+) -> bool {
+    let answers = stored(rt, alloc, site);
+    let wanted = text_of(rt, alloc, run, ">", "none");
+    let mut folder = MemoryFolder::new(alloc);
+    let mut written: Vec<u8> = Vec::new(alloc);
+    let words = behind(run, "$");
+    let status = live_alone(
+        rt,
+        alloc,
+        words,
+        &answers,
+        failures,
+        &mut folder,
+        &mut written,
+    );
+    written.as_slice() == wanted.as_slice()
+        && status == status_of(run)
+        && folder.file("h/index.html").is_some() == wanted.starts_with(b"0 200")
 }
 
-const FORBIDDING: &[Stored] = &[(
-    "http://h/",
-    "HTTP/1.1 200 OK\r\nContent-Type: text/html\r\n\r\n<meta name=robots content=nofollow><a href=b>",
-)];
+/// Live sites.
+const SITES: &str = "two pages behind a start
+$ -r http://h/
+< http://h/ HTTP/1.1 200 OK|Content-Type: text/html|Content-Length: 20||<a href=a><a href=b>
+< http://h/a HTTP/1.1 200 OK|Content-Length: 1||A
+< http://h/b HTTP/1.1 200 OK|Content-Length: 1||B
+> 0 200 http://h/ h/index.html
+> 1 200 http://h/a h/a
+> 1 200 http://h/b h/b
+> fetched 3 kept 3 refused 0 failed 0
+= 0
 
-const SITES: [Site; 7] = [
-    Site {
-        words: &["-r", "http://h/"],
-        table: SITE,
-        text: WHOLE,
-        status: 0,
-    },
-    Site {
-        words: &["http://h/"],
-        table: &[],
-        text: "0 404 http://h/ -\nfetched 1 kept 0 refused 0 failed 1\n",
-        status: 8,
-    },
-    Site {
-        words: &["-r", "http://h/"],
-        table: FORBIDDING,
-        text: "0 200 http://h/ h/index.html\nfetched 1 kept 1 refused 0 failed 0\n",
-        status: 0,
-    },
-    Site {
-        words: &["-r", "-e", "robots=off", "http://h/"],
-        table: FORBIDDING,
-        text: "0 200 http://h/ h/index.html\n1 404 http://h/b -\nfetched 2 kept 1 refused 0 failed 1\n",
-        status: 8,
-    },
-    Site {
-        words: &["-r", "http://h/"],
-        table: &[
-            (
-                "http://h/",
-                "HTTP/1.1 200 OK\r\nContent-Type: text/html\r\n\r\n<a href=a>",
-            ),
-            (
-                "http://h/robots.txt",
-                "HTTP/1.1 500 Oh\r\nContent-Length: 0\r\n\r\n",
-            ),
-        ],
-        text: "0 200 http://h/ h/index.html\n1 rob http://h/a -\nfetched 1 kept 1 refused 1 failed 0\n",
-        status: 0,
-    },
-    Site {
-        words: &["-r", "http://h/"],
-        table: &[
-            (
-                "http://h/",
-                "HTTP/1.1 200 OK\r\nContent-Type: text/html\r\n\r\n<a href=a>",
-            ),
-            (
-                "http://h/robots.txt",
-                "HTTP/1.1 200 OK\r\n\r\nUser-agent: *\nDisallow: /a\n",
-            ),
-        ],
-        text: "0 200 http://h/ h/index.html\n1 rob http://h/a -\nfetched 1 kept 1 refused 1 failed 0\n",
-        status: 0,
-    },
-    Site {
-        words: &["-r", "--max-urls", "1", "http://h/"],
-        table: SITE,
-        text: "stopped full\n",
-        status: 1,
-    },
-];
+no start
+$ http://h/
+> 0 404 http://h/ -
+> fetched 1 kept 0 refused 0 failed 1
+= 8
+
+a page that forbids its links
+$ -r http://h/
+< http://h/ HTTP/1.1 200 OK|Content-Type: text/html||<meta name=robots content=nofollow><a href=b>
+> 0 200 http://h/ h/index.html
+> fetched 1 kept 1 refused 0 failed 0
+= 0
+
+the same with robots off
+$ -r -e robots=off http://h/
+< http://h/ HTTP/1.1 200 OK|Content-Type: text/html||<meta name=robots content=nofollow><a href=b>
+> 0 200 http://h/ h/index.html
+> 1 404 http://h/b -
+> fetched 2 kept 1 refused 0 failed 1
+= 8
+
+a robots file that a server fails to answer
+$ -r http://h/
+< http://h/ HTTP/1.1 200 OK|Content-Type: text/html||<a href=a>
+< http://h/robots.txt HTTP/1.1 500 Oh|Content-Length: 0||
+> 0 200 http://h/ h/index.html
+> 1 rob http://h/a -
+> fetched 1 kept 1 refused 1 failed 0
+= 0
+
+a robots file that refuses a page
+$ -r http://h/
+< http://h/ HTTP/1.1 200 OK|Content-Type: text/html||<a href=a>
+< http://h/robots.txt HTTP/1.1 200 OK||User-agent: *|Disallow: /a|
+> 0 200 http://h/ h/index.html
+> 1 rob http://h/a -
+> fetched 1 kept 1 refused 1 failed 0
+= 0
+
+one address more than may be held
+$ -r --max-urls 1 http://h/
+< http://h/ HTTP/1.1 200 OK|Content-Type: text/html|Content-Length: 20||<a href=a><a href=b>
+< http://h/a HTTP/1.1 200 OK|Content-Length: 1||A
+< http://h/b HTTP/1.1 200 OK|Content-Length: 1||B
+> stopped full
+= 1";
 
 #[test]
-fn live_sites_in_memory_write_what_was_worked_out(rt: HostRuntime) -> Result<(), Fail> {
-    for site in &SITES {
-        let mut folder = MemoryFolder::new(rt.alloc());
-        let mut written: Vec<u8> = Vec::new(rt.alloc());
-        let status = live_alone(
-            &rt,
-            rt.alloc(),
-            site.words,
-            site.table,
-            &[],
-            &mut folder,
-            &mut written,
-        )?;
-        assert!(rt; written.as_slice() == site.text.as_bytes());
-        assert!(rt; status == site.status);
-        assert!(rt; folder.file("h/index.html").is_some() == site.text.starts_with("0 200"));
+fn live_sites_in_memory_write_what_was_worked_out(rt: HostRuntime) {
+    for run in SITES.split("\n\n") {
+        assert!(rt; comes_out(&rt, rt.alloc(), run, run, &[]), "{run}");
     }
-    Ok(())
 }
 
-// A connection that fails: where, what is written, and the status.
-struct Failing {
-    connection: u64,
-    place: FailingPlace,
-    text: &'static str,
-    status: u8,
+/// Runs over `SITE` of which a connection fails.
+const FAILING: &str = "$ -r http://h/
+! 0 connect
+> 0 connect http://h/ -
+> fetched 1 kept 0 refused 0 failed 1
+= 4
+
+$ -r http://h/
+! 0 write
+! 0 read
+> 0 device http://h/ -
+> fetched 1 kept 0 refused 0 failed 1
+= 4
+
+$ -r http://h/
+! 1 connect
+! 1 write
+! 1 read
+> 0 200 http://h/ h/index.html
+> 1 rob http://h/a -
+> 1 rob http://h/b -
+> fetched 1 kept 1 refused 2 failed 0
+= 0
+
+$ -r http://h/
+! 2 connect
+> 0 200 http://h/ h/index.html
+> 1 connect http://h/a -
+> 1 200 http://h/b h/b
+> fetched 3 kept 2 refused 0 failed 1
+= 4
+
+$ -r http://h/
+! 2 write
+! 2 read
+> 0 200 http://h/ h/index.html
+> 1 device http://h/a -
+> 1 200 http://h/b h/b
+> fetched 3 kept 2 refused 0 failed 1
+= 4
+
+$ -r http://h/
+! 3 connect
+> 0 200 http://h/ h/index.html
+> 1 200 http://h/a h/a
+> 1 connect http://h/b -
+> fetched 3 kept 2 refused 0 failed 1
+= 4
+
+$ -r http://h/
+! 3 write
+! 3 read
+> 0 200 http://h/ h/index.html
+> 1 200 http://h/a h/a
+> 1 device http://h/b -
+> fetched 3 kept 2 refused 0 failed 1
+= 4";
+
+/// The call of a connection that fails.
+fn failing_call(call: u64) -> FailingPlace {
+    let fault = WireFault::Failed;
+    FailingPlace::Call(PlannedFault { call, fault })
 }
 
-// The first connection is the start's, the second its robots file's.
-const START: u64 = 0;
-
-const ROBOTS: u64 = 1;
-
-const A: u64 = 2;
-
-const B: u64 = 3;
-
-const WRITE: FailingPlace = FailingPlace::Call(PlannedFault {
-    call: 0,
-    fault: WireFault::Failed,
-});
-
-const READ: FailingPlace = FailingPlace::Call(PlannedFault {
-    call: 1,
-    fault: WireFault::Failed,
-});
-
-const NO_START: &str = "0 connect http://h/ -\nfetched 1 kept 0 refused 0 failed 1\n";
-
-const LOST_START: &str = "0 device http://h/ -\nfetched 1 kept 0 refused 0 failed 1\n";
-
-const NO_ROBOTS: &str =
-    "0 200 http://h/ h/index.html\n1 rob http://h/a -\n1 rob http://h/b -\nfetched 1 kept 1 refused 2 failed 0\n";
-
-const NO_A: &str =
-    "0 200 http://h/ h/index.html\n1 connect http://h/a -\n1 200 http://h/b h/b\nfetched 3 kept 2 refused 0 failed 1\n";
-
-const LOST_A: &str =
-    "0 200 http://h/ h/index.html\n1 device http://h/a -\n1 200 http://h/b h/b\nfetched 3 kept 2 refused 0 failed 1\n";
-
-const NO_B: &str =
-    "0 200 http://h/ h/index.html\n1 200 http://h/a h/a\n1 connect http://h/b -\nfetched 3 kept 2 refused 0 failed 1\n";
-
-const LOST_B: &str =
-    "0 200 http://h/ h/index.html\n1 200 http://h/a h/a\n1 device http://h/b -\nfetched 3 kept 2 refused 0 failed 1\n";
-
-const FAILING: [Failing; 12] = [
-    Failing {
-        connection: START,
-        place: FailingPlace::Connect,
-        text: NO_START,
-        status: 4,
-    },
-    Failing {
-        connection: START,
-        place: WRITE,
-        text: LOST_START,
-        status: 4,
-    },
-    Failing {
-        connection: START,
-        place: READ,
-        text: LOST_START,
-        status: 4,
-    },
-    Failing {
-        connection: ROBOTS,
-        place: FailingPlace::Connect,
-        text: NO_ROBOTS,
-        status: 0,
-    },
-    Failing {
-        connection: ROBOTS,
-        place: WRITE,
-        text: NO_ROBOTS,
-        status: 0,
-    },
-    Failing {
-        connection: ROBOTS,
-        place: READ,
-        text: NO_ROBOTS,
-        status: 0,
-    },
-    Failing {
-        connection: A,
-        place: FailingPlace::Connect,
-        text: NO_A,
-        status: 4,
-    },
-    Failing {
-        connection: A,
-        place: WRITE,
-        text: LOST_A,
-        status: 4,
-    },
-    Failing {
-        connection: A,
-        place: READ,
-        text: LOST_A,
-        status: 4,
-    },
-    Failing {
-        connection: B,
-        place: FailingPlace::Connect,
-        text: NO_B,
-        status: 4,
-    },
-    Failing {
-        connection: B,
-        place: WRITE,
-        text: LOST_B,
-        status: 4,
-    },
-    Failing {
-        connection: B,
-        place: READ,
-        text: LOST_B,
-        status: 4,
-    },
-];
-
-#[test]
-fn a_connection_that_fails_costs_its_page_alone(rt: HostRuntime) -> Result<(), Fail> {
-    for row in &FAILING {
-        let failures = [PlannedFailure {
-            connection: row.connection,
-            place: row.place,
-        }];
-        let mut folder = MemoryFolder::new(rt.alloc());
-        let mut written: Vec<u8> = Vec::new(rt.alloc());
-        let status = live_alone(
-            &rt,
-            rt.alloc(),
-            &["-r", "http://h/"],
-            SITE,
-            &failures,
-            &mut folder,
-            &mut written,
-        )?;
-        assert!(rt; written.as_slice() == row.text.as_bytes());
-        assert!(rt; status == row.status);
-    }
-    Ok(())
+/// The failure that a number of a connection and a place name.
+pub(crate) fn failure(rt: &impl Abort, words: &str) -> PlannedFailure {
+    let (number, place) = words.split_once(' ').unwrap_or((words, ""));
+    let connection = number.parse::<u64>().expect(rt, "a number");
+    let place = match place {
+        "connect" => FailingPlace::Connect,
+        "write" => failing_call(0),
+        "read" => failing_call(1),
+        _ => panic!(rt; "no place"),
+    };
+    PlannedFailure { connection, place }
 }
 
 #[test]
-fn a_put_that_fails_is_told_behind_the_report(rt: HostRuntime) -> Result<(), Fail> {
-    for whole in 0..3u64 {
-        let mut folder = MemoryFolder::failing_at(rt.alloc(), whole);
-        let mut written: Vec<u8> = Vec::new(rt.alloc());
-        let status = live_alone(
-            &rt,
-            rt.alloc(),
-            &["-r", "http://h/"],
-            SITE,
-            &[],
-            &mut folder,
-            &mut written,
-        )?;
-        let wanted = format!(in rt.alloc(); "{WHOLE}files written {whole}\n")?;
-        assert!(rt; written.as_slice() == wanted.as_bytes());
-        assert!(rt; status == 3);
-        for (number, (name, body)) in FILES.iter().enumerate() {
-            let held = if (number as u64) < whole {
-                Some(body.as_bytes())
-            } else {
-                None
-            };
-            assert!(rt; folder.file(name) == held);
+fn a_connection_that_fails_costs_its_page_alone(rt: HostRuntime) {
+    for run in FAILING.split("\n\n") {
+        for line in run.lines() {
+            if let Some(("!", words)) = line.split_once(' ') {
+                let failures = [failure(&rt, words)];
+                assert!(rt; comes_out(&rt, rt.alloc(), SITE, run, &failures), "{words}");
+            }
         }
     }
-    Ok(())
 }
 
-// A writer that takes ten bytes at a time, up to so many, and then fails.
+/// What the folder has of a file's body where so many files were put before it failed.
+fn held(number: usize, whole: u64, body: &str) -> Option<&[u8]> {
+    if (number as u64) < whole {
+        Some(body.as_bytes())
+    } else {
+        None
+    }
+}
+
+/// Whether a folder that fails behind so many files has these alone, and their count stands behind the report.
+fn fails_behind<R: Abort + Threads + Wait + Sync>(rt: &R, alloc: Global, whole: u64) -> bool {
+    let answers = stored(rt, alloc, SITE);
+    let mut folder = MemoryFolder::failing_at(alloc, whole);
+    let mut written: Vec<u8> = Vec::new(alloc);
+    let words = "-r http://h/";
+    let status = live_alone(rt, alloc, words, &answers, &[], &mut folder, &mut written);
+    let wanted = format!(in alloc; "{WHOLE}files written {whole}\n").expect(rt, "memory");
+    for (number, (name, body)) in FILES.iter().enumerate() {
+        if folder.file(name) != held(number, whole, body) {
+            return false;
+        }
+    }
+    written.as_slice() == wanted.as_bytes() && status == 3
+}
+
+#[test]
+fn a_put_that_fails_is_told_behind_the_report(rt: HostRuntime) {
+    for whole in 0..3u64 {
+        assert!(rt; fails_behind(&rt, rt.alloc(), whole), "{whole}");
+    }
+}
+
+/// A writer that takes ten bytes at a time, up to so many, and then fails.
 #[derive(Drop)]
 struct Narrow {
     held: Vec<u8>,
@@ -361,27 +318,28 @@ impl Write for Narrow {
     }
 }
 
+/// Whether a writer of so much room holds a front of the text, and the files are put all the same.
+fn holds_a_front<R: Abort + Threads + Wait + Sync>(
+    rt: &R,
+    alloc: Global,
+    answers: &[StoredAnswer],
+    room: usize,
+) -> bool {
+    let mut folder = MemoryFolder::new(alloc);
+    let held = Vec::new(alloc);
+    let mut writer = Narrow { held, room };
+    let words = "-r http://h/";
+    let status = live_alone(rt, alloc, words, answers, &[], &mut folder, &mut writer);
+    status == 1
+        && writer.held.len() == room
+        && WHOLE.as_bytes().starts_with(&writer.held)
+        && folder.file("h/b") == Some(b"B".as_slice())
+}
+
 #[test]
-fn a_writer_that_fails_holds_a_front_of_the_text(rt: HostRuntime) -> Result<(), Fail> {
+fn a_writer_that_fails_holds_a_front_of_the_text(rt: HostRuntime) {
+    let answers = stored(&rt, rt.alloc(), SITE);
     for room in 0..WHOLE.len() {
-        let mut folder = MemoryFolder::new(rt.alloc());
-        let mut writer = Narrow {
-            held: Vec::new(rt.alloc()),
-            room,
-        };
-        let status = live_alone(
-            &rt,
-            rt.alloc(),
-            &["-r", "http://h/"],
-            SITE,
-            &[],
-            &mut folder,
-            &mut writer,
-        )?;
-        assert!(rt; status == 1);
-        assert!(rt; writer.held.len() == room);
-        assert!(rt; WHOLE.as_bytes().starts_with(&writer.held));
-        assert!(rt; folder.file("h/b") == Some(b"B".as_slice()));
+        assert!(rt; holds_a_front(&rt, rt.alloc(), &answers, room), "{room}");
     }
-    Ok(())
 }

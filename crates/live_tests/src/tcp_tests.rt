@@ -1,15 +1,15 @@
 //! A site that a thread of the test serves on loopback, retrieved over TCP.
-ghost use Rattle.std.specs.Prelude.{◌≡◌, IfOk, vec_len};
+ghost use Rattle.std.specs.Prelude.{◌≡◌, vec_len};
 
 use crate::server::{Answered, serve};
 use local_tree::MemoryFolder;
-use options::read_order;
+use options::{Order, read_order};
 use retriever::live;
 use site_answer::HttpFetcher;
-use std::alloc::{AllocError, Global};
+use std::alloc::Global;
 use std::net::{Net, TcpListener, TcpStream};
+use std::process::Abort;
 use std::sync::Wait;
-use std::test::Fail;
 use std::thread::join;
 use tcp_connect::{Hosts, TcpConnect};
 
@@ -32,38 +32,85 @@ const SITE: &[Answered] = &[
     ),
 ];
 
-// A fetcher over TCP, one for each of two workers.
-fn over_tcp<'a, R: Net + Wait>(
+/// Fetchers over TCP, one for each of two workers.
+fn over_tcp<'a, R: Abort + Net + Wait>(
     rt: &'a R,
     alloc: Global,
     hosts: &'a Hosts,
     robots: bool,
-) -> Result<Vec<HttpFetcher<TcpConnect<'a, R>>>, AllocError>
-    ensures count { IfOk result (λ fetchers. vec_len fetchers ≡ 2) }
+) -> Vec<HttpFetcher<TcpConnect<'a, R>>>
+    ensures { vec_len result ≡ 2 }
 {
     let mut fetchers = Vec::new(alloc);
     let one = TcpConnect::new(rt, alloc, hosts);
-    fetchers.push(HttpFetcher::new(alloc, one, robots))?;
+    let Ok(()) = fetchers.push(HttpFetcher::new(alloc, one, robots)) else {
+        panic!(rt; "memory");
+    };
     let other = TcpConnect::new(rt, alloc, hosts);
-    fetchers.push(HttpFetcher::new(alloc, other, robots))?;
-    Ok(fetchers)
+    let Ok(()) = fetchers.push(HttpFetcher::new(alloc, other, robots)) else {
+        panic!(rt; "memory");
+    };
+    fetchers
 }
 
-// The text of the request for a path.
-fn request_for(alloc: Global, port: u16, path: &str) -> Result<String, Fail> {
-    Ok(format!(in alloc;
+/// The order to retrieve the site of a port.
+fn order_of(rt: &impl Abort, alloc: Global, port: u16) -> Order {
+    let start = format!(in alloc; "http://127.0.0.1:{port}/").expect(rt, "memory");
+    let Ok(order) = read_order(alloc, &["-r", start.as_str()]) else {
+        panic!(rt; "no order");
+    };
+    order
+}
+
+/// Whether one of the requests is that for a path.
+fn is_requested(
+    rt: &impl Abort,
+    alloc: Global,
+    requests: &[Vec<u8>],
+    port: u16,
+    path: &str,
+) -> bool {
+    let text = format!(in alloc;
         "GET /{path} HTTP/1.1\r\nHost: 127.0.0.1:{port}\r\nUser-Agent: wgetr/1.0\r\nAccept: */*\r\nAccept-Encoding: identity\r\nConnection: close\r\n\r\n"
-    )?)
+    ).expect(rt, "memory");
+    for request in requests {
+        if request.as_slice() == text.as_bytes() {
+            return true;
+        }
+    }
+    false
+}
+
+/// Whether the folder has this body at a file of the port's host.
+fn has_file(
+    rt: &impl Abort,
+    alloc: Global,
+    folder: &MemoryFolder,
+    port: u16,
+    file: &str,
+    body: &str,
+) -> bool {
+    let name = format!(in alloc; "127.0.0.1:{port}/{file}").expect(rt, "memory");
+    folder.file(name.as_str()) == Some(body.as_bytes())
+}
+
+/// The report of the site at a port.
+fn report(rt: &impl Abort, alloc: Global, port: u16) -> String {
+    let name = format!(in alloc; "127.0.0.1:{port}").expect(rt, "memory");
+    let text = format!(in alloc;
+        "0 200 http://{name}/ {name}/index.html\n1 200 http://{name}/a {name}/a\n1 200 http://{name}/b {name}/b\n\
+1 302 http://{name}/moved -\nfetched 4 kept 3 refused 0 failed 0\n"
+    );
+    text.expect(rt, "memory")
 }
 
 #[test]
-fn a_live_site_is_retrieved_into_a_folder(rt: HostRuntime) -> Result<(), Fail> {
+fn a_live_site_is_retrieved_into_a_folder(rt: HostRuntime) {
     let alloc = rt.alloc();
-    let listener = TcpListener::bind(&rt, "127.0.0.1:0")?;
-    let here = listener.local_addr()?;
+    let listener = TcpListener::bind(&rt, "127.0.0.1:0").expect(&rt, "a port");
+    let here = listener.local_addr().expect(&rt, "its address");
     let port = here.port();
-    let start = format!(in alloc; "http://127.0.0.1:{port}/")?;
-    let order = read_order(alloc, &["-r", start.as_str()])?;
+    let order = order_of(&rt, alloc, port);
     let mut folder = MemoryFolder::new(alloc);
     let mut written: Vec<u8> = Vec::new(alloc);
     let hosts = Hosts::new(alloc);
@@ -71,21 +118,15 @@ fn a_live_site_is_retrieved_into_a_folder(rt: HostRuntime) -> Result<(), Fail> {
         &rt,
         || serve(alloc, &listener, SITE),
         || {
-            let status = match over_tcp(&rt, alloc, &hosts, order.plan.robots) {
-                Ok(fetchers) => live(&rt, alloc, &order, fetchers, &mut folder, &mut written),
-                Err(_) => u8::MAX,
-            };
+            let fetchers = over_tcp(&rt, alloc, &hosts, order.plan.robots);
+            let status = live(&rt, alloc, &order, fetchers, &mut folder, &mut written);
             // A connection without a request ends the server.
             let _ = TcpStream::connect(&rt, here);
             status
         },
     );
-    let requests = requests?;
-    let name = format!(in alloc; "127.0.0.1:{port}")?;
-    let wanted = format!(in alloc;
-        "0 200 http://{name}/ {name}/index.html\n1 200 http://{name}/a {name}/a\n1 200 http://{name}/b {name}/b\n\
-1 302 http://{name}/moved -\nfetched 4 kept 3 refused 0 failed 0\n"
-    )?;
+    let requests = requests.expect(&rt, "memory");
+    let wanted = report(&rt, alloc, port);
     assert!(rt; written.as_slice() == wanted.as_bytes());
     assert!(rt; status == 0);
     for (file, body) in [
@@ -93,37 +134,29 @@ fn a_live_site_is_retrieved_into_a_folder(rt: HostRuntime) -> Result<(), Fail> {
         ("a", "a"),
         ("b", "b"),
     ] {
-        let file = format!(in alloc; "{name}/{file}")?;
-        assert!(rt; folder.file(file.as_str()) == Some(body.as_bytes()));
+        assert!(rt; has_file(&rt, alloc, &folder, port, file, body), "{file}");
     }
     assert!(rt; requests.len() == 5);
     for path in ["", "a", "b", "moved", "robots.txt"] {
-        let text = request_for(alloc, port, path)?;
-        assert!(rt;
-            requests
-                .iter()
-                .any(|request| request.as_slice() == text.as_bytes()),
-            "{path}"
-        );
+        assert!(rt; is_requested(&rt, alloc, &requests, port, path), "{path}");
     }
-    Ok(())
 }
 
 #[test]
-fn nobody_listens_where_a_live_site_should_be(rt: HostRuntime) -> Result<(), Fail> {
+fn nobody_listens_where_a_live_site_should_be(rt: HostRuntime) {
     let alloc = rt.alloc();
-    let listener = TcpListener::bind(&rt, "127.0.0.1:0")?;
-    let port = listener.local_addr()?.port();
+    let listener = TcpListener::bind(&rt, "127.0.0.1:0").expect(&rt, "a port");
+    let port = listener.local_addr().expect(&rt, "its address").port();
     drop(listener);
-    let start = format!(in alloc; "http://127.0.0.1:{port}/")?;
-    let order = read_order(alloc, &["-r", start.as_str()])?;
+    let order = order_of(&rt, alloc, port);
     let mut folder = MemoryFolder::new(alloc);
-    let hosts = Hosts::new(alloc);
-    let fetchers = over_tcp(&rt, alloc, &hosts, order.plan.robots)?;
     let mut written: Vec<u8> = Vec::new(alloc);
+    let hosts = Hosts::new(alloc);
+    let fetchers = over_tcp(&rt, alloc, &hosts, order.plan.robots);
     let status = live(&rt, alloc, &order, fetchers, &mut folder, &mut written);
-    let wanted = format!(in alloc; "0 connect {start} -\nfetched 1 kept 0 refused 0 failed 1\n")?;
+    let wanted = format!(in alloc;
+        "0 connect http://127.0.0.1:{port}/ -\nfetched 1 kept 0 refused 0 failed 1\n"
+    ).expect(&rt, "memory");
     assert!(rt; written.as_slice() == wanted.as_bytes());
     assert!(rt; status == 4);
-    Ok(())
 }

@@ -1,45 +1,21 @@
 //! Elements, rules and copies as the GNU Wget manual and worked examples have them.
-use address::{Address, AddressFault};
+use address::Address;
 use follow_filters::{Directory, Domain, ElementFault, Elements, Limit, Pattern, Plan, Rule};
-use std::alloc::{AllocError, Global};
-use std::test::Fail;
+use std::alloc::Global;
+use std::process::Abort;
 
 // A plan without filters that starts at this page.
-fn plan_from(alloc: Global, start: &str) -> Result<Plan, AddressFault> {
-    let start = Address::read(alloc, start)?;
+fn plan_from(rt: &impl Abort, alloc: Global, start: &str) -> Plan {
+    let start = Address::read(alloc, start).expect(rt, "an address");
     if start.is_robots_file() {
-        return Err(AddressFault::NotUrl);
+        panic!(rt; "a robots file");
     }
-    Ok(Plan::unfiltered(alloc, start, Limit::Unlimited, 100))
+    Plan::unfiltered(alloc, start, Limit::Unlimited, 100)
 }
 
-fn patterns(alloc: Global, texts: &[&str]) -> Result<Elements<Pattern>, ElementFault> {
-    let mut items = Vec::new(alloc);
-    for text in texts {
-        items.push(Pattern::read(alloc, text)?)?;
-    }
-    Ok(Elements::of(items))
-}
-
-fn domains(alloc: Global, texts: &[&str]) -> Result<Elements<Domain>, ElementFault> {
-    let mut items = Vec::new(alloc);
-    for text in texts {
-        items.push(Domain::read(alloc, text)?)?;
-    }
-    Ok(Elements::of(items))
-}
-
-fn directories(alloc: Global, texts: &[&str]) -> Result<Elements<Directory>, ElementFault> {
-    let mut items = Vec::new(alloc);
-    for text in texts {
-        items.push(Directory::read(alloc, text)?)?;
-    }
-    Ok(Elements::of(items))
-}
-
-// How the plan's verdict on an address reads.
-fn verdict(alloc: Global, plan: &Plan, address: &str) -> Result<&'static str, AddressFault> {
-    Ok(match plan.passes(&Address::read(alloc, address)?) {
+// How a verdict reads.
+fn word_of(verdict: Result<(), Rule>) -> &'static str {
+    match verdict {
         Ok(()) => "passes",
         Err(Rule::RobotsFile) => "robots file",
         Err(Rule::Host) => "host",
@@ -50,28 +26,49 @@ fn verdict(alloc: Global, plan: &Plan, address: &str) -> Result<&'static str, Ad
         Err(Rule::Excluded) => "excluded",
         Err(Rule::NotAccepted) => "not accepted",
         Err(Rule::Rejected) => "rejected",
-    })
+    }
 }
 
+// How the plan's verdict on an address reads.
+fn verdict(rt: &impl Abort, alloc: Global, plan: &Plan, address: &str) -> &'static str {
+    let address = Address::read(alloc, address).expect(rt, "an address");
+    word_of(plan.passes(&address))
+}
+
+// Whether the plan keeps the page of an address.
+fn keeps(rt: &impl Abort, alloc: Global, plan: &Plan, address: &str) -> bool {
+    let address = Address::read(alloc, address).expect(rt, "an address");
+    plan.keeps(&address)
+}
+
+// Rows end with a line feed: a pattern, a name, and whether they match.
+const PATTERNS: &str = "gif pic.gif yes
+gif pic.GIF no
+gif gif yes
+zelazny*196[0-9]* zelazny-1968.txt yes
+[!a-c]x* dx yes
+[!a-c]x* dxy yes
+[!a-c]x* ax no
+[!a-c]x* x no
+[a-]* - yes
+a]? a]b yes
+*  yes
+";
+
 #[test]
-fn patterns_match_as_the_shell_does(rt: HostRuntime) -> Result<(), Fail> {
-    for (pattern, file, matches) in [
-        ("gif", "pic.gif", true),
-        ("gif", "pic.GIF", false),
-        ("gif", "gif", true),
-        ("zelazny*196[0-9]*", "zelazny-1968.txt", true),
-        ("[!a-c]x*", "dx", true),
-        ("[!a-c]x*", "dxy", true),
-        ("[!a-c]x*", "ax", false),
-        ("[!a-c]x*", "x", false),
-        ("[a-]*", "-", true),
-        ("a]?", "a]b", true),
-        ("*", "", true),
-    ] {
-        let read = Pattern::read(rt.alloc(), pattern)?;
-        assert!(rt; read.matches(file) == matches, "{pattern} on {file}");
+fn patterns_match_as_the_shell_does(rt: HostRuntime) {
+    for row in PATTERNS.lines() {
+        let mut fields = row.split(' ');
+        let pattern = fields.next().unwrap_or("");
+        let file = fields.next().unwrap_or("none");
+        let Ok(read) = Pattern::read(rt.alloc(), pattern) else {
+            panic!(&rt; "{row}");
+        };
+        assert!(rt;
+            read.matches(file) == (fields.next() == Some("yes")),
+            "{row}"
+        );
     }
-    Ok(())
 }
 
 #[test]
@@ -100,111 +97,126 @@ fn bad_elements_are_refused(rt: HostRuntime) {
 }
 
 // So many letters behind a front.
-fn lengthened(alloc: Global, front: &str, letters: u32) -> Result<String, AllocError> {
-    let mut text = String::from_str(alloc, front)?;
+fn lengthened(rt: &impl Abort, alloc: Global, front: &str, letters: u32) -> String {
+    let mut text = String::from_str(alloc, front).expect(rt, "memory");
     for _ in 0..letters {
-        text.push('a')?;
+        text.push('a').expect(rt, "memory");
     }
-    Ok(text)
+    text
+}
+
+// Whether a directory, a domain and a pattern of so many letters are read.
+fn are_read(rt: &impl Abort, alloc: Global, letters: u32) -> bool {
+    let text = lengthened(rt, alloc, "/", letters);
+    let directory = Directory::read(alloc, text.as_str()).expect(rt, "a directory");
+    if directory.as_str() != text.as_str() {
+        return false;
+    }
+    let text = lengthened(rt, alloc, "", letters);
+    let domain = Domain::read(alloc, text.as_str()).expect(rt, "a domain");
+    let pattern = Pattern::read(alloc, text.as_str()).expect(rt, "a pattern");
+    domain.as_str() == text.as_str() && pattern.matches(text.as_str())
 }
 
 #[test]
-fn long_elements_are_read(rt: HostRuntime) -> Result<(), Fail> {
+fn long_elements_are_read(rt: HostRuntime) {
     for letters in [300, 8_000] {
-        let text = lengthened(rt.alloc(), "/", letters)?;
-        let directory = Directory::read(rt.alloc(), text.as_str())?;
-        assert!(rt; directory.as_str() == text.as_str(), "{letters}");
-        let text = lengthened(rt.alloc(), "", letters)?;
-        let domain = Domain::read(rt.alloc(), text.as_str())?;
-        assert!(rt; domain.as_str() == text.as_str(), "{letters}");
-        let pattern = Pattern::read(rt.alloc(), text.as_str())?;
-        assert!(rt; pattern.matches(text.as_str()), "{letters}");
+        assert!(rt; are_read(&rt, rt.alloc(), letters), "{letters}");
     }
-    Ok(())
 }
 
-// Whether the plan's verdicts on these addresses read so.
-fn judges(alloc: Global, plan: &Plan, rows: &[(&str, &str)]) -> Result<bool, AddressFault> {
-    for (address, expected) in rows {
-        if verdict(alloc, plan, address)? != *expected {
-            return Ok(false);
+// Rows end with a line feed: an address, and how the plan's verdict on it reads.
+fn judges(rt: &impl Abort, alloc: Global, plan: &Plan, rows: &str) -> bool {
+    for row in rows.lines() {
+        let (address, expected) = row.split_once(' ').unwrap_or((row, ""));
+        if verdict(rt, alloc, plan, address) != expected {
+            return false;
         }
     }
-    Ok(true)
+    true
 }
 
+const OF_ONE_HOST: &str = "http://foo.edu:81/a passes
+http://foo.edu/robots.txt robots file
+http://www.foo.edu/ host
+";
+
+const OF_ONE_DOMAIN: &str = "http://www.foo.edu/ passes
+http://barfoo.edu/ domain
+";
+
 #[test]
-fn hosts_and_domains_are_looked_at_in_order(rt: HostRuntime) -> Result<(), Fail> {
+fn hosts_and_domains_are_looked_at_in_order(rt: HostRuntime) {
     let alloc = rt.alloc();
-    let followed = domains(alloc, &[".foo.edu"])?;
-    let excluded = domains(alloc, &["WWW.foo.edu"])?;
-    let mut plan = plan_from(alloc, "http://foo.edu/")?;
-    plan.domains = followed;
-    let rows = [
-        ("http://foo.edu:81/a", "passes"),
-        ("http://foo.edu/robots.txt", "robots file"),
-        ("http://www.foo.edu/", "host"),
-    ];
-    assert!(rt; judges(alloc, &plan, &rows)?);
+    let mut plan = plan_from(&rt, alloc, "http://foo.edu/");
+    plan.domains = Elements::read(alloc, ".foo.edu").expect(&rt, "domains");
+    assert!(rt; judges(&rt, alloc, &plan, OF_ONE_HOST));
     plan.span_hosts = true;
-    let rows = [
-        ("http://www.foo.edu/", "passes"),
-        ("http://barfoo.edu/", "domain"),
-    ];
-    assert!(rt; judges(alloc, &plan, &rows)?);
-    plan.exclude_domains = excluded;
-    assert!(rt; judges(alloc, &plan, &[("http://www.foo.edu/", "excluded domain")])?);
-    Ok(())
+    assert!(rt; judges(&rt, alloc, &plan, OF_ONE_DOMAIN));
+    plan.exclude_domains = Elements::read(alloc, "WWW.foo.edu").expect(&rt, "domains");
+    assert!(rt; verdict(&rt, alloc, &plan, "http://www.foo.edu/") == "excluded domain");
 }
 
+const INCLUDED: &str = "http://h/a/b passes
+http://h/ab/c not included
+";
+
+const EXCLUDED: &str = "http://h/x/y excluded
+http://h/x passes
+";
+
+const BELOW_START: &str = "http://h/x parent
+http://h/bar/x passes
+";
+
 #[test]
-fn directories_begin_with_an_element_and_a_slash(rt: HostRuntime) -> Result<(), Fail> {
+fn directories_begin_with_an_element_and_a_slash(rt: HostRuntime) {
     let alloc = rt.alloc();
-    let one = directories(alloc, &["/a/"])?;
-    let every = directories(alloc, &["//"])?;
-    let excluded = directories(alloc, &["/x"])?;
-    let mut plan = plan_from(alloc, "http://h/bar/")?;
-    plan.include_dirs = one;
-    let rows = [
-        ("http://h/a/b", "passes"),
-        ("http://h/ab/c", "not included"),
-    ];
-    assert!(rt; judges(alloc, &plan, &rows)?);
-    plan.include_dirs = every;
-    plan.exclude_dirs = excluded;
-    let rows = [("http://h/x/y", "excluded"), ("http://h/x", "passes")];
-    assert!(rt; judges(alloc, &plan, &rows)?);
+    let mut plan = plan_from(&rt, alloc, "http://h/bar/");
+    plan.include_dirs = Elements::read(alloc, "/a/").expect(&rt, "directories");
+    assert!(rt; judges(&rt, alloc, &plan, INCLUDED));
+    plan.include_dirs = Elements::read(alloc, "//").expect(&rt, "directories");
+    plan.exclude_dirs = Elements::read(alloc, "/x").expect(&rt, "directories");
+    assert!(rt; judges(&rt, alloc, &plan, EXCLUDED));
     plan.no_parent = true;
-    let rows = [("http://h/x", "parent"), ("http://h/bar/x", "passes")];
-    assert!(rt; judges(alloc, &plan, &rows)?);
-    Ok(())
+    assert!(rt; judges(&rt, alloc, &plan, BELOW_START));
+}
+
+// Rows end with a line feed: an address, whether its page is kept, and how the verdict reads.
+const NAMES: &str = "http://h/ no passes
+http://h/page.html no passes
+http://h/pic.gif yes passes
+http://h/pic.gif?x=1 yes passes
+http://h/pic.GIF no not accepted
+http://h/x.gif no rejected
+";
+
+// Whether the plan follows and keeps the page of a row as that says.
+fn follows(rt: &impl Abort, alloc: Global, plan: &Plan, row: &str) -> bool {
+    let (address, rest) = row.split_once(' ').unwrap_or((row, ""));
+    let (kept, expected) = rest.split_once(' ').unwrap_or((rest, ""));
+    verdict(rt, alloc, plan, address) == expected
+        && keeps(rt, alloc, plan, address) == (kept == "yes")
+}
+
+// Whether a copy is the same as the plan, until that rejects nothing.
+fn is_copied(rt: &impl Abort, alloc: Global, plan: &mut Plan) -> bool {
+    let copy = plan.try_clone().expect(rt, "memory");
+    if !copy.same(plan) {
+        return false;
+    }
+    plan.reject = Elements::none(alloc);
+    !copy.same(plan)
 }
 
 #[test]
-fn pages_are_followed_to_more_names_than_are_kept(rt: HostRuntime) -> Result<(), Fail> {
+fn pages_are_followed_to_more_names_than_are_kept(rt: HostRuntime) {
     let alloc = rt.alloc();
-    let accepted = patterns(alloc, &["gif"])?;
-    let rejected = patterns(alloc, &["[xy]*"])?;
-    let mut plan = plan_from(alloc, "http://h/")?;
-    plan.accept = accepted;
-    plan.reject = rejected;
-    for (address, says, keeps) in [
-        ("http://h/", "passes", false),
-        ("http://h/page.html", "passes", false),
-        ("http://h/pic.gif", "passes", true),
-        ("http://h/pic.gif?x=1", "passes", true),
-        ("http://h/pic.GIF", "not accepted", false),
-        ("http://h/x.gif", "rejected", false),
-    ] {
-        assert!(rt; verdict(alloc, &plan, address)? == says, "{address}");
-        assert!(rt;
-            plan.keeps(&Address::read(alloc, address)?) == keeps,
-            "{address}"
-        );
+    let mut plan = plan_from(&rt, alloc, "http://h/");
+    plan.accept = Elements::read(alloc, "gif").expect(&rt, "patterns");
+    plan.reject = Elements::read(alloc, "[xy]*").expect(&rt, "patterns");
+    for row in NAMES.lines() {
+        assert!(rt; follows(&rt, alloc, &plan, row), "{row}");
     }
-    let copy = plan.try_clone()?;
-    assert!(rt; copy.same(&plan));
-    plan.reject = Elements::none(alloc);
-    assert!(rt; !copy.same(&plan));
-    Ok(())
+    assert!(rt; is_copied(&rt, alloc, &mut plan));
 }

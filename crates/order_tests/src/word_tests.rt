@@ -1,10 +1,10 @@
 //! Words and what they order: the manual's options, the defaults, and which fault is named.
 use address::AddressFault;
 use clap::error::ErrorKind;
-use follow_filters::Limit;
-use options::{LineFault, Source, read_order};
+use follow_filters::{Limit, Plan};
+use options::{LineFault, Order, Source, read_order};
 use std::alloc::Global;
-use std::test::Fail;
+use std::process::Abort;
 
 // How the answer to the words reads.
 fn outcome(alloc: Global, words: &[&str]) -> &'static str {
@@ -31,108 +31,145 @@ fn outcome(alloc: Global, words: &[&str]) -> &'static str {
     }
 }
 
+// Rows end with a line feed: how the answer reads, and behind `=>` the words.
+const FAULTS: &str = "depth => -l x https://h/
+depth => -l 1000001 http://h/
+read => -l 1000000 http://h/
+depth => -l +1 http://h/
+pattern => -A [a http://h/
+pattern => -A [a,b]* -I a http://h/
+pattern => -A gif -R [a http://h/
+directory => -I a -D a/b http://h/
+directory => -I /a -X a http://h/
+domain => -D a/b https://h/
+domain => -D a --exclude-domains a/b a
+start: not http => https://h/
+start: user info => http://u@h/
+start: robots => http://h/robots.txt
+words: unknown => http://h/ http://k/
+words: unknown => -p -l x http://h/
+words: unknown => --recurs http://h/
+words: twice => -r -r http://h/
+words: twice => -np --no-parent http://h/
+words: out of range => --workers 0 http://h/
+words: out of range => --workers 65 -l x a
+words: out of range => --per-host 17 http://h/
+words: bad value => -nq http://h/
+words: bad value => -e robots=of http://h/
+words: help => -h
+";
+
+// The words of a row.
+fn words_of<'a>(rt: &impl Abort, alloc: Global, text: &'a str) -> Vec<&'a str> {
+    let mut words = Vec::new(alloc);
+    for word in text.split(' ') {
+        words.push(word).expect(rt, "memory");
+    }
+    words
+}
+
 #[test]
 fn the_lowest_fault_is_named(rt: HostRuntime) {
-    let rows: [(&[&str], &str); 27] = [
-        (&["-l", "x", "https://h/"], "depth"),
-        (&["-l", "1000001", "http://h/"], "depth"),
-        (&["-l", "1000000", "http://h/"], "read"),
-        (&["-l", "+1", "http://h/"], "depth"),
-        (&["-A", "[a", "http://h/"], "pattern"),
-        (&["-A", "[a,b]*", "-I", "a", "http://h/"], "pattern"),
-        (&["-A", "gif", "-R", "[a", "http://h/"], "pattern"),
-        (&["-I", "a", "-D", "a/b", "http://h/"], "directory"),
-        (&["-I", "/a", "-X", "a", "http://h/"], "directory"),
-        (&["-D", "a/b", "https://h/"], "domain"),
-        (&["-D", "a", "--exclude-domains", "a/b", "a"], "domain"),
-        (&["https://h/"], "start: not http"),
-        (&["http://u@h/"], "start: user info"),
-        (&[""], "start: not url"),
-        (&["http://h/robots.txt"], "start: robots"),
-        (&["http://h/", "http://k/"], "words: unknown"),
-        (&["-p", "-l", "x", "http://h/"], "words: unknown"),
-        (&["--recurs", "http://h/"], "words: unknown"),
-        (&["-r", "-r", "http://h/"], "words: twice"),
-        (&["-np", "--no-parent", "http://h/"], "words: twice"),
-        (&["--workers", "0", "http://h/"], "words: out of range"),
-        (&["--workers", "65", "-l", "x", "a"], "words: out of range"),
-        (&["--per-host", "17", "http://h/"], "words: out of range"),
-        (&["-nq", "http://h/"], "words: bad value"),
-        (&["-e", "robots=of", "http://h/"], "words: bad value"),
-        (&[], "words: no start"),
-        (&["-h"], "words: help"),
-    ];
-    for (words, expected) in rows {
-        assert!(rt; outcome(rt.alloc(), words) == expected);
+    let alloc = rt.alloc();
+    for row in FAULTS.lines() {
+        let (expected, text) = row.split_once(" => ").unwrap_or((row, ""));
+        let words = words_of(&rt, alloc, text);
+        assert!(rt; outcome(alloc, &words) == expected, "{row}");
     }
+    assert!(rt; outcome(alloc, &[""]) == "start: not url");
+    assert!(rt; outcome(alloc, &[]) == "words: no start");
+}
+
+// A start with so many letters behind its host.
+fn long_start(rt: &impl Abort, alloc: Global, letters: u32) -> String {
+    let mut start = String::from_str(alloc, "http://h/").expect(rt, "memory");
+    for _ in 0..letters {
+        start.push('a').expect(rt, "memory");
+    }
+    start
 }
 
 #[test]
-fn a_start_has_8192_bytes_at_most(rt: HostRuntime) -> Result<(), Fail> {
-    let mut start = String::from_str(rt.alloc(), "http://h/")?;
-    for _ in 0..8_183 {
-        start.push('a')?;
-    }
+fn a_start_has_8192_bytes_at_most(rt: HostRuntime) {
+    let start = long_start(&rt, rt.alloc(), 8_183);
     assert!(rt; outcome(rt.alloc(), &[start.as_str()]) == "read");
-    start.push('a')?;
+    let start = long_start(&rt, rt.alloc(), 8_184);
     assert!(rt; outcome(rt.alloc(), &[start.as_str()]) == "start: too long");
-    Ok(())
+}
+
+// The order that the words of a text give.
+fn order_of(rt: &impl Abort, alloc: Global, text: &str) -> Order {
+    let words = words_of(rt, alloc, text);
+    let Ok(order) = read_order(alloc, &words) else {
+        panic!(rt; "refused");
+    };
+    order
+}
+
+// Whether a plan that isn't told otherwise stays as the manual says.
+fn is_usual(plan: &Plan) -> bool {
+    plan.start.as_str() == "http://h/a"
+        && plan.limit == Limit::AtMost(5)
+        && plan.robots
+        && !plan.no_parent
+        && !plan.span_hosts
+        && plan.per_host == 2
+        && plan.max_urls == 100_000
+}
+
+// Whether what is behind the plan is so, too.
+fn has_defaults(order: &Order) -> bool {
+    order.workers == 4
+        && order.source == Source::Live
+        && !order.trace
+        && order.prefix.as_str() == "."
 }
 
 #[test]
-fn defaults_are_the_manuals(rt: HostRuntime) -> Result<(), Fail> {
-    let order = read_order(rt.alloc(), &["-r", "http://h/a"]).map_err(|_| "refused")?;
-    assert!(rt; order.plan.start.as_str() == "http://h/a" && order.plan.limit == Limit::AtMost(5));
-    assert!(rt; order.plan.robots && !order.plan.no_parent && !order.plan.span_hosts);
-    assert!(rt; order.workers == 4 && order.plan.per_host == 2 && order.plan.max_urls == 100_000);
-    assert!(rt; order.source == Source::Live && !order.trace && order.prefix.as_str() == ".");
+fn defaults_are_the_manuals(rt: HostRuntime) {
+    let order = order_of(&rt, rt.alloc(), "-r http://h/a");
+    assert!(rt; is_usual(&order.plan) && has_defaults(&order));
+}
+
+// Whether the start alone is retrieved, without robots rules.
+fn is_alone(plan: &Plan) -> bool {
+    plan.limit == Limit::AtMost(0) && !plan.robots
+}
+
+#[test]
+fn without_a_word_the_start_alone_is_retrieved(rt: HostRuntime) {
+    // The value of `-P` is empty.
     let words = ["-l", "inf", "-P", "", "http://h/"];
-    let order = read_order(rt.alloc(), &words).map_err(|_| "refused")?;
-    assert!(rt; order.plan.limit == Limit::AtMost(0) && !order.plan.robots);
-    assert!(rt; order.prefix.as_str() == ".");
-    Ok(())
+    let Ok(order) = read_order(rt.alloc(), &words) else {
+        panic!(rt; "refused");
+    };
+    assert!(rt; is_alone(&order.plan) && order.prefix.as_str() == ".");
 }
 
+// Whether the plan is as its options say.
+fn is_ordered(plan: &Plan) -> bool {
+    plan.limit == Limit::AtMost(7)
+        && plan.no_parent
+        && plan.span_hosts
+        && !plan.robots
+        && plan.domains.as_slice().len() == 1
+        && plan.accept.as_slice().len() == 1
+        && plan.reject.is_empty()
+}
+
+// Whether what is behind the plan is so, too.
+fn has_values(order: &Order) -> bool {
+    order.workers == 8
+        && order.source == Source::Map
+        && order.trace
+        && order.prefix.as_str() == "out"
+}
+
+const OPTIONS: &str =
+    "-r -l 007 -np -H -D.foo.edu -A ,gif, -X /x/ -e robots=off -P out --workers=8 --map --record --trace http://h/";
+
 #[test]
-fn options_are_read_into_the_order(rt: HostRuntime) -> Result<(), Fail> {
-    let words = [
-        "-r",
-        "-l",
-        "007",
-        "-np",
-        "-H",
-        "-D.foo.edu",
-        "-A",
-        ",gif,",
-        "-X",
-        "/x/",
-        "-e",
-        "robots=off",
-        "-P",
-        "out",
-        "--workers=8",
-        "--map",
-        "--record",
-        "--trace",
-        "http://h/",
-    ];
-    let order = read_order(rt.alloc(), &words).map_err(|_| "refused")?;
-    assert!(rt;
-        order.plan.limit == Limit::AtMost(7)
-            && order.plan.no_parent
-            && order.plan.span_hosts
-            && !order.plan.robots
-    );
-    assert!(rt;
-        order.workers == 8
-            && order.source == Source::Map
-            && order.trace
-            && order.prefix.as_str() == "out"
-    );
-    assert!(rt;
-        order.plan.domains.as_slice().len() == 1
-            && order.plan.accept.as_slice().len() == 1
-            && order.plan.reject.is_empty()
-    );
-    Ok(())
+fn options_are_read_into_the_order(rt: HostRuntime) {
+    let order = order_of(&rt, rt.alloc(), OPTIONS);
+    assert!(rt; is_ordered(&order.plan) && has_values(&order));
 }

@@ -2,8 +2,8 @@
 use address::{Address, Origin};
 use fetcher::{Answer, Fetcher, SteadyFetcher};
 use site_maps::{InputFault, MapSite};
-use std::alloc::{AllocError, Global};
-use std::test::Fail;
+use std::alloc::Global;
+use std::process::Abort;
 
 const SITE: &str = "# a site
 page 200 http://h/
@@ -20,132 +20,124 @@ page 200 http://h/c
 link http://h/a
 ";
 
-// What the map of `SITE` says of each address; it doesn't name the last.
-const ANSWERS: [(&str, &str); 7] = [
-    (
-        "http://h/",
-        "Page(200, Edges { items: [Edge { target: \"http://h/a\", kind: Link }, Edge { target: \"http://h/i.gif\", kind: Inline }, Edge { target: \"http://h/a\", kind: Link }] })",
-    ),
-    ("http://h/a", "Moved(302, \"http://k/\")"),
-    ("http://h/b", "Page(203, Edges { items: [] })"),
-    ("http://h/i.gif", "Leaf(999)"),
-    ("http://k/", "Fault(HeadLong)"),
-    (
-        "http://h/c",
-        "Page(200, Edges { items: [Edge { target: \"http://h/a\", kind: Link }] })",
-    ),
-    ("http://h/z", "Leaf(404)"),
-];
+// What the map of `SITE` says of each address, a row for each; it doesn't name the last.
+const ANSWERS: &str =
+    "http://h/ Page(200, Edges { items: [Edge { target: \"http://h/a\", kind: Link }, Edge { target: \"http://h/i.gif\", kind: Inline }, Edge { target: \"http://h/a\", kind: Link }] })
+http://h/a Moved(302, \"http://k/\")
+http://h/b Page(203, Edges { items: [] })
+http://h/i.gif Leaf(999)
+http://k/ Fault(HeadLong)
+http://h/c Page(200, Edges { items: [Edge { target: \"http://h/a\", kind: Link }] })
+http://h/z Leaf(404)
+";
 
-fn asked(site: &mut MapSite, alloc: Global, at: &str) -> Result<Answer, Fail> {
-    Ok(site.ask(&Address::read(alloc, at)?)?)
+fn address(rt: &impl Abort, alloc: Global, text: &str) -> Address {
+    Address::read(alloc, text).expect(rt, "an address")
+}
+
+fn site_of(rt: &impl Abort, alloc: Global, map: &str) -> MapSite {
+    let Ok(site) = MapSite::read(alloc, map.as_bytes()) else {
+        panic!(rt; "no map");
+    };
+    site
+}
+
+// Whether the answer has this outcome and no body.
+fn is_answered(rt: &impl Abort, alloc: Global, answer: &Answer, outcome: &str) -> bool {
+    let text = format!(in alloc; "{:?}", answer.outcome).expect(rt, "memory");
+    text.as_str() == outcome && answer.body.as_slice().is_empty()
+}
+
+// Whether the site says of an address what stands behind it.
+fn says(rt: &impl Abort, alloc: Global, site: &mut MapSite, row: &str) -> bool {
+    let (at, outcome) = row.split_once(' ').unwrap_or((row, ""));
+    let answer = site.ask(&address(rt, alloc, at)).expect(rt, "memory");
+    is_answered(rt, alloc, &answer, outcome)
 }
 
 #[test]
-fn a_map_says_what_its_lines_say(rt: HostRuntime) -> Result<(), Fail> {
-    let alloc = rt.alloc();
-    let mut site = MapSite::read(alloc, SITE.as_bytes())?;
-    for (at, outcome) in ANSWERS {
-        let answer = asked(&mut site, alloc, at)?;
-        assert!(rt;
-            format!(in alloc; "{:?}", answer.outcome)?.as_str() == outcome,
-            "at {at}"
-        );
-        assert!(rt; answer.body.as_slice().is_empty());
+fn a_map_says_what_its_lines_say(rt: HostRuntime) {
+    let mut site = site_of(&rt, rt.alloc(), SITE);
+    for row in ANSWERS.lines() {
+        assert!(rt; says(&rt, rt.alloc(), &mut site, row), "{row}");
     }
     assert_eq!(rt; site.asks().len(), 7);
-    Ok(())
 }
 
-// The first bad line of each text.
-const BAD: [(&str, InputFault); 38] = [
-    // no form
-    ("robots http://h/ all", InputFault::Line(1)),
-    ("robots http://h/ none\r", InputFault::Line(1)),
-    ("robots", InputFault::Line(1)),
-    ("robots http://h/\nallows /a", InputFault::Line(2)),
-    ("robots http://h/\nallow\t/a", InputFault::Line(2)),
-    ("page 0200 http://h/", InputFault::Line(1)),
-    ("page 199 http://h/", InputFault::Line(1)),
-    ("page 300 http://h/", InputFault::Line(1)),
-    ("page +20 http://h/", InputFault::Line(1)),
-    ("leaf 199 http://h/", InputFault::Line(1)),
-    ("leaf 1000 http://h/", InputFault::Line(1)),
-    ("moved 304 http://h/ http://h/x", InputFault::Line(1)),
-    ("moved 301 http://h/", InputFault::Line(1)),
-    ("fault Connect http://h/", InputFault::Line(1)),
-    ("page  200 http://h/", InputFault::Line(1)),
-    ("page 200 http://h/ ", InputFault::Line(1)),
-    ("page", InputFault::Line(1)),
-    ("\r\n", InputFault::Line(1)),
-    ("\u{feff}page 200 http://h/", InputFault::Line(1)),
-    // out of place
-    ("link http://h/a", InputFault::Line(1)),
-    ("allow /a", InputFault::Line(1)),
-    ("page 200 http://h/\nallow /a", InputFault::Line(2)),
-    ("robots http://h/ none\nallow /a", InputFault::Line(2)),
-    (
-        "robots http://h/\ndisallow\npage 200 http://h/\ndisallow",
-        InputFault::Line(4),
-    ),
-    (
-        "page 200 http://h/\nrobots http://h/\nlink http://h/a",
-        InputFault::Line(3),
-    ),
-    (
-        "page 200 http://h/\nleaf 200 http://h/a\nlink a",
-        InputFault::Line(3),
-    ),
-    // a refused address
-    ("leaf 200 https://h/", InputFault::Address(1)),
-    ("page 200 ", InputFault::Address(1)),
-    ("page 200 http://h/\n\ninline a", InputFault::Address(3)),
-    (
-        "leaf 200 http://h/\nmoved 301 http://h/ a",
-        InputFault::Address(2),
-    ),
-    ("robots ", InputFault::Address(1)),
-    ("robots a none", InputFault::Address(1)),
-    // a robots address with a path or a query
-    ("robots http://h/a", InputFault::Line(1)),
-    ("robots http://h/?", InputFault::Line(1)),
-    // a repetition
-    (
-        "robots http://h/\n#\nrobots http://k/\nrobots HTTP://h:80 none",
-        InputFault::Line(4),
-    ),
-    (
-        "robots http://h/ none\nrobots http://h/x",
-        InputFault::Line(2),
-    ),
-    (
-        "page 200 http://h/\nlink http://h/\nleaf 200 HTTP://H",
-        InputFault::Line(3),
-    ),
-    (
-        "leaf 200 http://h/\nleaf 404 http://h/\nx\nleaf 200 a",
-        InputFault::Line(2),
-    ),
-];
+// Bad texts: which line is named, and behind it the text up to its `;`, a line feed written `|`. First such as have no form,
+// then what is out of place, refused addresses, a robots address with a path or a query, and repetitions.
+const BAD: &str = "line 1: robots http://h/ all;
+line 1: robots http://h/ none\r;
+line 1: robots;
+line 2: robots http://h/|allows /a;
+line 2: robots http://h/|allow\t/a;
+line 1: page 0200 http://h/;
+line 1: page 199 http://h/;
+line 1: page 300 http://h/;
+line 1: page +20 http://h/;
+line 1: leaf 199 http://h/;
+line 1: leaf 1000 http://h/;
+line 1: moved 304 http://h/ http://h/x;
+line 1: moved 301 http://h/;
+line 1: fault Connect http://h/;
+line 1: page  200 http://h/;
+line 1: page 200 http://h/ ;
+line 1: page;
+line 1: \r|;
+line 1: \u{feff}page 200 http://h/;
+line 1: link http://h/a;
+line 1: allow /a;
+line 2: page 200 http://h/|allow /a;
+line 2: robots http://h/ none|allow /a;
+line 4: robots http://h/|disallow|page 200 http://h/|disallow;
+line 3: page 200 http://h/|robots http://h/|link http://h/a;
+line 3: page 200 http://h/|leaf 200 http://h/a|link a;
+address 1: leaf 200 https://h/;
+address 1: page 200 ;
+address 3: page 200 http://h/||inline a;
+address 2: leaf 200 http://h/|moved 301 http://h/ a;
+address 1: robots ;
+address 1: robots a none;
+line 1: robots http://h/a;
+line 1: robots http://h/?;
+line 4: robots http://h/|#|robots http://k/|robots HTTP://h:80 none;
+line 2: robots http://h/ none|robots http://h/x;
+line 3: page 200 http://h/|link http://h/|leaf 200 HTTP://H;
+line 2: leaf 200 http://h/|leaf 404 http://h/|x|leaf 200 a;
+";
 
-fn fault_of(alloc: Global, text: &[u8]) -> Option<InputFault> {
-    match MapSite::read(alloc, text) {
-        Ok(_) => None,
-        Err(fault) => Some(fault),
+// The text of a row.
+fn text_of(rt: &impl Abort, alloc: Global, row: &str) -> String {
+    let mut text = String::new(alloc);
+    for byte in row.chars() {
+        let byte = if byte == '|' { '\n' } else { byte };
+        text.push(byte).expect(rt, "memory");
+    }
+    text
+}
+
+// Which line of the map is bad.
+fn fault_of(rt: &impl Abort, alloc: Global, map: &[u8]) -> String {
+    match MapSite::read(alloc, map) {
+        Ok(_) => String::new(alloc),
+        Err(fault) => format!(in alloc; "{fault}").expect(rt, "memory"),
     }
 }
 
 #[test]
 fn the_first_bad_line_is_named(rt: HostRuntime) {
-    for (text, fault) in BAD {
+    let alloc = rt.alloc();
+    for row in BAD.lines() {
+        let (line, map) = row.split_once(": ").unwrap_or((row, ""));
+        let map = text_of(&rt, alloc, map.strip_suffix(";").unwrap_or(map));
         assert!(rt;
-            fault_of(rt.alloc(), text.as_bytes()) == Some(fault),
-            "{text}"
+            fault_of(&rt, alloc, map.as_bytes()).as_str() == line,
+            "{row}"
         );
     }
-    assert!(rt; fault_of(rt.alloc(), b"\n# \xff\n") == Some(InputFault::Line(2)));
-    assert!(rt; fault_of(rt.alloc(), b"").is_none());
-    assert!(rt; fault_of(rt.alloc(), b"#\xc3\xa9\npage 200 http://h/\r\n").is_none());
+    assert!(rt; fault_of(&rt, alloc, b"\n# \xff\n").as_str() == "line 2");
+    assert!(rt; fault_of(&rt, alloc, b"").is_empty());
+    assert!(rt; fault_of(&rt, alloc, b"#\xc3\xa9\npage 200 http://h/\r\n").is_empty());
 }
 
 const ROBOTS: &str = "robots http://h/
@@ -162,67 +154,80 @@ disallow /a#b
 disallow /a*.gif$
 ";
 
-// Whether this agent may ask an origin of that map for a path (RFC 9309, section 2.2.2).
-const ALLOWED: [(&str, &str, bool); 9] = [
-    ("http://h/", "/a", false),
-    ("http://h/", "/a/b?c", true),
-    ("http://h/", "/", true),
-    ("http://k/", "/", false),
-    ("http://k/", "/a/b", false),
-    ("http://l/", "/a", true),
-    ("http://l/", "/a/b.gif", false),
-    ("http://l/", "/a/b.gif?c", true),
-    ("http://h:81/", "/a", true),
-];
+// Whether this agent may ask an origin of that map for a path (RFC 9309, section 2.2.2), a row for each.
+const ALLOWED: &str = "http://h/ /a no
+http://h/ /a/b?c yes
+http://h/ / yes
+http://k/ / no
+http://k/ /a/b no
+http://l/ /a yes
+http://l/ /a/b.gif no
+http://l/ /a/b.gif?c yes
+http://h:81/ /a yes
+";
+
+// Whether the site's rules say of an origin and a path what stands behind these.
+fn rules(rt: &impl Abort, alloc: Global, site: &mut MapSite, row: &str) -> bool {
+    let mut words = row.split(' ');
+    let root = words.next().unwrap_or("");
+    let path = words.next().unwrap_or("");
+    let origin = Origin::of(&address(rt, alloc, root)).expect(rt, "memory");
+    let rules = site.ask_robots(&origin).expect(rt, "memory");
+    rules.allows(path) == (words.next() == Some("yes"))
+}
 
 #[test]
-fn a_map_has_the_rules_of_its_robots_lines(rt: HostRuntime) -> Result<(), Fail> {
-    let alloc = rt.alloc();
-    let mut site = MapSite::read(alloc, ROBOTS.as_bytes())?.try_clone()?;
-    for (root, path, allowed) in ALLOWED {
-        let origin = Origin::of(&Address::read(alloc, root)?)?;
-        let rules = site.ask_robots(&origin)?;
-        assert!(rt; rules.allows(path) == allowed, "{root} {path}");
+fn a_map_has_the_rules_of_its_robots_lines(rt: HostRuntime) {
+    let first = site_of(&rt, rt.alloc(), ROBOTS);
+    let mut site = first.try_clone().expect(&rt, "memory");
+    for row in ALLOWED.lines() {
+        assert!(rt; rules(&rt, rt.alloc(), &mut site, row), "{row}");
     }
     assert_eq!(rt; site.asks().len(), 9);
-    Ok(())
 }
 
 // The outcome's text, and the log's after one more ask, of any steady site.
 fn steady_text<F: SteadyFetcher>(
+    rt: &impl Abort,
     alloc: Global,
     fetcher: &mut F,
     at: &Address,
-) -> Result<String, AllocError> {
-    let outcome = fetcher.ask(at)?.outcome;
-    let _rules = fetcher.ask_robots(&Origin::of(at)?)?;
-    format!(in alloc; "{outcome:?} {:?}", fetcher.asks())
+) -> String {
+    let answer = fetcher.ask(at).expect(rt, "memory");
+    let origin = Origin::of(at).expect(rt, "memory");
+    let _rules = fetcher.ask_robots(&origin).expect(rt, "memory");
+    let asks = fetcher.asks();
+    format!(in alloc; "{:?} {asks:?}", answer.outcome).expect(rt, "memory")
 }
 
 #[test]
-fn a_map_without_fault_lines_is_steady(rt: HostRuntime) -> Result<(), Fail> {
+fn a_map_with_a_fault_line_is_not_steady(rt: HostRuntime) {
     let alloc = rt.alloc();
-    let at = Address::read(alloc, "http://h/")?;
-    match MapSite::read(alloc, SITE.as_bytes())?.steady() {
-        Ok(_) => return Err(Fail::new("a map with a fault line")),
-        Err(mut site) => assert!(rt; site.ask(&at)?.outcome.edge_count() == 3),
-    }
-    match MapSite::read(alloc, ROBOTS.as_bytes())?.steady() {
-        Ok(site) => {
-            let text = steady_text(alloc, &mut site.try_clone()?, &at)?;
-            assert!(rt;
-                text.as_str()
-                    == "Page(200, Edges { items: [] }) [Page(\"http://h/\"), Rules(\"http://h\")]"
-            );
-        }
-        Err(_) => return Err(Fail::new("a map without fault lines")),
-    }
-    Ok(())
+    let Err(mut site) = site_of(&rt, alloc, SITE).steady() else {
+        panic!(rt; "a map with a fault line");
+    };
+    let at = address(&rt, alloc, "http://h/");
+    let answer = site.ask(&at).expect(&rt, "memory");
+    assert!(rt; answer.outcome.edge_count() == 3);
 }
 
 #[test]
-fn a_fault_is_told_with_its_line(rt: HostRuntime) -> Result<(), Fail> {
+fn a_map_without_fault_lines_is_steady(rt: HostRuntime) {
+    let alloc = rt.alloc();
+    let Ok(first) = site_of(&rt, alloc, ROBOTS).steady() else {
+        panic!(rt; "a map without fault lines");
+    };
+    let mut site = first.try_clone().expect(&rt, "memory");
+    let at = address(&rt, alloc, "http://h/");
+    assert!(rt;
+        steady_text(&rt, alloc, &mut site, &at).as_str()
+            == "Page(200, Edges { items: [] }) [Page(\"http://h/\"), Rules(\"http://h\")]"
+    );
+}
+
+#[test]
+fn a_fault_is_told_with_its_line(rt: HostRuntime) {
     let fault = InputFault::Address(12);
-    assert!(rt; format!(in rt.alloc(); "{fault}")?.as_str() == "address 12");
-    Ok(())
+    let text = format!(in rt.alloc(); "{fault}").expect(&rt, "memory");
+    assert!(rt; text.as_str() == "address 12");
 }

@@ -2,52 +2,71 @@
 use address::Address;
 use fetcher::{Ask, Body, Edge, EdgeKind, Edges, FaultKind, Outcome};
 use std::alloc::Global;
-use std::test::Fail;
+use std::process::Abort;
+
+fn address(rt: &impl Abort, alloc: Global, text: &str) -> Address {
+    Address::read(alloc, text).expect(rt, "an address")
+}
 
 // A page with these edges to `http://h/a`.
-fn page(alloc: Global, kinds: &[EdgeKind]) -> Result<Outcome, Fail> {
+fn page(rt: &impl Abort, alloc: Global, kinds: &[EdgeKind]) -> Outcome {
     let mut edges = Vec::new(alloc);
     for kind in kinds {
-        edges.push(Edge {
-            target: Address::read(alloc, "http://h/a")?,
+        let edge = Edge {
+            target: address(rt, alloc, "http://h/a"),
             kind: *kind,
-        })?;
+        };
+        edges.push(edge).expect(rt, "memory");
     }
-    Ok(Outcome::Page(200, Edges::new(edges)?))
+    Outcome::Page(200, Edges::new(edges).expect(rt, "memory"))
+}
+
+// The outcome of a number below 9; each number has another.
+fn outcome(rt: &impl Abort, alloc: Global, number: u32) -> Outcome {
+    match number {
+        0 => page(rt, alloc, &[]),
+        1 => page(rt, alloc, &[EdgeKind::Link]),
+        2 => page(rt, alloc, &[EdgeKind::Inline]),
+        3 => page(rt, alloc, &[EdgeKind::Link, EdgeKind::Inline]),
+        4 => Outcome::Moved(302, address(rt, alloc, "http://k/")),
+        5 => Outcome::Moved(302, address(rt, alloc, "http://k/a")),
+        6 => Outcome::Leaf(999),
+        7 => Outcome::Fault(FaultKind::HeadLong),
+        _ => Outcome::Fault(FaultKind::Head),
+    }
+}
+
+// Whether a copy of the one is the same as the other.
+fn is_same(rt: &impl Abort, one: &Outcome, other: &Outcome) -> bool {
+    one.try_clone().expect(rt, "memory").same(other)
 }
 
 #[test]
-fn outcomes_are_the_same_where_all_parts_are(rt: HostRuntime) -> Result<(), Fail> {
-    let alloc = rt.alloc();
-    let outcomes = [
-        page(alloc, &[])?,
-        page(alloc, &[EdgeKind::Link])?,
-        page(alloc, &[EdgeKind::Inline])?,
-        page(alloc, &[EdgeKind::Link, EdgeKind::Inline])?,
-        Outcome::Moved(302, Address::read(alloc, "http://k/")?),
-        Outcome::Moved(302, Address::read(alloc, "http://k/a")?),
-        Outcome::Leaf(999),
-        Outcome::Fault(FaultKind::HeadLong),
-        Outcome::Fault(FaultKind::Head),
-    ];
-    for k in 0..outcomes.len() {
-        for j in 0..outcomes.len() {
-            assert!(rt; outcomes[k].try_clone()?.same(&outcomes[j]) == (k == j));
+fn outcomes_are_the_same_where_all_parts_are(rt: HostRuntime) {
+    for k in 0..9 {
+        for j in 0..9 {
+            let one = outcome(&rt, rt.alloc(), k);
+            let other = outcome(&rt, rt.alloc(), j);
+            assert!(rt; is_same(&rt, &one, &other) == (k == j), "{k} {j}");
         }
     }
     assert!(rt; FaultKind::of_word("body-long") == Some(FaultKind::BodyLong));
-    Ok(())
+}
+
+// Whether a copy of the ask is for the page of this address.
+fn asks_for(rt: &impl Abort, ask: &Ask, text: &str) -> bool {
+    match ask.try_clone().expect(rt, "memory") {
+        Ask::Page(address) => address.as_str() == text,
+        Ask::Rules(_) => false,
+    }
 }
 
 #[test]
-fn parts_come_back_as_they_were(rt: HostRuntime) -> Result<(), Fail> {
+fn parts_come_back_as_they_were(rt: HostRuntime) {
     let alloc = rt.alloc();
-    let bytes = Body::new([7, 8].to_vec(alloc)?).into_vec();
-    assert!(rt; bytes.as_slice() == [7, 8].as_slice());
-    match Ask::Page(Address::read(alloc, "http://h/")?).try_clone()? {
-        Ask::Page(address) => assert!(rt; address.as_str() == "http://h/"),
-        Ask::Rules(_) => return Err(Fail::new("page")),
-    }
+    let bytes = [7, 8].to_vec(alloc).expect(&rt, "memory");
+    assert!(rt; Body::new(bytes).into_vec().as_slice() == [7, 8].as_slice());
+    let ask = Ask::Page(address(&rt, alloc, "http://h/"));
+    assert!(rt; asks_for(&rt, &ask, "http://h/"));
     assert!(rt; FaultKind::HeadLong.word() == "head-long");
-    Ok(())
 }

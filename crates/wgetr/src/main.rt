@@ -3,8 +3,6 @@
 #![tactic(auto)]
 
 mod network;
-#[cfg(test)]
-mod tests;
 
 use network::Network;
 use progress::{BehindLine, Progress};

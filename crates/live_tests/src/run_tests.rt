@@ -1,0 +1,922 @@
+//! Runs of the retriever on worked sites, told by maps and by records, on wrong words and inputs, and over readers and writers
+//! that fail; the program over three streams. The form of the texts is told in `texts.rt`.
+use crate::texts::{arguments_of, behind, status_of, text_of, words_of};
+use address::Address;
+use follow_filters::Plan;
+use local_tree::{Folder, MemoryFolder, WriteFault, names, write_site};
+use options::read_order;
+use retriever::{ReadFault, System, read_input, run, run_program};
+use site_answer::{HttpFetcher, MemoryConnect, StoredAnswer};
+use site_records::RecordedSite;
+use std::alloc::{AllocError, Global};
+use std::env::Args;
+use std::io;
+use std::io::{Error, ErrorKind, Read, Write};
+use std::process::Abort;
+use std::sync::Wait;
+use std::thread::Threads;
+use workers::{Halt, Harvest, retrieve_in_order};
+
+/// Sites that are told by maps.
+const MAPPED: &str = "one page
+$ --map http://h/
+- page 200 http://h/
+> 0 200 http://h/ h/index.html
+> fetched 1 kept 1 refused 0 failed 0
+= 0
+
+two paths, the shorter found later
+$ -r -l 3 --map http://h/
+< page 200 http://h/
+< link http://h/a
+< link http://h/z
+< page 200 http://h/a
+< link http://h/b
+< page 200 http://h/b
+< link http://h/d
+< page 200 http://h/z
+< link http://h/d
+< page 200 http://h/d
+< link http://h/e
+< page 200 http://h/e
+< link http://h/f
+> 0 200 http://h/ h/index.html
+> 1 200 http://h/a h/a
+> 2 200 http://h/b h/b
+> 2 200 http://h/d h/d
+> 3 200 http://h/e h/e
+> 1 200 http://h/z h/z
+> fetched 6 kept 6 refused 0 failed 0
+= 0
+
+two redirects in a ring
+$ --map http://h/
+< moved 301 http://h/ http://h/x
+< moved 302 http://h/x http://h/
+> 0 301 http://h/ -
+> 0 302 http://h/x -
+> fetched 2 kept 0 refused 0 failed 0
+= 0
+
+a redirect is no hop
+$ -r -l 1 --map http://h/
+< page 200 http://h/
+< link http://h/m
+< moved 301 http://h/m http://h/n
+< page 200 http://h/n
+< link http://h/o
+> 0 200 http://h/ h/index.html
+> 1 301 http://h/m -
+> 1 200 http://h/n h/n
+> fetched 3 kept 2 refused 0 failed 0
+= 0
+
+the manual's site, not recursive
+$ --map http://h/1.html
+< page 200 http://h/1.html
+< inline http://h/1.gif
+< link http://h/2.html
+< leaf 200 http://h/1.gif
+< page 200 http://h/2.html
+< inline http://h/2.gif
+< link http://h/3.html
+< leaf 200 http://h/2.gif
+< page 200 http://h/3.html
+< inline http://h/3.gif
+< leaf 200 http://h/3.gif
+> 0 200 http://h/1.html h/1.html
+> fetched 1 kept 1 refused 0 failed 0
+= 0
+
+the manual's site, not recursive, with a level
+$ -l 3 --map http://h/1.html
+< page 200 http://h/1.html
+< inline http://h/1.gif
+< link http://h/2.html
+< leaf 200 http://h/1.gif
+< page 200 http://h/2.html
+< inline http://h/2.gif
+< link http://h/3.html
+< leaf 200 http://h/2.gif
+< page 200 http://h/3.html
+< inline http://h/3.gif
+< leaf 200 http://h/3.gif
+> 0 200 http://h/1.html h/1.html
+> fetched 1 kept 1 refused 0 failed 0
+= 0
+
+the manual's site, one level
+$ -r -l 1 --map http://h/1.html
+< page 200 http://h/1.html
+< inline http://h/1.gif
+< link http://h/2.html
+< leaf 200 http://h/1.gif
+< page 200 http://h/2.html
+< inline http://h/2.gif
+< link http://h/3.html
+< leaf 200 http://h/2.gif
+< page 200 http://h/3.html
+< inline http://h/3.gif
+< leaf 200 http://h/3.gif
+> 1 200 http://h/1.gif h/1.gif
+> 0 200 http://h/1.html h/1.html
+> 1 200 http://h/2.html h/2.html
+> fetched 3 kept 3 refused 0 failed 0
+= 0
+
+the manual's site, two levels, the level first
+$ -l 2 -r --map http://h/1.html
+< page 200 http://h/1.html
+< inline http://h/1.gif
+< link http://h/2.html
+< leaf 200 http://h/1.gif
+< page 200 http://h/2.html
+< inline http://h/2.gif
+< link http://h/3.html
+< leaf 200 http://h/2.gif
+< page 200 http://h/3.html
+< inline http://h/3.gif
+< leaf 200 http://h/3.gif
+> 1 200 http://h/1.gif h/1.gif
+> 0 200 http://h/1.html h/1.html
+> 2 200 http://h/2.gif h/2.gif
+> 1 200 http://h/2.html h/2.html
+> 2 200 http://h/3.html h/3.html
+> fetched 5 kept 5 refused 0 failed 0
+= 0
+
+the manual's site, level 0 is no limit
+$ -r -l 0 --map http://h/1.html
+< page 200 http://h/1.html
+< inline http://h/1.gif
+< link http://h/2.html
+< leaf 200 http://h/1.gif
+< page 200 http://h/2.html
+< inline http://h/2.gif
+< link http://h/3.html
+< leaf 200 http://h/2.gif
+< page 200 http://h/3.html
+< inline http://h/3.gif
+< leaf 200 http://h/3.gif
+> 1 200 http://h/1.gif h/1.gif
+> 0 200 http://h/1.html h/1.html
+> 2 200 http://h/2.gif h/2.gif
+> 1 200 http://h/2.html h/2.html
+> 3 200 http://h/3.gif h/3.gif
+> 2 200 http://h/3.html h/3.html
+> fetched 6 kept 6 refused 0 failed 0
+= 0
+
+the manual's site, no limit
+$ -r -l inf --map http://h/1.html
+< page 200 http://h/1.html
+< inline http://h/1.gif
+< link http://h/2.html
+< leaf 200 http://h/1.gif
+< page 200 http://h/2.html
+< inline http://h/2.gif
+< link http://h/3.html
+< leaf 200 http://h/2.gif
+< page 200 http://h/3.html
+< inline http://h/3.gif
+< leaf 200 http://h/3.gif
+> 1 200 http://h/1.gif h/1.gif
+> 0 200 http://h/1.html h/1.html
+> 2 200 http://h/2.gif h/2.gif
+> 1 200 http://h/2.html h/2.html
+> 3 200 http://h/3.gif h/3.gif
+> 2 200 http://h/3.html h/3.html
+> fetched 6 kept 6 refused 0 failed 0
+= 0
+
+names that are accepted
+$ -r -l 1 -A gif --map http://h/
+< page 200 http://h/
+< link http://h/page.html
+< link http://h/pic.gif
+< link http://h/pic.gif?x=1
+< link http://h/pic.GIF
+< leaf 200 http://h/page.html
+< leaf 200 http://h/pic.gif
+< leaf 200 http://h/pic.gif?x=1
+< leaf 200 http://h/pic.GIF
+> 0 200 http://h/ -
+> 1 200 http://h/page.html -
+> 1 200 http://h/pic.gif h/pic.gif
+> 1 200 http://h/pic.gif?x=1 h/pic.gif?x=1
+> fetched 4 kept 2 refused 0 failed 0
+= 0
+
+as many addresses as may be held
+$ -r --max-urls 3 --map http://h/
+< page 200 http://h/
+< link http://h/a
+< link http://h/b
+< leaf 200 http://h/a
+< leaf 200 http://h/b
+> 0 200 http://h/ h/index.html
+> 1 200 http://h/a h/a
+> 1 200 http://h/b h/b
+> fetched 3 kept 3 refused 0 failed 0
+= 0
+
+one address more than may be held
+$ -r --max-urls 3 --map http://h/
+< page 200 http://h/
+< link http://h/a
+< link http://h/b
+< link http://h/c
+> stopped full
+= 1
+
+an address that robots rules refuse, behind a trace
+$ -r --trace --workers 1 --map http://h/
+< page 200 http://h/
+< link http://h/s/1
+< link http://h/t
+< leaf 200 http://h/s/1
+< leaf 200 http://h/t
+< robots http://h/
+< disallow /s
+> opened http://h/
+> page 0 http://h/
+> answer 0 http://h/
+> spread 0 http://h/ 2
+> rules 0 http://h
+> ruled 0 http://h
+> page 0 http://h/t
+> answer 0 http://h/t
+> 0 200 http://h/ h/index.html
+> 1 rob http://h/s/1 -
+> 1 200 http://h/t h/t
+> fetched 2 kept 2 refused 1 failed 0
+= 0
+
+the same, with robots off
+$ -r -e robots=off --map http://h/
+< page 200 http://h/
+< link http://h/s/1
+< link http://h/t
+< leaf 200 http://h/s/1
+< leaf 200 http://h/t
+< robots http://h/
+< disallow /s
+> 0 200 http://h/ h/index.html
+> 1 200 http://h/s/1 h/s/1
+> 1 200 http://h/t h/t
+> fetched 3 kept 3 refused 0 failed 0
+= 0
+
+a trace before its report
+$ -r -l 1 --trace --workers 1 -e robots=off --map http://h/
+< page 200 http://h/
+< link http://h/m
+< moved 301 http://h/m http://h/n
+< page 200 http://h/n
+< link http://h/o
+> opened http://h/
+> page 0 http://h/
+> answer 0 http://h/
+> spread 0 http://h/ 1
+> page 0 http://h/m
+> answer 0 http://h/m
+> spread 1 http://h/m 1
+> page 0 http://h/n
+> answer 0 http://h/n
+> spread 1 http://h/n 1
+> 0 200 http://h/ h/index.html
+> 1 301 http://h/m -
+> 1 200 http://h/n h/n
+> fetched 3 kept 2 refused 0 failed 0
+= 0
+
+a trace before the line of a stop
+$ -r --trace --workers 1 --max-urls 1 -e robots=off --map http://h/
+< page 200 http://h/
+< link http://h/a
+> opened http://h/
+> page 0 http://h/
+> answer 0 http://h/
+> part 0 http://h/ 0
+> stop full
+> stopped full
+= 1
+
+a start that the map doesn't name
+$ --map http://h/
+> 0 404 http://h/ -
+> fetched 1 kept 0 refused 0 failed 1
+= 8
+
+a fault, and a page that isn't there
+$ -r --map http://h/
+< page 200 http://h/
+< link http://h/a
+< link http://h/b
+< fault connect http://h/a
+> 0 200 http://h/ h/index.html
+> 1 connect http://h/a -
+> 1 404 http://h/b -
+> fetched 3 kept 1 refused 0 failed 2
+= 4
+
+a fault of the protocol, and a page that isn't there
+$ -r --map http://h/
+< page 200 http://h/
+< link http://h/a
+< link http://h/b
+< fault head http://h/b
+> 0 200 http://h/ h/index.html
+> 1 404 http://h/a -
+> 1 head http://h/b -
+> fetched 3 kept 1 refused 0 failed 2
+= 7
+
+pages whose names clash
+$ -r --map http://h/
+< page 200 http://h/
+< link http://h/a/b
+< link http://h/a
+< leaf 200 http://h/a
+< leaf 200 http://h/a/b
+> 0 200 http://h/ h/index.html
+> 1 200 http://h/a h/a.1
+> 1 200 http://h/a/b h/a/b
+> fetched 3 kept 3 refused 0 failed 0
+= 0
+
+five levels where none is given
+$ -r --map http://h/0
+< page 200 http://h/0
+< link http://h/1
+< page 200 http://h/1
+< link http://h/2
+< page 200 http://h/2
+< link http://h/3
+< page 200 http://h/3
+< link http://h/4
+< page 200 http://h/4
+< link http://h/5
+< page 200 http://h/5
+< link http://h/6
+> 0 200 http://h/0 h/0
+> 1 200 http://h/1 h/1
+> 2 200 http://h/2 h/2
+> 3 200 http://h/3 h/3
+> 4 200 http://h/4 h/4
+> 5 200 http://h/5 h/5
+> fetched 6 kept 6 refused 0 failed 0
+= 0
+
+an edge without a page
+$ --map http://h/
+< link http://h/a
+> input line 1
+= 2
+
+an address that is refused
+$ --map http://h/
+< leaf 200 https://h/
+> input address 1
+= 2
+
+a level that is no number, before the start
+$ -l +1 --map https://h/
+> line depth
+= 2
+
+a level above the greatest
+$ -l 1000001 --map http://h/
+> line depth
+= 2
+
+the greatest level, with a zero before it
+$ -r -l 01000000 --map http://h/
+- leaf 200 http://h/
+> 0 200 http://h/ h/index.html
+> fetched 1 kept 1 refused 0 failed 0
+= 0
+
+an empty start
+$ --map ''
+> line start not-url
+= 2
+
+another scheme
+$ https://h/
+> line start not-http
+= 2
+
+a user name
+$ http://u@h/
+> line start user-info
+= 2
+
+a robots file
+$ http://h/robots.txt
+> line start-robots
+= 2
+
+a level before a start
+$ -l x https://h/
+> line depth
+= 2
+
+a class that isn't closed
+$ -A [a http://h/
+> line pattern
+= 2
+
+a directory without a slash
+$ -I a http://h/
+> line directory
+= 2
+
+a domain with a slash
+$ -D a/b http://h/
+> line domain
+= 2
+
+two starts
+$ http://h/ http://k/
+> line words
+= 2
+
+a site on the network
+$ http://h/
+> line no-site
+= 2";
+
+/// Sites that are told by records.
+const RECORDED: &str = "a recorded page, and a link that the record doesn't name
+$ -r --record http://h/
+< wgetr-record 1
+< page http://h/ 54
+< HTTP/1.1 200 OK|Content-Type: text/html||<a href=b>
+> 0 200 http://h/ h/index.html
+> 1 404 http://h/b -
+> fetched 2 kept 1 refused 0 failed 1
+= 8
+
+the record of examples/page.record
+$ -r --record http://h/
+< wgetr-record 1
+< page http://h/ 54
+< HTTP/1.1 200 OK|Content-Type: text/html||<a href=b>
+< fault connect http://h/b
+< robots http://h/ 27
+< User-agent: *
+< Disallow: /b/
+< rules none http://k/
+> 0 200 http://h/ h/index.html
+> 1 connect http://h/b -
+> fetched 2 kept 1 refused 0 failed 1
+= 4
+
+a recorded page that asks that its links aren't followed
+$ -r --record http://h/
+< wgetr-record 1
+< page http://h/ 90
+< HTTP/1.1 200 OK|Content-Type: text/html||<meta name=robots content=\"a, NONE\"><a href=b>
+> 0 200 http://h/ h/index.html
+> fetched 1 kept 1 refused 0 failed 0
+= 0
+
+the same, with robots off
+$ -r -e robots=off --record http://h/
+< wgetr-record 1
+< page http://h/ 90
+< HTTP/1.1 200 OK|Content-Type: text/html||<meta name=robots content=\"a, NONE\"><a href=b>
+> 0 200 http://h/ h/index.html
+> 1 404 http://h/b -
+> fetched 2 kept 1 refused 0 failed 1
+= 8
+
+a map counts before a record
+$ --record --map http://h/
+- leaf 200 http://h/
+> 0 200 http://h/ h/index.html
+> fetched 1 kept 1 refused 0 failed 0
+= 0
+
+a record of another version
+$ -r --record http://h/
+< wgetr-record 3
+> input line 1
+= 2
+
+a record without its last line feed
+$ -r --record http://h/
+< wgetr-record 1
+< page http://h/ 54
+- HTTP/1.1 200 OK|Content-Type: text/html||<a href=b>
+> input line 2
+= 2
+
+a record of an address that is refused
+$ --record http://h/
+< wgetr-record 1
+< fault connect http://k/
+< rules all https://h/
+> input address 3
+= 2";
+
+/// Whether a run by so many workers comes out as it says.
+fn comes_out<R: Abort + Threads + Wait + Sync>(
+    rt: &R,
+    alloc: Global,
+    text: &str,
+    workers: &str,
+) -> bool {
+    let words = words_of(rt, alloc, workers, behind(text, "$"));
+    let input = text_of(rt, alloc, text, "<", "-");
+    let wanted = text_of(rt, alloc, text, ">", "none");
+    let mut written: Vec<u8> = Vec::new(alloc);
+    let status = run(rt, alloc, &words, &mut input.as_slice(), &mut written);
+    written.as_slice() == wanted.as_slice() && status == status_of(text)
+}
+
+/// Goes through these runs.
+fn come_out<R: Abort + Threads + Wait + Sync>(rt: &R, alloc: Global, runs: &str, workers: &str) {
+    for text in runs.split("\n\n") {
+        assert!(rt; comes_out(rt, alloc, text, workers), "{workers} {text}");
+    }
+}
+
+#[test]
+fn runs_write_what_was_worked_out(rt: HostRuntime) {
+    come_out(&rt, rt.alloc(), MAPPED, "");
+}
+
+#[test]
+fn runs_of_records_write_what_was_worked_out(rt: HostRuntime) {
+    come_out(&rt, rt.alloc(), RECORDED, "");
+}
+
+/// Sites that are retrieved by any number of workers.
+const CREWS: &str = "$ -r -l 2 --map http://h/
+< page 200 http://h/
+< link http://h/a
+< link http://h/s/1
+< link http://h/m
+< page 200 http://h/a
+< link http://h/b
+< page 200 http://h/b
+< link http://h/c
+< moved 301 http://h/m http://h/n
+< robots http://h/
+< disallow /s
+> 0 200 http://h/ h/index.html
+> 1 200 http://h/a h/a
+> 2 200 http://h/b h/b
+> 1 301 http://h/m -
+> 1 404 http://h/n -
+> 1 rob http://h/s/1 -
+> fetched 5 kept 3 refused 1 failed 1
+= 8
+
+$ -r --max-urls 2 --map http://h/
+< page 200 http://h/
+< link http://h/a
+< link http://h/b
+> stopped full
+= 1
+
+$ -r --record http://h/
+< wgetr-record 1
+< page http://h/ 90
+< HTTP/1.1 200 OK|Content-Type: text/html||<meta name=robots content=\"a, NONE\"><a href=b>
+> 0 200 http://h/ h/index.html
+> fetched 1 kept 1 refused 0 failed 0
+= 0";
+
+#[test]
+fn any_number_of_workers_writes_the_same(rt: HostRuntime) {
+    for workers in ["1", "2", "8", "64"] {
+        come_out(&rt, rt.alloc(), CREWS, workers);
+    }
+}
+
+/// Calls of the program.
+const CALLS: &str = "$ wgetr -l x https://h/
+> line depth
+! wgetr: the value of -l, --level is no level, in: -l x https://h/
+! a level is inf or decimal digits, at most 1000000
+= 2
+
+$ wgetr -r --workers 2 http://h/
+> 0 200 http://h/ h/index.html
+> 1 404 http://h/b -
+> fetched 2 kept 1 refused 0 failed 1
+= 8
+
+$ wgetr -q
+> line words
+! wgetr: unexpected argument found, in: -q
+? accepted are START
+= 2
+
+$ wgetr -h
+> line words
+? wgetr retrieves a site recursively
+= 2
+
+$ wgetr --help
+> line words
+? wgetr retrieves a site recursively
+= 2
+
+$ wgetr -r -l 1 -e robots=off --workers 1 --per-host 1 --map http://h/
+> 0 200 http://h/ h/index.html
+> 1 404 http://h/a -
+> fetched 2 kept 1 refused 0 failed 1
+= 8";
+
+/// A site on the network that is in memory: its start alone is stored. Its folder is let go with its files.
+#[derive(Drop)]
+struct Stored<'a> {
+    alloc: Global,
+    answers: &'a [StoredAnswer],
+}
+
+impl<'a> System for Stored<'a> {
+    ghost use Rattle.std.specs.Prelude.{◌≡◌, ⊤};
+
+    type Fetcher = HttpFetcher<MemoryConnect<'a>>;
+
+    type Folder = MemoryFolder;
+
+    ghost makes = { λ stored robots fetcher. fetcher.robots ≡ robots };
+
+    ghost opens = { λ stored path folder. ⊤ };
+
+    fn fetcher(&self, robots: bool) -> HttpFetcher<MemoryConnect<'a>> {
+        let connect = MemoryConnect::new(self.alloc, self.answers, &[]);
+        HttpFetcher::new(self.alloc, connect, robots)
+    }
+
+    fn folder(&self, _path: &str) -> Result<MemoryFolder, AllocError> {
+        Ok(MemoryFolder::new(self.alloc))
+    }
+}
+
+/// The start of the stored site.
+fn stored_start(rt: &impl Abort, alloc: Global) -> StoredAnswer {
+    let at = Address::read(alloc, "http://h/").expect(rt, "an address");
+    let text = b"HTTP/1.1 200 OK\r\nContent-Type: text/html\r\n\r\n<a href=b>";
+    let bytes = text.to_vec(alloc).expect(rt, "memory");
+    StoredAnswer { at, bytes }
+}
+
+/// Whether what a person is told begins as a call says, and is nothing where that says nothing.
+fn is_told(rt: &impl Abort, alloc: Global, call: &str, told: &[u8]) -> bool {
+    let wanted = text_of(rt, alloc, call, "!", "?");
+    told.starts_with(&wanted) && told.is_empty() == wanted.is_empty()
+}
+
+/// Whether the program comes out with these arguments as a call says.
+fn ends<R: Abort + Threads + Wait + Sync>(
+    rt: &R,
+    alloc: Global,
+    answers: &[StoredAnswer],
+    args: io::Result<Args>,
+    call: &str,
+) -> bool {
+    let mut written: Vec<u8> = Vec::new(alloc);
+    let mut told: Vec<u8> = Vec::new(alloc);
+    let status = run_program(
+        rt,
+        alloc,
+        &Stored { alloc, answers },
+        args,
+        &mut b"page 200 http://h/\nlink http://h/a\n".as_slice(),
+        &mut written,
+        &mut told,
+    );
+    let wanted = text_of(rt, alloc, call, ">", "none");
+    written.as_slice() == wanted.as_slice()
+        && status == status_of(call)
+        && is_told(rt, alloc, call, &told)
+}
+
+#[test]
+fn a_person_is_told_what_is_wrong_beside_the_line(rt: HostRuntime) {
+    let answers = [stored_start(&rt, rt.alloc())];
+    for call in CALLS.split("\n\n") {
+        let args = arguments_of(&rt, rt.alloc(), behind(call, "$"));
+        assert!(rt; ends(&rt, rt.alloc(), &answers, Ok(args), call), "{call}");
+    }
+}
+
+/// Calls whose arguments aren't UTF-8, and can't be had for want of memory.
+const NO_UTF8: &str = "> line words
+! wgetr: a word isn't UTF-8, in:
+? accepted are START
+= 2";
+
+const NO_MEMORY: &str = "> stopped memory
+= 1";
+
+#[test]
+fn arguments_that_cannot_be_had_end_the_program(rt: HostRuntime) {
+    for (kind, call) in [
+        (ErrorKind::InvalidData, NO_UTF8),
+        (ErrorKind::OutOfMemory, NO_MEMORY),
+    ] {
+        let args = Err(Error::from(kind));
+        assert!(rt; ends(&rt, rt.alloc(), &[], args, call), "{call}");
+    }
+}
+
+/// A reader that gives one byte at a time, and is interrupted before each until it has been so often.
+#[derive(Drop)]
+struct Hesitant<'a> {
+    rest: &'a [u8],
+    interrupted: u32,
+    is_ready: bool,
+}
+
+impl Read for Hesitant<'_> {
+    fn read(&mut self, room: &mut [u8]) -> io::Result<usize> {
+        if self.interrupted > 0 && !self.is_ready {
+            self.interrupted -= 1;
+            self.is_ready = true;
+            return Err(Error::from(ErrorKind::Interrupted));
+        }
+        self.is_ready = false;
+        let ([first, ..], [byte, rest @ ..]) = (room, self.rest) else {
+            return Ok(0);
+        };
+        *first = *byte;
+        self.rest = rest;
+        Ok(1)
+    }
+}
+
+/// A writer that takes one byte at a time, up to so many, and is interrupted before each until it has been so often; at the
+/// end it flushes, or is interrupted once more.
+#[derive(Drop)]
+struct Slow {
+    interrupted: u32,
+    is_ready: bool,
+    room: u32,
+    flushes: bool,
+}
+
+impl Write for Slow {
+    fn write(&mut self, text: &[u8]) -> io::Result<usize> {
+        if self.interrupted > 0 && !self.is_ready {
+            self.interrupted -= 1;
+            self.is_ready = true;
+            return Err(Error::from(ErrorKind::Interrupted));
+        }
+        self.is_ready = false;
+        if self.room > 0 && !text.is_empty() {
+            self.room -= 1;
+            return Ok(1);
+        }
+        Ok(0)
+    }
+
+    fn flush(&mut self) -> io::Result<()> {
+        if self.flushes {
+            return Ok(());
+        }
+        Err(Error::from(ErrorKind::Interrupted))
+    }
+}
+
+/// A front and so many letters.
+fn lengthened(rt: &impl Abort, alloc: Global, front: &str, letters: u32) -> String {
+    let mut text = String::from_str(alloc, front).expect(rt, "memory");
+    for _ in 0..letters {
+        text.push('a').expect(rt, "memory");
+    }
+    text
+}
+
+/// Whether a run on an input of 1,202 bytes that is interrupted so often comes out like this.
+fn bears<R: Abort + Threads + Wait + Sync>(
+    rt: &R,
+    alloc: Global,
+    interrupted: u32,
+    text: &str,
+    status: u8,
+) -> bool {
+    let input = lengthened(rt, alloc, "# ", 1_200);
+    let mut reader = Hesitant {
+        rest: input.as_bytes(),
+        interrupted,
+        is_ready: false,
+    };
+    let mut written: Vec<u8> = Vec::new(alloc);
+    let ended = run(
+        rt,
+        alloc,
+        &["--map", "http://h/"],
+        &mut reader,
+        &mut written,
+    );
+    written.as_slice() == text.as_bytes() && ended == status
+}
+
+#[test]
+fn interrupted_reads_are_counted_over_the_whole_input(rt: HostRuntime) {
+    let alloc = rt.alloc();
+    let whole = "0 404 http://h/ -\nfetched 1 kept 0 refused 0 failed 1\n";
+    assert!(rt; bears(&rt, alloc, 999, whole, 8));
+    assert!(rt; bears(&rt, alloc, 1000, "input read\n", 1));
+}
+
+/// How a run over such a writer ends whose address has 1,200 bytes, and whose report 1,245.
+fn ends_over<R: Abort + Threads + Wait + Sync>(rt: &R, alloc: Global, writer: &mut Slow) -> u8 {
+    let start = lengthened(rt, alloc, "http://h/", 1_191);
+    let words = ["--map", start.as_str()];
+    run(rt, alloc, &words, &mut b"".as_slice(), writer)
+}
+
+#[test]
+fn a_writer_that_fails_or_takes_nothing_ends_with_status_1(rt: HostRuntime) {
+    for (interrupted, room, flushes, status) in [
+        (999, 1_245, true, 8),
+        (1000, 1_245, true, 1),
+        (0, 1_244, true, 1),
+        (0, 0, true, 1),
+        (0, 1_245, false, 1),
+    ] {
+        let mut writer = Slow {
+            interrupted,
+            is_ready: false,
+            room,
+            flushes,
+        };
+        assert!(rt;
+            ends_over(&rt, rt.alloc(), &mut writer) == status,
+            "{interrupted} {room} {flushes}"
+        );
+    }
+}
+
+#[test]
+fn an_input_above_its_limit_is_long(rt: HostRuntime) {
+    let long = read_input(rt.alloc(), &mut b"abc".as_slice(), 2);
+    assert!(rt; long.err() == Some(ReadFault::Long));
+    let input = read_input(rt.alloc(), &mut b"abc".as_slice(), 3).expect(&rt, "the input");
+    assert!(rt; input.as_slice() == b"abc".as_slice());
+}
+
+/// Three pages, each with a body of its own.
+const THREE: &str =
+    "wgetr-record 1\npage http://h/ 64\nHTTP/1.1 200 OK\r\nContent-Type: text/html\r\n\r\n<a href=b><a href=c>\n\
+page http://h/b 20\nHTTP/1.1 200 OK\r\n\r\nb\npage http://h/c 20\nHTTP/1.1 200 OK\r\n\r\nc\n";
+
+/// Puts the pages that a retrieval kept into a folder. Gives how many files were put before the folder failed.
+fn put_kept(
+    alloc: Global,
+    folder: &mut MemoryFolder,
+    brought: &Result<Harvest, Halt>,
+) -> Result<usize, AllocError> {
+    let Ok(harvest) = brought else {
+        return Ok(0);
+    };
+    let given = names(alloc, harvest.kept())?;
+    match write_site(folder, given.as_slice(), harvest) {
+        Ok(()) => Ok(given.len()),
+        Err(WriteFault::Device(whole)) => Ok(whole),
+    }
+}
+
+/// Retrieves a site and puts what is kept into a folder.
+fn put_site(
+    alloc: Global,
+    folder: &mut MemoryFolder,
+    plan: &Plan,
+    site: &mut RecordedSite,
+) -> Result<usize, AllocError> {
+    let brought = retrieve_in_order(alloc, plan, site);
+    put_kept(alloc, folder, &brought)
+}
+
+/// Puts the three pages into a folder.
+fn put_three(rt: &impl Abort, alloc: Global, folder: &mut MemoryFolder) -> usize {
+    let Ok(order) = read_order(alloc, &["-r", "--record", "http://h/"]) else {
+        panic!(rt; "no order");
+    };
+    let Ok(mut site) = RecordedSite::read(alloc, THREE.as_bytes(), true) else {
+        panic!(rt; "no record");
+    };
+    put_site(alloc, folder, &order.plan, &mut site).expect(rt, "memory")
+}
+
+#[test]
+fn a_put_that_fails_leaves_the_files_before_it_whole(rt: HostRuntime) {
+    let mut folder = MemoryFolder::failing_at(rt.alloc(), 1);
+    assert!(rt; put_three(&rt, rt.alloc(), &mut folder) == 1);
+    assert!(rt; folder.file("h/index.html") == Some(b"<a href=b><a href=c>".as_slice()));
+    assert!(rt; folder.file("h/c").is_none());
+    assert_eq!(rt; folder.failures(), 1);
+    let mut folder = MemoryFolder::new(rt.alloc());
+    assert!(rt; put_three(&rt, rt.alloc(), &mut folder) == 3);
+    assert!(rt; folder.file("h/b") == Some(b"b".as_slice()));
+    assert!(rt; folder.file("h/c") == Some(b"c".as_slice()));
+}
