@@ -9,7 +9,8 @@ use crate::entry::Entry;
 use crate::named::sort_by_name;
 use crate::page::KeptPage;
 use address::{Address, Origin};
-use fetcher::{Body, Outcome};
+use bytes::Bytes;
+use fetcher::Outcome;
 use frontier_core::{Condition, Frontier};
 use robots_rules::RuleSet;
 use std::alloc::{AllocError, Global};
@@ -144,7 +145,7 @@ pub fn gather_entries(
 #[derive(Drop)]
 pub struct Parted {
     pub addresses: Vec<Address>,
-    pub bodies: Vec<Body>,
+    pub bodies: Vec<Bytes>,
 }
 
 /// Takes pages apart.

@@ -16,7 +16,8 @@ use crate::gathering::{Parted, gather_entries, gather_records, gather_rules, par
 use crate::named::sort_by_name;
 use crate::page::KeptPage;
 use address::{Address, Origin};
-use fetcher::{Body, Outcome};
+use bytes::Bytes;
+use fetcher::Outcome;
 use follow_filters::Plan;
 use frontier_core::{Event, Frontier};
 use robots_rules::RuleSet;
@@ -32,7 +33,7 @@ pub struct Harvest {
     records: Vec<(Address, Outcome)>,
     rules: Vec<(Origin, RuleSet)>,
     kept: Vec<Address>,
-    bodies: Vec<Body>,
+    bodies: Vec<Bytes>,
 }
 
 impl Model for Harvest {

@@ -3,15 +3,16 @@ ghost use Rattle.std.specs.Prelude.{◌≡◌};
 ghost use Rattle.harvest.specs.Pages.{is_success, is_successful};
 
 use address::Address;
-use fetcher::{Body, Outcome};
+use bytes::Bytes;
+use fetcher::Outcome;
 
 /// A page that is kept: its address, and the body of its response.
 #[derive(Drop)]
 pub struct KeptPage {
     /// The address that was asked for.
     pub address: Address,
-    /// The body of its response.
-    pub body: Body,
+    /// The body of its response, as it stands in a spool.
+    pub body: Bytes,
 }
 
 // Whether a status is one of success (RFC 9110, section 15.3).

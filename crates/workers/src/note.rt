@@ -2,7 +2,8 @@
 ghost use Rattle.std.specs.Prelude.{◌≡◌, []};
 
 use address::{Address, Origin};
-use fetcher::{Body, Outcome};
+use bytes::Bytes;
+use fetcher::Outcome;
 use harvest::Named;
 use robots_rules::RuleSet;
 use std::alloc::Global;
@@ -13,8 +14,8 @@ pub struct PageNote {
     pub address: Address,
     /// What was answered, where the frontier took it.
     pub told: Option<Outcome>,
-    /// The body, where the page is kept.
-    pub body: Option<Body>,
+    /// The body in the spool, where the page is kept.
+    pub body: Option<Bytes>,
 }
 
 /// Robots rules that were asked for.

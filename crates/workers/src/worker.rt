@@ -5,19 +5,21 @@ ghost use Rattle.workers.specs.Seats.{SeatGoes};
 
 use crate::note::{Notes, PageNote, RulesNote};
 use address::{Address, Origin};
+use bytes::Bytes;
 use fetcher::{Answer, Body, Fetcher, Outcome};
 use follow_filters::Plan;
 use frontier_core::{AnswerFault, Cause, OriginPermit, Permit, SpreadFault, Work};
 use frontier_lock::{Done, FrontierLock, Held, Refused};
-use harvest::is_success;
+use harvest::{Spool, is_success};
 use std::alloc::{AllocError, Global};
 use std::sync::Wait;
 
-/// A worker's place: its fetcher, and its notes.
+/// A worker's place: its fetcher, its notes, and the bodies that it keeps.
 #[derive(Drop)]
 pub struct Seat<F> {
     pub fetcher: F,
     pub notes: Notes,
+    pub spool: Spool,
 }
 
 // Makes room for the note of a page, and gives its address.
@@ -42,14 +44,20 @@ fn make_rules_room(notes: &mut Notes, origin: &Origin) -> Result<Origin, AllocEr
     origin.try_clone()
 }
 
-// The body, where the page is kept.
-fn body_of(plan: &Plan, address: &Address, outcome: &Outcome, body: Body) -> Option<Body>
-    ensures { result ≡ body_of plan.now address.now outcome.now body }
+// Appends a body to the spool, where the page is kept.
+fn keep_body(
+    spool: &mut Spool,
+    plan: &Plan,
+    address: &Address,
+    outcome: &Outcome,
+    body: Body,
+) -> Result<Option<Bytes>, AllocError>
+    ensures { IfOk result (λ kept. kept ≡ body_of plan.now address.now outcome.now body) }
 {
     if plan.keeps(address) && is_success(outcome) {
-        Some(body)
+        Ok(Some(spool.keep(body.as_slice())?))
     } else {
-        None
+        Ok(None)
     }
 }
 
@@ -88,6 +96,7 @@ fn serve<F: Fetcher, R: Wait>(
     plan: &Plan,
     fetcher: &mut F,
     notes: &mut Notes,
+    spool: &mut Spool,
     permit: Permit,
 )
     ensures { Goes F.site F.says F.rules F.log plan.now fetcher.old notes.old fetcher.new notes.new }
@@ -120,6 +129,15 @@ fn serve<F: Fetcher, R: Wait>(
         lock.halt(rt, Some(Held::Page(permit)), Cause::Memory);
         return;
     };
+    let Ok(body) = keep_body(spool, plan, &address, &outcome, body) else {
+        notes.pages.push_reserved(PageNote {
+            address,
+            told: None,
+            body: None,
+        });
+        lock.halt(rt, Some(Held::Page(permit)), Cause::Memory);
+        return;
+    };
     if !give(rt, lock, Done::Page(permit, copy)) {
         notes.pages.push_reserved(PageNote {
             address,
@@ -128,7 +146,6 @@ fn serve<F: Fetcher, R: Wait>(
         });
         return;
     }
-    let body = body_of(plan, &address, &outcome, body);
     notes.pages.push_reserved(PageNote {
         address,
         told: Some(outcome),
@@ -144,12 +161,13 @@ fn serve_page<F: Fetcher, R: Wait>(
     plan: &Plan,
     fetcher: &mut F,
     notes: &mut Notes,
+    spool: &mut Spool,
     permit: Permit,
 )
     ensures { Goes F.site F.says F.rules F.log plan.now fetcher.old notes.old fetcher.new notes.new }
 {
     fetcher.tell_waiting(lock.waiting());
-    serve(rt, lock, plan, fetcher, notes, permit);
+    serve(rt, lock, plan, fetcher, notes, spool, permit);
 }
 
 // Asks for the robots rules of a permit's origin with the lock free, and hands them over.
@@ -214,6 +232,7 @@ fn work<F: Fetcher, R: Wait>(
     worker: u32,
     fetcher: &mut F,
     notes: &mut Notes,
+    spool: &mut Spool,
 )
     ensures { Goes F.site F.says F.rules F.log plan.now fetcher.old notes.old fetcher.new notes.new }
 {
@@ -227,7 +246,7 @@ fn work<F: Fetcher, R: Wait>(
             Ok(Work::Robots(permit)) => {
                 serve_rules(rt, alloc, lock, plan, fetcher, notes, permit)
             }
-            Ok(Work::Page(permit)) => serve_page(rt, lock, plan, fetcher, notes, permit),
+            Ok(Work::Page(permit)) => serve_page(rt, lock, plan, fetcher, notes, spool, permit),
         }
     }
 }
@@ -251,5 +270,6 @@ pub fn work_at<F: Fetcher, R: Wait>(
         worker,
         &mut seat.fetcher,
         &mut seat.notes,
+        &mut seat.spool,
     );
 }

@@ -34,6 +34,14 @@ returns-in_default-try_clone g c =
     (subst (λ u. F.log c.ask.new.self ≡ F.log c.args.fetcher.now ++ ask.Page u ∷ []) name c.in-Ok-ask.ensures.asked)
     (noted_after _ _ _ _ c.push_reserved-in_default-try_clone.ensures.items c.make_page_room.ensures.pages) c.make_page_room.ensures.rules refl
 
+pub returns-in_default-keep_body : goal.returns-in_default-keep_body
+returns-in_default-keep_body g c =
+    let F = g.F.Fetcher in
+    let name : c.address-2.result.now ≡ c.in-Ok.address = c.address-2.ensures ∙ sym (c.in-Ok.ensures.name ∙ c.address.ensures) in
+    goes_page F.site F.says F.rules F.log c.args.plan.now c.args.fetcher.now c.args.notes.now c.ask.new.self _ (record { address = c.in-Ok.address; told = None; body = None }) c.in-Ok-ask.ensures.site
+    (subst (λ u. F.log c.ask.new.self ≡ F.log c.args.fetcher.now ++ ask.Page u ∷ []) name c.in-Ok-ask.ensures.asked)
+    (noted_after _ _ _ _ c.push_reserved-in_default-keep_body.ensures.items c.make_page_room.ensures.pages) c.make_page_room.ensures.rules refl
+
 pub returns-then-not-give : goal.returns-then-not-give
 returns-then-not-give g c =
     let F = g.F.Fetcher in
@@ -46,7 +54,7 @@ pub returns : goal.returns
 returns g c =
     let F = g.F.Fetcher in
     let name : c.address-2.result.now ≡ c.in-Ok.address = c.address-2.ensures ∙ sym (c.in-Ok.ensures.name ∙ c.address.ensures) in
-    goes_page F.site F.says F.rules F.log c.args.plan.now c.args.fetcher.now c.args.notes.now c.ask.new.self _ (record { address = c.in-Ok.address; told = Some c.in-Ok-ask.answer.outcome; body = c.body_of-body.result }) c.in-Ok-ask.ensures.site
+    goes_page F.site F.says F.rules F.log c.args.plan.now c.args.fetcher.now c.args.notes.now c.ask.new.self _ (record { address = c.in-Ok.address; told = Some c.in-Ok-ask.answer.outcome; body = c.in-Ok-keep_body.body }) c.in-Ok-ask.ensures.site
     (subst (λ u. F.log c.ask.new.self ≡ F.log c.args.fetcher.now ++ ask.Page u ∷ []) name c.in-Ok-ask.ensures.asked)
     (noted_after _ _ _ _ c.push_reserved-2.ensures.items c.make_page_room.ensures.pages) c.make_page_room.ensures.rules
-    (c.in-Ok-ask.answer.body, subst (λ u. F.says (F.site c.args.fetcher.now) u c.in-Ok-ask.answer.outcome c.in-Ok-ask.answer.body) name c.in-Ok-ask.ensures.told, c.body_of-body.ensures)
+    (c.in-Ok-ask.answer.body, subst (λ u. F.says (F.site c.args.fetcher.now) u c.in-Ok-ask.answer.outcome c.in-Ok-ask.answer.body) name c.in-Ok-ask.ensures.told, c.in-Ok-keep_body.ensures)
