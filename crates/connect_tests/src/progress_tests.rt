@@ -101,12 +101,12 @@ fn nothing_is_written_where_nothing_is_to_be_shown(rt: HostRuntime) {
 
 /// Makes the connections of another, and notes how many addresses wait.
 #[derive(Drop)]
-struct Told<'a, C: Connect> {
+struct Noting<'a, C: Connect> {
     inner: C,
     waiting: &'a AtomicU64,
 }
 
-impl<'a, C: Connect> Connect for Told<'a, C> {
+impl<'a, C: Connect> Connect for Noting<'a, C> {
     type Wire = C::Wire;
 
     ghost made = { λ t. C.made t.inner };
@@ -130,16 +130,21 @@ impl<'a, C: Connect> Connect for Told<'a, C> {
     }
 }
 
+/// What these connections are told where what counts them is told this number.
+fn told<R: Abort + Wait, C: Connect>(terminal: &Terminal<'_, R>, inner: C, waiting: usize) -> u64 {
+    let progress = Progress::new(terminal, false);
+    let noted = AtomicU64::new(0);
+    let inner = Noting {
+        inner,
+        waiting: &noted,
+    };
+    Watched::new(inner, &progress).tell_waiting(waiting);
+    noted.load(Ordering::SeqCst)
+}
+
 #[test]
 fn what_makes_the_connections_is_told_how_many_addresses_wait(rt: HostRuntime) {
     let alloc = rt.alloc();
     let terminal = Terminal::new(&rt, alloc);
-    let progress = Progress::new(&terminal, false);
-    let waiting = AtomicU64::new(0);
-    let inner = Told {
-        inner: MemoryConnect::new(alloc, &[], &[]),
-        waiting: &waiting,
-    };
-    Watched::new(inner, &progress).tell_waiting(7);
-    assert!(rt; waiting.load(Ordering::SeqCst) == 7);
+    assert!(rt; told(&terminal, MemoryConnect::new(alloc, &[], &[]), 7) == 7);
 }

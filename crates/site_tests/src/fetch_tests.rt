@@ -143,11 +143,15 @@ fn each_connection_is_ended_once(rt: HostRuntime) -> Result<(), Fail> {
     Ok(())
 }
 
+// What the connections are told where a fetcher over them is told this number.
+fn told<C: Connect>(alloc: Global, inner: C, waiting: usize) -> usize {
+    let mut fetcher = HttpFetcher::new(alloc, Ended::new(inner), true);
+    fetcher.tell_waiting(waiting);
+    fetcher.connect().waiting
+}
+
 #[test]
 fn connections_are_told_how_many_addresses_wait(rt: HostRuntime) {
     let alloc = rt.alloc();
-    let connect = Ended::new(MemoryConnect::new(alloc, &[], &[]));
-    let mut fetcher = HttpFetcher::new(alloc, connect, true);
-    fetcher.tell_waiting(7);
-    assert!(rt; fetcher.connect().waiting == 7);
+    assert!(rt; told(alloc, MemoryConnect::new(alloc, &[], &[]), 7) == 7);
 }
