@@ -42,12 +42,6 @@ not_less_trans x y z a b = false_from_ne_true _ (λ t. (let less = before_lower 
 pub reverse_not_less : (x y : List ℕ) → is_lt (slice_cmp nat_cmp x y) ≡ true → is_lt (slice_cmp nat_cmp y x) ≡ false
 reverse_not_less x y less = false_from_ne_true _ (λ t. (let clash : true ≡ false = sym (before_trans x y x less t) ∙ itself_not_less x in cc))
 
--- an element doesn't depend on what stands for a missing one
-pub any_default : {A : Type 0} (xs : List A) (i : ℕ) (d e : A) → i < length xs → get_or xs i d ≡ get_or xs i e
-any_default [] i d e below = absurd (omega arith)
-any_default (x ∷ xs) zero d e below = refl
-any_default (x ∷ xs) (suc i) d e below = any_default xs i d e (omega arith)
-
 -- so many of the least names
 abbrev pub LowSoFar : List (List ℕ) → List (List ℕ) → ℕ → Type 0
 LowSoFar names least i = (m j : ℕ) → m < i → length names ≤ m + 1 + j → j < length names → is_lt (slice_cmp nat_cmp (get_or names j []) (get_or least m [])) ≡ false
