@@ -1,9 +1,10 @@
 //! What a person sees of connections.
 use crate::connect_tests::origin;
 use crate::network::Network;
+use address::Origin;
 use progress::{Progress, Watched};
 use response_reader::Wire;
-use site_answer::Connect;
+use site_answer::{Connect, ConnectFault, MemoryConnect};
 use std::alloc::Global;
 use std::fmt::{Display, Write};
 use std::io;
@@ -96,4 +97,54 @@ fn nothing_is_written_where_nothing_is_to_be_shown(rt: HostRuntime) {
     let terminal = Terminal::new(&rt, alloc);
     run(&rt, alloc, &terminal, false);
     assert!(rt; terminal.text.lock(&rt).is_empty());
+}
+
+/// Makes the connections of another, and notes how many addresses wait.
+#[derive(Drop)]
+struct Noting<'a, C: Connect> {
+    inner: C,
+    waiting: &'a AtomicU64,
+}
+
+impl<'a, C: Connect> Connect for Noting<'a, C> {
+    type Wire = C::Wire;
+
+    ghost made = { λ t. C.made t.inner };
+
+    ghost failed = { λ t. C.failed t.inner };
+
+    ghost refused = { λ t. C.refused t.inner };
+
+    ghost gives = { λ t of wire. C.gives t.inner of wire };
+
+    fn connect(&mut self, of: &Origin) -> Result<C::Wire, ConnectFault> {
+        self.inner.connect(of)
+    }
+
+    fn tell_waiting(&mut self, waiting: usize) {
+        self.waiting.store(waiting as u64, Ordering::SeqCst);
+    }
+
+    fn failures(&self) -> u64 {
+        self.inner.failures()
+    }
+}
+
+/// What these connections are told where what counts them is told this number.
+fn told<R: Abort + Wait, C: Connect>(terminal: &Terminal<'_, R>, inner: C, waiting: usize) -> u64 {
+    let progress = Progress::new(terminal, false);
+    let noted = AtomicU64::new(0);
+    let inner = Noting {
+        inner,
+        waiting: &noted,
+    };
+    Watched::new(inner, &progress).tell_waiting(waiting);
+    noted.load(Ordering::SeqCst)
+}
+
+#[test]
+fn what_makes_the_connections_is_told_how_many_addresses_wait(rt: HostRuntime) {
+    let alloc = rt.alloc();
+    let terminal = Terminal::new(&rt, alloc);
+    assert!(rt; told(&terminal, MemoryConnect::new(alloc, &[], &[]), 7) == 7);
 }

@@ -1,5 +1,5 @@
 -- Names that no later page asks for: they stand before the least plain name behind.
-use Rattle.std.proofs.Common.{zero, suc, ◌≡◌, ◌≢◌, ℕ, ◌+◌, ◌-◌, ◌≤◌, ◌<◌, ◌==◌, true, false, List, [], ◌∷◌, ◌++◌, map, length, get_or, inl, inr, sym, refl, ap, ◌∙◌, subst, arith}
+use Rattle.std.proofs.Common.{◌≡◌, ℕ, ◌+◌, ◌-◌, ◌≤◌, ◌<◌, ◌==◌, true, false, List, [], ◌∷◌, ◌++◌, map, length, get_or, inl, inr, sym, refl, ap, ◌∙◌, subst, arith}
 use Rattle.std.proofs.lemmas.Bool.{cond_both, cases_lt, false_from_ne_true}
 use Rattle.std.proofs.lemmas.Cmp.{nat_list_cmp_total, nat_cmp_total, tied_itself}
 use Rattle.std.proofs.lemmas.List.{get_or-map, length-map, get_or_append_left, get_or_push}
@@ -41,12 +41,6 @@ not_less_trans x y z a b = false_from_ne_true _ (λ t. (let less = before_lower 
 
 pub reverse_not_less : (x y : List ℕ) → is_lt (slice_cmp nat_cmp x y) ≡ true → is_lt (slice_cmp nat_cmp y x) ≡ false
 reverse_not_less x y less = false_from_ne_true _ (λ t. (let clash : true ≡ false = sym (before_trans x y x less t) ∙ itself_not_less x in cc))
-
--- an element doesn't depend on what stands for a missing one
-pub any_default : {A : Type 0} (xs : List A) (i : ℕ) (d e : A) → i < length xs → get_or xs i d ≡ get_or xs i e
-any_default [] i d e below = absurd (omega arith)
-any_default (x ∷ xs) zero d e below = refl
-any_default (x ∷ xs) (suc i) d e below = any_default xs i d e (omega arith)
 
 -- so many of the least names
 abbrev pub LowSoFar : List (List ℕ) → List (List ℕ) → ℕ → Type 0

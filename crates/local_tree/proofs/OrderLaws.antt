@@ -41,10 +41,10 @@ equal_from_is_eq Greater e = cc
 pub texts_equal : (xs ys : List ℕ) → slice_cmp nat_cmp xs ys ≡ Equal → xs ≡ ys
 texts_equal xs ys e = (bytes_eq-Decides xs ys).0 (sym (is_eq-slice_cmp xs ys) ∙ ap is_eq e)
 
-pub equal_texts : (xs ys : List ℕ) → xs ≡ ys → slice_cmp nat_cmp xs ys ≡ Equal
+equal_texts : (xs ys : List ℕ) → xs ≡ ys → slice_cmp nat_cmp xs ys ≡ Equal
 equal_texts xs ys same = equal_from_is_eq (slice_cmp nat_cmp xs ys) (is_eq-slice_cmp xs ys ∙ (bytes_eq-Decides xs ys).1 same)
 
-pub less_from_is_lt : (o : Ordering) → is_lt o ≡ true → o ≡ Less
+less_from_is_lt : (o : Ordering) → is_lt o ≡ true → o ≡ Less
 less_from_is_lt Less e = refl
 less_from_is_lt Equal e = cc
 less_from_is_lt Greater e = cc

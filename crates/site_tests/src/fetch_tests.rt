@@ -72,11 +72,22 @@ fn a_connection_answers_the_text_of_a_request(rt: HostRuntime) -> Result<(), Fai
     Ok(())
 }
 
-// Makes the connections of another, and counts how many were ended.
+// Makes the connections of another, counts how many were ended, and notes how many addresses wait.
 #[derive(Drop)]
 struct Ended<C: Connect> {
     inner: C,
     ended: u32,
+    waiting: usize,
+}
+
+impl<C: Connect> Ended<C> {
+    fn new(inner: C) -> Ended<C> {
+        Ended {
+            inner,
+            ended: 0,
+            waiting: 0,
+        }
+    }
 }
 
 impl<C: Connect> Connect for Ended<C> {
@@ -99,6 +110,10 @@ impl<C: Connect> Connect for Ended<C> {
         self.ended = self.ended.saturating_add(1);
     }
 
+    fn tell_waiting(&mut self, waiting: usize) {
+        self.waiting = waiting;
+    }
+
     fn failures(&self) -> u64 {
         self.inner.failures()
     }
@@ -110,7 +125,7 @@ http://h/robots.txt HTTP/1.1 302 |Location: /r|Content-Length: 0||\nhttp://h/r H
 
 // Whether each connection that is asked for is ended, whatever came over it.
 fn are_all_ended<C: Connect>(alloc: Global, inner: C) -> Result<bool, Fail> {
-    let mut fetcher = HttpFetcher::new(alloc, Ended { inner, ended: 0 }, true);
+    let mut fetcher = HttpFetcher::new(alloc, Ended::new(inner), true);
     for at in ["http://h/", "http://h/cut", "http://h/none"] {
         let _ = fetcher.ask(&Address::read(alloc, at)?)?;
     }
@@ -126,4 +141,17 @@ fn each_connection_is_ended_once(rt: HostRuntime) -> Result<(), Fail> {
     let answers = site_of(alloc, ENDING)?;
     assert!(rt; are_all_ended(alloc, MemoryConnect::new(alloc, &answers, &[]))?);
     Ok(())
+}
+
+// What the connections are told where a fetcher over them is told this number.
+fn told<C: Connect>(alloc: Global, inner: C, waiting: usize) -> usize {
+    let mut fetcher = HttpFetcher::new(alloc, Ended::new(inner), true);
+    fetcher.tell_waiting(waiting);
+    fetcher.connect().waiting
+}
+
+#[test]
+fn connections_are_told_how_many_addresses_wait(rt: HostRuntime) {
+    let alloc = rt.alloc();
+    assert!(rt; told(alloc, MemoryConnect::new(alloc, &[], &[]), 7) == 7);
 }

@@ -1,4 +1,4 @@
-use Rattle.std.proofs.Common.{Some, sym, ap, ◌∙◌}
+use Rattle.std.proofs.Common.{sym}
 use Rattle.local_tree.proofs.free_name.first_free.Goals as goal
 
 pub first_free_from-requires-clause-start : goal.first_free_from-requires-clause-start

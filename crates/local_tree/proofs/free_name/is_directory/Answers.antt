@@ -1,4 +1,4 @@
-use Rattle.std.proofs.Common.{rules, ◌∙◌}
+use Rattle.std.proofs.Common.{rules}
 use Rattle.std.proofs.lemmas.Fn.{always_returns_same}
 use Rattle.local_tree.specs.Taken.{below_order}
 use Rattle.local_tree.proofs.OrderLaws.{directory_below}

@@ -1,8 +1,9 @@
 use Rattle.std.proofs.Common.{◌≡◌, ◌-◌, List, ℕ, [], false, length, get_or, sym, ap, ◌∙◌, subst, arith}
+use Rattle.std.proofs.lemmas.List.{get_or_default}
 use Rattle.std.specs.Cmp.Lexicographic.{slice_cmp}
 use Rattle.std.specs.Ordering.{nat_cmp, is_lt}
 use denote.Ref.{Bor}
-use Rattle.local_tree.proofs.LeastLaws.{itself_not_less, reverse_not_less, any_default}
+use Rattle.local_tree.proofs.LeastLaws.{itself_not_less, reverse_not_less}
 use Rattle.local_tree.proofs.naming.least_with.Goals as goal
 
 pub returns-then-is_empty-clause-own : goal.returns-then-is_empty-clause-own
@@ -19,7 +20,7 @@ returns-then-is_lt-clause-others c =
     let i = length c.args.least.now - 1 in
     let none : Bor (List ℕ) = record { ref_ptr = (0, 0); now = [] } in
     let old = get_or c.args.least.now i d in
-    subst (λ (x : Bor (List ℕ)). is_lt (slice_cmp nat_cmp old.now x.now) ≡ false) (any_default c.args.least.now i d none (omega (arith, some))) (itself_not_less old.now)
+    subst (λ (x : Bor (List ℕ)). is_lt (slice_cmp nat_cmp old.now x.now) ≡ false) (get_or_default c.args.least.now i d none (omega (arith, some))) (itself_not_less old.now)
 
 pub returns-else-is_lt-clause-own : goal.returns-else-is_lt-clause-own
 returns-else-is_lt-clause-own c = itself_not_less c.args.name.now

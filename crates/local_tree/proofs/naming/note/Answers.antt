@@ -1,4 +1,4 @@
-use Rattle.std.proofs.Common.{inl, inr, refl}
+use Rattle.std.proofs.Common.{inr, refl}
 use Rattle.local_tree.proofs.LeastLaws.{past_of}
 use Rattle.local_tree.proofs.naming.note.Goals as goal
 
