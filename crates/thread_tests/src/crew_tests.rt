@@ -1,8 +1,8 @@
-//! Retrievals by several workers: the same as by one, and at the same time.
+//! Retrievals by several workers: the same as by one, and at the same time. The form of the rows is told in `rows.rt`.
+use crate::retrieval::{Seen, asked, retrieved};
+use crate::rows::{behind, plan, plan_of, text_of};
 use address::{Address, Origin};
 use fetcher::{Answer, Ask, Body, Edge, EdgeKind, Edges, FaultKind, Fetcher, Outcome};
-use follow_filters::{Limit, Plan};
-use frontier_core::Cause;
 use robots_rules::RuleSet;
 use site_maps::MapSite;
 use std::alloc::{AllocError, Global};
@@ -11,173 +11,155 @@ use std::sync::Wait;
 use std::sync::atomic::{AtomicU64, Ordering};
 use std::thread;
 use std::thread::Threads;
-use workers::{Harvest, retrieve};
 
-/// A map, how many hops its site is followed, how many addresses may be held and whether robots rules are honoured, and
-/// what its retrieval comes to.
-#[derive(Clone, Copy)]
-struct Row {
-    map: &'static str,
-    hops: u8,
-    most: u8,
-    robots: bool,
-    report: &'static str,
-}
+/// Sites that any number of workers retrieves.
+const SITES: &str = "`/d` is found behind `/z` at 2, and behind `/b` at 3; `/f` is beyond three hops
+hops 3
+most 100
+robots off
+< page 200 http://h/
+< link http://h/a
+< link http://h/z
+< page 200 http://h/a
+< link http://h/b
+< page 200 http://h/b
+< link http://h/d
+< page 200 http://h/z
+< link http://h/d
+< page 200 http://h/d
+< link http://h/e
+< page 200 http://h/e
+< link http://h/f
+> 0 - http://h/
+> 1 - http://h/a
+> 2 - http://h/b
+> 2 - http://h/d
+> 3 - http://h/e
+> 1 - http://h/z
 
-/// `/d` is found behind `/z` at 2, and behind `/b` at 3; `/f` is beyond three hops.
-const DIAMOND: Row = Row {
-    map: "page 200 http://h/
-link http://h/a
-link http://h/z
-page 200 http://h/a
-link http://h/b
-page 200 http://h/b
-link http://h/d
-page 200 http://h/z
-link http://h/d
-page 200 http://h/d
-link http://h/e
-page 200 http://h/e
-link http://h/f
-",
-    hops: 3,
-    most: 100,
-    robots: false,
-    report: "0 - http://h/
-1 - http://h/a
-2 - http://h/b
-2 - http://h/d
-3 - http://h/e
-1 - http://h/z
-",
-};
+as many addresses as may be held
+hops 5
+most 3
+robots on
+< page 200 http://h/
+< link http://h/a
+< link http://h/b
+< leaf 200 http://h/a
+< leaf 200 http://h/b
+> 0 - http://h/
+> 1 - http://h/a
+> 1 - http://h/b
 
-/// As many addresses as may be held.
-const JUST_FULL: Row = Row {
-    map: "page 200 http://h/
-link http://h/a
-link http://h/b
-leaf 200 http://h/a
-leaf 200 http://h/b
-",
-    hops: 5,
-    most: 3,
-    robots: true,
-    report: "0 - http://h/
-1 - http://h/a
-1 - http://h/b
-",
-};
+`/s/1` is refused by robots rules, and `/t` allowed
+hops 5
+most 100
+robots on
+< robots http://h/
+< disallow /s
+< page 200 http://h/
+< link http://h/s/1
+< link http://h/t
+< leaf 200 http://h/s/1
+< leaf 200 http://h/t
+> 0 - http://h/
+> 1 rob http://h/s/1
+> 1 - http://h/t
 
-/// The same site with one address more.
-const OVERFULL: &str = "page 200 http://h/
-link http://h/a
-link http://h/b
-link http://h/c
-leaf 200 http://h/a
-leaf 200 http://h/b
-leaf 200 http://h/c
+the same site where they aren't honoured
+hops 5
+most 100
+robots off
+< robots http://h/
+< disallow /s
+< page 200 http://h/
+< link http://h/s/1
+< link http://h/t
+< leaf 200 http://h/s/1
+< leaf 200 http://h/t
+> 0 - http://h/
+> 1 - http://h/s/1
+> 1 - http://h/t
+
+`/a` can't be connected to, and of `/b` the map says nothing
+hops 5
+most 100
+robots on
+< page 200 http://h/
+< link http://h/a
+< link http://h/b
+< fault connect http://h/a
+> 0 - http://h/
+> 1 connect http://h/a
+> 1 404 http://h/b
+
+one page
+hops 0
+most 1
+robots on
+< page 200 http://h/
+> 0 - http://h/
 ";
-
-/// A site whose robots rules refuse `/s/1` and allow `/t`.
-const SECRET: &str = "robots http://h/
-disallow /s
-page 200 http://h/
-link http://h/s/1
-link http://h/t
-leaf 200 http://h/s/1
-leaf 200 http://h/t
-";
-
-/// That site where robots rules are honoured.
-const REFUSED: Row = Row {
-    map: SECRET,
-    hops: 5,
-    most: 100,
-    robots: true,
-    report: "0 - http://h/
-1 rob http://h/s/1
-1 - http://h/t
-",
-};
-
-/// That site where they aren't.
-const ADMITTED: Row = Row {
-    map: SECRET,
-    hops: 5,
-    most: 100,
-    robots: false,
-    report: "0 - http://h/
-1 - http://h/s/1
-1 - http://h/t
-",
-};
-
-/// `/a` can't be connected to, and of `/b` the map says nothing.
-const FAULTY: Row = Row {
-    map: "page 200 http://h/
-link http://h/a
-link http://h/b
-fault connect http://h/a
-",
-    hops: 5,
-    most: 100,
-    robots: true,
-    report: "0 - http://h/
-1 connect http://h/a
-1 404 http://h/b
-",
-};
 
 /// `/c` is found behind `/b` at 3, and behind the redirect `/q` at 1, so that `/d` is found only once its depth has fallen;
 /// `/r` and `/s` redirect to one another, and robots rules refuse `/p/1`.
-const WEB: Row = Row {
-    map: "robots http://h/
-disallow /p
-page 200 http://h/
-link http://h/a
-link http://h/q
-link http://h/r
-link http://h/p/1
-page 200 http://h/a
-link http://h/b
-page 200 http://h/b
-link http://h/c
-page 200 http://h/c
-link http://h/d
-page 200 http://h/d
-link http://h/e
-leaf 200 http://h/e
-moved 301 http://h/q http://h/c
-moved 301 http://h/r http://h/s
-moved 301 http://h/s http://h/r
-",
-    hops: 3,
-    most: 100,
-    robots: true,
-    report: "0 - http://h/
-1 - http://h/a
-2 - http://h/b
-1 - http://h/c
-2 - http://h/d
-3 - http://h/e
-1 rob http://h/p/1
-1 - http://h/q
-1 - http://h/r
-1 - http://h/s
-",
-};
+const WEB: &str = "hops 3
+most 100
+robots on
+< robots http://h/
+< disallow /p
+< page 200 http://h/
+< link http://h/a
+< link http://h/q
+< link http://h/r
+< link http://h/p/1
+< page 200 http://h/a
+< link http://h/b
+< page 200 http://h/b
+< link http://h/c
+< page 200 http://h/c
+< link http://h/d
+< page 200 http://h/d
+< link http://h/e
+< leaf 200 http://h/e
+< moved 301 http://h/q http://h/c
+< moved 301 http://h/r http://h/s
+< moved 301 http://h/s http://h/r
+> 0 - http://h/
+> 1 - http://h/a
+> 2 - http://h/b
+> 1 - http://h/c
+> 2 - http://h/d
+> 3 - http://h/e
+> 1 rob http://h/p/1
+> 1 - http://h/q
+> 1 - http://h/r
+> 1 - http://h/s
+";
 
-/// One page.
-const LONE: Row = Row {
-    map: "page 200 http://h/
-",
-    hops: 0,
-    most: 1,
-    robots: true,
-    report: "0 - http://h/
-",
-};
+/// A site with one address more than may be held.
+const OVERFULL: &str = "hops 5
+most 3
+robots on
+< page 200 http://h/
+< link http://h/a
+< link http://h/b
+< link http://h/c
+< leaf 200 http://h/a
+< leaf 200 http://h/b
+< leaf 200 http://h/c
+";
+
+/// A page with five links.
+const STAR: &str = "hops 1
+most 100
+robots off
+< page 200 http://h/
+< link http://h/1
+< link http://h/2
+< link http://h/3
+< link http://h/4
+< link http://h/5
+";
 
 /// A map's site that lets other threads run before it answers, as often as its seed says.
 #[derive(Drop)]
@@ -230,8 +212,9 @@ impl Fetcher for Hesitant {
     }
 }
 
-/// So many copies of a map's site, each with a seed of its own.
-fn sites(rt: &impl Abort, alloc: Global, map: &str, count: u8, seed: u64) -> Vec<Hesitant> {
+/// So many copies of a row's site, each with a seed of its own.
+fn sites(rt: &impl Abort, alloc: Global, row: &str, count: u8, seed: u64) -> Vec<Hesitant> {
+    let map = text_of(rt, alloc, row, "< ");
     let mut sites = Vec::new(alloc);
     let mut seed = seed;
     for _ in 0..count {
@@ -248,101 +231,45 @@ fn sites(rt: &impl Abort, alloc: Global, map: &str, count: u8, seed: u64) -> Vec
     sites
 }
 
-/// A plan without filters from `http://h/`, so many hops deep and for so many addresses.
-fn plan(rt: &impl Abort, alloc: Global, hops: u8, most: u8, robots: bool) -> Plan {
-    let start = Address::read(alloc, "http://h/").expect(rt, "an address");
-    if start.is_robots_file() || most == 0 {
-        panic!(rt; "no plan");
-    }
-    let limit = Limit::AtMost(u32::from(hops));
-    let mut plan = Plan::unfiltered(alloc, start, limit, u32::from(most));
-    plan.robots = robots;
-    plan
-}
-
-/// The word of an entry: that it is refused, its fault, that it isn't there, or `-`.
-fn word(harvest: &Harvest, is_refused: bool, answer: Option<usize>) -> &'static str {
-    if is_refused {
-        return "rob";
-    }
-    let Some(place) = answer else {
-        return "none";
-    };
-    match harvest.records().get(place) {
-        Some((_, Outcome::Fault(kind))) => kind.word(),
-        Some((_, Outcome::Leaf(404))) => "404",
-        _ => "-",
-    }
-}
-
-/// A line for each entry.
-fn report(rt: &impl Abort, alloc: Global, harvest: &Harvest) -> String {
-    let mut text = String::new(alloc);
-    for entry in harvest.entries() {
-        let word = word(harvest, entry.refused, entry.answer);
-        let address = entry.address.as_str();
-        writeln!(text, "{} {word} {address}", entry.depth).expect(rt, "memory");
-    }
-    text
-}
-
-/// How many pages, and the rules of how many origins, all fetchers together were asked for.
-fn asked(fetchers: &[Hesitant]) -> (usize, usize) {
-    let (mut pages, mut rules) = (0usize, 0usize);
-    for fetcher in fetchers {
-        for ask in fetcher.asks() {
-            match ask {
-                Ask::Page(_) => pages = pages.wrapping_add(1),
-                Ask::Rules(_) => rules = rules.wrapping_add(1),
-            }
-        }
-    }
-    (pages, rules)
-}
-
-/// The harvest has the row's report, and just what is recorded was asked for.
-fn is_reported(
-    rt: &impl Abort,
+/// Has so many workers retrieve a row's site.
+fn crew<R: Abort + Threads + Wait + Sync>(
+    rt: &R,
     alloc: Global,
-    row: &Row,
-    harvest: &Harvest,
-    fetchers: &[Hesitant],
-) -> bool {
-    let (pages, rules) = asked(fetchers);
-    if pages != harvest.records().len() || rules != harvest.rules().len() {
-        return false;
-    }
-    report(rt, alloc, harvest).as_str() == row.report
+    row: &str,
+    workers: u8,
+    seed: u64,
+) -> (Seen, Vec<Hesitant>) {
+    let plan = plan_of(rt, alloc, row);
+    retrieved(rt, alloc, &plan, sites(rt, alloc, row, workers, seed))
 }
 
-/// Whether so many workers come to the row's report.
+/// Whether so many workers come to the row's report, and just what is recorded was asked for.
 fn come_to<R: Abort + Threads + Wait + Sync>(
     rt: &R,
     alloc: Global,
-    row: &Row,
+    row: &str,
     workers: u8,
     seed: u64,
 ) -> bool {
-    let plan = plan(rt, alloc, row.hops, row.most, row.robots);
-    let sites = sites(rt, alloc, row.map, workers, seed);
-    if sites.is_empty() || sites.len() > 64 {
-        return false;
-    }
-    match retrieve(rt, alloc, &plan, sites) {
-        Ok(found) => is_reported(rt, alloc, row, &found.harvest, &found.fetchers),
-        Err(_) => false,
-    }
+    let (seen, sites) = crew(rt, alloc, row, workers, seed);
+    let report = text_of(rt, alloc, row, "> ");
+    let (pages, rules) = asked(&sites);
+    seen.end == "whole"
+        && pages == seen.pages
+        && rules == seen.rules
+        && seen.report.as_str() == report.as_str()
 }
 
 #[test]
 fn any_number_of_workers_comes_to_one_report(rt: HostRuntime) {
-    let alloc = rt.alloc();
     for workers in [1, 2, 8, 64] {
-        for row in [
-            &DIAMOND, &JUST_FULL, &REFUSED, &ADMITTED, &FAULTY, &LONE, &WEB,
-        ] {
-            assert!(rt; come_to(&rt, alloc, row, workers, 1));
+        for row in SITES.split("\n\n") {
+            assert!(rt;
+                come_to(&rt, rt.alloc(), row, workers, 1),
+                "{workers} {row}"
+            );
         }
+        assert!(rt; come_to(&rt, rt.alloc(), WEB, workers, 1), "{workers}");
     }
 }
 
@@ -353,22 +280,15 @@ const SEEDS: u64 = 20;
 fn whatever_the_interleaving_the_report_is_one(rt: HostRuntime) {
     for seed in 0..SEEDS {
         for workers in [2, 5, 64] {
-            assert!(rt; come_to(&rt, rt.alloc(), &WEB, workers, seed));
+            assert!(rt; come_to(&rt, rt.alloc(), WEB, workers, seed));
         }
     }
 }
 
 /// Whether so many workers stop since three addresses are held and there are more.
 fn stop_full<R: Abort + Threads + Wait + Sync>(rt: &R, alloc: Global, workers: u8) -> bool {
-    let plan = plan(rt, alloc, 5, 3, true);
-    let sites = sites(rt, alloc, OVERFULL, workers, 1);
-    if sites.is_empty() || sites.len() > 64 {
-        return false;
-    }
-    match retrieve(rt, alloc, &plan, sites) {
-        Ok(_) => false,
-        Err(stopped) => { stopped.cause == Cause::Full && stopped.harvest.entries().len() == 3 }
-    }
+    let (seen, _sites) = crew(rt, alloc, OVERFULL, workers, 1);
+    seen.end == "full" && seen.entries == 3
 }
 
 #[test]
@@ -378,31 +298,17 @@ fn a_full_table_stops_all_workers(rt: HostRuntime) {
     }
 }
 
-/// A page with five links.
-const STAR: &str = "page 200 http://h/
-link http://h/1
-link http://h/2
-link http://h/3
-link http://h/4
-link http://h/5
-";
-
 /// The most addresses that one of so many workers was told wait.
 fn most_waiting<R: Abort + Threads + Wait + Sync>(rt: &R, alloc: Global, workers: u8) -> usize {
-    let plan = plan(rt, alloc, 1, 100, false);
-    let sites = sites(rt, alloc, STAR, workers, 1);
-    if sites.is_empty() || sites.len() > 64 {
+    let (seen, sites) = crew(rt, alloc, STAR, workers, 1);
+    if seen.end != "whole" {
         return 0;
     }
-    match retrieve(rt, alloc, &plan, sites) {
-        Ok(found) => found
-            .fetchers
-            .iter()
-            .map(|site| -> usize { site.waiting })
-            .max()
-            .unwrap_or(0),
-        Err(_) => 0,
+    let mut most = 0usize;
+    for site in &sites {
+        most = most.max(site.waiting);
     }
+    most
 }
 
 #[test]
@@ -417,7 +323,7 @@ fn workers_are_told_how_many_addresses_wait(rt: HostRuntime) {
 #[derive(Drop)]
 struct Meeting<'a> {
     alloc: Global,
-    front: Outcome,
+    front: &'a Outcome,
     links: u64,
     arrived: &'a AtomicU64,
     log: Vec<Ask>,
@@ -470,10 +376,10 @@ impl<'a> Fetcher for Meeting<'a> {
     }
 }
 
-/// A page with links to these addresses.
-fn page(rt: &impl Abort, alloc: Global, links: &[&str]) -> Outcome {
+/// A page with links to these addresses, which stand in a text with a blank between two.
+fn page(rt: &impl Abort, alloc: Global, links: &str) -> Outcome {
     let mut edges = Vec::new(alloc);
-    for link in links {
+    for link in links.split(' ') {
         let target = Address::read(alloc, link).expect(rt, "an address");
         let kind = EdgeKind::Link;
         edges.push(Edge { target, kind }).expect(rt, "memory");
@@ -481,73 +387,51 @@ fn page(rt: &impl Abort, alloc: Global, links: &[&str]) -> Outcome {
     Outcome::Page(200, Edges::new(edges).expect(rt, "memory"))
 }
 
-/// How many faults were recorded.
-fn faults(harvest: &Harvest) -> usize {
-    let mut faults = 0usize;
-    for (_, outcome) in harvest.records() {
-        if outcome.is_fault() {
-            faults = faults.wrapping_add(1);
-        }
-    }
-    faults
-}
-
-/// So many fetchers of a front page with these links.
+/// So many fetchers of a front page.
 fn meetings<'a>(
     rt: &impl Abort,
     alloc: Global,
-    links: &[&str],
+    front: &'a Outcome,
+    links: u8,
     arrived: &'a AtomicU64,
 ) -> Vec<Meeting<'a>> {
     let mut fetchers = Vec::new(alloc);
-    for _ in 0..links.len() {
+    for _ in 0..links {
+        let log = Vec::new(alloc);
         let fetcher = Meeting {
             alloc,
-            front: page(rt, alloc, links),
-            links: links.len() as u64,
+            front,
+            links: u64::from(links),
             arrived,
-            log: Vec::new(alloc),
+            log,
         };
         fetchers.push(fetcher).expect(rt, "memory");
     }
     fetchers
 }
 
-/// Whether all links of a front page are answered by as many workers, each only once all are being asked for. No more of a
+/// Whether so many links of a front page are answered by as many workers, each only once all are being asked for. No more of a
 /// host are asked for at a time than there are links.
-fn meet<R: Abort + Threads + Wait + Sync>(rt: &R, alloc: Global, links: &[&str]) -> bool {
+fn meet<R: Abort + Threads + Wait + Sync>(rt: &R, alloc: Global, count: u8, links: &str) -> bool {
+    let front = page(rt, alloc, links);
     let arrived = AtomicU64::new(0);
-    let mut plan = plan(rt, alloc, 1, 100, false);
-    plan.per_host = if links.len() == 2 { 2 } else { 8 };
-    let fetchers = meetings(rt, alloc, links, &arrived);
-    if fetchers.is_empty() || fetchers.len() > 64 {
-        return false;
-    }
-    match retrieve(rt, alloc, &plan, fetchers) {
-        Ok(found) => faults(&found.harvest) == 0
-            && found.harvest.records().len() == links.len() + 1,
-        Err(_) => false,
-    }
+    let mut plan = plan(rt, alloc, 1, 100);
+    plan.per_host = if count == 2 { 2 } else { 8 };
+    let fetchers = meetings(rt, alloc, &front, count, &arrived);
+    let (seen, _fetchers) = retrieved(rt, alloc, &plan, fetchers);
+    seen.end == "whole" && seen.faults == 0 && seen.pages == usize::from(count) + 1
 }
 
 #[test]
 fn two_workers_meet(rt: HostRuntime) {
-    assert!(rt; meet(&rt, rt.alloc(), &["http://h/a", "http://h/b"]));
+    assert!(rt; meet(&rt, rt.alloc(), 2, "http://h/a http://h/b"));
 }
 
 /// Eight links.
-const EIGHT: [&str; 8] = [
-    "http://h/a",
-    "http://h/b",
-    "http://h/c",
-    "http://h/d",
-    "http://h/e",
-    "http://h/f",
-    "http://h/g",
-    "http://h/i",
-];
+const EIGHT: &str =
+    "http://h/a http://h/b http://h/c http://h/d http://h/e http://h/f http://h/g http://h/i";
 
 #[test]
 fn eight_workers_meet(rt: HostRuntime) {
-    assert!(rt; meet(&rt, rt.alloc(), &EIGHT));
+    assert!(rt; meet(&rt, rt.alloc(), 8, EIGHT));
 }

@@ -8,3 +8,7 @@ mod crew_tests;
 mod lock_tests;
 #[cfg(test)]
 mod long_tests;
+#[cfg(test)]
+mod retrieval;
+#[cfg(test)]
+mod rows;

@@ -60,7 +60,8 @@ fn tell(rt: &impl Wait, lock: &FrontierLock, work: Work) -> Told {
 
 /// What worker 1 is told at once.
 fn told_now<R: Abort + Wait>(rt: &R, lock: &FrontierLock) -> Told {
-    tell(rt, lock, lock.next(rt, 1).expect(rt, "memory"))
+    let work = lock.next(rt, 1).expect(rt, "memory");
+    tell(rt, lock, work)
 }
 
 /// The permit for a page that the worker gets.
@@ -86,36 +87,66 @@ fn give(rt: &impl Wait, lock: &FrontierLock, permit: Permit, outcome: Outcome) {
     lock.halt(rt, Some(held), Cause::Mismatch);
 }
 
-#[test]
-fn the_edges_of_a_page_are_offered(rt: HostRuntime) {
-    let alloc = rt.alloc();
-    let lock = locked(&rt, alloc);
+/// Has the lock's two pages asked for and answered by worker 0, and asserts what is told and what waits between.
+fn go_through<R: Abort + Wait>(rt: &R, alloc: Global, lock: &FrontierLock) {
     assert!(rt; lock.waiting() == 1);
-    let permit = page_permit(&rt, &lock, 0);
+    let permit = page_permit(rt, lock, 0);
     assert!(rt; lock.waiting() == 0);
-    give(&rt, &lock, permit, page(&rt, alloc));
-    assert!(rt; told_now(&rt, &lock) == Told::Spread);
+    give(rt, lock, permit, page(rt, alloc));
+    assert!(rt; told_now(rt, lock) == Told::Spread);
     assert!(rt; lock.waiting() == 1);
-    assert!(rt; lock.spread(&rt).is_ok());
-    let permit = page_permit(&rt, &lock, 0);
+    assert!(rt; lock.spread(rt).is_ok());
+    let permit = page_permit(rt, lock, 0);
     assert!(rt; lock.waiting() == 0);
     assert!(rt; permit.address().as_str() == "http://h/a");
-    assert!(rt; told_now(&rt, &lock) == Told::Busy);
-    give(&rt, &lock, permit, Outcome::Leaf(200));
-    assert!(rt; told_now(&rt, &lock) == Told::Quiet);
-    assert!(rt; lock.into_frontier().is_quiet());
+    assert!(rt; told_now(rt, lock) == Told::Busy);
+    give(rt, lock, permit, Outcome::Leaf(200));
+    assert!(rt; told_now(rt, lock) == Told::Quiet);
+}
+
+/// Whether nothing is left to do.
+fn is_quiet(frontier: &Frontier) -> bool {
+    frontier.is_quiet()
+}
+
+/// Whether a lock is left with nothing to do.
+fn is_left_quiet(lock: FrontierLock) -> bool {
+    let frontier = lock.into_frontier();
+    is_quiet(&frontier)
+}
+
+#[test]
+fn the_edges_of_a_page_are_offered(rt: HostRuntime) {
+    let lock = locked(&rt, rt.alloc());
+    go_through(&rt, rt.alloc(), &lock);
+    assert!(rt; is_left_quiet(lock));
+}
+
+/// Stops twice while worker 0 holds the permit for the start, for another cause each time.
+fn stop_twice<R: Abort + Wait>(rt: &R, lock: &FrontierLock) {
+    let permit = page_permit(rt, lock, 0);
+    lock.halt(rt, None, Cause::Full);
+    lock.halt(rt, Some(Held::Page(permit)), Cause::Memory);
+    assert!(rt; told_now(rt, lock) == Told::Stopped(Cause::Full));
+}
+
+/// Whether an address is given up.
+fn is_given_up(frontier: &Frontier, at: &Address) -> bool {
+    frontier.is_given_up(at)
+}
+
+/// Whether a lock is left with the address given up.
+fn is_left_given_up(lock: FrontierLock, at: &Address) -> bool {
+    let frontier = lock.into_frontier();
+    is_given_up(&frontier, at)
 }
 
 #[test]
 fn the_first_cause_stops_all_workers(rt: HostRuntime) {
-    let alloc = rt.alloc();
-    let lock = locked(&rt, alloc);
-    let permit = page_permit(&rt, &lock, 0);
-    lock.halt(&rt, None, Cause::Full);
-    lock.halt(&rt, Some(Held::Page(permit)), Cause::Memory);
-    assert!(rt; told_now(&rt, &lock) == Told::Stopped(Cause::Full));
-    let start = Address::read(alloc, "http://h/").expect(&rt, "an address");
-    assert!(rt; lock.into_frontier().is_given_up(&start));
+    let start = Address::read(rt.alloc(), "http://h/").expect(&rt, "an address");
+    let lock = locked(&rt, rt.alloc());
+    stop_twice(&rt, &lock);
+    assert!(rt; is_left_given_up(lock, &start));
 }
 
 /// How far two workers are: one holds a permit, and the other asks for work.

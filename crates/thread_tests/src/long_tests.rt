@@ -2,77 +2,68 @@
 ghost use Rattle.std.specs.Prelude.{◌≡◌, true};
 ghost use Rattle.follow_filters.specs.Limits.{is_in_range};
 
+use crate::retrieval::retrieved;
 use address::Address;
 use fetcher::{Ask, Fetcher};
 use follow_filters::{Limit, Plan};
-use frontier_core::Cause;
 use site_maps::MapSite;
 use std::alloc::Global;
 use std::process::Abort;
 use std::sync::Wait;
 use std::thread::Threads;
-use workers::{Harvest, retrieve};
 
 /// How many addresses may be held, and how many the sites tell of.
 const MOST: u32 = 1_000;
 
-/// A site of 1,000 addresses, each of which leads to the next, and the last to that of the number `after_last`. What is said
-/// of each begins with `front`, its number is next, and `link` stands before the number of that which it leads to. Then how
-/// many hops are followed, with none all, and what comes of it: whether the table was full, and the greatest depth.
-struct Chain {
-    front: &'static str,
-    link: &'static str,
-    after_last: u32,
-    hops: Option<u16>,
-    is_full: bool,
+/// Sites of 1,000 addresses, each of which leads to the next. Of `pages` the last leads to an address of which nothing is
+/// told, so that they go on and on; a `ring` is of redirects, and the last leads to the first. Then how many hops are followed,
+/// `all` or 999; and what comes of it: how the retrieval ends, and the greatest depth.
+const CHAINS: &str = "pages all full 999
+pages 999 whole 999
+ring all whole 0";
+
+/// What a chain's line says.
+#[derive(Clone, Copy)]
+struct Chain<'a> {
+    is_ring: bool,
+    follows_all: bool,
+    end: &'a str,
     deepest: u32,
 }
 
-/// A site that goes on and on, as far as it is asked; the same, as far as it is followed; and a ring.
-const CHAINS: [Chain; 3] = [
+/// Reads a chain's line.
+fn chain_of<'a>(rt: &impl Abort, line: &'a str) -> Chain<'a> {
+    let mut words = line.split(' ');
+    let kind = words.next().expect(rt, "a kind");
+    let hops = words.next().expect(rt, "hops");
+    let end = words.next().expect(rt, "an end");
+    let deepest = words.next().expect(rt, "a depth");
     Chain {
-        front: "page 200 http://h/",
-        link: "\nlink http://h/",
-        after_last: MOST,
-        hops: None,
-        is_full: true,
-        deepest: 999,
-    },
-    Chain {
-        front: "page 200 http://h/",
-        link: "\nlink http://h/",
-        after_last: MOST,
-        hops: Some(999),
-        is_full: false,
-        deepest: 999,
-    },
-    Chain {
-        front: "moved 301 http://h/",
-        link: " http://h/",
-        after_last: 0,
-        hops: None,
-        is_full: false,
-        deepest: 0,
-    },
-];
+        is_ring: kind == "ring",
+        follows_all: hops == "all",
+        end,
+        deepest: deepest.parse::<u32>().expect(rt, "a number"),
+    }
+}
 
 /// The map of a chain.
-fn map_of(rt: &impl Abort, alloc: Global, chain: &Chain) -> String {
+fn map_of(rt: &impl Abort, alloc: Global, is_ring: bool) -> String {
     let mut map = String::new(alloc);
     for page in 0..MOST {
-        let next = if page + 1 < MOST {
-            page + 1
+        let next = page + 1;
+        if !is_ring {
+            writeln!(map, "page 200 http://h/{page}\nlink http://h/{next}").expect(rt, "memory");
         } else {
-            chain.after_last
-        };
-        writeln!(map, "{}{page}{}{next}", chain.front, chain.link).expect(rt, "memory");
+            let next = next % MOST;
+            writeln!(map, "moved 301 http://h/{page} http://h/{next}").expect(rt, "memory");
+        }
     }
     map
 }
 
 /// So many copies of a chain's site.
-fn sites(rt: &impl Abort, alloc: Global, chain: &Chain, count: u8) -> Vec<MapSite> {
-    let map = map_of(rt, alloc, chain);
+fn sites(rt: &impl Abort, alloc: Global, is_ring: bool, count: u8) -> Vec<MapSite> {
+    let map = map_of(rt, alloc, is_ring);
     let mut sites = Vec::new(alloc);
     for _ in 0..count {
         let site = MapSite::read(alloc, map.as_bytes()).expect(rt, "a map");
@@ -93,11 +84,11 @@ fn plan(rt: &impl Abort, alloc: Global, limit: Limit) -> Plan
 }
 
 /// The plan of a chain.
-fn plan_of(rt: &impl Abort, alloc: Global, chain: &Chain) -> Plan {
-    match chain.hops {
-        Some(hops) => plan(rt, alloc, Limit::AtMost(u32::from(hops))),
-        None => plan(rt, alloc, Limit::Unlimited),
+fn plan_of(rt: &impl Abort, alloc: Global, follows_all: bool) -> Plan {
+    if follows_all {
+        return plan(rt, alloc, Limit::Unlimited);
     }
+    plan(rt, alloc, Limit::AtMost(999))
 }
 
 /// Marks the pages that were asked for. Gives whether each is one of `http://h/0` to `http://h/999` and wasn't marked.
@@ -129,46 +120,23 @@ fn are_asked_once(fetchers: &[MapSite]) -> bool {
     asked.iter().all(|mark| *mark)
 }
 
-/// Whether a harvest holds 1,000 addresses, the deepest of them as deep as the chain says.
-fn is_held(chain: &Chain, harvest: &Harvest) -> bool {
-    let mut deepest = 0u32;
-    for entry in harvest.entries() {
-        deepest = deepest.max(entry.depth);
-    }
-    harvest.entries().len() == 1_000 && deepest == chain.deepest
-}
-
-/// Whether so many workers bring what the chain says.
-fn bring<R: Abort + Threads + Wait + Sync>(
-    rt: &R,
-    alloc: Global,
-    chain: &Chain,
-    workers: u8,
-) -> bool {
-    let plan = plan_of(rt, alloc, chain);
-    let sites = sites(rt, alloc, chain, workers);
-    if sites.is_empty() || sites.len() > 64 {
-        return false;
-    }
-    match retrieve(rt, alloc, &plan, sites) {
-        Ok(found) => {
-            !chain.is_full && is_held(chain, &found.harvest) && are_asked_once(&found.fetchers)
-        }
-        Err(stopped) => {
-            let is_full = stopped.cause == Cause::Full;
-            is_full
-                && chain.is_full
-                && is_held(chain, &stopped.harvest)
-                && are_asked_once(&stopped.fetchers)
-        }
-    }
+/// Whether so many workers bring what a chain's line says.
+fn bring<R: Abort + Threads + Wait + Sync>(rt: &R, alloc: Global, line: &str, workers: u8) -> bool {
+    let chain = chain_of(rt, line);
+    let plan = plan_of(rt, alloc, chain.follows_all);
+    let sites = sites(rt, alloc, chain.is_ring, workers);
+    let (seen, sites) = retrieved(rt, alloc, &plan, sites);
+    seen.end == chain.end
+        && seen.entries == 1_000
+        && seen.deepest == chain.deepest
+        && are_asked_once(&sites)
 }
 
 #[test]
 fn a_thousand_addresses_in_a_row_are_asked_for_once(rt: HostRuntime) {
     for workers in [1, 8] {
-        for chain in &CHAINS {
-            assert!(rt; bring(&rt, rt.alloc(), chain, workers));
+        for line in CHAINS.lines() {
+            assert!(rt; bring(&rt, rt.alloc(), line, workers), "{workers} {line}");
         }
     }
 }

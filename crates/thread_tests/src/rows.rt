@@ -1,0 +1,55 @@
+//! Sites and what their retrievals come to, as texts. For tests.
+//!
+//! Rows stand in a text with an empty line between two. The first line of a row may say what it shows; the others begin with a
+//! word: `hops`, how many hops are followed; `most`, how many addresses may be held; `robots`, whether robots rules are honoured;
+//! `<`, a line of the site's map; `>`, a line of the report.
+use address::Address;
+use follow_filters::{Limit, Plan};
+use std::alloc::Global;
+use std::process::Abort;
+
+/// What stands behind the first line's word.
+pub(crate) fn behind<'a>(row: &'a str, word: &str) -> &'a str {
+    for line in row.lines() {
+        if let Some(rest) = line.strip_prefix(word) {
+            return rest;
+        }
+    }
+    ""
+}
+
+/// The lines behind a word.
+pub(crate) fn text_of(rt: &impl Abort, alloc: Global, row: &str, word: &str) -> String {
+    let mut text = String::new(alloc);
+    for line in row.lines() {
+        if let Some(rest) = line.strip_prefix(word) {
+            text.push_str(rest).expect(rt, "memory");
+            text.push('\n').expect(rt, "memory");
+        }
+    }
+    text
+}
+
+/// The number behind a word.
+fn number(rt: &impl Abort, row: &str, word: &str) -> u8 {
+    behind(row, word).parse::<u8>().expect(rt, "a number")
+}
+
+/// A plan without filters from `http://h/`, so many hops deep and for so many addresses.
+pub(crate) fn plan(rt: &impl Abort, alloc: Global, hops: u8, most: u8) -> Plan {
+    let start = Address::read(alloc, "http://h/").expect(rt, "an address");
+    if start.is_robots_file() || most == 0 {
+        panic!(rt; "no plan");
+    }
+    let limit = Limit::AtMost(u32::from(hops));
+    Plan::unfiltered(alloc, start, limit, u32::from(most))
+}
+
+/// The plan of a row.
+pub(crate) fn plan_of(rt: &impl Abort, alloc: Global, row: &str) -> Plan {
+    let hops = number(rt, row, "hops ");
+    let most = number(rt, row, "most ");
+    let mut plan = plan(rt, alloc, hops, most);
+    plan.robots = behind(row, "robots ") == "on";
+    plan
+}
