@@ -1,25 +1,23 @@
 //! Numbers by label, before and after one is lowered, and by what is left to do.
 use address::{Address, Origin};
 use std::alloc::Global;
-use std::test::Fail;
+use std::process::Abort;
 use work_queues::{Agenda, Task};
 
-// What is added, each with its origin's address and its label. Then number 6 is lowered to 3.
-const ADDED: [(&str, u32); 10] = [
-    ("http://h/", 9),
-    ("http://h/", 1),
-    ("http://k/", 7),
-    ("http://h/", 6),
-    ("http://h/", 4),
-    ("http://h/", 11),
-    ("http://h/", 8),
-    ("http://k/", 2),
-    ("http://k/", 10),
-    ("http://h/", 11),
-];
+// What is added: each line is its origin's address and its label. Then number 6 is lowered to 3.
+const ADDED: &str = "http://h/ 9
+http://h/ 1
+http://k/ 7
+http://h/ 6
+http://h/ 4
+http://h/ 11
+http://h/ 8
+http://k/ 2
+http://k/ 10
+http://h/ 11";
 
 // The numbers by their labels from then on, equal labels by number.
-const ORDER: [usize; 10] = [1, 7, 6, 4, 3, 2, 0, 8, 5, 9];
+const ORDER: &str = "1 7 6 4 3 2 0 8 5 9";
 
 // A number of which this is left to do: that of the least label.
 fn first(agenda: &Agenda, task: Task) -> Option<usize> {
@@ -31,49 +29,83 @@ fn first(agenda: &Agenda, task: Task) -> Option<usize> {
     }
 }
 
-fn filled(alloc: Global, task: Task) -> Result<Agenda, Fail> {
-    let mut agenda = Agenda::new(alloc)?;
-    for (at, label) in ADDED {
-        let home = Address::read(alloc, at)?;
-        agenda.add(alloc, Origin::of(&home)?, task, label)?;
+// The origin of an address.
+fn origin(rt: &impl Abort, alloc: Global, text: &str) -> Origin {
+    let home = Address::read(alloc, text).expect(rt, "an address");
+    Origin::of(&home).expect(rt, "memory")
+}
+
+// One number more, of the origin of this address.
+fn add(rt: &impl Abort, alloc: Global, agenda: &mut Agenda, text: &str, task: Task, label: u32) {
+    let origin = origin(rt, alloc, text);
+    agenda.add(alloc, origin, task, label).expect(rt, "memory");
+}
+
+// All lines are added.
+fn fill(rt: &impl Abort, alloc: Global, agenda: &mut Agenda, task: Task) {
+    for line in ADDED.lines() {
+        let (text, label) = line.split_once(' ').unwrap_or((line, ""));
+        let Ok(label) = label.parse::<u32>() else {
+            panic!(rt; "no label");
+        };
+        add(rt, alloc, agenda, text, task, label);
     }
-    Ok(agenda)
+}
+
+// From now on this is left to do for the number.
+fn set(rt: &impl Abort, agenda: &mut Agenda, number: usize, task: Task, label: u32) {
+    assert!(rt; number < agenda.len());
+    agenda.set(number, task, label);
+}
+
+// The numbers come in their order, for one thing that is left to do.
+fn come_in_order(rt: &impl Abort, agenda: &mut Agenda, task: Task) {
+    assert!(rt; agenda.len() == 10);
+    set(rt, agenda, 6, task, 3);
+    for word in ORDER.split(' ') {
+        let Ok(expected) = word.parse::<usize>() else {
+            panic!(rt; "no number");
+        };
+        assert!(rt;
+            first(agenda, task) == Some(expected),
+            "{task:?} {expected}"
+        );
+        set(rt, agenda, expected, Task::Done, 0);
+    }
+    assert!(rt; first(agenda, task).is_none());
 }
 
 #[test]
-fn the_least_label_is_first_also_after_one_was_lowered(rt: HostRuntime) -> Result<(), Fail> {
+fn the_least_label_is_first_also_after_one_was_lowered(rt: HostRuntime) {
     for task in [Task::Parked, Task::Waiting, Task::Due] {
-        let mut agenda = filled(rt.alloc(), task)?;
-        assert!(rt; agenda.len() == 10);
-        agenda.set(6, task, 3);
-        for expected in ORDER {
-            assert!(rt;
-                first(&agenda, task) == Some(expected),
-                "{task:?} {expected}"
-            );
-            assert!(rt; expected < agenda.len());
-            agenda.set(expected, Task::Done, 0);
-        }
-        assert!(rt; first(&agenda, task).is_none());
+        let mut agenda = Agenda::new(rt.alloc()).expect(&rt, "memory");
+        fill(&rt, rt.alloc(), &mut agenda, task);
+        come_in_order(&rt, &mut agenda, task);
     }
-    Ok(())
 }
 
-#[test]
-fn a_number_is_found_by_what_is_left_to_do(rt: HostRuntime) -> Result<(), Fail> {
-    let alloc = rt.alloc();
-    let mut agenda = Agenda::new(alloc)?;
-    let home = Address::read(alloc, "http://h/")?;
-    let away = Address::read(alloc, "http://i/")?;
-    agenda.add(alloc, Origin::of(&home)?, Task::Out, 0)?;
-    agenda.add(alloc, Origin::of(&away)?, Task::Parked, 2)?;
-    agenda.add(alloc, Origin::of(&away)?, Task::Parked, 1)?;
+// The parked number of an origin.
+fn first_parked(rt: &impl Abort, alloc: Global, agenda: &Agenda, text: &str) -> Option<usize> {
+    agenda.first_parked(&origin(rt, alloc, text))
+}
+
+// What the agenda of one number that is out and two that are parked says of these.
+fn say_what_is_left(rt: &impl Abort, alloc: Global, agenda: &Agenda) {
     assert!(rt; agenda.len() == 3);
     assert!(rt; agenda.first_due().is_none());
-    assert!(rt; agenda.first_parked(&Origin::of(&home)?).is_none());
-    assert!(rt; agenda.first_parked(&Origin::of(&away)?) == Some(2));
+    assert!(rt; first_parked(rt, alloc, agenda, "http://h/").is_none());
+    assert!(rt; first_parked(rt, alloc, agenda, "http://i/") == Some(2));
     assert!(rt; agenda.origin(1).as_str() == "http://i");
     assert!(rt; agenda.out(0) == 1);
     assert!(rt; agenda.out(1) == 0);
-    Ok(())
+}
+
+#[test]
+fn a_number_is_found_by_what_is_left_to_do(rt: HostRuntime) {
+    let alloc = rt.alloc();
+    let mut agenda = Agenda::new(alloc).expect(&rt, "memory");
+    add(&rt, alloc, &mut agenda, "http://h/", Task::Out, 0);
+    add(&rt, alloc, &mut agenda, "http://i/", Task::Parked, 2);
+    add(&rt, alloc, &mut agenda, "http://i/", Task::Parked, 1);
+    say_what_is_left(&rt, alloc, &agenda);
 }

@@ -5,7 +5,8 @@ use fetcher::{Answer, Ask, Fetcher};
 use frontier_core::{Cause, Event};
 use robots_rules::RuleSet;
 use site_maps::MapSite;
-use std::alloc::AllocError;
+use std::alloc::{AllocError, Global};
+use std::process::Abort;
 use workers::{Halt, Harvest, retrieve_in_order};
 
 /// The start leads to `/a`.
@@ -76,16 +77,27 @@ fn kept_one(halt: &Halt) -> bool {
         && ends_for_memory(harvest)
 }
 
-#[test]
-fn a_stop_for_memory_keeps_what_was_found(rt: HostRuntime) {
-    let site = MapSite::read(rt.alloc(), PAIR.as_bytes()).expect(&rt, "a map");
-    let mut short = Short {
+/// The halt of this site.
+fn halt_of(rt: &impl Abort, alloc: Global, short: &mut Short) -> Halt {
+    let plan = plan(rt, alloc, 3, 100);
+    match retrieve_in_order(alloc, &plan, short) {
+        Ok(_harvest) => panic!(rt; "no halt"),
+        Err(halt) => halt,
+    }
+}
+
+/// A site of these lines with one ask.
+fn short_of(rt: &impl Abort, alloc: Global, lines: &str) -> Short {
+    let site = MapSite::read(alloc, lines.as_bytes()).expect(rt, "a map");
+    Short {
         site,
         is_spent: false,
-    };
-    let plan = plan(&rt, rt.alloc(), 3, 100);
-    match retrieve_in_order(rt.alloc(), &plan, &mut short) {
-        Ok(_) => panic!(rt; "no halt"),
-        Err(halt) => assert!(rt; kept_one(&halt)),
     }
+}
+
+#[test]
+fn a_stop_for_memory_keeps_what_was_found(rt: HostRuntime) {
+    let mut short = short_of(&rt, rt.alloc(), PAIR);
+    let halt = halt_of(&rt, rt.alloc(), &mut short);
+    assert!(rt; kept_one(&halt));
 }
