@@ -1,8 +1,8 @@
 -- What is copied of a frontier's entries, and which names stand once.
-use Rattle.std.proofs.Common.{◌≡◌, ℕ, inl, inr, List, [], ◌∷◌, ◌++◌, length, map, Option, Some, None, zero, refl, sym, ap, ◌∙◌, subst, arith, append_assoc}
+use Rattle.std.proofs.Common.{◌≡◌, ℕ, ◌+◌, ◌<◌, inl, inr, List, [], ◌∷◌, ◌++◌, length, take, get_or, map, Option, Some, None, zero, refl, sym, ap, ◌∙◌, subst, arith}
 use Rattle.std.specs.Prelude.{Contains}
 use Rattle.std.specs.List.{filter_map}
-use Rattle.std.proofs.lemmas.List.{map-append, length-map}
+use Rattle.std.proofs.lemmas.List.{map-append, map_more, length-map}
 use Rattle.std.proofs.lemmas.List.Sorted.{IsPermutation-map, IsPermutation-sym, Contains-permutation}
 use Rattle.std.specs.List.Sorted.{IsPermutation}
 use Rattle.follow_filters.specs.declared.plan.Plan.{Plan}
@@ -14,7 +14,10 @@ use Rattle.robots_rules.specs.Access.{RuleSetValue}
 use Rattle.fetcher.specs.declared.outcome.Outcome.{Outcome}
 use Rattle.frontier_core.specs.Tables.{Text, keys, IsOnce}
 use Rattle.frontier_core.specs.Machine.{State, Slot, OriginRules, outcome_in, rules_in}
-use Rattle.frontier_core.specs.Readers.{Entry as Held, entry_of, record_of, ruled_of}
+use Rattle.frontier_core.specs.Readers.{Entry as Held, entry_of, record_of, ruled_of, item_entry}
+use Rattle.frontier_core.specs.declared.condition.Condition.{Condition}
+use Rattle.address.specs.declared.address.Address.{Address}
+use Rattle.std.specs.Borrow.{Bor}
 use Rattle.frontier_core.proofs.RouteLaws.{contains_tail, contains_cases}
 use Rattle.harvest.specs.declared.entry.Entry.{Entry}
 use Rattle.harvest.specs.Entries.{Seen, seen_of, seen_in, said_by, recorded_addresses, ruled_origins}
@@ -24,32 +27,59 @@ seen_all : (entries : List (Text × Slot)) → map seen_of (map entry_of entries
 seen_all [] = refl
 seen_all (entry ∷ entries) = ap (λ (rest : List Seen). seen_of (entry_of entry) ∷ rest) (seen_all entries)
 
-pub seen_is : (s : State) → map seen_of (map entry_of s.entries) ≡ seen_in s
+seen_is : (s : State) → map seen_of (map entry_of s.entries) ≡ seen_in s
 seen_is s = seen_all s.entries
 
--- one more entry
-pub said_push : (copies : List Entry) (one : Entry) (held : Held) (rest old : List Held) (all : List Seen) → map said_by copies ++ map seen_of old ≡ all
-    → old ≡ held ∷ rest → said_by one ≡ seen_of held → map said_by (copies ++ one ∷ []) ++ map seen_of rest ≡ all
-said_push copies one held rest old all so next is =
-    let more : map said_by (copies ++ one ∷ []) ≡ map said_by copies ++ said_by one ∷ [] = map-append said_by copies (one ∷ []) in
-    rw more (append_assoc (map said_by copies) (said_by one ∷ []) (map seen_of rest)
-    ∙ ap (λ (x : Seen). map said_by copies ++ x ∷ map seen_of rest) is
-    ∙ ap (λ (x : List Held). map said_by copies ++ map seen_of x) (sym next)
-    ∙ so)
+-- what a frontier lends of a held address
+abbrev pub Lent : Type 0
+Lent = Bor Address × ℕ × Condition
+
+-- what is to be said of it
+abbrev pub seen_lent : Lent → Seen
+seen_lent one = seen_of (item_entry one)
+
+-- its address
+abbrev pub lent_address : Lent → Text
+lent_address one = one.0.now
+
+seen_each : (held : List Lent) → map seen_lent held ≡ map seen_of (map item_entry held)
+seen_each [] = refl
+seen_each (one ∷ held) = ap (λ (rest : List Seen). seen_lent one ∷ rest) (seen_each held)
+
+-- what is lent of all addresses is to be said of the state
+pub seen_held : (s : State) (held : List Lent) → map item_entry held ≡ map entry_of s.entries → map seen_lent held ≡ seen_in s
+seen_held s held all = seen_each held ∙ ap (λ (x : List Held). map seen_of x) all ∙ seen_is s
 
 -- the addresses of entries, by what they say
 named_by : (entries : List Entry) → map (λ entry. entry.address) entries ≡ map (λ (seen : Seen). seen.0) (map said_by entries)
 named_by [] = refl
 named_by (entry ∷ entries) = ap (λ (rest : List Text). entry.address ∷ rest) (named_by entries)
 
+named_held : (held : List Lent) → map lent_address held ≡ map (λ (seen : Seen). seen.0) (map seen_lent held)
+named_held [] = refl
+named_held ((address, depth, condition) ∷ held) = ap (λ (rest : List Text). address.now ∷ rest) (named_held held)
+
 keys_by : (entries : List (Text × Slot)) → map (λ (seen : Seen). seen.0) (map (λ entry. seen_of (entry_of entry)) entries) ≡ keys entries
 keys_by [] = refl
 keys_by (entry ∷ entries) = ap (λ (rest : List Text). entry.0 ∷ rest) (keys_by entries)
 
--- entries that say what a state holds are named once
-pub once_entries : (s : State) (entries : List Entry) → map said_by entries ≡ seen_in s → IsOnce (keys s.entries) → IsOnce (map (λ entry. entry.address) entries)
-once_entries s entries said once =
-    subst IsOnce (sym (named_by entries ∙ ap (λ (x : List Seen). map (λ (seen : Seen). seen.0) x) said ∙ keys_by s.entries)) once
+-- entries have the addresses of that of which they say what is to be said
+pub named_alike : (entries : List Entry) (held : List Lent) → map said_by entries ≡ map seen_lent held → map lent_address held ≡ map (λ entry. entry.address) entries
+named_alike entries held said = named_held held ∙ sym (ap (λ (x : List Seen). map (λ (seen : Seen). seen.0) x) said) ∙ sym (named_by entries)
+
+-- one more entry
+pub said_more : (entries : List Entry) (entry : Entry) (held : List Lent) (i : ℕ) (d : Lent) → i < length held → map said_by entries ≡ map seen_lent (take i held)
+    → said_by entry ≡ seen_lent (get_or held i d) → map said_by (entries ++ entry ∷ []) ≡ map seen_lent (take (i + 1) held)
+said_more entries entry held i d within so is =
+    map-append said_by entries (entry ∷ [])
+    ∙ ap (λ (said : List Seen). said ++ said_by entry ∷ []) so
+    ∙ ap (λ (seen : Seen). map seen_lent (take i held) ++ seen ∷ []) is
+    ∙ sym (map_more seen_lent held i d within)
+
+-- no address is lent twice
+pub once_held : (s : State) (held : List Lent) → map item_entry held ≡ map entry_of s.entries → IsOnce (keys s.entries) → IsOnce (map lent_address held)
+once_held s held all once =
+    subst IsOnce (sym (named_held held ∙ ap (λ (x : List Seen). map (λ (seen : Seen). seen.0) x) (seen_held s held all) ∙ keys_by s.entries)) once
 
 -- what is recorded is held
 recorded_held : (entries : List (Text × Slot)) (u : Text) → Contains (recorded_addresses (filter_map record_of entries)) u → Contains (keys entries) u

@@ -9,6 +9,8 @@ use Rattle.std.specs.declared.cmp.Ordering.{Ordering}
 use Rattle.std.specs.declared.cmp.Ordering.TheVariants.{Less, Equal, Greater}
 use Rattle.std.specs.Cmp.Lexicographic.{slice_cmp, nat_list_cmp_total}
 use Rattle.std.proofs.lemmas.Option.{slice_get-get_or}
+use Rattle.std.proofs.lemmas.Slice.Eq.{bytes_eq-Decides}
+use Rattle.std.specs.Prelude.{bytes_eq, IsTrue}
 use Rattle.std.specs.List.Sorted.{IsBinarySearchResult, IsSearchInRange}
 use Rattle.std.specs.Ordering.{nat_cmp, ordering_reverse}
 use Rattle.fetcher.specs.declared.outcome.Outcome.TheVariants.{Leaf}
@@ -29,6 +31,12 @@ compare_same u = go (slice_cmp nat_cmp u u) (nat_list_cmp_total.antisymm u u)
 
 some_record : Text → Recorded
 some_record u = (u, Leaf 0)
+
+-- where the address stands at a place, that is its place
+pub place_here : (records : List Recorded) (u : Text) (k : ℕ) (d : Recorded) → k < length records → IsTrue (bytes_eq (get_or records k d).0 u) → IsPlaceOf records u (Some k)
+place_here records u k d within same =
+    let at : Recorded = get_or records k d in
+    (at.1, slice_get-get_or records k d within ∙ ap (λ (w : Text). Some (w, at.1)) ((bytes_eq-Decides at.0 u).0 same))
 
 -- what a binary search by the address finds
 pub place_found : (records : List Recorded) (u : Text) (r : Result ℕ ℕ) → IsAscending (recorded_addresses records) → IsSearchInRange r (length records)

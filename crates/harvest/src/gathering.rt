@@ -1,7 +1,7 @@
 //! What a frontier holds, gathered in address order.
-ghost use Rattle.std.specs.Prelude.{◌≡◌, List, IfOk, All, map, IsPermutation};
+ghost use Rattle.std.specs.Prelude.{◌≡◌, List, Some, IfOk, IsTrue, All, map, IsPermutation};
 ghost use Rattle.std.specs.List.{filter_map};
-ghost use Rattle.frontier_core.specs.Readers.{record_of, ruled_of};
+ghost use Rattle.frontier_core.specs.Readers.{entry_of, record_of, ruled_of, item_entry};
 ghost use Rattle.address.specs.AddressOrder.{IsAscending};
 ghost use Rattle.harvest.specs.Entries.{is_refused, seen_of, seen_in, said_by, recorded_addresses, ruled_origins, IsPlaceOf};
 
@@ -38,7 +38,7 @@ pub fn gather_records(
     // No address is held twice.
     let _trace = frontier.trace();
     let mut records = copy_records(alloc, frontier)?;
-    sort_by_name(&mut records);
+    sort_by_name(&mut records)?;
     Ok(records)
 }
 
@@ -65,15 +65,26 @@ pub fn gather_rules(
     // No origin is asked for twice.
     let _trace = frontier.trace();
     let mut rules = copy_rules(alloc, frontier)?;
-    sort_by_name(&mut rules);
+    sort_by_name(&mut rules)?;
     Ok(rules)
 }
 
-// The place of an address's outcome in records that are in address order.
-fn place_of(records: &[(Address, Outcome)], address: &Address) -> Option<usize>
+// Whether records have an address at this place.
+fn stands_at(records: &[(Address, Outcome)], place: usize, address: &Address) -> bool
+    ensures { IsTrue result → IsPlaceOf records.now address.now (Some place) }
+{
+    place < records.len() && records[place].0 == *address
+}
+
+// The place of an address's outcome in records that are in address order. The address is looked for at
+// this place, and then by halves.
+fn place_of(records: &[(Address, Outcome)], address: &Address, near: usize) -> Option<usize>
     requires { IsAscending (recorded_addresses records.now) }
     ensures { IsPlaceOf records.now address.now result }
 {
+    if stands_at(records, near, address) {
+        return Some(near);
+    }
     records
         .binary_search_by(|recorded| recorded.0.cmp(address))
         .ok()
@@ -86,12 +97,13 @@ fn is_refused(condition: Condition) -> bool
     matches!(condition, Condition::Refused)
 }
 
-// The entry of an address.
+// The entry of an address, whose outcome is looked for at this place in the records first.
 fn entry_of(
     address: &Address,
     depth: u32,
     condition: Condition,
     records: &[(Address, Outcome)],
+    near: usize,
 ) -> Result<Entry, AllocError>
     requires { IsAscending (recorded_addresses records.now) }
     ensures said { IfOk result (λ entry. said_by entry ≡ seen_of (address.now, depth, condition)) }
@@ -101,26 +113,46 @@ fn entry_of(
         address: address.try_clone()?,
         depth,
         refused: is_refused(condition),
-        answer: place_of(records, address),
+        answer: place_of(records, address, near),
     })
 }
 
-// The entries of a frontier in order of discovery, each with the place of its outcome.
-fn copy_entries(
+// What a frontier holds, in order of discovery.
+fn list_held<'a>(
     alloc: Global,
-    frontier: &Frontier,
+    frontier: &'a Frontier,
+) -> Result<Vec<(&'a Address, u32, Condition)>, AllocError>
+    ensures { IfOk result (λ held. map item_entry held.items ≡ map entry_of frontier.now.state.entries) }
+{
+    let mut held = Vec::new(alloc);
+    let mut entries = frontier.entries();
+    'entries: while let Some(entry) = entries.next() {
+        held.push(entry)?;
+    }
+    Ok(held)
+}
+
+// The entries of what is held, in its order, each with the place of its outcome.
+fn entries_of(
+    alloc: Global,
+    held: &[(&Address, u32, Condition)],
     records: &[(Address, Outcome)],
 ) -> Result<Vec<Entry>, AllocError>
     requires { IsAscending (recorded_addresses records.now) }
-    ensures same { IfOk result (λ entries. map said_by entries.items ≡ seen_in frontier.now.state) }
+    ensures same { IfOk result (λ entries. map said_by entries.items ≡ map (λ one. seen_of (item_entry one)) held.now) }
     ensures places { IfOk result (λ entries. All (λ entry. IsPlaceOf records.now entry.address entry.answer) entries.items) }
 {
-    let mut copies = Vec::new(alloc);
-    let mut entries = frontier.entries();
-    'entries: while let Some((address, depth, condition)) = entries.next() {
-        copies.push(entry_of(address, depth, condition, records)?)?;
+    let mut entries = Vec::with_capacity(alloc, held.len())?;
+    // Where what is held ascends as records do, the next outcome stands behind the last one.
+    let mut near = 0usize;
+    for (address, depth, condition) in held {
+        let entry = entry_of(address, *depth, *condition, records, near)?;
+        if let Some(place) = entry.answer {
+            near = place.saturating_add(1);
+        }
+        entries.push(entry)?;
     }
-    Ok(copies)
+    Ok(entries)
 }
 
 /// The entries of a frontier in address order, each with the place of its outcome in these records.
@@ -136,9 +168,9 @@ pub fn gather_entries(
 {
     // No address is held twice.
     let _trace = frontier.trace();
-    let mut entries = copy_entries(alloc, frontier, records)?;
-    sort_by_name(&mut entries);
-    Ok(entries)
+    let mut held = list_held(alloc, frontier)?;
+    sort_by_name(&mut held)?;
+    entries_of(alloc, held.as_slice(), records)
 }
 
 /// Addresses and bodies of pages, apart.

@@ -77,7 +77,7 @@ impl Harvest {
         requires kept { (u : List ℕ) → Contains (map (λ page. page.address) pages.items) u ↔ IsKept frontier.plan (answers frontier.state) u }
         ensures { IfOk result (IsHarvestOf frontier pages.items) }
     {
-        sort_by_name(&mut pages);
+        sort_by_name(&mut pages)?;
         let records = gather_records(alloc, &frontier)?;
         let entries = gather_entries(alloc, &frontier, records.as_slice())?;
         let rules = gather_rules(alloc, &frontier)?;

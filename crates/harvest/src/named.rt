@@ -1,13 +1,14 @@
 //! Things that are ordered by the text of an address or an origin.
-ghost use Rattle.std.specs.Prelude.{◌≡◌, List, ℕ, map, IsPermutation};
+ghost use Rattle.std.specs.Prelude.{◌≡◌, List, ℕ, map, OnOk, IsPermutation};
 ghost use Rattle.frontier_core.specs.Tables.{IsOnce};
 ghost use Rattle.address.specs.AddressOrder.{IsAscending};
 
-use crate::entry::Entry;
 use crate::page::KeptPage;
 use address::{Address, Origin};
 use fetcher::Outcome;
+use frontier_core::Condition;
 use robots_rules::RuleSet;
+use std::alloc::AllocError;
 
 /// Things that are named by a text.
 pub trait Named {
@@ -19,11 +20,11 @@ pub trait Named {
         ensures { result.now ≡ text_of self.now };
 }
 
-impl Named for Entry {
-    ghost text_of = { λ entry. entry.address };
+impl<'a> Named for (&'a Address, u32, Condition) {
+    ghost text_of = { λ held. held.0.now };
 
     fn name(&self) -> &str {
-        self.address.as_str()
+        self.0.as_str()
     }
 }
 
@@ -51,11 +52,13 @@ impl Named for (Origin, RuleSet) {
     }
 }
 
-/// Sorts things of which no two are named alike, by their names' bytes.
-pub fn sort_by_name<T: Named>(things: &mut Vec<T>)
+/// Sorts things of which no two are named alike, by their names' bytes. The error is want of memory.
+pub fn sort_by_name<T: Named>(things: &mut Vec<T>) -> Result<(), AllocError>
     requires { IsOnce (map T.text_of things.old.items) }
     ensures permutation { IsPermutation things.old.items things.new.items }
-    ensures ascending { IsAscending (map T.text_of things.new.items) }
+    ensures ascending { OnOk result (IsAscending (map T.text_of things.new.items)) }
 {
-    things.sort_unstable_by(|thing, other| thing.name().cmp(other.name()));
+    // The sort that keeps runs: things come in order of discovery, and links of a site mostly ascend,
+    // so that few names are compared.
+    things.sort_by(|thing, other| thing.name().cmp(other.name()))
 }

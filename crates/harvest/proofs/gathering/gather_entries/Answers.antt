@@ -1,19 +1,27 @@
--- No address is held twice; sorted, the entries say the same.
-use Rattle.std.proofs.Common.{subst, List, map}
+-- No address is held twice; sorted, what is held is the same, and the entries say it.
+use Rattle.std.proofs.Common.{◌≡◌, subst, sym, List, map}
 use Rattle.std.specs.List.Sorted.{IsPermutation}
-use Rattle.std.proofs.lemmas.List.Sorted.{IsPermutation-map, All-permutation}
-use Rattle.harvest.specs.Entries.{Seen, said_by, IsPlaceOf}
-use Rattle.harvest.specs.declared.entry.Entry.{Entry}
-use Rattle.harvest.proofs.GatherLaws.{once_entries}
+use Rattle.std.proofs.lemmas.List.Sorted.{IsPermutation-map}
+use Rattle.std.proofs.lemmas.Result.{IfOk-weaker}
+use Rattle.address.specs.AddressOrder.{IsAscending}
+use Rattle.harvest.specs.Entries.{Seen, said_by}
+use Rattle.harvest.proofs.GatherLaws.{Lent, seen_lent, lent_address, once_held, seen_held, named_alike}
 use Rattle.harvest.proofs.gathering.gather_entries.Goals as goal
 
 pub sort_by_name-requires : goal.sort_by_name-requires
-sort_by_name-requires c = once_entries c.args.frontier.now.state _ c.in_ok-entries.ensures.same c.trace-trace.ensures.sound.addresses
+sort_by_name-requires c = once_held c.args.frontier.now.state _ c.in_ok-held.ensures c.trace-trace.ensures.sound.addresses
+
+pub returns-clause-ascending : goal.returns-clause-ascending
+returns-clause-ascending c =
+    let up = subst (λ (held : List Lent). IsAscending (map lent_address held)) (sym c.as_slice.ensures.value) c.in_ok-sort_by_name.ensures.ascending in
+    IfOk-weaker c.entries_of.result _ _ (λ entries said. subst IsAscending (named_alike entries.items c.as_slice.result.now said) up) c.entries_of.ensures.same
 
 pub returns-clause-same : goal.returns-clause-same
 returns-clause-same c =
-    subst (λ (seen : List Seen). IsPermutation seen (map said_by c.sort_by_name.new.things.items)) c.in_ok-entries.ensures.same
-    (IsPermutation-map said_by _ _ c.sort_by_name.ensures.permutation)
-
-pub returns-clause-places : goal.returns-clause-places
-returns-clause-places c = All-permutation (λ (entry : Entry). IsPlaceOf c.args.records.now entry.address entry.answer) _ _ c.sort_by_name.ensures.permutation c.in_ok-entries.ensures.places
+    let held = c.in_ok-held.held.items in
+    let sorted = c.as_slice.result.now in
+    let moved = subst (λ (other : List Lent). IsPermutation held other) (sym c.as_slice.ensures.value) c.in_ok-sort_by_name.ensures.permutation in
+    IfOk-weaker c.entries_of.result _ _
+    (λ entries said. subst (λ (seen : List Seen). IsPermutation seen (map said_by entries.items)) (seen_held c.args.frontier.now.state held c.in_ok-held.ensures)
+      (subst (λ (seen : List Seen). IsPermutation (map seen_lent held) seen) (sym said) (IsPermutation-map seen_lent held sorted moved)))
+    c.entries_of.ensures.same

@@ -14,7 +14,7 @@ invariant_of-result c =
     let records = c.in_ok-records.ensures in
     let rules = c.in_ok-rules.ensures in
     let pages = are_pages c.args.frontier.plan (answers c.args.frontier.state) c.args.pages.items c.sort_by_name.new.things.items c.in_ok-addresses.field-0.addresses.items c.in_ok-addresses.field-0.bodies.items
-    c.requires.kept c.sort_by_name.ensures.permutation c.sort_by_name.ensures.ascending c.in_ok-addresses.ensures.addresses c.in_ok-addresses.ensures.bodies in (
+    c.requires.kept c.in_ok-sort_by_name.ensures.permutation c.in_ok-sort_by_name.ensures.ascending c.in_ok-addresses.ensures.addresses c.in_ok-addresses.ensures.bodies in (
       record {
         ascending = entries.ascending;
         same = entries.same;
