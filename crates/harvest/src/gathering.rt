@@ -1,6 +1,8 @@
 //! What a frontier holds, gathered in address order.
 ghost use Rattle.std.specs.Prelude.{◌≡◌, List, Some, IfOk, IsTrue, All, map, IsPermutation};
 ghost use Rattle.std.specs.List.{filter_map};
+ghost use Rattle.frontier_core.specs.Tables.{IsOnce};
+ghost use Rattle.harvest.specs.declared.page.KeptPage.{KeptPage};
 ghost use Rattle.frontier_core.specs.Readers.{entry_of, record_of, ruled_of, item_entry};
 ghost use Rattle.address.specs.AddressOrder.{IsAscending};
 ghost use Rattle.harvest.specs.Entries.{is_refused, seen_of, seen_in, said_by, recorded_addresses, ruled_origins, IsPlaceOf};
@@ -180,8 +182,36 @@ pub struct Parted {
     pub bodies: Vec<Bytes>,
 }
 
-/// Takes pages apart.
-pub fn part_pages(alloc: Global, pages: Vec<KeptPage>) -> Result<Parted, AllocError>
+/// What a frontier holds, in address order, and in origin order.
+#[derive(Drop)]
+pub struct Held {
+    pub entries: Vec<Entry>,
+    pub records: Vec<(Address, Outcome)>,
+    pub rules: Vec<(Origin, RuleSet)>,
+}
+
+/// What a frontier holds, each list sorted; an entry names the place of its outcome in the records.
+pub fn gather_held(alloc: Global, frontier: &Frontier) -> Result<Held, AllocError>
+    ensures entries_ascend { IfOk result (λ held. IsAscending (map (λ entry. entry.address) held.entries.items)) }
+    ensures entries { IfOk result (λ held. IsPermutation (seen_in frontier.now.state) (map said_by held.entries.items)) }
+    ensures places { IfOk result (λ held. All (λ entry. IsPlaceOf held.records.items entry.address entry.answer) held.entries.items) }
+    ensures records_ascend { IfOk result (λ held. IsAscending (recorded_addresses held.records.items)) }
+    ensures records { IfOk result (λ held. IsPermutation (filter_map record_of frontier.now.state.entries) held.records.items) }
+    ensures rules_ascend { IfOk result (λ held. IsAscending (ruled_origins held.rules.items)) }
+    ensures rules { IfOk result (λ held. IsPermutation (filter_map ruled_of frontier.now.state.origins) held.rules.items) }
+{
+    let records = gather_records(alloc, frontier)?;
+    let entries = gather_entries(alloc, frontier, records.as_slice())?;
+    let rules = gather_rules(alloc, frontier)?;
+    Ok(Held {
+        entries,
+        records,
+        rules,
+    })
+}
+
+// Takes pages apart.
+fn part_pages(alloc: Global, pages: Vec<KeptPage>) -> Result<Parted, AllocError>
     ensures addresses { IfOk result (λ parted. parted.addresses.items ≡ map (λ page. page.address) pages.items) }
     ensures bodies { IfOk result (λ parted. parted.bodies.items ≡ map (λ page. page.body) pages.items) }
 {
@@ -193,4 +223,15 @@ pub fn part_pages(alloc: Global, pages: Vec<KeptPage>) -> Result<Parted, AllocEr
         bodies.push(body)?;
     }
     Ok(Parted { addresses, bodies })
+}
+
+/// Pages in address order, taken apart.
+pub fn order_pages(alloc: Global, mut pages: Vec<KeptPage>) -> Result<Parted, AllocError>
+    requires { IsOnce (map (λ page. page.address) pages.items) }
+    ensures { IfOk result (λ parted. (sorted : List KeptPage) × IsPermutation pages.items sorted × IsAscending (map (λ page. page.address) sorted)
+        × (parted.addresses.items ≡ map (λ page. page.address) sorted) × (parted.bodies.items ≡ map (λ page. page.body) sorted)) }
+{
+    sort_by_name(&mut pages)?;
+    let parted = part_pages(alloc, pages)?;
+    Ok(parted)
 }

@@ -12,8 +12,7 @@ ghost use Rattle.harvest.specs.Pages.{IsKept};
 ghost use Rattle.harvest.specs.Gathered.{IsHarvestOf};
 
 use crate::entry::Entry;
-use crate::gathering::{Parted, gather_entries, gather_records, gather_rules, part_pages};
-use crate::named::sort_by_name;
+use crate::gathering::{Held, Parted, gather_held, order_pages};
 use crate::page::KeptPage;
 use address::{Address, Origin};
 use bytes::Bytes;
@@ -71,17 +70,18 @@ impl Harvest {
     pub fn gather(
         alloc: Global,
         frontier: Frontier,
-        mut pages: Vec<KeptPage>,
+        pages: Vec<KeptPage>,
     ) -> Result<Self, AllocError>
         requires once { IsOnce (map (λ page. page.address) pages.items) }
         requires kept { (u : List ℕ) → Contains (map (λ page. page.address) pages.items) u ↔ IsKept frontier.plan (answers frontier.state) u }
         ensures { IfOk result (IsHarvestOf frontier pages.items) }
     {
-        sort_by_name(&mut pages)?;
-        let records = gather_records(alloc, &frontier)?;
-        let entries = gather_entries(alloc, &frontier, records.as_slice())?;
-        let rules = gather_rules(alloc, &frontier)?;
-        let Parted { addresses, bodies } = part_pages(alloc, pages)?;
+        let Held {
+            entries,
+            records,
+            rules,
+        } = gather_held(alloc, &frontier)?;
+        let Parted { addresses, bodies } = order_pages(alloc, pages)?;
         Ok(Harvest {
             frontier: Some(frontier),
             entries,

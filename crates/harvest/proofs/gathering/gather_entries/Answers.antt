@@ -1,5 +1,5 @@
 -- No address is held twice; sorted, what is held is the same, and the entries say it.
-use Rattle.std.proofs.Common.{◌≡◌, subst, sym, List, map}
+use Rattle.std.proofs.Common.{subst, sym, List, map}
 use Rattle.std.specs.List.Sorted.{IsPermutation}
 use Rattle.std.proofs.lemmas.List.Sorted.{IsPermutation-map}
 use Rattle.std.proofs.lemmas.Result.{IfOk-weaker}
@@ -23,5 +23,5 @@ returns-clause-same c =
     let moved = subst (λ (other : List Lent). IsPermutation held other) (sym c.as_slice.ensures.value) c.in_ok-sort_by_name.ensures.permutation in
     IfOk-weaker c.entries_of.result _ _
     (λ entries said. subst (λ (seen : List Seen). IsPermutation seen (map said_by entries.items)) (seen_held c.args.frontier.now.state held c.in_ok-held.ensures)
-      (subst (λ (seen : List Seen). IsPermutation (map seen_lent held) seen) (sym said) (IsPermutation-map seen_lent held sorted moved)))
+    (subst (λ (seen : List Seen). IsPermutation (map seen_lent held) seen) (sym said) (IsPermutation-map seen_lent held sorted moved)))
     c.entries_of.ensures.same

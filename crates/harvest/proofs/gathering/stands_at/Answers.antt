@@ -1,5 +1,5 @@
 -- The outcome beside the address stands there.
-use Rattle.std.proofs.Common.{subst, sym}
+use Rattle.std.proofs.Common.{subst}
 use Rattle.std.specs.Prelude.{IsTrue}
 use Rattle.harvest.proofs.PlaceLaws.{place_here}
 use Rattle.harvest.proofs.gathering.stands_at.Goals as goal

@@ -13,6 +13,6 @@ returns-clause-ascending g c =
     let key = g.T.Named.text_of in
     on_ok_weaker c.sort_by.result
     (λ sorted. IsAscending-from_sorted key _
-      (sorted (λ x y. is_lt (slice_cmp nat_cmp (key x) (key y))) (ranks_by nat_list_cmp_total key) (answers_always _ _ _ (λ f a r f' k. search rules)))
-      (Apart-IsPermutation key _ _ c.sort_by.ensures.permutation (Apart-from_once key _ c.requires)))
+    (sorted (λ x y. is_lt (slice_cmp nat_cmp (key x) (key y))) (ranks_by nat_list_cmp_total key) (answers_always _ _ _ (λ f a r f' k. search rules)))
+    (Apart-IsPermutation key _ _ c.sort_by.ensures.permutation (Apart-from_once key _ c.requires)))
     c.sort_by.ensures.sorted
