@@ -2,113 +2,98 @@
 use address::Address;
 use local_tree::{ascend, names};
 use std::alloc::Global;
-use std::test::Fail;
+use std::process::Abort;
 
-// The names of pages whose texts ascend, each with a line end.
-fn named(alloc: Global, texts: &[&str]) -> Result<String, Fail> {
+// Whether no segment of the name is empty, `.` or `..`.
+fn stays_inside(name: &str) -> bool {
+    name.split('/')
+        .all(|segment| !matches!(segment, "" | "." | ".."))
+}
+
+// The pages of these texts.
+fn pages_of(rt: &impl Abort, alloc: Global, texts: &str) -> Vec<Address> {
     let mut pages = Vec::new(alloc);
-    for text in texts {
-        pages.push(Address::read(alloc, text)?)?;
+    for text in texts.split(' ') {
+        let page = Address::read(alloc, text).expect(rt, "an address");
+        pages.push(page).expect(rt, "memory");
     }
-    let mut lines = String::new(alloc);
-    if ascend(&pages) {
-        for name in names(alloc, &pages)?.iter() {
-            lines.push_str(name.as_str())?;
-            lines.push('\n')?;
-        }
-    }
-    Ok(lines)
+    pages
 }
 
-// Whether no line has a segment that is empty, `.` or `..`.
-fn stay_inside(lines: &str) -> bool {
-    lines.lines().all(|name| {
-        name.split('/')
-            .all(|segment| !matches!(segment, "" | "." | ".."))
-    })
+// The names of pages whose texts ascend.
+fn names_of(rt: &impl Abort, alloc: Global, pages: &[Address]) -> Vec<String> {
+    assert!(rt; ascend(pages));
+    names(alloc, pages).expect(rt, "memory")
 }
 
-// The text of the host `h`, with this letter or mark that often below it, and an end.
-fn page_of(alloc: Global, mark: &str, count: u8, end: &str) -> Result<String, Fail> {
-    let mut text = String::from_str(alloc, "http://h/")?;
+// The names are these, and stay inside.
+fn are_these(rt: &impl Abort, names: &[String], expected: &str) {
+    let mut words = expected.split(' ');
+    for name in names {
+        let name = name.as_str();
+        let word = words.next().unwrap_or("");
+        assert!(rt; name == word, "{name} isn't next in: {expected}");
+        assert!(rt; stays_inside(name), "{name} leads out");
+    }
+    assert!(rt; words.next().is_none(), "more are named in: {expected}");
+}
+
+// The pages of these texts, which ascend, have these names.
+fn are_named(rt: &impl Abort, alloc: Global, texts: &str, expected: &str) {
+    let pages = pages_of(rt, alloc, texts);
+    let names = names_of(rt, alloc, &pages);
+    are_these(rt, &names, expected);
+}
+
+// Each line is pages, `=>` and their names.
+fn rows_hold(rt: &impl Abort, alloc: Global, rows: &str) {
+    for row in rows.lines() {
+        let (texts, expected) = row.split_once(" => ").unwrap_or((row, ""));
+        are_named(rt, alloc, texts, expected);
+    }
+}
+
+// In the second row the first page keeps its name where it is free, and a number that is a directory is passed over. In the
+// third a name is taken however many pages stand between.
+const CLASHES: &str = "http://h/a http://h/a/ http://h/a/b http://h/a/index.html \
+    => h/a.1 h/a/index.html h/a/b h/a/index.html.1
+http://h//c http://h/a http://h/a.1/x http://h/a/b http://h/c http://h/c.1 \
+    => h/c h/a.2 h/a.1/x h/a/b h/c.1 h/c.1.1
+http://h/ http://h/a http://h/b http://h/index.html http://h/index.html.1 http://h/z \
+    => h/index.html h/a h/b h/index.html.1 h/index.html.1.1 h/z";
+
+#[test]
+fn pages_that_clash_are_numbered(rt: HostRuntime) {
+    rows_hold(&rt, rt.alloc(), CLASHES);
+}
+
+const ODD: &str = "http://h/.../x http://h/a//b?u=/c http://h/a? http://h:81/ \
+    => h/%2E%2E%2E/x h/a/b?u=%2Fc h/a? h:81/index.html";
+
+#[test]
+fn odd_segments_stay_inside(rt: HostRuntime) {
+    rows_hold(&rt, rt.alloc(), ODD);
+}
+
+// Behind the text the start, so many times the piece, and the end.
+fn push(rt: &impl Abort, text: &mut String, start: &str, piece: &str, count: u8, end: &str) {
+    text.push_str(start).expect(rt, "memory");
     for _ in 0..count {
-        text.push_str(mark)?;
+        text.push_str(piece).expect(rt, "memory");
     }
-    text.push_str(end)?;
-    Ok(text)
+    text.push_str(end).expect(rt, "memory");
 }
 
 #[test]
-fn pages_that_clash_are_numbered(rt: HostRuntime) -> Result<(), Fail> {
-    let texts = [
-        "http://h/a",
-        "http://h/a/",
-        "http://h/a/b",
-        "http://h/a/index.html",
-    ];
-    let lines = named(rt.alloc(), &texts)?;
-    assert!(rt; stay_inside(lines.as_str()));
-    assert!(rt; lines.as_str() == "h/a.1\nh/a/index.html\nh/a/b\nh/a/index.html.1\n");
-    // The first page keeps its name where it is free, and a number that is a directory is passed over.
-    let texts = [
-        "http://h//c",
-        "http://h/a",
-        "http://h/a.1/x",
-        "http://h/a/b",
-        "http://h/c",
-        "http://h/c.1",
-    ];
-    let lines = named(rt.alloc(), &texts)?;
-    assert!(rt; lines.as_str() == "h/c\nh/a.2\nh/a.1/x\nh/a/b\nh/c.1\nh/c.1.1\n");
-    // A name is taken however many pages stand between.
-    let texts = [
-        "http://h/",
-        "http://h/a",
-        "http://h/b",
-        "http://h/index.html",
-        "http://h/index.html.1",
-        "http://h/z",
-    ];
-    let lines = named(rt.alloc(), &texts)?;
-    assert!(rt;
-        lines.as_str() == "h/index.html\nh/a\nh/b\nh/index.html.1\nh/index.html.1.1\nh/z\n"
-    );
-    Ok(())
-}
-
-#[test]
-fn odd_segments_stay_inside(rt: HostRuntime) -> Result<(), Fail> {
-    let texts = [
-        "http://h/.../x",
-        "http://h/a//b?u=/c",
-        "http://h/a?",
-        "http://h:81/",
-    ];
-    let lines = named(rt.alloc(), &texts)?;
-    assert!(rt; stay_inside(lines.as_str()));
-    assert!(rt; lines.as_str() == "h/%2E%2E%2E/x\nh/a/b?u=%2Fc\nh/a?\nh:81/index.html\n");
-    Ok(())
-}
-
-#[test]
-fn long_segments_are_cut(rt: HostRuntime) -> Result<(), Fail> {
+fn long_segments_are_cut(rt: HostRuntime) {
     let alloc = rt.alloc();
-    let shorter = page_of(alloc, "a", 250, "")?;
-    let longer = page_of(alloc, "a", 251, "")?;
-    let dots = page_of(alloc, ".", 100, "/x")?;
-    let texts = [dots.as_str(), shorter.as_str(), longer.as_str()];
-    let lines = named(alloc, &texts)?;
-    let mut want = String::from_str(alloc, "h/")?;
-    for _ in 0..66u8 {
-        want.push_str("%2E")?;
-    }
-    want.push_str("%2/x\nh/")?;
-    for end in ["\nh/", ".1\n"] {
-        for _ in 0..200u8 {
-            want.push('a')?;
-        }
-        want.push_str(end)?;
-    }
-    assert!(rt; lines.as_str() == want.as_str());
-    Ok(())
+    let mut texts = String::new(alloc);
+    push(&rt, &mut texts, "http://h/", ".", 100, "/x ");
+    push(&rt, &mut texts, "http://h/", "a", 250, " ");
+    push(&rt, &mut texts, "http://h/", "a", 251, "");
+    let mut expected = String::new(alloc);
+    push(&rt, &mut expected, "h/", "%2E", 66, "%2/x ");
+    push(&rt, &mut expected, "h/", "a", 200, " ");
+    push(&rt, &mut expected, "h/", "a", 200, ".1");
+    are_named(&rt, alloc, texts.as_str(), expected.as_str());
 }
