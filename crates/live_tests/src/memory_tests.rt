@@ -330,10 +330,11 @@ fn holds_a_front<R: Abort + Threads + Wait + Sync>(
     let mut writer = Narrow { held, room };
     let words = "-r http://h/";
     let status = live_alone(rt, alloc, words, answers, &[], &mut folder, &mut writer);
+    let (last, body) = FILES[2];
     status == 1
         && writer.held.len() == room
         && WHOLE.as_bytes().starts_with(&writer.held)
-        && folder.file("h/b") == Some(b"B".as_slice())
+        && folder.file(last) == Some(body.as_bytes())
 }
 
 #[test]
