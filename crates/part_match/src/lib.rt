@@ -4,8 +4,6 @@
 
 mod matcher;
 mod parts;
-#[cfg(test)]
-mod tests;
 
 pub use matcher::matches;
 pub use parts::{Part, Text};

@@ -1,9 +1,12 @@
-//! Retrievals that were worked out by hand: tests alone, of the frontier, of what it is made of and of those who drive it.
-//! They stand above these crates, so none is proved once more with them, and their proofs see clauses and no fields.
+//! Retrievals that were worked out by hand, and what is made of them: tests alone, of the frontier, of what it is made of and
+//! of those who drive it, of spools, of the names of pages, of folders in memory and on a disk, and of the report. They stand
+//! above these crates, so none is proved once more with them, and their proofs see clauses and no fields.
 #![tactic(auto)]
 
 #[cfg(test)]
 mod agenda_tests;
+#[cfg(test)]
+mod disk_tests;
 #[cfg(test)]
 mod frontier_tests;
 #[cfg(test)]
@@ -13,4 +16,10 @@ mod long_tests;
 #[cfg(test)]
 mod memory_tests;
 #[cfg(test)]
+mod name_tests;
+#[cfg(test)]
+mod report_tests;
+#[cfg(test)]
 mod script;
+#[cfg(test)]
+mod spool_tests;

@@ -9,7 +9,5 @@ mod pattern;
 mod pieces;
 mod rule;
 mod rule_set;
-#[cfg(test)]
-mod tests;
 
 pub use rule_set::{RuleSet, parse};

@@ -1,5 +1,6 @@
-//! Sites in examples: tests alone, of outcomes, maps, records, what a response answers and sites that are asked over
-//! connections. They stand above the crates that they are of, so none is proved once more with them.
+//! What sites answer, in examples: tests alone, of the reader of responses, of the links of a page, of robots files, of outcomes,
+//! maps and records, of what a response answers and of sites that are asked over connections. They stand above the crates
+//! that they are of, so none is proved once more with them.
 #![tactic(auto)]
 
 #[cfg(test)]
@@ -7,8 +8,14 @@ mod digest_tests;
 #[cfg(test)]
 mod fetch_tests;
 #[cfg(test)]
+mod link_tests;
+#[cfg(test)]
 mod map_tests;
 #[cfg(test)]
 mod outcome_tests;
 #[cfg(test)]
+mod reader_tests;
+#[cfg(test)]
 mod record_tests;
+#[cfg(test)]
+mod robots_tests;

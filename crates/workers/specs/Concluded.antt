@@ -12,6 +12,7 @@ use Rattle.frontier_core.specs.declared.event.Cause.{Cause}
 use Rattle.workers.specs.declared.note.PageNote.{PageNote}
 use Rattle.workers.specs.declared.note.RulesNote.{RulesNote}
 use Rattle.harvest.specs.Harvests.{Harvested}
+use Rattle.harvest.specs.declared.page.KeptPage.{KeptPage}
 use Rattle.workers.specs.Noted.{Agrees, page_of}
 use Rattle.workers.specs.Notes.{addresses, origins}
 use Rattle.harvest.specs.Pages.{is_success}
@@ -33,6 +34,18 @@ pub record IsConcluded (plan : Plan) (frontier : Traced) (notes : List PageNote)
   pub replay : IsReplay (policy frontier.plan) frontier.trace frontier.state
   pub agrees : Agrees frontier.state sorted sorted_sets
   pub harvest : IsHarvestOf frontier (filter_map page_of sorted) h
+
+-- The frontier went by the plan and is the replay of its trace; what was noted, put in order, agrees with its table; and these
+-- are the pages that are kept of it.
+pub record IsBorneOut (plan : Plan) (frontier : Traced) (notes : List PageNote) (sets : List RulesNote) (pages : List KeptPage) : Type 0 where
+  pub sorted : List PageNote
+  pub sorted_sets : List RulesNote
+  pub moved : IsPermutation notes sorted
+  pub moved_sets : IsPermutation sets sorted_sets
+  pub follows : frontier.plan ≡ plan
+  pub replay : IsReplay (policy frontier.plan) frontier.trace frontier.state
+  pub agrees : Agrees frontier.state sorted sorted_sets
+  pub kept : pages ≡ filter_map page_of sorted
 
 -- nothing was asked for twice, and there was no memory for a harvest
 pub record IsBare (notes : List PageNote) (sets : List RulesNote) (cause : Cause) (h : Harvested) : Type 0 where

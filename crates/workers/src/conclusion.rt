@@ -6,7 +6,7 @@ ghost use Rattle.frontier_core.specs.Invariants.{IsComplete, IsOverfull};
 ghost use Rattle.frontier_core.specs.Plans.{policy};
 ghost use Rattle.frontier_core.specs.Routes.{HasTooMany};
 ghost use Rattle.frontier_core.specs.Tables.{IsOnce};
-ghost use Rattle.workers.specs.Concluded.{HasBody, IsConcluded, IsBare};
+ghost use Rattle.workers.specs.Concluded.{HasBody, IsConcluded, IsBorneOut, IsBare};
 ghost use Rattle.workers.specs.Noted.{page_of};
 
 use crate::comparison::agree;
@@ -57,12 +57,36 @@ fn keep_pages(alloc: Global, notes: Vec<PageNote>) -> Result<Vec<KeptPage>, Allo
     Ok(pages)
 }
 
+// The pages that are kept of notes, which are compared with the plan and the frontier's table.
+fn kept_pages(
+    alloc: Global,
+    plan: &Plan,
+    frontier: &Frontier,
+    mut notes: Notes,
+) -> Result<Vec<KeptPage>, Halt>
+    ensures ok { IfOk result (λ pages. IsBorneOut plan.now frontier.now notes.pages.items notes.rules.items pages.items) }
+    ensures err { IfErr result (λ halt. halt.cause ≢ Cause.Mismatch → IsBare notes.pages.items notes.rules.items halt.cause halt.harvest) }
+    ensures full { IfErr result (λ halt. halt.cause ≢ Cause.Full) }
+{
+    if !frontier.plan().same(plan) {
+        return Err(Halt::mismatch(alloc));
+    }
+    if !agree(frontier, &mut notes) {
+        return Err(Halt::mismatch(alloc));
+    }
+    let Notes { pages, rules: _ } = notes;
+    match keep_pages(alloc, pages) {
+        Ok(pages) => Ok(pages),
+        Err(AllocError) => Err(Halt::empty(alloc)),
+    }
+}
+
 /// What a crew brings in or leaves, by its notes and its frontier.
 pub fn conclude(
     alloc: Global,
     plan: &Plan,
     frontier: Frontier,
-    mut notes: Notes,
+    notes: Notes,
 ) -> Result<Harvest, Halt>
     requires { All (HasBody plan.now) notes.pages.items }
     ensures ok { IfOk result (λ h. IsConcluded plan.now frontier notes.pages.items notes.rules.items h × IsQuiet frontier.state × IsComplete (policy frontier.plan) frontier.state) }
@@ -70,16 +94,9 @@ pub fn conclude(
         ⊎ (IsConcluded plan.now frontier notes.pages.items notes.rules.items halt.harvest × (frontier.state.cause ≡ Some halt.cause))) }
     ensures full { IfErr result (λ halt. halt.cause ≡ Cause.Full → HasTooMany (policy frontier.plan) (answers frontier.state) × IsOverfull (policy frontier.plan) frontier.state) }
 {
-    if !frontier.plan().same(plan) {
-        return Err(Halt::mismatch(alloc));
-    }
-    if !agree(&frontier, &mut notes) {
-        return Err(Halt::mismatch(alloc));
-    }
     let ended = end_of(&frontier);
-    let Notes { pages, rules: _ } = notes;
-    let Ok(pages) = keep_pages(alloc, pages) else {
-        return Err(Halt::empty(alloc));
-    };
-    finish(alloc, frontier, pages, ended)
+    match kept_pages(alloc, plan, &frontier, notes) {
+        Ok(pages) => finish(alloc, frontier, pages, ended),
+        Err(halt) => Err(halt),
+    }
 }

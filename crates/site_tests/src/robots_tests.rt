@@ -1,7 +1,7 @@
 //! Robots files and what they allow: the examples of RFC 9309 and what each of its rules comes to at its edges.
-use crate::{RuleSet, parse};
-use std::alloc::{AllocError, Global};
-use std::test::Fail;
+use robots_rules::{RuleSet, parse};
+use std::alloc::Global;
+use std::process::Abort;
 
 /// One robots file, what it shows, and the paths that it allows and refuses.
 #[derive(Clone, Copy)]
@@ -12,29 +12,34 @@ struct Row {
     refused: &'static [&'static str],
 }
 
-/// Which paths a file is wrong about: the first, if any, also after the rules were copied.
-fn wrong(
-    alloc: Global,
-    file: &[u8],
-    allowed: &[&'static str],
-    refused: &[&'static str],
-) -> Result<Option<&'static str>, AllocError> {
-    let set = parse(alloc, file)?;
-    let copy = set.try_clone(alloc)?;
-    if !set.same(&copy) {
-        return Ok(Some("the copy"));
-    }
-    for path in allowed {
+/// The rules of a file.
+fn rules(rt: &impl Abort, alloc: Global, file: &[u8]) -> RuleSet {
+    parse(alloc, file).expect(rt, "memory")
+}
+
+/// Which path the rules are wrong about: the first, if any. The copy refuses what it must.
+fn wrong_path(set: &RuleSet, copy: &RuleSet, row: &Row) -> Option<&'static str> {
+    for path in row.allowed {
         if !set.allows(path) {
-            return Ok(Some(path));
+            return Some(path);
         }
     }
-    for path in refused {
+    for path in row.refused {
         if copy.allows(path) {
-            return Ok(Some(path));
+            return Some(path);
         }
     }
-    Ok(None)
+    None
+}
+
+/// What a row is wrong about: the first, if any, also after the rules were copied.
+fn wrong(rt: &impl Abort, alloc: Global, row: &Row) -> Option<&'static str> {
+    let set = rules(rt, alloc, row.file);
+    let copy = set.try_clone(alloc).expect(rt, "memory");
+    if !set.same(&copy) {
+        return Some("the copy");
+    }
+    wrong_path(&set, &copy, row)
 }
 
 // RFC 9309, sections 5.1, 5.2, 2.2.1, 2.2.2 and 2.2.3.
@@ -312,7 +317,7 @@ const LINES: [Row; 9] = [
 ];
 
 #[test]
-fn each_row_allows_and_refuses_what_it_says(rt: HostRuntime) -> Result<(), Fail> {
+fn each_row_allows_and_refuses_what_it_says(rt: HostRuntime) {
     for rows in [
         STANDARD.as_slice(),
         MATCHES.as_slice(),
@@ -320,55 +325,46 @@ fn each_row_allows_and_refuses_what_it_says(rt: HostRuntime) -> Result<(), Fail>
         LINES.as_slice(),
     ] {
         for row in rows {
-            let wrong = wrong(rt.alloc(), row.file, row.allowed, row.refused)?;
+            let wrong = wrong(&rt, rt.alloc(), row);
             assert_eq!(rt; wrong, None, "{}", row.shows);
         }
     }
-    Ok(())
 }
 
-/// A group for every agent with a comment line, so many bytes in all, and then what follows.
-fn long_file(alloc: Global, bytes: usize, rest: &[u8]) -> Result<Vec<u8>, AllocError> {
-    let mut file = Vec::from_slice(alloc, b"User-agent: *\n#")?;
-    for _ in 16..bytes {
-        file.push(b'x')?;
-    }
-    file.push(b'\n')?;
-    file.extend_from_slice(rest)?;
-    Ok(file)
+/// A group for every agent with a comment line, so many bytes up to its end, and then what follows.
+fn long_file(rt: &impl Abort, alloc: Global, bytes: usize, rest: &[u8]) -> Vec<u8> {
+    let mut file = Vec::from_slice(alloc, b"User-agent: *\n#").expect(rt, "memory");
+    file.resize(bytes, b'x').expect(rt, "memory");
+    file.push(b'\n').expect(rt, "memory");
+    file.extend_from_slice(rest).expect(rt, "memory");
+    file
 }
 
 #[test]
-fn a_line_that_the_limit_cuts_is_passed_over(rt: HostRuntime) -> Result<(), Fail> {
-    let abc = ["/abc"];
+fn a_line_that_the_limit_cuts_is_passed_over(rt: HostRuntime) {
     let rows: [(usize, &[u8], bool); 6] = [
-        (511_989, b"Disallow: /abc\n", true),
-        (511_985, b"Disallow: /abc\n", false),
-        (511_985, b"Disallow: /abc\nDisallow: /\n", false),
-        (511_985, b"Disallow: /abc\rDisallow: /\n", false),
-        (511_986, b"Disallow: /abc\n", true),
-        (511_986, b"Disallow: /abc", false),
+        (511_988, b"Disallow: /abc\n", true),
+        (511_984, b"Disallow: /abc\n", false),
+        (511_984, b"Disallow: /abc\nDisallow: /\n", false),
+        (511_984, b"Disallow: /abc\rDisallow: /\n", false),
+        (511_985, b"Disallow: /abc\n", true),
+        (511_985, b"Disallow: /abc", false),
     ];
     for (bytes, rest, allows) in rows {
-        let file = long_file(rt.alloc(), bytes, rest)?;
-        let set = parse(rt.alloc(), &file)?;
-        assert_eq!(rt; set.allows(abc[0]), allows, "{bytes}");
+        let file = long_file(&rt, rt.alloc(), bytes, rest);
+        let set = rules(&rt, rt.alloc(), &file);
+        assert_eq!(rt; set.allows("/abc"), allows, "{bytes}");
         assert!(rt; set.allows("/x"));
     }
-    Ok(())
 }
 
 #[test]
-fn all_and_none_need_no_file(rt: HostRuntime) -> Result<(), Fail> {
-    let empty = parse(rt.alloc(), b"")?;
-    let other = parse(rt.alloc(), b"user-agent: *\ndisallow: /\n")?;
+fn all_and_none_need_no_file(rt: HostRuntime) {
+    let empty = rules(&rt, rt.alloc(), b"");
+    let other = rules(&rt, rt.alloc(), b"user-agent: *\ndisallow: /\n");
     assert!(rt; RuleSet::all().allows("/") && !RuleSet::none().allows("/"));
     assert!(rt; RuleSet::all().same(&empty) && !RuleSet::all().same(&RuleSet::none()));
     assert!(rt; !RuleSet::none().same(&other) && !other.same(&empty));
-    assert!(rt;
-        RuleSet::none()
-            .try_clone(rt.alloc())?
-            .same(&RuleSet::none())
-    );
-    Ok(())
+    let copy = RuleSet::none().try_clone(rt.alloc()).expect(&rt, "memory");
+    assert!(rt; copy.same(&RuleSet::none()));
 }

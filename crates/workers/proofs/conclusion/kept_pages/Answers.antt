@@ -1,0 +1,15 @@
+use Rattle.std.proofs.Common.{refl}
+use Rattle.std.proofs.lemmas.List.Sorted.{IsPermutation-map, IsPermutation-sym}
+use Rattle.workers.specs.declared.note.PageNote.{PageNote}
+use Rattle.workers.specs.declared.note.RulesNote.{RulesNote}
+use Rattle.workers.proofs.ConclusionLaws.{once_permutation}
+use Rattle.workers.proofs.conclusion.kept_pages.Goals as goal
+
+pub returns-clause-err : goal.returns-clause-err
+returns-clause-err c other =
+    let agrees = c.if-not-agree.ensures.agrees refl in
+    record {
+      once = once_permutation _ _ (IsPermutation-sym _ _ (IsPermutation-map (λ (note : PageNote). note.address) _ _ c.agree.ensures.pages)) agrees.once;
+      once_origins = once_permutation _ _ (IsPermutation-sym _ _ (IsPermutation-map (λ (note : RulesNote). note.origin) _ _ c.agree.ensures.rules)) agrees.once_origins;
+      nothing = c.empty.ensures;
+    }
