@@ -191,7 +191,7 @@ pub struct Held {
 }
 
 /// What a frontier holds, each list sorted; an entry names the place of its outcome in the records.
-pub fn gather_held(alloc: Global, frontier: &Frontier) -> Result<Held, AllocError>
+fn gather_held(alloc: Global, frontier: &Frontier) -> Result<Held, AllocError>
     ensures entries_ascend { IfOk result (λ held. IsAscending (map (λ entry. entry.address) held.entries.items)) }
     ensures entries { IfOk result (λ held. IsPermutation (seen_in frontier.now.state) (map said_by held.entries.items)) }
     ensures places { IfOk result (λ held. All (λ entry. IsPlaceOf held.records.items entry.address entry.answer) held.entries.items) }
@@ -226,7 +226,7 @@ fn part_pages(alloc: Global, pages: Vec<KeptPage>) -> Result<Parted, AllocError>
 }
 
 /// Pages in address order, taken apart.
-pub fn order_pages(alloc: Global, mut pages: Vec<KeptPage>) -> Result<Parted, AllocError>
+fn order_pages(alloc: Global, mut pages: Vec<KeptPage>) -> Result<Parted, AllocError>
     requires { IsOnce (map (λ page. page.address) pages.items) }
     ensures { IfOk result (λ parted. (sorted : List KeptPage) × IsPermutation pages.items sorted × IsAscending (map (λ page. page.address) sorted)
         × (parted.addresses.items ≡ map (λ page. page.address) sorted) × (parted.bodies.items ≡ map (λ page. page.body) sorted)) }
@@ -234,4 +234,26 @@ pub fn order_pages(alloc: Global, mut pages: Vec<KeptPage>) -> Result<Parted, Al
     sort_by_name(&mut pages)?;
     let parted = part_pages(alloc, pages)?;
     Ok(parted)
+}
+
+/// What a frontier holds, and pages in address order, taken apart.
+pub fn gather_all(
+    alloc: Global,
+    frontier: &Frontier,
+    pages: Vec<KeptPage>,
+) -> Result<(Held, Parted), AllocError>
+    requires { IsOnce (map (λ page. page.address) pages.items) }
+    ensures entries_ascend { IfOk result (λ all. IsAscending (map (λ entry. entry.address) all.0.entries.items)) }
+    ensures entries { IfOk result (λ all. IsPermutation (seen_in frontier.now.state) (map said_by all.0.entries.items)) }
+    ensures places { IfOk result (λ all. All (λ entry. IsPlaceOf all.0.records.items entry.address entry.answer) all.0.entries.items) }
+    ensures records_ascend { IfOk result (λ all. IsAscending (recorded_addresses all.0.records.items)) }
+    ensures records { IfOk result (λ all. IsPermutation (filter_map record_of frontier.now.state.entries) all.0.records.items) }
+    ensures rules_ascend { IfOk result (λ all. IsAscending (ruled_origins all.0.rules.items)) }
+    ensures rules { IfOk result (λ all. IsPermutation (filter_map ruled_of frontier.now.state.origins) all.0.rules.items) }
+    ensures pages { IfOk result (λ all. (sorted : List KeptPage) × IsPermutation pages.items sorted × IsAscending (map (λ page. page.address) sorted)
+        × (all.1.addresses.items ≡ map (λ page. page.address) sorted) × (all.1.bodies.items ≡ map (λ page. page.body) sorted)) }
+{
+    let held = gather_held(alloc, frontier)?;
+    let parted = order_pages(alloc, pages)?;
+    Ok((held, parted))
 }

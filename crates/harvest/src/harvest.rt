@@ -12,7 +12,7 @@ ghost use Rattle.harvest.specs.Pages.{IsKept};
 ghost use Rattle.harvest.specs.Gathered.{IsHarvestOf};
 
 use crate::entry::Entry;
-use crate::gathering::{Held, Parted, gather_held, order_pages};
+use crate::gathering::{Held, Parted, gather_all};
 use crate::page::KeptPage;
 use address::{Address, Origin};
 use bytes::Bytes;
@@ -76,12 +76,13 @@ impl Harvest {
         requires kept { (u : List ℕ) → Contains (map (λ page. page.address) pages.items) u ↔ IsKept frontier.plan (answers frontier.state) u }
         ensures { IfOk result (IsHarvestOf frontier pages.items) }
     {
+        let (held, parted) = gather_all(alloc, &frontier, pages)?;
         let Held {
             entries,
             records,
             rules,
-        } = gather_held(alloc, &frontier)?;
-        let Parted { addresses, bodies } = order_pages(alloc, pages)?;
+        } = held;
+        let Parted { addresses, bodies } = parted;
         Ok(Harvest {
             frontier: Some(frontier),
             entries,

@@ -5,9 +5,9 @@ use Rattle.harvest.proofs.harvest.Harvest.gather.Goals as goal
 
 pub invariant_of-result : goal.invariant_of-result
 invariant_of-result c =
-    let held = c.in_ok-entries.ensures in
-    let (sorted, moved, up, names, parts) = c.in_ok-addresses.ensures in
-    let pages = are_pages c.args.frontier.plan (answers c.args.frontier.state) c.args.pages.items sorted c.in_ok-addresses.field-0.addresses.items c.in_ok-addresses.field-0.bodies.items
+    let held = c.in_ok-held.ensures in
+    let (sorted, moved, up, names, parts) = held.pages in
+    let pages = are_pages c.args.frontier.plan (answers c.args.frontier.state) c.args.pages.items sorted c.in_ok-held.parted.addresses.items c.in_ok-held.parted.bodies.items
     c.requires.kept moved up names parts in (
       record { ascending = held.entries_ascend; same = held.entries; places = held.places },
       record { ascending = held.records_ascend; same = held.records },
