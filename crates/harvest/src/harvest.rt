@@ -27,7 +27,7 @@ use std::marker::Model;
 /// short; then its trace has no line.
 #[derive(Drop)]
 pub struct Harvest {
-    frontier: Option<Frontier>,
+    frontier: Option<Box<Frontier>>,
     entries: Vec<Entry>,
     records: Vec<(Address, Outcome)>,
     rules: Vec<(Origin, RuleSet)>,
@@ -39,12 +39,13 @@ impl Model for Harvest {
     ghost use Rattle.harvest.specs.Harvests.{Harvested, plan_of, state_of, trace_of};
     ghost use Rattle.harvest.specs.Gathered.{AreEntries, AreRecords, AreRules, ArePages};
     ghost use Rattle.harvest.specs.Shown.{harvest_of};
+    ghost use Rattle.std.specs.Prelude.{option_map};
 
     ghost Value = { Harvested };
 
-    ghost view = { λ h. harvest_of h.frontier h.entries.items h.records.items h.rules.items h.kept.items h.bodies.items };
+    ghost view = { λ h. harvest_of (option_map (λ b. b.value) h.frontier) h.entries.items h.records.items h.rules.items h.kept.items h.bodies.items };
 
-    ghost invariant = { λ h. let all = harvest_of h.frontier h.entries.items h.records.items h.rules.items h.kept.items h.bodies.items in
+    ghost invariant = { λ h. let all = harvest_of (option_map (λ b. b.value) h.frontier) h.entries.items h.records.items h.rules.items h.kept.items h.bodies.items in
         AreEntries all × AreRecords all × AreRules all × ArePages all };
 }
 
@@ -77,6 +78,7 @@ impl Harvest {
         ensures { IfOk result (IsHarvestOf frontier pages.items) }
     {
         let (held, parted) = gather_all(alloc, &frontier, pages)?;
+        let frontier = Box::new(alloc, frontier)?;
         let Held {
             entries,
             records,

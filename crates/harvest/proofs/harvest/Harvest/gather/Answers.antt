@@ -8,7 +8,7 @@ invariant_of-result c =
     let held = c.in_ok-held.ensures in
     let (sorted, moved, up, names, parts) = held.pages in
     let pages = are_pages c.args.frontier.plan (answers c.args.frontier.state) c.args.pages.items sorted c.in_ok-held.parted.addresses.items c.in_ok-held.parted.bodies.items
-    c.requires.kept moved up names parts in (
+    c.requires.kept moved up names parts in rw c.in_ok-frontier.ensures.ok (
       record { ascending = held.entries_ascend; same = held.entries; places = held.places },
       record { ascending = held.records_ascend; same = held.records },
       record { ascending = held.rules_ascend; same = held.rules },
