@@ -1,4 +1,5 @@
 //! Responses in examples: what each answers, whole and in pieces, and each call once.
+use crate::reader_tests::bytes_of as text_bytes;
 use address::Address;
 use response_reader::{Head, ReadFault, Response, Sink, SliceWire, read_response};
 use site_answer::{
@@ -6,7 +7,7 @@ use site_answer::{
     digest, into_answer, kind_of_fault,
 };
 use std::alloc::{AllocError, Global};
-use std::test::Fail;
+use std::process::Abort;
 
 const LINKS: &str =
     "<base href=\"/b/\"><a href=\"x?a=1&amp;b=2\"><a href=//k/x><a href='https://h/s'><A HREF=\"#top\"><!--<a href=c>--><script>\"<a href=s>\"</script><img src=i.png><link rel=\"Stylesheet\" href=s.css>";
@@ -84,50 +85,54 @@ const ANSWERS: [(&str, &str, bool, &str); 12] = [
 ];
 
 // The bytes of a response of these parts.
-fn bytes_of(alloc: Global, head: &str, body: &str) -> Result<Vec<u8>, AllocError> {
-    let mut bytes = Vec::new(alloc);
-    for b in head.as_bytes() {
-        match b {
-            b'|' => bytes.extend_from_slice(b"\r\n")?,
-            b => bytes.push(*b)?,
-        }
-    }
-    bytes.extend_from_slice(body.as_bytes())?;
-    Ok(bytes)
+fn bytes_of(rt: &impl Abort, alloc: Global, head: &str, body: &str) -> Vec<u8> {
+    let mut bytes = text_bytes(rt, alloc, head);
+    bytes
+        .extend_from_slice(body.as_bytes())
+        .expect(rt, "memory");
+    bytes
 }
 
 // The response of these parts.
-fn response(alloc: Global, head: &str, body: &str) -> Result<Response, Fail> {
-    let bytes = bytes_of(alloc, head, body)?;
-    Ok(read_response(alloc, &mut SliceWire::new(&bytes))?)
+fn response(rt: &impl Abort, alloc: Global, head: &str, body: &str) -> Response {
+    let bytes = bytes_of(rt, alloc, head, body);
+    read_response(alloc, &mut SliceWire::new(&bytes)).expect(rt, "a response")
 }
 
 // What comes over one of these connections.
 fn over<C: Connect>(
+    rt: &impl Abort,
     alloc: Global,
     connect: C,
     at: &Address,
     robots: bool,
-) -> Result<Answer, AllocError> {
+) -> Answer {
     let mut fetcher = HttpFetcher::new(alloc, connect, robots);
-    fetcher.ask(at)
+    fetcher.ask(at).expect(rt, "memory")
 }
 
 // What comes over a connection that tells the response of these parts.
 fn fetched(
+    rt: &impl Abort,
     alloc: Global,
     at: &Address,
     head: &str,
     body: &str,
     robots: bool,
-) -> Result<Answer, AllocError> {
+) -> Answer {
     let mut answers = Vec::new(alloc);
-    let bytes = bytes_of(alloc, head, body)?;
-    answers.push(StoredAnswer {
-        at: at.try_clone()?,
-        bytes,
-    })?;
-    over(alloc, MemoryConnect::new(alloc, &answers, &[]), at, robots)
+    let told = StoredAnswer {
+        at: at.try_clone().expect(rt, "memory"),
+        bytes: bytes_of(rt, alloc, head, body),
+    };
+    answers.push(told).expect(rt, "memory");
+    over(
+        rt,
+        alloc,
+        MemoryConnect::new(alloc, &answers, &[]),
+        at,
+        robots,
+    )
 }
 
 // The answer of a response whose body arrives in two pieces.
@@ -158,6 +163,14 @@ fn in_pieces(
     digester.finish()
 }
 
+// Whether the answer's outcome is printed so.
+fn is_printed(rt: &impl Abort, alloc: Global, answer: &Answer, outcome: &str) -> bool {
+    format!(in alloc; "{:?}", answer.outcome)
+        .expect(rt, "memory")
+        .as_str()
+        == outcome
+}
+
 // Whether the answer has this body, where it is one that is kept, and else none.
 fn has_body(answer: &Answer, body: &str, is_kept: bool) -> bool {
     if is_kept {
@@ -168,28 +181,26 @@ fn has_body(answer: &Answer, body: &str, is_kept: bool) -> bool {
 }
 
 #[test]
-fn a_response_answers_by_its_head_and_its_links(rt: HostRuntime) -> Result<(), Fail> {
+fn a_response_answers_by_its_head_and_its_links(rt: HostRuntime) {
     let alloc = rt.alloc();
-    let at = Address::read(alloc, "http://h/d/p.html")?;
+    let at = Address::read(alloc, "http://h/d/p.html").expect(&rt, "an address");
     for (head, body, robots, outcome) in ANSWERS {
-        let first = response(alloc, head, body)?;
-        let answer = digest(alloc, &at, &first, robots)?;
-        assert!(rt;
-            format!(in alloc; "{:?}", answer.outcome)?.as_str() == outcome,
-            "at {head}"
-        );
+        let first = response(&rt, alloc, head, body);
         let is_kept = first.status < 300;
+        let answer = digest(alloc, &at, &first, robots).expect(&rt, "memory");
+        assert!(rt; is_printed(&rt, alloc, &answer, outcome), "at {head}");
         assert!(rt; has_body(&answer, body, is_kept), "at {head}");
-        let moved = into_answer(alloc, &at, first, robots)?;
+        let moved = into_answer(alloc, &at, first, robots).expect(&rt, "memory");
         assert!(rt; moved.outcome.same(&answer.outcome), "at {head}");
-        let pieces = in_pieces(alloc, &at, response(alloc, head, body)?, robots)?;
+        let pieces = in_pieces(alloc, &at, response(&rt, alloc, head, body), robots).expect(
+            &rt, "memory",
+        );
         assert!(rt; pieces.outcome.same(&answer.outcome), "at {head}");
         assert!(rt; has_body(&pieces, body, is_kept), "at {head}");
-        let asked = fetched(alloc, &at, head, body, robots)?;
+        let asked = fetched(&rt, alloc, &at, head, body, robots);
         assert!(rt; asked.outcome.same(&answer.outcome), "at {head}");
         assert!(rt; has_body(&asked, body, is_kept), "at {head}");
     }
-    Ok(())
 }
 
 #[test]

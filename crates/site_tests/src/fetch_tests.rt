@@ -1,9 +1,10 @@
 //! Connections in memory: what each answers to the text of a request, and that each is ended.
+use crate::reader_tests::bytes_of;
 use address::{Address, Origin};
 use response_reader::Wire;
 use site_answer::{Connect, ConnectFault, Fetcher, HttpFetcher, MemoryConnect, StoredAnswer};
-use std::alloc::{AllocError, Global};
-use std::test::Fail;
+use std::alloc::Global;
+use std::process::Abort;
 
 // What is written over a connection, CR LF as `|`, and what is read from it, with the count of bytes.
 const TEXTS: [(&str, &str); 5] = [
@@ -26,50 +27,54 @@ const TEXTS: [(&str, &str); 5] = [
     ("", ""),
 ];
 
-fn bytes_of(alloc: Global, text: &str) -> Result<Vec<u8>, AllocError> {
-    let mut bytes = Vec::new(alloc);
-    for b in text.as_bytes() {
-        match b {
-            b'|' => bytes.extend_from_slice(b"\r\n")?,
-            b => bytes.push(*b)?,
-        }
-    }
-    Ok(bytes)
+fn origin(rt: &impl Abort, alloc: Global, text: &str) -> Origin {
+    let address = Address::read(alloc, text).expect(rt, "an address");
+    Origin::of(&address).expect(rt, "memory")
 }
 
 // The answers of such lines.
-pub(crate) fn site_of(alloc: Global, lines: &str) -> Result<Vec<StoredAnswer>, Fail> {
+fn site_of(rt: &impl Abort, alloc: Global, lines: &str) -> Vec<StoredAnswer> {
     let mut answers = Vec::new(alloc);
     for line in lines.split('\n') {
         if let Some((at, bytes)) = line.split_once(' ') {
-            answers.push(StoredAnswer {
-                at: Address::read(alloc, at)?,
-                bytes: bytes_of(alloc, bytes)?,
-            })?;
+            let answer = StoredAnswer {
+                at: Address::read(alloc, at).expect(rt, "an address"),
+                bytes: bytes_of(rt, alloc, bytes),
+            };
+            answers.push(answer).expect(rt, "memory");
         }
     }
-    Ok(answers)
+    answers
+}
+
+// Whether a connection reads this text where that was written, and then its end.
+fn is_read<W: Wire>(
+    rt: &impl Abort,
+    alloc: Global,
+    wire: &mut W,
+    written: &str,
+    read: &str,
+) -> bool {
+    let text = bytes_of(rt, alloc, written);
+    let expected = bytes_of(rt, alloc, read);
+    let is_written = wire.write(&text) == Ok(text.len());
+    let mut room = [0; 64];
+    let n = wire.read(&mut room).expect(rt, "a read");
+    is_written && room.get(..n) == Some(expected.as_slice()) && wire.read(&mut room) == Ok(0)
 }
 
 #[test]
-fn a_connection_answers_the_text_of_a_request(rt: HostRuntime) -> Result<(), Fail> {
+fn a_connection_answers_the_text_of_a_request(rt: HostRuntime) {
     let alloc = rt.alloc();
-    let answers = site_of(alloc, "http://h:81/x?y HTTP/1.1 203 ||ab")?;
+    let answers = site_of(&rt, alloc, "http://h:81/x?y HTTP/1.1 203 ||ab");
     let mut connect = MemoryConnect::new(alloc, &answers, &[]);
-    let of = Origin::of(&Address::read(alloc, "http://k/")?)?;
+    let of = origin(&rt, alloc, "http://k/");
     for (written, read) in TEXTS {
-        let mut wire = connect.connect(&of)?;
-        let text = bytes_of(alloc, written)?;
-        assert_eq!(rt; wire.write(&text), Ok(text.len()));
-        let mut room = [0; 64];
-        let n = wire.read(&mut room)?;
-        let expected = bytes_of(alloc, read)?;
-        assert!(rt; room.get(..n) == Some(expected.as_slice()), "{written}");
-        assert_eq!(rt; wire.read(&mut room), Ok(0));
+        let mut wire = connect.connect(&of).expect(&rt, "a connection");
+        assert!(rt; is_read(&rt, alloc, &mut wire, written, read), "{written}");
         assert_eq!(rt; wire.failures(), 0);
         connect.close(wire);
     }
-    Ok(())
 }
 
 // Makes the connections of another, counts how many were ended, and notes how many addresses wait.
@@ -124,23 +129,24 @@ const ENDING: &str = "http://h/ HTTP/1.1 200 ||a\nhttp://h/cut HTTP/1.1 2\n\
 http://h/robots.txt HTTP/1.1 302 |Location: /r|Content-Length: 0||\nhttp://h/r HTTP/1.1 200 ||";
 
 // Whether each connection that is asked for is ended, whatever came over it.
-fn are_all_ended<C: Connect>(alloc: Global, inner: C) -> Result<bool, Fail> {
+fn are_all_ended<C: Connect>(rt: &impl Abort, alloc: Global, inner: C) -> bool {
     let mut fetcher = HttpFetcher::new(alloc, Ended::new(inner), true);
     for at in ["http://h/", "http://h/cut", "http://h/none"] {
-        let _ = fetcher.ask(&Address::read(alloc, at)?)?;
+        let at = Address::read(alloc, at).expect(rt, "an address");
+        let _ = fetcher.ask(&at).expect(rt, "memory");
     }
     let pages = fetcher.connect().ended;
-    let _ = fetcher.ask_robots(&Origin::of(&Address::read(alloc, "http://h/")?)?)?;
-    let all = fetcher.connect().ended;
-    Ok(pages == 3 && all == 5)
+    let _ = fetcher
+        .ask_robots(&origin(rt, alloc, "http://h/"))
+        .expect(rt, "memory");
+    pages == 3 && fetcher.connect().ended == 5
 }
 
 #[test]
-fn each_connection_is_ended_once(rt: HostRuntime) -> Result<(), Fail> {
+fn each_connection_is_ended_once(rt: HostRuntime) {
     let alloc = rt.alloc();
-    let answers = site_of(alloc, ENDING)?;
-    assert!(rt; are_all_ended(alloc, MemoryConnect::new(alloc, &answers, &[]))?);
-    Ok(())
+    let answers = site_of(&rt, alloc, ENDING);
+    assert!(rt; are_all_ended(&rt, alloc, MemoryConnect::new(alloc, &answers, &[])));
 }
 
 // What the connections are told where a fetcher over them is told this number.
