@@ -1,16 +1,23 @@
 //! Retrievals that were worked out by hand, and what is made of them: tests alone, of the frontier, of what it is made of and
-//! of those who drive it, of spools, of the names of pages, of folders in memory and on a disk, and of the report. They stand
-//! above these crates, so none is proved once more with them, and their proofs see clauses and no fields.
+//! of those who drive it, in order and in threads, of the lock, of spools, of the names of pages, of folders in memory and on a
+//! disk, and of the report. They stand above these crates, so none is proved once more with them, and their proofs see clauses
+//! and no fields.
 #![tactic(auto)]
 
 #[cfg(test)]
 mod agenda_tests;
+#[cfg(test)]
+mod crew_tests;
 #[cfg(test)]
 mod disk_tests;
 #[cfg(test)]
 mod frontier_tests;
 #[cfg(test)]
 mod label_tests;
+#[cfg(test)]
+mod lock_tests;
+#[cfg(test)]
+mod long_crew_tests;
 #[cfg(test)]
 mod long_tests;
 #[cfg(test)]
@@ -19,6 +26,10 @@ mod memory_tests;
 mod name_tests;
 #[cfg(test)]
 mod report_tests;
+#[cfg(test)]
+mod retrieval;
+#[cfg(test)]
+mod rows;
 #[cfg(test)]
 mod script;
 #[cfg(test)]

@@ -1,12 +1,17 @@
-//! What sites answer, in examples: tests alone, of the reader of responses, of the links of a page, of robots files, of outcomes,
-//! maps and records, of what a response answers and of sites that are asked over connections. They stand above the crates
-//! that they are of, so none is proved once more with them.
+//! Addresses, words, rules and what sites answer, as the standards, the manual and worked examples have them: tests alone, of
+//! addresses, of the command line, of patterns and of what may be followed, of the reader of responses, of the links of a page,
+//! of robots files, of outcomes, maps and records, of what a response answers and of sites that are asked over connections. They
+//! stand above the crates that they are of, so none is proved once more with them.
 #![tactic(auto)]
 
+#[cfg(test)]
+mod address_tests;
 #[cfg(test)]
 mod digest_tests;
 #[cfg(test)]
 mod fetch_tests;
+#[cfg(test)]
+mod filter_tests;
 #[cfg(test)]
 mod link_tests;
 #[cfg(test)]
@@ -14,8 +19,14 @@ mod map_tests;
 #[cfg(test)]
 mod outcome_tests;
 #[cfg(test)]
+mod pattern_tests;
+#[cfg(test)]
 mod reader_tests;
 #[cfg(test)]
 mod record_tests;
 #[cfg(test)]
 mod robots_tests;
+#[cfg(test)]
+mod text_tests;
+#[cfg(test)]
+mod word_tests;

@@ -1,0 +1,133 @@
+//! Texts of responses, and what is read of each, however its bytes are cut.
+use crate::reader_tests::{repeated, wire_of};
+use response_reader::{Gather, ReadFault, SliceWire, read_into, read_response};
+use std::alloc::Global;
+use std::process::Abort;
+
+/// Each line has words that tabs part: what to do, a text, and for `many` a middle, how often it stands behind that text, and an
+/// end; behind the arrow the body that is read, or the fault. CR LF is written `|`. A `text` is read whole, cut at each place
+/// and byte by byte, and `many` whole, by both calls; each front of a `front` but the whole has ended.
+const TEXTS: &str =
+    "text\tHTTP/1.1 200 OK|Content-Length: 10||123456789 => the input ended before the response was whole
+text\tHTTP/1.1 200 OK|Transfer-Encoding: chunked||3|abc| => the input ended before the response was whole
+text\tHTTP/1.1 200 OK|Content-Length: 9|Transfer-Encoding: chunked||3|abc|0|| => read `abc`
+text\tHTTP/1.1 200 OK||xyz => read `xyz`
+text\tHTTP/1.1 204 No Content|Content-Length: 5|| => read ``
+text\tHTTP/1.1 304 |Transfer-Encoding: gzip|| => read ``
+text\tHTTP/1.1 200 OK|Content-Length: 5, 5||hello => read `hello`
+text\tHTTP/1.1 200 OK|Content-Length: 5|Content-Length: 6||hello => the Content-Length fields give no length
+text\tHTTP/1.1 200 OK|Content-Length: 5,||hello => the Content-Length fields give no length
+text\tHTTP/1.1 200 OK|Content-Length: +5||hello => the Content-Length fields give no length
+text\tHTTP/1.1 200 OK|Transfer-Encoding: gzip, chunked||0|| => the transfer coding is another than chunked
+text\tHTTP/1.1 101 Switching|| => there is no response head, or its status is refused
+text\tHTTP/1.1 099 Low|| => there is no response head, or its status is refused
+text\tHTTP/2 200 OK|| => there is no response head, or its status is refused
+text\tHTTP/1.1 200 OK|Content-Length: 16777217|| => the body is above 16,777,216 bytes, or the response above 67,108,864
+text\tHTTP/1.1 200 OK|Transfer-Encoding: chunked||1000001| => the body is above 16,777,216 bytes, or the response above 67,108,864
+text\tHTTP/1.1 200 OK|Content-Type: text/html||<a href=b> => read `<a href=b>`
+text\tHTTP/1.1 100 Continue||HTTP/1.1 103 |Link: a||HTTP/1.0 404 |content-length:2||no => read `no`
+text\tHTTP/1.1 200 OK|Transfer-Encoding: CHUNKED||2;x=\"y\"|ab|01|c|00|T: u||rest => read `abc`
+text\tHTTP/1.1 200 OK|Transfer-Encoding: chunked||3|abcd|0|| => the chunks or the trailers are ill formed
+text\tHTTP/1.1 200 OK|Transfer-Encoding: chunked||x| => the chunks or the trailers are ill formed
+text\tHTTP/1.1 200 OK|Transfer-Encoding: chunked||0|no field|| => the chunks or the trailers are ill formed
+text\tHTTP/1.1 200 OK|Transfer-Encoding: chunked||0|T: u| => the input ended before the response was whole
+text\tHTTP/1.1 101 X|a: b| => the input ended before the response was whole
+front\tHTTP/1.1 200 OK|Content-Length: 9|Transfer-Encoding: chunked||3|abc|0|| => read `abc`
+front\tHTTP/1.1 200 OK|Transfer-Encoding: chunked||2;x|ab|1|c|0|T: u|| => read `abc`
+front\tHTTP/1.1 100 ||HTTP/1.1 200 OK|Content-Length: 5, 5||hello => read `hello`
+many\tHTTP/1.1 200 OK|\ta: b|\t100\t|ok => read `ok`
+many\tHTTP/1.1 200 OK|\ta: b|\t101\t|ok => the heads or the trailers are above 65,536 bytes or 100 fields
+many\tHTTP/1.1 200 OK|\ta: b|\t101\t => the heads or the trailers are above 65,536 bytes or 100 fields
+many\tHTTP/1.1 200 OK|a: \tx\t65512\t||ok => read `ok`
+many\tHTTP/1.1 200 OK|a: \tx\t65513\t||ok => the heads or the trailers are above 65,536 bytes or 100 fields
+many\tHTTP/1.1 200 OK|a: \tx\t70000\t => the heads or the trailers are above 65,536 bytes or 100 fields
+many\tHTTP/1.1 200 OK|Transfer-Encoding: chunked||1;\tx\t1020\t|a|0|| => read `a`
+many\tHTTP/1.1 200 OK|Transfer-Encoding: chunked||1;\tx\t1021\t|a|0|| => the chunks or the trailers are ill formed
+many\tHTTP/1.1 200 OK|Transfer-Encoding: chunked||0|\ta: b|\t100\t| => read ``
+many\tHTTP/1.1 200 OK|Transfer-Encoding: chunked||0|\ta: b|\t101\t| => the heads or the trailers are above 65,536 bytes or 100 fields
+many\tHTTP/1.1 200 OK|Transfer-Encoding: chunked||0|a: \tx\t65529\t|| => read ``
+many\tHTTP/1.1 200 OK|Transfer-Encoding: chunked||0|a: \tx\t65530\t|| => the heads or the trailers are above 65,536 bytes or 100 fields
+many\tHTTP/1.1 200 OK|Transfer-Encoding: chunked||0|\t\t0\t => the input ended before the response was whole";
+
+/// What was read: the body, or why there is none.
+fn told(rt: &impl Abort, alloc: Global, read: Result<Vec<u8>, ReadFault>) -> String {
+    match read {
+        Ok(body) => {
+            let body = String::from_utf8_lossy(alloc, &body).expect(rt, "memory");
+            format!(in alloc; "read `{body}`").expect(rt, "memory")
+        }
+        Err(fault) => format!(in alloc; "{fault}").expect(rt, "memory"),
+    }
+}
+
+/// What `read_response` gives, where the bytes come in these pieces.
+fn kept(rt: &impl Abort, alloc: Global, bytes: &[u8], pieces: &[usize]) -> String {
+    let mut wire = wire_of(rt, alloc, bytes, pieces, Vec::new(alloc));
+    match read_response(alloc, &mut wire) {
+        Ok(response) => told(rt, alloc, Ok(response.body)),
+        Err(fault) => told(rt, alloc, Err(fault)),
+    }
+}
+
+/// What `read_into` gives.
+fn gathered(rt: &impl Abort, alloc: Global, bytes: &[u8], pieces: &[usize]) -> String {
+    let mut wire = wire_of(rt, alloc, bytes, pieces, Vec::new(alloc));
+    let mut gather = Gather::new(alloc);
+    match read_into(alloc, &mut wire, &mut gather) {
+        Ok(()) => told(rt, alloc, Ok(gather.into_parts().1)),
+        Err(fault) => told(rt, alloc, Err(fault)),
+    }
+}
+
+/// Whether both calls give this.
+fn gives(rt: &impl Abort, alloc: Global, bytes: &[u8], pieces: &[usize], wanted: &str) -> bool {
+    kept(rt, alloc, bytes, pieces).as_str() == wanted
+        && gathered(rt, alloc, bytes, pieces).as_str() == wanted
+}
+
+/// Whether both calls give this, where the bytes are cut once, at each place, and where they come one by one.
+fn gives_cut(rt: &impl Abort, alloc: Global, bytes: &[u8], wanted: &str) -> bool {
+    for cut in 0..bytes.len() {
+        if !gives(rt, alloc, bytes, &[cut], wanted) {
+            return false;
+        }
+    }
+    let ones = vec![in alloc; 1; bytes.len()].expect(rt, "memory");
+    gives(rt, alloc, bytes, &ones, wanted)
+}
+
+/// Whether each front but the whole has ended.
+fn fronts_end(alloc: Global, bytes: &[u8]) -> bool {
+    for cut in 0..bytes.len() {
+        let read = read_response(alloc, &mut SliceWire::new(&bytes[..cut]));
+        if !matches!(read, Err(ReadFault::Ended)) {
+            return false;
+        }
+    }
+    true
+}
+
+/// Whether a line's text is read as it says.
+fn is_read(rt: &impl Abort, alloc: Global, line: &str, wanted: &str) -> bool {
+    let mut words = line.split('\t');
+    let task = words.next().unwrap_or("");
+    let front = words.next().unwrap_or("");
+    let middle = words.next().unwrap_or("");
+    let times = words.next().and_then(|times| times.parse::<usize>().ok());
+    let end = words.next().unwrap_or("");
+    let bytes = repeated(rt, alloc, front, middle, times.unwrap_or(0), end);
+    gives(rt, alloc, &bytes, &[], wanted)
+        && match task {
+            "text" => gives_cut(rt, alloc, &bytes, wanted),
+            "front" => fronts_end(alloc, &bytes),
+            _ => true,
+        }
+}
+
+#[test]
+fn texts_are_read_however_they_are_cut(rt: HostRuntime) {
+    for line in TEXTS.lines() {
+        let (given, wanted) = line.split_once(" => ").unwrap_or((line, ""));
+        assert!(rt; is_read(&rt, rt.alloc(), given, wanted), "{given}");
+    }
+}
