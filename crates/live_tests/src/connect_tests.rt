@@ -50,9 +50,16 @@ const VISITS: &[(usize, &str, bool, (u64, u64, usize))] = &[
     // A server that keeps its connections open is waited for once.
     (0, "http://two:81/", true, (2, 4, 5)),
     (1, "http://two:81/", true, (2, 4, 6)),
+    // What one server of a host keeps open says nothing of another, and a connection that broke wasn't kept open.
+    (0, "http://two/", true, (2, 5, 7)),
+    (0, "http://two:83/", true, (2, 6, 8)),
+    (1, "http://two:83/", true, (2, 7, 9)),
     // Addresses need no lookup.
-    (1, "http://[::1]:8080/", true, (2, 5, 7)),
-    (0, "http://10.0.0.1/", false, (2, 5, 8)),
+    (1, "http://[::1]:8080/", true, (2, 8, 10)),
+    (0, "http://10.0.0.1/", false, (2, 8, 11)),
+    // The address that took a connection is the first from then on.
+    (0, "http://three/", true, (3, 9, 13)),
+    (1, "http://three/", true, (3, 10, 14)),
 ];
 
 #[test]
@@ -74,8 +81,22 @@ fn workers_share_what_is_known_of_hosts(rt: HostRuntime) {
     }
     assert!(rt; first.failures() == 2 && second.failures() == 1);
     let tried = network.log.tried.lock(&rt);
-    assert!(rt; tried.get(6) == Some(&SocketAddr::from(([0, 0, 0, 0, 0, 0, 0, 1], 8080))));
     assert!(rt; tried.get(5) == Some(&SocketAddr::from(([10, 0, 0, 2], 81))));
+    assert!(rt; tried.get(9) == Some(&SocketAddr::from(([0, 0, 0, 0, 0, 0, 0, 1], 8080))));
+    assert!(rt; tried.get(13) == Some(&SocketAddr::from(([10, 0, 0, 2], 80))));
+}
+
+#[test]
+fn a_host_is_looked_up_again_where_memory_was_wanting(rt: HostRuntime) {
+    let alloc = rt.alloc();
+    let network = Network::new(&rt, alloc);
+    let hosts = Hosts::new(alloc);
+    let mut connect = TcpConnect::new(&network, alloc, &hosts);
+    let of = origin(&rt, alloc, "http://full/");
+    for lookups in 1..3 {
+        assert!(rt; matches!(connect.connect(&of), Err(ConnectFault::Memory)));
+        assert!(rt; network.counts().0 == lookups);
+    }
 }
 
 #[test]

@@ -183,12 +183,19 @@ fn as_many_workers_ask_as_are_ordered(rt: HostRuntime) {
     }
 }
 
-// Whether the trace of a run by so many workers begins like this, in one of a thousand tries.
-fn begins<R: Threads + Wait + Sync>(rt: &R, alloc: Global, workers: &str, front: &str) -> bool {
-    let words = ["--trace", "--workers", workers, "--map", "http://h/"];
+// Whether the trace of a run by so many workers over an input of this kind begins like this, in one of a thousand tries.
+fn begins<R: Threads + Wait + Sync>(
+    rt: &R,
+    alloc: Global,
+    kind: &str,
+    input: &str,
+    workers: &str,
+    front: &str,
+) -> bool {
+    let words = ["--trace", "--workers", workers, kind, "http://h/"];
     for _ in 0..1_000u32 {
         let mut written: Vec<u8> = Vec::new(alloc);
-        let _ = run(rt, alloc, &words, &mut b"".as_slice(), &mut written);
+        let _ = run(rt, alloc, &words, &mut input.as_bytes(), &mut written);
         if written.as_slice().starts_with(front.as_bytes()) {
             return true;
         }
@@ -199,13 +206,20 @@ fn begins<R: Threads + Wait + Sync>(rt: &R, alloc: Global, workers: &str, front:
 // The last worker is in the caller's thread, and is the first to get to work unless that is held up.
 #[test]
 fn as_many_workers_run_as_are_ordered(rt: HostRuntime) {
-    assert!(rt; begins(&rt, rt.alloc(), "2", "opened http://h/\npage 1 http://h/\n"));
-    assert!(rt;
-        begins(
-            &rt,
-            rt.alloc(),
-            "64",
-            "opened http://h/\npage 63 http://h/\n"
-        )
-    );
+    let record = "wgetr-record 1\n";
+    for (kind, input, workers, front) in [
+        ("--map", "", "2", "opened http://h/\npage 1 http://h/\n"),
+        ("--map", "", "64", "opened http://h/\npage 63 http://h/\n"),
+        (
+            "--record",
+            record,
+            "2",
+            "opened http://h/\npage 1 http://h/\n",
+        ),
+    ] {
+        assert!(rt;
+            begins(&rt, rt.alloc(), kind, input, workers, front),
+            "{kind} {workers}"
+        );
+    }
 }

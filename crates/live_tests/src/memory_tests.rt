@@ -129,6 +129,15 @@ $ http://h/
 > fetched 1 kept 0 refused 0 failed 1
 = 8
 
+no start, and what the one worker did
+$ --trace http://h/
+> opened http://h/
+> page 0 http://h/
+> answer 0 http://h/
+> 0 404 http://h/ -
+> fetched 1 kept 0 refused 0 failed 1
+= 8
+
 a page that forbids its links
 $ -r http://h/
 < http://h/ HTTP/1.1 200 OK|Content-Type: text/html||<meta name=robots content=nofollow><a href=b>

@@ -15,6 +15,11 @@ pub const STAYS: u16 = 81;
 
 pub const SENDS: u16 = 82;
 
+/// The ports of servers whose connections break: at each read, and at each write.
+pub const LOSES_READS: u16 = 83;
+
+pub const LOSES_WRITES: u16 = 84;
+
 /// What was asked for of a network.
 #[derive(Drop)]
 pub struct Log {
@@ -89,7 +94,8 @@ impl<R: Wait + Abort> Net for Network<'_, R> {
         })
     }
 
-    // The host `two` has the addresses 10.0.0.1 and 10.0.0.2, and no other has one.
+    // The host `two` has the addresses 10.0.0.1 and 10.0.0.2, `three` 10.0.0.3 too, and no other has one. For the lookup of
+    // `full` there is no memory.
     fn lookup_host(&self, host: &str, port: u16, found: &mut [SocketAddr]) -> io::Result<usize> {
         self.log.lookups.fetch_add(1, Ordering::SeqCst);
         for _ in 0..1000u32 {
@@ -102,6 +108,17 @@ impl<R: Wait + Abort> Net for Network<'_, R> {
             *second = SocketAddr::from(([10, 0, 0, 2], port));
             return Ok(2);
         }
+        if host == "three"
+            && let [first, second, third, ..] = found
+        {
+            *first = SocketAddr::from(([10, 0, 0, 1], port));
+            *second = SocketAddr::from(([10, 0, 0, 2], port));
+            *third = SocketAddr::from(([10, 0, 0, 3], port));
+            return Ok(3);
+        }
+        if host == "full" {
+            return Err(io::Error::from(ErrorKind::OutOfMemory));
+        }
         Err(io::Error::from(ErrorKind::NotFound))
     }
 }
@@ -112,6 +129,7 @@ impl Read for FakeStream {
         match self.server.port() {
             STAYS => Err(io::Error::from(ErrorKind::WouldBlock)),
             SENDS => Ok(buf.len()),
+            LOSES_READS => Err(io::Error::from(ErrorKind::ConnectionReset)),
             _ => Ok(0),
         }
     }
@@ -119,7 +137,10 @@ impl Read for FakeStream {
 
 impl Write for FakeStream {
     fn write(&mut self, buf: &[u8]) -> io::Result<usize> {
-        Ok(buf.len())
+        match self.server.port() {
+            LOSES_WRITES => Err(io::Error::from(ErrorKind::BrokenPipe)),
+            _ => Ok(buf.len()),
+        }
     }
 
     fn flush(&mut self) -> io::Result<()> {

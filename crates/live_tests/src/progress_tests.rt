@@ -2,12 +2,13 @@
 use crate::connect_tests::origin;
 use crate::network::Network;
 use address::Origin;
-use progress::{Progress, Watched};
+use progress::{BehindLine, Progress, Watched};
 use response_reader::Wire;
 use site_answer::{Connect, ConnectFault, MemoryConnect};
 use std::alloc::Global;
-use std::fmt::{Display, Write};
+use std::fmt::{Display, Write as WriteText};
 use std::io;
+use std::io::Write;
 use std::process::Abort;
 use std::sync::atomic::{AtomicU64, Ordering};
 use std::sync::{Mutex, Wait};
@@ -54,49 +55,125 @@ impl<R: Abort + Wait> Eprint for Terminal<'_, R> {
     }
 }
 
-/// When a connection ends, where it goes, and how many addresses wait then. What can be made brings 2,000 bytes.
+/// Writes to a terminal.
+#[derive(Drop)]
+struct Screen<'a, R: Abort + Wait> {
+    terminal: &'a Terminal<'a, R>,
+}
+
+impl<R: Abort + Wait> Write for Screen<'_, R> {
+    fn write(&mut self, bytes: &[u8]) -> io::Result<usize> {
+        let text = str::from_utf8(bytes).unwrap_or("");
+        self.terminal.eprint(text)?;
+        Ok(bytes.len())
+    }
+
+    fn flush(&mut self) -> io::Result<()> {
+        Ok(())
+    }
+}
+
+/// When a connection ends, where it goes, and how many addresses wait then. What port 82 sends is 2,000 bytes in two pieces;
+/// connections to 83 break at a read, those to 84 at a write.
 const ENDS: &[(u64, &str, usize)] = &[
     (1100, "http://two:82/", 4),
     (1300, "http://two:82/", 17),
     (1500, "http://none/", 16),
     (1600, "http://two:82/", 0),
+    (1900, "http://two:83/", 9),
+    (2200, "http://two:84/", 0),
 ];
 
-/// Makes these connections in a run that begins at 1000.
-fn run<R: Abort + Wait>(rt: &R, alloc: Global, terminal: &Terminal<'_, R>, is_terminal: bool) {
-    let progress = Progress::new(terminal, is_terminal);
-    let network = Network::new(rt, alloc);
+/// What stands on the terminal behind these.
+const LINES: &str =
+    "\r2 answered, 17 waiting, 0 failed, 4 kB, 13 kB/s        \r3 answered, 0 waiting, 1 failed, 6 kB, 10 kB/s        \r3 answered, 9 waiting, 2 failed, 6 kB, 6 kB/s        \r3 answered, 0 waiting, 3 failed, 6 kB, 5 kB/s        ";
+
+/// Makes these connections.
+fn run<R: Abort + Wait>(
+    rt: &R,
+    alloc: Global,
+    network: &Network<'_, R>,
+    terminal: &Terminal<'_, R>,
+    progress: &Progress<'_, Terminal<'_, R>>,
+) {
     let hosts = Hosts::new(alloc);
-    let mut connect = Watched::new(TcpConnect::new(&network, alloc, &hosts), &progress);
+    let mut connect = Watched::new(TcpConnect::new(network, alloc, &hosts), progress);
     for (at, text, waiting) in ENDS {
         terminal.now.store(*at, Ordering::SeqCst);
         connect.tell_waiting(*waiting);
         if let Ok(mut wire) = connect.connect(&origin(rt, alloc, text)) {
-            assert!(rt; wire.read(&mut [0u8; 2000]) == Ok(2000));
+            let _ = wire.write(b"x");
+            let _ = wire.read(&mut [0u8; 1200]);
+            let _ = wire.read(&mut [0u8; 800]);
             connect.close(wire);
         }
     }
-    progress.clear();
+}
+
+/// What covers the line.
+fn blank(rt: &impl Abort, alloc: Global) -> String {
+    format!(in alloc; "\r{:79}\r", "").expect(rt, "memory")
 }
 
 #[test]
 fn one_line_counts_at_most_four_times_a_second(rt: HostRuntime) {
     let alloc = rt.alloc();
     let terminal = Terminal::new(&rt, alloc);
-    run(&rt, alloc, &terminal, true);
-    let lines =
-        "\r2 answered, 17 waiting, 0 failed, 4 kB, 13 kB/s        \r3 answered, 0 waiting, 1 failed, 6 kB, 10 kB/s        ";
-    let blank = format!(in alloc; "\r{:79}\r", "").expect(&rt, "memory");
+    let network = Network::new(&rt, alloc);
+    let progress = Progress::new(&terminal, true);
+    run(&rt, alloc, &network, &terminal, &progress);
+    progress.clear();
+    progress.clear();
     let text = terminal.text.lock(&rt);
-    assert!(rt; text.as_str().strip_prefix(lines) == Some(blank.as_str()));
+    let blank = blank(&rt, alloc);
+    assert!(rt; text.as_str().strip_prefix(LINES) == Some(blank.as_str()));
 }
 
 #[test]
 fn nothing_is_written_where_nothing_is_to_be_shown(rt: HostRuntime) {
     let alloc = rt.alloc();
     let terminal = Terminal::new(&rt, alloc);
-    run(&rt, alloc, &terminal, false);
+    let network = Network::new(&rt, alloc);
+    let progress = Progress::new(&terminal, false);
+    run(&rt, alloc, &network, &terminal, &progress);
+    progress.clear();
+    progress.clear();
     assert!(rt; terminal.text.lock(&rt).is_empty());
+}
+
+// Of each of the five connections there were two reads, and one at its end, where it was waited for.
+#[test]
+fn connections_that_are_counted_are_handed_back(rt: HostRuntime) {
+    let alloc = rt.alloc();
+    let terminal = Terminal::new(&rt, alloc);
+    let network = Network::new(&rt, alloc);
+    run(
+        &rt,
+        alloc,
+        &network,
+        &terminal,
+        &Progress::new(&terminal, true),
+    );
+    assert_eq!(rt; network.counts(), (2, 15, 6));
+}
+
+#[test]
+fn what_is_written_behind_the_line_covers_it_once(rt: HostRuntime) {
+    let alloc = rt.alloc();
+    let terminal = Terminal::new(&rt, alloc);
+    let network = Network::new(&rt, alloc);
+    let progress = Progress::new(&terminal, true);
+    run(&rt, alloc, &network, &terminal, &progress);
+    let screen = Screen {
+        terminal: &terminal,
+    };
+    let mut output = BehindLine::new(screen, &progress);
+    output.write_all(b"first, ").expect(&rt, "a terminal");
+    output.write_all(b"second").expect(&rt, "a terminal");
+    let wanted = format!(in alloc; "{LINES}{}first, second", blank(&rt, alloc)).expect(
+        &rt, "memory",
+    );
+    assert!(rt; *terminal.text.lock(&rt) == wanted);
 }
 
 /// Makes the connections of another, and notes how many addresses wait.

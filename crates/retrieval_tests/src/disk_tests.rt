@@ -57,7 +57,15 @@ fn puts_none(folder: &mut impl Folder, names: &str) -> bool {
 #[test]
 fn files_are_put_below_the_folder(rt: HostRuntime) {
     let mut folder = folder(&rt, rt.alloc(), "tree/of files");
-    assert!(rt; puts_all(&mut folder, "h/index.html h/a/b?c=%2F h:81/index.html"));
+    assert!(rt; is_absent(&rt, "tree"));
+    // The third directory is named as the two before it are in one.
+    assert!(rt;
+        puts_all(
+            &mut folder,
+            "h/index.html h/a/b?c=%2F hh/a/d h:81/index.html"
+        )
+    );
+    assert!(rt; holds(&rt, "tree/of files/hh/a/d", b"hh/a/d"));
     assert!(rt; holds(&rt, "tree/of files/h/index.html", b"h/index.html"));
     assert!(rt; holds(&rt, "tree/of files/h/a/b?c=%2F", b"h/a/b?c=%2F"));
     assert!(rt; holds(&rt, "tree/of files/h:81/index.html", b"h:81/index.html"));
@@ -101,6 +109,7 @@ fn a_directory_that_went_is_made_again(rt: HostRuntime) {
     rt.remove_file("gone/a/x").expect(&rt, "the disk");
     rt.remove_dir("gone/a").expect(&rt, "the disk");
     assert!(rt; puts_none(&mut folder, "gone/a/y"));
+    assert!(rt; is_absent(&rt, "./.wgetr%part7"));
     assert!(rt; puts_all(&mut folder, "gone/a/y"));
     assert!(rt; holds(&rt, "./gone/a/y", b"gone/a/y"));
 }

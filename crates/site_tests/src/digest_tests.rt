@@ -10,7 +10,7 @@ use std::alloc::{AllocError, Global};
 use std::process::Abort;
 
 const LINKS: &str =
-    "<base href=\"/b/\"><a href=\"x?a=1&amp;b=2\"><a href=//k/x><a href='https://h/s'><A HREF=\"#top\"><!--<a href=c>--><script>\"<a href=s>\"</script><img src=i.png><link rel=\"Stylesheet\" href=s.css>";
+    "<base href=\"/b/\"><a href=\"x?a=1&amp;b=2\"><a href=//k/x><a href='https://h/s'><a href=http://u@h/><a href=http://h:x/><A HREF=\"#top\"><!--<a href=c>--><script>\"<a href=s>\"</script><img src=i.png><link rel=\"Stylesheet\" href=s.css>";
 
 const EDGES: &str =
     "Page(200, Edges { items: [Edge { target: \"http://h/b/x?a=1&b=2\", kind: Link }, Edge { target: \"http://k/x\", kind: Link }, Edge { target: \"http://h/b/\", kind: Link }, Edge { target: \"http://h/b/i.png\", kind: Inline }, Edge { target: \"http://h/b/s.css\", kind: Inline }] })";
@@ -201,6 +201,36 @@ fn a_response_answers_by_its_head_and_its_links(rt: HostRuntime) {
         assert!(rt; asked.outcome.same(&answer.outcome), "at {head}");
         assert!(rt; has_body(&asked, body, is_kept), "at {head}");
     }
+}
+
+// What leads to no address is left out, and the rest stays.
+#[test]
+fn a_link_that_is_too_long_leads_nowhere(rt: HostRuntime) {
+    let alloc = rt.alloc();
+    let at = Address::read(alloc, "http://h/").expect(&rt, "an address");
+    let mut body = String::from_str(alloc, "<a href=b><a href=").expect(&rt, "memory");
+    for _ in 0..9_000u32 {
+        body.push('x').expect(&rt, "memory");
+    }
+    body.push_str("><a href=c>").expect(&rt, "memory");
+    let page = response(&rt, alloc, "HTTP/1.1 200 OK||", body.as_str());
+    let answer = digest(alloc, &at, &page, true).expect(&rt, "memory");
+    let edges =
+        "Page(200, Edges { items: [Edge { target: \"http://h/b\", kind: Link }, Edge { target: \"http://h/c\", kind: Link }] })";
+    assert!(rt; is_printed(&rt, alloc, &answer, edges));
+}
+
+#[test]
+fn a_location_that_is_no_text_leads_nowhere(rt: HostRuntime) {
+    let alloc = rt.alloc();
+    let at = Address::read(alloc, "http://h/").expect(&rt, "an address");
+    let mut bytes = text_bytes(&rt, alloc, "HTTP/1.1 302 X|Location: /");
+    bytes
+        .extend_from_slice(b"\xff\r\n\r\n")
+        .expect(&rt, "memory");
+    let moved = read_response(alloc, &mut SliceWire::new(&bytes)).expect(&rt, "a response");
+    let answer = digest(alloc, &at, &moved, true).expect(&rt, "memory");
+    assert!(rt; is_printed(&rt, alloc, &answer, "Leaf(302)"));
 }
 
 #[test]
