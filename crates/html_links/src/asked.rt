@@ -41,7 +41,7 @@ pub(crate) fn is_painted(name: &[u8]) -> bool
 }
 
 /// An attribute that a rule asks for.
-#[derive(Clone, Copy, Debug)]
+#[derive(Clone, Copy)]
 pub(crate) enum AskedName {
     Href,
     Src,

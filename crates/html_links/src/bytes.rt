@@ -44,7 +44,7 @@ pub(crate) fn is_quote(byte: u8) -> bool
 }
 
 /// A part of a tag that a class of bytes ends.
-#[derive(Clone, Copy, Debug)]
+#[derive(Clone, Copy)]
 pub(crate) enum Span {
     TagName,
     AttributeName,

@@ -4,7 +4,7 @@ ghost use Rattle.html_links.specs.Markup.{is_raw, closing_text};
 ghost use Rattle.html_links.specs.Lexing.{raw_name};
 
 /// An element whose content is text up to its end tag.
-#[derive(Clone, Copy, Debug)]
+#[derive(Clone, Copy)]
 pub(crate) enum RawElement {
     Script,
     Style,

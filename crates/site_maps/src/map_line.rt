@@ -4,7 +4,7 @@ use crate::rule_kind::RuleKind;
 use fetcher::{EdgeKind, FaultKind};
 
 /// What a line of a map says. Addresses are texts of the line, not read yet.
-#[derive(Drop, Debug)]
+#[derive(Drop)]
 pub(crate) enum MapLine<'a> {
     /// Nothing: the line is empty or a comment.
     Skipped,

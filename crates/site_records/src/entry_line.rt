@@ -10,7 +10,7 @@ use fetcher::FaultKind;
 use site_maps::first_field;
 
 /// What a line of a record says. Addresses are texts of the line, not read yet.
-#[derive(Drop, Debug)]
+#[derive(Drop)]
 pub(crate) enum EntryLine<'a> {
     /// The response of this address has this many bytes.
     Page(&'a str, usize),

@@ -97,6 +97,9 @@ pub fn conclude(
     let ended = end_of(&frontier);
     match kept_pages(alloc, plan, &frontier, notes) {
         Ok(pages) => finish(alloc, frontier, pages, ended),
-        Err(halt) => Err(halt),
+        Err(halt) => {
+            drop(frontier);
+            Err(halt)
+        }
     }
 }

@@ -109,10 +109,14 @@ impl<F: Drop> Room<F> {
         ensures seats { IfOk result (λ room. count ≤ vec_capacity room.seats) }
         ensures fetchers { IfOk result (λ room. count ≤ vec_capacity room.fetchers) }
     {
+        let seats = Vec::with_capacity(alloc, count)?;
+        let fetchers = Vec::with_capacity(alloc, count)?;
+        // Made last: at each exit behind it all that a frontier holds would be let go, and each is proved.
+        let frontier = Frontier::open(alloc, plan.try_clone()?)?;
         Ok(Room {
-            frontier: Frontier::open(alloc, plan.try_clone()?)?,
-            seats: Vec::with_capacity(alloc, count)?,
-            fetchers: Vec::with_capacity(alloc, count)?,
+            frontier,
+            seats,
+            fetchers,
         })
     }
 }
