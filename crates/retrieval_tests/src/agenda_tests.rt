@@ -81,6 +81,7 @@ fn the_least_label_is_first_also_after_one_was_lowered(rt: HostRuntime) {
         let mut agenda = Agenda::new(rt.alloc()).expect(&rt, "memory");
         fill(&rt, rt.alloc(), &mut agenda, task);
         come_in_order(&rt, &mut agenda, task);
+        drop(agenda);
     }
 }
 
@@ -108,4 +109,5 @@ fn a_number_is_found_by_what_is_left_to_do(rt: HostRuntime) {
     add(&rt, alloc, &mut agenda, "http://i/", Task::Parked, 2);
     add(&rt, alloc, &mut agenda, "http://i/", Task::Parked, 1);
     say_what_is_left(&rt, alloc, &agenda);
+    drop(agenda);
 }

@@ -112,7 +112,9 @@ fn is_quiet(frontier: &Frontier) -> bool {
 /// Whether a lock is left with nothing to do.
 fn is_left_quiet(lock: FrontierLock) -> bool {
     let frontier = lock.into_frontier();
-    is_quiet(&frontier)
+    let is_quiet = is_quiet(&frontier);
+    drop(frontier);
+    is_quiet
 }
 
 #[test]
@@ -138,7 +140,9 @@ fn is_given_up(frontier: &Frontier, at: &Address) -> bool {
 /// Whether a lock is left with the address given up.
 fn is_left_given_up(lock: FrontierLock, at: &Address) -> bool {
     let frontier = lock.into_frontier();
-    is_given_up(&frontier, at)
+    let is_given_up = is_given_up(&frontier, at);
+    drop(frontier);
+    is_given_up
 }
 
 #[test]

@@ -82,7 +82,10 @@ fn halt_of(rt: &impl Abort, alloc: Global, short: &mut Short) -> Halt {
     let plan = plan(rt, alloc, 3, 100);
     match retrieve_in_order(alloc, &plan, short) {
         Ok(_harvest) => panic!(rt; "no halt"),
-        Err(halt) => halt,
+        Err(halt) => {
+            drop(plan);
+            halt
+        }
     }
 }
 
@@ -100,4 +103,6 @@ fn a_stop_for_memory_keeps_what_was_found(rt: HostRuntime) {
     let mut short = short_of(&rt, rt.alloc(), PAIR);
     let halt = halt_of(&rt, rt.alloc(), &mut short);
     assert!(rt; kept_one(&halt));
+    drop(halt);
+    drop(short);
 }

@@ -97,7 +97,9 @@ fn word_of(cause: Cause) -> &'static str {
 
 /// What is seen of a harvest, which is let go.
 fn last_seen(rt: &impl Abort, alloc: Global, end: &'static str, harvest: Harvest) -> Seen {
-    see(rt, alloc, end, &harvest)
+    let seen = see(rt, alloc, end, &harvest);
+    drop(harvest);
+    seen
 }
 
 /// What is seen of a retrieval that found all, and its fetchers.

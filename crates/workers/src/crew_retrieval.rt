@@ -205,8 +205,14 @@ fn retrieve_together<F: Fetcher + Send, R: Threads + Wait + Sync>(
     let frontier = lock.into_frontier();
     match noted {
         Noted::All(notes) => answer(conclude(alloc, plan, frontier, notes), fetchers),
-        Noted::Once => answer(Err(Halt::empty(alloc)), fetchers),
-        Noted::Twice => answer(Err(Halt::mismatch(alloc)), fetchers),
+        Noted::Once => {
+            drop(frontier);
+            answer(Err(Halt::empty(alloc)), fetchers)
+        }
+        Noted::Twice => {
+            drop(frontier);
+            answer(Err(Halt::mismatch(alloc)), fetchers)
+        }
     }
 }
 
