@@ -77,8 +77,14 @@ impl Harvest {
         requires kept { (u : List ℕ) → Contains (map (λ page. page.address) pages.items) u ↔ IsKept frontier.plan (answers frontier.state) u }
         ensures { IfOk result (IsHarvestOf frontier pages.items) }
     {
-        let (held, parted) = gather_all(alloc, &frontier, pages)?;
         let frontier = Box::new(alloc, frontier)?;
+        let (held, parted) = match gather_all(alloc, &frontier, pages) {
+            Ok(all) => all,
+            Err(short) => {
+                drop(frontier);
+                return Err(short);
+            }
+        };
         let Held {
             entries,
             records,

@@ -62,9 +62,12 @@ impl MapSite {
         for line in text.split(|byte| *byte == b'\n') {
             number += 1;
             if let Err(fault) = reading.read_line(&mut known, line) {
+                drop(reading);
+                drop(known);
                 return Err(fault.at(number));
             }
         }
+        drop(known);
         Ok(MapSite::of(reading)?)
     }
 
@@ -72,13 +75,17 @@ impl MapSite {
     fn of(mut reading: Reading) -> Result<MapSite, AllocError>
         ensures { IsFresh reading → IfOk result (λ m. m ≡ record { answers = answers_in reading; rules = all_rules reading; asks = [] }) }
     {
-        reading.close()?;
+        if reading.close().is_err() {
+            drop(reading);
+            return Err(AllocError);
+        }
         let Reading {
             alloc,
             answers,
             rules,
-            open: _,
+            open,
         } = reading;
+        drop(open);
         Ok(MapSite {
             alloc,
             stated: Arc::new(alloc, Stated { answers, rules })?,

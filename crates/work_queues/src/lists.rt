@@ -36,11 +36,13 @@ impl Lists {
     {
         let mut due = Queues::new(alloc);
         due.open(alloc)?;
+        let waiting = Pool::new(alloc)?;
+        let parked = Pool::new(alloc)?;
         Ok(Lists {
             hosts: IndexMap::new(alloc),
             jobs: Vec::new(alloc),
-            waiting: Pool::new(alloc)?,
-            parked: Pool::new(alloc)?,
+            waiting,
+            parked,
             due,
         })
     }
