@@ -81,6 +81,7 @@ impl Harvest {
         let (held, parted) = match gather_all(alloc, &frontier, pages) {
             Ok(all) => all,
             Err(short) => {
+                // By a call, since what an exit lets go is proved anew at each exit.
                 drop(frontier);
                 return Err(short);
             }

@@ -62,6 +62,7 @@ impl MapSite {
         for line in text.split(|byte| *byte == b'\n') {
             number += 1;
             if let Err(fault) = reading.read_line(&mut known, line) {
+                // By a call, since what an exit lets go is proved anew at each exit.
                 drop(reading);
                 drop(known);
                 return Err(fault.at(number));

@@ -98,6 +98,7 @@ pub fn conclude(
     match kept_pages(alloc, plan, &frontier, notes) {
         Ok(pages) => finish(alloc, frontier, pages, ended),
         Err(halt) => {
+            // By a call, since what an exit lets go is proved anew at each exit.
             drop(frontier);
             Err(halt)
         }
