@@ -71,6 +71,40 @@ fn make_dir<R: Files>(rt: &R, path: &str) -> io::Result<()> {
     }
 }
 
+// Makes the directory of this name below a path, which leads to it from then on.
+fn descend<R: Files>(rt: &R, path: &mut String, name: &str) -> io::Result<()> {
+    path.push_str("/")?;
+    path.push_str(name)?;
+    make_dir(rt, path.as_str())
+}
+
+// Finds or makes a folder, and these directories below it, from the top down.
+fn make_dirs_below<R: Files>(rt: &R, alloc: Global, folder: &str, dirs: &str) -> io::Result<()> {
+    fs::create_dir_all(rt, folder)?;
+    let mut path = String::from_str(alloc, folder)?;
+    for segment in dirs.split('/') {
+        descend(rt, &mut path, segment)?;
+    }
+    Ok(())
+}
+
+// The same, unless these directories were the last that were found or made; they are from then on.
+fn make_dirs<R: Files>(
+    rt: &R,
+    alloc: Global,
+    folder: &str,
+    known: &mut String,
+    dirs: &str,
+) -> io::Result<()> {
+    if !known.is_empty() && known.as_str() == dirs {
+        return Ok(());
+    }
+    make_dirs_below(rt, alloc, folder, dirs)?;
+    known.clear();
+    known.push_str(dirs)?;
+    Ok(())
+}
+
 // Refuses what stands where a file is to stand, unless it is a file or nothing.
 fn look_for_file<R: Files>(rt: &R, path: &str) -> io::Result<()> {
     match rt.symlink_metadata(path) {
@@ -121,25 +155,6 @@ impl<'a, R: Files> DiskFolder<'a, R> {
         })
     }
 
-    // Finds or makes the directories of a name, from the top down.
-    fn make_dirs(&mut self, dirs: &str) -> io::Result<()>
-        ensures { self.new ≡ self.old }
-    {
-        if !self.known.is_empty() && self.known.as_str() == dirs {
-            return Ok(());
-        }
-        fs::create_dir_all(self.rt, self.prefix.as_str())?;
-        let mut path = String::from_str(self.alloc, self.prefix.as_str())?;
-        for segment in dirs.split('/') {
-            path.push_str("/")?;
-            path.push_str(segment)?;
-            make_dir(self.rt, path.as_str())?;
-        }
-        self.known.clear();
-        self.known.push_str(dirs)?;
-        Ok(())
-    }
-
     // Writes the file and gives it its name.
     fn write(&mut self, name: &str, bytes: &[u8]) -> io::Result<()>
         ensures { self.new ≡ self.old }
@@ -148,7 +163,13 @@ impl<'a, R: Files> DiskFolder<'a, R> {
             return Err(Error::from(ErrorKind::InvalidInput));
         }
         if let Some((dirs, _)) = name.rsplit_once('/') {
-            self.make_dirs(dirs)?;
+            make_dirs(
+                self.rt,
+                self.alloc,
+                self.prefix.as_str(),
+                &mut self.known,
+                dirs,
+            )?;
         }
         let path = path_below(self.alloc, self.prefix.as_str(), name)?;
         look_for_file(self.rt, path.as_str())?;

@@ -88,6 +88,19 @@ impl<'a, C: Connect, R: Clock + Eprint> Connect for Watched<'a, C, R> {
     }
 }
 
+// How many bytes came with this answer.
+fn bytes_of(answer: &Result<usize, WireFault>) -> u64 {
+    match answer {
+        Ok(n) => *n as u64,
+        Err(_) => 0,
+    }
+}
+
+// Whether the connection failed.
+fn has_failed(answer: &Result<usize, WireFault>) -> bool {
+    matches!(answer, Err(WireFault::Failed))
+}
+
 impl<W: Wire + Drop> Wire for WatchedWire<W> {
     ghost incoming = { λ w. W.incoming w };
 
@@ -105,19 +118,14 @@ impl<W: Wire + Drop> Wire for WatchedWire<W> {
 
     fn read(&mut self, room: &mut [u8]) -> Result<usize, WireFault> {
         let answer = self.wire.read(room);
-        match &answer {
-            Ok(n) => self.bytes = self.bytes.saturating_add(*n as u64),
-            Err(WireFault::Failed) => self.broke = true,
-            Err(WireFault::Interrupted) => {}
-        }
+        self.bytes = self.bytes.saturating_add(bytes_of(&answer));
+        self.broke |= has_failed(&answer);
         answer
     }
 
     fn write(&mut self, bytes: &[u8]) -> Result<usize, WireFault> {
         let answer = self.wire.write(bytes);
-        if answer == Err(WireFault::Failed) {
-            self.broke = true;
-        }
+        self.broke |= has_failed(&answer);
         answer
     }
 

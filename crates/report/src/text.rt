@@ -1,6 +1,6 @@
 //! The text of a report: a line for each address, and the counts.
 ghost use Rattle.std.specs.Prelude.{◌≡◌, ◌++◌, IfOk, OnOk, length, map, string_bytes};
-ghost use Rattle.report.specs.Report.{outcome_word, is_failed, fate_word, was_asked, was_refused, has_failed, is_kept, report_text, counts_text, line_text};
+ghost use Rattle.report.specs.Report.{outcome_word, is_failed, fate_word, was_asked, was_refused, has_failed, is_kept, report_text, counts_text, line_text, count_of, count_kept};
 ghost use Rattle.report.specs.Rows.{line_of, fate_of};
 ghost use Rattle.report.specs.Entries.{lines_of};
 ghost use Rattle.report.specs.OutcomeWord.{word_text};
@@ -91,12 +91,40 @@ impl Counts {
         ensures failed { result.failed ≡ count_of has_failed (map line_of rows.now) }
     {
         Counts {
-            asked: rows.iter().filter(|row| was_asked(row.fate)).count(),
-            kept: rows.iter().filter(|row| is_kept(row)).count(),
-            refused: rows.iter().filter(|row| was_refused(row.fate)).count(),
-            failed: rows.iter().filter(|row| has_failed(row.fate)).count(),
+            asked: count_asked(rows),
+            kept: count_kept(rows),
+            refused: count_refused(rows),
+            failed: count_failed(rows),
         }
     }
+}
+
+// How many of these rows were asked for.
+fn count_asked(rows: &[Row<'_>]) -> usize
+    ensures { result ≡ count_of was_asked (map line_of rows.now) }
+{
+    rows.iter().filter(|row| was_asked(row.fate)).count()
+}
+
+// How many of their pages are kept.
+fn count_kept(rows: &[Row<'_>]) -> usize
+    ensures { result ≡ count_kept (map line_of rows.now) }
+{
+    rows.iter().filter(|row| is_kept(row)).count()
+}
+
+// How many of them robots rules refuse.
+fn count_refused(rows: &[Row<'_>]) -> usize
+    ensures { result ≡ count_of was_refused (map line_of rows.now) }
+{
+    rows.iter().filter(|row| was_refused(row.fate)).count()
+}
+
+// How many of them were asked for, and failed.
+fn count_failed(rows: &[Row<'_>]) -> usize
+    ensures { result ≡ count_of has_failed (map line_of rows.now) }
+{
+    rows.iter().filter(|row| has_failed(row.fate)).count()
 }
 
 // Whether it was asked for.

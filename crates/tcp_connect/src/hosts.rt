@@ -36,19 +36,7 @@ impl Hosts {
 
     // The host of this name, which is known from now on.
     pub(crate) fn host<R: Wait>(&self, rt: &R, name: &str) -> Result<Arc<Host>, AllocError> {
-        let mut by_name = self.by_name.lock(rt);
-        if let Some(host) = by_name.get(name) {
-            return Arc::try_clone(host);
-        }
-        let host = Arc::new(
-            self.alloc,
-            Host {
-                addresses: Mutex::new(None),
-            },
-        )?;
-        let name = String::from_str(self.alloc, name)?;
-        by_name.insert(name, Arc::try_clone(&host)?)?;
-        Ok(host)
+        host_among(self.alloc, &mut self.by_name.lock(rt), name)
     }
 
     // Whether this server kept a connection open at whose end it was waited for.
@@ -70,24 +58,68 @@ impl Host {
         alloc: Global,
         name: &str,
     ) -> Result<Vec<SocketAddr>, AllocError> {
-        let mut known = self.addresses.lock(rt);
-        if let Some(addresses) = &*known {
-            return addresses.clone();
-        }
-        let addresses = look_up(rt, alloc, name)?;
-        let copy = addresses.clone()?;
-        *known = Some(addresses);
-        Ok(copy)
+        addresses_among(rt, alloc, name, &mut self.addresses.lock(rt))
     }
 
     // This address took a connection: the next one begins with it, and goes round.
     pub(crate) fn took<R: Wait>(&self, rt: &R, address: SocketAddr) {
-        let mut known = self.addresses.lock(rt);
-        if let Some(addresses) = &mut *known
-            && let Some(at) = addresses.iter().position(|a| *a == address)
-        {
-            addresses.rotate_left(at);
+        if let Some(addresses) = &mut *self.addresses.lock(rt) {
+            begin_with(addresses, address);
         }
+    }
+}
+
+// What stands under a lock is lent to functions of its own: there no way out of them lets go of the lock.
+
+// The host of this name among those that are known, or a new one.
+fn host_among(
+    alloc: Global,
+    by_name: &mut IndexMap<String, Arc<Host>>,
+    name: &str,
+) -> Result<Arc<Host>, AllocError> {
+    match by_name.get(name) {
+        Some(host) => Arc::try_clone(host),
+        None => add_host(alloc, by_name, name),
+    }
+}
+
+// A new host, which is known by this name from now on.
+fn add_host(
+    alloc: Global,
+    by_name: &mut IndexMap<String, Arc<Host>>,
+    name: &str,
+) -> Result<Arc<Host>, AllocError> {
+    let name = String::from_str(alloc, name)?;
+    let host = Arc::new(
+        alloc,
+        Host {
+            addresses: Mutex::new(None),
+        },
+    )?;
+    by_name.insert(name, Arc::try_clone(&host)?)?;
+    Ok(host)
+}
+
+// The addresses that are known, or those that are looked up now.
+fn addresses_among<R: Net>(
+    rt: &R,
+    alloc: Global,
+    name: &str,
+    known: &mut Option<Vec<SocketAddr>>,
+) -> Result<Vec<SocketAddr>, AllocError> {
+    if let Some(addresses) = known {
+        return addresses.clone();
+    }
+    let addresses = look_up(rt, alloc, name)?;
+    let copy = addresses.clone()?;
+    *known = Some(addresses);
+    Ok(copy)
+}
+
+// Puts this address in front, where it is there; the others follow as they go round.
+fn begin_with(addresses: &mut [SocketAddr], first: SocketAddr) {
+    if let Some(at) = addresses.iter().position(|a| *a == first) {
+        addresses.rotate_left(at);
     }
 }
 
@@ -110,9 +142,9 @@ fn none_found(alloc: Global, kind: ErrorKind) -> Result<Vec<SocketAddr>, AllocEr
 
 // The addresses of a host.
 fn look_up<R: Net>(rt: &R, alloc: Global, name: &str) -> Result<Vec<SocketAddr>, AllocError> {
-    let mut addresses = Vec::new(alloc);
     match (plain_host(name), 0u16).to_socket_addrs(rt) {
         Ok(found) => {
+            let mut addresses = Vec::new(alloc);
             for address in found {
                 addresses.push(address)?;
             }

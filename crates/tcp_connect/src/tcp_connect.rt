@@ -9,7 +9,7 @@ use response_reader::TcpWire;
 use site_answer::{Connect, ConnectFault};
 use std::alloc::Global;
 use std::io;
-use std::io::{ErrorKind, Read};
+use std::io::{ErrorKind, Read, Write};
 use std::marker::Model;
 use std::net::{Net, OpenStream, SocketAddr};
 use std::sync::Wait;
@@ -66,6 +66,14 @@ fn prepare<S: OpenStream>(stream: &S) -> io::Result<()> {
     stream.set_nodelay(true)
 }
 
+// The wire of a connection that is set so.
+fn wire_of<S: Read + Write + OpenStream + Drop>(stream: S) -> Result<TcpWire<S>, ConnectFault> {
+    match prepare(&stream) {
+        Ok(()) => Ok(TcpWire::new(stream)),
+        Err(_) => Err(ConnectFault::Failed),
+    }
+}
+
 // A read that answered this found nothing within its time.
 fn is_late(kind: ErrorKind) -> bool {
     matches!(kind, ErrorKind::WouldBlock | ErrorKind::TimedOut)
@@ -104,15 +112,14 @@ impl<'a, R: Net + Wait> TcpConnect<'a, R> {
         let root = of.address()?;
         let host = self.hosts.host(self.rt, root.host())?;
         let addresses = host.addresses(self.rt, self.alloc, root.host())?;
-        let Some((stream, took)) = stream_to(self.rt, &addresses, root.port()) else {
-            return Err(ConnectFault::Failed);
-        };
-        if addresses.first() != Some(&took) {
-            host.took(self.rt, took);
-        }
-        match prepare(&stream) {
-            Ok(()) => Ok(TcpWire::new(stream)),
-            Err(_) => Err(ConnectFault::Failed),
+        match stream_to(self.rt, &addresses, root.port()) {
+            Some((stream, took)) => {
+                if addresses.first() != Some(&took) {
+                    host.took(self.rt, took);
+                }
+                wire_of(stream)
+            }
+            None => Err(ConnectFault::Failed),
         }
     }
 
@@ -157,10 +164,10 @@ impl<'a, R: Net + Wait> Connect for TcpConnect<'a, R> {
     // connections open.
     fn close(&mut self, wire: TcpWire<R::Stream>) {
         let mut stream = wire.into_stream();
-        let Ok(server) = stream.peer_addr() else {
-            return;
-        };
-        if !self.hosts.is_open(self.rt, server) && stays_open(&mut stream) {
+        if let Ok(server) = stream.peer_addr()
+            && !self.hosts.is_open(self.rt, server)
+            && stays_open(&mut stream)
+        {
             self.hosts.note_open(self.rt, server);
         }
     }
