@@ -31,7 +31,7 @@ pub struct StoredAnswer {
 }
 
 /// Where a connection fails.
-#[derive(Clone, Copy, Debug, PartialEq, Eq)]
+#[derive(Clone, Copy)]
 pub enum FailingPlace {
     /// No connection is made.
     Connect,
@@ -40,7 +40,7 @@ pub enum FailingPlace {
 }
 
 /// A connection that is to fail; connections are counted from 0.
-#[derive(Clone, Copy, Debug, PartialEq, Eq)]
+#[derive(Clone, Copy)]
 pub struct PlannedFailure {
     pub connection: u64,
     pub place: FailingPlace,
@@ -291,8 +291,12 @@ fn is_asked(alloc: Global, at: &Address, request: &[u8]) -> Result<bool, AllocEr
     ensures { IfOk result (λ is. is ≡ bytes_eq (request_text at.now) request.now) }
 {
     let mut text = MemoryWire::new(alloc, Vec::new(alloc), Vec::new(alloc), Vec::new(alloc));
-    match write_request(&mut text, at) {
-        Ok(()) => Ok(text.written() == request),
+    let written = write_request(&mut text, at);
+    let is_same = text.written() == request;
+    // By a call, as the proof of letting go in place is long.
+    drop(text);
+    match written {
+        Ok(()) => Ok(is_same),
         Err(_) => Err(AllocError),
     }
 }

@@ -168,6 +168,42 @@ changed_items old new number job task count is item at =
     each : (j : Job) → item_of new.hosts.entries j ≡ item_of old.hosts.entries j
     each j = ap (λ z. record { origin = get_or z j.host []; task = j.task }) (ap (λ z. texts z) is.hosts ∙ texts-write old.hosts.entries job.host count)
 
+-- ---- room that is made, or isn't
+
+-- no fewer, as it is as many
+pub as_many : (a b : ℕ) → b ≡ a → a ≤ b
+as_many a b same = omega arith
+
+-- no fewer, as it is one more
+pub one_more : (a b : ℕ) → b ≡ a + 1 → a ≤ b
+one_more a b more = omega arith
+
+-- the seats of a pool that seats the same numbers
+still_seated : (old new : Pool) (test : Job → Bool) (jobs : List Job) (count : ℕ) → IsSeated old test jobs count → IsPool new
+    → seats new.numbers ≡ seats old.numbers → vec_len old.numbers.queues ≤ vec_len new.numbers.queues → IsSeated new test jobs count
+still_seated old new test jobs count is pool same more = record { pool = pool; seats = same ∙ is.seats; hosts = let long = is.hosts in omega (arith, long, more) }
+
+-- the lists stay as they are but for room, and for hosts that the pools have more
+pub room_keeps : (old new : Lists) → IsKept old → new.hosts.entries ≡ old.hosts.entries → new.jobs.items ≡ old.jobs.items
+    → IsPool new.waiting → seats new.waiting.numbers ≡ seats old.waiting.numbers → vec_len old.waiting.numbers.queues ≤ vec_len new.waiting.numbers.queues
+    → IsPool new.parked → seats new.parked.numbers ≡ seats old.parked.numbers → vec_len old.parked.numbers.queues ≤ vec_len new.parked.numbers.queues
+    → IsPlaced new.due → seats new.due ≡ seats old.due → vec_len new.due.queues ≡ vec_len old.due.queues → IsKept new
+room_keeps old new kept hosts jobs waiting waiting_seats waiting_more parked parked_seats parked_more due due_seats due_queues =
+    record {
+      within = λ number job at. subst (λ z. job.host < length z) (sym hosts) (kept.within number job (ap (λ z. slice_get z number) (sym jobs) ∙ at));
+      distinct = subst (λ (z : List (Text × ℕ)). (a b : ℕ) → a < length z → b < length z → key_at z a ≡ key_at z b → a ≡ b) (sym hosts) kept.distinct;
+      out = λ host entry at. kept.out host entry (ap (λ z. slice_get z host) (sym hosts) ∙ at) ∙ ap (λ z. host_out z host) (sym jobs);
+      waiting = subst (λ z. IsSeated new.waiting (λ j. is_waiting j.task) z (length new.hosts.entries)) (sym jobs)
+          (subst (λ z. IsSeated new.waiting (λ j. is_waiting j.task) old.jobs.items (length z)) (sym hosts)
+          (still_seated old.waiting new.waiting (λ j. is_waiting j.task) old.jobs.items (length old.hosts.entries) kept.waiting waiting waiting_seats waiting_more));
+      parked = subst (λ z. IsSeated new.parked (λ j. is_parked j.task) z (length new.hosts.entries)) (sym jobs)
+          (subst (λ z. IsSeated new.parked (λ j. is_parked j.task) old.jobs.items (length z)) (sym hosts)
+          (still_seated old.parked new.parked (λ j. is_parked j.task) old.jobs.items (length old.hosts.entries) kept.parked parked parked_seats parked_more));
+      due_placed = due;
+      due = due_seats ∙ kept.due ∙ ap (λ z. map due_seat z) (sym jobs);
+      due_queue = due_queues ∙ kept.due_queue;
+    }
+
 -- ---- a number more
 
 -- the seats of a pool after a number was added that isn't in

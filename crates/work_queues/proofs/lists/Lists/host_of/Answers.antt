@@ -5,7 +5,7 @@ use Rattle.std.proofs.lemmas.List.Quantifiers.{position-Some}
 use Rattle.std.proofs.lemmas.Slice.Eq.{bytes_eq-Decides}
 use Rattle.std.specs.Str.{bytes_eq}
 use Rattle.work_queues.specs.Lists.{texts, key_at}
-use Rattle.work_queues.proofs.SetLaws.{opened_keeps, opened_items, key-append_last, none_at, inserted_last, key_differs}
+use Rattle.work_queues.proofs.SetLaws.{opened_keeps, opened_items, room_keeps, as_many, one_more, key-append_last, none_at, inserted_last, key_differs}
 use Rattle.work_queues.proofs.lists.Lists.host_of.Goals as goal
 
 pub returns-in-Some-clause-ok : goal.returns-in-Some-clause-ok
@@ -13,6 +13,26 @@ returns-in-Some-clause-ok c =
     let there = position-Some (bytes_eq c.args.origin) (texts c.args.self.now.hosts.entries) c.in-Some.host [] (sym c.in-Some.ensures.index) in
     let lt : c.in-Some.host < length c.args.self.now.hosts.entries = simp length-map at there.0 in
     (lt, sym ((bytes_eq-Decides c.args.origin (key_at c.args.self.now.hosts.entries c.in-Some.host)).0 there.1))
+
+pub returns-in_err-open-clause-kept : goal.returns-in_err-open-clause-kept
+returns-in_err-open-clause-kept c =
+    let waiting = c.in_err-open.ensures in
+    let kept = c.requires in
+    room_keeps c.args.self.now _ kept refl refl waiting.pool waiting.seats (as_many _ _ waiting.err) kept.parked.pool refl (as_many _ _ refl) kept.due_placed refl refl
+
+pub returns-in_err-open-2-clause-kept : goal.returns-in_err-open-2-clause-kept
+returns-in_err-open-2-clause-kept c =
+    let waiting = c.in_ok-open.ensures in
+    let parked = c.in_err-open-2.ensures in
+    let kept = c.requires in
+    room_keeps c.args.self.now _ kept refl refl waiting.pool waiting.seats (one_more _ _ waiting.ok) parked.pool parked.seats (as_many _ _ parked.err) kept.due_placed refl refl
+
+pub returns-in_err-insert-clause-kept : goal.returns-in_err-insert-clause-kept
+returns-in_err-insert-clause-kept c =
+    let waiting = c.in_ok-open.ensures in
+    let parked = c.in_ok-open-2.ensures in
+    let kept = c.requires in
+    room_keeps c.args.self.now _ kept c.in_err-insert.ensures.err refl waiting.pool waiting.seats (one_more _ _ waiting.ok) parked.pool parked.seats (one_more _ _ parked.ok) kept.due_placed refl refl
 
 pub returns-clause-kept : goal.returns-clause-kept
 returns-clause-kept c =
