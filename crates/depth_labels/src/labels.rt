@@ -10,7 +10,7 @@ use std::alloc::{AllocError, Global};
 use std::marker::Model;
 
 /// What became of an offer.
-#[derive(Clone, Copy, PartialEq, Eq)]
+#[derive(Clone, Copy, Debug, PartialEq, Eq)]
 pub enum Offer {
     /// The address wasn't held; it is now, at the offered depth.
     New,
@@ -21,7 +21,7 @@ pub enum Offer {
 }
 
 /// Why an offer was refused. The table is as it was.
-#[derive(Clone, Copy, PartialEq, Eq)]
+#[derive(Clone, Copy, Debug, PartialEq, Eq)]
 pub enum LabelFault {
     /// The address is new, and as many are held as may be.
     Full,

@@ -5,7 +5,7 @@ use crate::outcome::Outcome;
 use std::marker::Model;
 
 /// What a fetcher answers: the outcome, and the body of the response.
-#[derive(Drop)]
+#[derive(Drop, Debug)]
 pub struct Answer {
     /// What became of the address.
     pub outcome: Outcome,
@@ -14,7 +14,7 @@ pub struct Answer {
 }
 
 /// The bytes of a response's body. Contracts see the list of bytes.
-#[derive(Drop)]
+#[derive(Drop, Debug)]
 pub struct Body {
     bytes: Vec<u8>,
 }

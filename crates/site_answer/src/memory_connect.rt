@@ -31,7 +31,7 @@ pub struct StoredAnswer {
 }
 
 /// Where a connection fails.
-#[derive(Clone, Copy)]
+#[derive(Clone, Copy, Debug, PartialEq, Eq)]
 pub enum FailingPlace {
     /// No connection is made.
     Connect,
@@ -40,7 +40,7 @@ pub enum FailingPlace {
 }
 
 /// A connection that is to fail; connections are counted from 0.
-#[derive(Clone, Copy)]
+#[derive(Clone, Copy, Debug, PartialEq, Eq)]
 pub struct PlannedFailure {
     pub connection: u64,
     pub place: FailingPlace,
