@@ -186,8 +186,8 @@ fn same_rules(rules: &[Rule], others: &[Rule]) -> bool
     if rules.len() != others.len() {
         return false;
     }
-    for (rule, other) in rules.iter().zip(others) {
-        if !rule.same(other) {
+    for (i, rule) in rules.iter().enumerate() {
+        if !rule.same(&others[i]) {
             return false;
         }
     }
