@@ -56,14 +56,20 @@ impl AskedName {
     pub(crate) fn named(name: &[u8]) -> Option<AskedName>
         ensures { MatchOption result (is_asked_attribute name.now ≡ false) (λ n. name.now ≡ asked_name n) }
     {
-        match name {
-            b"href" => Some(AskedName::Href),
-            b"src" => Some(AskedName::Src),
-            b"background" => Some(AskedName::Background),
-            b"rel" => Some(AskedName::Rel),
-            b"name" => Some(AskedName::Name),
-            b"content" => Some(AskedName::Content),
-            _ => None,
+        if is_name(name, b"href") {
+            Some(AskedName::Href)
+        } else if is_name(name, b"src") {
+            Some(AskedName::Src)
+        } else if is_name(name, b"background") {
+            Some(AskedName::Background)
+        } else if is_name(name, b"rel") {
+            Some(AskedName::Rel)
+        } else if is_name(name, b"name") {
+            Some(AskedName::Name)
+        } else if is_name(name, b"content") {
+            Some(AskedName::Content)
+        } else {
+            None
         }
     }
 

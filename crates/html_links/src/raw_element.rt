@@ -3,6 +3,8 @@ ghost use Rattle.std.specs.Prelude.{◌≡◌, false, MatchOption};
 ghost use Rattle.html_links.specs.Markup.{is_raw, closing_text};
 ghost use Rattle.html_links.specs.Lexing.{raw_name};
 
+use crate::bytes::is_name;
+
 /// An element whose content is text up to its end tag.
 #[derive(Clone, Copy)]
 pub(crate) enum RawElement {
@@ -17,12 +19,16 @@ impl RawElement {
     pub(crate) fn named(name: &[u8]) -> Option<RawElement>
         ensures { MatchOption result (is_raw name.now ≡ false) (λ e. name.now ≡ raw_name e) }
     {
-        match name {
-            b"script" => Some(RawElement::Script),
-            b"style" => Some(RawElement::Style),
-            b"title" => Some(RawElement::Title),
-            b"textarea" => Some(RawElement::Textarea),
-            _ => None,
+        if is_name(name, b"script") {
+            Some(RawElement::Script)
+        } else if is_name(name, b"style") {
+            Some(RawElement::Style)
+        } else if is_name(name, b"title") {
+            Some(RawElement::Title)
+        } else if is_name(name, b"textarea") {
+            Some(RawElement::Textarea)
+        } else {
+            None
         }
     }
 

@@ -1,5 +1,6 @@
 -- Cuts of a text, decided from the front.
-use Rattle.std.proofs.Common.{zero, suc, ◌≡◌, ◌↔◌, ℕ, ◌+◌, ◌≤◌, ◌<◌, Bool, true, false, cond, ◌&&◌, ◌||◌, List, [], ◌∷◌, ◌++◌, take, drop, length, IsTrue, sym, refl, ap, ◌∙◌, subst, inl, inr, arith, length-drop, get_or, not, Option, Some, None}
+use Rattle.std.proofs.Common.{zero, suc, ◌≡◌, ◌↔◌, ℕ, ◌+◌, ◌-◌, ◌*◌, ◌≤◌, ◌<◌, Bool, true, false, cond, ◌&&◌, ◌||◌, List, [], ◌∷◌, ◌++◌, take, drop, length, IsTrue, sym, refl, ap, ◌∙◌, subst, inl, inr, arith, length-drop, get_or, not, Option, Some, None}
+use Rattle.std.proofs.Math.Nat.{mul-le-mul_right}
 use Rattle.std.proofs.lemmas.Bool.{and_parts, and_from, or_left, or_right, or_cases, cases_Bool, both_ways, false_from_ne_true}
 use Rattle.std.proofs.lemmas.List.{drop-drop, drop_more, drop_all, take_more, get_or-drop, take-append-drop, length-take-le}
 use Rattle.std.proofs.lemmas.List.Sums.{sum_by-cons}
@@ -316,6 +317,13 @@ State_back r t octets parts whole at rest back x behind start tried again y next
           ∙ at_back r t parts octets (is_match r t (drop at parts) (x ∷ octets behind)) back start tried y (octets next) (missed (octets behind)) is new;
     }
 
+-- where octets are left, some stand behind the last run
+pub State_nothing_behind : {P T : Type 0} (r : P → Bool) (t : P → ℕ → Bool) (octets : T → List ℕ) (parts : List P) (whole : T) (at : ℕ) (rest : T) (back : Option (ℕ × T)) (x : ℕ) (behind : T) (start : ℕ) (tried again : T) → State r t octets parts whole at rest back → octets rest ≡ x ∷ octets behind → back ≡ Some (start, tried) → tried ≡ again → octets again ≡ [] → ⊥
+State_nothing_behind r t octets parts whole at rest back x behind start tried again inv read is same none =
+    let empty : length (octets tried) ≤ 0 = omega (arith, ap length (ap octets same ∙ none)) in
+    let short : length (octets rest) ≤ 0 = rest_shorter r parts octets at (octets rest) back 0 inv.since (subst (λ b. tries octets b (length (octets rest)) ≤ 0) (sym is) empty) in
+    omega (arith, ap length read)
+
 pub State_refused : {P T : Type 0} (r : P → Bool) (t : P → ℕ → Bool) (octets : T → List ℕ) (parts : List P) (whole : T) (at : ℕ) (rest : T) (back : Option (ℕ × T)) (x : ℕ) (behind : T) → State r t octets parts whole at rest back → octets rest ≡ x ∷ octets behind → Misses r t parts at x → back ≡ None → false ≡ is_match r t parts (octets whole)
 State_refused r t octets parts whole at rest back x behind inv read missed is =
     sym
@@ -330,6 +338,30 @@ State_end r t octets parts whole at rest back answer inv ended is =
     ∙ sym (inv.answer
     ∙ ap (λ xs. is_match r t (drop at parts) xs || retry r t parts octets back) ended
     ∙ at_end r t parts octets at back inv.within (subst (λ xs. Since r parts octets at xs back) ended inv.since)))
+
+-- ---- each step leaves less to try
+
+tries_most : {T : Type 0} (octets : T → List ℕ) (back : Option (ℕ × T)) (m n : ℕ) → tries octets back m ≤ n → tries octets back m ≤ tries octets back n
+tries_most octets None m n h = h
+tries_most octets (Some back) m n h = omega arith
+
+pub State_run_less : {P T : Type 0} (r : P → Bool) (t : P → ℕ → Bool) (octets : T → List ℕ) (parts : List P) (whole : T) (at : ℕ) (rest : T) (back : Option (ℕ × T)) → State r t octets parts whole at rest back → at < length parts
+    → length (octets rest) * (length parts + 1) + (length parts - (at + 1)) < tries octets back (length (octets whole)) * (length parts + 1) + (length parts - at)
+State_run_less r t octets parts whole at rest back inv below =
+    let most = tries octets back (length (octets whole)) in
+    let short = rest_shorter r parts octets at (octets rest) back most inv.since (tries_most octets back (length (octets rest)) (length (octets whole)) inv.shorter) in
+    let times = mul-le-mul_right (length parts + 1) short in
+    omega (arith, times)
+
+pub one_less : (tried places at : ℕ) → at < places → tried * (places + 1) + (places - (at + 1)) < tried * (places + 1) + (places - at)
+one_less tried places at below = omega arith
+
+pub State_back_less : {P T : Type 0} (octets : T → List ℕ) (parts : List P) (whole : T) (at : ℕ) (back : Option (ℕ × T)) (start : ℕ) (tried again : T) (y : ℕ) (next : T) → back ≡ Some (start, tried) → tried ≡ again → octets again ≡ y ∷ octets next
+    → length (octets next) * (length parts + 1) + (length parts - start) < tries octets back (length (octets whole)) * (length parts + 1) + (length parts - at)
+State_back_less octets parts whole at back start tried again y next is same once =
+    let fewer : suc (length (octets next)) ≤ tries octets back (length (octets whole)) = rw is (omega (arith, ap length (ap octets same ∙ once))) in
+    let times = mul-le-mul_right (length parts + 1) fewer in
+    omega (arith, times)
 
 -- ---- texts that are too short
 

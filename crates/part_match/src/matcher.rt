@@ -54,7 +54,8 @@ fn is_long_enough<P: Part, T: Text>(parts: &[P], text: T) -> bool
 {
     let mut rest = text;
     for part in parts {
-        if !part.is_run() {
+        let takes_one = !part.is_run();
+        if takes_one {
             let Some((_, behind)) = rest.split_first() else {
                 return false;
             };

@@ -1,5 +1,5 @@
 -- The rules that are kept allow what all rules do.
-use Rattle.std.proofs.Common.{◌≡◌, ◌≢◌, ◌↔◌, ℕ, ◌≤◌, ◌⊎◌, Bool, true, false, not, ◌||◌, ◌==◌, List, [], ◌∷◌, ◌++◌, length, Contains, sym, refl, ap, ◌∙◌, subst, inl, inr, arith, map, Vec}
+use Rattle.std.proofs.Common.{◌≡◌, ◌≢◌, ◌↔◌, ℕ, ◌≤◌, ◌⊎◌, Bool, true, false, not, cond, ◌||◌, ◌==◌, List, [], ◌∷◌, ◌++◌, length, Contains, sym, refl, ap, ◌∙◌, subst, inl, inr, arith, map, Vec}
 use Rattle.std.proofs.lemmas.Bool.{cases_Bool, and_parts, or_cases, or_right, eqb-true, eq-eqb, false_from_ne_true}
 use Rattle.std.proofs.lemmas.Slice.Eq.{bytes_eq-Decides}
 use Rattle.std.proofs.lemmas.List.Elements.{Contains-append_left, Contains-append_right, Contains-append_cases, Contains-push, Contains-push_cases}
@@ -12,6 +12,7 @@ use Rattle.std.specs.List.{list_any}
 use Rattle.indexmap.specs.IndexSet.{insert_key}
 use Rattle.robots_rules.specs.Access.{RuleValue, RulesAllow}
 use Rattle.robots_rules.specs.Groups.{is_same_rule, with_rule}
+use Rattle.robots_rules.specs.RuleView.{rule_by}
 
 beq-true : (a b : Bool) → beq a b ≡ true → a ≡ b
 beq-true true true e = refl
@@ -26,19 +27,15 @@ is_same_rule-true a b e =
     let with_pattern : List ℕ → RuleValue = λ p. record { allows = b.allows; pattern = p } in
     ap with_allows (beq-true a.allows b.allows both.0) ∙ ap with_pattern ((bytes_eq-Decides a.pattern b.pattern).0 both.1)
 
--- the rule that a key tells
-abbrev pub rule_by : {Z : Type 0} → Bool × Vec ℕ Z → RuleValue
-rule_by key = record { allows = key.0; pattern = key.1.items }
-
 -- ---- one rule more
 
-pub with_rule-new : (kept : List RuleValue) (rule : RuleValue) → length rule.pattern ≢ 0 → list_any (is_same_rule rule) kept ≡ false → with_rule kept rule ≡ kept ++ rule ∷ []
+with_rule-new : (kept : List RuleValue) (rule : RuleValue) → length rule.pattern ≢ 0 → list_any (is_same_rule rule) kept ≡ false → with_rule kept rule ≡ kept ++ rule ∷ []
 with_rule-new kept rule some fresh = rw (false_from_ne_true (length rule.pattern == 0) (λ e. some (eqb-true (length rule.pattern) 0 e)), fresh) refl
 
 pub with_rule-none : (kept : List RuleValue) (rule : RuleValue) → length rule.pattern ≡ 0 → with_rule kept rule ≡ kept
 with_rule-none kept rule none = rw (eq-eqb (length rule.pattern) 0 none) refl
 
-pub with_rule-old : (kept : List RuleValue) (rule : RuleValue) → list_any (is_same_rule rule) kept ≡ true → with_rule kept rule ≡ kept
+with_rule-old : (kept : List RuleValue) (rule : RuleValue) → list_any (is_same_rule rule) kept ≡ true → with_rule kept rule ≡ kept
 with_rule-old kept rule there = rw (or_right (length rule.pattern == 0) (list_any (is_same_rule rule) kept) there) refl
 
 -- the rules gone through and one more
@@ -62,25 +59,30 @@ rule_by-is key new allows pattern =
     ap with_allows allows ∙ ap with_pattern pattern
 
 -- a rule stands there already where its key was seen
-pub seen-is : {Z : Type 0} (seen : List (Bool × Vec ℕ Z)) (kept : List RuleValue) (key : Bool × Vec ℕ Z) (new : RuleValue) → map rule_by seen ≡ kept → rule_by key ≡ new → list_any (is_same_rule new) kept ≡ list_any (key_eq key) seen
+seen-is : {Z : Type 0} (seen : List (Bool × Vec ℕ Z)) (kept : List RuleValue) (key : Bool × Vec ℕ Z) (new : RuleValue) → map rule_by seen ≡ kept → rule_by key ≡ new → list_any (is_same_rule new) kept ≡ list_any (key_eq key) seen
 seen-is seen kept key new keys is =
     sym (list_any-keys key seen ∙ ap (list_any (is_same_rule (rule_by key))) keys ∙ ap (λ (r : RuleValue). list_any (is_same_rule r) kept) is)
 
-pub keys-new : {Z : Type 0} (seen more : List (Bool × Vec ℕ Z)) (kept : List RuleValue) (key : Bool × Vec ℕ Z) (new : RuleValue) → map rule_by seen ≡ kept → rule_by key ≡ new → list_any (key_eq key) seen ≡ false → more ≡ insert_key key_eq seen key → map rule_by more ≡ kept ++ new ∷ []
+keys-new : {Z : Type 0} (seen more : List (Bool × Vec ℕ Z)) (kept : List RuleValue) (key : Bool × Vec ℕ Z) (new : RuleValue) → map rule_by seen ≡ kept → rule_by key ≡ new → list_any (key_eq key) seen ≡ false → more ≡ insert_key key_eq seen key → map rule_by more ≡ kept ++ new ∷ []
 keys-new seen more kept key new keys is fresh put =
     let pushed : insert_key key_eq seen key ≡ seen ++ key ∷ [] = rw fresh refl in
     ap (map rule_by) (put ∙ pushed) ∙ map-append rule_by seen (key ∷ []) ∙ ap (λ (rules : List RuleValue). rules ++ rule_by key ∷ []) keys ∙ ap (λ (r : RuleValue). kept ++ r ∷ []) is
 
-pub keys-old : {Z : Type 0} (seen more : List (Bool × Vec ℕ Z)) (key : Bool × Vec ℕ Z) → list_any (key_eq key) seen ≡ true → more ≡ insert_key key_eq seen key → map rule_by more ≡ map rule_by seen
+keys-old : {Z : Type 0} (seen more : List (Bool × Vec ℕ Z)) (key : Bool × Vec ℕ Z) → list_any (key_eq key) seen ≡ true → more ≡ insert_key key_eq seen key → map rule_by more ≡ map rule_by seen
 keys-old seen more key there put = let same : insert_key key_eq seen key ≡ seen = rw there refl in ap (map rule_by) (put ∙ same)
 
-pub false_from_not : (b : Bool) → not b ≡ true → b ≡ false
-false_from_not true e = cc
-false_from_not false e = refl
-
-pub true_from_not : (b : Bool) → not b ≡ false → b ≡ true
-true_from_not true e = refl
-true_from_not false e = cc
+-- the keys after a rule's key is put to those seen, and whether it is new there
+pub keys-put : {Z : Type 0} (seen more : List (Bool × Vec ℕ Z)) (key : Bool × Vec ℕ Z) (new : RuleValue) (added : Bool) → length new.pattern ≢ 0 → rule_by key ≡ new → added ≡ not (list_any (key_eq key) seen) → more ≡ insert_key key_eq seen key → (map rule_by more ≡ with_rule (map rule_by seen) new) × (with_rule (map rule_by seen) new ≡ cond added (map rule_by seen ++ new ∷ []) (map rule_by seen))
+keys-put seen more key new added some is told put =
+    let same = seen-is seen (map rule_by seen) key new refl is in
+    elim (cases_Bool (list_any (key_eq key) seen)) [
+      | inl there ↦ (
+          let old = with_rule-old (map rule_by seen) new (same ∙ there) in
+          (keys-old seen more key there put ∙ sym old, rw (told, there) old))
+      | inr fresh ↦ (
+          let one_more = with_rule-new (map rule_by seen) new some (same ∙ fresh) in
+          (keys-new seen more (map rule_by seen) key new refl is fresh put ∙ sym one_more, rw (told, fresh) one_more))
+    ]
 
 -- ---- the same answers
 

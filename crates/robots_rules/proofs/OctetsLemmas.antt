@@ -1,9 +1,9 @@
 -- One step of the normal form.
-use Rattle.std.proofs.Common.{◌≡◌, ℕ, ◌+◌, ◌*◌, ◌≤◌, ◌<◌, Bool, false, List, [], ◌∷◌, ◌++◌, length, get_or, drop, sym, refl, ap, ◌∙◌, arith, append-nil}
+use Rattle.std.proofs.Common.{◌≡◌, ℕ, ◌+◌, ◌*◌, ◌≤◌, ◌<◌, Bool, false, not, List, [], ◌∷◌, ◌++◌, length, get_or, drop, sym, refl, ap, ◌∙◌, arith, append-nil}
 use Rattle.std.proofs.lemmas.Bool.{and_from, and_parts, cond-true, cond-false, eq-eqb, lt-ltb, eqb-true, ltb-true, false_from_ne_true}
 use Rattle.std.specs.Char.{digit_value}
 use Rattle.percent_encoding.specs.Percent.{is_escape}
-use Rattle.robots_rules.specs.Octets.{normal, escape_if, escaped_octet, KeepsFirst}
+use Rattle.robots_rules.specs.Octets.{normal, escape_if, escaped_octet, is_unreserved, KeepsFirst}
 
 pub normal-nil : (m : ℕ → Bool) → normal m [] ≡ []
 unfolding normal
@@ -49,3 +49,7 @@ plain_step m [] (x ∷ whole) octet rest escaped next none keeps is same given =
     let first : x ≡ octet = cc in
     let behind : whole ≡ rest = cc in
     keeps ∙ ap (λ y. escape_if (m y) y ++ normal m whole) first ∙ ap (λ ys. escape_if (m octet) octet ++ normal m ys) behind ∙ ap (λ b. escape_if b octet ++ normal m rest) (sym same) ∙ given
+
+pub escape_step : (m : ℕ → Bool) (ready whole : List ℕ) (octet : ℕ) (rest : List ℕ) (escaped : Bool) (next : List ℕ) → length ready < 1 → normal m whole ≡ escaped_octet octet ++ normal m rest → escaped ≡ not (is_unreserved octet) → escape_if escaped octet ++ normal m rest ≡ next → ready ++ normal m whole ≡ next
+escape_step m (x ∷ ready) whole octet rest escaped next none is same given = absurd (omega arith)
+escape_step m [] whole octet rest escaped next none is same given = is ∙ ap (λ b. escape_if b octet ++ normal m rest) (sym same) ∙ given

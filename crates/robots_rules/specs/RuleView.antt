@@ -1,5 +1,6 @@
 -- What the code's own form of a rule stands for.
-use Rattle.std.specs.Prelude.{◌≡◌, ℕ, Bool, List, [], ◌∷◌, ◌++◌, if◌then◌else◌}
+use Rattle.std.specs.Prelude.{◌≡◌, ℕ, Bool, List, [], ◌∷◌, ◌++◌, if◌then◌else◌, Vec}
+use Rattle.robots_rules.specs.Access.{RuleValue}
 use Rattle.robots_rules.specs.Patterns.{ends_text, front, parts_of}
 
 -- the pattern that has these parts and a last `$` or not
@@ -10,3 +11,7 @@ pattern_with ends parts = if ends then parts ++ 36 ∷ [] else front parts
 pub record AreParts (ends : Bool) (parts : List ℕ) : Type 0 where
   pub ending : ends_text (pattern_with ends parts) ≡ ends
   pub whole : parts_of (pattern_with ends parts) ≡ parts
+
+-- the rule that a key tells
+abbrev pub rule_by : {Z : Type 0} → Bool × Vec ℕ Z → RuleValue
+rule_by key = record { allows = key.0; pattern = key.1.items }

@@ -1,5 +1,5 @@
 //! The groups of a robots file that speak to this agent (RFC 9309, section 2.2.1).
-ghost use Rattle.std.specs.Prelude.{◌≡◌, IfOk, map, not, position};
+ghost use Rattle.std.specs.Prelude.{◌≡◌, ◌++◌, ◌∷◌, [], IfOk, map, not, position};
 ghost use Rattle.std.specs.List.{before_first, list_any};
 ghost use Rattle.robots_rules.specs.Lines.{is_blank};
 ghost use Rattle.robots_rules.specs.Groups.{groups_of, is_in_token, names_all, names_us, rule_of, rules_for_us, rules_naming, token_of};
@@ -67,13 +67,26 @@ fn rules_naming(
             }
             Line::Rule { allows, pattern } => {
                 if is_ours {
-                    rules.push(Rule::read(alloc, allows, pattern)?)?;
+                    push_rule(&mut rules, alloc, allows, pattern)?;
                 }
                 is_behind_rule = true;
             }
         }
     }
     Ok(rules)
+}
+
+/// Puts the rule last that a line with this pattern states.
+fn push_rule(
+    rules: &mut Vec<Rule>,
+    alloc: Global,
+    allows: bool,
+    pattern: &[u8],
+) -> Result<(), AllocError>
+    ensures { IfOk result (λ _. rules.new.items ≡ rules.old.items ++ rule_of (record { allows = allows; pattern = pattern.now }) ∷ []) }
+{
+    rules.push(Rule::read(alloc, allows, pattern)?)?;
+    Ok(())
 }
 
 fn names_one(audience: Audience, value: &[u8]) -> bool

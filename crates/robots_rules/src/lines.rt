@@ -32,7 +32,6 @@ pub(crate) fn lines_in(alloc: Global, file: &[u8]) -> Result<Vec<Line<'_>>, Allo
 }
 
 /// The part of the file that is used: of a longer one what stands before the last line end there.
-#[tactic(auto, unfolding(crate::specs::Lines::used))]
 fn used(file: &[u8]) -> &[u8]
     ensures { result.now ≡ used file.now }
 {

@@ -1,7 +1,8 @@
 //! A rule of a robots file (RFC 9309, section 2.2.2).
-ghost use Rattle.std.specs.Prelude.{◌≡◌, ◌↔◌, ◌++◌, [], ℕ, List, IsTrue, IfOk, IfSome, fold};
+ghost use Rattle.std.specs.Prelude.{◌≡◌, ◌↔◌, ◌++◌, [], ◌∷◌, ℕ, List, IsTrue, IfOk, IfSome, if◌then◌else◌, map, fold};
 ghost use Rattle.robots_rules.specs.Access.{RulesAllow, rules_allow};
 ghost use Rattle.robots_rules.specs.Groups.{with_rule};
+ghost use Rattle.robots_rules.specs.RuleView.{rule_by};
 
 use crate::pattern::{ends_text, normal_of};
 use crate::pieces::{NormalPath, matches_front};
@@ -158,12 +159,39 @@ pub(crate) fn rules_allow_front(rules: &[Rule], front: &[u8]) -> Option<bool>
 pub(crate) fn kept_rules(alloc: Global, rules: Vec<Rule>) -> Result<Vec<Rule>, AllocError>
     ensures { IfOk result (λ kept. kept.items ≡ fold with_rule [] rules.items) }
 {
-    let mut seen: IndexSet<(bool, Vec<u8>)> = IndexSet::new(alloc);
+    new_rules(alloc, rules, &mut IndexSet::new(alloc))
+}
+
+/// The rules that are kept where none was seen yet. The keys seen are lent, so that only the caller lets go of them.
+fn new_rules(
+    alloc: Global,
+    rules: Vec<Rule>,
+    seen: &mut IndexSet<(bool, Vec<u8>)>,
+) -> Result<Vec<Rule>, AllocError>
+    requires { seen.old.keys ≡ [] }
+    ensures { IfOk result (λ kept. kept.items ≡ fold with_rule [] rules.items) }
+{
     let mut kept = Vec::new(alloc);
     for rule in rules {
-        if 0 < rule.octets() && seen.insert(rule.key(alloc)?)? {
+        if is_new(alloc, seen, &rule)? {
             kept.push(rule)?;
         }
     }
     Ok(kept)
+}
+
+/// Whether the rule has octets and its key wasn't seen before; then it is from now on.
+fn is_new(
+    alloc: Global,
+    seen: &mut IndexSet<(bool, Vec<u8>)>,
+    rule: &Rule,
+) -> Result<bool, AllocError>
+    ensures seen { IfOk result (λ is_new. map rule_by seen.new.keys ≡ with_rule (map rule_by seen.old.keys) rule.now) }
+    ensures new { IfOk result (λ is_new. with_rule (map rule_by seen.old.keys) rule.now
+        ≡ (if is_new then map rule_by seen.old.keys ++ rule.now ∷ [] else map rule_by seen.old.keys)) }
+{
+    if rule.octets() == 0 {
+        return Ok(false);
+    }
+    Ok(seen.insert(rule.key(alloc)?)?)
 }

@@ -113,13 +113,7 @@ impl RuleSet {
         let kept = match &self.kept {
             Kept::All => Kept::All,
             Kept::Nothing => Kept::Nothing,
-            Kept::Rules(rules) => {
-                let mut copies = Vec::new(alloc);
-                for rule in rules {
-                    copies.push(rule.try_clone(alloc)?)?;
-                }
-                Kept::Rules(copies)
-            }
+            Kept::Rules(rules) => Kept::Rules(copies_of(alloc, rules)?),
         };
         Ok(RuleSet { kept })
     }
@@ -175,14 +169,25 @@ fn is_allowed_by(rules: &[Rule], path: &str, buffer: &mut [u8]) -> bool
     }
 }
 
+/// A copy of each rule, in their order.
+fn copies_of(alloc: Global, rules: &[Rule]) -> Result<Vec<Rule>, AllocError>
+    ensures { IfOk result (λ copies. copies.items ≡ rules.now) }
+{
+    let mut copies = Vec::new(alloc);
+    for rule in rules {
+        copies.push(rule.try_clone(alloc)?)?;
+    }
+    Ok(copies)
+}
+
 fn same_rules(rules: &[Rule], others: &[Rule]) -> bool
     ensures { IsTrue result ↔ (rules.now ≡ others.now) }
 {
     if rules.len() != others.len() {
         return false;
     }
-    for (rule, other) in rules.iter().zip(others) {
-        if !rule.same(other) {
+    for (i, rule) in rules.iter().enumerate() {
+        if !rule.same(&others[i]) {
             return false;
         }
     }

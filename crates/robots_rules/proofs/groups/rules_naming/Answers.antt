@@ -10,7 +10,7 @@ use Rattle.std.specs.Borrow.{Bor}
 use Rattle.std.proofs.lemmas.Bool.{or_left}
 use Rattle.robots_rules.proofs.GroupLemmas.{collect, collect-nil, collect-rules_naming}
 use Rattle.robots_rules.proofs.groups.rules_naming.Goals as goal
-use Rattle.robots_rules.proofs.groups.rules_naming.Goals.{in-Agent+then-names_one, in-Agent+else-names_one+then-not-is_behind_rule, in-Agent+else-names_one+else-not-is_behind_rule, in-Rule+then-is_ours+in_ok-read-in-Rule+in_ok-push-in-Rule, in-Rule+else-is_ours}
+use Rattle.robots_rules.proofs.groups.rules_naming.Goals.{in-Agent+then-names_one, in-Agent+else-names_one+then-not-is_behind_rule, in-Agent+else-names_one+else-not-is_behind_rule, in-Rule+then-is_ours+in_ok-push_rule-in-Rule, in-Rule+else-is_ours}
 
 agent_step : (names : List ℕ → Bool) (so whole : List RuleValue) (all : List Line) (i : ℕ) (d : Line) (name : Bor (List ℕ)) (ours behind ours' : Bool) → i < length all → get_or all i d ≡ line.Agent name → ours' ≡ (names name.now || (not behind && ours)) → so ++ map rule_of (collect names ours behind (map line_value (drop i all))) ≡ whole → so ++ map rule_of (collect names ours' false (map line_value (drop (i + 1) all))) ≡ whole
 unfolding collect
@@ -54,9 +54,9 @@ loop-line-preserved c =
       | in-Agent+else-names_one+else-not-is_behind_rule w ↦
           rw (w.rules-is, w.is_behind_rule-is) (agent_step names so whole all i _ w.in-Agent.value ours behind c.match-line.is_ours below w.in-Agent.is
           (w.is_ours-is ∙ lost (names (w.in-Agent.value).now) (not behind) ours (sym w.names_one.ensures ∙ w.if-names_one.false) (ap not w.if-not-is_behind_rule.false)) c.loop-line.invariant)
-      | in-Rule+then-is_ours+in_ok-read-in-Rule+in_ok-push-in-Rule w ↦
+      | in-Rule+then-is_ours+in_ok-push_rule-in-Rule w ↦
           (let step = rule_step names so whole all i _ w.in-Rule.allows w.in-Rule.pattern ours behind below w.in-Rule.is c.loop-line.invariant in
-          rw (w.rules-is, w.is_behind_rule-is, w.is_ours-is, w.in_ok-push-in-Rule.ensures.items, w.in_ok-read-in-Rule.ensures, append_assoc)
+          rw (w.rules-is, w.is_behind_rule-is, w.is_ours-is, w.in_ok-push_rule-in-Rule.ensures, append_assoc)
           (subst (λ b. so ++ map rule_of (cond b (record { allows = w.in-Rule.allows; pattern = (w.in-Rule.pattern).now } ∷ []) [] ++ collect names ours true rest) ≡ whole) w.if-is_ours.true step))
       | in-Rule+else-is_ours w ↦
           (let step = rule_step names so whole all i _ w.in-Rule.allows w.in-Rule.pattern ours behind below w.in-Rule.is c.loop-line.invariant in

@@ -1,5 +1,5 @@
-use Rattle.std.proofs.Common.{◌≡◌, take, length}
+use Rattle.std.proofs.Common.{◌≡◌, take}
 use Rattle.robots_rules.proofs.rule_set.same_rules.Given as goal
 
-abbrev pub invariant-loop-rule : goal.invariant-loop-rule
-invariant-loop-rule l = take (length l.yielded) l.rules ≡ take (length l.yielded) l.others
+abbrev pub invariant-loop-i : goal.invariant-loop-i
+invariant-loop-i l = take l.i l.rules ≡ take l.i l.others

@@ -1,5 +1,0 @@
-use Rattle.std.proofs.Common.{◌≡◌, take}
-use Rattle.robots_rules.proofs.rule_set.RuleSet.try_clone.Given as goal
-
-abbrev pub invariant-loop-rule : goal.invariant-loop-rule
-invariant-loop-rule l = l.copies.items ≡ take l.rule-index l.rule-items
