@@ -56,6 +56,7 @@ impl AskedName {
     pub(crate) fn named(name: &[u8]) -> Option<AskedName>
         ensures { MatchOption result (is_asked_attribute name.now ≡ false) (λ n. name.now ≡ asked_name n) }
     {
+        // One by one, as the proof of a match over texts is several times as long.
         if is_name(name, b"href") {
             Some(AskedName::Href)
         } else if is_name(name, b"src") {
