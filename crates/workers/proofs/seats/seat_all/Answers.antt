@@ -1,5 +1,5 @@
 -- Each turn seats one fetcher, without notes; at the end no fetcher is left.
-use Rattle.std.proofs.Common.{rules, ◌≡◌, [], ◌∷◌, ◌++◌, length, sym, ap, ◌∙◌, arith}
+use Rattle.std.proofs.Common.{rules, ◌≡◌, [], ◌∷◌, length, sym, ap, ◌∙◌, arith}
 use Rattle.std.specs.Vec.Iter.{into_iter_items}
 use Rattle.workers.specs.Seats.{fetchers_of}
 use Rattle.workers.proofs.MoveLaws.{piece_moved, all_moved, none_left, none_added, one_added}
