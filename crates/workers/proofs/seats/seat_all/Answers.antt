@@ -1,6 +1,7 @@
 -- Each turn seats one fetcher, without notes; at the end no fetcher is left.
 use Rattle.std.proofs.Common.{rules, ◌≡◌, [], ◌∷◌, length, sym, ap, ◌∙◌, arith}
 use Rattle.std.specs.Vec.Iter.{into_iter_items}
+use Rattle.workers.specs.declared.worker.Seat.{Seat}
 use Rattle.workers.specs.Seats.{fetchers_of}
 use Rattle.workers.proofs.MoveLaws.{piece_moved, all_moved, none_left, none_added, one_added}
 use Rattle.workers.proofs.seats.seat_all.Goals as goal
@@ -13,14 +14,16 @@ push_reserved-requires g c =
 pub loop-fetcher-preserved : goal.loop-fetcher-preserved
 loop-fetcher-preserved g c =
     let at = c.loop-fetcher in
+    let seats = c.push_reserved.new.self.items in
+    let seat : Seat g.row.F.Denot = record { fetcher = c.in-Some.fetcher; notes = c.new.result; spool = c.new-in-loop-fetcher.result } in
     let steps : into_iter_items at.fetcher-iterator ≡ c.in-Some.fetcher ∷ into_iter_items c.next.new.self = c.in-Some.ensures.steps.0 in
     record {
       can_next = search rules;
       is_finite = search rules;
       fetchers = piece_moved (fetchers_of at.seats.items) (c.in-Some.fetcher ∷ []) (into_iter_items c.next.new.self) _ _ _ steps
-          (one_added at.seats.items _ _ (λ s. s.fetcher) c.push_reserved.ensures.items) at.invariant.fetchers;
-      pages = none_added at.seats.items _ _ (λ s. s.notes.pages.items) c.push_reserved.ensures.items c.new.ensures.pages at.invariant.pages;
-      rules = none_added at.seats.items _ _ (λ s. s.notes.rules.items) c.push_reserved.ensures.items c.new.ensures.rules at.invariant.rules;
+          (one_added at.seats.items seats seat (λ s. s.fetcher) c.push_reserved.ensures.items) at.invariant.fetchers;
+      pages = none_added at.seats.items seats seat (λ s. s.notes.pages.items) c.push_reserved.ensures.items c.new.ensures.pages at.invariant.pages;
+      rules = none_added at.seats.items seats seat (λ s. s.notes.rules.items) c.push_reserved.ensures.items c.new.ensures.rules at.invariant.rules;
       room = omega (arith, ap length steps, at.invariant.room, c.push_reserved.ensures.len, c.push_reserved.ensures.capacity);
     }
 
