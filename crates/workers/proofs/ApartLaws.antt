@@ -5,7 +5,7 @@ use Rattle.std.specs.List.{AllZip}
 use Rattle.std.specs.Result.{is_ok}
 use Rattle.std.proofs.lemmas.Bool.{false≢true, cases_lt}
 use Rattle.std.proofs.lemmas.List.{length-map, get_or-map, map-append, take_all}
-use Rattle.std.proofs.lemmas.List.Elements.{All-cons, Contains-append_cases}
+use Rattle.std.proofs.lemmas.List.Elements.{All-cons, All-take, All-drop, Contains-append_cases}
 use Rattle.std.proofs.lemmas.List.Sorted.{searchable_from_sorted, IsPermutation-append, IsPermutation-map, IsPermutation-refl, IsPermutation-sym}
 use Rattle.std.specs.declared.cmp.Ordering.{Ordering}
 use Rattle.std.specs.declared.cmp.Ordering.TheVariants.{Less, Equal, Greater}
@@ -140,8 +140,13 @@ module _ {F : Type 0} where
   rules_apart_first names seats seat some is first rest =
       subst (λ (ss : List (Seat F)). AreApart names (origins (rules_notes ss))) (sym (by_first seats seat some is)) (rules_apart names seat (take (length seats - 1) (drop 1 seats)) first rest)
 
-  first_order : (seats : List (Seat F)) (seat : Seat F) → 1 ≤ length seats → seat ≡ get_or seats 0 seat → All (λ (s : Seat F). AreInOrder s.notes) seats → AreInOrder seat.notes
+  pub first_order : (seats : List (Seat F)) (seat : Seat F) → 1 ≤ length seats → seat ≡ get_or seats 0 seat → All (λ (s : Seat F). AreInOrder s.notes) seats → AreInOrder seat.notes
   first_order seats seat some is order = subst (λ (s : Seat F). AreInOrder s.notes) (sym is) (order 0 seat (omega arith))
+
+  -- so are those of the other seats
+  pub rest_order : (seats : List (Seat F)) (n : ℕ) → All (λ (s : Seat F). AreInOrder s.notes) seats → All (λ (s : Seat F). AreInOrder s.notes) (take n (drop 1 seats))
+  rest_order seats n order =
+      All-take (λ (s : Seat F). AreInOrder s.notes) n (drop 1 seats) (All-drop (λ (s : Seat F). AreInOrder s.notes) 1 seats order)
 
   pub pages_once_first : (seats : List (Seat F)) (seat : Seat F) → 1 ≤ length seats → seat ≡ get_or seats 0 seat → All (λ (s : Seat F). AreInOrder s.notes) seats
       → IsOnce (addresses (page_notes (take (length seats - 1) (drop 1 seats)))) → AreApart (addresses seat.notes.pages.items) (addresses (page_notes (take (length seats - 1) (drop 1 seats)))) → IsOnce (addresses (page_notes seats))

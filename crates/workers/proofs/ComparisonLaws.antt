@@ -18,7 +18,7 @@ use Rattle.frontier_core.specs.Tables.{Text, lookup, IsOnce}
 use Rattle.frontier_core.specs.Machine.{Slot, OriginRules, slot_outcome, outcome_in, rules_in}
 use Rattle.frontier_core.specs.Readers.{record_of, ruled_of}
 use Rattle.frontier_core.proofs.TableLaws.{same, other, compare_texts}
-use Rattle.frontier_core.proofs.RouteLaws.{contains_tail}
+use Rattle.frontier_core.proofs.RouteLaws.{contains_tail, contains_cases}
 use Rattle.fetcher.specs.declared.outcome.Outcome.{Outcome}
 use Rattle.robots_rules.specs.Access.{RuleSetValue}
 use Rattle.harvest.specs.Entries.{recorded_addresses, ruled_origins}
@@ -63,6 +63,13 @@ ruled_among (origin ∷ origins) o some = elim (compare_texts origin.0 o) [
     later : (r : Option RuleSetValue) → rules_in (Some origin.1) ≡ r → Contains (ruled_origins (filter_map ruled_of origins)) o → Contains (ruled_origins (filter_map ruled_of (origin ∷ origins))) o
     later None is among = rw is among
     later (Some x) is among = rw is (contains_tail origin.0 o (ruled_origins (filter_map ruled_of origins)) among)
+
+-- one name more that stands among others
+pub more_among : (first : Text) (names others : List Text) → Contains others first → ((u : Text) → Contains names u → Contains others u) → (u : Text) → Contains (first ∷ names) u → Contains others u
+more_among first names others here later u among = elim (contains_cases first u names among) [
+  | inl is ↦ subst (λ (w : Text). Contains others w) is here
+  | inr rest ↦ later u rest
+]
 
 -- ---- ascending names
 

@@ -1,5 +1,5 @@
 -- From what the workers did at their seats to what the fetchers were asked and what they may have said.
-use Rattle.std.proofs.Common.{◌≡◌, ℕ, List, [], ◌∷◌, ◌++◌, get_or, map, refl, sym, ap, ◌∙◌, subst, inl, inr, arith, Option, Some, None}
+use Rattle.std.proofs.Common.{◌≡◌, ℕ, List, [], ◌∷◌, ◌++◌, length, get_or, map, refl, sym, ap, ◌∙◌, subst, inl, inr, arith, Option, Some, None}
 use Rattle.std.specs.Prelude.{All, Contains, MatchOption, IfSome, IsPermutation}
 use Rattle.std.proofs.lemmas.List.{map-append, length-map, get_or-map}
 use Rattle.std.proofs.lemmas.List.Elements.{All-append, All-nil, All-weaker, filter_map-append}
@@ -143,3 +143,7 @@ module _ {F S : Type 0} (site : F → S) (says : S → Text → Outcome → List
     told = all_told ss ts go no_pages;
     ruled = all_ruled ss ts go no_sets;
   }
+
+-- there are as many seats as fetchers
+pub seated : {F : Type 0} (seats : List (Seat F)) (fetchers : List F) → fetchers_of seats ≡ fetchers → length seats ≡ length fetchers
+seated {F = F} seats fetchers is = sym (length-map seats (λ (seat : Seat F). seat.fetcher)) ∙ ap (λ (fs : List F). length fs) is

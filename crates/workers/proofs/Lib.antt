@@ -13,3 +13,4 @@ pub mod ApartLaws
 pub mod ServingLaws
 pub mod CrewLaws
 pub mod CrewEnds
+pub mod MoveLaws

@@ -1,5 +1,5 @@
 //! What is concluded from the notes of all workers and the frontier that they left.
-ghost use Rattle.std.specs.Prelude.{◌≡◌, ◌≢◌, ◌⊎◌, ◌↔◌, ℕ, List, All, Contains, IfOk, IfErr, OnOk, map};
+ghost use Rattle.std.specs.Prelude.{◌≡◌, ◌≢◌, ◌⊎◌, ◌↔◌, ◌++◌, ◌∷◌, [], ℕ, List, All, Contains, IfOk, IfErr, OnOk, map};
 ghost use Rattle.std.specs.List.{filter_map};
 ghost use Rattle.frontier_core.specs.Machine.{answers, IsQuiet};
 ghost use Rattle.frontier_core.specs.Invariants.{IsComplete, IsOverfull};
@@ -39,20 +39,28 @@ fn end_of(frontier: &Frontier) -> Result<(), Cause>
     }
 }
 
+// Keeps the page of a note, where it has a body.
+fn keep_page(pages: &mut Vec<KeptPage>, note: PageNote) -> Result<(), AllocError>
+    ensures { OnOk result (pages.new.items ≡ pages.old.items ++ filter_map page_of (note ∷ [])) }
+{
+    let PageNote {
+        address,
+        told: _,
+        body,
+    } = note;
+    if let Some(body) = body {
+        pages.push(KeptPage { address, body })?;
+    }
+    Ok(())
+}
+
 // The pages that are kept of notes.
 fn keep_pages(alloc: Global, notes: Vec<PageNote>) -> Result<Vec<KeptPage>, AllocError>
     ensures { IfOk result (λ pages. pages.items ≡ filter_map page_of notes.items) }
 {
     let mut pages = Vec::new(alloc);
     for note in notes {
-        let PageNote {
-            address,
-            told: _,
-            body,
-        } = note;
-        if let Some(body) = body {
-            pages.push(KeptPage { address, body })?;
-        }
+        keep_page(&mut pages, note)?;
     }
     Ok(pages)
 }

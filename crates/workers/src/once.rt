@@ -77,7 +77,7 @@ fn are_rules_apart(notes: &[RulesNote], others: &[RulesNote]) -> bool
 }
 
 // Whether nothing of these notes was noted at the seats, whose notes are in order.
-#[tactic(auto, using(crate::proofs::ApartLaws::apart_none, crate::proofs::ApartLaws::pages_apart, crate::proofs::ApartLaws::rules_apart))]
+#[tactic(auto, using(crate::proofs::ApartLaws::apart_none))]
 fn is_apart<F>(notes: &Notes, seats: &[Seat<F>]) -> bool
     requires { All (λ seat. AreInOrder seat.notes) seats.now }
     ensures pages { IsTrue result → AreApart (addresses notes.now.pages.items) (addresses (page_notes seats.now)) }
@@ -96,7 +96,6 @@ fn is_apart<F>(notes: &Notes, seats: &[Seat<F>]) -> bool
 }
 
 // Whether nothing was noted at two of the seats, whose notes are in order.
-#[tactic(auto, using(crate::proofs::ApartLaws::pages_once, crate::proofs::ApartLaws::rules_once))]
 fn are_apart<F>(seats: &[Seat<F>]) -> bool
     requires { All (λ seat. AreInOrder seat.notes) seats.now }
     ensures pages { IsTrue result → IsOnce (addresses (page_notes seats.now)) }

@@ -223,7 +223,6 @@ fn spread<R: Wait>(rt: &R, lock: &FrontierLock) {
 }
 
 // Takes work and does it, until none is left or the frontier stopped.
-#[tactic(auto, using(crate::proofs::Going::goes_none, crate::proofs::Going::goes_on))]
 fn work<F: Fetcher, R: Wait>(
     rt: &R,
     alloc: Global,

@@ -1,6 +1,9 @@
 use Rattle.std.proofs.Common.{refl}
-use Rattle.workers.proofs.ApartLaws.{pages_once_first, rules_once_first}
+use Rattle.workers.proofs.ApartLaws.{rest_order, pages_once_first, rules_once_first}
 use Rattle.workers.proofs.once.+are_apart.Goals as goal
+
+pub is_apart-requires : goal.is_apart-requires
+is_apart-requires g t c = rest_order c.args.seats.now _ c.requires
 
 pub returns-clause-pages : goal.returns-clause-pages
 returns-clause-pages g t c so =

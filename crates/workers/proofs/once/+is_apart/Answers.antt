@@ -1,10 +1,21 @@
-use Rattle.std.proofs.Common.{List, refl, subst}
+use Rattle.std.proofs.Common.{List, refl, sym, subst}
 use Rattle.workers.specs.declared.note.PageNote.{PageNote}
 use Rattle.workers.specs.declared.note.RulesNote.{RulesNote}
+use Rattle.address.specs.AddressOrder.{IsAscending}
 use Rattle.workers.specs.Apart.{AreApart}
 use Rattle.workers.specs.Notes.{addresses, origins}
-use Rattle.workers.proofs.ApartLaws.{pages_apart_first, rules_apart_first}
+use Rattle.workers.proofs.ApartLaws.{first_order, pages_apart_first, rules_apart_first}
 use Rattle.workers.proofs.once.+is_apart.Goals as goal
+
+pub are_pages_apart-requires : goal.are_pages_apart-requires
+are_pages_apart-requires g t c =
+    subst (λ (notes : List PageNote). IsAscending (addresses notes)) (sym c.deref-2.ensures.value)
+    (first_order c.args.seats.now c.seat-item.result c.in-len1-up.len_at_least c.seat-item.is c.requires).pages
+
+pub are_rules_apart-requires : goal.are_rules_apart-requires
+are_rules_apart-requires g t c =
+    subst (λ (notes : List RulesNote). IsAscending (origins notes)) (sym c.deref-4.ensures.value)
+    (first_order c.args.seats.now c.seat-item.result c.in-len1-up.len_at_least c.seat-item.is c.requires).rules
 
 pub returns-clause-pages : goal.returns-clause-pages
 returns-clause-pages g t c so =

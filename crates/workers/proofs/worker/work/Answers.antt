@@ -1,0 +1,30 @@
+-- What is served is one thing more that was done; in any other turn nothing is.
+use Rattle.workers.proofs.Going.{goes_none, goes_on}
+use Rattle.workers.proofs.worker.work.Goals as goal
+
+pub loop-init : goal.loop-init
+loop-init g c =
+    let F = g.F.Fetcher in
+    goes_none F.site F.says F.rules F.log c.args.plan.now c.args.fetcher.now c.args.notes.now
+
+pub loop-preserved-in-Err : goal.loop-preserved-in-Err
+loop-preserved-in-Err g c = c.loop.invariant
+
+pub loop-preserved-in-Ok-Busy : goal.loop-preserved-in-Ok-Busy
+loop-preserved-in-Ok-Busy g c = c.loop.invariant
+
+pub loop-preserved-in-Ok-Spread : goal.loop-preserved-in-Ok-Spread
+loop-preserved-in-Ok-Spread g c = c.loop.invariant
+
+pub loop-preserved-in-Ok-Robots : goal.loop-preserved-in-Ok-Robots
+loop-preserved-in-Ok-Robots g c =
+    let F = g.F.Fetcher in
+    goes_on F.site F.says F.rules F.log c.args.plan.now _ _ _ _ _ _ c.loop.invariant c.serve_rules.ensures
+
+pub loop-preserved : goal.loop-preserved
+loop-preserved g c =
+    let F = g.F.Fetcher in
+    goes_on F.site F.says F.rules F.log c.args.plan.now _ _ _ _ _ _ c.loop.invariant c.serve_page.ensures
+
+pub returns : goal.returns
+returns g c = c.loop.invariant
