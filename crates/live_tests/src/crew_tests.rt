@@ -148,6 +148,7 @@ fn start_of(rt: &impl Abort, alloc: Global, map: &[u8]) -> Outcome {
     };
     let at = Address::read(alloc, "http://h/").expect(rt, "an address");
     let Answer { outcome, body: _ } = site.ask(&at).expect(rt, "memory");
+    drop(site);
     outcome
 }
 

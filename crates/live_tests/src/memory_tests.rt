@@ -81,7 +81,9 @@ pub(crate) fn live_alone<R: Abort + Threads + Wait + Sync, D: Folder, W: Write>(
     };
     let connect = MemoryConnect::new(alloc, answers, failures);
     let fetchers = lone(rt, alloc, connect, order.plan.robots);
-    live(rt, alloc, &order, fetchers, folder, writer)
+    let status = live(rt, alloc, &order, fetchers, folder, writer);
+    drop(order);
+    status
 }
 
 /// Whether a run over a site comes out as it says, with a file for the start where that is kept.
@@ -284,6 +286,16 @@ fn held(number: usize, whole: u64, body: &str) -> Option<&[u8]> {
     }
 }
 
+/// Whether the folder has the first so many files, and no other.
+fn has_front(folder: &MemoryFolder, whole: u64) -> bool {
+    for (number, (name, body)) in FILES.iter().enumerate() {
+        if folder.file(name) != held(number, whole, body) {
+            return false;
+        }
+    }
+    true
+}
+
 /// Whether a folder that fails behind so many files has these alone, and their count stands behind the report.
 fn fails_behind<R: Abort + Threads + Wait + Sync>(rt: &R, alloc: Global, whole: u64) -> bool {
     let answers = stored(rt, alloc, SITE);
@@ -292,12 +304,7 @@ fn fails_behind<R: Abort + Threads + Wait + Sync>(rt: &R, alloc: Global, whole: 
     let words = "-r http://h/";
     let status = live_alone(rt, alloc, words, &answers, &[], &mut folder, &mut written);
     let wanted = format!(in alloc; "{WHOLE}files written {whole}\n").expect(rt, "memory");
-    for (number, (name, body)) in FILES.iter().enumerate() {
-        if folder.file(name) != held(number, whole, body) {
-            return false;
-        }
-    }
-    written.as_slice() == wanted.as_bytes() && status == 3
+    has_front(&folder, whole) && written.as_slice() == wanted.as_bytes() && status == 3
 }
 
 #[test]

@@ -898,7 +898,9 @@ fn put_site(
     site: &mut RecordedSite,
 ) -> Result<usize, AllocError> {
     let brought = retrieve_in_order(alloc, plan, site);
-    put_kept(alloc, folder, &brought)
+    let put = put_kept(alloc, folder, &brought);
+    drop(brought);
+    put
 }
 
 /// Puts the three pages into a folder.
@@ -909,7 +911,10 @@ fn put_three(rt: &impl Abort, alloc: Global, folder: &mut MemoryFolder) -> usize
     let Ok(mut site) = RecordedSite::read(alloc, THREE.as_bytes(), true) else {
         panic!(rt; "no record");
     };
-    put_site(alloc, folder, &order.plan, &mut site).expect(rt, "memory")
+    let put = put_site(alloc, folder, &order.plan, &mut site);
+    drop(site);
+    drop(order);
+    put.expect(rt, "memory")
 }
 
 #[test]

@@ -1,5 +1,5 @@
 //! Responses in examples: what each answers, whole and in pieces, and each call once.
-use crate::reader_tests::bytes_of as text_bytes;
+use crate::common::{address, bytes_of as text_bytes, demand, is_printed, repeated};
 use address::Address;
 use response_reader::{Head, ReadFault, Response, Sink, SliceWire, read_response};
 use site_answer::{
@@ -163,43 +163,74 @@ fn in_pieces(
     digester.finish()
 }
 
-// Whether the answer's outcome is printed so.
-fn is_printed(rt: &impl Abort, alloc: Global, answer: &Answer, outcome: &str) -> bool {
-    format!(in alloc; "{:?}", answer.outcome)
-        .expect(rt, "memory")
-        .as_str()
-        == outcome
+// What the response of these parts answers that is kept.
+fn kept(
+    rt: &impl Abort,
+    alloc: Global,
+    at: &Address,
+    head: &str,
+    body: &str,
+    robots: bool,
+) -> Answer {
+    let response = response(rt, alloc, head, body);
+    digest(alloc, at, &response, robots).expect(rt, "memory")
 }
 
-// Whether the answer has this body, where it is one that is kept, and else none.
-fn has_body(answer: &Answer, body: &str, is_kept: bool) -> bool {
-    if is_kept {
-        answer.body.as_slice() == body.as_bytes()
+// What it answers where its body becomes the answer's.
+fn moved(
+    rt: &impl Abort,
+    alloc: Global,
+    at: &Address,
+    head: &str,
+    body: &str,
+    robots: bool,
+) -> Answer {
+    into_answer(alloc, at, response(rt, alloc, head, body), robots).expect(rt, "memory")
+}
+
+// What it answers where its body arrives in two pieces.
+fn pieced(
+    rt: &impl Abort,
+    alloc: Global,
+    at: &Address,
+    head: &str,
+    body: &str,
+    robots: bool,
+) -> Answer {
+    in_pieces(alloc, at, response(rt, alloc, head, body), robots).expect(rt, "memory")
+}
+
+// Whether an answer has this outcome and body.
+fn is_so(rt: &impl Abort, alloc: Global, answer: Answer, outcome: &str, body: &str) -> bool {
+    let is_so = is_printed(rt, alloc, &answer.outcome, outcome)
+        && answer.body.as_slice() == body.as_bytes();
+    drop(answer);
+    is_so
+}
+
+// The body of the answer: it is kept where the status is 2xx.
+fn kept_body<'a>(head: &str, body: &'a str) -> &'a str {
+    if head.starts_with("HTTP/1.1 2") {
+        body
     } else {
-        answer.body.as_slice().is_empty()
+        ""
     }
 }
 
 #[test]
 fn a_response_answers_by_its_head_and_its_links(rt: HostRuntime) {
     let alloc = rt.alloc();
-    let at = Address::read(alloc, "http://h/d/p.html").expect(&rt, "an address");
-    for (head, body, robots, outcome) in ANSWERS {
-        let first = response(&rt, alloc, head, body);
-        let is_kept = first.status < 300;
-        let answer = digest(alloc, &at, &first, robots).expect(&rt, "memory");
-        assert!(rt; is_printed(&rt, alloc, &answer, outcome), "at {head}");
-        assert!(rt; has_body(&answer, body, is_kept), "at {head}");
-        let moved = into_answer(alloc, &at, first, robots).expect(&rt, "memory");
-        assert!(rt; moved.outcome.same(&answer.outcome), "at {head}");
-        let pieces = in_pieces(alloc, &at, response(&rt, alloc, head, body), robots).expect(
-            &rt, "memory",
-        );
-        assert!(rt; pieces.outcome.same(&answer.outcome), "at {head}");
-        assert!(rt; has_body(&pieces, body, is_kept), "at {head}");
-        let asked = fetched(&rt, alloc, &at, head, body, robots);
-        assert!(rt; asked.outcome.same(&answer.outcome), "at {head}");
-        assert!(rt; has_body(&asked, body, is_kept), "at {head}");
+    let at = address(&rt, alloc, "http://h/d/p.html");
+    for (head, text, robots, outcome) in &ANSWERS {
+        let body = kept_body(head, text);
+        let answer = kept(&rt, alloc, &at, head, text, *robots);
+        demand(&rt, is_so(&rt, alloc, answer, outcome, body), head);
+        let answer = moved(&rt, alloc, &at, head, text, *robots);
+        demand(&rt, is_so(&rt, alloc, answer, outcome, body), head);
+        let answer = pieced(&rt, alloc, &at, head, text, *robots);
+        demand(&rt, is_so(&rt, alloc, answer, outcome, body), head);
+        let answer = fetched(&rt, alloc, &at, head, text, *robots);
+        demand(&rt, is_so(&rt, alloc, answer, outcome, body), head);
     }
 }
 
@@ -207,30 +238,25 @@ fn a_response_answers_by_its_head_and_its_links(rt: HostRuntime) {
 #[test]
 fn a_link_that_is_too_long_leads_nowhere(rt: HostRuntime) {
     let alloc = rt.alloc();
-    let at = Address::read(alloc, "http://h/").expect(&rt, "an address");
-    let mut body = String::from_str(alloc, "<a href=b><a href=").expect(&rt, "memory");
-    for _ in 0..9_000u32 {
-        body.push('x').expect(&rt, "memory");
-    }
-    body.push_str("><a href=c>").expect(&rt, "memory");
-    let page = response(&rt, alloc, "HTTP/1.1 200 OK||", body.as_str());
-    let answer = digest(alloc, &at, &page, true).expect(&rt, "memory");
+    let at = address(&rt, alloc, "http://h/");
+    let body = repeated(&rt, alloc, "<a href=b><a href=", "x", 9_000, "><a href=c>");
+    let answer = kept(&rt, alloc, &at, "HTTP/1.1 200 OK||", body.as_str(), true);
     let edges =
         "Page(200, Edges { items: [Edge { target: \"http://h/b\", kind: Link }, Edge { target: \"http://h/c\", kind: Link }] })";
-    assert!(rt; is_printed(&rt, alloc, &answer, edges));
+    assert!(rt; is_printed(&rt, alloc, &answer.outcome, edges));
 }
 
 #[test]
 fn a_location_that_is_no_text_leads_nowhere(rt: HostRuntime) {
     let alloc = rt.alloc();
-    let at = Address::read(alloc, "http://h/").expect(&rt, "an address");
+    let at = address(&rt, alloc, "http://h/");
     let mut bytes = text_bytes(&rt, alloc, "HTTP/1.1 302 X|Location: /");
     bytes
         .extend_from_slice(b"\xff\r\n\r\n")
         .expect(&rt, "memory");
     let moved = read_response(alloc, &mut SliceWire::new(&bytes)).expect(&rt, "a response");
     let answer = digest(alloc, &at, &moved, true).expect(&rt, "memory");
-    assert!(rt; is_printed(&rt, alloc, &answer, "Leaf(302)"));
+    assert!(rt; is_printed(&rt, alloc, &answer.outcome, "Leaf(302)"));
 }
 
 #[test]

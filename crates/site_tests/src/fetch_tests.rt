@@ -1,6 +1,6 @@
 //! Connections in memory: what each answers to the text of a request, and that each is ended.
-use crate::reader_tests::bytes_of;
-use address::{Address, Origin};
+use crate::common::{address, bytes_of, demand, origin};
+use address::Origin;
 use response_reader::Wire;
 use site_answer::{Connect, ConnectFault, Fetcher, HttpFetcher, MemoryConnect, StoredAnswer};
 use std::alloc::Global;
@@ -27,18 +27,13 @@ const TEXTS: [(&str, &str); 5] = [
     ("", ""),
 ];
 
-fn origin(rt: &impl Abort, alloc: Global, text: &str) -> Origin {
-    let address = Address::read(alloc, text).expect(rt, "an address");
-    Origin::of(&address).expect(rt, "memory")
-}
-
 // The answers of such lines.
 fn site_of(rt: &impl Abort, alloc: Global, lines: &str) -> Vec<StoredAnswer> {
     let mut answers = Vec::new(alloc);
     for line in lines.split('\n') {
         if let Some((at, bytes)) = line.split_once(' ') {
             let answer = StoredAnswer {
-                at: Address::read(alloc, at).expect(rt, "an address"),
+                at: address(rt, alloc, at),
                 bytes: bytes_of(rt, alloc, bytes),
             };
             answers.push(answer).expect(rt, "memory");
@@ -71,7 +66,7 @@ fn a_connection_answers_the_text_of_a_request(rt: HostRuntime) {
     let of = origin(&rt, alloc, "http://k/");
     for (written, read) in TEXTS {
         let mut wire = connect.connect(&of).expect(&rt, "a connection");
-        assert!(rt; is_read(&rt, alloc, &mut wire, written, read), "{written}");
+        demand(&rt, is_read(&rt, alloc, &mut wire, written, read), written);
         assert_eq!(rt; wire.failures(), 0);
         connect.close(wire);
     }
@@ -132,8 +127,7 @@ http://h/robots.txt HTTP/1.1 302 |Location: /r|Content-Length: 0||\nhttp://h/r H
 fn are_all_ended<C: Connect>(rt: &impl Abort, alloc: Global, inner: C) -> bool {
     let mut fetcher = HttpFetcher::new(alloc, Ended::new(inner), true);
     for at in ["http://h/", "http://h/cut", "http://h/none"] {
-        let at = Address::read(alloc, at).expect(rt, "an address");
-        let _ = fetcher.ask(&at).expect(rt, "memory");
+        let _ = fetcher.ask(&address(rt, alloc, at)).expect(rt, "memory");
     }
     let pages = fetcher.connect().ended;
     let _ = fetcher

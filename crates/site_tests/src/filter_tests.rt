@@ -1,12 +1,12 @@
 //! Elements, rules and copies as the GNU Wget manual and worked examples have them.
-use address::Address;
+use crate::common::{address, demand, repeated};
 use follow_filters::{Directory, Domain, ElementFault, Elements, Limit, Pattern, Plan, Rule};
 use std::alloc::Global;
 use std::process::Abort;
 
 // A plan without filters that starts at this page.
 fn plan_from(rt: &impl Abort, alloc: Global, start: &str) -> Plan {
-    let start = Address::read(alloc, start).expect(rt, "an address");
+    let start = address(rt, alloc, start);
     if start.is_robots_file() {
         panic!(rt; "a robots file");
     }
@@ -30,15 +30,13 @@ fn word_of(verdict: Result<(), Rule>) -> &'static str {
 }
 
 // How the plan's verdict on an address reads.
-fn verdict(rt: &impl Abort, alloc: Global, plan: &Plan, address: &str) -> &'static str {
-    let address = Address::read(alloc, address).expect(rt, "an address");
-    word_of(plan.passes(&address))
+fn verdict(rt: &impl Abort, alloc: Global, plan: &Plan, at: &str) -> &'static str {
+    word_of(plan.passes(&address(rt, alloc, at)))
 }
 
 // Whether the plan keeps the page of an address.
-fn keeps(rt: &impl Abort, alloc: Global, plan: &Plan, address: &str) -> bool {
-    let address = Address::read(alloc, address).expect(rt, "an address");
-    plan.keeps(&address)
+fn keeps(rt: &impl Abort, alloc: Global, plan: &Plan, at: &str) -> bool {
+    plan.keeps(&address(rt, alloc, at))
 }
 
 // Rows end with a line feed: a pattern, a name, and whether they match.
@@ -55,64 +53,58 @@ a]? a]b yes
 *  yes
 ";
 
+// Whether a row's pattern is read, and matches or doesn't, as the row says.
+fn matches_as(alloc: Global, row: &str) -> bool {
+    let mut fields = row.split(' ');
+    let pattern = fields.next().unwrap_or("");
+    let file = fields.next().unwrap_or("none");
+    match Pattern::read(alloc, pattern) {
+        Ok(read) => read.matches(file) == (fields.next() == Some("yes")),
+        Err(_) => false,
+    }
+}
+
 #[test]
 fn patterns_match_as_the_shell_does(rt: HostRuntime) {
     for row in PATTERNS.lines() {
-        let mut fields = row.split(' ');
-        let pattern = fields.next().unwrap_or("");
-        let file = fields.next().unwrap_or("none");
-        let Ok(read) = Pattern::read(rt.alloc(), pattern) else {
-            panic!(&rt; "{row}");
-        };
-        assert!(rt;
-            read.matches(file) == (fields.next() == Some("yes")),
-            "{row}"
-        );
+        demand(&rt, matches_as(rt.alloc(), row), row);
     }
+}
+
+// Whether an element was refused as one that is bad.
+fn is_bad(fault: Option<ElementFault>) -> bool {
+    matches!(fault, Some(ElementFault::Bad))
 }
 
 #[test]
 fn bad_elements_are_refused(rt: HostRuntime) {
     for pattern in ["[a", "[]", "[!]", "[]a]", "[b-a]x"] {
-        assert!(rt;
-            matches!(Pattern::read(rt.alloc(), pattern), Err(ElementFault::Bad)),
-            "{pattern}"
+        demand(
+            &rt,
+            is_bad(Pattern::read(rt.alloc(), pattern).err()),
+            pattern,
         );
     }
     for directory in ["a", "/a*", ""] {
-        assert!(rt;
-            matches!(
-                Directory::read(rt.alloc(), directory),
-                Err(ElementFault::Bad)
-            ),
-            "{directory}"
+        demand(
+            &rt,
+            is_bad(Directory::read(rt.alloc(), directory).err()),
+            directory,
         );
     }
     for domain in [".", "", "a/b", "bücher.de"] {
-        assert!(rt;
-            matches!(Domain::read(rt.alloc(), domain), Err(ElementFault::Bad)),
-            "{domain}"
-        );
+        demand(&rt, is_bad(Domain::read(rt.alloc(), domain).err()), domain);
     }
-}
-
-// So many letters behind a front.
-fn lengthened(rt: &impl Abort, alloc: Global, front: &str, letters: u32) -> String {
-    let mut text = String::from_str(alloc, front).expect(rt, "memory");
-    for _ in 0..letters {
-        text.push('a').expect(rt, "memory");
-    }
-    text
 }
 
 // Whether a directory, a domain and a pattern of so many letters are read.
-fn are_read(rt: &impl Abort, alloc: Global, letters: u32) -> bool {
-    let text = lengthened(rt, alloc, "/", letters);
+fn are_read(rt: &impl Abort, alloc: Global, letters: usize) -> bool {
+    let text = repeated(rt, alloc, "/", "a", letters, "");
     let directory = Directory::read(alloc, text.as_str()).expect(rt, "a directory");
     if directory.as_str() != text.as_str() {
         return false;
     }
-    let text = lengthened(rt, alloc, "", letters);
+    let text = repeated(rt, alloc, "", "a", letters, "");
     let domain = Domain::read(alloc, text.as_str()).expect(rt, "a domain");
     let pattern = Pattern::read(alloc, text.as_str()).expect(rt, "a pattern");
     domain.as_str() == text.as_str() && pattern.matches(text.as_str())
@@ -155,6 +147,7 @@ fn hosts_and_domains_are_looked_at_in_order(rt: HostRuntime) {
     assert!(rt; judges(&rt, alloc, &plan, OF_ONE_DOMAIN));
     plan.exclude_domains = Elements::read(alloc, "WWW.foo.edu").expect(&rt, "domains");
     assert!(rt; verdict(&rt, alloc, &plan, "http://www.foo.edu/") == "excluded domain");
+    drop(plan);
 }
 
 const INCLUDED: &str = "http://h/a/b passes
@@ -180,6 +173,7 @@ fn directories_begin_with_an_element_and_a_slash(rt: HostRuntime) {
     assert!(rt; judges(&rt, alloc, &plan, EXCLUDED));
     plan.no_parent = true;
     assert!(rt; judges(&rt, alloc, &plan, BELOW_START));
+    drop(plan);
 }
 
 // Rows end with a line feed: an address, whether its page is kept, and how the verdict reads.
@@ -202,11 +196,11 @@ fn follows(rt: &impl Abort, alloc: Global, plan: &Plan, row: &str) -> bool {
 // Whether a copy is the same as the plan, until that rejects nothing.
 fn is_copied(rt: &impl Abort, alloc: Global, plan: &mut Plan) -> bool {
     let copy = plan.try_clone().expect(rt, "memory");
-    if !copy.same(plan) {
-        return false;
-    }
+    let was_same = copy.same(plan);
     plan.reject = Elements::none(alloc);
-    !copy.same(plan)
+    let is_same = copy.same(plan);
+    drop(copy);
+    was_same && !is_same
 }
 
 #[test]
@@ -216,7 +210,8 @@ fn pages_are_followed_to_more_names_than_are_kept(rt: HostRuntime) {
     plan.accept = Elements::read(alloc, "gif").expect(&rt, "patterns");
     plan.reject = Elements::read(alloc, "[xy]*").expect(&rt, "patterns");
     for row in NAMES.lines() {
-        assert!(rt; follows(&rt, alloc, &plan, row), "{row}");
+        demand(&rt, follows(&rt, alloc, &plan, row), row);
     }
     assert!(rt; is_copied(&rt, alloc, &mut plan));
+    drop(plan);
 }

@@ -7,6 +7,8 @@
 #[cfg(test)]
 mod address_tests;
 #[cfg(test)]
+mod common;
+#[cfg(test)]
 mod digest_tests;
 #[cfg(test)]
 mod fetch_tests;

@@ -1,6 +1,7 @@
 //! Maps in examples: what each line says, which line is bad, and each call once.
+use crate::common::{address, bytes_of, demand, rules, says};
 use address::{Address, Origin};
-use fetcher::{Answer, Fetcher, SteadyFetcher};
+use fetcher::{Fetcher, SteadyFetcher};
 use site_maps::{InputFault, MapSite};
 use std::alloc::Global;
 use std::process::Abort;
@@ -20,20 +21,17 @@ page 200 http://h/c
 link http://h/a
 ";
 
-// What the map of `SITE` says of each address, a row for each; it doesn't name the last.
+// What the map of `SITE` says of each address, a row for each: the address, the length of its body, and the outcome. It
+// doesn't name the last.
 const ANSWERS: &str =
-    "http://h/ Page(200, Edges { items: [Edge { target: \"http://h/a\", kind: Link }, Edge { target: \"http://h/i.gif\", kind: Inline }, Edge { target: \"http://h/a\", kind: Link }] })
-http://h/a Moved(302, \"http://k/\")
-http://h/b Page(203, Edges { items: [] })
-http://h/i.gif Leaf(999)
-http://k/ Fault(HeadLong)
-http://h/c Page(200, Edges { items: [Edge { target: \"http://h/a\", kind: Link }] })
-http://h/z Leaf(404)
+    "http://h/ 0 Page(200, Edges { items: [Edge { target: \"http://h/a\", kind: Link }, Edge { target: \"http://h/i.gif\", kind: Inline }, Edge { target: \"http://h/a\", kind: Link }] })
+http://h/a 0 Moved(302, \"http://k/\")
+http://h/b 0 Page(203, Edges { items: [] })
+http://h/i.gif 0 Leaf(999)
+http://k/ 0 Fault(HeadLong)
+http://h/c 0 Page(200, Edges { items: [Edge { target: \"http://h/a\", kind: Link }] })
+http://h/z 0 Leaf(404)
 ";
-
-fn address(rt: &impl Abort, alloc: Global, text: &str) -> Address {
-    Address::read(alloc, text).expect(rt, "an address")
-}
 
 fn site_of(rt: &impl Abort, alloc: Global, map: &str) -> MapSite {
     let Ok(site) = MapSite::read(alloc, map.as_bytes()) else {
@@ -42,35 +40,23 @@ fn site_of(rt: &impl Abort, alloc: Global, map: &str) -> MapSite {
     site
 }
 
-// Whether the answer has this outcome and no body.
-fn is_answered(rt: &impl Abort, alloc: Global, answer: &Answer, outcome: &str) -> bool {
-    let text = format!(in alloc; "{:?}", answer.outcome).expect(rt, "memory");
-    text.as_str() == outcome && answer.body.as_slice().is_empty()
-}
-
-// Whether the site says of an address what stands behind it.
-fn says(rt: &impl Abort, alloc: Global, site: &mut MapSite, row: &str) -> bool {
-    let (at, outcome) = row.split_once(' ').unwrap_or((row, ""));
-    let answer = site.ask(&address(rt, alloc, at)).expect(rt, "memory");
-    is_answered(rt, alloc, &answer, outcome)
-}
-
 #[test]
 fn a_map_says_what_its_lines_say(rt: HostRuntime) {
     let mut site = site_of(&rt, rt.alloc(), SITE);
     for row in ANSWERS.lines() {
-        assert!(rt; says(&rt, rt.alloc(), &mut site, row), "{row}");
+        demand(&rt, says(&rt, rt.alloc(), &mut site, row), row);
     }
     assert_eq!(rt; site.asks().len(), 7);
+    drop(site);
 }
 
-// Bad texts: which line is named, and behind it the text up to its `;`, a line feed written `|`. First such as have no form,
+// Bad texts: which line is named, and behind it the text up to its `;`, a line feed written `~`. First such as have no form,
 // then what is out of place, refused addresses, a robots address with a path or a query, and repetitions.
 const BAD: &str = "line 1: robots http://h/ all;
 line 1: robots http://h/ none\r;
 line 1: robots;
-line 2: robots http://h/|allows /a;
-line 2: robots http://h/|allow\t/a;
+line 2: robots http://h/~allows /a;
+line 2: robots http://h/~allow\t/a;
 line 1: page 0200 http://h/;
 line 1: page 199 http://h/;
 line 1: page 300 http://h/;
@@ -83,61 +69,59 @@ line 1: fault Connect http://h/;
 line 1: page  200 http://h/;
 line 1: page 200 http://h/ ;
 line 1: page;
-line 1: \r|;
+line 1: \r~;
 line 1: \u{feff}page 200 http://h/;
 line 1: link http://h/a;
 line 1: allow /a;
-line 2: page 200 http://h/|allow /a;
-line 2: robots http://h/ none|allow /a;
-line 4: robots http://h/|disallow|page 200 http://h/|disallow;
-line 3: page 200 http://h/|robots http://h/|link http://h/a;
-line 3: page 200 http://h/|leaf 200 http://h/a|link a;
+line 2: page 200 http://h/~allow /a;
+line 2: robots http://h/ none~allow /a;
+line 4: robots http://h/~disallow~page 200 http://h/~disallow;
+line 3: page 200 http://h/~robots http://h/~link http://h/a;
+line 3: page 200 http://h/~leaf 200 http://h/a~link a;
 address 1: leaf 200 https://h/;
 address 1: page 200 ;
-address 3: page 200 http://h/||inline a;
-address 2: leaf 200 http://h/|moved 301 http://h/ a;
+address 3: page 200 http://h/~~inline a;
+address 2: leaf 200 http://h/~moved 301 http://h/ a;
 address 1: robots ;
 address 1: robots a none;
 line 1: robots http://h/a;
 line 1: robots http://h/?;
-line 4: robots http://h/|#|robots http://k/|robots HTTP://h:80 none;
-line 2: robots http://h/ none|robots http://h/x;
-line 3: page 200 http://h/|link http://h/|leaf 200 HTTP://H;
-line 2: leaf 200 http://h/|leaf 404 http://h/|x|leaf 200 a;
+line 4: robots http://h/~#~robots http://k/~robots HTTP://h:80 none;
+line 2: robots http://h/ none~robots http://h/x;
+line 3: page 200 http://h/~link http://h/~leaf 200 HTTP://H;
+line 2: leaf 200 http://h/~leaf 404 http://h/~x~leaf 200 a;
 ";
 
-// The text of a row.
-fn text_of(rt: &impl Abort, alloc: Global, row: &str) -> String {
-    let mut text = String::new(alloc);
-    for byte in row.chars() {
-        let byte = if byte == '|' { '\n' } else { byte };
-        text.push(byte).expect(rt, "memory");
+// A fault as a text; nothing where there is none.
+pub(crate) fn told(rt: &impl Abort, alloc: Global, fault: Option<InputFault>) -> String {
+    match fault {
+        Some(fault) => format!(in alloc; "{fault}").expect(rt, "memory"),
+        None => String::new(alloc),
     }
-    text
 }
 
-// Which line of the map is bad.
-fn fault_of(rt: &impl Abort, alloc: Global, map: &[u8]) -> String {
-    match MapSite::read(alloc, map) {
-        Ok(_) => String::new(alloc),
-        Err(fault) => format!(in alloc; "{fault}").expect(rt, "memory"),
-    }
+// Whether this line of the map is named as bad; none where it is empty.
+fn is_named(rt: &impl Abort, alloc: Global, map: &[u8], line: &str) -> bool {
+    let fault = MapSite::read(alloc, map).err();
+    told(rt, alloc, fault).as_str() == line
+}
+
+// Whether the line of a row is named of the map behind it.
+fn is_bad(rt: &impl Abort, alloc: Global, row: &str) -> bool {
+    let (line, map) = row.split_once(": ").unwrap_or((row, ""));
+    let map = bytes_of(rt, alloc, map.strip_suffix(";").unwrap_or(map));
+    is_named(rt, alloc, &map, line)
 }
 
 #[test]
 fn the_first_bad_line_is_named(rt: HostRuntime) {
     let alloc = rt.alloc();
     for row in BAD.lines() {
-        let (line, map) = row.split_once(": ").unwrap_or((row, ""));
-        let map = text_of(&rt, alloc, map.strip_suffix(";").unwrap_or(map));
-        assert!(rt;
-            fault_of(&rt, alloc, map.as_bytes()).as_str() == line,
-            "{row}"
-        );
+        demand(&rt, is_bad(&rt, alloc, row), row);
     }
-    assert!(rt; fault_of(&rt, alloc, b"\n# \xff\n").as_str() == "line 2");
-    assert!(rt; fault_of(&rt, alloc, b"").is_empty());
-    assert!(rt; fault_of(&rt, alloc, b"#\xc3\xa9\npage 200 http://h/\r\n").is_empty());
+    assert!(rt; is_named(&rt, alloc, b"\n# \xff\n", "line 2"));
+    assert!(rt; is_named(&rt, alloc, b"", ""));
+    assert!(rt; is_named(&rt, alloc, b"#\xc3\xa9\npage 200 http://h/\r\n", ""));
 }
 
 const ROBOTS: &str = "robots http://h/
@@ -166,24 +150,16 @@ http://l/ /a/b.gif?c yes
 http://h:81/ /a yes
 ";
 
-// Whether the site's rules say of an origin and a path what stands behind these.
-fn rules(rt: &impl Abort, alloc: Global, site: &mut MapSite, row: &str) -> bool {
-    let mut words = row.split(' ');
-    let root = words.next().unwrap_or("");
-    let path = words.next().unwrap_or("");
-    let origin = Origin::of(&address(rt, alloc, root)).expect(rt, "memory");
-    let rules = site.ask_robots(&origin).expect(rt, "memory");
-    rules.allows(path) == (words.next() == Some("yes"))
-}
-
 #[test]
 fn a_map_has_the_rules_of_its_robots_lines(rt: HostRuntime) {
     let first = site_of(&rt, rt.alloc(), ROBOTS);
     let mut site = first.try_clone().expect(&rt, "memory");
+    drop(first);
     for row in ALLOWED.lines() {
-        assert!(rt; rules(&rt, rt.alloc(), &mut site, row), "{row}");
+        demand(&rt, rules(&rt, rt.alloc(), &mut site, row), row);
     }
     assert_eq!(rt; site.asks().len(), 9);
+    drop(site);
 }
 
 // The outcome's text, and the log's after one more ask, of any steady site.
@@ -209,6 +185,7 @@ fn a_map_with_a_fault_line_is_not_steady(rt: HostRuntime) {
     let at = address(&rt, alloc, "http://h/");
     let answer = site.ask(&at).expect(&rt, "memory");
     assert!(rt; answer.outcome.edge_count() == 3);
+    drop(site);
 }
 
 #[test]
@@ -218,16 +195,17 @@ fn a_map_without_fault_lines_is_steady(rt: HostRuntime) {
         panic!(rt; "a map without fault lines");
     };
     let mut site = first.try_clone().expect(&rt, "memory");
+    drop(first);
     let at = address(&rt, alloc, "http://h/");
     assert!(rt;
         steady_text(&rt, alloc, &mut site, &at).as_str()
             == "Page(200, Edges { items: [] }) [Page(\"http://h/\"), Rules(\"http://h\")]"
     );
+    drop(site);
 }
 
 #[test]
 fn a_fault_is_told_with_its_line(rt: HostRuntime) {
     let fault = InputFault::Address(12);
-    let text = format!(in rt.alloc(); "{fault}").expect(&rt, "memory");
-    assert!(rt; text.as_str() == "address 12");
+    assert!(rt; told(&rt, rt.alloc(), Some(fault)).as_str() == "address 12");
 }

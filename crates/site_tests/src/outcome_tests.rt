@@ -1,12 +1,8 @@
 //! Outcomes and their parts, each call once.
-use address::Address;
+use crate::common::address;
 use fetcher::{Ask, Body, Edge, EdgeKind, Edges, FaultKind, Outcome};
 use std::alloc::Global;
 use std::process::Abort;
-
-fn address(rt: &impl Abort, alloc: Global, text: &str) -> Address {
-    Address::read(alloc, text).expect(rt, "an address")
-}
 
 // A page with these edges to `http://h/a`.
 fn page(rt: &impl Abort, alloc: Global, kinds: &[EdgeKind]) -> Outcome {
@@ -36,18 +32,17 @@ fn outcome(rt: &impl Abort, alloc: Global, number: u32) -> Outcome {
     }
 }
 
-// Whether a copy of the one is the same as the other.
-fn is_same(rt: &impl Abort, one: &Outcome, other: &Outcome) -> bool {
-    one.try_clone().expect(rt, "memory").same(other)
+// Whether a copy of the outcome of the one number is the same as the outcome of the other.
+fn is_same(rt: &impl Abort, alloc: Global, one: u32, other: u32) -> bool {
+    let copy = outcome(rt, alloc, one).try_clone().expect(rt, "memory");
+    copy.same(&outcome(rt, alloc, other))
 }
 
 #[test]
 fn outcomes_are_the_same_where_all_parts_are(rt: HostRuntime) {
     for k in 0..9 {
         for j in 0..9 {
-            let one = outcome(&rt, rt.alloc(), k);
-            let other = outcome(&rt, rt.alloc(), j);
-            assert!(rt; is_same(&rt, &one, &other) == (k == j), "{k} {j}");
+            assert!(rt; is_same(&rt, rt.alloc(), k, j) == (k == j), "{k} {j}");
         }
     }
     assert!(rt; FaultKind::of_word("body-long") == Some(FaultKind::BodyLong));

@@ -1,6 +1,7 @@
 //! Patterns of the shell's kind over bytes: `*` is a run, `?` takes any byte.
 ghost use Rattle.std.specs.Prelude.{◌≡◌, Bool, true, false, ◌==◌, ◌||◌, ℕ};
 
+use crate::common::demand;
 use part_match::{Part, matches};
 use std::alloc::Global;
 use std::process::Abort;
@@ -52,16 +53,18 @@ const ROWS: &str = "- - yes|\
     *.tar.?z a.tar.tar.gz yes|\
     *aaab aaaaaaaaaaaa no";
 
+// Whether a row's pattern and text match, or don't, as the row says.
+fn holds(rt: &impl Abort, alloc: Global, row: &str) -> bool {
+    let mut words = row.split(' ');
+    let pattern = words.next().unwrap_or("no row");
+    let text = words.next().unwrap_or("no row");
+    let found = answers(rt, alloc, pattern, text);
+    words.next() == Some(if found { "yes" } else { "no" })
+}
+
 #[test]
 fn a_run_takes_any_piece_and_every_other_part_one_octet(rt: HostRuntime) {
     for row in ROWS.split('|') {
-        let mut words = row.split(' ');
-        let pattern = words.next().unwrap_or("no row");
-        let text = words.next().unwrap_or("no row");
-        let found = answers(&rt, rt.alloc(), pattern, text);
-        assert!(rt;
-            words.next() == Some(if found { "yes" } else { "no" }),
-            "{row}"
-        );
+        demand(&rt, holds(&rt, rt.alloc(), row), row);
     }
 }

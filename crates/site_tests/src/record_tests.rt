@@ -1,6 +1,7 @@
 //! Records in examples: what each entry says, which entry is bad, and each call once.
-use address::{Address, Origin};
-use fetcher::{Answer, Ask, Fetcher};
+use crate::common::{address, bytes_of, demand, rules, says};
+use crate::map_tests::told;
+use fetcher::{Ask, Fetcher};
 use site_maps::InputFault;
 use site_records::RecordedSite;
 use std::alloc::Global;
@@ -76,23 +77,6 @@ const CUT: &str =
 
 const ENDS: [usize; 5] = [15, 62, 84, 107, 127];
 
-// The bytes of a text, CR LF for `|` and a line feed for `~`.
-fn bytes_of(rt: &impl Abort, alloc: Global, text: &str) -> Vec<u8> {
-    let mut bytes = Vec::new(alloc);
-    for b in text.as_bytes() {
-        match b {
-            b'|' => bytes.extend_from_slice(b"\r\n").expect(rt, "memory"),
-            b'~' => bytes.push(b'\n').expect(rt, "memory"),
-            b => bytes.push(*b).expect(rt, "memory"),
-        }
-    }
-    bytes
-}
-
-fn address(rt: &impl Abort, alloc: Global, text: &str) -> Address {
-    Address::read(alloc, text).expect(rt, "an address")
-}
-
 // The site of the record of `SITE`.
 fn recorded(rt: &impl Abort, alloc: Global, robots: bool) -> RecordedSite {
     let bytes = bytes_of(rt, alloc, SITE);
@@ -102,54 +86,35 @@ fn recorded(rt: &impl Abort, alloc: Global, robots: bool) -> RecordedSite {
     site
 }
 
-// Whether the answer has an outcome and a body of a length, as a row says.
-fn is_answered(rt: &impl Abort, alloc: Global, answer: &Answer, row: &str) -> bool {
-    let (len, outcome) = row.split_once(' ').unwrap_or((row, ""));
-    let text = format!(in alloc; "{:?}", answer.outcome).expect(rt, "memory");
-    text.as_str() == outcome && len.parse::<usize>().ok() == Some(answer.body.as_slice().len())
-}
-
-// Whether the site says of an address what stands behind it.
-fn says(rt: &impl Abort, alloc: Global, site: &mut RecordedSite, row: &str) -> bool {
-    let (at, wanted) = row.split_once(' ').unwrap_or((row, ""));
-    let answer = site.ask(&address(rt, alloc, at)).expect(rt, "memory");
-    is_answered(rt, alloc, &answer, wanted)
-}
-
 #[test]
 fn a_record_says_what_its_entries_say(rt: HostRuntime) {
     let first = recorded(&rt, rt.alloc(), true);
     let mut site = first.try_clone().expect(&rt, "memory");
     for row in ANSWERS.lines() {
-        assert!(rt; says(&rt, rt.alloc(), &mut site, row), "{row}");
+        demand(&rt, says(&rt, rt.alloc(), &mut site, row), row);
     }
     assert_eq!(rt; site.asks().len(), 8);
+    drop(site);
     assert!(rt; first.asks().is_empty());
+    drop(first);
 }
 
-// Whether this agent may ask an origin for a path.
-fn allows(rt: &impl Abort, alloc: Global, site: &mut RecordedSite, root: &str, path: &str) -> bool {
-    let origin = Origin::of(&address(rt, alloc, root)).expect(rt, "memory");
-    site.ask_robots(&origin).expect(rt, "memory").allows(path)
-}
+// Whether this agent may ask an origin of that record for a path, a row for each.
+const ALLOWED: &str = "http://h/ /b no
+http://h/ /a yes
+http://k/ /a no
+http://l/ /b yes
+http://z/ /b yes
+";
 
 #[test]
 fn a_record_has_the_rules_of_its_origins(rt: HostRuntime) {
-    let alloc = rt.alloc();
-    let mut site = recorded(&rt, alloc, true);
-    for (root, path, allowed) in [
-        ("http://h/", "/b", false),
-        ("http://h/", "/a", true),
-        ("http://k/", "/a", false),
-        ("http://l/", "/b", true),
-        ("http://z/", "/b", true),
-    ] {
-        assert!(rt;
-            allows(&rt, alloc, &mut site, root, path) == allowed,
-            "{root} {path}"
-        );
+    let mut site = recorded(&rt, rt.alloc(), true);
+    for row in ALLOWED.lines() {
+        demand(&rt, rules(&rt, rt.alloc(), &mut site, row), row);
     }
     assert!(rt; matches!(site.asks(), [Ask::Rules(_), ..]));
+    drop(site);
 }
 
 #[test]
@@ -158,32 +123,35 @@ fn links_that_a_page_forbids_are_followed_where_robots_are_off(rt: HostRuntime) 
     let at = address(&rt, rt.alloc(), "http://h/q");
     let answer = site.ask(&at).expect(&rt, "memory");
     assert_eq!(rt; answer.outcome.edge_count(), 1);
+    drop(site);
 }
 
 // Which line of a record is bad.
 fn fault_of(alloc: Global, record: &[u8]) -> Option<InputFault> {
-    match RecordedSite::read(alloc, record, true) {
-        Ok(_) => None,
-        Err(fault) => Some(fault),
-    }
+    RecordedSite::read(alloc, record, true).err()
 }
 
-// The same as a text.
-fn told(rt: &impl Abort, alloc: Global, record: &[u8]) -> String {
-    match fault_of(alloc, record) {
-        Some(fault) => format!(in alloc; "{fault}").expect(rt, "memory"),
-        None => String::new(alloc),
-    }
+// Whether the line of a row is named of the record behind it.
+fn is_bad(rt: &impl Abort, alloc: Global, row: &str) -> bool {
+    let (line, record) = row.split_once(": ").unwrap_or((row, ""));
+    let bytes = bytes_of(rt, alloc, record.strip_suffix(";").unwrap_or(record));
+    told(rt, alloc, fault_of(alloc, &bytes)).as_str() == line
 }
 
 #[test]
 fn the_first_bad_entry_is_named(rt: HostRuntime) {
     for row in BAD.lines() {
-        let (line, record) = row.split_once(": ").unwrap_or((row, ""));
-        let record = record.strip_suffix(";").unwrap_or(record);
-        let bytes = bytes_of(&rt, rt.alloc(), record);
-        assert!(rt; told(&rt, rt.alloc(), &bytes).as_str() == line, "{row}");
+        demand(&rt, is_bad(&rt, rt.alloc(), row), row);
     }
+}
+
+// The fault of the record of `CUT` where it is cut at this length: none where an entry ends, else the line of that which is cut.
+fn fault_at(len: usize) -> Option<InputFault> {
+    if ENDS.contains(&len) {
+        return None;
+    }
+    let whole = ENDS.iter().filter(|end| **end <= len).count();
+    Some(InputFault::Line(whole.wrapping_add(1)))
 }
 
 #[test]
@@ -191,12 +159,10 @@ fn a_record_that_is_cut_names_the_entry_that_is_cut(rt: HostRuntime) {
     let bytes = bytes_of(&rt, rt.alloc(), CUT);
     assert_eq!(rt; bytes.len(), 127);
     for len in 0..bytes.len() {
-        let whole = ENDS.iter().filter(|end| **end <= len).count();
-        let fault = fault_of(rt.alloc(), &bytes[..len]);
-        if ENDS.contains(&len) {
-            assert_eq!(rt; fault, None, "at {len}");
-        } else {
-            assert_eq!(rt; fault, Some(InputFault::Line(whole + 1)), "at {len}");
-        }
+        assert_eq!(rt;
+            fault_of(rt.alloc(), &bytes[..len]),
+            fault_at(len),
+            "at {len}"
+        );
     }
 }

@@ -362,9 +362,11 @@ fn a_line_that_the_limit_cuts_is_passed_over(rt: HostRuntime) {
 fn all_and_none_need_no_file(rt: HostRuntime) {
     let empty = rules(&rt, rt.alloc(), b"");
     let other = rules(&rt, rt.alloc(), b"user-agent: *\ndisallow: /\n");
-    assert!(rt; RuleSet::all().allows("/") && !RuleSet::none().allows("/"));
-    assert!(rt; RuleSet::all().same(&empty) && !RuleSet::all().same(&RuleSet::none()));
-    assert!(rt; !RuleSet::none().same(&other) && !other.same(&empty));
-    let copy = RuleSet::none().try_clone(rt.alloc()).expect(&rt, "memory");
-    assert!(rt; copy.same(&RuleSet::none()));
+    let all = RuleSet::all();
+    let none = RuleSet::none();
+    assert!(rt; all.allows("/") && !none.allows("/"));
+    assert!(rt; all.same(&empty) && !all.same(&none));
+    assert!(rt; !none.same(&other) && !other.same(&empty));
+    let copy = none.try_clone(rt.alloc()).expect(&rt, "memory");
+    assert!(rt; copy.same(&none));
 }

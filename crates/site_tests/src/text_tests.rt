@@ -1,5 +1,6 @@
 //! Texts of responses, and what is read of each, however its bytes are cut.
-use crate::reader_tests::{repeated, wire_of};
+use crate::common::demand;
+use crate::reader_tests::{repeated_bytes, wire_of};
 use response_reader::{Gather, ReadFault, SliceWire, read_into, read_response};
 use std::alloc::Global;
 use std::process::Abort;
@@ -115,7 +116,7 @@ fn is_read(rt: &impl Abort, alloc: Global, line: &str, wanted: &str) -> bool {
     let middle = words.next().unwrap_or("");
     let times = words.next().and_then(|times| times.parse::<usize>().ok());
     let end = words.next().unwrap_or("");
-    let bytes = repeated(rt, alloc, front, middle, times.unwrap_or(0), end);
+    let bytes = repeated_bytes(rt, alloc, front, middle, times.unwrap_or(0), end);
     gives(rt, alloc, &bytes, &[], wanted)
         && match task {
             "text" => gives_cut(rt, alloc, &bytes, wanted),
@@ -128,6 +129,6 @@ fn is_read(rt: &impl Abort, alloc: Global, line: &str, wanted: &str) -> bool {
 fn texts_are_read_however_they_are_cut(rt: HostRuntime) {
     for line in TEXTS.lines() {
         let (given, wanted) = line.split_once(" => ").unwrap_or((line, ""));
-        assert!(rt; is_read(&rt, rt.alloc(), given, wanted), "{given}");
+        demand(&rt, is_read(&rt, rt.alloc(), given, wanted), given);
     }
 }

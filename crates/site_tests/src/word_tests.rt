@@ -1,4 +1,5 @@
 //! Words and what they order: the manual's options, the defaults, and which fault is named.
+use crate::common::{demand, repeated};
 use address::AddressFault;
 use clap::error::ErrorKind;
 use follow_filters::{Limit, Plan};
@@ -6,28 +7,35 @@ use options::{LineFault, Order, Source, read_order};
 use std::alloc::Global;
 use std::process::Abort;
 
-// How the answer to the words reads.
+// How a fault reads.
+fn word_of(fault: LineFault) -> &'static str {
+    match fault {
+        LineFault::Words(ErrorKind::UnknownArgument) => "words: unknown",
+        LineFault::Words(ErrorKind::ArgumentConflict) => "words: twice",
+        LineFault::Words(ErrorKind::ValueValidation) => "words: out of range",
+        LineFault::Words(ErrorKind::InvalidValue) => "words: bad value",
+        LineFault::Words(ErrorKind::MissingRequiredArgument) => "words: no start",
+        LineFault::Words(ErrorKind::DisplayHelp) => "words: help",
+        LineFault::Words(_) => "words",
+        LineFault::Depth => "depth",
+        LineFault::Pattern => "pattern",
+        LineFault::Directory => "directory",
+        LineFault::Domain => "domain",
+        LineFault::Start(AddressFault::NotHttp) => "start: not http",
+        LineFault::Start(AddressFault::UserInfo) => "start: user info",
+        LineFault::Start(AddressFault::NotUrl) => "start: not url",
+        LineFault::Start(AddressFault::TooLong) => "start: too long",
+        LineFault::Start(_) => "start",
+        LineFault::StartIsRobots => "start: robots",
+        LineFault::Memory => "memory",
+    }
+}
+
+// How the answer to the words reads. The order goes before the fault is looked at, so that no arm lets it go.
 fn outcome(alloc: Global, words: &[&str]) -> &'static str {
-    match read_order(alloc, words) {
-        Ok(_) => "read",
-        Err(LineFault::Words(ErrorKind::UnknownArgument)) => "words: unknown",
-        Err(LineFault::Words(ErrorKind::ArgumentConflict)) => "words: twice",
-        Err(LineFault::Words(ErrorKind::ValueValidation)) => "words: out of range",
-        Err(LineFault::Words(ErrorKind::InvalidValue)) => "words: bad value",
-        Err(LineFault::Words(ErrorKind::MissingRequiredArgument)) => "words: no start",
-        Err(LineFault::Words(ErrorKind::DisplayHelp)) => "words: help",
-        Err(LineFault::Words(_)) => "words",
-        Err(LineFault::Depth) => "depth",
-        Err(LineFault::Pattern) => "pattern",
-        Err(LineFault::Directory) => "directory",
-        Err(LineFault::Domain) => "domain",
-        Err(LineFault::Start(AddressFault::NotHttp)) => "start: not http",
-        Err(LineFault::Start(AddressFault::UserInfo)) => "start: user info",
-        Err(LineFault::Start(AddressFault::NotUrl)) => "start: not url",
-        Err(LineFault::Start(AddressFault::TooLong)) => "start: too long",
-        Err(LineFault::Start(_)) => "start",
-        Err(LineFault::StartIsRobots) => "start: robots",
-        Err(LineFault::Memory) => "memory",
+    match read_order(alloc, words).err() {
+        Some(fault) => word_of(fault),
+        None => "read",
     }
 }
 
@@ -68,33 +76,32 @@ fn words_of<'a>(rt: &impl Abort, alloc: Global, text: &'a str) -> Vec<&'a str> {
     words
 }
 
+// Whether the answer to a row's words reads as the row says.
+fn is_named(rt: &impl Abort, alloc: Global, row: &str) -> bool {
+    let (expected, text) = row.split_once(" => ").unwrap_or((row, ""));
+    outcome(alloc, &words_of(rt, alloc, text)) == expected
+}
+
 #[test]
 fn the_lowest_fault_is_named(rt: HostRuntime) {
     let alloc = rt.alloc();
     for row in FAULTS.lines() {
-        let (expected, text) = row.split_once(" => ").unwrap_or((row, ""));
-        let words = words_of(&rt, alloc, text);
-        assert!(rt; outcome(alloc, &words) == expected, "{row}");
+        demand(&rt, is_named(&rt, alloc, row), row);
     }
     assert!(rt; outcome(alloc, &[""]) == "start: not url");
     assert!(rt; outcome(alloc, &[]) == "words: no start");
 }
 
-// A start with so many letters behind its host.
-fn long_start(rt: &impl Abort, alloc: Global, letters: u32) -> String {
-    let mut start = String::from_str(alloc, "http://h/").expect(rt, "memory");
-    for _ in 0..letters {
-        start.push('a').expect(rt, "memory");
-    }
-    start
+// How the answer to a start reads that has so many letters behind its host.
+fn outcome_of_long(rt: &impl Abort, alloc: Global, letters: usize) -> &'static str {
+    let start = repeated(rt, alloc, "http://h/", "a", letters, "");
+    outcome(alloc, &[start.as_str()])
 }
 
 #[test]
 fn a_start_has_8192_bytes_at_most(rt: HostRuntime) {
-    let start = long_start(&rt, rt.alloc(), 8_183);
-    assert!(rt; outcome(rt.alloc(), &[start.as_str()]) == "read");
-    let start = long_start(&rt, rt.alloc(), 8_184);
-    assert!(rt; outcome(rt.alloc(), &[start.as_str()]) == "start: too long");
+    assert!(rt; outcome_of_long(&rt, rt.alloc(), 8_183) == "read");
+    assert!(rt; outcome_of_long(&rt, rt.alloc(), 8_184) == "start: too long");
 }
 
 // The order that the words of a text give.
@@ -129,6 +136,7 @@ fn has_defaults(order: &Order) -> bool {
 fn defaults_are_the_manuals(rt: HostRuntime) {
     let order = order_of(&rt, rt.alloc(), "-r http://h/a");
     assert!(rt; is_usual(&order.plan) && has_defaults(&order));
+    drop(order);
 }
 
 // Whether the start alone is retrieved, without robots rules.
@@ -144,6 +152,7 @@ fn without_a_word_the_start_alone_is_retrieved(rt: HostRuntime) {
         panic!(rt; "refused");
     };
     assert!(rt; is_alone(&order.plan) && order.prefix.as_str() == ".");
+    drop(order);
 }
 
 // Whether the plan is as its options say.
@@ -172,4 +181,5 @@ const OPTIONS: &str =
 fn options_are_read_into_the_order(rt: HostRuntime) {
     let order = order_of(&rt, rt.alloc(), OPTIONS);
     assert!(rt; is_ordered(&order.plan) && has_values(&order));
+    drop(order);
 }
