@@ -1,5 +1,5 @@
 -- Reading the items of a class from the left.
-use Rattle.std.proofs.Common.{◌≡◌, ◌≢◌, ◌⊎◌, ⊎_elim, if◌then◌else◌, get_or, drop, length, ◌∙◌, ℕ, ◌<◌, ◌≤◌, ◌==◌, false, List, [], ◌∷◌, ◌++◌, Option, Some, None, option_map, nat_lt, refl, sym, ap, append_assoc, arith}
+use Rattle.std.proofs.Common.{◌≡◌, ◌≢◌, ◌⊎◌, ⊎_elim, if◌then◌else◌, get_or, drop, length, ◌∙◌, ℕ, ◌<◌, ◌≤◌, ◌==◌, true, false, List, [], ◌∷◌, ◌++◌, Option, Some, None, option_map, nat_lt, refl, sym, ap, append_assoc, arith}
 use Rattle.std.proofs.lemmas.Bool.Decides.{nat_tests, Decides-eqb}
 use Rattle.std.proofs.lemmas.Bool.{cases_Bool}
 use Rattle.follow_filters.specs.declared.class.Range.{Range}
@@ -39,3 +39,9 @@ ranges_of-more front first items rest ordered is =
     let straight : nat_lt first.high first.low ≡ false = grind (arith, nat_tests) in
     behind-more front first (ranges_of rest)
     ∙ ap (behind front) (sym (is ∙ ap (λ b. if b then None else option_map (λ rs. first ∷ rs) (ranges_of rest)) straight))
+
+-- an item whose greater byte comes first
+pub bad_range : (first : Range) (others : Option (List Range)) → first.high < first.low → then_range first others ≡ None
+bad_range first others crossed =
+    let bad : nat_lt first.high first.low ≡ true = grind (arith, nat_tests) in
+    ap (λ b. if b then None else option_map (λ rs. first ∷ rs) others) bad
