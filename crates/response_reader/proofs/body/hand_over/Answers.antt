@@ -17,3 +17,6 @@ returns-in_err-piece g c =
       purpose = e.purpose;
       refused = e.refused;
     }
+
+pub returns-clause-adds : goal.returns-clause-adds
+returns-clause-adds g c = rw (← c.unread-2.ensures) c.in_ok-piece.ensures.took
