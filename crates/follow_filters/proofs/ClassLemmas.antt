@@ -1,9 +1,12 @@
 -- Reading the items of a class from the left.
-use Rattle.std.proofs.Common.{◌≡◌, ◌≢◌, ◌⊎◌, ⊎_elim, if◌then◌else◌, get_or, drop, length, ◌∙◌, ℕ, ◌<◌, ◌≤◌, ◌==◌, false, List, [], ◌∷◌, ◌++◌, Option, Some, None, option_map, nat_lt, refl, sym, ap, append_assoc, arith}
+use Rattle.std.proofs.Common.{◌≡◌, ◌≢◌, ◌⊎◌, ⊎_elim, if◌then◌else◌, get_or, drop, length, ◌∙◌, ℕ, ◌<◌, ◌≤◌, ◌==◌, Bool, true, false, inl, inr, List, [], ◌∷◌, ◌++◌, Option, Some, None, option_map, nat_lt, refl, sym, ap, append_assoc, arith}
 use Rattle.std.proofs.lemmas.Bool.Decides.{nat_tests, Decides-eqb}
 use Rattle.std.proofs.lemmas.Bool.{cases_Bool}
 use Rattle.follow_filters.specs.declared.class.Range.{Range}
-use Rattle.follow_filters.specs.Classes.{ranges_of, range, then_range}
+use Rattle.follow_filters.specs.declared.elements.ElementFault.{ElementFault}
+use Rattle.follow_filters.specs.ClassValues.{ClassValue}
+use Rattle.follow_filters.specs.Classes.{class_of, class_with, ranges_of, range, then_range}
+use Rattle.follow_filters.specs.Elements.{IsFaultOf}
 
 -- what is read so far, and what is still to be read
 abbrev pub behind : {X : Type 0} → List X → Option (List X) → Option (List X)
@@ -39,3 +42,38 @@ ranges_of-more front first items rest ordered is =
     let straight : nat_lt first.high first.low ≡ false = grind (arith, nat_tests) in
     behind-more front first (ranges_of rest)
     ∙ ap (behind front) (sym (is ∙ ap (λ b. if b then None else option_map (λ rs. first ∷ rs) (ranges_of rest)) straight))
+
+-- an item whose greater byte comes first
+pub bad_range : (first : Range) (others : Option (List Range)) → first.high < first.low → then_range first others ≡ None
+bad_range first others crossed =
+    let bad : nat_lt first.high first.low ≡ true = grind (arith, nat_tests) in
+    ap (λ b. if b then None else option_map (λ rs. first ∷ rs) others) bad
+
+-- ---- a class
+
+-- with a `!` in front
+pub class_of-negated : (inner : List ℕ) → 1 ≤ length inner → get_or inner 0 0 ≡ 33 → class_of inner ≡ class_with true (ranges_of (drop 1 inner))
+class_of-negated [] some bang = absurd (omega arith)
+class_of-negated (x ∷ items) some bang = ap (λ b. if b then class_with true (ranges_of items) else class_with false (ranges_of (x ∷ items))) ((Decides-eqb x 33).1 bang)
+
+-- and with none
+pub class_of-plain : (inner : List ℕ) → (length inner < 1) ⊎ (get_or inner 0 0 ≢ 33) → class_of inner ≡ class_with false (ranges_of inner)
+class_of-plain [] other = refl
+class_of-plain (x ∷ items) (inl short) = absurd (omega arith)
+class_of-plain (x ∷ items) (inr other) =
+    let differs : (x == 33) ≡ false = ⊎_elim (λ yes. absurd (other ((Decides-eqb x 33).0 yes))) (λ f. f) (cases_Bool (x == 33)) in
+    ap (λ b. if b then class_with true (ranges_of items) else class_with false (ranges_of (x ∷ items))) differs
+
+pub class_fault : (inner items : List ℕ) (is_negated : Bool) (fault : ElementFault) → class_of inner ≡ class_with is_negated (ranges_of items)
+    → IsFaultOf (ranges_of items) fault → IsFaultOf (class_of inner) fault
+class_fault inner items is_negated fault is (inl bad) = inl (bad.0, is ∙ ap (class_with is_negated) bad.1)
+class_fault inner items is_negated fault is (inr memory) = inr memory
+
+pub no_class : (is_negated : Bool) (ranges : List Range) → length ranges ≡ 0 → class_with is_negated (Some ranges) ≡ None
+no_class is_negated [] none = refl
+no_class is_negated (r ∷ rs) none = absurd (omega arith)
+
+pub some_class : (is_negated : Bool) (ranges : List Range) → length ranges ≢ 0
+    → class_with is_negated (Some ranges) ≡ Some (record { is_negated = is_negated; ranges = ranges })
+some_class is_negated [] some = absurd (some refl)
+some_class is_negated (r ∷ rs) some = refl

@@ -95,18 +95,18 @@ filtered plan span_hosts no_parent domains exclude_domains include_dirs exclude_
 }
 
 -- the plans have equal starts and numbers, equal flags, equal lists
-abbrev EqualBounds : Plan → Plan → Type 0
+abbrev pub EqualBounds : Plan → Plan → Type 0
 EqualBounds a b = (((a.start ≡ b.start) × (a.limit ≡ b.limit)) × (a.max_urls ≡ b.max_urls)) × (a.per_host ≡ b.per_host)
 
-abbrev EqualFlags : Plan → Plan → Type 0
+abbrev pub EqualFlags : Plan → Plan → Type 0
 EqualFlags a b = ((a.span_hosts ≡ b.span_hosts) × (a.no_parent ≡ b.no_parent)) × (a.robots ≡ b.robots)
 
-abbrev EqualLists : Plan → Plan → Type 0
+abbrev pub EqualLists : Plan → Plan → Type 0
 EqualLists a b =
     (((((a.domains ≡ b.domains) × (a.exclude_domains ≡ b.exclude_domains)) × (a.include_dirs ≡ b.include_dirs)) × (a.exclude_dirs ≡ b.exclude_dirs))
     × (a.accept ≡ b.accept)) × (a.reject ≡ b.reject)
 
-plan_equal : (a b : Plan) → EqualBounds a b → EqualFlags a b → EqualLists a b → a ≡ b
+pub plan_equal : (a b : Plan) → EqualBounds a b → EqualFlags a b → EqualLists a b → a ≡ b
 unfolding facts_of
 plan_equal a b bounds flags lists =
     moved_equal a b.start b.limit b.max_urls b.per_host (facts_of b) bounds.0.0.0 bounds.0.0.1 bounds.0.1 bounds.1

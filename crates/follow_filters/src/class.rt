@@ -1,6 +1,6 @@
 //! Classes of bytes in a pattern, as `[a-c]` (GNU Wget manual, section Types of Files).
 ghost use Rattle.std.specs.Prelude.{◌≡◌, ◌<◌, [], length, Some, MatchOption, MatchResult};
-ghost use Rattle.follow_filters.specs.Classes.{ranges_of, then_range};
+ghost use Rattle.follow_filters.specs.Classes.{class_of, class_with, ranges_of, then_range};
 ghost use Rattle.follow_filters.specs.Elements.{IsFaultOf};
 
 use crate::elements::ElementFault;
@@ -49,10 +49,7 @@ impl Class {
     pub(crate) fn read(alloc: Global, inner: &[u8]) -> Result<Class, ElementFault>
         ensures { Reads result (class_of inner.now) }
     {
-        let (is_negated, items) = match inner {
-            [b'!', items @ ..] => (true, items),
-            _ => (false, inner),
-        };
+        let (is_negated, items) = split_negation(inner);
         let ranges = read_ranges(alloc, items)?;
         if ranges.is_empty() {
             return Err(ElementFault::Bad);
@@ -74,6 +71,16 @@ impl Class {
         } else {
             self.names(byte)
         }
+    }
+}
+
+// Whether a `!` comes first, and the items of the class.
+fn split_negation(inner: &[u8]) -> (bool, &[u8])
+    ensures { class_of inner.now ≡ class_with result.0 (ranges_of result.1.now) }
+{
+    match inner {
+        [b'!', items @ ..] => (true, items),
+        _ => (false, inner),
     }
 }
 

@@ -200,7 +200,8 @@ fn fault_of(error: &Error) -> LineFault
     }
 }
 
-// The order of what is found for each option, or the lowest fault.
+// The order of what is found for each option, or the lowest fault. An exit lets go of what was read by
+// calls, since what it lets go itself is proved anew at each exit.
 fn order_of_matches(alloc: Global, matches: &ArgMatches) -> Result<Order, LineFault>
     ensures { Answers result (order_of_rows (rows_of (found_of matches.now))) }
 {
@@ -231,7 +232,10 @@ fn order_of_matches(alloc: Global, matches: &ArgMatches) -> Result<Order, LineFa
         LineFault::Directory,
     ) {
         Ok(places) => places,
-        Err(fault) => return Err(fault),
+        Err(fault) => {
+            drop(names);
+            return Err(fault);
+        }
     };
     let hosts: Lists<Domain> = match read_lists(
         alloc,
@@ -241,13 +245,26 @@ fn order_of_matches(alloc: Global, matches: &ArgMatches) -> Result<Order, LineFa
         LineFault::Domain,
     ) {
         Ok(hosts) => hosts,
-        Err(fault) => return Err(fault),
+        Err(fault) => {
+            drop(names);
+            drop(places);
+            return Err(fault);
+        }
     };
     let page = match start(alloc, matches) {
         Ok(page) => page,
-        Err(fault) => return Err(fault),
+        Err(fault) => {
+            drop(names);
+            drop(places);
+            drop(hosts);
+            return Err(fault);
+        }
     };
     let Ok(prefix) = prefix(alloc, matches) else {
+        drop(names);
+        drop(places);
+        drop(hosts);
+        drop(page);
         return Err(LineFault::Memory);
     };
     Ok(Order {
