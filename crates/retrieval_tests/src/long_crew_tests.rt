@@ -47,7 +47,7 @@ fn chain_of<'a>(rt: &impl Abort, line: &'a str) -> Chain<'a> {
 }
 
 /// The map of a chain.
-fn map_of(rt: &impl Abort, alloc: Global, is_ring: bool) -> String {
+pub(crate) fn map_of(rt: &impl Abort, alloc: Global, is_ring: bool) -> String {
     let mut map = String::new(alloc);
     for page in 0..MOST {
         let next = page + 1;
@@ -84,7 +84,7 @@ fn plan(rt: &impl Abort, alloc: Global, limit: Limit) -> Plan
 }
 
 /// The plan of a chain.
-fn plan_of(rt: &impl Abort, alloc: Global, follows_all: bool) -> Plan {
+pub(crate) fn plan_of(rt: &impl Abort, alloc: Global, follows_all: bool) -> Plan {
     if follows_all {
         return plan(rt, alloc, Limit::Unlimited);
     }

@@ -12,5 +12,6 @@ fn a_harvest_of_nothing_has_the_counts_alone(rt: HostRuntime) {
     let harvest = Harvest::empty(rt.alloc());
     assert!(rt; is_empty(&harvest));
     let text = report_text(rt.alloc(), &harvest, &[]).expect(&rt, "memory");
+    drop(harvest);
     assert_eq!(rt; text.as_str(), "fetched 0 kept 0 refused 0 failed 0\n");
 }

@@ -1,4 +1,4 @@
-//! A retrieval by several workers, and what the tests look at of what it brings. For tests. Here alone a test owns a harvest.
+//! A retrieval by several workers, or in order by one, and what the tests look at of what it brings. For tests.
 use fetcher::{Ask, Fetcher, Outcome};
 use follow_filters::Plan;
 use frontier_core::Cause;
@@ -6,7 +6,7 @@ use std::alloc::Global;
 use std::process::Abort;
 use std::sync::Wait;
 use std::thread::Threads;
-use workers::{Entry, Harvest, Retrieved, Stopped, retrieve};
+use workers::{Entry, Halt, Harvest, Retrieved, Stopped, retrieve, retrieve_in_order};
 
 /// What a retrieval came to.
 #[derive(Drop)]
@@ -141,6 +141,25 @@ pub(crate) fn retrieved<F: Fetcher + Send, R: Abort + Threads + Wait + Sync>(
         panic!(rt; "no worker, or too many");
     }
     seen_of(rt, alloc, retrieve(rt, alloc, plan, fetchers))
+}
+
+/// What is seen of a retrieval in order that stopped.
+fn seen_of_halt(rt: &impl Abort, alloc: Global, halt: Halt) -> Seen {
+    let Halt { cause, harvest } = halt;
+    last_seen(rt, alloc, word_of(cause), harvest)
+}
+
+/// Has one fetcher asked in order for what the plan wants. Gives what is seen of it.
+pub(crate) fn retrieved_in_order<F: Fetcher>(
+    rt: &impl Abort,
+    alloc: Global,
+    plan: &Plan,
+    fetcher: &mut F,
+) -> Seen {
+    match retrieve_in_order(alloc, plan, fetcher) {
+        Ok(harvest) => last_seen(rt, alloc, "whole", harvest),
+        Err(halt) => seen_of_halt(rt, alloc, halt),
+    }
 }
 
 /// How many pages, and the rules of how many origins, all fetchers together were asked for.
