@@ -23,9 +23,14 @@ def copy_repository(name):
             if part != "out":
                 shutil.rmtree(f"{folder}/{part}") if os.path.isdir(f"{folder}/{part}") else os.remove(f"{folder}/{part}")
         if os.path.isdir(f"crates/{crate}"):
-            shutil.copytree(f"crates/{crate}", folder, dirs_exist_ok=True, ignore=shutil.ignore_patterns("out"))
+            shutil.copytree(f"crates/{crate}", folder, dirs_exist_ok=True, ignore=kept_work(f"crates/{crate}"))
             copy_library(f"crates/{crate}/out/rlib", f"{folder}/out/rlib")
     return to
+
+
+def kept_work(crate):
+    """What isn't copied of a crate: its own out/, and no folder below that has this name for a function's proof."""
+    return lambda at, names: {"out"} & set(names) if at == crate else set()
 
 
 def copy_library(proved, to):
