@@ -3,3 +3,4 @@ pub mod LinkLemmas
 pub mod AnswerLemmas
 pub mod TalkLemmas
 pub mod ChainLemmas
+pub mod HopLemmas

@@ -13,14 +13,17 @@ use Rattle.fetcher.specs.declared.fault_kind.FaultKind.TheVariants as kind
 use Rattle.fetcher.specs.declared.fetcher.Ask.{Ask}
 use Rattle.fetcher.specs.declared.outcome.Outcome.{Outcome}
 use Rattle.fetcher.specs.declared.outcome.Outcome.TheVariants.{Fault}
+use Rattle.site_answer.specs.declared.noted.Noted.{Noted}
 use Rattle.site_answer.specs.Digests.{digest_of, kept_body}
 use Rattle.site_answer.specs.KindsOfFaults.{kind_of_fault}
 
--- what makes its connections, whether robots rules are honoured, and what was asked
+-- what makes its connections, whether robots rules are honoured, what was asked, whether notes are taken, and these
 pub record Fetching (C : Type 0) : Type 0 where
   pub connect : C
   pub robots : Bool
   pub asks : List Ask
+  pub is_recording : Bool
+  pub notes : List Noted
 
 -- the answer is the digest of the response that begins the bytes
 abbrev pub IsDigestOf : Bool → AddressText → Outcome → List ℕ → List ℕ → Type 0

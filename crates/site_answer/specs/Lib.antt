@@ -4,5 +4,8 @@ pub mod HeadKinds
 pub mod Digesting
 pub mod Connects
 pub mod Chains
+pub mod Tellings
+pub mod HopChains
+pub mod Notes
 pub mod Fetching
 pub mod Talks

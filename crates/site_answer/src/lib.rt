@@ -8,12 +8,16 @@
 mod chain;
 mod connect;
 mod digester;
+mod given;
 mod head_kind;
+mod hops;
 mod http_fetcher;
 mod links;
 mod memory_connect;
+mod noted;
 mod read_fault;
 mod stage;
+mod told;
 mod whole_response;
 
 pub use connect::{Connect, ConnectFault};
@@ -21,8 +25,12 @@ pub use digester::Digester;
 pub use fetcher::{
     Answer, Ask, Body, Edge, EdgeKind, Edges, FaultKind, Fetcher, Outcome, SteadyFetcher,
 };
+pub use given::Given;
+pub use hops::Hops;
 pub use http_fetcher::HttpFetcher;
 pub use memory_connect::{FailingPlace, MemoryConnect, PlannedFailure, StoredAnswer, StoredWire};
+pub use noted::Noted;
 pub use read_fault::kind_of_fault;
 pub use site_maps::{InputFault, MapSite, SteadyMap};
+pub use told::Told;
 pub use whole_response::{digest, into_answer};

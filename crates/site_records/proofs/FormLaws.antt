@@ -17,12 +17,12 @@ four_fields a b c d more (free text) h = cc
 four_fields a b c d more (closed text) h = cc
 
 -- of two tests that are true each is
-and_parts : (a b : Bool) → (a && b) ≡ true → (a ≡ true) × (b ≡ true)
+pub and_parts : (a b : Bool) → (a && b) ≡ true → (a ≡ true) × (b ≡ true)
 and_parts true b h = (refl, h)
 and_parts false b h = absurd cc
 
 -- digits of ASCII are a numeral
-own_digits : IsNumeralModel (λ ds. list_all is_ascii_digit ds ≡ true) (digits_value 10)
+pub own_digits : IsNumeralModel (λ ds. list_all is_ascii_digit ds ≡ true) (digits_value 10)
 own_digits = numerals_by_value _ (search rules)
 
 -- a length that no number holds counts as the greatest

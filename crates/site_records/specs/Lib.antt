@@ -4,3 +4,5 @@ pub mod Entries
 pub mod Records
 pub mod Readings
 pub mod RecordSites
+pub mod Resumption
+pub mod WrittenEntries

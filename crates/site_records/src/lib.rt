@@ -8,5 +8,7 @@ mod first_line;
 mod reading;
 mod recorded_site;
 mod replayed;
+mod resumed;
 
 pub use recorded_site::RecordedSite;
+pub use resumed::Resumed;

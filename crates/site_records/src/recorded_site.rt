@@ -44,6 +44,8 @@ impl Model for RecordedSite {
 
 impl RecordedSite {
     ghost use Rattle.std.specs.Prelude.{◌≡◌, [], List, IfOk, IfErr};
+    ghost use Rattle.std.specs.Map.{lookup};
+    ghost use Rattle.std.specs.Str.{bytes_eq};
     ghost use Rattle.site_maps.specs.Maps.{rules_at};
     ghost use Rattle.site_records.specs.Entries.{Entry};
     ghost use Rattle.site_records.specs.Records.{IsRecord, answers_of, rules_of, answer_in, IsFault};
@@ -100,12 +102,32 @@ impl RecordedSite {
         })
     }
 
+    /// What the record states of an address, with a copy of its body; none where it states nothing. The error is want of memory.
+    pub fn stated_answer(&self, at: &Address) -> Result<Option<Answer>, AllocError>
+        ensures { IfOk result (λ a. a ≡ lookup (bytes_eq at.now) self.now.answers) }
+    {
+        match self.stated.answers.get(at) {
+            Some(answer) => Ok(Some(copy_of(self.alloc, answer)?)),
+            None => Ok(None),
+        }
+    }
+
+    /// What the record states of an origin; none where it states nothing. The error is want of memory.
+    pub fn stated_rules(&self, of: &Origin) -> Result<Option<RuleSet>, AllocError>
+        ensures { IfOk result (λ r. r ≡ lookup (bytes_eq of.now) self.now.rules) }
+    {
+        match self.stated.rules.get(of) {
+            Some(kept) => Ok(Some(kept.rule_set()?)),
+            None => Ok(None),
+        }
+    }
+
     // What the record says of an address.
     fn answer(&self, at: &Address) -> Result<Answer, AllocError>
         ensures { IfOk result (λ a. a ≡ answer_in self.now.answers at.now) }
     {
-        match self.stated.answers.get(at) {
-            Some(answer) => copy_of(self.alloc, answer),
+        match self.stated_answer(at)? {
+            Some(answer) => Ok(answer),
             None => Ok(Answer {
                 outcome: Outcome::Leaf(NOT_FOUND),
                 body: Body::new(Vec::new(self.alloc)),
@@ -117,8 +139,8 @@ impl RecordedSite {
     fn rule_set(&self, of: &Origin) -> Result<RuleSet, AllocError>
         ensures { IfOk result (λ r. r ≡ rules_at self.now.rules of.now) }
     {
-        match self.stated.rules.get(of) {
-            Some(kept) => kept.rule_set(),
+        match self.stated_rules(of)? {
+            Some(rules) => Ok(rules),
             None => Ok(RuleSet::all()),
         }
     }

@@ -1,23 +1,49 @@
--- Each redirect makes the chain longer by one answer, and the last answer ends it.
-use Rattle.std.proofs.Common.{◌≡◌, ◌∙◌, ◌≤◌, ◌<◌, ◌+◌, ◌-◌, arith}
-use Rattle.site_answer.proofs.ChainLemmas.{chain_ends, chain_goes_on, given_by, may_follow, says_of}
+-- Each redirect makes the chain and the hops longer by one answer, and the last answer ends them.
+use Rattle.std.proofs.Common.{◌≡◌, ◌∙◌, ◌≤◌, ◌<◌, ◌+◌, ◌-◌, ◌++◌, [], ◌∷◌, arith, sym, ap, subst, append_assoc}
+use Rattle.site_answer.specs.HopChains.{IsAdmitted, TellsHop, rules_of_hops}
+use Rattle.site_answer.specs.declared.chain.Hop.TheVariants.{Next, Last}
+use Rattle.site_answer.proofs.ChainLemmas.{chain_ends, chain_goes_on, given_by}
+use Rattle.site_answer.proofs.HopLemmas.{tells_of, tells_says, hop_goes_on, hop_ends, rules_behind}
 use Rattle.site_answer.proofs.http_fetcher.HttpFetcher.follow.Goals as goal
 
 pub hops-preserved : goal.hops-preserved
 hops-preserved g c =
-    let some : 0 < c.hops.left = may_follow _ _ c.hops.left _ _ c.in-Next.is c.in_ok-rules.ensures in
+    let tells : TellsHop c.hops.at c.in_ok-told.told c.hops.left (Next c.in-Next.next) = tells_of c.hops.at c.in_ok-told.told c.hops.left _ _ c.in-Next.is c.in_ok-rules.ensures in
+    let some : 0 < c.hops.left = tells.0 in
     record {
-      asks = c.in_ok-answer.ensures.asks ∙ c.hops.invariant.asks;
-      robots = c.in_ok-answer.ensures.robots ∙ c.hops.invariant.robots;
+      asks = c.in_ok-told.ensures.asks ∙ c.hops.invariant.asks;
+      robots = c.in_ok-told.ensures.robots ∙ c.hops.invariant.robots;
+      is_recording = c.in_ok-told.ensures.is_recording ∙ c.hops.invariant.is_recording;
+      notes = c.in_ok-told.ensures.notes ∙ c.hops.invariant.notes;
+      origin = c.hops.invariant.origin;
       left = let was = c.hops.invariant.left in omega arith;
-      few = let was = c.hops.invariant.few in let most = c.in_ok-answer.ensures.most in omega arith;
+      few = let was = c.hops.invariant.few in let most = c.in_ok-told.ensures.most in omega arith;
       chain = λ r chain. c.hops.invariant.chain r (chain_goes_on _ c.hops.left (c.hops.left - 1) _ _ r _ _
-          (given_by g.C.Connect.gives g.C.Connect.refused g.C.Wire.Wire.incoming g.C.Wire.Wire.outgoing g.C.Wire.Wire.failed _ _ _ _ _ _ _ c.hops.invariant.robots c.in_ok-answer.ensures.told)
-          (says_of _ _ _ _ _ c.in-Next.is c.in_ok-rules.ensures) (omega arith) chain);
+          (given_by g.C.Connect.gives g.C.Connect.refused g.C.Wire.Wire.incoming g.C.Wire.Wire.outgoing g.C.Wire.Wire.failed _ _ _ _ _ _ _ c.hops.invariant.robots c.in_ok-told.ensures.told)
+          (tells_says c.hops.self.robots c.hops.at c.in_ok-told.told c.hops.left (Next c.in-Next.next) tells) (omega arith) chain);
+      admitted = λ tail are. subst (λ l. IsAdmitted c.args.of.now l)
+          (sym (ap (λ l. l ++ tail) c.in_ok-push-in-Next.ensures.items ∙ append_assoc c.hops.hops.items ((c.hops.at, c.in_ok-told.told) ∷ []) tail))
+          (c.hops.invariant.admitted ((c.hops.at, c.in_ok-told.told) ∷ tail) (hop_goes_on c.hops.left (c.hops.left - 1) c.hops.at c.in-Next.next c.in_ok-told.told tail tells.1 (omega arith) are));
     }
+
+pub new-requires : goal.new-requires
+new-requires g c =
+    let tells : TellsHop c.hops.at c.in_ok-told.told c.hops.left (Last c.in-Last.rules) = tells_of c.hops.at c.in_ok-told.told c.hops.left _ _ c.in-Last.is c.in_ok-rules.ensures in
+    subst (λ o. IsAdmitted o c.push.new.self.items) (sym c.hops.invariant.origin)
+    (subst (λ l. IsAdmitted c.args.of.now l) (sym c.in_ok-push-in-Last.ensures.items)
+    (c.hops.invariant.admitted ((c.hops.at, c.in_ok-told.told) ∷ []) (hop_ends c.hops.left c.hops.at c.in_ok-told.told tells.0)))
+
+pub returns-in-Last-clause-of : goal.returns-in-Last-clause-of
+returns-in-Last-clause-of g c = c.new.ensures.of ∙ c.hops.invariant.origin
+
+pub returns-in-Last-clause-rules : goal.returns-in-Last-clause-rules
+returns-in-Last-clause-rules g c =
+    let tells : TellsHop c.hops.at c.in_ok-told.told c.hops.left (Last c.in-Last.rules) = tells_of c.hops.at c.in_ok-told.told c.hops.left _ _ c.in-Last.is c.in_ok-rules.ensures in
+    tells.1 ∙ sym (ap rules_of_hops (c.new.ensures.hops ∙ c.in_ok-push-in-Last.ensures.items) ∙ rules_behind c.hops.hops.items (c.hops.at, c.in_ok-told.told) [])
 
 pub returns-in-Last-clause-chain : goal.returns-in-Last-clause-chain
 returns-in-Last-clause-chain g c =
+    let tells : TellsHop c.hops.at c.in_ok-told.told c.hops.left (Last c.in-Last.rules) = tells_of c.hops.at c.in_ok-told.told c.hops.left _ _ c.in-Last.is c.in_ok-rules.ensures in
     c.hops.invariant.chain _ (chain_ends _ c.hops.left _ _ _ _
-    (given_by g.C.Connect.gives g.C.Connect.refused g.C.Wire.Wire.incoming g.C.Wire.Wire.outgoing g.C.Wire.Wire.failed _ _ _ _ _ _ _ c.hops.invariant.robots c.in_ok-answer.ensures.told)
-    (says_of _ _ _ _ _ c.in-Last.is c.in_ok-rules.ensures))
+    (given_by g.C.Connect.gives g.C.Connect.refused g.C.Wire.Wire.incoming g.C.Wire.Wire.outgoing g.C.Wire.Wire.failed _ _ _ _ _ _ _ c.hops.invariant.robots c.in_ok-told.ensures.told)
+    (tells_says c.hops.self.robots c.hops.at c.in_ok-told.told c.hops.left (Last c.in-Last.rules) tells))

@@ -1,0 +1,110 @@
+//! A site that a fetcher asks for what a record doesn't say.
+ghost use Rattle.std.specs.Prelude.{◌≡◌, ◌++◌, List, [], drop, take, length, All};
+ghost use Rattle.fetcher.specs.Sites.{SiteAnswers, AreAnswers};
+ghost use Rattle.fetcher.specs.declared.fetcher.Ask.{Ask};
+ghost use Rattle.site_records.specs.Resumption.{AreOf, IsUnstated, IsSpared, RulesOr, SaysOr};
+
+use crate::recorded_site::RecordedSite;
+use address::{Address, Origin};
+use fetcher::{Answer, Ask, Fetcher};
+use robots_rules::RuleSet;
+use std::alloc::{AllocError, Global};
+use std::marker::Model;
+
+/// Answers from a record what this states, recorded faults too, and asks a fetcher for the rest.
+#[derive(Drop)]
+pub struct Resumed<F: Fetcher> {
+    recorded: RecordedSite,
+    inner: F,
+    asks: Vec<Ask>,
+    since: usize,
+}
+
+impl<F: Fetcher> Model for Resumed<F> {
+    ghost use Rattle.site_records.specs.Resumption.{Resuming, IsSpared};
+
+    ghost Value = { Resuming F };
+
+    ghost view = { λ r. record { recorded = r.recorded; inner = r.inner; asks = r.asks.items; since = r.since } };
+
+    ghost invariant = { λ r. IsSpared r.recorded.answers r.recorded.rules r.since (F.log r.inner) };
+}
+
+impl<F: Fetcher> Resumed<F> {
+    /// Answers from the record, and asks the fetcher for what this doesn't state. Takes no memory; later growth comes from
+    /// `alloc`.
+    pub fn new(alloc: Global, recorded: RecordedSite, inner: F) -> Resumed<F>
+        ensures recorded { result.recorded ≡ recorded }
+        ensures inner { result.inner ≡ inner }
+        ensures asks { result.asks ≡ [] }
+        ensures since { result.since ≡ length (F.log inner) }
+
+        // Where the fetcher's site is steady and the record's answers are that site's, this is that site.
+        ensures steady { (answers : SiteAnswers) → AreAnswers F.says F.rules (F.site inner) answers
+            → AreOf F.says F.rules (F.site inner) recorded.answers recorded.rules
+            → AreAnswers (SaysOr F.says) (RulesOr F.rules)
+            (record { answers = recorded.answers; rules = recorded.rules; inner = F.site inner; before = F.log inner }) answers }
+    {
+        let since = inner.asks().len();
+        Resumed {
+            recorded,
+            inner,
+            asks: Vec::new(alloc),
+            since,
+        }
+    }
+
+    /// The fetcher. What it was asked since it was handed in is nothing that the record states.
+    pub fn inner(&self) -> &F
+        ensures value { result.now ≡ self.now.inner }
+        ensures spared { IsSpared self.now.recorded.answers self.now.recorded.rules self.now.since (F.log result.now) }
+    {
+        &self.inner
+    }
+
+    /// The record.
+    pub fn recorded(&self) -> &RecordedSite
+        ensures { result.now ≡ self.now.recorded }
+    {
+        &self.recorded
+    }
+}
+
+impl<F: Fetcher> Fetcher for Resumed<F> {
+    ghost use Rattle.std.specs.Prelude.{take};
+    ghost use Rattle.site_records.specs.Resumption.{Resumption, SaysOr, RulesOr};
+
+    ghost Site = { Resumption F.Site };
+
+    ghost site = { λ r. record { answers = r.recorded.answers; rules = r.recorded.rules; inner = F.site r.inner; before = take r.since (F.log r.inner) } };
+
+    ghost says = { SaysOr F.says };
+
+    ghost rules = { RulesOr F.rules };
+
+    ghost log = { λ r. r.asks };
+
+    fn ask(&mut self, at: &Address) -> Result<Answer, AllocError> {
+        self.asks.push(Ask::Page(at.try_clone()?))?;
+        match self.recorded.stated_answer(at)? {
+            Some(answer) => Ok(answer),
+            None => self.inner.ask(at),
+        }
+    }
+
+    fn ask_robots(&mut self, of: &Origin) -> Result<RuleSet, AllocError> {
+        self.asks.push(Ask::Rules(of.try_clone()?))?;
+        match self.recorded.stated_rules(of)? {
+            Some(rules) => Ok(rules),
+            None => self.inner.ask_robots(of),
+        }
+    }
+
+    fn asks(&self) -> &[Ask] {
+        self.asks.as_slice()
+    }
+
+    fn tell_waiting(&mut self, waiting: usize) {
+        self.inner.tell_waiting(waiting);
+    }
+}
