@@ -1,5 +1,8 @@
 //! A wire over a stream of bytes, as a TCP connection.
 ghost use Rattle.std.specs.Prelude.{◌≡◌, false, None};
+ghost use Rattle.std.specs.Io.{ReadsAtMost, WritesAtMost};
+ghost use Rattle.std.specs.Io.KnownBytes.{ReadConsumes, WriteAppends};
+ghost use Rattle.std.specs.Prelude.{ℕ, ◌<◌, IfOk, length};
 ghost use Rattle.response_reader.specs.Wire.{CountsFault, NotesLoss};
 
 use crate::wire::{Wire, WireFault};
@@ -31,6 +34,30 @@ fn wire_fault(kind: ErrorKind) -> WireFault {
     match kind {
         ErrorKind::Interrupted => WireFault::Interrupted,
         _ => WireFault::Failed,
+    }
+}
+
+// What a stream gives to a read: its next bytes, where it tells them.
+fn read_from<S: Read>(stream: &mut S, room: &mut [u8]) -> Result<usize, WireFault>
+    ensures bound { ReadsAtMost result room.new }
+    ensures bytes { ReadConsumes (S.remaining stream.old) (S.remaining stream.new) result room.new }
+{
+    match stream.read(room) {
+        Ok(n) => Ok(n),
+        Err(e) => Err(wire_fault(e.kind())),
+    }
+}
+
+// What a stream takes of a write: a front of the bytes, and at least one of some.
+fn write_to<S: Write>(stream: &mut S, bytes: &[u8]) -> Result<usize, WireFault>
+    ensures bound { WritesAtMost result bytes.now }
+    ensures some { IfOk result (λ n. 0 < length bytes.now → 0 < n) }
+    ensures bytes { WriteAppends (S.contents stream.old) (S.contents stream.new) result bytes.now }
+{
+    match stream.write(bytes) {
+        Ok(0) if !bytes.is_empty() => Err(WireFault::Failed),
+        Ok(n) => Ok(n),
+        Err(e) => Err(wire_fault(e.kind())),
     }
 }
 
@@ -89,19 +116,12 @@ impl<S: Read + Write + Drop> Wire for TcpWire<S> {
     ghost never_errs = { λ _. false };
 
     fn read(&mut self, room: &mut [u8]) -> Result<usize, WireFault> {
-        let answer = match self.stream.read(room) {
-            Ok(n) => Ok(n),
-            Err(e) => Err(wire_fault(e.kind())),
-        };
+        let answer = read_from(&mut self.stream, room);
         self.note(answer)
     }
 
     fn write(&mut self, bytes: &[u8]) -> Result<usize, WireFault> {
-        let answer = match self.stream.write(bytes) {
-            Ok(0) if !bytes.is_empty() => Err(WireFault::Failed),
-            Ok(n) => Ok(n),
-            Err(e) => Err(wire_fault(e.kind())),
-        };
+        let answer = write_to(&mut self.stream, bytes);
         self.note(answer)
     }
 

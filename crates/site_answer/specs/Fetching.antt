@@ -53,7 +53,7 @@ abbrev pub ComesOver : {W : Type 0} → (W → Option (List ℕ)) → (W → Opt
 ComesOver {W} incoming outgoing failed robots at given x body =
     (asked : W) × (left : W)
     × (IsUnwritten (failed given) (failed left) x body
-    ⊎ (Appends (outgoing given) (outgoing asked) (request_text at) × Keeps (outgoing asked) (outgoing left)
+    ⊎ (Appends (outgoing given) (outgoing asked) (request_text at) × Keeps (incoming given) (incoming asked) × Keeps (outgoing asked) (outgoing left)
     × OfBytes (incoming asked) (AnswersBytes robots at (failed asked) (failed left) x body)))
 
 -- the same over a wire that was given for the address's origin

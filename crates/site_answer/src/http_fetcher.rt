@@ -312,6 +312,8 @@ impl<C: Connect> Fetcher for HttpFetcher<C> {
     fn ask(&mut self, at: &Address) -> Result<Answer, AllocError>
         ensures asked { OnOk result (self.new.asks ≡ self.old.asks ++ ask.Page at.now ∷ []) }
         ensures refused { OnErr result (GainedAtMost self.old.asks self.new.asks (ask.Page at.now)) }
+        // No connection is asked for before the ask is logged.
+        ensures first { OnErr result ((C.made self.new.connect ≡ C.made self.old.connect) ⊎ (self.new.asks ≡ self.old.asks ++ ask.Page at.now ∷ [])) }
         ensures robots { self.new.robots ≡ self.old.robots }
         // One connection is asked for, and the answer is what came over it.
         ensures one { OnOk result (C.made self.new.connect ≡ counted (C.made self.old.connect) 1) }
@@ -333,6 +335,8 @@ impl<C: Connect> Fetcher for HttpFetcher<C> {
     fn ask_robots(&mut self, of: &Origin) -> Result<RuleSet, AllocError>
         ensures asked { OnOk result (self.new.asks ≡ self.old.asks ++ ask.Rules of.now ∷ []) }
         ensures refused { OnErr result (GainedAtMost self.old.asks self.new.asks (ask.Rules of.now)) }
+        // No connection is asked for before the ask is logged.
+        ensures first { OnErr result ((C.made self.new.connect ≡ C.made self.old.connect) ⊎ (self.new.asks ≡ self.old.asks ++ ask.Rules of.now ∷ [])) }
         ensures robots { self.new.robots ≡ self.old.robots }
         // The rules are those at the end of the chain of redirects that begins at the origin's file.
         ensures few { C.made self.new.connect ≤ C.made self.old.connect + (max_redirects + 1) }
