@@ -1,11 +1,16 @@
 //! The lock round a frontier.
-ghost use Rattle.std.specs.Prelude.{◌≡◌, OnOk, OnErr, IfOk, IfErr};
+ghost use Rattle.std.specs.Prelude.{◌≡◌, false, length, OnOk, OnErr, IfOk, IfErr};
+ghost use Rattle.frontier_core.specs.Machine.{Action};
+ghost use Rattle.frontier_core.specs.Traced.{Traced, Makes};
+ghost use Rattle.frontier_core.specs.Waits.{ends_waits};
 ghost use Rattle.frontier_lock.specs.Permits.{IsFor};
 ghost use Rattle.frontier_lock.specs.Steps.{Records, GivesUp};
+ghost use Rattle.frontier_lock.specs.Waits.{IsSleptAt, MakesAtMostOne, IsMadeBy, IsOneStep};
 
 use fetcher::Outcome;
 use frontier_core::{
-    AnswerFault, Cause, Frontier, OriginPermit, Permit, Rejected, RejectedRules, SpreadFault, Work,
+    AnswerFault, Cause, Event, Frontier, OriginPermit, Permit, Rejected, RejectedRules,
+    SpreadFault, Work,
 };
 use robots_rules::RuleSet;
 use std::alloc::AllocError;
@@ -45,8 +50,27 @@ pub struct FrontierLock {
     waiting: AtomicUsize,
 }
 
+// Takes work for the worker. Where somebody may be asleep nothing changes, so that nobody has to be woken.
+fn take(core: &mut Frontier, worker: u32) -> Result<Work, AllocError>
+    ensures work { IfOk result (IsFor worker) }
+    ensures one { MakesAtMostOne core.old core.new }
+    ensures still { IsSleptAt core.old → core.new ≡ core.old }
+{
+    core.take(worker)
+}
+
+// Offers the edges of one due address. Where somebody may be asleep nothing is due, and nothing changes.
+#[tactic(auto, using(crate::proofs::Waits::spread_one, crate::proofs::Waits::spread_still))]
+fn offer(core: &mut Frontier) -> Result<(), SpreadFault>
+    ensures one { MakesAtMostOne core.old core.new }
+    ensures still { IsSleptAt core.old → core.new ≡ core.old }
+{
+    core.spread()
+}
+
 // Hands an answer over.
 fn hand_over(core: &mut Frontier, done: Done) -> Result<(), Refused>
+    ensures one { MakesAtMostOne core.old core.new }
     ensures recorded { OnOk result (Records core.old done core.new) }
     ensures same { OnErr result (core.new ≡ core.old) }
     ensures back { IfErr result (λ refused. refused.done ≡ done) }
@@ -86,13 +110,45 @@ fn hand_over(core: &mut Frontier, done: Done) -> Result<(), Refused>
 
 // Gives a permit up where there is one, and stops.
 fn give_up(core: &mut Frontier, held: Option<Held>, cause: Cause)
-    ensures { GivesUp core.old held cause core.new }
+    ensures one { MakesAtMostOne core.old core.new }
+    ensures given { GivesUp core.old held cause core.new }
 {
     match held {
         None => core.stop(cause),
         Some(Held::Page(permit)) => core.abandon(permit, cause),
         Some(Held::Rules(permit)) => core.abandon_robots(permit, cause),
     }
+}
+
+// Whether the step that the frontier made, when it had so many lines, is one that can end a wait.
+fn can_end_waits(core: &Frontier, lines: usize) -> bool
+    ensures { (old : Traced) (action : Action) → length old.trace ≡ lines → Makes old action core.now → result ≡ ends_waits action }
+{
+    matches!(
+        core.trace().get(lines),
+        Some(
+            Event::Answer(_, _)
+                | Event::Ruled(_, _)
+                | Event::Abandon(_, _)
+                | Event::AbandonRules(_, _)
+                | Event::Stop(_)
+        )
+    )
+}
+
+// Makes a step of the frontier, and says whether all who sleep are to be woken: where it is one that can end a wait. Where
+// somebody may be asleep and it says no, nothing changed.
+fn make<A, T, S: FnOnce(&mut Frontier, A) -> T>(core: &mut Frontier, step: S, told: A) -> (T, bool)
+    requires call { S.IsAlwaysCallable step }
+    requires one { IsOneStep S.FnOnce step told }
+    ensures made { IsMadeBy S.FnOnce step told core.old result.0 core.new }
+    ensures exact { (action : Action) → Makes core.old action core.new → result.1 ≡ ends_waits action }
+    ensures woken { IsSleptAt core.old → result.1 ≡ false → core.new ≡ core.old }
+{
+    let lines = core.trace().len();
+    let answer = step(core, told);
+    let wakes = can_end_waits(core, lines);
+    (answer, wakes)
 }
 
 impl FrontierLock {
@@ -109,20 +165,25 @@ impl FrontierLock {
     pub fn next<R: Wait>(&self, rt: &R, worker: u32) -> Result<Work, AllocError>
         ensures { IfOk result (IsFor worker) }
     {
-        let mut core = self.core.lock(rt);
-        let work = core.take(worker);
-        self.note_waiting(&core);
-        work
+        self.step(
+            rt,
+            |core, worker| {
+                let work = take(core, worker);
+                self.note_waiting(core);
+                work
+            },
+            worker,
+        )
     }
 
-    /// As [`FrontierLock::next`], but where others are at work it sleeps until one of them changed the frontier. It answers
-    /// Busy under the same lock under which it goes to sleep.
+    /// As [`FrontierLock::next`], but where others are at work it sleeps until one of them made a step that can end its
+    /// wait. It answers Busy under the same lock under which it goes to sleep.
     pub fn next_or_wait<R: Wait>(&self, rt: &R, worker: u32) -> Result<Work, AllocError>
         ensures { IfOk result (IsFor worker) }
     {
         let mut core = self.core.lock(rt);
         for _ in rt.forever() {
-            match core.take(worker) {
+            match take(&mut core, worker) {
                 Ok(Work::Busy) => core = self.moved.wait(rt, core),
                 other => {
                     self.note_waiting(&core);
@@ -135,9 +196,7 @@ impl FrontierLock {
 
     /// Offers the edges of one due address, as `Frontier::spread` does.
     pub fn spread<R: Wait>(&self, rt: &R) -> Result<(), SpreadFault> {
-        let spread = self.core.lock(rt).spread();
-        self.moved.notify_all();
-        spread
+        self.step(rt, |core, ()| offer(core), ())
     }
 
     /// Hands an answer over, as `Frontier::answer` and `Frontier::robots_answer` do. Where it isn't taken, which is where the
@@ -146,16 +205,31 @@ impl FrontierLock {
         ensures back { IfErr result (λ refused. refused.done ≡ done) }
         ensures stray { IfErr result (λ refused. refused.fault ≡ AnswerFault.Stray) }
     {
-        let given = hand_over(&mut self.core.lock(rt), done);
-        self.moved.notify_all();
-        given
+        self.step(rt, |core, done| hand_over(core, done), done)
     }
 
     /// Gives up the permit where there is one, as `Frontier::abandon` and `Frontier::abandon_robots` do, and stops the
     /// frontier where nothing stopped it yet. Takes no memory.
     pub fn halt<R: Wait>(&self, rt: &R, held: Option<Held>, cause: Cause) {
-        give_up(&mut self.core.lock(rt), held, cause);
-        self.moved.notify_all();
+        self.step(
+            rt,
+            |core, (held, cause)| give_up(core, held, cause),
+            (held, cause),
+        )
+    }
+
+    // Makes one locked step, and wakes all who sleep, with the lock free again, where it says so. Whom this wakes no clause
+    // can say.
+    fn step<R: Wait, A, T, S: FnOnce(&mut Frontier, A) -> T>(&self, rt: &R, step: S, told: A) -> T
+        requires call { S.IsAlwaysCallable step }
+        requires one { IsOneStep S.FnOnce step told }
+        ensures { (old : Traced) × (new : Traced) × IsMadeBy S.FnOnce step told old result new }
+    {
+        let (answer, wakes) = make(&mut self.core.lock(rt), step, told);
+        if wakes {
+            self.moved.notify_all();
+        }
+        answer
     }
 
     // Notes how many addresses wait.

@@ -1,0 +1,28 @@
+-- Where a worker may be asleep, and that what is called makes at most one step.
+use Rattle.std.specs.Prelude.{◌≡◌, ℕ}
+use Rattle.std.specs.Borrow.{MutBor}
+use Rattle.std.specs.Fn.{Once}
+use Rattle.frontier_core.specs.Machine.{Action}
+use Rattle.frontier_core.specs.Traced.{Traced, Makes}
+use Rattle.frontier_core.specs.Taken.{Takes}
+use Rattle.frontier_core.specs.declared.work.Work.TheVariants.{Busy}
+
+-- a worker that asked would be told that others are at work, upon which it sleeps
+abbrev pub IsSleptAt : Traced → Type 0
+IsSleptAt frontier = (worker : ℕ) × Takes frontier worker Busy frontier
+
+-- where no step of the frontier was made, nothing changed
+pub record MakesAtMostOne (old new : Traced) : Type 0 where
+  pub same : ((action : Action) → ¬ Makes old action new) → new ≡ old
+
+-- a call at the frontier old and at what it is told may give this answer, and leave the frontier new
+pub record IsMadeBy {F A R : Type 0} (g : Once F (MutBor Traced × (A × Unit {0})) (R × (MutBor Traced × Unit {0}))) (f : F) (told : A) (old : Traced) (answer : R) (new : Traced) : Type 0 where
+  pub shown : MutBor Traced
+  pub shows : shown.now ≡ old
+  pub left : MutBor Traced
+  pub met : g.post f (shown, (told, tt)) (answer, (left, tt))
+  pub leaves : left.now ≡ new
+
+-- each call makes at most one step
+abbrev pub IsOneStep : {F A R : Type 0} → Once F (MutBor Traced × (A × Unit {0})) (R × (MutBor Traced × Unit {0})) → F → A → Type 0
+IsOneStep {F} {A} {R} g f told = (shown left : MutBor Traced) (answer : R) → g.post f (shown, (told, tt)) (answer, (left, tt)) → MakesAtMostOne shown.now left.now
