@@ -92,6 +92,19 @@ robots on
 > 1 connect http://h/a
 > 1 404 http://h/b
 
+all that is found is refused by robots rules, which come last
+hops 5
+most 100
+robots on
+< robots http://h/
+< disallow /
+< page 200 http://h/
+< link http://h/a
+< link http://h/b
+> 0 - http://h/
+> 1 rob http://h/a
+> 1 rob http://h/b
+
 one page
 hops 0
 most 1
@@ -317,6 +330,62 @@ fn workers_are_told_how_many_addresses_wait(rt: HostRuntime) {
     assert!(rt; most_waiting(&rt, rt.alloc(), 1) == 4);
     let most = most_waiting(&rt, rt.alloc(), 2);
     assert!(rt; most == 3 || most == 4);
+}
+
+/// A site that finds memory for the start alone.
+#[derive(Drop)]
+struct Poor {
+    site: MapSite,
+}
+
+impl Fetcher for Poor {
+    ghost use Rattle.site_maps.specs.Maps.{says_of};
+    ghost use Rattle.fetcher.specs.Sites.{SiteAnswers, GivesOutcome, GivesRules};
+
+    ghost Site = { SiteAnswers };
+
+    ghost site = { λ s. says_of s.site.answers s.site.rules };
+
+    ghost says = { GivesOutcome };
+
+    ghost rules = { GivesRules };
+
+    ghost log = { λ s. s.site.asks };
+
+    fn ask(&mut self, at: &Address) -> Result<Answer, AllocError> {
+        if at.path_query() != "/" {
+            return Err(AllocError);
+        }
+        self.site.ask(at)
+    }
+
+    fn ask_robots(&mut self, of: &Origin) -> Result<RuleSet, AllocError> {
+        self.site.ask_robots(of)
+    }
+
+    fn asks(&self) -> &[Ask] {
+        self.site.asks()
+    }
+}
+
+/// Whether so many workers that find no memory for a second page stop for that, and keep the first.
+fn stop_for_memory<R: Abort + Threads + Wait + Sync>(rt: &R, alloc: Global, workers: u8) -> bool {
+    let map = text_of(rt, alloc, STAR, "< ");
+    let mut sites = Vec::new(alloc);
+    for _ in 0..workers {
+        let site = MapSite::read(alloc, map.as_bytes()).expect(rt, "a map");
+        sites.push(Poor { site }).expect(rt, "memory");
+    }
+    let plan = plan_of(rt, alloc, STAR);
+    let (seen, sites) = retrieved(rt, alloc, &plan, sites);
+    seen.end == "memory" && seen.pages == 1 && seen.entries == 6 && sites.len() == usize::from(workers)
+}
+
+#[test]
+fn want_of_memory_stops_all_workers(rt: HostRuntime) {
+    for workers in [1, 2, 8] {
+        assert!(rt; stop_for_memory(&rt, rt.alloc(), workers), "{workers}");
+    }
 }
 
 /// Answers a page other than the start only once as many are being asked for as there are links.

@@ -207,6 +207,54 @@ fn woken<R: Abort + Threads + Wait + Sync>(rt: &R, alloc: Global, answer: Option
     told
 }
 
+/// What a worker is told that waits beside another.
+fn wait_among<R: Abort + Wait>(rt: &R, lock: &FrontierLock, progress: &AtomicU64) -> Told {
+    wait_for(progress, HELD);
+    progress.fetch_add(1, Ordering::SeqCst);
+    let work = lock.next_or_wait(rt, 1).expect(rt, "memory");
+    tell(rt, lock, work)
+}
+
+/// Lets other threads run until so many steps are made.
+fn wait_for(progress: &AtomicU64, reached: u64) {
+    for _ in 0..1_000_000u32 {
+        if progress.load(Ordering::SeqCst) >= reached {
+            return;
+        }
+        thread::yield_now();
+    }
+}
+
+/// Has worker 0 give its page up a while after two others asked for work.
+fn give_up_among<R: Abort + Wait>(rt: &R, lock: &FrontierLock, progress: &AtomicU64) {
+    let permit = page_permit(rt, lock, 0);
+    progress.store(HELD, Ordering::SeqCst);
+    wait_for(progress, HELD + 2);
+    for _ in 0..1_000u32 {
+        thread::yield_now();
+    }
+    lock.halt(rt, Some(Held::Page(permit)), Cause::Memory);
+}
+
+#[test]
+fn a_halt_wakes_all_that_sleep(rt: HostRuntime) {
+    let lock = locked(&rt, rt.alloc());
+    let progress = AtomicU64::new(0);
+    let ((one, other), ()) = thread::join(
+        &rt,
+        || {
+            thread::join(
+                &rt,
+                || wait_among(&rt, &lock, &progress),
+                || wait_among(&rt, &lock, &progress),
+            )
+        },
+        || give_up_among(&rt, &lock, &progress),
+    );
+    assert!(rt; one == Told::Stopped(Cause::Memory));
+    assert!(rt; other == Told::Stopped(Cause::Memory));
+}
+
 #[test]
 fn a_worker_sleeps_until_another_is_done(rt: HostRuntime) {
     let alloc = rt.alloc();
