@@ -47,6 +47,7 @@ moved plan start limit max_urls per_host facts = record {
   accept = plan.accept;
   reject = plan.reject;
   robots = plan.robots;
+  page_requisites = plan.page_requisites;
   max_urls = max_urls;
   per_host = per_host;
   starts_at_page = facts.0;
@@ -71,8 +72,8 @@ moved_equal a start limit max_urls per_host facts e1 e2 e3 e4 =
     subst (λ p. P start limit max_urls p) e4 three facts
 
 -- the plan with other filters
-abbrev filtered : Plan → (span_hosts no_parent : Bool) (domains exclude_domains include_dirs exclude_dirs accept reject : List (List ℕ)) (robots : Bool) → Plan
-filtered plan span_hosts no_parent domains exclude_domains include_dirs exclude_dirs accept reject robots = record {
+abbrev filtered : Plan → (span_hosts no_parent : Bool) (domains exclude_domains include_dirs exclude_dirs accept reject : List (List ℕ)) (robots page_requisites : Bool) → Plan
+filtered plan span_hosts no_parent domains exclude_domains include_dirs exclude_dirs accept reject robots page_requisites = record {
   start = plan.start;
   limit = plan.limit;
   span_hosts = span_hosts;
@@ -84,6 +85,7 @@ filtered plan span_hosts no_parent domains exclude_domains include_dirs exclude_
   accept = accept;
   reject = reject;
   robots = robots;
+  page_requisites = page_requisites;
   max_urls = plan.max_urls;
   per_host = plan.per_host;
   starts_at_page = plan.starts_at_page;
@@ -99,7 +101,8 @@ abbrev pub EqualBounds : Plan → Plan → Type 0
 EqualBounds a b = (((a.start ≡ b.start) × (a.limit ≡ b.limit)) × (a.max_urls ≡ b.max_urls)) × (a.per_host ≡ b.per_host)
 
 abbrev pub EqualFlags : Plan → Plan → Type 0
-EqualFlags a b = ((a.span_hosts ≡ b.span_hosts) × (a.no_parent ≡ b.no_parent)) × (a.robots ≡ b.robots)
+EqualFlags a b =
+    (((a.span_hosts ≡ b.span_hosts) × (a.no_parent ≡ b.no_parent)) × (a.robots ≡ b.robots)) × (a.page_requisites ≡ b.page_requisites)
 
 abbrev pub EqualLists : Plan → Plan → Type 0
 EqualLists a b =
@@ -110,15 +113,16 @@ pub plan_equal : (a b : Plan) → EqualBounds a b → EqualFlags a b → EqualLi
 unfolding facts_of
 plan_equal a b bounds flags lists =
     moved_equal a b.start b.limit b.max_urls b.per_host (facts_of b) bounds.0.0.0 bounds.0.0.1 bounds.0.1 bounds.1
-    ∙ ap (λ x. filtered b x a.no_parent a.domains a.exclude_domains a.include_dirs a.exclude_dirs a.accept a.reject a.robots) flags.0.0
-    ∙ ap (λ x. filtered b b.span_hosts x a.domains a.exclude_domains a.include_dirs a.exclude_dirs a.accept a.reject a.robots) flags.0.1
-    ∙ ap (λ x. filtered b b.span_hosts b.no_parent x a.exclude_domains a.include_dirs a.exclude_dirs a.accept a.reject a.robots) lists.0.0.0.0.0
-    ∙ ap (λ x. filtered b b.span_hosts b.no_parent b.domains x a.include_dirs a.exclude_dirs a.accept a.reject a.robots) lists.0.0.0.0.1
-    ∙ ap (λ x. filtered b b.span_hosts b.no_parent b.domains b.exclude_domains x a.exclude_dirs a.accept a.reject a.robots) lists.0.0.0.1
-    ∙ ap (λ x. filtered b b.span_hosts b.no_parent b.domains b.exclude_domains b.include_dirs x a.accept a.reject a.robots) lists.0.0.1
-    ∙ ap (λ x. filtered b b.span_hosts b.no_parent b.domains b.exclude_domains b.include_dirs b.exclude_dirs x a.reject a.robots) lists.0.1
-    ∙ ap (λ x. filtered b b.span_hosts b.no_parent b.domains b.exclude_domains b.include_dirs b.exclude_dirs b.accept x a.robots) lists.1
-    ∙ ap (λ x. filtered b b.span_hosts b.no_parent b.domains b.exclude_domains b.include_dirs b.exclude_dirs b.accept b.reject x) flags.1
+    ∙ ap (λ x. filtered b x a.no_parent a.domains a.exclude_domains a.include_dirs a.exclude_dirs a.accept a.reject a.robots a.page_requisites) flags.0.0.0
+    ∙ ap (λ x. filtered b b.span_hosts x a.domains a.exclude_domains a.include_dirs a.exclude_dirs a.accept a.reject a.robots a.page_requisites) flags.0.0.1
+    ∙ ap (λ x. filtered b b.span_hosts b.no_parent x a.exclude_domains a.include_dirs a.exclude_dirs a.accept a.reject a.robots a.page_requisites) lists.0.0.0.0.0
+    ∙ ap (λ x. filtered b b.span_hosts b.no_parent b.domains x a.include_dirs a.exclude_dirs a.accept a.reject a.robots a.page_requisites) lists.0.0.0.0.1
+    ∙ ap (λ x. filtered b b.span_hosts b.no_parent b.domains b.exclude_domains x a.exclude_dirs a.accept a.reject a.robots a.page_requisites) lists.0.0.0.1
+    ∙ ap (λ x. filtered b b.span_hosts b.no_parent b.domains b.exclude_domains b.include_dirs x a.accept a.reject a.robots a.page_requisites) lists.0.0.1
+    ∙ ap (λ x. filtered b b.span_hosts b.no_parent b.domains b.exclude_domains b.include_dirs b.exclude_dirs x a.reject a.robots a.page_requisites) lists.0.1
+    ∙ ap (λ x. filtered b b.span_hosts b.no_parent b.domains b.exclude_domains b.include_dirs b.exclude_dirs b.accept x a.robots a.page_requisites) lists.1
+    ∙ ap (λ x. filtered b b.span_hosts b.no_parent b.domains b.exclude_domains b.include_dirs b.exclude_dirs b.accept b.reject x a.page_requisites) flags.0.1
+    ∙ ap (λ x. filtered b b.span_hosts b.no_parent b.domains b.exclude_domains b.include_dirs b.exclude_dirs b.accept b.reject b.robots x) flags.1
 
 -- ---- the tests
 
@@ -127,7 +131,8 @@ bounds-Decides a b =
     Decides-and _ _ (Decides-and _ _ (Decides-and _ _ (bytes_eq-Decides a.start b.start) (is_same_limit-Decides a.limit b.limit)) (Decides-eqb a.max_urls b.max_urls)) (Decides-eqb a.per_host b.per_host)
 
 flags-Decides : (a b : Plan) → Decides (have_same_flags a b) (EqualFlags a b)
-flags-Decides a b = Decides-and _ _ (Decides-and _ _ (booleans_Decides a.span_hosts b.span_hosts) (booleans_Decides a.no_parent b.no_parent)) (booleans_Decides a.robots b.robots)
+flags-Decides a b =
+    Decides-and _ _ (Decides-and _ _ (Decides-and _ _ (booleans_Decides a.span_hosts b.span_hosts) (booleans_Decides a.no_parent b.no_parent)) (booleans_Decides a.robots b.robots)) (booleans_Decides a.page_requisites b.page_requisites)
 
 lists-same : (a b : Plan) → Decides (have_same_lists a b) (EqualLists a b)
 lists-same a b =
@@ -141,7 +146,7 @@ same_plans a b =
     (λ same. (
       (
         (((ap (λ p. p.start) same, ap (λ p. p.limit) same), ap (λ p. p.max_urls) same), ap (λ p. p.per_host) same),
-        ((ap (λ p. p.span_hosts) same, ap (λ p. p.no_parent) same), ap (λ p. p.robots) same),
+        (((ap (λ p. p.span_hosts) same, ap (λ p. p.no_parent) same), ap (λ p. p.robots) same), ap (λ p. p.page_requisites) same),
       ),
       (((((ap (λ p. p.domains) same, ap (λ p. p.exclude_domains) same), ap (λ p. p.include_dirs) same), ap (λ p. p.exclude_dirs) same), ap (λ p. p.accept) same), ap (λ p. p.reject) same),
     ))

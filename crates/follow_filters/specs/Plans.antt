@@ -6,7 +6,7 @@ use Rattle.follow_filters.specs.declared.plan.Plan.{Plan}
 use Rattle.follow_filters.specs.declared.limit.Limit.{Limit}
 use Rattle.follow_filters.specs.declared.limit.Limit.TheVariants.{AtMost, Unlimited}
 
--- the plan has no filters beyond the start's host, robots files aren't honoured, and two requests may be out to an origin
+-- the plan has no filters beyond the start's host, robots files aren't honoured, nothing lies beyond the limit, and two requests may be out to an origin
 pub record IsUnfiltered (plan : Plan) : Type 0 where
   pub span_hosts : plan.span_hosts ≡ false
   pub no_parent : plan.no_parent ≡ false
@@ -17,6 +17,7 @@ pub record IsUnfiltered (plan : Plan) : Type 0 where
   pub accept : plan.accept ≡ []
   pub reject : plan.reject ≡ []
   pub robots : plan.robots ≡ false
+  pub page_requisites : plan.page_requisites ≡ false
   pub per_host : plan.per_host ≡ 2
 
 -- ---- whether plans are equal, as tests
@@ -34,7 +35,8 @@ have_same_bounds a b =
 
 -- the plans have the same flags
 abbrev pub have_same_flags : Plan → Plan → Bool
-have_same_flags a b = beq a.span_hosts b.span_hosts && beq a.no_parent b.no_parent && beq a.robots b.robots
+have_same_flags a b =
+    beq a.span_hosts b.span_hosts && beq a.no_parent b.no_parent && beq a.robots b.robots && beq a.page_requisites b.page_requisites
 
 -- the plans have the same lists
 abbrev pub have_same_lists : Plan → Plan → Bool

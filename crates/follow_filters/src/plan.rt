@@ -43,6 +43,8 @@ pub struct Plan {
     pub reject: Elements<Pattern>,
     /// Whether robots files are honoured.
     pub robots: bool,
+    /// Whether what a page shows within itself may lie one hop beyond the limit, and so may where that redirects.
+    pub page_requisites: bool,
     /// How many addresses may be held, 1 to 1,000,000.
     pub max_urls: u32,
     /// How many requests may be out to one origin at a time, 1 to 16; its robots file counts.

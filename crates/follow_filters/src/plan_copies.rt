@@ -14,7 +14,7 @@ impl Plan {
     ghost use Rattle.follow_filters.specs.Plans.{IsUnfiltered, have_same_bounds, have_same_flags, have_same_lists, is_same_plan};
 
     /// A plan without filters: the start's host is followed but for its robots file, robots files
-    /// aren't honoured, and two requests may be out to an origin. Takes no memory.
+    /// aren't honoured, nothing lies beyond the limit, and two requests may be out to an origin. Takes no memory.
     pub fn unfiltered(alloc: Global, start: Address, limit: Limit, max_urls: u32) -> Plan
         requires page { is_robots_file start ≡ false }
         requires limit { is_in_range limit ≡ true }
@@ -37,6 +37,7 @@ impl Plan {
             accept: Elements::none(alloc),
             reject: Elements::none(alloc),
             robots: false,
+            page_requisites: false,
             max_urls,
             per_host: 2,
         }
@@ -58,6 +59,7 @@ impl Plan {
             accept: self.accept.clone()?,
             reject: self.reject.clone()?,
             robots: self.robots,
+            page_requisites: self.page_requisites,
             max_urls: self.max_urls,
             per_host: self.per_host,
         })
@@ -92,6 +94,7 @@ impl Plan {
         self.span_hosts == other.span_hosts
             && self.no_parent == other.no_parent
             && self.robots == other.robots
+            && self.page_requisites == other.page_requisites
     }
 
     fn has_same_lists(&self, other: &Plan) -> bool

@@ -60,8 +60,8 @@ unfolding order_of_rows
 bad-start found n l p d h why words counts level patterns directories domains fails = rw (words, counts, level, patterns, directories, domains) (fails.1 _)
 
 -- the order of these parts
-abbrev pub filled : Counts → (p d h : List (List ℕ) × List (List ℕ)) → (start : List ℕ) (limit : Limit) (span_hosts no_parent robots : Bool) (source : Source) (trace : Bool) (prefix : List ℕ) → Result Ordered LineFault
-filled n p d h start limit span_hosts no_parent robots source trace prefix = Ok (record {
+abbrev pub filled : Counts → (p d h : List (List ℕ) × List (List ℕ)) → (start : List ℕ) (limit : Limit) (span_hosts no_parent robots page_requisites : Bool) (source : Source) (trace : Bool) (prefix : List ℕ) → Result Ordered LineFault
+filled n p d h start limit span_hosts no_parent robots page_requisites source trace prefix = Ok (record {
   start = start;
   limit = limit;
   span_hosts = span_hosts;
@@ -73,28 +73,32 @@ filled n p d h start limit span_hosts no_parent robots source trace prefix = Ok 
   accept = p.0;
   reject = p.1;
   robots = robots;
+  page_requisites = page_requisites;
   max_urls = n.max_urls;
   per_host = n.per_host;
   workers = n.workers;
   source = source;
   trace = trace;
   prefix = prefix;
+  resume = None;
+  save = None;
 })
 
-pub good-order : (found : List Row) (n : Counts) (l : Limit) (p d h : List (List ℕ) × List (List ℕ)) (start : List ℕ) → are_good found ≡ true → counts_of found ≡ Some n → level_of found ≡ Some l → patterns_of found ≡ Some p → directories_of found ≡ Some d → domains_of found ≡ Some h → StartsAt found start → order_of_rows found ≡ filled n p d h start (limit_within l found) (is_set (codes "span-hosts") found) (has_no_parent found) (honours_robots found) (source_of found) (is_set (codes "trace") found) (prefix_of found)
+pub good-order : (found : List Row) (n : Counts) (l : Limit) (p d h : List (List ℕ) × List (List ℕ)) (start : List ℕ) → are_good found ≡ true → counts_of found ≡ Some n → level_of found ≡ Some l → patterns_of found ≡ Some p → directories_of found ≡ Some d → domains_of found ≡ Some h → StartsAt found start → order_of_rows found ≡ filled n p d h start (limit_within l found) (is_set (codes "span-hosts") found) (has_no_parent found) (honours_robots found) (is_set (codes "page-requisites") found) (source_of found) (is_set (codes "trace") found) (prefix_of found)
 unfolding order_of_rows
 good-order found n l p d h start words counts level patterns directories domains starts = rw (words, counts, level, patterns, directories, domains) (starts _)
 
 -- parts that are equal fill equal orders
-pub filled-same : (n : Counts) (p d h : List (List ℕ) × List (List ℕ)) (start : List ℕ) (l l' : Limit) (s s' np np' r r' : Bool) (src src' : Source) (t t' : Bool) (x x' : List ℕ) → l' ≡ l → s' ≡ s → np' ≡ np → r' ≡ r → src' ≡ src → t' ≡ t → x' ≡ x → filled n p d h start l s np r src t x ≡ filled n p d h start l' s' np' r' src' t' x'
-filled-same n p d h start l l' s s' np np' r r' src src' t t' x x' e1 e2 e3 e4 e5 e6 e7 =
-    ap (λ v. filled n p d h start v s np r src t x) (sym e1)
-    ∙ ap (λ v. filled n p d h start l' v np r src t x) (sym e2)
-    ∙ ap (λ v. filled n p d h start l' s' v r src t x) (sym e3)
-    ∙ ap (λ v. filled n p d h start l' s' np' v src t x) (sym e4)
-    ∙ ap (λ v. filled n p d h start l' s' np' r' v t x) (sym e5)
-    ∙ ap (λ v. filled n p d h start l' s' np' r' src' v x) (sym e6)
-    ∙ ap (λ v. filled n p d h start l' s' np' r' src' t' v) (sym e7)
+pub filled-same : (n : Counts) (p d h : List (List ℕ) × List (List ℕ)) (start : List ℕ) (l l' : Limit) (s s' np np' r r' q q' : Bool) (src src' : Source) (t t' : Bool) (x x' : List ℕ) → l' ≡ l → s' ≡ s → np' ≡ np → r' ≡ r → q' ≡ q → src' ≡ src → t' ≡ t → x' ≡ x → filled n p d h start l s np r q src t x ≡ filled n p d h start l' s' np' r' q' src' t' x'
+filled-same n p d h start l l' s s' np np' r r' q q' src src' t t' x x' e1 e2 e3 e4 e5 e6 e7 e8 =
+    ap (λ v. filled n p d h start v s np r q src t x) (sym e1)
+    ∙ ap (λ v. filled n p d h start l' v np r q src t x) (sym e2)
+    ∙ ap (λ v. filled n p d h start l' s' v r q src t x) (sym e3)
+    ∙ ap (λ v. filled n p d h start l' s' np' v q src t x) (sym e4)
+    ∙ ap (λ v. filled n p d h start l' s' np' r' v src t x) (sym e5)
+    ∙ ap (λ v. filled n p d h start l' s' np' r' q' v t x) (sym e6)
+    ∙ ap (λ v. filled n p d h start l' s' np' r' q' src' v x) (sym e7)
+    ∙ ap (λ v. filled n p d h start l' s' np' r' q' src' t' v) (sym e8)
 
 -- ---- refused words
 

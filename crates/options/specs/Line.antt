@@ -44,8 +44,8 @@ no_options = on_top (λ s. record s { no_binary_name = true }) (new_app (codes "
 -- how far is followed
 abbrev pub recursion_rules : List Rule
 recursion_rules =
-    flag 114 (codes "recursive") ∷ option 108 (codes "level") ∷ short_option 110 (codes "n") ∷ long_flag (codes "no-parent")
-    ∷ flag 72 (codes "span-hosts") ∷ []
+    flag 114 (codes "recursive") ∷ option 108 (codes "level") ∷ flag 112 (codes "page-requisites") ∷ short_option 110 (codes "n")
+    ∷ long_flag (codes "no-parent") ∷ flag 72 (codes "span-hosts") ∷ []
 
 -- which hosts and directories are followed
 abbrev pub place_rules : List Rule

@@ -56,12 +56,15 @@ pub record Ordered : Type 0 where
   pub accept : List (List ℕ)
   pub reject : List (List ℕ)
   pub robots : Bool
+  pub page_requisites : Bool
   pub max_urls : ℕ
   pub per_host : ℕ
   pub workers : ℕ
   pub source : Source
   pub trace : Bool
   pub prefix : List ℕ
+  pub resume : Option Text
+  pub save : Option Text
 
 -- the value that was found, or the fault, and what follows from it
 abbrev pub found_or : {X Y : Type 0} → Option X → LineFault → (X → Result Y LineFault) → Result Y LineFault
@@ -162,12 +165,15 @@ order_of_rows found =
       accept = patterns.0;
       reject = patterns.1;
       robots = honours_robots found;
+      page_requisites = is_set (codes "page-requisites") found;
       max_urls = counts.max_urls;
       per_host = counts.per_host;
       workers = counts.workers;
       source = source_of found;
       trace = is_set (codes "trace") found;
       prefix = prefix_of found;
+      resume = None;
+      save = None;
     })))))))
 
 -- words with no kind of refusal are taken
@@ -195,12 +201,15 @@ said_by order = record {
   accept = order.plan.accept;
   reject = order.plan.reject;
   robots = order.plan.robots;
+  page_requisites = order.plan.page_requisites;
   max_urls = order.plan.max_urls;
   per_host = order.plan.per_host;
   workers = order.workers;
   source = order.source;
   trace = order.trace;
   prefix = order.prefix;
+  resume = order.resume;
+  save = order.save;
 }
 
 -- the fault, but for the kind of refused words

@@ -79,6 +79,7 @@ fn command<'a>(alloc: Global) -> Result<Command<'a>, AllocError>
     let args = vec![in alloc;
         flag(alloc, 'r', "recursive"),
         option(alloc, 'l', "level"),
+        flag(alloc, 'p', "page-requisites"),
         short_option(alloc, 'n', "n"),
         long_flag(alloc, "no-parent"),
         flag(alloc, 'H', "span-hosts"),

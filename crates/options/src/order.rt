@@ -53,6 +53,31 @@ impl Prefix {
     }
 }
 
+/// A file that an option names, as `site.record`.
+#[derive(Drop)]
+pub struct FilePath {
+    path: String,
+}
+
+// Contracts see the file as its path.
+impl Model for FilePath {
+    ghost use Rattle.std.specs.Prelude.{List, ℕ};
+    ghost use Rattle.std.specs.String.{string_bytes};
+
+    ghost Value = { List ℕ };
+
+    ghost view = { λ p. string_bytes p.path };
+}
+
+impl FilePath {
+    /// The path of the file, as it was given. Takes no memory.
+    pub fn as_str(&self) -> &str
+        ensures { result.now ≡ self.now }
+    {
+        self.path.as_str()
+    }
+}
+
 /// What to retrieve, from where, and what to do with it.
 #[derive(Drop)]
 pub struct Order {
@@ -66,6 +91,10 @@ pub struct Order {
     pub trace: bool,
     /// The folder below which files are put.
     pub prefix: Prefix,
+    /// The record whose answers aren't asked for again. No word names one yet.
+    pub resume: Option<FilePath>,
+    /// The record that is written of what was told. No word names one yet.
+    pub save: Option<FilePath>,
     pub ghost some_workers: { 0 < workers },
     pub ghost workers_in_range: { workers ≤ MAX_WORKERS },
 }

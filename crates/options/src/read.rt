@@ -280,6 +280,7 @@ fn order_of_matches(alloc: Global, matches: &ArgMatches) -> Result<Order, LineFa
             accept: names.given,
             reject: names.excluded,
             robots: honours_robots(matches),
+            page_requisites: is_set(matches, "page-requisites"),
             max_urls: counts.max_urls,
             per_host: counts.per_host,
         },
@@ -287,6 +288,8 @@ fn order_of_matches(alloc: Global, matches: &ArgMatches) -> Result<Order, LineFa
         source: source(matches),
         trace: is_set(matches, "trace"),
         prefix,
+        resume: None,
+        save: None,
     })
 }
 

@@ -85,6 +85,6 @@ returns c =
     good-order found (record { workers = c.in-Some-read_counts.counts.workers; per_host = c.in-Some-read_counts.counts.per_host; max_urls = c.in-Some-read_counts.counts.max_urls }) c.in-Some-level.level (c.in-Ok.names.given, c.in-Ok.names.excluded) (c.in-Ok-read_lists.places.given, c.in-Ok-read_lists.places.excluded) (c.in-Ok-read_lists-2.hosts.given, c.in-Ok-read_lists-2.hosts.excluded) c.in-Ok-start.page words counts level patterns directories domains c.in-Ok-start.ensures.0
     ∙ filled-same (record { workers = c.in-Some-read_counts.counts.workers; per_host = c.in-Some-read_counts.counts.per_host; max_urls = c.in-Some-read_counts.counts.max_urls }) (c.in-Ok.names.given, c.in-Ok.names.excluded) (c.in-Ok-read_lists.places.given, c.in-Ok-read_lists.places.excluded) (c.in-Ok-read_lists-2.hosts.given, c.in-Ok-read_lists-2.hosts.excluded) c.in-Ok-start.page
     (limit_within c.in-Some-level.level found) c.limit_within.result (is_set (codes "span-hosts") found) c.is_set.result (has_no_parent found) c.has_no_parent.result
-    (honours_robots found) c.honours_robots.result (source_of found) c.source.result (is_set (codes "trace") found) c.is_set-2.result
+    (honours_robots found) c.honours_robots.result (is_set (codes "page-requisites") found) c.is_set-2.result (source_of found) c.source.result (is_set (codes "trace") found) c.is_set-3.result
     (prefix_of found) c.in-Ok-prefix.prefix
-    c.limit_within.ensures.value c.is_set.ensures c.has_no_parent.ensures c.honours_robots.ensures c.source.ensures c.is_set-2.ensures c.in-Ok-prefix.ensures
+    c.limit_within.ensures.value c.is_set.ensures c.has_no_parent.ensures c.honours_robots.ensures c.is_set-2.ensures c.source.ensures c.is_set-3.ensures c.in-Ok-prefix.ensures
