@@ -177,14 +177,18 @@ page_is_entry robots at r after is given short small =
       form = (IsUtf8-from_ascii line (ascii_line line plain), (decimal n, three_fields (codes "page") at (decimal n) page_visible (address_visible at is) digits, length_is n small));
       is_named = subst (λ r. IsOk r) (sym is.reads) refl;
       at_root = tt;
-      states = (bytes, answer_of robots at r, has_bytes bytes after,
+      states = (
+        bytes,
+        answer_of robots at r,
+        has_bytes bytes after,
         inl (record {
           response = r;
           begins = ([], written_reads_back r given short);
           outcome = ap (λ a. digest_of robots a r) (sym same);
           body = refl;
         }),
-        ap (λ a. answered a (answer_of robots at r)) (sym same));
+        ap (λ a. answered a (answer_of robots at r)) (sym same),
+      );
     })
 
 -- ---- an entry of a fault
@@ -242,7 +246,7 @@ writings_front robots text above [] rest h front = subst (λ l. IsFront robots t
 writings_front robots text above (w ∷ ws) rest h front =
     let begins = subst (λ t. IsFront robots text above t) (append_assoc (writing_text w) (writings_text ws) rest) front in
     let longer = next above (writing_text w ++ (writings_text ws ++ rest)) (writing_entry robots w) (writings_text ws ++ rest) begins
-        (writing_is_entry robots w (writings_text ws ++ rest) h.0) h.1 in
+    (writing_is_entry robots w (writings_text ws ++ rest) h.0) h.1 in
     subst (λ l. IsFront robots text l rest) (append_assoc above (writing_entry robots w ∷ []) (map (writing_entry robots) ws))
     (writings_front robots text (above ++ writing_entry robots w ∷ []) ws rest h.2 longer)
 

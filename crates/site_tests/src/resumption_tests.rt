@@ -81,7 +81,9 @@ fn what_is_told_is_noted_in_order(rt: HostRuntime) {
     let alloc = rt.alloc();
     let answers = site_of(&rt, alloc, SITE);
     let connect = MemoryConnect::new(alloc, &answers, &[]);
-    assert!(rt; noted_by(&rt, alloc, HttpFetcher::recording(alloc, connect, true)).as_str() == NOTES);
+    assert!(rt;
+        noted_by(&rt, alloc, HttpFetcher::recording(alloc, connect, true)).as_str() == NOTES
+    );
     let connect = MemoryConnect::new(alloc, &answers, &[]);
     assert!(rt; noted_by(&rt, alloc, HttpFetcher::new(alloc, connect, true)).is_empty());
 }
@@ -97,7 +99,8 @@ fn response_of(rt: &impl Abort, alloc: Global, text: &str) -> Response {
 }
 
 // A response, `=>`, and the head with which it is written down, CR LF as `|`.
-const HEADS: &str = "HTTP/1.1 200 OK|Content-Type: text/html||<a href=b> => HTTP/1.1 200 |Content-Type: text/html|Content-Length: 10||
+const HEADS: &str =
+    "HTTP/1.1 200 OK|Content-Type: text/html||<a href=b> => HTTP/1.1 200 |Content-Type: text/html|Content-Length: 10||
 HTTP/1.0 404 X|Content-Length: 0|| => HTTP/1.1 404 |Content-Length: 0||
 HTTP/1.1 304 X|Content-Length: 7|| => HTTP/1.1 304 ||
 HTTP/1.1 204 X|| => HTTP/1.1 204 ||
@@ -121,11 +124,13 @@ fn a_response_is_written_with_a_length_and_without_a_coding(rt: HostRuntime) {
 }
 
 // A record of a page, of a lost connection, and of rules.
-const RECORD: &str = "wgetr-record 1~page http://h/ 54~HTTP/1.1 200 OK|Content-Type: text/html||<a href=b>~\
+const RECORD: &str =
+    "wgetr-record 1~page http://h/ 54~HTTP/1.1 200 OK|Content-Type: text/html||<a href=b>~\
 fault connect http://h/lost~rules none http://h/~";
 
 // What the record says, and what the site behind it.
-const RESUMED: &str = "http://h/ 10 Page(200, Edges { items: [Edge { target: \"http://h/b\", kind: Link }] })
+const RESUMED: &str =
+    "http://h/ 10 Page(200, Edges { items: [Edge { target: \"http://h/b\", kind: Link }] })
 http://h/lost 0 Fault(Connect)
 http://h/b 2 Leaf(203)
 http://h/c 0 Leaf(404)";
@@ -149,6 +154,10 @@ fn asks_for_the_rest<C: Connect>(rt: &impl Abort, alloc: Global, connect: C) -> 
 #[test]
 fn what_a_record_says_is_not_asked_for_again(rt: HostRuntime) {
     let alloc = rt.alloc();
-    let answers = site_of(&rt, alloc, "http://h/b HTTP/1.1 203 |Content-Type: a/b||ab\nhttp://h/lost HTTP/1.1 200 ||");
+    let answers = site_of(
+        &rt,
+        alloc,
+        "http://h/b HTTP/1.1 203 |Content-Type: a/b||ab\nhttp://h/lost HTTP/1.1 200 ||",
+    );
     assert!(rt; asks_for_the_rest(&rt, alloc, MemoryConnect::new(alloc, &answers, &[])));
 }

@@ -212,6 +212,10 @@ fn letters_of(rt: &impl Abort, alloc: Global, text: &str) -> String {
 fn no_parent_and_requisites_are_told_apart(rt: HostRuntime) {
     for row in LETTERS.lines() {
         let (expected, text) = row.split_once(" => ").unwrap_or((row, ""));
-        demand(&rt, letters_of(&rt, rt.alloc(), text).as_str() == expected, row);
+        demand(
+            &rt,
+            letters_of(&rt, rt.alloc(), text).as_str() == expected,
+            row,
+        );
     }
 }
