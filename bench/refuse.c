@@ -41,7 +41,7 @@ __attribute__((constructor)) static void begin(void)
     void *shared = MAP_FAILED;
 
     find_next();
-    if (file >= 0 && ftruncate(file, sizeof *told) == 0)
+    if (file >= 0 && posix_fallocate(file, 0, sizeof *told) == 0)
         shared = mmap(0, sizeof *told, PROT_READ | PROT_WRITE, MAP_SHARED, file, 0);
     if (file >= 0)
         close(file);
