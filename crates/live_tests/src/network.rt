@@ -15,7 +15,7 @@ pub const STAYS: u16 = 81;
 
 pub const SENDS: u16 = 82;
 
-/// The ports of servers whose connections break: at each read, and at each write.
+/// The ports of servers whose connections break: at each read, and at each write; the second sends all the same.
 pub const LOSES_READS: u16 = 83;
 
 pub const LOSES_WRITES: u16 = 84;
@@ -128,7 +128,7 @@ impl Read for FakeStream {
         self.log.reads.fetch_add(1, Ordering::SeqCst);
         match self.server.port() {
             STAYS => Err(io::Error::from(ErrorKind::WouldBlock)),
-            SENDS => Ok(buf.len()),
+            SENDS | LOSES_WRITES => Ok(buf.len()),
             LOSES_READS => Err(io::Error::from(ErrorKind::ConnectionReset)),
             _ => Ok(0),
         }

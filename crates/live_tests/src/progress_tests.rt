@@ -7,12 +7,12 @@ use response_reader::Wire;
 use site_answer::{Connect, ConnectFault, MemoryConnect};
 use std::alloc::Global;
 use std::fmt::{Display, Write as WriteText};
-use std::io;
 use std::io::Write;
 use std::process::Abort;
 use std::sync::atomic::{AtomicU64, Ordering};
 use std::sync::{Mutex, Wait};
 use std::time::{Clock, Duration};
+use std::{io, thread};
 use tcp_connect::{Hosts, TcpConnect};
 
 /// A terminal whose clock is set by the test, and what was written to it.
@@ -69,24 +69,26 @@ impl<R: Abort + Wait> Write for Screen<'_, R> {
     }
 
     fn flush(&mut self) -> io::Result<()> {
-        Ok(())
+        self.terminal.eprint(", flushed")
     }
 }
 
-/// When a connection ends, where it goes, and how many addresses wait then. What port 82 sends is 2,000 bytes in two pieces;
-/// connections to 83 break at a read, those to 84 at a write.
+/// When a connection ends, where it goes, and how many addresses wait then. What ports 82 and 84 send is 2,000 bytes in two
+/// pieces; connections to 83 break at a read, those to 84 at a write. Each is sent 1,000 bytes, which aren't counted.
 const ENDS: &[(u64, &str, usize)] = &[
     (1100, "http://two:82/", 4),
     (1300, "http://two:82/", 17),
     (1500, "http://none/", 16),
-    (1600, "http://two:82/", 0),
+    (1600, "http://two:82/", 1_000_000),
     (1900, "http://two:83/", 9),
     (2200, "http://two:84/", 0),
 ];
 
-/// What stands on the terminal behind these.
-const LINES: &str =
-    "\r2 answered, 17 waiting, 0 failed, 4 kB, 13 kB/s        \r3 answered, 0 waiting, 1 failed, 6 kB, 10 kB/s        \r3 answered, 9 waiting, 2 failed, 6 kB, 6 kB/s        \r3 answered, 0 waiting, 3 failed, 6 kB, 5 kB/s        ";
+/// The lines that a terminal shows behind these, one over the other.
+const LINES: &str = "2 answered, 17 waiting, 0 failed, 4 kB, 13 kB/s
+3 answered, 1000000 waiting, 1 failed, 6 kB, 10 kB/s
+3 answered, 9 waiting, 2 failed, 6 kB, 6 kB/s
+3 answered, 0 waiting, 3 failed, 8 kB, 6 kB/s";
 
 /// Makes these connections.
 fn run<R: Abort + Wait>(
@@ -102,7 +104,7 @@ fn run<R: Abort + Wait>(
         terminal.now.store(*at, Ordering::SeqCst);
         connect.tell_waiting(*waiting);
         if let Ok(mut wire) = connect.connect(&origin(rt, alloc, text)) {
-            let _ = wire.write(b"x");
+            let _ = wire.write(&[b'x'; 1000]);
             let _ = wire.read(&mut [0u8; 1200]);
             let _ = wire.read(&mut [0u8; 800]);
             connect.close(wire);
@@ -110,9 +112,14 @@ fn run<R: Abort + Wait>(
     }
 }
 
-/// What covers the line.
-fn blank(rt: &impl Abort, alloc: Global) -> String {
-    format!(in alloc; "\r{:79}\r", "").expect(rt, "memory")
+/// What stands on the terminal behind these: each line is covered before the next, and the last before this text.
+fn shown(rt: &impl Abort, alloc: Global, behind: &str) -> String {
+    let mut text = String::new(alloc);
+    for line in LINES.lines() {
+        write!(text, "\r{:79}\r{line}", "").expect(rt, "memory");
+    }
+    write!(text, "\r{:79}\r{behind}", "").expect(rt, "memory");
+    text
 }
 
 #[test]
@@ -124,9 +131,7 @@ fn one_line_counts_at_most_four_times_a_second(rt: HostRuntime) {
     run(&rt, alloc, &network, &terminal, &progress);
     progress.clear();
     progress.clear();
-    let text = terminal.text.lock(&rt);
-    let blank = blank(&rt, alloc);
-    assert!(rt; text.as_str().strip_prefix(LINES) == Some(blank.as_str()));
+    assert!(rt; *terminal.text.lock(&rt) == shown(&rt, alloc, ""));
 }
 
 #[test]
@@ -170,10 +175,75 @@ fn what_is_written_behind_the_line_covers_it_once(rt: HostRuntime) {
     let mut output = BehindLine::new(screen, &progress);
     output.write_all(b"first, ").expect(&rt, "a terminal");
     output.write_all(b"second").expect(&rt, "a terminal");
-    let wanted = format!(in alloc; "{LINES}{}first, second", blank(&rt, alloc)).expect(
-        &rt, "memory",
+    output.flush().expect(&rt, "a terminal");
+    assert!(rt; *terminal.text.lock(&rt) == shown(&rt, alloc, "first, second, flushed"));
+}
+
+/// A terminal with a clock by which two threads meet: each of their calls waits for one of the other, and both are told the same
+/// time, a second behind that of the calls before. It counts what is written to it.
+#[derive(Drop)]
+struct Meeting {
+    calls: AtomicU64,
+    lines: AtomicU64,
+}
+
+impl Clock for Meeting {
+    // The first call is that for the start, which waits for none.
+    fn monotonic(&self) -> io::Result<Duration> {
+        let round = self.calls.fetch_add(1, Ordering::SeqCst).div_ceil(2);
+        for _ in 0..1_000_000u32 {
+            if self.calls.load(Ordering::SeqCst) > round.saturating_mul(2) {
+                break;
+            }
+            thread::yield_now();
+        }
+        Ok(Duration::from_secs(round))
+    }
+
+    fn since_1970(&self) -> io::Result<Duration> {
+        self.monotonic()
+    }
+}
+
+impl Eprint for Meeting {
+    fn eprint<D: Display + Drop>(&self, _value: D) -> io::Result<()> {
+        self.lines.fetch_add(1, Ordering::SeqCst);
+        Ok(())
+    }
+
+    fn eprintln<D: Display + Drop>(&self, value: D) -> io::Result<()> {
+        self.eprint(value)
+    }
+}
+
+/// How often two workers end a connection at one time.
+const MEETINGS: u64 = 1000;
+
+/// Makes so many connections of a worker.
+fn work(rt: &impl Abort, alloc: Global, progress: &Progress<'_, Meeting>) {
+    let of = origin(rt, alloc, "http://h/");
+    let mut connect = Watched::new(MemoryConnect::new(alloc, &[], &[]), progress);
+    for _ in 0..MEETINGS {
+        let Ok(wire) = connect.connect(&of) else {
+            panic!(rt; "memory");
+        };
+        connect.close(wire);
+    }
+}
+
+#[test]
+fn two_workers_do_not_write_one_line_twice(rt: HostRuntime) {
+    let terminal = Meeting {
+        calls: AtomicU64::new(0),
+        lines: AtomicU64::new(0),
+    };
+    let progress = Progress::new(&terminal, true);
+    thread::join(
+        &rt,
+        || work(&rt, rt.alloc(), &progress),
+        || work(&rt, rt.alloc(), &progress),
     );
-    assert!(rt; *terminal.text.lock(&rt) == wanted);
+    assert_eq!(rt; terminal.lines.load(Ordering::SeqCst), MEETINGS);
 }
 
 /// Makes the connections of another, and notes how many addresses wait.

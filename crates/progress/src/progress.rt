@@ -70,7 +70,7 @@ impl<'a, R: Clock + Eprint> Progress<'a, R> {
                 .is_ok()
     }
 
-    // Writes the line over the one before. Blanks behind it cover a longer one. Where it can't be written, nobody sees it.
+    // Covers the line before, however long it was, and writes this one there. Where it can't be written, nobody sees it.
     fn show(&self, now: u64) {
         let answered = self.answered.load(Ordering::SeqCst);
         let failed = self.failed.load(Ordering::SeqCst);
@@ -78,7 +78,8 @@ impl<'a, R: Clock + Eprint> Progress<'a, R> {
         let kilobytes = self.bytes.load(Ordering::SeqCst) / 1000;
         let rate = kilobytes.saturating_mul(1000) / now.max(1);
         let _ = eprint!(self.rt;
-            "\r{answered} answered, {waiting} waiting, {failed} failed, {kilobytes} kB, {rate} kB/s        "
+            "\r{:79}\r{answered} answered, {waiting} waiting, {failed} failed, {kilobytes} kB, {rate} kB/s",
+            ""
         );
     }
 

@@ -10,10 +10,10 @@ use Rattle.options.specs.declared.fault.LineFault.TheVariants as line
 use Rattle.options.specs.declared.order.Order.{Order}
 use Rattle.options.specs.declared.order.Source.{Source}
 use Rattle.options.specs.declared.order.Source.TheVariants as source
-use Rattle.retriever.specs.Advice.{said_of, told_on}
+use Rattle.retriever.specs.Advice.{told_on}
 use Rattle.retriever.specs.Order.{IsRefused}
 use Rattle.retriever.specs.Parts.{IsRefusal}
-use Rattle.retriever.specs.Program.{IsTold, Starts}
+use Rattle.retriever.specs.Program.{IsExplained, IsTold, Starts}
 use Rattle.retriever.specs.Run.{Failed, Runs}
 use Rattle.retriever.specs.Streams.{AppendsFront}
 use Rattle.retriever.specs.declared.fault.Fault.{Fault}
@@ -60,13 +60,21 @@ pub runs_memory : (words : List (List ℕ)) (known old new : Option (List ℕ)) 
 runs_memory words known old new status (inl told) = record { ending = Failed fault.Memory; ends = ends_memory words known; written = told }
 runs_memory words known old new status (inr told) = record { ending = Failed fault.Memory; ends = ends_memory words known; written = told }
 
-pub told_memory : (words : List (List ℕ)) (contents : Option (List ℕ)) → IsTold words contents contents
-told_memory words contents = (fault.Line line.Memory, inr refl, nothing_of contents [])
+pub told_memory : {E : Type 0} (words : List (List ℕ)) (before after : Option (List ℕ)) (errors : E) (told : Option (List ℕ)) (status : ℕ) → IsRefusal before after fault.Memory status
+    → IsTold words before after errors errors told told status
+told_memory words before after errors told status (inl delivered) = (fault.Line line.Memory, inr refl, inr (delivered, refl))
+told_memory words before after errors told status (inr delivered) = (fault.Line line.Memory, inr refl, inr (delivered, refl))
 
 -- the line of a fault of the words is a run's
 runs_refused : (words : List (List ℕ)) (known old new : Option (List ℕ)) (status : ℕ) (wrong : Fault) → IsRefused words wrong → IsRefusal old new wrong status → Runs words known old new status
 runs_refused words known old new status wrong refused (inl told) = record { ending = Failed wrong; ends = ends_refused words known wrong refused; written = told }
 runs_refused words known old new status wrong refused (inr told) = runs_memory words known old new status (inr told)
+
+-- words whose fault is explained are refused
+refusal_of : {E : Type 0} (words : List (List ℕ)) (wrong : Fault) (before after : Option (List ℕ)) (errors_old errors_new : E) (told_before told_after : Option (List ℕ)) (status : ℕ)
+    → IsExplained words wrong before after errors_old errors_new told_before told_after status → IsRefusal before after wrong status
+refusal_of words wrong before after errors_old errors_new told_before told_after status (inl told) = inl told.0
+refusal_of words wrong before after errors_old errors_new told_before told_after status (inr told) = inr told.0
 
 -- ---- the program
 
@@ -78,7 +86,7 @@ module _ {R E : Type 0} (Lives : List (List ℕ) → Type 0) (remaining before a
     runs = λ not. runs_memory words remaining before after status refusal;
     lives = λ live. lives;
     unread = λ no. refl;
-    told = λ no none. told_memory words told;
+    told = λ no none. told_memory words before after errors told status refusal;
     quiet = λ either. refl;
   }
 
@@ -106,21 +114,22 @@ module _ {R E : Type 0} (Lives : List (List ℕ) → Type 0) (remaining before a
 
   -- words that order nothing, or for which there is no memory
   pub starts_wrong : (reader : R) (errors_old errors_new : E) (told_before told_after : Option (List ℕ)) (words : List (List ℕ)) (wrong : LineFault) → IsRefused words (fault.Line wrong)
-      → (IsRefusal before after fault.Memory status → Lives words) → IsRefusal before after (fault.Line wrong) status → AppendsFront told_before told_after (said_of words (fault.Line wrong))
+      → (IsRefusal before after fault.Memory status → Lives words) → IsExplained words (fault.Line wrong) before after errors_old errors_new told_before told_after status
       → (told_on (fault.Line wrong) ≡ None → errors_new ≡ errors_old)
       → Starts Lives remaining before after reader reader errors_old errors_new told_before told_after status words
-  starts_wrong reader errors_old errors_new told_before told_after words wrong refused lives refusal told quiet = record {
-    runs = λ not. runs_refused words remaining before after status (fault.Line wrong) refused refusal;
-    lives = λ live.
-        let (ordered, says, is) = live in
-        lives (subst (λ (w : LineFault). IsRefusal before after (fault.Line w) status) (only_memory words ordered wrong says refused) refusal);
-    unread = λ no. refl;
-    told = λ no none. (fault.Line wrong, refused, told);
-    quiet = λ either. elim either [
-      | inl input ↦ (let (order, ordered) = input in quiet (ap (λ (w : LineFault). told_on (fault.Line w)) (only_memory words (said_by order) wrong ordered.0 refused)))
-      | inr live ↦ (let (ordered, says, is) = live in quiet (ap (λ (w : LineFault). told_on (fault.Line w)) (only_memory words ordered wrong says refused)))
-    ];
-  }
+  starts_wrong reader errors_old errors_new told_before told_after words wrong refused lives told quiet =
+      let refusal = refusal_of words (fault.Line wrong) before after errors_old errors_new told_before told_after status told in record {
+        runs = λ not. runs_refused words remaining before after status (fault.Line wrong) refused refusal;
+        lives = λ live.
+            let (ordered, says, is) = live in
+            lives (subst (λ (w : LineFault). IsRefusal before after (fault.Line w) status) (only_memory words ordered wrong says refused) refusal);
+        unread = λ no. refl;
+        told = λ no none. (fault.Line wrong, refused, told);
+        quiet = λ either. elim either [
+          | inl input ↦ (let (order, ordered) = input in quiet (ap (λ (w : LineFault). told_on (fault.Line w)) (only_memory words (said_by order) wrong ordered.0 refused)))
+          | inr live ↦ (let (ordered, says, is) = live in quiet (ap (λ (w : LineFault). told_on (fault.Line w)) (only_memory words ordered wrong says refused)))
+        ];
+      }
 
 -- ---- texts of words
 

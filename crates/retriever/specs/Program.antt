@@ -1,5 +1,5 @@
 -- What the program makes of its arguments, and what a person is told of them.
-use Rattle.std.specs.Prelude.{◌≡◌, ◌⊎◌, ℕ, Bool, List, Option, String, All, drop, length, map, string_bytes}
+use Rattle.std.specs.Prelude.{◌≡◌, ◌⊎◌, ◌++◌, ℕ, Bool, List, Option, String, All, codes, drop, length, map, string_bytes}
 use Rattle.std.specs.declared.io.ErrorKind.{ErrorKind}
 use Rattle.std.specs.declared.io.ErrorKind.TheVariants.{OutOfMemory}
 use Rattle.retriever.specs.Advice.{said_of}
@@ -11,8 +11,8 @@ use Rattle.robots_rules.specs.Access.{RuleSetValue}
 use Rattle.frontier_core.specs.Tables.{Text}
 use Rattle.retriever.specs.Live.{Lives, holding}
 use Rattle.retriever.specs.Order.{AreForInput, AreForLive, IsLiveOrder, IsRefused}
-use Rattle.retriever.specs.Parts.{IsRefusal}
-use Rattle.retriever.specs.Run.{Runs}
+use Rattle.retriever.specs.Parts.{IsDelivered, IsRefusal}
+use Rattle.retriever.specs.Run.{Runs, fault_words, fault_status}
 use Rattle.retriever.specs.Streams.{AppendsFront}
 use Rattle.retriever.specs.declared.fault.Fault.{Fault}
 use Rattle.retriever.specs.declared.fault.Fault.TheVariants as fault
@@ -26,9 +26,17 @@ abbrev pub words_fault : ErrorKind → Fault
 words_fault OutOfMemory = fault.Memory
 words_fault kind = fault.NotText
 
--- what is wrong with the words, or a front of it, was written to a person
-abbrev pub IsTold : List (List ℕ) → Option (List ℕ) → Option (List ℕ) → Type 0
-IsTold words old new = (wrong : Fault) × IsRefused words wrong × AppendsFront old new (said_of words wrong)
+-- The line of a fault of the words is delivered with its status, and what is wrong, or a front of it, was written to a person;
+-- or the line of want of memory is delivered, and nothing was written to a person.
+abbrev pub IsExplained : {E : Type 0} → List (List ℕ) → Fault → Option (List ℕ) → Option (List ℕ) → E → E → Option (List ℕ) → Option (List ℕ) → ℕ → Type 0
+IsExplained words wrong before after errors_old errors_new told_before told_after status =
+    (IsDelivered before after (fault_words wrong ++ codes "\n") (fault_status wrong) status × AppendsFront told_before told_after (said_of words wrong))
+    ⊎ (IsDelivered before after (codes "stopped memory\n") 1 status × (errors_new ≡ errors_old))
+
+-- what is wrong with the words is told, in its line and to a person
+abbrev pub IsTold : {E : Type 0} → List (List ℕ) → Option (List ℕ) → Option (List ℕ) → E → E → Option (List ℕ) → Option (List ℕ) → ℕ → Type 0
+IsTold words before after errors_old errors_new told_before told_after status =
+    (wrong : Fault) × IsRefused words wrong × IsExplained words wrong before after errors_old errors_new told_before told_after status
 
 -- ---- a site on the network
 
@@ -59,5 +67,5 @@ pub record Starts {R E : Type 0} (Lives : List (List ℕ) → Type 0) (remaining
   pub runs : ¬ AreForLive words → Runs words remaining before after status
   pub lives : AreForLive words → Lives words
   pub unread : ¬ AreForInput words → reader_new ≡ reader_old
-  pub told : ¬ AreForInput words → ¬ AreForLive words → IsTold words told_before told_after
+  pub told : ¬ AreForInput words → ¬ AreForLive words → IsTold words before after errors_old errors_new told_before told_after status
   pub quiet : AreForInput words ⊎ AreForLive words → errors_new ≡ errors_old

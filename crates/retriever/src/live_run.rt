@@ -1,21 +1,22 @@
 //! A live retrieval: fetchers ask the site, its kept pages are put into a folder, and then the report is written.
-ghost use Rattle.std.specs.Prelude.{◌≡◌, ◌<◌, ◌≤◌, IfOk, Ok, length, map, string_bytes, vec_len};
+ghost use Rattle.std.specs.Prelude.{◌≡◌, ◌<◌, ◌≤◌, ◌++◌, IfOk, Ok, length, map, string_bytes, vec_len};
 ghost use Rattle.report.specs.ExitStatus.{exit_status};
 ghost use Rattle.local_tree.specs.Names.{AreDistinct};
-ghost use Rattle.retriever.specs.Live.{IsTornTold, Lives, holding};
+ghost use Rattle.retriever.specs.Live.{IsTornTold, Lives, holding, torn_line};
 ghost use Rattle.retriever.specs.Parts.{IsDelivered, IsRead};
 ghost use Rattle.retriever.specs.Puts.{IsHaltTold, IsPutAndTold, IsPutOf, bare_cause, files_whole};
 ghost use Rattle.retriever.specs.Retrieved.{Stopped};
 ghost use Rattle.retriever.specs.Run.{finish_text};
 
 use crate::input_run::deliver;
+use crate::output::write_text;
 use crate::told::{brought_by, halt_text, telling_of};
 use fetcher::Fetcher;
 use frontier_core::Cause;
 use local_tree::{Folder, WriteFault, write_site};
 use options::Order;
 use report::exit_status;
-use std::alloc::Global;
+use std::alloc::{AllocError, Global};
 use std::io::Write;
 use std::sync::Wait;
 use std::thread::Threads;
@@ -48,12 +49,30 @@ fn tell_report<W: Write>(harvest: &Harvest, text: &str, writer: &mut W) -> u8
     deliver(writer, text.as_bytes(), exit_status(harvest))
 }
 
-// Tells a harvest's text, and behind it how many files were whole when a put failed.
+// Writes one text behind another, and gives this status, or 1 where the writer fails.
+fn deliver_both<W: Write>(writer: &mut W, first: &str, second: &str, status: u8) -> u8
+    ensures { IsDelivered (W.contents writer.old) (W.contents writer.new) (first.now ++ second.now) status result }
+{
+    match write_text(writer, first.as_bytes()) {
+        Ok(()) => deliver(writer, second.as_bytes(), status),
+        Err(_) => 1,
+    }
+}
+
+// The line that tells how many files were whole when a put failed.
+fn torn_line(alloc: Global, whole: usize) -> Result<String, AllocError>
+    ensures { IfOk result (λ line. string_bytes line ≡ torn_line whole) }
+{
+    format!(in alloc; "files written {whole}\n")
+}
+
+// Tells a harvest's text, and behind it how many files were whole when a put failed. The text isn't copied for that line, since
+// memory may be what failed.
 fn tell_torn<W: Write>(alloc: Global, text: &str, whole: usize, writer: &mut W) -> u8
     ensures { IsTornTold text.now whole (W.contents writer.old) (W.contents writer.new) result }
 {
-    match format!(in alloc; "{text}files written {whole}\n") {
-        Ok(text) => deliver(writer, text.as_bytes(), 3),
+    match torn_line(alloc, whole) {
+        Ok(line) => deliver_both(writer, text, line.as_str(), 3),
         Err(_) => deliver(writer, b"stopped memory\n", 1),
     }
 }

@@ -1,18 +1,18 @@
 //! The program on its words, its three streams and the system: what a person is told, and the run, or the live retrieval.
-ghost use Rattle.std.specs.Prelude.{◌≡◌, ◌≢◌, ◌⊎◌, [], All, IfOk, IfErr, OnErr, Ok, None, drop, map, string_bytes, vec_len};
+ghost use Rattle.std.specs.Prelude.{◌≡◌, ◌≢◌, ◌⊎◌, ◌++◌, [], codes, All, IfOk, IfErr, OnErr, Ok, None, drop, map, string_bytes, vec_len};
 ghost use Rattle.std.specs.IoError.{error_kind};
 ghost use Rattle.std.specs.Vec.Iter.{into_iter_items};
 ghost use Rattle.options.specs.Order.{order_of, said_by};
-ghost use Rattle.retriever.specs.Advice.{told_by, told_on, said, said_of};
+ghost use Rattle.retriever.specs.Advice.{told_on, said_of};
 ghost use Rattle.retriever.specs.Order.{AreForInput, AreForLive};
-ghost use Rattle.retriever.specs.Program.{IsTold, LivesFor, LivesIn, Starts, words_behind, words_fault};
+ghost use Rattle.retriever.specs.Program.{IsExplained, IsTold, LivesFor, LivesIn, Starts, words_behind, words_fault};
 ghost use Rattle.retriever.specs.Parts.{IsRefusal};
-ghost use Rattle.retriever.specs.Run.{Runs};
+ghost use Rattle.retriever.specs.Run.{Runs, fault_words};
 ghost use Rattle.retriever.specs.Streams.{AppendsFront};
 
-use crate::advice::{Advice, advice_on, advice_text};
-use crate::fault::Fault;
-use crate::input_run::{refuse, run};
+use crate::advice::{advice_on, advice_text};
+use crate::fault::{Fault, fault_text};
+use crate::input_run::{deliver, refuse, run};
 use crate::live_run::live;
 use crate::output::write_text;
 use crate::system::System;
@@ -59,27 +59,65 @@ fn words_fault(error: &io::Error) -> Fault
     }
 }
 
-// Tells a person this. Where there is no memory for the text, or the writer fails, the run goes on: its line and its status
-// say what went wrong, whether or not anybody reads more.
-fn tell<E: Write>(alloc: Global, advice: Advice, words: &[&str], errors: &mut E)
-    ensures { AppendsFront (E.contents errors.old) (E.contents errors.new) (said (map (λ word. word.now) words.now) (told_by advice)) }
+// What is written where words are refused.
+#[derive(Drop)]
+struct Refusal {
+    // For a person; empty where there is nothing to tell.
+    advice: String,
+    line: String,
+}
+
+// What a person is told of a fault of these words. It is empty for other faults.
+fn advice_for(alloc: Global, fault: Fault, words: &[&str]) -> Result<String, AllocError>
+    ensures { IfOk result (λ text. string_bytes text ≡ said_of (map (λ word. word.now) words.now) fault) }
 {
-    match advice_text(alloc, advice, words) {
-        Ok(text) => {
-            let _ = write_text(errors, text.as_bytes());
-        }
-        Err(_) => {}
+    match advice_on(fault) {
+        Some(advice) => advice_text(alloc, advice, words),
+        None => Ok(String::new(alloc)),
     }
 }
 
-// Tells a person what is wrong with the words, and nothing of other faults.
-fn explain<E: Write>(alloc: Global, fault: Fault, words: &[&str], errors: &mut E)
-    ensures told { AppendsFront (E.contents errors.old) (E.contents errors.new) (said_of (map (λ word. word.now) words.now) fault) }
+// Both texts for a fault of these words.
+fn refusal_of(alloc: Global, fault: Fault, words: &[&str]) -> Result<Refusal, AllocError>
+    ensures advice { IfOk result (λ refusal. string_bytes refusal.advice ≡ said_of (map (λ word. word.now) words.now) fault) }
+    ensures line { IfOk result (λ refusal. string_bytes refusal.line ≡ fault_words fault ++ codes "\n") }
+{
+    let advice = advice_for(alloc, fault, words)?;
+    let line = fault_text(alloc, fault)?;
+    Ok(Refusal { advice, line })
+}
+
+// Tells a person this, if anything. Where the writer fails the run goes on: its line and its status say what went wrong,
+// whether or not anybody reads more.
+fn tell<E: Write>(advice: &str, errors: &mut E)
+    ensures told { AppendsFront (E.contents errors.old) (E.contents errors.new) advice.now }
+    ensures quiet { advice.now ≡ [] → errors.new ≡ errors.old }
+{
+    if advice.is_empty() {
+        return;
+    }
+    let _ = write_text(errors, advice.as_bytes());
+}
+
+// Tells a person what is wrong with the words, and nothing of other faults, and writes the line of it. Answers the status. Both
+// texts are made before either is written, so that no person is told of words whose line is that memory ran out.
+fn explain<W: Write, E: Write>(
+    alloc: Global,
+    fault: Fault,
+    words: &[&str],
+    writer: &mut W,
+    errors: &mut E,
+) -> u8
+    ensures explained { IsExplained (map (λ word. word.now) words.now) fault (W.contents writer.old) (W.contents writer.new) errors.old errors.new
+        (E.contents errors.old) (E.contents errors.new) result }
     ensures quiet { told_on fault ≡ None → errors.new ≡ errors.old }
 {
-    match advice_on(fault) {
-        Some(advice) => tell(alloc, advice, words, errors),
-        None => {}
+    match refusal_of(alloc, fault, words) {
+        Ok(refusal) => {
+            tell(refusal.advice.as_str(), errors);
+            deliver(writer, refusal.line.as_bytes(), fault.status())
+        }
+        Err(_) => deliver(writer, b"stopped memory\n", 1),
     }
 }
 
@@ -172,10 +210,7 @@ fn run_texts<H: Threads + Wait + Sync, S: System, R: Read, W: Write, E: Write>(
 {
     match read_order(alloc, words) {
         Ok(order) => run_order(rt, alloc, system, words, &order, reader, writer),
-        Err(wrong) => {
-            explain(alloc, Fault::Line(wrong), words, errors);
-            refuse(alloc, Fault::Line(wrong), writer)
-        }
+        Err(wrong) => explain(alloc, Fault::Line(wrong), words, writer, errors),
     }
 }
 
@@ -222,7 +257,8 @@ fn run_args<H: Threads + Wait + Sync, S: System, R: Read, W: Write, E: Write>(
 /// Runs the program on its arguments, the program's name first, and its three streams. Words that order a site on the network
 /// are retrieved by [`live`], with as many fetchers of the system as they order workers, into its folder at their prefix;
 /// `run` gets all others behind that name. What is wrong with words that order nothing is told to a person on `errors`; where
-/// the writer of that fails a front of it may be written, and nothing is written there of other words. Arguments that can't
+/// the writer of that fails a front of it may be written, and nothing is written there of other words, nor where memory runs
+/// out for it: then the line says that. Arguments that can't
 /// be had, since one isn't text or memory ran out, end the program as refused words do, with no byte read. Answers the status.
 pub fn run_program<H: Threads + Wait + Sync, S: System, R: Read, W: Write, E: Write>(
     rt: &H,
@@ -239,18 +275,14 @@ pub fn run_program<H: Threads + Wait + Sync, S: System, R: Read, W: Write, E: Wr
         → LivesFor S.Fetcher.site S.Fetcher.says S.Fetcher.rules S.Fetcher.log (S.makes system.now) (S.opens system.now) S.Folder.files S.Folder.failed (W.contents writer.old) (W.contents writer.new) result (words_behind (into_iter_items all))) }
     ensures unread { IfOk args (λ all. ¬ AreForInput (words_behind (into_iter_items all)) → reader.new ≡ reader.old) }
     ensures told { IfOk args (λ all. ¬ AreForInput (words_behind (into_iter_items all)) → ¬ AreForLive (words_behind (into_iter_items all))
-        → IsTold (words_behind (into_iter_items all)) (E.contents errors.old) (E.contents errors.new)) }
+        → IsTold (words_behind (into_iter_items all)) (W.contents writer.old) (W.contents writer.new) errors.old errors.new (E.contents errors.old) (E.contents errors.new) result) }
     ensures quiet { IfOk args (λ all. AreForInput (words_behind (into_iter_items all)) ⊎ AreForLive (words_behind (into_iter_items all)) → errors.new ≡ errors.old) }
-    ensures refused { IfErr args (λ error. IsRefusal (W.contents writer.old) (W.contents writer.new) (words_fault (error_kind error)) result
-        × AppendsFront (E.contents errors.old) (E.contents errors.new) (said_of [] (words_fault (error_kind error)))) }
+    ensures refused { IfErr args (λ error. IsExplained [] (words_fault (error_kind error)) (W.contents writer.old) (W.contents writer.new) errors.old errors.new
+        (E.contents errors.old) (E.contents errors.new) result) }
     ensures untouched { IfErr args (λ error. reader.new ≡ reader.old) }
 {
     match args {
         Ok(args) => run_args(rt, alloc, system, args, reader, writer, errors),
-        Err(error) => {
-            let fault = words_fault(&error);
-            explain(alloc, fault, &[], errors);
-            refuse(alloc, fault, writer)
-        }
+        Err(error) => explain(alloc, words_fault(&error), &[], writer, errors),
     }
 }

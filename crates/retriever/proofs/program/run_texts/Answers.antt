@@ -8,4 +8,4 @@ returns-in-Ok g c =
     starts_order _ _ _ _ _ _ _ _ _ _ c.in-Ok.order c.in-Ok.ensures c.run_order.ensures.runs c.run_order.ensures.lives c.run_order.ensures.unread
 
 pub returns-in-Err : goal.returns-in-Err
-returns-in-Err g c = starts_wrong _ _ _ _ _ _ _ _ _ _ _ c.in-Err.wrong c.in-Err.ensures (λ refused. inr refused) c.refuse.ensures c.explain.ensures.told c.explain.ensures.quiet
+returns-in-Err g c = starts_wrong _ _ _ _ _ _ _ _ _ _ _ c.in-Err.wrong c.in-Err.ensures (λ refused. inr refused) c.explain.ensures.explained c.explain.ensures.quiet

@@ -1,14 +1,16 @@
--- The text, or a front of it, was written; or there was no memory for it.
-use Rattle.std.proofs.Common.{◌∙◌, List, ℕ, subst}
+-- Nothing was to be written, or the text was, or a front of it.
+use Rattle.std.proofs.Common.{◌≡◌, ◌∙◌, ◌==◌, ℕ, List, [], Bool, true, false, length, refl, sym, ap, subst}
 use Rattle.retriever.specs.Streams.{AppendsFront}
 use Rattle.retriever.proofs.ProgramLaws.{nothing_of, wrote}
 use Rattle.retriever.proofs.program.tell.Goals as goal
 
-pub returns-in-Ok : goal.returns-in-Ok
-returns-in-Ok g c =
-    subst (λ (text : List ℕ). AppendsFront (g.E.Write.contents c.args.errors.now) (g.E.Write.contents c.write_text.new.writer) text)
-    (c.as_bytes.ensures.value ∙ c.in-Ok.ensures)
-    (wrote c.write_text.result _ _ _ c.write_text.ensures.ok c.write_text.ensures.err)
+pub returns-then-is_empty : goal.returns-then-is_empty
+returns-then-is_empty g c = record { told = nothing_of _ _; quiet = λ empty. refl }
 
-pub returns-in-Err : goal.returns-in-Err
-returns-in-Err g c = nothing_of _ _
+pub returns : goal.returns
+returns g c =
+    let written = wrote c.write_text.result _ _ _ c.write_text.ensures.ok c.write_text.ensures.err in
+    record {
+      told = subst (λ (text : List ℕ). AppendsFront (g.E.Write.contents c.args.errors.now) (g.E.Write.contents c.write_text.new.writer) text) c.as_bytes.ensures.value written;
+      quiet = λ empty. (let wrong : true ≡ false = sym (ap (λ (text : List ℕ). length text == 0) empty) ∙ sym c.is_empty.ensures ∙ c.if-is_empty.false in cc);
+    }

@@ -1,0 +1,30 @@
+-- A text that is written behind another.
+use Rattle.std.proofs.Common.{◌≡◌, ◌∙◌, ◌++◌, ℕ, List, Option, inl, inr, sym, ap, append_assoc}
+use Rattle.std.specs.Io.KnownBytes.{Appends}
+use Rattle.std.proofs.KnownBytes.{Appends-trans}
+use Rattle.retriever.specs.Parts.{IsDelivered}
+use Rattle.retriever.specs.Streams.{AppendsFront}
+
+-- a front of the first of two texts is one of both
+pub front_of_first : (old new : Option (List ℕ)) (first second : List ℕ) → AppendsFront old new first → AppendsFront old new (first ++ second)
+front_of_first old new first second f = record {
+  front = f.front;
+  rest = f.rest ++ second;
+  parts = ap (λ text. text ++ second) f.parts ∙ append_assoc f.front f.rest second;
+  appended = f.appended;
+}
+
+-- the first text and a front of the second are a front of both
+front_of_second : (old between new : Option (List ℕ)) (first second : List ℕ) → Appends old between first → AppendsFront between new second → AppendsFront old new (first ++ second)
+front_of_second old between new first second whole f = record {
+  front = first ++ f.front;
+  rest = f.rest;
+  parts = ap (λ text. first ++ text) f.parts ∙ sym (append_assoc first f.front f.rest);
+  appended = Appends-trans old between new first f.front whole f.appended;
+}
+
+-- the second is delivered behind the first
+pub delivered_behind : (old between new : Option (List ℕ)) (first second : List ℕ) (wanted status : ℕ) → Appends old between first → IsDelivered between new second wanted status
+    → IsDelivered old new (first ++ second) wanted status
+delivered_behind old between new first second wanted status whole (inl (is, appends)) = inl (is, Appends-trans old between new first second whole appends)
+delivered_behind old between new first second wanted status whole (inr (is, front)) = inr (is, front_of_second old between new first second whole front)

@@ -1,0 +1,21 @@
+-- The second text stands behind the first, or a front of the first was written.
+use Rattle.std.proofs.Common.{◌≡◌, ℕ, List, inr, refl, subst}
+use Rattle.std.specs.Io.KnownBytes.{Appends}
+use Rattle.retriever.specs.Parts.{IsDelivered}
+use Rattle.retriever.specs.Streams.{AppendsFront}
+use Rattle.retriever.proofs.DeliveryLaws.{delivered_behind, front_of_first}
+use Rattle.retriever.proofs.live_run.deliver_both.Goals as goal
+
+pub returns-in-Ok : goal.returns-in-Ok
+returns-in-Ok g c =
+    delivered_behind _ _ _ c.args.first.now c.args.second.now c.args.status _
+    (subst (λ (text : List ℕ). Appends (g.W.Write.contents c.args.writer.now) (g.W.Write.contents c.write_text.new.writer) text) c.as_bytes.ensures.value c.in-Ok.ensures.ok)
+    (subst (λ (text : List ℕ). IsDelivered (g.W.Write.contents c.write_text.new.writer) (g.W.Write.contents c.deliver.new.writer) text c.args.status c.deliver.result) c.as_bytes-in-Ok.ensures.value c.deliver.ensures)
+
+pub returns-in-Err : goal.returns-in-Err
+returns-in-Err g c =
+    inr (
+      refl,
+      front_of_first _ _ c.args.first.now c.args.second.now
+          (subst (λ (text : List ℕ). AppendsFront (g.W.Write.contents c.args.writer.now) (g.W.Write.contents c.write_text.new.writer) text) c.as_bytes.ensures.value c.in-Err.ensures.err),
+    )
