@@ -3,6 +3,7 @@ ghost use Rattle.std.specs.Prelude.{◌≡◌, None, IfOk, IfErr};
 ghost use Rattle.std.specs.IoError.{error_kind};
 ghost use Rattle.local_tree.specs.Folders.{CountsFault, opened_at};
 
+use crate::close::Close;
 use crate::folder::{Folder, FolderFault};
 use crate::local_name::is_local_name;
 use std::alloc::Global;
@@ -16,7 +17,7 @@ use std::{fs, io};
 const PART: &str = ".wgetr%part";
 
 /// Files below a folder of the system. A file is written under another name and gets its own when it
-/// is whole, so nobody sees half of it, and what stood there stays until then.
+/// is whole and closed without an error, so nobody sees half of it, and what stood there stays until then.
 ///
 /// A symbolic link that stands below the folder where a directory or a file is to stand is refused,
 /// and so is anything else that is neither. Links that others make while a file is put aren't seen:
@@ -115,26 +116,40 @@ fn look_for_file<R: Files>(rt: &R, path: &str) -> io::Result<()> {
     }
 }
 
-// Writes a new file. What a killed run left there is taken away first; a link isn't followed.
-fn write_new<R: Files>(rt: &R, path: &str, bytes: &[u8]) -> io::Result<()> {
-    let mut file = match File::create_new(rt, path) {
-        Ok(file) => file,
+// Makes a new file. What a killed run left there is taken away first; a link isn't followed.
+fn create_new<R: Files>(rt: &R, path: &str) -> io::Result<R::File> {
+    match File::create_new(rt, path) {
         Err(e) if e.kind() == ErrorKind::AlreadyExists => {
             rt.remove_file(path)?;
-            File::create_new(rt, path)?
+            File::create_new(rt, path)
         }
-        Err(e) => return Err(e),
-    };
-    file.write_all(bytes)
+        made => made,
+    }
+}
+
+// Writes a new file and closes it: some disks say only then that there is no room for what they took.
+fn write_new<R: Files>(rt: &R, path: &str, bytes: &[u8]) -> io::Result<()>
+where
+    R::File: Close,
+{
+    let mut file = create_new(rt, path)?;
+    file.write_all(bytes)?;
+    file.close()
 }
 
 // Writes a file under another name, and gives it its own when it is whole.
-fn put_by_way_of<R: Files>(rt: &R, part: &str, path: &str, bytes: &[u8]) -> io::Result<()> {
+fn put_by_way_of<R: Files>(rt: &R, part: &str, path: &str, bytes: &[u8]) -> io::Result<()>
+where
+    R::File: Close,
+{
     write_new(rt, part, bytes)?;
     rt.rename(part, path)
 }
 
-impl<'a, R: Files> DiskFolder<'a, R> {
+impl<'a, R: Files> DiskFolder<'a, R>
+where
+    R::File: Close,
+{
     /// The folder at this path; the empty path is `.`. The folder is made at the first put, where it
     /// isn't there, and may itself be a link. Runs that put into one folder at a time need different
     /// numbers, as their processes have. The error is that memory is wanting.
@@ -182,7 +197,10 @@ impl<'a, R: Files> DiskFolder<'a, R> {
     }
 }
 
-impl<'a, R: Files> Folder for DiskFolder<'a, R> {
+impl<'a, R: Files> Folder for DiskFolder<'a, R>
+where
+    R::File: Close,
+{
     ghost use Rattle.std.specs.Prelude.{None};
 
     ghost files = { λ f. None };

@@ -11,6 +11,7 @@
 //! ```
 #![tactic(auto)]
 
+pub use crate::close::Close;
 pub use crate::disk_folder::DiskFolder;
 pub use crate::folder::{Folder, FolderFault};
 pub use crate::local_name::is_local_name;
@@ -19,6 +20,7 @@ pub use crate::naming::{ascend, names};
 pub use crate::plain_name::MAX_SEGMENT;
 pub use crate::site_files::{WriteFault, write_site};
 
+mod close;
 mod disk_folder;
 mod folder;
 mod free_name;

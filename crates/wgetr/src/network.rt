@@ -1,5 +1,5 @@
 //! What a live run has of the system: fetchers over TCP, and folders on the disk.
-use local_tree::DiskFolder;
+use local_tree::{Close, DiskFolder};
 use progress::{Progress, Watched};
 use retriever::System;
 use site_answer::HttpFetcher;
@@ -40,7 +40,10 @@ impl<'a, R: Net + Wait + Files + Clock + Eprint> Network<'a, R> {
     }
 }
 
-impl<'a, R: Net + Wait + Files + Clock + Eprint + Sync> System for Network<'a, R> {
+impl<'a, R: Net + Wait + Files + Clock + Eprint + Sync> System for Network<'a, R>
+where
+    R::File: Close,
+{
     ghost use Rattle.std.specs.Prelude.{◌≡◌};
     ghost use Rattle.local_tree.specs.Folders.{opened_at};
 
