@@ -28,7 +28,7 @@ pub(crate) struct Host {
     known: Mutex<Option<Known>>,
 }
 
-/// The addresses of a host, with no port, in the order in which they are to be tried; none where the look-up failed.
+// The addresses of a host, with no port, in the order in which they are to be tried; none where the look-up failed.
 #[derive(Drop)]
 pub(crate) struct Known {
     pub(crate) addresses: Vec<SocketAddr>,

@@ -34,8 +34,10 @@ const AGAIN: &str = "Temporary failure in name resolution";
 pub(crate) enum Lack {
     // A descriptor, or a buffer: the run's own connections hold some, and give them back when they end.
     Descriptor,
-    // A port of this machine, or an address to have one at.
+    // A port of this machine: the run's own connections hold some too.
     Port,
+    // A port for an address that took no connection yet: this machine may have no address to reach it from.
+    Address,
     // The resolver's answer.
     Resolver,
 }
@@ -44,7 +46,7 @@ impl Lack {
     // How long it is waited for.
     fn limit(self) -> Duration {
         match self {
-            Lack::Descriptor | Lack::Port => Duration::from_secs(SYSTEM_TIMEOUT),
+            Lack::Descriptor | Lack::Port | Lack::Address => Duration::from_secs(SYSTEM_TIMEOUT),
             Lack::Resolver => Duration::from_secs(RESOLVER_TIMEOUT),
         }
     }
@@ -53,8 +55,13 @@ impl Lack {
     fn pause(self) -> Duration {
         match self {
             Lack::Descriptor => Duration::from_millis(SHORT_PAUSE),
-            Lack::Port | Lack::Resolver => Duration::from_millis(LONG_PAUSE),
+            Lack::Port | Lack::Address | Lack::Resolver => Duration::from_millis(LONG_PAUSE),
         }
+    }
+
+    // Whether connections of the run that end give it back.
+    fn is_own(self) -> bool {
+        matches!(self, Lack::Descriptor | Lack::Port)
     }
 }
 
@@ -134,13 +141,13 @@ impl Patience {
     }
 
     // Waits a moment, and says whether it is to be tried again; `ended` of the run's connections have ended by now. The time
-    // for a descriptor begins anew with each that ended. Where there is no clock nothing is waited for.
+    // for what these give back begins anew with each that ended. Where there is no clock nothing is waited for.
     pub(crate) fn pause<R: Clock>(&mut self, rt: &R, lack: Lack, ended: u64) -> bool {
         let Ok(now) = Instant::now(rt) else {
             return false;
         };
         let start = match self.start {
-            Some(start) if lack != Lack::Descriptor || self.ended == ended => start,
+            Some(start) if !lack.is_own() || self.ended == ended => start,
             _ => now,
         };
         self.start = Some(start);

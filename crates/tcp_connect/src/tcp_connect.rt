@@ -62,7 +62,7 @@ fn stream_to<R: Net + Wait>(
         match stream_at(rt, hosts, *address, port) {
             Ok(stream) => return Ok((stream, *address)),
             Err(OpenFault::Lacking(Lack::Port)) if known.took != Some(*address) => {
-                fault = fault.or(Some(OpenFault::Lacking(Lack::Port)));
+                fault = fault.or(Some(OpenFault::Lacking(Lack::Address)));
             }
             Err(OpenFault::Failed) => fault = Some(OpenFault::Failed),
             Err(lacking) => return Err(lacking),
