@@ -1,12 +1,12 @@
-//! A network for tests: it knows one host by name, and tells what it was asked for.
+//! A network for tests: it knows a few hosts by name, and tells what it was asked for. Its clock goes only while somebody sleeps.
 use std::alloc::Global;
 use std::io::{ErrorKind, Read, Write};
-use std::net::{Net, OpenListener, OpenStream, SocketAddr};
-use std::os::fd::{AsRawFd, RawFd};
+use std::net::{IpAddr, Net, OpenListener, OpenStream, SocketAddr};
+use std::os::fd::{AsRawFd, OwnedFd, RawFd};
 use std::process::Abort;
-use std::sync::atomic::{AtomicU64, Ordering};
+use std::sync::atomic::{AtomicBool, AtomicU64, Ordering};
 use std::sync::{Arc, Mutex, Wait};
-use std::time::Duration;
+use std::time::{Clock, Duration};
 use std::{io, thread};
 
 /// The port of the servers that keep a connection open, and of those that send as much as there is room for. All others end
@@ -20,6 +20,40 @@ pub const LOSES_READS: u16 = 83;
 
 pub const LOSES_WRITES: u16 = 84;
 
+/// The ports of servers at whose connections a time limit is refused, and the option that nothing is delayed.
+pub const REFUSES_LIMIT: u16 = 85;
+
+pub const REFUSES_DELAY: u16 = 86;
+
+/// The port of the servers that keep open each connection at which an even number of reads was counted before.
+pub const STAYS_AT_TIMES: u16 = 87;
+
+/// The millisecond from which on this machine lacks nothing, where it did, and that for a host that needs longer.
+const SOON: u64 = 3_000;
+
+pub const LATE: u64 = 130_000;
+
+/// Hosts, and the last numbers of their addresses 10.0.0.x.
+const HOSTS: &[(&str, &[u8])] = &[
+    ("two", &[1, 2]),
+    ("three", &[1, 2, 3]),
+    ("five", &[1, 11, 12, 4, 5]),
+    ("silent", &[6, 2]),
+    ("lacking", &[7]),
+    ("never", &[8]),
+    ("mixed", &[8, 1]),
+    ("used", &[9, 1]),
+    ("late", &[10]),
+    ("again", &[2]),
+    ("tight", &[2]),
+    ("hidden", &[2]),
+];
+
+const AGAIN: &str = "failed to lookup address information: Temporary failure in name resolution";
+
+/// Linux: too many open files.
+const EMFILE: i32 = 24;
+
 /// What was asked for of a network.
 #[derive(Drop)]
 pub struct Log {
@@ -27,6 +61,12 @@ pub struct Log {
     pub reads: AtomicU64,
     /// The addresses at which a connection was asked for, in order.
     pub tried: Mutex<Vec<SocketAddr>>,
+    /// The options that were set, in order: the milliseconds of a limit, or 1.
+    pub set: Mutex<Vec<(&'static str, u64)>>,
+    /// The milliseconds that were slept.
+    pub clock: AtomicU64,
+    // Whether there is no descriptor, where one looks for that.
+    is_full: AtomicBool,
 }
 
 /// A network over the runtime of a test.
@@ -34,18 +74,23 @@ pub struct Log {
 pub struct Network<'a, R: Wait + Abort> {
     rt: &'a R,
     pub log: Arc<Log>,
+    // Whether each sleep lasts until one more connection was asked for.
+    follows: bool,
 }
 
 /// A connection to the server at an address.
 #[derive(Drop)]
-pub struct FakeStream {
+pub struct FakeStream<'a, R: Wait + Abort> {
+    rt: &'a R,
     server: SocketAddr,
     log: Arc<Log>,
 }
 
 /// No server is made here.
 #[derive(Drop)]
-pub struct FakeListener;
+pub struct FakeListener<'a, R: Wait + Abort> {
+    _rt: &'a R,
+}
 
 impl<'a, R: Wait + Abort> Network<'a, R> {
     pub fn new(rt: &'a R, alloc: Global) -> Network<'a, R> {
@@ -53,11 +98,22 @@ impl<'a, R: Wait + Abort> Network<'a, R> {
             lookups: AtomicU64::new(0),
             reads: AtomicU64::new(0),
             tried: Mutex::new(Vec::new(alloc)),
+            set: Mutex::new(Vec::new(alloc)),
+            clock: AtomicU64::new(0),
+            is_full: AtomicBool::new(false),
         };
         Network {
             rt,
             log: Arc::new(alloc, log).expect(rt, "memory"),
+            follows: false,
         }
+    }
+
+    /// One in which each sleep lasts until one more connection was asked for.
+    pub fn following(rt: &'a R, alloc: Global) -> Network<'a, R> {
+        let mut network = Network::new(rt, alloc);
+        network.follows = true;
+        network
     }
 
     /// How many lookups, reads and tried addresses there were.
@@ -68,65 +124,142 @@ impl<'a, R: Wait + Abort> Network<'a, R> {
             self.log.tried.lock(self.rt).len(),
         )
     }
+
+    /// The milliseconds that were slept.
+    pub fn clock(&self) -> u64 {
+        self.log.clock.load(Ordering::SeqCst)
+    }
+
+    // Whether a connection was asked for there once.
+    fn is_first(&self, addr: SocketAddr) -> bool {
+        let tried = self.log.tried.lock(self.rt);
+        tried.iter().filter(|other| **other == addr).count() == 1
+    }
+
+    // What a connection meets at 10.0.0.x, none where it is taken; what this machine lacks is the error of the port's number.
+    fn met_at(&self, addr: SocketAddr) -> Option<io::Error> {
+        let lack = Some(io::Error::from_raw_os_error(i32::from(addr.port())));
+        match last_number(addr) {
+            1 | 11 | 12 => Some(io::Error::from(ErrorKind::ConnectionRefused)),
+            4 if !self.is_first(addr) => Some(io::Error::from(ErrorKind::ConnectionRefused)),
+            6 => Some(io::Error::from(ErrorKind::TimedOut)),
+            7 if self.clock() < SOON => lack,
+            8 => lack,
+            9 if !self.is_first(addr) && self.clock() < SOON => lack,
+            10 if self.clock() < LATE => lack,
+            _ => None,
+        }
+    }
+
+    // What a lookup meets, none where it is answered. That of `full` has no memory, that of `tight` no descriptor, and that of
+    // `hidden` doesn't tell that it has none.
+    fn met_by(&self, host: &str) -> Option<io::Error> {
+        let early = self.clock() < SOON;
+        match host {
+            "full" => Some(io::Error::from(ErrorKind::OutOfMemory)),
+            "again" if early => Some(io::Error::new(ErrorKind::Uncategorized, AGAIN)),
+            "never-again" => Some(io::Error::new(ErrorKind::Uncategorized, AGAIN)),
+            "tight" if early => Some(io::Error::from_raw_os_error(EMFILE)),
+            "hidden" if early => {
+                self.log.is_full.store(true, Ordering::SeqCst);
+                Some(io::Error::from(ErrorKind::NotFound))
+            }
+            _ => None,
+        }
+    }
+}
+
+// The last number of an IPv4 address.
+fn last_number(addr: SocketAddr) -> u8 {
+    match addr.ip() {
+        IpAddr::V4(ip) => ip.octets()[3],
+        IpAddr::V6(_) => 0,
+    }
 }
 
 impl<R: Wait + Abort> Wait for Network<'_, R> {}
 
-impl<R: Wait + Abort> Net for Network<'_, R> {
-    type Stream = FakeStream;
+impl<R: Wait + Abort> Clock for Network<'_, R> {
+    fn monotonic(&self) -> io::Result<Duration> {
+        Ok(Duration::from_millis(self.clock()))
+    }
 
-    type Listener = FakeListener;
-
-    fn bind(&self, _addr: SocketAddr) -> io::Result<FakeListener> {
+    fn since_1970(&self) -> io::Result<Duration> {
         Err(io::Error::from(ErrorKind::Unsupported))
     }
 
-    // 10.0.0.1 takes no connection.
-    fn connect(&self, addr: SocketAddr) -> io::Result<FakeStream> {
-        let tried = self.log.tried.lock(self.rt).push(addr);
-        tried.expect(self.rt, "memory");
-        if addr.ip() == SocketAddr::from(([10, 0, 0, 1], 0)).ip() {
-            return Err(io::Error::from(ErrorKind::ConnectionRefused));
+    fn sleep(&self, duration: Duration) {
+        let before = self.counts().2;
+        self.log.clock.fetch_add(millis(duration), Ordering::SeqCst);
+        if self.follows {
+            for _ in self.rt.forever() {
+                if self.counts().2 > before || self.clock() >= LATE {
+                    break;
+                }
+                thread::yield_now();
+            }
         }
-        Ok(FakeStream {
-            server: addr,
-            log: Arc::try_clone(&self.log).expect(self.rt, "memory"),
-        })
+    }
+}
+
+// A time in milliseconds.
+fn millis(duration: Duration) -> u64 {
+    u64::try_from(duration.as_millis()).unwrap_or(u64::MAX)
+}
+
+impl<'a, R: Wait + Abort> Net for Network<'a, R> {
+    type Stream = FakeStream<'a, R>;
+
+    type Listener = FakeListener<'a, R>;
+
+    fn bind(&self, _addr: SocketAddr) -> io::Result<FakeListener<'a, R>> {
+        Err(io::Error::from(ErrorKind::Unsupported))
     }
 
-    // The host `two` has the addresses 10.0.0.1 and 10.0.0.2, `three` 10.0.0.3 too, and no other has one. For the lookup of
-    // `full` there is no memory.
+    fn connect(&self, addr: SocketAddr) -> io::Result<FakeStream<'a, R>> {
+        let tried = self.log.tried.lock(self.rt).push(addr);
+        tried.expect(self.rt, "memory");
+        match self.met_at(addr) {
+            Some(e) => Err(e),
+            None => Ok(FakeStream {
+                rt: self.rt,
+                server: addr,
+                log: Arc::try_clone(&self.log).expect(self.rt, "memory"),
+            }),
+        }
+    }
+
     fn lookup_host(&self, host: &str, port: u16, found: &mut [SocketAddr]) -> io::Result<usize> {
         self.log.lookups.fetch_add(1, Ordering::SeqCst);
         for _ in 0..1000u32 {
             thread::yield_now();
         }
-        if host == "two"
-            && let [first, second, ..] = found
-        {
-            *first = SocketAddr::from(([10, 0, 0, 1], port));
-            *second = SocketAddr::from(([10, 0, 0, 2], port));
-            return Ok(2);
+        if let Some(e) = self.met_by(host) {
+            return Err(e);
         }
-        if host == "three"
-            && let [first, second, third, ..] = found
-        {
-            *first = SocketAddr::from(([10, 0, 0, 1], port));
-            *second = SocketAddr::from(([10, 0, 0, 2], port));
-            *third = SocketAddr::from(([10, 0, 0, 3], port));
-            return Ok(3);
+        let Some((_, numbers)) = HOSTS.iter().find(|known| known.0 == host) else {
+            return Err(io::Error::from(ErrorKind::NotFound));
+        };
+        for (slot, number) in found.iter_mut().zip(*numbers) {
+            *slot = SocketAddr::from(([10, 0, 0, *number], port));
         }
-        if host == "full" {
-            return Err(io::Error::from(ErrorKind::OutOfMemory));
+        Ok(numbers.len().min(found.len()))
+    }
+
+    // None is made here. That there is no descriptor it tells where it is so.
+    fn unix_socket(&self) -> io::Result<OwnedFd> {
+        if self.log.is_full.load(Ordering::SeqCst) && self.clock() < SOON {
+            return Err(io::Error::from_raw_os_error(EMFILE));
         }
-        Err(io::Error::from(ErrorKind::NotFound))
+        Err(io::Error::from(ErrorKind::Unsupported))
     }
 }
 
-impl Read for FakeStream {
+impl<R: Wait + Abort> Read for FakeStream<'_, R> {
     fn read(&mut self, buf: &mut [u8]) -> io::Result<usize> {
-        self.log.reads.fetch_add(1, Ordering::SeqCst);
+        let reads = self.log.reads.fetch_add(1, Ordering::SeqCst);
         match self.server.port() {
+            STAYS_AT_TIMES if reads % 2 == 0 => Err(io::Error::from(ErrorKind::WouldBlock)),
             STAYS => Err(io::Error::from(ErrorKind::WouldBlock)),
             SENDS | LOSES_WRITES => Ok(buf.len()),
             LOSES_READS => Err(io::Error::from(ErrorKind::ConnectionReset)),
@@ -135,7 +268,7 @@ impl Read for FakeStream {
     }
 }
 
-impl Write for FakeStream {
+impl<R: Wait + Abort> Write for FakeStream<'_, R> {
     fn write(&mut self, buf: &[u8]) -> io::Result<usize> {
         match self.server.port() {
             LOSES_WRITES => Err(io::Error::from(ErrorKind::BrokenPipe)),
@@ -148,39 +281,51 @@ impl Write for FakeStream {
     }
 }
 
-impl OpenStream for FakeStream {
-    fn peer_addr(&self) -> io::Result<SocketAddr> {
-        Ok(self.server)
-    }
-
-    fn set_nodelay(&self, _nodelay: bool) -> io::Result<()> {
-        Ok(())
-    }
-
-    fn set_read_timeout(&self, _dur: Option<Duration>) -> io::Result<()> {
-        Ok(())
-    }
-
-    fn set_write_timeout(&self, _dur: Option<Duration>) -> io::Result<()> {
+impl<R: Wait + Abort> FakeStream<'_, R> {
+    // Notes an option, which this server's connections may refuse.
+    fn set(&self, option: &'static str, value: u64, refuses: u16) -> io::Result<()> {
+        let noted = self.log.set.lock(self.rt).push((option, value));
+        noted.expect(self.rt, "memory");
+        if self.server.port() == refuses {
+            return Err(io::Error::from(ErrorKind::InvalidInput));
+        }
         Ok(())
     }
 }
 
-impl AsRawFd for FakeStream {
+impl<R: Wait + Abort> OpenStream for FakeStream<'_, R> {
+    fn peer_addr(&self) -> io::Result<SocketAddr> {
+        Ok(self.server)
+    }
+
+    fn set_nodelay(&self, nodelay: bool) -> io::Result<()> {
+        self.set("nodelay", u64::from(nodelay), REFUSES_DELAY)
+    }
+
+    fn set_read_timeout(&self, dur: Option<Duration>) -> io::Result<()> {
+        self.set("read", dur.map_or(0, millis), 0)
+    }
+
+    fn set_write_timeout(&self, dur: Option<Duration>) -> io::Result<()> {
+        self.set("write", dur.map_or(0, millis), REFUSES_LIMIT)
+    }
+}
+
+impl<R: Wait + Abort> AsRawFd for FakeStream<'_, R> {
     fn as_raw_fd(&self) -> RawFd {
         -1
     }
 }
 
-impl OpenListener for FakeListener {
-    type Stream = FakeStream;
+impl<'a, R: Wait + Abort> OpenListener for FakeListener<'a, R> {
+    type Stream = FakeStream<'a, R>;
 
-    fn accept(&self) -> io::Result<(FakeStream, SocketAddr)> {
+    fn accept(&self) -> io::Result<(FakeStream<'a, R>, SocketAddr)> {
         Err(io::Error::from(ErrorKind::Unsupported))
     }
 }
 
-impl AsRawFd for FakeListener {
+impl<R: Wait + Abort> AsRawFd for FakeListener<'_, R> {
     fn as_raw_fd(&self) -> RawFd {
         -1
     }

@@ -11,6 +11,7 @@ use std::net::{Net, TcpListener, TcpStream};
 use std::process::Abort;
 use std::sync::Wait;
 use std::thread::join;
+use std::time::Clock;
 use tcp_connect::{Hosts, TcpConnect};
 
 const SITE: &[Answered] = &[
@@ -33,7 +34,7 @@ const SITE: &[Answered] = &[
 ];
 
 /// Fetchers over TCP, one for each of two workers.
-fn over_tcp<'a, R: Abort + Net + Wait>(
+fn over_tcp<'a, R: Abort + Net + Wait + Clock>(
     rt: &'a R,
     alloc: Global,
     hosts: &'a Hosts,

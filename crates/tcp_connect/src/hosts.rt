@@ -1,27 +1,39 @@
 //! What the connections of a run know of hosts.
+use crate::lacks::{Lack, OpenFault, is_again, lack_of, lacks_descriptor};
 use indexmap::IndexMap;
 use std::alloc::{AllocError, Global};
-use std::io::ErrorKind;
+use std::io::{Error, ErrorKind};
 use std::net::{Net, SocketAddr, ToSocketAddrs};
+use std::sync::atomic::{AtomicU64, Ordering};
 use std::sync::{Arc, Mutex, Wait};
 
-/// What the connections of a run know of hosts, shared by all workers: each host's addresses, and which servers keep their
-/// connections open.
+/// What the connections of a run know of hosts, shared by all workers: each host's addresses, which servers keep their
+/// connections open, and which don't answer.
 #[derive(Drop)]
 pub struct Hosts {
     // By the host of a URL, with its brackets.
     by_name: Mutex<IndexMap<String, Arc<Host>>>,
     open: Mutex<Vec<SocketAddr>>,
+    silent: Mutex<Vec<SocketAddr>>,
+    // How many connections have ended.
+    ended: AtomicU64,
     alloc: Global,
 }
 
-// The addresses of a host, with no port, the one that took a connection last in front. None where nobody looked them up yet;
-// no address where that failed.
+// What is known of a host. None where nobody looked it up yet.
 //
-// The lock is held while they are looked up, so that a worker who needs the same host waits for them, and no other does.
+// The lock is held while it is looked up, so that a worker who needs the same host waits, and no other does.
 #[derive(Drop)]
 pub(crate) struct Host {
-    addresses: Mutex<Option<Vec<SocketAddr>>>,
+    known: Mutex<Option<Known>>,
+}
+
+// The addresses of a host, with no port, in the order in which they are to be tried; none where the look-up failed.
+#[derive(Drop)]
+pub(crate) struct Known {
+    pub(crate) addresses: Vec<SocketAddr>,
+    // The one that took a connection last. It stands in front.
+    pub(crate) took: Option<SocketAddr>,
 }
 
 impl Hosts {
@@ -30,6 +42,8 @@ impl Hosts {
         Hosts {
             by_name: Mutex::new(IndexMap::new(alloc)),
             open: Mutex::new(Vec::new(alloc)),
+            silent: Mutex::new(Vec::new(alloc)),
+            ended: AtomicU64::new(0),
             alloc,
         }
     }
@@ -39,32 +53,59 @@ impl Hosts {
         host_among(self.alloc, &mut self.by_name.lock(rt), name)
     }
 
-    // Whether this server kept a connection open at whose end it was waited for.
+    // Whether this server keeps its connections open, so that nobody waits for it to close one.
     pub(crate) fn is_open<R: Wait>(&self, rt: &R, server: SocketAddr) -> bool {
-        self.open.lock(rt).iter().any(|known| *known == server)
+        has(&self.open.lock(rt), server)
     }
 
     // Keeps that this server keeps its connections open. Where there is no memory for it, it is waited for again.
     pub(crate) fn note_open<R: Wait>(&self, rt: &R, server: SocketAddr) {
         let _ = self.open.lock(rt).push(server);
     }
+
+    // Whether a connection to this server ran into the system's time limit.
+    pub(crate) fn is_silent<R: Wait>(&self, rt: &R, server: SocketAddr) -> bool {
+        has(&self.silent.lock(rt), server)
+    }
+
+    // Keeps that a connection to this server ran into the system's time limit. Where there is no memory for it, the server is
+    // tried again.
+    pub(crate) fn note_silent<R: Wait>(&self, rt: &R, server: SocketAddr) {
+        let _ = self.silent.lock(rt).push(server);
+    }
+
+    // How many connections of the run have ended.
+    pub(crate) fn ended(&self) -> u64 {
+        self.ended.load(Ordering::SeqCst)
+    }
+
+    // One more connection has ended: what the system gave for it is free again.
+    pub(crate) fn note_end(&self) {
+        self.ended.fetch_add(1, Ordering::SeqCst);
+    }
+}
+
+// Whether this server is one of these.
+pub(crate) fn has(servers: &[SocketAddr], server: SocketAddr) -> bool {
+    servers.iter().any(|known| *known == server)
 }
 
 impl Host {
-    // The addresses in the order in which they are to be tried. They are looked up where nobody did yet.
-    pub(crate) fn addresses<R: Net + Wait>(
+    // What is known of the host. It is looked up where nobody did yet.
+    pub(crate) fn known<R: Net + Wait>(
         &self,
         rt: &R,
         alloc: Global,
         name: &str,
-    ) -> Result<Vec<SocketAddr>, AllocError> {
-        addresses_among(rt, alloc, name, &mut self.addresses.lock(rt))
+    ) -> Result<Known, OpenFault> {
+        known_among(rt, alloc, name, &mut self.known.lock(rt))
     }
 
     // This address took a connection: the next one begins with it, and goes round.
     pub(crate) fn took<R: Wait>(&self, rt: &R, address: SocketAddr) {
-        if let Some(addresses) = &mut *self.addresses.lock(rt) {
-            begin_with(addresses, address);
+        if let Some(known) = &mut *self.known.lock(rt) {
+            begin_with(&mut known.addresses, address);
+            known.took = Some(address);
         }
     }
 }
@@ -93,27 +134,36 @@ fn add_host(
     let host = Arc::new(
         alloc,
         Host {
-            addresses: Mutex::new(None),
+            known: Mutex::new(None),
         },
     )?;
     by_name.insert(name, Arc::try_clone(&host)?)?;
     Ok(host)
 }
 
-// The addresses that are known, or those that are looked up now.
-fn addresses_among<R: Net>(
+// What is known, or looked up now. Only an answer about the host is kept.
+fn known_among<R: Net>(
     rt: &R,
     alloc: Global,
     name: &str,
-    known: &mut Option<Vec<SocketAddr>>,
-) -> Result<Vec<SocketAddr>, AllocError> {
-    if let Some(addresses) = known {
-        return addresses.clone();
+    known: &mut Option<Known>,
+) -> Result<Known, OpenFault> {
+    if let Some(known) = known {
+        return Ok(Known {
+            addresses: known.addresses.clone()?,
+            took: known.took,
+        });
     }
     let addresses = look_up(rt, alloc, name)?;
     let copy = addresses.clone()?;
-    *known = Some(addresses);
-    Ok(copy)
+    *known = Some(Known {
+        addresses,
+        took: None,
+    });
+    Ok(Known {
+        addresses: copy,
+        took: None,
+    })
 }
 
 // Puts this address in front, where it is there; the others follow as they go round.
@@ -132,24 +182,39 @@ fn plain_host(host: &str) -> &str {
     }
 }
 
-// What is known where a look-up failed: no addresses, but for want of memory.
-fn none_found(alloc: Global, kind: ErrorKind) -> Result<Vec<SocketAddr>, AllocError> {
-    match kind {
-        ErrorKind::OutOfMemory => Err(AllocError),
-        _ => Ok(Vec::new(alloc)),
+// What is known where a look-up failed: no addresses, but for want of memory and where the system lacks something. The
+// resolver may say that there is no such host where it had no descriptor to ask with.
+fn none_found<R: Net>(rt: &R, alloc: Global, e: &Error) -> Result<Vec<SocketAddr>, OpenFault> {
+    if e.kind() == ErrorKind::OutOfMemory {
+        return Err(OpenFault::Memory);
     }
+    if let Some(lack) = lack_of(e) {
+        return Err(OpenFault::Lacking(lack));
+    }
+    if lacks_descriptor(rt) {
+        return Err(OpenFault::Lacking(Lack::Descriptor));
+    }
+    if is_again(alloc, e)? {
+        return Err(OpenFault::Lacking(Lack::Resolver));
+    }
+    Ok(Vec::new(alloc))
 }
 
-// The addresses of a host.
-fn look_up<R: Net>(rt: &R, alloc: Global, name: &str) -> Result<Vec<SocketAddr>, AllocError> {
+// The addresses of a host. A descriptor has to be there before it is asked, and behind an answer that there is none.
+fn look_up<R: Net>(rt: &R, alloc: Global, name: &str) -> Result<Vec<SocketAddr>, OpenFault> {
+    if lacks_descriptor(rt) {
+        return Err(OpenFault::Lacking(Lack::Descriptor));
+    }
     match (plain_host(name), 0u16).to_socket_addrs(rt) {
         Ok(found) => {
             let mut addresses = Vec::new(alloc);
             for address in found {
-                addresses.push(address)?;
+                let Ok(()) = addresses.push(address) else {
+                    return Err(OpenFault::Memory);
+                };
             }
             Ok(addresses)
         }
-        Err(e) => none_found(alloc, e.kind()),
+        Err(e) => none_found(rt, alloc, &e),
     }
 }
