@@ -1,5 +1,5 @@
 //! The lock round a frontier.
-ghost use Rattle.std.specs.Prelude.{◌≡◌, false, length, OnOk, OnErr, IfOk, IfErr};
+ghost use Rattle.std.specs.Prelude.{◌≡◌, ◌≢◌, false, length, OnOk, OnErr, IfOk, IfErr};
 ghost use Rattle.frontier_core.specs.Machine.{Action};
 ghost use Rattle.frontier_core.specs.Traced.{Traced, Makes};
 ghost use Rattle.frontier_core.specs.Waits.{ends_waits};
@@ -177,9 +177,10 @@ impl FrontierLock {
     }
 
     /// As [`FrontierLock::next`], but where others are at work it sleeps until one of them made a step that can end its
-    /// wait. It answers Busy under the same lock under which it goes to sleep.
+    /// wait, so it never answers Busy. It goes to sleep under the same lock under which it was told to wait.
     pub fn next_or_wait<R: Wait>(&self, rt: &R, worker: u32) -> Result<Work, AllocError>
-        ensures { IfOk result (IsFor worker) }
+        ensures work { IfOk result (IsFor worker) }
+        ensures waits { result ≢ Ok Work.Busy }
     {
         let mut core = self.core.lock(rt);
         for _ in rt.forever() {

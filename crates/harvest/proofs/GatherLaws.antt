@@ -82,7 +82,7 @@ once_held s held all once =
     subst IsOnce (sym (named_held held ∙ ap (λ (x : List Seen). map (λ (seen : Seen). seen.0) x) (seen_held s held all) ∙ keys_by s.entries)) once
 
 -- what is recorded is held
-recorded_held : (entries : List (Text × Slot)) (u : Text) → Contains (recorded_addresses (filter_map record_of entries)) u → Contains (keys entries) u
+pub recorded_held : (entries : List (Text × Slot)) (u : Text) → Contains (recorded_addresses (filter_map record_of entries)) u → Contains (keys entries) u
 recorded_held [] u among = among
 recorded_held (entry ∷ entries) u among = go (λ later. contains_tail entry.0 u (keys entries) (recorded_held entries u later)) (outcome_in entry.1.progress) refl among
   where
@@ -105,7 +105,7 @@ once_records (entry ∷ entries) once = go (once_records entries once.1) (outcom
     go rest (Some x) is = rw is ((λ among. once.0 (recorded_held entries entry.0 among)), rest)
 
 -- whose rules are known was asked for
-ruled_asked : (origins : List (Text × OriginRules)) (o : Text) → Contains (ruled_origins (filter_map ruled_of origins)) o → Contains (keys origins) o
+pub ruled_asked : (origins : List (Text × OriginRules)) (o : Text) → Contains (ruled_origins (filter_map ruled_of origins)) o → Contains (keys origins) o
 ruled_asked [] o among = among
 ruled_asked (origin ∷ origins) o among = go (λ later. contains_tail origin.0 o (keys origins) (ruled_asked origins o later)) (rules_in (Some origin.1)) refl among
   where

@@ -1,10 +1,10 @@
 -- From the notes and the table to what a retrieval brings in or leaves.
 use Rattle.std.proofs.Common.{◌≡◌, ◌⊎◌, ℕ, inl, inr, true, false, Bool, ◌&&◌, List, [], ◌∷◌, map, zero, suc, Some, None, Option, Result, Ok, Err, refl, sym, ap, ◌∙◌, subst, arith}
-use Rattle.std.specs.Prelude.{All, Contains, IsSome, IsPermutation, MatchOption, IfOk, IfErr, OnOk, IsOk}
+use Rattle.std.specs.Prelude.{◌<◌, All, Contains, IsSome, IfSome, IsPermutation, MatchOption, IfOk, IfErr, OnOk, IsOk}
 use Rattle.std.specs.List.{filter_map}
 use Rattle.std.specs.Option.{is_some}
 use Rattle.std.proofs.lemmas.Bool.{false≢true}
-use Rattle.std.proofs.lemmas.List.Elements.{All-head, All-tail}
+use Rattle.std.proofs.lemmas.List.Elements.{All-head, All-tail, All-nil, All-weaker}
 use Rattle.std.proofs.lemmas.List.Sorted.{All-permutation, IsPermutation-map, IsPermutation-sym, IsPermutation-trans, Contains-permutation}
 use Rattle.follow_filters.specs.Rules.{keeps_of}
 use Rattle.follow_filters.specs.declared.plan.Plan.{Plan}
@@ -15,6 +15,8 @@ use Rattle.frontier_core.specs.Tables.{Text, IsOnce}
 use Rattle.frontier_core.specs.Machine.{State, answers, slot_outcome}
 use Rattle.frontier_core.specs.Invariants.{IsGivenUp, AreRulesGivenUp}
 use Rattle.frontier_core.proofs.RouteLaws.{contains_tail, contains_cases}
+use Rattle.frontier_core.specs.declared.event.Event.{Event}
+use Rattle.workers.specs.OneWorker.{worker_of, only_worker, AreByOne, AreByCrew}
 use Rattle.workers.specs.declared.note.PageNote.{PageNote}
 use Rattle.workers.specs.declared.note.RulesNote.{RulesNote}
 use Rattle.harvest.specs.declared.page.KeptPage.{KeptPage}
@@ -24,6 +26,20 @@ use Rattle.workers.specs.Noted.{AreNoted, Agrees, StandsPage, StandsRules, page_
 use Rattle.workers.specs.Notes.{IsToldPage, IsToldRules, addresses, origins}
 use Rattle.harvest.specs.Pages.{IsKept, is_success}
 use Rattle.harvest.proofs.OrderLaws.{Apart, Apart-from_once, Apart-IsPermutation}
+
+-- ---- the workers that lines name
+
+-- where there is no line none names a worker
+pub by_nobody : (workers : ℕ) (trace : List Event) → trace ≡ [] → AreByCrew workers trace
+by_nobody workers trace none = subst (λ (lines : List Event). AreByCrew workers lines) (sym none) (All-nil (λ (event : Event). IfSome (worker_of event) (λ worker. worker < workers)))
+
+-- a worker that is alone is the first of one
+pub by_one : (trace : List Event) → AreByOne trace → AreByCrew 1 trace
+by_one trace = All-weaker (λ (event : Event). IfSome (worker_of event) (λ worker. worker ≡ only_worker)) (λ (event : Event). IfSome (worker_of event) (λ worker. worker < 1)) (λ event. some (worker_of event)) trace
+  where
+    some : (named : Option ℕ) → IfSome named (λ worker. worker ≡ only_worker) → IfSome named (λ worker. worker < 1)
+    some None h = tt
+    some (Some worker) h = omega (arith, h)
 
 -- ---- orders of texts that stand once
 
@@ -41,6 +57,20 @@ once_apart (u ∷ us) apart = (
 pub once_permutation : (us vs : List Text) → IsPermutation us vs → IsOnce us → IsOnce vs
 once_permutation us vs moved once =
     once_apart vs (Apart-IsPermutation (λ (u : Text). u) us vs moved (Apart-from_once (λ (u : Text). u) us (subst IsOnce (sym (map_self us)) once)))
+
+-- notes that agree with the table do so in whatever order they stand
+pub agrees_moved : (s : State) (pages pages' : List PageNote) (sets sets' : List RulesNote) → IsPermutation pages pages' → IsPermutation sets sets' → Agrees s pages sets → Agrees s pages' sets'
+agrees_moved s pages pages' sets sets' moved moved_sets agrees =
+    let named : IsPermutation (addresses pages) (addresses pages') = IsPermutation-map (λ (note : PageNote). note.address) _ _ moved in
+    let of_origins : IsPermutation (origins sets) (origins sets') = IsPermutation-map (λ (note : RulesNote). note.origin) _ _ moved_sets in
+    record {
+      once = once_permutation _ _ named agrees.once;
+      once_origins = once_permutation _ _ of_origins agrees.once_origins;
+      stand = All-permutation (StandsPage s) _ _ moved agrees.stand;
+      stand_rules = All-permutation (StandsRules s) _ _ moved_sets agrees.stand_rules;
+      recorded = λ u some. Contains-permutation _ _ u named (agrees.recorded u some);
+      ruled = λ o some. Contains-permutation _ _ o of_origins (agrees.ruled o some);
+    }
 
 -- a note among notes, by its address
 pub found_note : {X : Type 0} (key : X → Text) (P : X → Type 0) (xs : List X) (u : Text) → All P xs → Contains (map key xs) u → (x : X) × (key x ≡ u) × P x

@@ -1,20 +1,24 @@
 -- What is concluded from the notes of all workers and the frontier that they left.
-use Rattle.std.specs.Prelude.{◌≡◌, List, None, IsPermutation, MatchOption, ◌&&◌}
+use Rattle.std.specs.Prelude.{◌≡◌, ◌≢◌, ◌⊎◌, ℕ, List, None, Some, IsPermutation, MatchOption, ◌&&◌}
 use Rattle.std.specs.List.{filter_map}
 use Rattle.std.specs.Option.{is_some}
 use Rattle.follow_filters.specs.Rules.{keeps_of}
 use Rattle.follow_filters.specs.declared.plan.Plan.{Plan}
 use Rattle.frontier_core.specs.Tables.{IsOnce}
 use Rattle.frontier_core.specs.Plans.{policy}
+use Rattle.frontier_core.specs.Machine.{IsQuiet}
+use Rattle.frontier_core.specs.Invariants.{IsOverfull}
 use Rattle.frontier_core.specs.Lines.{IsReplay}
 use Rattle.frontier_core.specs.Traced.{Traced}
 use Rattle.frontier_core.specs.declared.event.Cause.{Cause}
+use Rattle.frontier_core.specs.declared.event.Cause.TheVariants as why
 use Rattle.workers.specs.declared.note.PageNote.{PageNote}
 use Rattle.workers.specs.declared.note.RulesNote.{RulesNote}
 use Rattle.harvest.specs.Harvests.{Harvested}
 use Rattle.harvest.specs.declared.page.KeptPage.{KeptPage}
 use Rattle.workers.specs.Noted.{Agrees, page_of}
 use Rattle.workers.specs.Notes.{addresses, origins}
+use Rattle.workers.specs.OneWorker.{AreByCrew}
 use Rattle.harvest.specs.Pages.{is_success}
 use Rattle.harvest.specs.Gathered.{IsHarvestOf}
 use Rattle.workers.specs.Turns.{IsNothing}
@@ -52,3 +56,14 @@ pub record IsBare (notes : List PageNote) (sets : List RulesNote) (cause : Cause
   pub once : IsOnce (addresses notes)
   pub once_origins : IsOnce (origins sets)
   pub nothing : IsNothing cause h
+
+-- the frontier was left neither quiet nor stopped for want of memory, nor as a full table that a refused edge shows
+pub record IsUnexplained (frontier : Traced) : Type 0 where
+  pub unquiet : ¬ IsQuiet frontier.state
+  pub supplied : frontier.state.cause ≢ Some why.Memory
+  pub unborne : frontier.state.cause ≡ Some why.Full → ¬ IsOverfull (policy frontier.plan) frontier.state
+
+-- what a crew of so many workers left belies what it noted: the frontier went by another plan, its trace names a worker that isn't
+-- one of them, or what was noted doesn't agree with its table
+abbrev pub IsBelied : Plan → ℕ → Traced → List PageNote → List RulesNote → Type 0
+IsBelied plan workers frontier notes sets = (frontier.plan ≢ plan) ⊎ ((¬ AreByCrew workers frontier.trace) ⊎ (¬ Agrees frontier.state notes sets))

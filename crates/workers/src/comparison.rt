@@ -1,7 +1,7 @@
 //! The comparison of what the workers noted with what stands in the table.
-ghost use Rattle.std.specs.Prelude.{◌≡◌, ℕ, false, List, All, Contains, IsSome, IsTrue, IsPermutation, map};
+ghost use Rattle.std.specs.Prelude.{◌≡◌, ◌↔◌, ℕ, false, List, All, Contains, IsSome, IsTrue, IsPermutation, map};
 ghost use Rattle.frontier_core.specs.Machine.{answers};
-ghost use Rattle.frontier_core.specs.Tables.{Text};
+ghost use Rattle.frontier_core.specs.Tables.{Text, IsOnce};
 ghost use Rattle.workers.specs.Notes.{addresses, origins};
 ghost use Rattle.workers.specs.Noted.{StandsPage, StandsRules, Agrees};
 ghost use Rattle.address.specs.AddressOrder.{IsAscending};
@@ -15,6 +15,7 @@ use harvest::Named;
 pub fn sort_and_ascend<T: Named>(things: &mut Vec<T>) -> bool
     ensures permutation { IsPermutation things.old.items things.new.items }
     ensures ascending { IsTrue result → IsAscending (map T.text_of things.new.items) }
+    ensures once { IsTrue result ↔ IsOnce (map T.text_of things.new.items) }
 {
     things.sort_unstable_by(|thing, other| thing.name().cmp(other.name()));
     ascend(things)
@@ -22,7 +23,7 @@ pub fn sort_and_ascend<T: Named>(things: &mut Vec<T>) -> bool
 
 // Whether each name stands before the next one.
 fn ascend<T: Named>(things: &[T]) -> bool
-    ensures { IsTrue result → IsAscending (map T.text_of things.now) }
+    ensures { IsTrue result ↔ IsAscending (map T.text_of things.now) }
 {
     for k in 1..things.len() {
         let (thing, next) = (&things[k - 1], &things[k]);
@@ -35,7 +36,7 @@ fn ascend<T: Named>(things: &[T]) -> bool
 
 // Whether what was noted of a page stands in the table.
 fn page_stands(frontier: &Frontier, note: &PageNote) -> bool
-    ensures { IsTrue result → StandsPage frontier.now.state note.now }
+    ensures { IsTrue result ↔ StandsPage frontier.now.state note.now }
 {
     match &note.told {
         Some(outcome) => match frontier.outcome_of(&note.address) {
@@ -48,7 +49,7 @@ fn page_stands(frontier: &Frontier, note: &PageNote) -> bool
 
 // Whether what was noted of an origin stands in the table.
 fn rules_stand(frontier: &Frontier, note: &RulesNote) -> bool
-    ensures { IsTrue result → StandsRules frontier.now.state note.now }
+    ensures { IsTrue result ↔ StandsRules frontier.now.state note.now }
 {
     match &note.told {
         Some(rules) => match frontier.rules_of(&note.origin) {
@@ -61,7 +62,7 @@ fn rules_stand(frontier: &Frontier, note: &RulesNote) -> bool
 
 // Whether all that was noted of pages stands in the table.
 fn pages_stand(frontier: &Frontier, notes: &[PageNote]) -> bool
-    ensures { IsTrue result → All (StandsPage frontier.now.state) notes.now }
+    ensures { IsTrue result ↔ All (StandsPage frontier.now.state) notes.now }
 {
     for note in notes {
         if !page_stands(frontier, note) {
@@ -73,7 +74,7 @@ fn pages_stand(frontier: &Frontier, notes: &[PageNote]) -> bool
 
 // Whether all that was noted of origins stands in the table.
 fn all_rules_stand(frontier: &Frontier, notes: &[RulesNote]) -> bool
-    ensures { IsTrue result → All (StandsRules frontier.now.state) notes.now }
+    ensures { IsTrue result ↔ All (StandsRules frontier.now.state) notes.now }
 {
     for note in notes {
         if !rules_stand(frontier, note) {
@@ -105,8 +106,11 @@ pub fn is_origin_noted(notes: &[RulesNote], origin: &Origin) -> bool
 
 // Whether what is recorded was noted, in notes that are in address order.
 fn records_are_noted(frontier: &Frontier, notes: &[PageNote]) -> bool
-    ensures { IsTrue result → (u : Text) → IsSome ((answers frontier.now.state).outcome u) → Contains (addresses notes.now) u }
+    ensures noted { IsTrue result → (u : Text) → IsSome ((answers frontier.now.state).outcome u) → Contains (addresses notes.now) u }
+    ensures missing { IsAscending (addresses notes.now) → ((u : Text) → IsSome ((answers frontier.now.state).outcome u) → Contains (addresses notes.now) u) → IsTrue result }
 {
+    // No address is held twice.
+    let _trace = frontier.trace();
     let mut records = frontier.records();
     'records: while let Some((address, _outcome)) = records.next() {
         if !is_noted(notes, address) {
@@ -118,8 +122,11 @@ fn records_are_noted(frontier: &Frontier, notes: &[PageNote]) -> bool
 
 // Whether what is known of origins was noted, in notes that are in origin order.
 fn known_rules_are_noted(frontier: &Frontier, notes: &[RulesNote]) -> bool
-    ensures { IsTrue result → (o : Text) → IsSome ((answers frontier.now.state).rules o) → Contains (origins notes.now) o }
+    ensures noted { IsTrue result → (o : Text) → IsSome ((answers frontier.now.state).rules o) → Contains (origins notes.now) o }
+    ensures missing { IsAscending (origins notes.now) → ((o : Text) → IsSome ((answers frontier.now.state).rules o) → Contains (origins notes.now) o) → IsTrue result }
 {
+    // No origin is held twice.
+    let _trace = frontier.trace();
     let mut rules = frontier.rules();
     'rules: while let Some((origin, _set)) = rules.next() {
         if !is_origin_noted(notes, origin) {
@@ -133,7 +140,7 @@ fn known_rules_are_noted(frontier: &Frontier, notes: &[RulesNote]) -> bool
 pub fn agree(frontier: &Frontier, notes: &mut Notes) -> bool
     ensures pages { IsPermutation notes.old.pages.items notes.new.pages.items }
     ensures rules { IsPermutation notes.old.rules.items notes.new.rules.items }
-    ensures agrees { IsTrue result → Agrees frontier.now.state notes.new.pages.items notes.new.rules.items }
+    ensures agrees { IsTrue result ↔ Agrees frontier.now.state notes.new.pages.items notes.new.rules.items }
 {
     let is_once = sort_and_ascend(&mut notes.pages);
     let is_once_asked = sort_and_ascend(&mut notes.rules);

@@ -6,10 +6,12 @@ ghost use Rattle.frontier_core.specs.Invariants.{IsComplete, IsOverfull};
 ghost use Rattle.frontier_core.specs.Plans.{policy};
 ghost use Rattle.frontier_core.specs.Routes.{HasTooMany};
 ghost use Rattle.frontier_core.specs.Tables.{IsOnce};
-ghost use Rattle.workers.specs.Concluded.{HasBody, IsConcluded, IsBorneOut, IsBare};
+ghost use Rattle.workers.specs.Concluded.{HasBody, IsConcluded, IsBorneOut, IsBare, IsBelied, IsUnexplained};
+ghost use Rattle.workers.specs.OneWorker.{AreByCrew};
 ghost use Rattle.workers.specs.Noted.{page_of};
 
 use crate::comparison::agree;
+use crate::crew_trace::are_by_crew;
 use crate::note::{Notes, PageNote};
 use crate::retrieval::{Halt, finish};
 use follow_filters::Plan;
@@ -22,6 +24,8 @@ fn end_of(frontier: &Frontier) -> Result<(), Cause>
     ensures quiet { OnOk result (IsQuiet frontier.now.state × IsComplete (policy frontier.now.plan) frontier.now.state) }
     ensures stopped { IfErr result (λ cause. cause ≢ Cause.Mismatch → frontier.now.state.cause ≡ Some cause) }
     ensures full { result ≡ Err Cause.Full → HasTooMany (policy frontier.now.plan) (answers frontier.now.state) × IsOverfull (policy frontier.now.plan) frontier.now.state }
+    ensures memory { result ≡ Err Cause.Memory ↔ frontier.now.state.cause ≡ Some Cause.Memory }
+    ensures mismatch { result ≡ Err Cause.Mismatch ↔ IsUnexplained frontier.now }
 {
     if frontier.is_quiet() {
         return Ok(());
@@ -65,18 +69,25 @@ fn keep_pages(alloc: Global, notes: Vec<PageNote>) -> Result<Vec<KeptPage>, Allo
     Ok(pages)
 }
 
-// The pages that are kept of notes, which are compared with the plan and the frontier's table.
+// The pages that are kept of notes, which are compared with the plan, with the workers that the trace names, and with the
+// frontier's table.
 fn kept_pages(
     alloc: Global,
     plan: &Plan,
+    workers: usize,
     frontier: &Frontier,
     mut notes: Notes,
 ) -> Result<Vec<KeptPage>, Halt>
     ensures ok { IfOk result (λ pages. IsBorneOut plan.now frontier.now notes.pages.items notes.rules.items pages.items) }
     ensures err { IfErr result (λ halt. halt.cause ≢ Cause.Mismatch → IsBare notes.pages.items notes.rules.items halt.cause halt.harvest) }
     ensures full { IfErr result (λ halt. halt.cause ≢ Cause.Full) }
+    ensures numbered { OnOk result (AreByCrew workers frontier.now.trace) }
+    ensures mismatch { IfErr result (λ halt. halt.cause ≡ Cause.Mismatch → IsBelied plan.now workers frontier.now notes.pages.items notes.rules.items) }
 {
     if !frontier.plan().same(plan) {
+        return Err(Halt::mismatch(alloc));
+    }
+    if !are_by_crew(frontier.trace(), workers) {
         return Err(Halt::mismatch(alloc));
     }
     if !agree(frontier, &mut notes) {
@@ -89,10 +100,11 @@ fn kept_pages(
     }
 }
 
-/// What a crew brings in or leaves, by its notes and its frontier.
+/// What a crew of so many workers brings in or leaves, by its notes and its frontier.
 pub fn conclude(
     alloc: Global,
     plan: &Plan,
+    workers: usize,
     frontier: Frontier,
     notes: Notes,
 ) -> Result<Harvest, Halt>
@@ -101,9 +113,11 @@ pub fn conclude(
     ensures err { IfErr result (λ halt. halt.cause ≢ Cause.Mismatch → IsBare notes.pages.items notes.rules.items halt.cause halt.harvest
         ⊎ (IsConcluded plan.now frontier notes.pages.items notes.rules.items halt.harvest × (frontier.state.cause ≡ Some halt.cause))) }
     ensures full { IfErr result (λ halt. halt.cause ≡ Cause.Full → HasTooMany (policy frontier.plan) (answers frontier.state) × IsOverfull (policy frontier.plan) frontier.state) }
+    ensures numbered { IfOk result (λ h. AreByCrew workers h.trace) × IfErr result (λ halt. halt.cause ≢ Cause.Mismatch → AreByCrew workers halt.harvest.trace) }
+    ensures mismatch { IfErr result (λ halt. halt.cause ≡ Cause.Mismatch → IsBelied plan.now workers frontier notes.pages.items notes.rules.items ⊎ IsUnexplained frontier) }
 {
     let ended = end_of(&frontier);
-    match kept_pages(alloc, plan, &frontier, notes) {
+    match kept_pages(alloc, plan, workers, &frontier, notes) {
         Ok(pages) => finish(alloc, frontier, pages, ended),
         Err(halt) => {
             // By a call, since what an exit lets go is proved anew at each exit.

@@ -6,6 +6,7 @@ ghost use Rattle.frontier_core.specs.Plans.{policy};
 ghost use Rattle.frontier_core.specs.Routes.{Answers, HasTooMany};
 ghost use Rattle.workers.specs.Crews.{AreLater, all_gained, SomeSays, SomeRules, AllFit};
 ghost use Rattle.workers.specs.Answered.{IsBrought, IsLeftBy, IsAccount};
+ghost use Rattle.workers.specs.OneWorker.{AreByCrew};
 ghost use Rattle.workers.specs.Retrieval.{Brings, IsLeft};
 ghost use Rattle.workers.specs.Sites.{IsCompleteFor};
 
@@ -72,6 +73,7 @@ fn ask_alone<F: Fetcher>(alloc: Global, plan: &Plan, fetchers: &mut [F]) -> Resu
     ensures ok { IfOk result (λ h. IsBrought F.site F.says F.rules F.log plan.now fetchers.old fetchers.new h) }
     ensures err { IfErr result (λ halt. IsLeftBy F.site F.says F.rules F.log plan.now fetchers.old fetchers.new halt.cause halt.harvest) }
     ensures mismatch { IfErr result (λ halt. halt.cause ≢ Cause.Mismatch) }
+    ensures numbered { IfOk result (λ h. AreByCrew 1 h.trace) × IfErr result (λ halt. halt.cause ≢ Cause.Mismatch → AreByCrew 1 halt.harvest.trace) }
 {
     if let [fetcher] = fetchers {
         return retrieve_in_order(alloc, plan, fetcher);
@@ -89,6 +91,7 @@ fn retrieve_alone<F: Fetcher>(
     ensures ok { IfOk result (λ r. IsBrought F.site F.says F.rules F.log plan.now fetchers.items r.fetchers.items r.harvest) }
     ensures err { IfErr result (λ s. IsLeftBy F.site F.says F.rules F.log plan.now fetchers.items s.fetchers.items s.cause s.harvest) }
     ensures mismatch { IfErr result (λ s. s.cause ≢ Cause.Mismatch) }
+    ensures numbered { IfOk result (λ r. AreByCrew 1 r.harvest.trace) × IfErr result (λ s. s.cause ≢ Cause.Mismatch → AreByCrew 1 s.harvest.trace) }
 {
     let concluded = ask_alone(alloc, plan, &mut fetchers);
     answer(concluded, fetchers)
@@ -191,8 +194,10 @@ fn retrieve_together<F: Fetcher + Send, R: Threads + Wait + Sync>(
     requires most { vec_len fetchers ≤ 64 }
     ensures ok { IfOk result (λ r. IsBrought F.site F.says F.rules F.log plan.now fetchers.items r.fetchers.items r.harvest) }
     ensures err { IfErr result (λ s. IsLeftBy F.site F.says F.rules F.log plan.now fetchers.items s.fetchers.items s.cause s.harvest) }
+    ensures numbered { IfOk result (λ r. AreByCrew (vec_len fetchers) r.harvest.trace) × IfErr result (λ s. s.cause ≢ Cause.Mismatch → AreByCrew (vec_len fetchers) s.harvest.trace) }
 {
-    let Ok(room) = Room::new(alloc, plan, fetchers.len()) else {
+    let workers = fetchers.len();
+    let Ok(room) = Room::new(alloc, plan, workers) else {
         return answer(Err(Halt::empty(alloc)), fetchers);
     };
     let Room {
@@ -204,7 +209,7 @@ fn retrieve_together<F: Fetcher + Send, R: Threads + Wait + Sync>(
     let Worked { fetchers, noted } = work_all(rt, alloc, &lock, plan, fetchers, seats, back);
     let frontier = lock.into_frontier();
     match noted {
-        Noted::All(notes) => answer(conclude(alloc, plan, frontier, notes), fetchers),
+        Noted::All(notes) => answer(conclude(alloc, plan, workers, frontier, notes), fetchers),
         Noted::Once => {
             drop(frontier);
             answer(Err(Halt::empty(alloc)), fetchers)
@@ -227,6 +232,7 @@ fn retrieve_with<F: Fetcher + Send, R: Threads + Wait + Sync>(
     ensures ok { IfOk result (λ r. IsBrought F.site F.says F.rules F.log plan.now fetchers.items r.fetchers.items r.harvest) }
     ensures err { IfErr result (λ s. IsLeftBy F.site F.says F.rules F.log plan.now fetchers.items s.fetchers.items s.cause s.harvest) }
     ensures one { vec_len fetchers ≡ 1 → IfErr result (λ s. s.cause ≢ Cause.Mismatch) }
+    ensures numbered { IfOk result (λ r. AreByCrew (vec_len fetchers) r.harvest.trace) × IfErr result (λ s. s.cause ≢ Cause.Mismatch → AreByCrew (vec_len fetchers) s.harvest.trace) }
 {
     if fetchers.len() == 1 {
         return retrieve_alone(alloc, plan, fetchers);
@@ -238,7 +244,7 @@ fn retrieve_with<F: Fetcher + Send, R: Threads + Wait + Sync>(
 /// order, and the site of each is what it was. What they were asked, all together, and what some of them said is what
 /// [`retrieve_in_order`] says of one.
 ///
-/// It stops as Mismatch where a check of what the workers noted fails; then nothing more is said, and with one fetcher that
+/// The lines of the trace name these workers alone, which are counted from 0. It stops as Mismatch where a check of what the workers noted fails; then nothing more is said, and with one fetcher that
 /// never comes.
 pub fn retrieve<F: Fetcher + Send, R: Threads + Wait + Sync>(
     rt: &R,
@@ -255,6 +261,7 @@ pub fn retrieve<F: Fetcher + Send, R: Threads + Wait + Sync>(
         (SomeRules F.site F.rules F.log fetchers.items s.fetchers.items) plan.now (all_gained F.log fetchers.items s.fetchers.items) s.cause s.harvest) }
     ensures full { IfErr result (λ s. s.cause ≡ Cause.Full → HasTooMany (policy plan.now) (answers s.harvest.state) × IsOverfull (policy plan.now) s.harvest.state) }
     ensures one { vec_len fetchers ≡ 1 → IfErr result (λ s. s.cause ≢ Cause.Mismatch) }
+    ensures numbered { IfOk result (λ r. AreByCrew (vec_len fetchers) r.harvest.trace) × IfErr result (λ s. s.cause ≢ Cause.Mismatch → AreByCrew (vec_len fetchers) s.harvest.trace) }
 
     // What holds of fetchers whose sites give each address one outcome, and each origin one rule set, and the same.
     ensures whole_site { (whole : Answers) → AllFit F.site F.says F.rules fetchers.items whole → IfOk result (λ r. IsCompleteFor (policy plan.now) whole r.harvest.state) }

@@ -15,6 +15,7 @@ mod comparison;
 mod conclusion;
 mod crew;
 mod crew_retrieval;
+mod crew_trace;
 mod note;
 mod once;
 mod retrieval;

@@ -240,7 +240,8 @@ fn work<F: Fetcher, R: Wait>(
             Err(_) => lock.halt(rt, None, Cause::Memory),
             Ok(Work::Stopped(_)) => break,
             Ok(Work::Quiet) => break,
-            Ok(Work::Busy) => {}
+            // It slept where others were at work.
+            Ok(Work::Busy) => unreachable!(),
             Ok(Work::Spread) => spread(rt, lock),
             Ok(Work::Robots(permit)) => {
                 serve_rules(rt, alloc, lock, plan, fetcher, notes, permit)

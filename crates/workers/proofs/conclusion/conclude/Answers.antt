@@ -1,5 +1,5 @@
 use Rattle.std.proofs.Common.{map, ◌≡◌, ◌≢◌, ◌⊎◌, inl, inr, sym, ap, ◌∙◌, subst, List, Some, Err}
-use Rattle.std.specs.Prelude.{All}
+use Rattle.std.specs.Prelude.{All, IsOk}
 use Rattle.std.proofs.lemmas.List.Sorted.{All-permutation, IsPermutation-map, IsPermutation-sym}
 use Rattle.frontier_core.specs.Machine.{answers}
 use Rattle.frontier_core.specs.Plans.{policy}
@@ -12,10 +12,12 @@ use Rattle.follow_filters.specs.declared.plan.Plan.{Plan}
 use Rattle.workers.specs.declared.note.PageNote.{PageNote}
 use Rattle.workers.specs.declared.note.RulesNote.{RulesNote}
 use Rattle.harvest.specs.declared.page.KeptPage.{KeptPage}
-use Rattle.workers.specs.Concluded.{HasBody, IsConcluded, IsBare}
+use Rattle.workers.specs.Concluded.{HasBody, IsConcluded, IsBare, IsBelied, IsUnexplained}
+use Rattle.workers.specs.OneWorker.{AreByCrew}
 use Rattle.harvest.specs.Gathered.{IsHarvestOf}
+use Rattle.harvest.specs.Harvests.{Harvested}
 use Rattle.workers.specs.Turns.{IsNothing}
-use Rattle.workers.proofs.ConclusionLaws.{once_permutation, kept_once, kept_is, if_err, on_err}
+use Rattle.workers.proofs.ConclusionLaws.{once_permutation, kept_once, kept_is, if_ok, if_err, on_err, by_nobody}
 use Rattle.workers.proofs.conclusion.conclude.Goals as goal
 
 pub finish-requires-clause-once : goal.finish-requires-clause-once
@@ -71,3 +73,33 @@ returns-in-Ok-clause-full c =
 
 pub returns-in-Err-clause-err : goal.returns-in-Err-clause-err
 returns-in-Err-clause-err c other = inl (c.in-Err.ensures.err other)
+
+pub returns-in-Ok-clause-mismatch : goal.returns-in-Ok-clause-mismatch
+returns-in-Ok-clause-mismatch c =
+    let A : Halt → Type 0 = λ halt. IsNothing halt.cause halt.harvest ⊎ ((c.end_of-ended.result ≡ Err halt.cause) × IsHarvestOf c.args.frontier c.in-Ok.pages.items halt.harvest) in
+    let B : Halt → Type 0 = λ halt. halt.cause ≡ why.Mismatch → IsBelied c.args.plan.now c.args.workers c.args.frontier c.args.notes.pages.items c.args.notes.rules.items ⊎ IsUnexplained c.args.frontier in
+    let turn : (halt : Halt) → A halt → B halt = λ halt either is. elim either [
+      | inl nothing ↦ (let other : why.Memory ≡ why.Mismatch = sym nothing.memory ∙ is in cc)
+      | inr both ↦ inr (c.end_of-ended.ensures.mismatch.0 (both.0 ∙ ap (λ cause. Err cause) is))
+    ] in
+    if_err c.finish.result A B turn c.finish.ensures.err
+
+pub returns-in-Ok-clause-numbered : goal.returns-in-Ok-clause-numbered
+returns-in-Ok-clause-numbered c =
+    let by_crew : (h : Harvested) → IsHarvestOf c.args.frontier c.in-Ok.pages.items h → AreByCrew c.args.workers h.trace =
+    λ h is. subst (λ trace. AreByCrew c.args.workers trace) (sym is.trace) c.in-Ok.ensures.numbered in
+    let A : Halt → Type 0 = λ halt. IsNothing halt.cause halt.harvest ⊎ ((c.end_of-ended.result ≡ Err halt.cause) × IsHarvestOf c.args.frontier c.in-Ok.pages.items halt.harvest) in
+    let B : Halt → Type 0 = λ halt. halt.cause ≢ why.Mismatch → AreByCrew c.args.workers halt.harvest.trace in
+    let turn : (halt : Halt) → A halt → B halt = λ halt either other. elim either [
+      | inl nothing ↦ by_nobody c.args.workers halt.harvest.trace nothing.trace
+      | inr both ↦ by_crew halt.harvest both.1
+    ] in (
+      if_ok c.finish.result (λ h. IsOk c.end_of-ended.result × IsHarvestOf c.args.frontier c.in-Ok.pages.items h) (λ h. AreByCrew c.args.workers h.trace) (λ h both. by_crew h both.1) c.finish.ensures.ok,
+      if_err c.finish.result A B turn c.finish.ensures.err,
+    )
+
+pub returns-in-Err-clause-mismatch : goal.returns-in-Err-clause-mismatch
+returns-in-Err-clause-mismatch c is = inl (c.in-Err.ensures.mismatch is)
+
+pub returns-in-Err-clause-numbered : goal.returns-in-Err-clause-numbered
+returns-in-Err-clause-numbered c = (tt, λ other. by_nobody c.args.workers _ (c.in-Err.ensures.err other).nothing.trace)

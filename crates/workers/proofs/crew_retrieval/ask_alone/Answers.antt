@@ -1,3 +1,7 @@
+use Rattle.std.proofs.Common.{◌≢◌}
+use Rattle.frontier_core.specs.declared.event.Cause.TheVariants as why
+use Rattle.workers.specs.OneWorker.{AreByOne, AreByCrew}
+use Rattle.workers.proofs.ConclusionLaws.{if_ok, if_err, by_one}
 use Rattle.workers.proofs.CrewEnds.{alone_brought, alone_left}
 use Rattle.workers.proofs.crew_retrieval.ask_alone.Goals as goal
 
@@ -12,3 +16,10 @@ returns-in-len1-clause-err g c =
     let F = g.F.Fetcher in
     let told = c.retrieve_in_order.ensures in
     alone_left F.site F.says F.rules F.log c.args.plan.now c.args.fetchers.now c.index-fetchers-0.result c.retrieve_in_order.new.fetcher c.retrieve_in_order.result c.requires told.site told.log told.err told.full
+
+pub returns-in-len1-clause-numbered : goal.returns-in-len1-clause-numbered
+returns-in-len1-clause-numbered g c =
+    let by = c.retrieve_in_order.ensures.by_one in (
+      if_ok c.retrieve_in_order.result (λ h. AreByOne h.trace) (λ h. AreByCrew 1 h.trace) (λ h. by_one h.trace) by.0,
+      if_err c.retrieve_in_order.result (λ halt. AreByOne halt.harvest.trace) (λ halt. halt.cause ≢ why.Mismatch → AreByCrew 1 halt.harvest.trace) (λ halt is other. by_one halt.harvest.trace is) by.1,
+    )

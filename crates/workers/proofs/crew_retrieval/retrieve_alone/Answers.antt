@@ -1,6 +1,7 @@
 use Rattle.std.proofs.Common.{◌≡◌, ◌≢◌, ◌++◌, length, take, drop, sym, subst, arith}
 use Rattle.std.specs.Prelude.{IfOk, IfErr}
 use Rattle.frontier_core.specs.declared.event.Cause.TheVariants as why
+use Rattle.workers.specs.OneWorker.{AreByCrew}
 use Rattle.workers.specs.Answered.{IsBrought, IsLeftBy}
 use Rattle.workers.proofs.CrewEnds.{ok_told, err_told, written}
 use Rattle.workers.proofs.crew_retrieval.retrieve_alone.Goals as goal
@@ -34,3 +35,11 @@ returns-clause-mismatch g c =
     let new = c.ask_alone-concluded.new.fetchers in
     err_told c.answer.result c.ask_alone-concluded.result (take c.args.fetchers.len (new ++ drop (length new) c.args.fetchers.items)) (λ fs cause h. cause ≢ why.Mismatch)
     c.ask_alone-concluded.ensures.mismatch c.answer.ensures.err
+
+pub returns-clause-numbered : goal.returns-clause-numbered
+returns-clause-numbered g c =
+    let new = c.ask_alone-concluded.new.fetchers in
+    let fetchers = take c.args.fetchers.len (new ++ drop (length new) c.args.fetchers.items) in (
+      ok_told c.answer.result c.ask_alone-concluded.result fetchers (λ fs h. AreByCrew 1 h.trace) c.ask_alone-concluded.ensures.numbered.0 c.answer.ensures.ok,
+      err_told c.answer.result c.ask_alone-concluded.result fetchers (λ fs cause h. cause ≢ why.Mismatch → AreByCrew 1 h.trace) c.ask_alone-concluded.ensures.numbered.1 c.answer.ensures.err,
+    )

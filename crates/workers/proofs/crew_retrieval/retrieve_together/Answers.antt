@@ -1,4 +1,8 @@
-use Rattle.std.proofs.Common.{Err}
+use Rattle.std.proofs.Common.{◌≡◌, ◌≢◌, ℕ, Err, rules, subst}
+use Rattle.std.specs.Prelude.{IfOk, IfErr}
+use Rattle.frontier_core.specs.declared.event.Cause.TheVariants as why
+use Rattle.workers.specs.OneWorker.{AreByCrew}
+use Rattle.workers.proofs.ConclusionLaws.{by_nobody}
 use Rattle.workers.specs.Answered.{IsBrought, IsLeftBy}
 use Rattle.workers.specs.Crews.{SomeSays}
 use Rattle.workers.proofs.CrewEnds.{ok_told, err_told, left_nothing, left_wrong, later_self, none_once, account_all, account_once, all_brought, all_left}
@@ -77,3 +81,32 @@ returns-in-Twice-clause-err g c =
     let new = c.work_all-fetchers.result.fetchers.items in
     err_told c.answer-in-Twice.result (Err c.mismatch.result) new (λ fs cause h. IsLeftBy F.site F.says F.rules F.log plan old fs cause h)
     (left_wrong F.site F.says F.rules F.log plan old new c.mismatch.result.cause c.mismatch.result.harvest c.work_all-fetchers.ensures.later c.mismatch.ensures) c.answer-in-Twice.ensures.err
+
+pub returns-in_default-clause-numbered : goal.returns-in_default-clause-numbered
+returns-in_default-clause-numbered g c =
+    let workers = c.args.fetchers.len in (
+      ok_told c.answer.result (Err c.empty.result) c.args.fetchers.items (λ new h. AreByCrew workers h.trace) tt c.answer.ensures.ok,
+      err_told c.answer.result (Err c.empty.result) c.args.fetchers.items (λ new cause h. cause ≢ why.Mismatch → AreByCrew workers h.trace) (λ other. by_nobody workers _ c.empty.ensures.trace) c.answer.ensures.err,
+    )
+
+pub returns-in-All-clause-numbered : goal.returns-in-All-clause-numbered
+returns-in-All-clause-numbered g c =
+    let all : c.len-workers.result ≡ c.args.fetchers.len = search rules in
+    let workers = c.args.fetchers.len in (
+      ok_told c.answer-in-All.result c.conclude.result c.work_all-fetchers.result.fetchers.items (λ new h. AreByCrew workers h.trace) (subst (λ (n : ℕ). IfOk c.conclude.result (λ h. AreByCrew n h.trace)) all c.conclude.ensures.numbered.0) c.answer-in-All.ensures.ok,
+      err_told c.answer-in-All.result c.conclude.result c.work_all-fetchers.result.fetchers.items (λ new cause h. cause ≢ why.Mismatch → AreByCrew workers h.trace) (subst (λ (n : ℕ). IfErr c.conclude.result (λ halt. halt.cause ≢ why.Mismatch → AreByCrew n halt.harvest.trace)) all c.conclude.ensures.numbered.1) c.answer-in-All.ensures.err,
+    )
+
+pub returns-in-Once-clause-numbered : goal.returns-in-Once-clause-numbered
+returns-in-Once-clause-numbered g c =
+    let workers = c.args.fetchers.len in (
+      ok_told c.answer-in-Once.result (Err c.empty-in-Once.result) c.work_all-fetchers.result.fetchers.items (λ new h. AreByCrew workers h.trace) tt c.answer-in-Once.ensures.ok,
+      err_told c.answer-in-Once.result (Err c.empty-in-Once.result) c.work_all-fetchers.result.fetchers.items (λ new cause h. cause ≢ why.Mismatch → AreByCrew workers h.trace) (λ other. by_nobody workers _ c.empty-in-Once.ensures.trace) c.answer-in-Once.ensures.err,
+    )
+
+pub returns-in-Twice-clause-numbered : goal.returns-in-Twice-clause-numbered
+returns-in-Twice-clause-numbered g c =
+    let workers = c.args.fetchers.len in (
+      ok_told c.answer-in-Twice.result (Err c.mismatch.result) c.work_all-fetchers.result.fetchers.items (λ new h. AreByCrew workers h.trace) tt c.answer-in-Twice.ensures.ok,
+      err_told c.answer-in-Twice.result (Err c.mismatch.result) c.work_all-fetchers.result.fetchers.items (λ new cause h. cause ≢ why.Mismatch → AreByCrew workers h.trace) (λ other. absurd (other c.mismatch.ensures)) c.answer-in-Twice.ensures.err,
+    )

@@ -10,9 +10,6 @@ loop-init g c =
 pub loop-preserved-in-Err : goal.loop-preserved-in-Err
 loop-preserved-in-Err g c = c.loop.invariant
 
-pub loop-preserved-in-Ok-Busy : goal.loop-preserved-in-Ok-Busy
-loop-preserved-in-Ok-Busy g c = c.loop.invariant
-
 pub loop-preserved-in-Ok-Spread : goal.loop-preserved-in-Ok-Spread
 loop-preserved-in-Ok-Spread g c = c.loop.invariant
 
