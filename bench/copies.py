@@ -2,6 +2,8 @@
 tries, and the checkout stays as it is."""
 import os
 import shutil
+import subprocess
+import sys
 import tempfile
 
 
@@ -48,3 +50,12 @@ def stamp_of(library):
             return stamp.read()
     except OSError:
         return None
+
+
+def prove_libraries(to, names):
+    """Proves what these crates of the copy stand on, and tells on standard error what isn't proved."""
+    proving = [os.path.abspath("bench/prove-libraries"), *names]
+    proved = subprocess.run(proving, cwd=to, stdin=subprocess.DEVNULL, stdout=subprocess.PIPE, text=True, errors="replace")
+    if proved.returncode:
+        print(proved.stdout, end="", file=sys.stderr)
+    return proved.returncode == 0

@@ -189,6 +189,90 @@ $ -r -l inf --map http://h/1.html
 > fetched 6 kept 6 refused 0 failed 0
 = 0
 
+the manual's site, one level, and what its pages show
+$ -r -l 1 -p --map http://h/1.html
+< page 200 http://h/1.html
+< inline http://h/1.gif
+< link http://h/2.html
+< leaf 200 http://h/1.gif
+< page 200 http://h/2.html
+< inline http://h/2.gif
+< link http://h/3.html
+< leaf 200 http://h/2.gif
+< page 200 http://h/3.html
+< inline http://h/3.gif
+< leaf 200 http://h/3.gif
+> 1 200 http://h/1.gif h/1.gif
+> 0 200 http://h/1.html h/1.html
+> 2 200 http://h/2.gif h/2.gif
+> 1 200 http://h/2.html h/2.html
+> fetched 4 kept 4 refused 0 failed 0
+= 0
+
+the manual's site, not recursive, and what the start shows
+$ -p --map http://h/1.html
+< page 200 http://h/1.html
+< inline http://h/1.gif
+< link http://h/2.html
+< leaf 200 http://h/1.gif
+< page 200 http://h/2.html
+< inline http://h/2.gif
+< link http://h/3.html
+< leaf 200 http://h/2.gif
+< page 200 http://h/3.html
+< inline http://h/3.gif
+< leaf 200 http://h/3.gif
+> 1 200 http://h/1.gif h/1.gif
+> 0 200 http://h/1.html h/1.html
+> fetched 2 kept 2 refused 0 failed 0
+= 0
+
+what a page shows, behind a redirect
+$ --page-requisites --map http://h/
+< page 200 http://h/
+< inline http://h/i
+< moved 302 http://h/i http://h/j
+< leaf 200 http://h/j
+> 0 200 http://h/ h/index.html
+> 1 302 http://h/i -
+> 1 200 http://h/j h/j
+> fetched 3 kept 2 refused 0 failed 0
+= 0
+
+a page shown within a page leads no further
+$ -p --map http://h/
+< page 200 http://h/
+< inline http://h/f
+< page 200 http://h/f
+< inline http://h/g
+< link http://h/k
+> 0 200 http://h/ h/index.html
+> 1 200 http://h/f h/f
+> fetched 2 kept 2 refused 0 failed 0
+= 0
+
+the manual's site, no limit, and what its pages show
+$ -r -l 0 -p --map http://h/1.html
+< page 200 http://h/1.html
+< inline http://h/1.gif
+< link http://h/2.html
+< leaf 200 http://h/1.gif
+< page 200 http://h/2.html
+< inline http://h/2.gif
+< link http://h/3.html
+< leaf 200 http://h/2.gif
+< page 200 http://h/3.html
+< inline http://h/3.gif
+< leaf 200 http://h/3.gif
+> 1 200 http://h/1.gif h/1.gif
+> 0 200 http://h/1.html h/1.html
+> 2 200 http://h/2.gif h/2.gif
+> 1 200 http://h/2.html h/2.html
+> 3 200 http://h/3.gif h/3.gif
+> 2 200 http://h/3.html h/3.html
+> fetched 6 kept 6 refused 0 failed 0
+= 0
+
 names that are accepted
 $ -r -l 1 -A gif --map http://h/
 < page 200 http://h/

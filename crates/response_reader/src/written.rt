@@ -27,11 +27,7 @@ fn push_field(text: &mut Vec<u8>, name: &[u8], value: &[u8]) -> Result<(), Alloc
 }
 
 // The field line of this name, where there is a value.
-fn push_value(
-    text: &mut Vec<u8>,
-    name: &[u8],
-    value: &Option<Vec<u8>>,
-) -> Result<(), AllocError>
+fn push_value(text: &mut Vec<u8>, name: &[u8], value: &Option<Vec<u8>>) -> Result<(), AllocError>
     ensures { OnOk result (text.new.items ≡ text.old.items ++ flat_map field_line (field_of_value name.now (option_map vec_items value.now))) }
 {
     match value {

@@ -378,7 +378,10 @@ fn stop_for_memory<R: Abort + Threads + Wait + Sync>(rt: &R, alloc: Global, work
     }
     let plan = plan_of(rt, alloc, STAR);
     let (seen, sites) = retrieved(rt, alloc, &plan, sites);
-    seen.end == "memory" && seen.pages == 1 && seen.entries == 6 && sites.len() == usize::from(workers)
+    seen.end == "memory"
+        && seen.pages == 1
+        && seen.entries == 6
+        && sites.len() == usize::from(workers)
 }
 
 #[test]

@@ -28,7 +28,7 @@ told_by (advice.Correction wrong accepted) = Correction wrong.now accepted.now
 -- as words
 abbrev pub accepted_words : List ℕ
 accepted_words =
-    codes "accepted are START and, once each, -r, -l N, -np, -H, -D LIST, --exclude-domains LIST, -I LIST, -X LIST, -A LIST, -R LIST, -e robots=on, -e robots=off, -P DIR, --workers 1 to 64, --per-host 1 to 16, --max-urls 1 to 1000000, --map, --record and --trace"
+    codes "accepted are START and, once each, -r, -l N, -p, -np, -H, -D LIST, --exclude-domains LIST, -I LIST, -X LIST, -A LIST, -R LIST, -e robots=on, -e robots=off, -P DIR, --workers 1 to 64, --per-host 1 to 16, --max-urls 1 to 1000000, --map, --record and --trace"
 
 -- as a start
 abbrev pub accepted_start : List ℕ

@@ -24,7 +24,7 @@ const USAGE: &str =
 usage: wgetr [options] START\n       wgetr [options] --map START < MAP\n       wgetr [options] --record START < RECORD\n";
 
 const OPTIONS: &str =
-    "accepted are START and, once each, -r, -l N, -np, -H, -D LIST, --exclude-domains LIST, \
+    "accepted are START and, once each, -r, -l N, -p, -np, -H, -D LIST, --exclude-domains LIST, \
 -I LIST, -X LIST, -A LIST, -R LIST, -e robots=on, -e robots=off, -P DIR, --workers 1 to 64, --per-host 1 to 16, \
 --max-urls 1 to 1000000, --map, --record and --trace";
 

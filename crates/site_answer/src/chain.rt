@@ -4,8 +4,8 @@ ghost use Rattle.site_answer.specs.Chains.{rules_by_status};
 ghost use Rattle.site_answer.specs.HopChains.{TellsHop};
 
 use crate::head_kind::is_successful;
-use address::Address;
 use crate::told::Told;
+use address::Address;
 use robots_rules::{RuleSet, parse};
 use std::alloc::{AllocError, Global};
 
@@ -20,7 +20,11 @@ pub(crate) enum Hop {
 
 // The rules by the status and the body of the last answer.
 #[tactic(auto, unfolding(crate::specs::Chains::rules_by_status))]
-pub(crate) fn rules_by_status(alloc: Global, status: u16, file: &[u8]) -> Result<RuleSet, AllocError>
+pub(crate) fn rules_by_status(
+    alloc: Global,
+    status: u16,
+    file: &[u8],
+) -> Result<RuleSet, AllocError>
     ensures { IfOk result (λ rules. rules ≡ rules_by_status status file.now) }
 {
     if is_successful(status) {

@@ -27,8 +27,8 @@ const TEXTS: [(&str, &str); 5] = [
     ("", ""),
 ];
 
-// The answers of such lines.
-fn site_of(rt: &impl Abort, alloc: Global, lines: &str) -> Vec<StoredAnswer> {
+/// The answers of such lines.
+pub(crate) fn site_of(rt: &impl Abort, alloc: Global, lines: &str) -> Vec<StoredAnswer> {
     let mut answers = Vec::new(alloc);
     for line in lines.split('\n') {
         if let Some((at, bytes)) = line.split_once(' ') {

@@ -27,6 +27,8 @@ mod reader_tests;
 #[cfg(test)]
 mod record_tests;
 #[cfg(test)]
+mod resumption_tests;
+#[cfg(test)]
 mod robots_tests;
 #[cfg(test)]
 mod text_tests;

@@ -55,7 +55,10 @@ start: not http => https://h/
 start: user info => http://u@h/
 start: robots => http://h/robots.txt
 words: unknown => http://h/ http://k/
-words: unknown => -p -l x http://h/
+words: unknown => -q -l x http://h/
+words: twice => -rp --page-requisites http://h/
+words: bad value => -npr http://h/
+words: bad value => -pnr http://h/
 words: unknown => --recurs http://h/
 words: twice => -r -r http://h/
 words: twice => -np --no-parent http://h/
@@ -118,6 +121,7 @@ fn is_usual(plan: &Plan) -> bool {
     plan.start.as_str() == "http://h/a"
         && plan.limit == Limit::AtMost(5)
         && plan.robots
+        && !plan.page_requisites
         && !plan.no_parent
         && !plan.span_hosts
         && plan.per_host == 2
@@ -182,4 +186,36 @@ fn options_are_read_into_the_order(rt: HostRuntime) {
     let order = order_of(&rt, rt.alloc(), OPTIONS);
     assert!(rt; is_ordered(&order.plan) && has_values(&order));
     drop(order);
+}
+
+// `-np` is `-n` with the value `p`, and no requisites; `-p` is these alone. A row has whether the start's directory isn't
+// left, requisites are retrieved and links followed, and behind `=>` the words.
+const LETTERS: &str = "true true false => -np -p http://h/
+true true false => -p -np http://h/
+true true false => -pn p http://h/
+true false false => -n p http://h/
+false true true => -rp http://h/
+true true true => -rpnp http://h/
+";
+
+// What the plan of a row says of these.
+fn letters_of(rt: &impl Abort, alloc: Global, text: &str) -> String {
+    let order = order_of(rt, alloc, text);
+    let plan = &order.plan;
+    let follows = plan.limit != Limit::AtMost(0);
+    let said = format!(in alloc; "{} {} {}", plan.no_parent, plan.page_requisites, follows);
+    drop(order);
+    said.expect(rt, "memory")
+}
+
+#[test]
+fn no_parent_and_requisites_are_told_apart(rt: HostRuntime) {
+    for row in LETTERS.lines() {
+        let (expected, text) = row.split_once(" => ").unwrap_or((row, ""));
+        demand(
+            &rt,
+            letters_of(&rt, rt.alloc(), text).as_str() == expected,
+            row,
+        );
+    }
 }
