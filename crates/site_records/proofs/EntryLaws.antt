@@ -171,7 +171,7 @@ shorter old new (Err (Hop k f)) text line behind s is t =
 -- ---- a chain
 
 -- a line alone that is taken is an entry of one line
-pub alone_takes : (old new : Reading) (s : Statement) (behind : List ℕ) (taken : Result (Bor (List ℕ)) InputLineFault) (r : Result Taken EntryFault)
+alone_takes : (old new : Reading) (s : Statement) (behind : List ℕ) (taken : Result (Bor (List ℕ)) InputLineFault) (r : Result Taken EntryFault)
     → ((e : Entry) (after : List ℕ) → States old.robots s behind e after → lines_of e ≡ 1)
     → Takes old s behind taken new → IsAlone taken r → TakesEntry old s behind r new
 alone_takes old new s behind (Ok after) (Ok taken) single t is =
@@ -180,6 +180,26 @@ alone_takes old new s behind (Ok after) (Ok taken) single t is =
 alone_takes old new s behind (Err f) (Err wrong) single t is = subst (IsWrongAt old s behind) (sym is) t
 alone_takes old new s behind (Ok after) (Err wrong) single t is = absurd is
 alone_takes old new s behind (Err f) (Ok taken) single t is = absurd is
+
+pub alone_page : (old new : Reading) (text : List ℕ) (n : ℕ) (behind : List ℕ) (taken : Result (Bor (List ℕ)) InputLineFault) (r : Result Taken EntryFault)
+    → Takes old (page text n) behind taken new → IsAlone taken r → TakesEntry old (page text n) behind r new
+alone_page old new text n behind taken r t is = alone_takes old new (page text n) behind taken r (λ e after states. ap lines_of states.4) t is
+
+pub alone_fault : (old new : Reading) (kind : FaultKind) (text : List ℕ) (behind : List ℕ) (taken : Result (Bor (List ℕ)) InputLineFault) (r : Result Taken EntryFault)
+    → Takes old (fault kind text) behind taken new → IsAlone taken r → TakesEntry old (fault kind text) behind r new
+alone_fault old new kind text behind taken r t is = alone_takes old new (fault kind text) behind taken r (λ e after states. ap lines_of states.1) t is
+
+pub alone_file : (old new : Reading) (text : List ℕ) (n : ℕ) (behind : List ℕ) (taken : Result (Bor (List ℕ)) InputLineFault) (r : Result Taken EntryFault)
+    → Takes old (file text n) behind taken new → IsAlone taken r → TakesEntry old (file text n) behind r new
+alone_file old new text n behind taken r t is = alone_takes old new (file text n) behind taken r (λ e after states. ap lines_of states.2) t is
+
+pub alone_free : (old new : Reading) (text : List ℕ) (behind : List ℕ) (taken : Result (Bor (List ℕ)) InputLineFault) (r : Result Taken EntryFault)
+    → Takes old (free text) behind taken new → IsAlone taken r → TakesEntry old (free text) behind r new
+alone_free old new text behind taken r t is = alone_takes old new (free text) behind taken r (λ e after states. ap lines_of states.1) t is
+
+pub alone_closed : (old new : Reading) (text : List ℕ) (behind : List ℕ) (taken : Result (Bor (List ℕ)) InputLineFault) (r : Result Taken EntryFault)
+    → Takes old (closed text) behind taken new → IsAlone taken r → TakesEntry old (closed text) behind r new
+alone_closed old new text behind taken r t is = alone_takes old new (closed text) behind taken r (λ e after states. ap lines_of states.1) t is
 
 -- the rules of a chain go behind the others
 pub takes_chain : (old new : Reading) (text : List ℕ) (n : ℕ) (behind : List ℕ) (taken : Taken) (of : List ℕ) (hops : List HopValue) → IsNamed text

@@ -67,7 +67,10 @@ impl RecordedSite {
                     number += taken.lines;
                     rest = taken.after;
                 }
-                Err(fault) => return Err(fault.at(number + 1)),
+                Err(fault) => {
+                    let line = number + 1;
+                    return Err(fault.at(line));
+                }
             }
         }
         Ok(RecordedSite::of(reading)?)

@@ -21,6 +21,11 @@ entries-preserved c = goes_on _ _ _ _ _ _ _ _ c.entries.invariant c.in-Ok.ensure
 pub overflow_add-number : goal.overflow_add-number
 overflow_add-number c = omega (arith, c.entries.invariant.within, c.in-Ok.ensures.shorter)
 
+pub overflow_add-line : goal.overflow_add-line
+overflow_add-line c =
+    let fits = line_within _ _ _ _ _ _ c.entries.invariant c.in-Err.ensures.shorter in
+    omega (arith, fits)
+
 pub at-requires : goal.at-requires
 at-requires c =
     let fits = line_within _ _ _ _ _ _ c.entries.invariant c.in-Err.ensures.shorter in
