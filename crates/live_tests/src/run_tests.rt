@@ -589,6 +589,39 @@ $ -r --record http://h/
 > input line 1
 = 2
 
+a recorded page below the robots file of its origin
+$ -r --record http://h/
+< wgetr-record 2
+< chain http://h/ 1
+< hop http://h/robots.txt 63
+< HTTP/1.1 200 |Content-Length: 26||User-agent: *
+< Disallow: /
+<
+< page http://h/ 54
+< HTTP/1.1 200 OK|Content-Type: text/html||<a href=b>
+> 0 200 http://h/ h/index.html
+> 1 rob http://h/b -
+> fetched 1 kept 1 refused 1 failed 0
+= 0
+
+a hop of another address
+$ -r --record http://h/
+< wgetr-record 2
+< chain http://h/ 1
+< hop http://h/r.txt 63
+< HTTP/1.1 200 |Content-Length: 26||User-agent: *
+< Disallow: /
+<
+> input line 3
+= 2
+
+a chain that is too long
+$ -r --record http://h/
+< wgetr-record 2
+< chain http://h/ 7
+> input line 2
+= 2
+
 a record without its last line feed
 $ -r --record http://h/
 < wgetr-record 1

@@ -1,5 +1,5 @@
 -- A record that is read so far, and how it ends.
-use Rattle.std.proofs.Common.{◌≡◌, ◌≢◌, ◌==◌, ℕ, ◌+◌, ◌<◌, ◌≤◌, ◌⊎◌, ◌++◌, ◌∙◌, Bool, true, false, List, [], ◌∷◌, refl, sym, ap, inl, inr, length, arith, append_assoc, take, drop}
+use Rattle.std.proofs.Common.{◌≡◌, ◌≢◌, ◌==◌, ℕ, ◌+◌, ◌<◌, ◌≤◌, ◌⊎◌, ◌++◌, ◌∙◌, Bool, true, false, List, [], ◌∷◌, Option, Some, None, refl, sym, ap, subst, inl, inr, length, arith, append_assoc, take, drop}
 use Rattle.std.specs.Str.{bytes_eq}
 use Rattle.std.proofs.lemmas.List.{take-append-drop, length-append}
 use Rattle.std.proofs.lemmas.Bool.{eqb-true}
@@ -7,123 +7,147 @@ use Rattle.std.proofs.lemmas.Slice.Eq.{bytes_eq-Decides}
 use Rattle.std.proofs.Math.Seq.{take-append_seam}
 use Rattle.site_maps.specs.declared.input_fault.InputLineFault.{InputLineFault}
 use Rattle.site_maps.specs.declared.input_fault.InputLineFault.TheVariants.{Line, Address, Memory}
-use Rattle.site_maps.specs.Faults.{numbered}
+use Rattle.address.specs.Address.{AddressText, OriginText}
+use Rattle.robots_rules.specs.Access.{RuleSetValue}
+use Rattle.fetcher.specs.declared.answer.Answer.{Answer}
+use Rattle.site_answer.specs.HopChains.{rules_of_hops}
+use Rattle.site_records.specs.declared.entry_fault.EntryFault.{EntryFault}
+use Rattle.site_records.specs.declared.entry_fault.EntryFault.TheVariants.{Own, Hop}
+use Rattle.site_records.specs.declared.version.Version.{Version}
+use Rattle.site_records.specs.declared.version.Version.TheVariants.{First, Second}
 use Rattle.site_records.specs.declared.reading.Reading.{Reading}
-use Rattle.site_records.specs.Entries.{Entry, answered, ruled, IsEntry, IsNew}
-use Rattle.site_records.specs.Records.{answers_of, rules_of, version_line, IsFront, none, next, IsRecord, FirstBad, HasVersion, IsFault}
-use Rattle.site_records.specs.Readings.{Keeps, Reads, IsBad}
+use Rattle.site_records.specs.Entries.{Entry, answered, ruled, chained, lines_of, IsEntry, IsNew, IsBadLine, IsBadAddress, IsFormed}
+use Rattle.site_records.specs.Records.{answers_of, rules_of, version_line, IsFront, none, next, IsRecord, line_count, lines_ahead, FirstBad, HasVersion, IsFault}
+use Rattle.site_records.specs.Readings.{Keeps, Reads, IsBad, fault_at}
 
 -- the entries so far are kept, and this is the rest
 pub record IsReadTo (robots : Bool) (bytes : List ℕ) (reading : Reading) (number : ℕ) (rest : List ℕ) : Type 0 where
   pub text : List ℕ
   pub above : List Entry
-  pub version : bytes ≡ version_line ++ text
-  pub front : IsFront robots text above rest
+  pub begins : bytes ≡ version_line reading.version ++ text
+  pub front : IsFront reading.version robots text above rest
   pub answers : reading.answers.entries ≡ answers_of above
   pub rules : reading.rules.entries ≡ rules_of above
   pub robots_is : reading.robots ≡ robots
-  pub count : number ≡ length above + 1
-  pub within : number + length rest ≤ length bytes
+  pub count : number ≡ line_count above + 1
+  pub within : number + length rest < length bytes
 
 -- the answers of more entries are those of the first and those of the others
 answers_of-append : (xs ys : List Entry) → answers_of (xs ++ ys) ≡ answers_of xs ++ answers_of ys
 answers_of-append [] ys = refl
 answers_of-append (answered at a ∷ xs) ys = ap (λ l. (at, a) ∷ l) (answers_of-append xs ys)
 answers_of-append (ruled of r ∷ xs) ys = answers_of-append xs ys
+answers_of-append (chained of hops ∷ xs) ys = answers_of-append xs ys
 
 rules_of-append : (xs ys : List Entry) → rules_of (xs ++ ys) ≡ rules_of xs ++ rules_of ys
 rules_of-append [] ys = refl
 rules_of-append (answered at a ∷ xs) ys = rules_of-append xs ys
 rules_of-append (ruled of r ∷ xs) ys = ap (λ l. (of, r) ∷ l) (rules_of-append xs ys)
+rules_of-append (chained of hops ∷ xs) ys = ap (λ l. (of, rules_of_hops hops) ∷ l) (rules_of-append xs ys)
+
+-- one entry more has its lines behind those of the others
+line_count-push : (xs : List Entry) (e : Entry) → line_count (xs ++ e ∷ []) ≡ line_count xs + lines_of e
+line_count-push [] e = omega arith
+line_count-push (x ∷ xs) e = let more = line_count-push xs e in omega (arith, more)
 
 -- nothing is read behind the first line
-pub starts : (robots : Bool) (bytes : List ℕ) (reading : Reading) (rest : List ℕ) → bytes_eq (take (length version_line) bytes) version_line ≡ true
-    → rest ≡ drop (length version_line) bytes → reading.answers.entries ≡ [] → reading.rules.entries ≡ [] → reading.robots ≡ robots
-    → IsReadTo robots bytes reading 1 rest
-starts robots bytes reading rest front is answers rules same =
-    let begins : take (length version_line) bytes ≡ version_line = (bytes_eq-Decides (take (length version_line) bytes) version_line).0 front in
-    let whole : bytes ≡ version_line ++ rest = sym (take-append-drop (length version_line) bytes) ∙ ap (λ l. l ++ drop (length version_line) bytes) begins ∙ ap (λ l. version_line ++ l) (sym is) in
-    let long = length-append version_line rest in
-    let all = ap length whole in
+pub starts : (robots : Bool) (bytes : List ℕ) (reading : Reading) (rest : List ℕ) → bytes ≡ version_line reading.version ++ rest
+    → reading.answers.entries ≡ [] → reading.rules.entries ≡ [] → reading.robots ≡ robots → IsReadTo robots bytes reading 1 rest
+starts robots bytes reading rest is answers rules same =
+    let some = long_line reading.version in
+    let long = length-append (version_line reading.version) rest in
+    let all = ap length is in
     record {
       text = rest;
       above = [];
-      version = whole;
+      begins = is;
       front = none;
       answers = answers;
       rules = rules;
       robots_is = same;
       count = refl;
-      within = omega (arith, long, all);
+      within = omega (arith, some, long, all);
     }
+  where
+    long_line : (version : Version) → 1 < length (version_line version)
+    long_line First = omega arith
+    long_line Second = omega arith
 
--- other bytes have no such line
-pub no_version : (bytes : List ℕ) → bytes_eq (take (length version_line) bytes) version_line ≡ false → ¬ HasVersion bytes
-no_version bytes other (text, is) =
-    let begins : take (length version_line) bytes ≡ version_line = ap (λ l. take (length version_line) l) is ∙ take-append_seam version_line text in
-    let same = (bytes_eq-Decides (take (length version_line) bytes) version_line).1 begins in
+-- bytes that begin with neither line
+begins_so : (line bytes text : List ℕ) → bytes_eq (take (length line) bytes) line ≡ false → bytes ≢ line ++ text
+begins_so line bytes text other is =
+    let begins : take (length line) bytes ≡ line = ap (λ l. take (length line) l) is ∙ take-append_seam line text in
+    let same = (bytes_eq-Decides (take (length line) bytes) line).1 begins in
     cc
 
+pub no_version : (bytes : List ℕ) → bytes_eq (take (length (version_line First)) bytes) (version_line First) ≡ false
+    → bytes_eq (take (length (version_line Second)) bytes) (version_line Second) ≡ false → ¬ HasVersion bytes
+no_version bytes one two (First, text, is) = begins_so (version_line First) bytes text one is
+no_version bytes one two (Second, text, is) = begins_so (version_line Second) bytes text two is
+
+-- bytes that begin with one of them
+pub has_version : (version : Version) (bytes rest : List ℕ) → bytes_eq (take (length (version_line version)) bytes) (version_line version) ≡ true
+    → rest ≡ drop (length (version_line version)) bytes → bytes ≡ version_line version ++ rest
+has_version version bytes rest front is =
+    let begins : take (length (version_line version)) bytes ≡ version_line version = (bytes_eq-Decides (take (length (version_line version)) bytes) (version_line version)).0 front in
+    sym (take-append-drop (length (version_line version)) bytes) ∙ ap (λ l. l ++ drop (length (version_line version)) bytes) begins ∙ ap (λ l. version_line version ++ l) (sym is)
+
 -- one more entry is read
-pub goes_on : (robots : Bool) (bytes : List ℕ) (old new : Reading) (number : ℕ) (rest after : List ℕ) → IsReadTo robots bytes old number rest
-    → Reads old rest after new → length after < length rest → IsReadTo robots bytes new (number + 1) after
-goes_on robots bytes old new number rest after so_far r less =
-    let e : IsEntry robots rest r.entry after = rw so_far.robots_is at r.is in
+pub goes_on : (robots : Bool) (bytes : List ℕ) (old new : Reading) (number lines : ℕ) (rest after : List ℕ) → IsReadTo robots bytes old number rest
+    → Reads old rest lines after new → length after + lines ≤ length rest → IsReadTo robots bytes new (number + lines) after
+goes_on robots bytes old new number lines rest after so_far r less =
+    let e : IsEntry old.version robots rest r.entry after = rw so_far.robots_is at r.is in
     let fresh : IsNew (answers_of so_far.above) (rules_of so_far.above) r.entry = rw (so_far.answers, so_far.rules) at r.keeps.is_new in
-    let longer = length-append so_far.above (r.entry ∷ []) in
+    let longer = line_count-push so_far.above r.entry in
     record {
       text = so_far.text;
       above = so_far.above ++ r.entry ∷ [];
-      version = so_far.version;
-      front = next so_far.above rest r.entry after so_far.front e fresh;
+      begins = subst (λ v. bytes ≡ version_line v ++ so_far.text) (sym r.keeps.version) so_far.begins;
+      front = subst (λ v. IsFront v robots so_far.text (so_far.above ++ r.entry ∷ []) after) (sym r.keeps.version) (next so_far.above rest r.entry after so_far.front e fresh);
       answers = r.keeps.answers ∙ ap (λ l. l ++ answers_of (r.entry ∷ [])) so_far.answers ∙ sym (answers_of-append so_far.above (r.entry ∷ []));
       rules = r.keeps.rules ∙ ap (λ l. l ++ rules_of (r.entry ∷ [])) so_far.rules ∙ sym (rules_of-append so_far.above (r.entry ∷ []));
       robots_is = r.keeps.robots ∙ so_far.robots_is;
-      count = omega (arith, so_far.count, longer);
-      within = omega (arith, so_far.within, less);
+      count = let was = so_far.count in let lines_are = r.lines_are in omega (arith, was, longer, lines_are);
+      within = let was = so_far.within in omega (arith, was, less);
     }
 
 -- a bad entry is the first
-pub first_bad : (robots : Bool) (bytes : List ℕ) (old : Reading) (number : ℕ) (rest : List ℕ) (f : InputLineFault) → IsReadTo robots bytes old number rest
-    → rest ≢ [] → IsBad old rest f → IsFault robots bytes (numbered f (number + 1))
-first_bad robots bytes old number rest Line s more bad = inr (record {
+first_bad_at : (robots : Bool) (bytes : List ℕ) (old : Reading) (number : ℕ) (rest : List ℕ) (IsBadSo : Version → List (AddressText × Answer) → List (OriginText × RuleSetValue) → Option ℕ → List ℕ → Type 0)
+    (place : Option ℕ) (line : ℕ) → IsReadTo robots bytes old number rest → rest ≢ [] → line ≡ number + 1 + lines_ahead place
+    → IsBadSo old.version old.answers.entries old.rules.entries place rest → FirstBad robots bytes line IsBadSo
+first_bad_at robots bytes old number rest IsBadSo place line s more is bad = record {
+  version = old.version;
   text = s.text;
-  version = s.version;
+  begins = s.begins;
   above = s.above;
   rest = rest;
   front = s.front;
   more = more;
-  count = omega (arith, s.count);
-  bad = rw (s.answers, s.rules) at bad;
-})
-first_bad robots bytes old number rest Address s more bad = record {
-  text = s.text;
-  version = s.version;
-  above = s.above;
-  rest = rest;
-  front = s.front;
-  more = more;
-  count = omega (arith, s.count);
-  bad = bad;
+  place = place;
+  count = let was = s.count in omega (arith, is, was);
+  bad = subst (λ answers. IsBadSo old.version answers (rules_of s.above) place rest) s.answers (subst (λ rules. IsBadSo old.version old.answers.entries rules place rest) s.rules bad);
 }
-first_bad robots bytes old number rest Memory s more bad = inl (
-  number + 1,
-  record {
-    text = s.text;
-    version = s.version;
-    above = s.above;
-    rest = rest;
-    front = s.front;
-    more = more;
-    count = omega (arith, s.count);
-    bad = bad;
-  },
-)
+
+pub first_bad : (robots : Bool) (bytes : List ℕ) (old : Reading) (number : ℕ) (rest : List ℕ) (f : EntryFault) → IsReadTo robots bytes old number rest
+    → rest ≢ [] → IsBad old rest f → IsFault robots bytes (fault_at f (number + 1))
+first_bad robots bytes old number rest (Own Line) s more bad = inr (first_bad_at robots bytes old number rest IsBadLine None (number + 1) s more (omega arith) bad)
+first_bad robots bytes old number rest (Own Address) s more bad = first_bad_at robots bytes old number rest IsBadAddress None (number + 1) s more (omega arith) bad
+first_bad robots bytes old number rest (Own Memory) s more bad =
+    inl (number + 1, first_bad_at robots bytes old number rest (λ version _ _ _ rest. IsFormed version rest) None (number + 1) s more (omega arith) bad)
+first_bad robots bytes old number rest (Hop k Line) s more bad = inr (first_bad_at robots bytes old number rest IsBadLine (Some k) (number + 1 + k + 1) s more (omega arith) bad)
+first_bad robots bytes old number rest (Hop k Address) s more bad = first_bad_at robots bytes old number rest IsBadAddress (Some k) (number + 1 + k + 1) s more (omega arith) bad
+first_bad robots bytes old number rest (Hop k Memory) s more bad =
+    inl (number + 1 + k + 1, first_bad_at robots bytes old number rest (λ version _ _ _ rest. IsFormed version rest) (Some k) (number + 1 + k + 1) s more (omega arith) bad)
+
+-- the lines in front of a fault are fewer than the bytes
+pub line_within : (robots : Bool) (bytes : List ℕ) (old : Reading) (number : ℕ) (rest : List ℕ) (lines : ℕ) → IsReadTo robots bytes old number rest
+    → lines ≤ length rest → number + 1 + lines ≤ length bytes
+line_within robots bytes old number rest lines s le = let was = s.within in omega (arith, was, le)
 
 -- where nothing is left, all is read
 pub all_read : (robots : Bool) (bytes : List ℕ) (old : Reading) (number : ℕ) (rest : List ℕ) → (s : IsReadTo robots bytes old number rest)
     → rest ≡ [] → IsRecord robots bytes s.above
-all_read robots bytes old number rest s empty = record { text = s.text; version = s.version; all = rw empty at s.front }
+all_read robots bytes old number rest s empty = record { version = old.version; text = s.text; begins = s.begins; all = rw empty at s.front }
 
 -- a text that was found empty, or wasn't
 pub is_empty : (xs : List ℕ) → (length xs == 0) ≡ true → xs ≡ []

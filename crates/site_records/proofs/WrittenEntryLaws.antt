@@ -24,6 +24,8 @@ use Rattle.response_reader.proofs.WrittenLemmas.{written_reads_back}
 use Rattle.site_maps.specs.Maps.{named, IsNamed}
 use Rattle.site_maps.specs.Lines.{fields}
 use Rattle.site_answer.specs.Digests.{digest_of, kept_body}
+use Rattle.site_records.specs.declared.version.Version.{Version}
+use Rattle.site_records.specs.declared.version.Version.TheVariants.{Second}
 use Rattle.site_records.specs.EntryLines.{Statement, page, fault, HasForm, length_of, is_length, is_numeral}
 use Rattle.site_records.specs.Entries.{Entry, answered, no_response, IsLine, HasBytes, IsDigest, IsEntry}
 use Rattle.site_records.specs.Records.{IsFront, none, next, IsRecord}
@@ -154,17 +156,17 @@ abbrev pub answer_of : Bool → AddressText → ResponseParts → Answer
 answer_of robots at r = record { outcome = digest_of robots at r; body = kept_body r.head.status r.body }
 
 -- what is written of a page is an entry, which states the answer of its response, whatever stands behind it
-pub page_is_entry : (robots : Bool) (at : AddressText) (r : ResponseParts) (after : List ℕ) → IsAddress at → CanBeGiven r → length (head_text r) ≤ max_heads_len
+pub page_is_entry : (version : Version) (robots : Bool) (at : AddressText) (r : ResponseParts) (after : List ℕ) → IsAddress at → CanBeGiven r → length (head_text r) ≤ max_heads_len
     → length (response_text r) < 2 ^ 64 - 1
-    → IsEntry robots (counted_entry (codes "page") at (response_text r) ++ after) (answered at (answer_of robots at r)) after
-page_is_entry robots at r after is given short small =
+    → IsEntry version robots (counted_entry (codes "page") at (response_text r) ++ after) (answered at (answer_of robots at r)) after
+page_is_entry version robots at r after is given short small =
     let bytes = response_text r in
     let n = length bytes in
     let line = line_of_three (codes "page") at (decimal n) in
     let digits = digits_visible (decimal n) (decimal_is_IsNumeral n (omega (arith, small))).0.1 in
     let plain = plain_line (codes "page") at (decimal n) page_visible (address_visible at is) digits in
     let same = named_is at is in
-    subst (λ t. IsEntry robots t (answered at (answer_of robots at r)) after) (sym (entry_text (codes "page") bytes after at)) (record {
+    subst (λ t. IsEntry version robots t (answered at (answer_of robots at r)) after) (sym (entry_text (codes "page") bytes after at)) (record {
       line = line;
       behind = bytes ++ 10 ∷ after;
       says = page at n;
@@ -174,7 +176,7 @@ page_is_entry robots at r after is given short small =
         line_is = sym (take-append_seam line (10 ∷ (bytes ++ 10 ∷ after)));
         behind_is = sym (drop-append-add line (10 ∷ (bytes ++ 10 ∷ after)) 1);
       };
-      form = (IsUtf8-from_ascii line (ascii_line line plain), (decimal n, three_fields (codes "page") at (decimal n) page_visible (address_visible at is) digits, length_is n small));
+      form = (IsUtf8-from_ascii line (ascii_line line plain), (decimal n, three_fields (codes "page") at (decimal n) page_visible (address_visible at is) digits, length_is n small), refl);
       is_named = subst (λ r. IsOk r) (sym is.reads) refl;
       at_root = tt;
       states = (
@@ -212,13 +214,13 @@ word_visible Chunk = all_visible (word_of Chunk) refl
 word_visible BodyLong = all_visible (word_of BodyLong) refl
 
 -- what is written of a fault is an entry, whatever stands behind it
-pub fault_is_entry : (robots : Bool) (at : AddressText) (kind : FaultKind) (after : List ℕ) → IsAddress at
-    → IsEntry robots (worded_entry (codes "fault") kind at ++ after) (answered at (no_response kind)) after
-fault_is_entry robots at kind after is =
+pub fault_is_entry : (version : Version) (robots : Bool) (at : AddressText) (kind : FaultKind) (after : List ℕ) → IsAddress at
+    → IsEntry version robots (worded_entry (codes "fault") kind at ++ after) (answered at (no_response kind)) after
+fault_is_entry version robots at kind after is =
     let line = line_of_three (codes "fault") (word_of kind) at in
     let word = all_visible (codes "fault") refl in
     let plain = plain_line (codes "fault") (word_of kind) at word (word_visible kind) (address_visible at is) in
-    subst (λ t. IsEntry robots t (answered at (no_response kind)) after) (sym (append_assoc line (10 ∷ []) after)) (record {
+    subst (λ t. IsEntry version robots t (answered at (no_response kind)) after) (sym (append_assoc line (10 ∷ []) after)) (record {
       line = line;
       behind = after;
       says = fault kind at;
@@ -228,7 +230,7 @@ fault_is_entry robots at kind after is =
         line_is = sym (take-append_seam line (10 ∷ after));
         behind_is = sym (drop-append-add line (10 ∷ after) 1);
       };
-      form = (IsUtf8-from_ascii line (ascii_line line plain), three_fields (codes "fault") (word_of kind) at word (word_visible kind) (address_visible at is));
+      form = (IsUtf8-from_ascii line (ascii_line line plain), three_fields (codes "fault") (word_of kind) at word (word_visible kind) (address_visible at is), refl);
       is_named = subst (λ r. IsOk r) (sym is.reads) refl;
       at_root = tt;
       states = (refl, ap (λ a. answered a (no_response kind)) (sym (named_is at is)));
@@ -236,28 +238,29 @@ fault_is_entry robots at kind after is =
 
 -- ---- a record of several
 
-writing_is_entry : (robots : Bool) (w : Writing) (after : List ℕ) → IsWritable w → IsEntry robots (writing_text w ++ after) (writing_entry robots w) after
-writing_is_entry robots (whole at r) after h = page_is_entry robots at r after h.0 h.1 h.2 h.3
-writing_is_entry robots (faulty at kind) after h = fault_is_entry robots at kind after h
+writing_is_entry : (version : Version) (robots : Bool) (w : Writing) (after : List ℕ) → IsWritable w → IsEntry version robots (writing_text w ++ after) (writing_entry robots w) after
+writing_is_entry version robots (whole at r) after h = page_is_entry version robots at r after h.0 h.1 h.2 h.3
+writing_is_entry version robots (faulty at kind) after h = fault_is_entry version robots at kind after h
 
-writings_front : (robots : Bool) (text : List ℕ) (above : List Entry) (ws : List Writing) (rest : List ℕ) → AreWritable robots above ws
-    → IsFront robots text above (writings_text ws ++ rest) → IsFront robots text (above ++ map (writing_entry robots) ws) rest
-writings_front robots text above [] rest h front = subst (λ l. IsFront robots text l rest) (sym (append-nil above)) front
-writings_front robots text above (w ∷ ws) rest h front =
-    let begins = subst (λ t. IsFront robots text above t) (append_assoc (writing_text w) (writings_text ws) rest) front in
+writings_front : (version : Version) (robots : Bool) (text : List ℕ) (above : List Entry) (ws : List Writing) (rest : List ℕ) → AreWritable robots above ws
+    → IsFront version robots text above (writings_text ws ++ rest) → IsFront version robots text (above ++ map (writing_entry robots) ws) rest
+writings_front version robots text above [] rest h front = subst (λ l. IsFront version robots text l rest) (sym (append-nil above)) front
+writings_front version robots text above (w ∷ ws) rest h front =
+    let begins = subst (λ t. IsFront version robots text above t) (append_assoc (writing_text w) (writings_text ws) rest) front in
     let longer = next above (writing_text w ++ (writings_text ws ++ rest)) (writing_entry robots w) (writings_text ws ++ rest) begins
-    (writing_is_entry robots w (writings_text ws ++ rest) h.0) h.1 in
-    subst (λ l. IsFront robots text l rest) (append_assoc above (writing_entry robots w ∷ []) (map (writing_entry robots) ws))
-    (writings_front robots text (above ++ writing_entry robots w ∷ []) ws rest h.2 longer)
+    (writing_is_entry version robots w (writings_text ws ++ rest) h.0) h.1 in
+    subst (λ l. IsFront version robots text l rest) (append_assoc above (writing_entry robots w ∷ []) (map (writing_entry robots) ws))
+    (writings_front version robots text (above ++ writing_entry robots w ∷ []) ws rest h.2 longer)
 
 -- what is written reads back as a record of just this
 pub written_record_reads_back : (robots : Bool) (ws : List Writing) → AreWritable robots [] ws → IsRecord robots (writings_record ws) (map (writing_entry robots) ws)
 written_record_reads_back robots ws h = record {
+  version = Second;
   text = writings_text ws;
-  version = refl;
-  all = writings_front robots (writings_text ws) [] ws [] h (subst (λ t. IsFront robots (writings_text ws) [] t) (sym (append-nil (writings_text ws))) none);
+  begins = refl;
+  all = writings_front Second robots (writings_text ws) [] ws [] h (subst (λ t. IsFront Second robots (writings_text ws) [] t) (sym (append-nil (writings_text ws))) none);
 }
 
 -- a front of it that ends behind some writings is a front of the record: what was written before a run ended is kept
-pub front_of_record : (robots : Bool) (ws : List Writing) (torn : List ℕ) → AreWritable robots [] ws → IsFront robots (writings_text ws ++ torn) (map (writing_entry robots) ws) torn
-front_of_record robots ws torn h = writings_front robots (writings_text ws ++ torn) [] ws torn h none
+pub front_of_record : (version : Version) (robots : Bool) (ws : List Writing) (torn : List ℕ) → AreWritable robots [] ws → IsFront version robots (writings_text ws ++ torn) (map (writing_entry robots) ws) torn
+front_of_record version robots ws torn h = writings_front version robots (writings_text ws ++ torn) [] ws torn h none

@@ -1,5 +1,5 @@
 -- What one entry of a record states: its line, and the bytes behind it (RFC 9112, section 2; RFC 9309, section 2.3).
-use Rattle.std.specs.Prelude.{◌≡◌, ℕ, ◌+◌, ◌⊎◌, ◌==◌, Bool, false, true, List, [], ◌∷◌, Some, IsSome, None, take, drop, slice_get, codes}
+use Rattle.std.specs.Prelude.{◌≡◌, ◌≢◌, ◌<◌, ⊤, ℕ, ◌+◌, ◌++◌, length, Option, ◌⊎◌, ◌==◌, Bool, false, true, List, [], ◌∷◌, Some, IsSome, None, take, drop, slice_get, codes}
 use Rattle.std.specs.List.{position}
 use Rattle.std.specs.Map.{lookup}
 use Rattle.std.specs.Str.{bytes_eq}
@@ -14,8 +14,14 @@ use Rattle.fetcher.specs.declared.fault_kind.FaultKind.{FaultKind}
 use Rattle.fetcher.specs.declared.outcome.Outcome.TheVariants.{Fault}
 use Rattle.site_answer.specs.Digests.{digest_of, kept_body}
 use Rattle.site_answer.specs.KindsOfFaults.{kind_of_fault}
+use Rattle.site_answer.specs.Chains.{max_redirects}
+use Rattle.site_answer.specs.Tellings.{target_told}
+use Rattle.site_answer.specs.HopChains.{HopValue, IsAdmitted, robots_file}
+use Rattle.site_answer.specs.declared.told.Told.{Told}
+use Rattle.site_answer.specs.declared.told.Told.TheVariants as told
+use Rattle.site_records.specs.declared.version.Version.{Version}
 use Rattle.site_maps.specs.Maps.{named, IsNamed}
-use Rattle.site_records.specs.EntryLines.{Statement, page, fault, file, free, closed, HasForm, text_of}
+use Rattle.site_records.specs.EntryLines.{Statement, page, fault, file, free, closed, chain, HasForm, text_of, HopStatement, hop, hopfault, HasHopForm, hop_text}
 
 -- what an entry states
 pub data Entry : Type 0 where
@@ -23,6 +29,14 @@ pub data Entry : Type 0 where
   answered : AddressText → Answer → Entry
   -- the origin has these rules
   ruled : OriginText → RuleSetValue → Entry
+  -- the robots file of the origin, and the redirects behind it, have these answers
+  chained : OriginText → List HopValue → Entry
+
+-- how many lines an entry has: its own, and one for each hop
+abbrev pub lines_of : Entry → ℕ
+lines_of (answered at a) = 1
+lines_of (ruled of r) = 1
+lines_of (chained of hops) = length hops + 1
 
 -- ---- what bytes answer
 
@@ -65,6 +79,56 @@ pub record HasBytes (text : List ℕ) (n : ℕ) (bytes after : List ℕ) : Type 
   pub bytes_are : bytes ≡ take n text
   pub after_is : after ≡ drop (n + 1) text
 
+-- ---- the hops of a chain
+
+-- what bytes tell as the response for a hop: a response that they begin with, or the fault for which none is read of them
+abbrev pub IsToldIn : List ℕ → Told → Type 0
+IsToldIn bytes (told.Whole response) = BeginsWith response bytes
+IsToldIn bytes (told.Fault kind) = (f : ReadFault) × IsTextFault f × IsFault f bytes × (kind_of_fault f ≡ Some kind)
+
+-- a line that says this of a hop and what is behind it tell this, and after follows
+abbrev pub Tells : HopStatement → List ℕ → Told → List ℕ → Type 0
+Tells (hop text n) behind said after = (bytes : List ℕ) × HasBytes behind n bytes after × IsToldIn bytes said
+Tells (hopfault kind text) behind said after = (after ≡ behind) × (said ≡ told.Fault kind)
+
+-- the text begins with this hop, and after follows
+pub record IsHop (text : List ℕ) (h : HopValue) (after : List ℕ) : Type 0 where
+  pub line : List ℕ
+  pub behind : List ℕ
+  pub says : HopStatement
+  pub is_line : IsLine text line behind
+  pub form : HasHopForm line says
+  pub is_named : IsNamed (hop_text says)
+  pub at : h.0 ≡ named (hop_text says)
+  pub tells : Tells says behind h.1 after
+
+-- the text is these hops, and then a rest
+pub data AreHopsOf (text : List ℕ) : List HopValue → List ℕ → Type 0 where
+  no_hops : AreHopsOf text [] text
+  more_hops : (hops : List HopValue) (rest : List ℕ) (h : HopValue) (after : List ℕ) → AreHopsOf text hops rest → IsHop rest h after
+      → AreHopsOf text (hops ++ h ∷ []) after
+
+-- where a chain leads from this address on: behind its last hop to where this redirects
+abbrev pub due : Option AddressText → List HopValue → Option AddressText
+due from [] = from
+due from (h ∷ hops) = due (target_told h.0 h.1) hops
+
+-- each hop is where the chain leads
+abbrev pub AreLed : Option AddressText → List HopValue → Type 0
+AreLed from [] = ⊤
+AreLed from (h ∷ hops) = (from ≡ Some h.0) × AreLed (target_told h.0 h.1) hops
+
+-- the first address of an origin's chain
+abbrev pub chain_start : OriginText → Option AddressText
+chain_start of = Some (robots_file of)
+
+-- so many hops of an origin's chain stand there, each where the chain leads, and after follows
+pub record IsBegun (of : OriginText) (text : List ℕ) (hops : List HopValue) (after : List ℕ) : Type 0 where
+  pub are : AreHopsOf text hops after
+  pub led : AreLed (chain_start of) hops
+
+-- ---- what a line states
+
 -- a line that says this and what is behind it state the entry, and after follows
 abbrev pub States : Bool → Statement → List ℕ → Entry → List ℕ → Type 0
 States robots (page text n) behind e after =
@@ -74,6 +138,8 @@ States robots (file text n) behind e after =
     (bytes : List ℕ) × HasBytes behind n bytes after × (e ≡ ruled (origin_of (named text)) (rules_in bytes))
 States robots (free text) behind e after = (after ≡ behind) × (e ≡ ruled (origin_of (named text)) (record { closed = false; rules = [] }))
 States robots (closed text) behind e after = (after ≡ behind) × (e ≡ ruled (origin_of (named text)) (record { closed = true; rules = [] }))
+States robots (chain text n) behind e after =
+    (hops : List HopValue) × AreHopsOf behind hops after × (length hops ≡ n) × IsAdmitted (origin_of (named text)) hops × (e ≡ chained (origin_of (named text)) hops)
 
 -- the address of rules is its origin's `/`, without a query
 abbrev pub IsAtRoot : Statement → Type 0
@@ -81,13 +147,13 @@ IsAtRoot (page text n) = Unit {0}
 IsAtRoot (fault kind text) = Unit {0}
 IsAtRoot s = path_query_of (named (text_of s)) ≡ codes "/"
 
--- the text begins with an entry that states this, and after follows
-pub record IsEntry (robots : Bool) (text : List ℕ) (e : Entry) (after : List ℕ) : Type 0 where
+-- the text begins with an entry of this version that states this, and after follows
+pub record IsEntry (version : Version) (robots : Bool) (text : List ℕ) (e : Entry) (after : List ℕ) : Type 0 where
   pub line : List ℕ
   pub behind : List ℕ
   pub says : Statement
   pub is_line : IsLine text line behind
-  pub form : HasForm line says
+  pub form : HasForm version line says
   pub is_named : IsNamed (text_of says)
   pub at_root : IsAtRoot says
   pub states : States robots says behind e after
@@ -98,6 +164,7 @@ pub record IsEntry (robots : Bool) (text : List ℕ) (e : Entry) (after : List �
 abbrev pub IsNew : List (AddressText × Answer) → List (OriginText × RuleSetValue) → Entry → Type 0
 IsNew answers rules (answered at a) = lookup (bytes_eq at) answers ≡ None
 IsNew answers rules (ruled of r) = lookup (bytes_eq of) rules ≡ None
+IsNew answers rules (chained of hops) = lookup (bytes_eq of) rules ≡ None
 
 -- the line is about an address, or an origin, that they name
 abbrev pub IsRepeated : List (AddressText × Answer) → List (OriginText × RuleSetValue) → Statement → Type 0
@@ -113,26 +180,80 @@ HasItsBytes (page text n) behind = slice_get behind n ≡ Some 10
 HasItsBytes (file text n) behind = slice_get behind n ≡ Some 10
 HasItsBytes s behind = Unit {0}
 
--- the text begins with a line that says this, and behind follows
-pub record Begins (text : List ℕ) (s : Statement) (behind : List ℕ) : Type 0 where
+-- the text begins with a line of this version that says this, and behind follows
+pub record Begins (version : Version) (text : List ℕ) (s : Statement) (behind : List ℕ) : Type 0 where
   pub line : List ℕ
   pub is_line : IsLine text line behind
-  pub form : HasForm line s
+  pub form : HasForm version line s
 
--- what is wrong with a line that says this, beyond its form and its address: the place of a robots address, a repetition, or bytes that aren't there
+-- so many hops of an origin's chain are there, and the last redirects, though one more redirect may be followed
+abbrev pub LeadsOn : OriginText → ℕ → List ℕ → Type 0
+LeadsOn of n behind =
+    (hops : List HopValue) × (after : List ℕ) × IsBegun of behind hops after
+    × (length hops ≡ n) × (n < max_redirects + 1) × IsSome (due (chain_start of) hops)
+
+-- the hops that a line counts lead on
+abbrev pub IsOpen : Statement → List ℕ → Type 0
+IsOpen (chain text n) behind = LeadsOn (origin_of (named text)) n behind
+IsOpen s behind = ⊥
+
+-- what is wrong with a line that says this, beyond its form and its address: the place of a robots address, a repetition, bytes that aren't there, or a chain that leads on
 abbrev pub IsMisplaced : List (AddressText × Answer) → List (OriginText × RuleSetValue) → Statement → List ℕ → Type 0
-IsMisplaced answers rules s behind = ¬ IsAtRoot s ⊎ (IsRepeated answers rules s ⊎ ¬ HasItsBytes s behind)
+IsMisplaced answers rules s behind = ¬ IsAtRoot s ⊎ (IsRepeated answers rules s ⊎ (¬ HasItsBytes s behind ⊎ IsOpen s behind))
 
--- the text begins with no line that has a form, or with one that is misplaced below these answers and rules
-abbrev pub IsBadLine : List (AddressText × Answer) → List (OriginText × RuleSetValue) → List ℕ → Type 0
-IsBadLine answers rules text =
-    ((s : Statement) (behind : List ℕ) → ¬ Begins text s behind)
-    ⊎ ((s : Statement) × (behind : List ℕ) × Begins text s behind × IsNamed (text_of s) × IsMisplaced answers rules s behind)
+-- ---- what is wrong with a hop
 
--- the text begins with a line that has a form, whose address is refused
-abbrev pub IsBadAddress : List ℕ → Type 0
-IsBadAddress text = (s : Statement) × (behind : List ℕ) × Begins text s behind × ¬ IsNamed (text_of s)
+-- the text begins with a line that says this of a hop, and behind follows
+pub record BeginsHop (text : List ℕ) (s : HopStatement) (behind : List ℕ) : Type 0 where
+  pub line : List ℕ
+  pub is_line : IsLine text line behind
+  pub form : HasHopForm line s
+
+-- the bytes that a hop's line counts are there, and a line feed behind them
+abbrev pub HasHopBytes : HopStatement → List ℕ → Type 0
+HasHopBytes (hop text n) behind = slice_get behind n ≡ Some 10
+HasHopBytes (hopfault kind text) behind = ⊤
+
+-- where a chain leads to this address, the text begins with no hop's line, or with one of another address or whose bytes aren't there
+abbrev pub IsBadHopLine : Option AddressText → List ℕ → Type 0
+IsBadHopLine lead text =
+    ((s : HopStatement) (behind : List ℕ) → ¬ BeginsHop text s behind)
+    ⊎ ((s : HopStatement) × (behind : List ℕ) × BeginsHop text s behind × IsNamed (hop_text s) × ((lead ≢ Some (named (hop_text s))) ⊎ ¬ HasHopBytes s behind))
+
+-- the text begins with a hop's line whose address is refused
+abbrev pub IsBadHopAddress : List ℕ → Type 0
+IsBadHopAddress text = (s : HopStatement) × (behind : List ℕ) × BeginsHop text s behind × ¬ IsNamed (hop_text s)
+
+-- of so many hops of an origin's chain those in front of this place are good, and what follows is bad so where the chain leads
+abbrev pub IsBadRow : OriginText → ℕ → List ℕ → ℕ → (Option AddressText → List ℕ → Type 0) → Type 0
+IsBadRow of n behind k IsBad =
+    (hops : List HopValue) × (rest : List ℕ) × IsBegun of behind hops rest
+    × (length hops ≡ k) × (k < n) × IsBad (due (chain_start of) hops) rest
+
+-- the same of the hops that a line counts
+abbrev pub IsBadBehind : Statement → List ℕ → ℕ → (Option AddressText → List ℕ → Type 0) → Type 0
+IsBadBehind (chain text n) behind k IsBad = IsBadRow (origin_of (named text)) n behind k IsBad
+IsBadBehind s behind k IsBad = ⊥
+
+-- the text begins with a chain's line that is good by itself, and the hop at this place is bad so
+abbrev pub HasBadHop : Version → List (AddressText × Answer) → List (OriginText × RuleSetValue) → ℕ → List ℕ → (Option AddressText → List ℕ → Type 0) → Type 0
+HasBadHop version answers rules k text IsBad =
+    (s : Statement) × (behind : List ℕ) × Begins version text s behind × IsNamed (text_of s) × IsAtRoot s × ¬ IsRepeated answers rules s × IsBadBehind s behind k IsBad
+
+-- ---- what is wrong with an entry: with its own line, or with the hop at a place of its chain
+
+-- the line has no form or is misplaced below these answers and rules; the hop has no form, or isn't where the chain leads, or its bytes aren't there
+abbrev pub IsBadLine : Version → List (AddressText × Answer) → List (OriginText × RuleSetValue) → Option ℕ → List ℕ → Type 0
+IsBadLine version answers rules None text =
+    ((s : Statement) (behind : List ℕ) → ¬ Begins version text s behind)
+    ⊎ ((s : Statement) × (behind : List ℕ) × Begins version text s behind × IsNamed (text_of s) × IsMisplaced answers rules s behind)
+IsBadLine version answers rules (Some k) text = HasBadHop version answers rules k text IsBadHopLine
+
+-- the line, or the hop, has a form, and its address is refused
+abbrev pub IsBadAddress : Version → List (AddressText × Answer) → List (OriginText × RuleSetValue) → Option ℕ → List ℕ → Type 0
+IsBadAddress version answers rules None text = (s : Statement) × (behind : List ℕ) × Begins version text s behind × ¬ IsNamed (text_of s)
+IsBadAddress version answers rules (Some k) text = HasBadHop version answers rules k text (λ lead rest. IsBadHopAddress rest)
 
 -- the text begins with a line that has a form
-abbrev pub IsFormed : List ℕ → Type 0
-IsFormed text = (s : Statement) × (behind : List ℕ) × Begins text s behind
+abbrev pub IsFormed : Version → List ℕ → Type 0
+IsFormed version text = (s : Statement) × (behind : List ℕ) × Begins version text s behind

@@ -1,11 +1,14 @@
--- What one line of a record says.
-use Rattle.std.specs.Prelude.{◌≡◌, ℕ, Bool, ◌-◌, ◌^◌, ◌==◌, ◌&&◌, ◌||◌, not, nat_lt, min, length, slice_index, List, [], ◌∷◌, Option, Some, None, codes, IsUtf8, if◌then◌else◌}
+-- What one line of a record says, and which lines each version of the format has.
+use Rattle.std.specs.Prelude.{◌≡◌, ℕ, Bool, true, false, ◌+◌, ◌-◌, ◌≤◌, ◌^◌, ◌==◌, ◌&&◌, ◌||◌, not, nat_lt, min, length, slice_index, List, [], ◌∷◌, Option, Some, None, codes, IsUtf8, if◌then◌else◌}
 use Rattle.std.specs.Char.{is_ascii_digit}
 use Rattle.std.specs.List.{list_all}
 use Rattle.std.specs.Str.Parse.{digits_value}
 use Rattle.fetcher.specs.declared.fault_kind.FaultKind.{FaultKind}
 use Rattle.fetcher.specs.FaultWords.{word_of}
 use Rattle.site_maps.specs.Lines.{fields}
+use Rattle.site_answer.specs.Chains.{max_redirects}
+use Rattle.site_records.specs.declared.version.Version.{Version}
+use Rattle.site_records.specs.declared.version.Version.TheVariants.{First, Second}
 
 -- what a line may say; an address is the text that stands there
 pub data Statement : Type 0 where
@@ -19,6 +22,8 @@ pub data Statement : Type 0 where
   free : List ℕ → Statement
   -- nothing is allowed there
   closed : List ℕ → Statement
+  -- the robots file of the address's origin was asked for, and so many hops follow: the file's answer, and one for each redirect that was followed
+  chain : List ℕ → ℕ → Statement
 
 -- one or more decimal digits
 abbrev pub is_numeral : List ℕ → Bool
@@ -32,6 +37,10 @@ is_length digits = is_numeral digits && (not (slice_index digits 0 == 48) || len
 abbrev pub length_of : List ℕ → Option ℕ
 length_of digits = if is_length digits then Some (min (digits_value 10 digits) (2 ^ 64 - 1)) else None
 
+-- so many answers a chain may have: one, and one for each redirect that may be followed (RFC 9309, section 2.3.1.2)
+abbrev pub IsHopCount : ℕ → Type 0
+IsHopCount n = (1 ≤ n) × (n ≤ max_redirects + 1)
+
 -- the fields of a line say this
 abbrev pub IsForm : List (List ℕ) → Statement → Type 0
 IsForm fs (page text n) = (digits : List ℕ) × (fs ≡ codes "page" ∷ text ∷ digits ∷ []) × (length_of digits ≡ Some n)
@@ -39,10 +48,24 @@ IsForm fs (fault kind text) = fs ≡ codes "fault" ∷ word_of kind ∷ text ∷
 IsForm fs (file text n) = (digits : List ℕ) × (fs ≡ codes "robots" ∷ text ∷ digits ∷ []) × (length_of digits ≡ Some n)
 IsForm fs (free text) = fs ≡ codes "rules" ∷ codes "all" ∷ text ∷ []
 IsForm fs (closed text) = fs ≡ codes "rules" ∷ codes "none" ∷ text ∷ []
+IsForm fs (chain text n) = (digits : List ℕ) × (fs ≡ codes "chain" ∷ text ∷ digits ∷ []) × (length_of digits ≡ Some n) × IsHopCount n
 
--- the line is UTF-8 and says this
-abbrev pub HasForm : List ℕ → Statement → Type 0
-HasForm line s = IsUtf8 line × IsForm (fields line) s
+-- whether records of a version have such entries: the first says what an origin's rules are, the second what was answered for its robots file
+abbrev pub is_of : Version → Statement → Bool
+is_of version (page text n) = true
+is_of version (fault kind text) = true
+is_of First (chain text n) = false
+is_of First (file text n) = true
+is_of First (free text) = true
+is_of First (closed text) = true
+is_of Second (chain text n) = true
+is_of Second (file text n) = false
+is_of Second (free text) = false
+is_of Second (closed text) = false
+
+-- the line is UTF-8 and says this, in a record of this version
+abbrev pub HasForm : Version → List ℕ → Statement → Type 0
+HasForm version line s = IsUtf8 line × IsForm (fields line) s × (is_of version s ≡ true)
 
 -- the text of a line's address
 abbrev pub text_of : Statement → List ℕ
@@ -51,3 +74,27 @@ text_of (fault kind text) = text
 text_of (file text n) = text
 text_of (free text) = text
 text_of (closed text) = text
+text_of (chain text n) = text
+
+-- ---- the lines of hops
+
+-- what the line of a hop may say; an address is the text that stands there
+pub data HopStatement : Type 0 where
+  -- the response of this address has this many bytes
+  hop : List ℕ → ℕ → HopStatement
+  -- the address has no response, for this reason
+  hopfault : FaultKind → List ℕ → HopStatement
+
+-- the fields of a line say this of a hop
+abbrev pub IsHopForm : List (List ℕ) → HopStatement → Type 0
+IsHopForm fs (hop text n) = (digits : List ℕ) × (fs ≡ codes "hop" ∷ text ∷ digits ∷ []) × (length_of digits ≡ Some n)
+IsHopForm fs (hopfault kind text) = fs ≡ codes "hopfault" ∷ word_of kind ∷ text ∷ []
+
+-- the line is UTF-8 and says this of a hop
+abbrev pub HasHopForm : List ℕ → HopStatement → Type 0
+HasHopForm line s = IsUtf8 line × IsHopForm (fields line) s
+
+-- the text of its address
+abbrev pub hop_text : HopStatement → List ℕ
+hop_text (hop text n) = text
+hop_text (hopfault kind text) = text

@@ -1,5 +1,5 @@
 -- What the bytes of a record say together, and the first fault.
-use Rattle.std.specs.Prelude.{◌≡◌, ◌≢◌, ℕ, ◌+◌, ◌⊎◌, Bool, false, List, [], ◌∷◌, ◌++◌, unwrap_or, codes, length}
+use Rattle.std.specs.Prelude.{◌≡◌, ◌≢◌, ℕ, ◌+◌, ◌⊎◌, Bool, Option, Some, None, List, [], ◌∷◌, ◌++◌, unwrap_or, codes}
 use Rattle.std.specs.Map.{lookup}
 use Rattle.std.specs.Str.{bytes_eq}
 use Rattle.address.specs.Address.{AddressText, OriginText}
@@ -10,7 +10,10 @@ use Rattle.fetcher.specs.declared.outcome.Outcome.TheVariants.{Leaf}
 use Rattle.site_maps.specs.declared.input_fault.InputFault.{InputFault}
 use Rattle.site_maps.specs.declared.input_fault.InputFault.TheVariants.{Line, Address, Memory}
 use Rattle.site_maps.specs.Maps.{rules_at}
-use Rattle.site_records.specs.Entries.{Entry, answered, ruled, IsEntry, IsNew, IsBadLine, IsBadAddress, IsFormed}
+use Rattle.site_answer.specs.HopChains.{rules_of_hops}
+use Rattle.site_records.specs.declared.version.Version.{Version}
+use Rattle.site_records.specs.declared.version.Version.TheVariants.{First, Second}
+use Rattle.site_records.specs.Entries.{Entry, answered, ruled, chained, lines_of, IsEntry, IsNew, IsBadLine, IsBadAddress, IsFormed}
 
 -- ---- what is stated
 
@@ -19,12 +22,14 @@ abbrev pub answers_of : List Entry → List (AddressText × Answer)
 answers_of [] = []
 answers_of (answered at a ∷ more) = (at, a) ∷ answers_of more
 answers_of (ruled of r ∷ more) = answers_of more
+answers_of (chained of hops ∷ more) = answers_of more
 
 -- the rule sets that entries state
 abbrev pub rules_of : List Entry → List (OriginText × RuleSetValue)
 rules_of [] = []
 rules_of (answered at a ∷ more) = rules_of more
 rules_of (ruled of r ∷ more) = (of, r) ∷ rules_of more
+rules_of (chained of hops ∷ more) = (of, rules_of_hops hops) ∷ rules_of more
 
 -- status 404 and no body (RFC 9110, section 15.5.5)
 abbrev pub not_found : Answer
@@ -53,41 +58,55 @@ GivesRules site of r = r ≡ site.rules of
 
 -- ---- which bytes are a record
 
--- the first line
-abbrev pub version_line : List ℕ
-version_line = codes "wgetr-record 1" ++ 10 ∷ []
+-- the first line of each version
+abbrev pub version_line : Version → List ℕ
+version_line First = codes "wgetr-record 1" ++ 10 ∷ []
+version_line Second = codes "wgetr-record 2" ++ 10 ∷ []
 
 -- the text is these entries, each about an address or an origin that those before it don't name, and then a rest
-pub data IsFront (robots : Bool) (text : List ℕ) : List Entry → List ℕ → Type 0 where
-  none : IsFront robots text [] text
-  next : (said : List Entry) (rest : List ℕ) (e : Entry) (after : List ℕ) → IsFront robots text said rest
-      → IsEntry robots rest e after → IsNew (answers_of said) (rules_of said) e → IsFront robots text (said ++ e ∷ []) after
+pub data IsFront (version : Version) (robots : Bool) (text : List ℕ) : List Entry → List ℕ → Type 0 where
+  none : IsFront version robots text [] text
+  next : (said : List Entry) (rest : List ℕ) (e : Entry) (after : List ℕ) → IsFront version robots text said rest
+      → IsEntry version robots rest e after → IsNew (answers_of said) (rules_of said) e → IsFront version robots text (said ++ e ∷ []) after
 
--- the bytes are a record of these entries: the first line, and nothing but entries behind it
+-- the bytes are a record of these entries: the first line of a version, and nothing but its entries behind it
 pub record IsRecord (robots : Bool) (bytes : List ℕ) (said : List Entry) : Type 0 where
+  pub version : Version
   pub text : List ℕ
-  pub version : bytes ≡ version_line ++ text
-  pub all : IsFront robots text said []
+  pub begins : bytes ≡ version_line version ++ text
+  pub all : IsFront version robots text said []
 
 -- ---- the first fault
 
--- behind the good entries above it the entry whose line has this number is bad so
-pub record FirstBad (robots : Bool) (bytes : List ℕ) (number : ℕ) (IsBad : List (AddressText × Answer) → List (OriginText × RuleSetValue) → List ℕ → Type 0) : Type 0 where
+-- how many lines entries have
+abbrev pub line_count : List Entry → ℕ
+line_count [] = 0
+line_count (e ∷ more) = lines_of e + line_count more
+
+-- how many lines behind its own line the bad line of an entry stands: none, or that of the hop at this place
+abbrev pub lines_ahead : Option ℕ → ℕ
+lines_ahead None = 0
+lines_ahead (Some k) = k + 1
+
+-- behind the good entries above it an entry is bad so, in its own line or in a hop, and this is the number of that line
+pub record FirstBad (robots : Bool) (bytes : List ℕ) (number : ℕ) (IsBad : Version → List (AddressText × Answer) → List (OriginText × RuleSetValue) → Option ℕ → List ℕ → Type 0) : Type 0 where
+  pub version : Version
   pub text : List ℕ
-  pub version : bytes ≡ version_line ++ text
+  pub begins : bytes ≡ version_line version ++ text
   pub above : List Entry
   pub rest : List ℕ
-  pub front : IsFront robots text above rest
+  pub front : IsFront version robots text above rest
   pub more : rest ≢ []
-  pub count : number ≡ length above + 2
-  pub bad : IsBad (answers_of above) (rules_of above) rest
+  pub place : Option ℕ
+  pub count : number ≡ line_count above + 2 + lines_ahead place
+  pub bad : IsBad version (answers_of above) (rules_of above) place rest
 
--- the bytes begin with the first line
+-- the bytes begin with the first line of a version
 abbrev pub HasVersion : List ℕ → Type 0
-HasVersion bytes = (text : List ℕ) × (bytes ≡ version_line ++ text)
+HasVersion bytes = (version : Version) × (text : List ℕ) × (bytes ≡ version_line version ++ text)
 
--- what a fault says of the bytes: the first line, or the first entry, that is bad; memory may run out over a line that has its form, or behind the last entry
+-- what a fault says of the bytes: the first line, or a line of the first entry that is bad; memory may run out over an entry whose line has its form, or behind the last entry
 abbrev pub IsFault : Bool → List ℕ → InputFault → Type 0
 IsFault robots bytes (Line n) = ((n ≡ 1) × ¬ HasVersion bytes) ⊎ FirstBad robots bytes n IsBadLine
-IsFault robots bytes (Address n) = FirstBad robots bytes n (λ _ _ rest. IsBadAddress rest)
-IsFault robots bytes Memory = ((n : ℕ) × FirstBad robots bytes n (λ _ _ rest. IsFormed rest)) ⊎ ((said : List Entry) × IsRecord robots bytes said)
+IsFault robots bytes (Address n) = FirstBad robots bytes n IsBadAddress
+IsFault robots bytes Memory = ((n : ℕ) × FirstBad robots bytes n (λ version _ _ _ rest. IsFormed version rest)) ⊎ ((said : List Entry) × IsRecord robots bytes said)

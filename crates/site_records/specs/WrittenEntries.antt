@@ -7,6 +7,7 @@ use Rattle.response_reader.specs.Heads.{max_heads_len}
 use Rattle.response_reader.specs.Response.{ResponseParts, CanBeGiven}
 use Rattle.response_reader.specs.Written.{head_text, response_text}
 use Rattle.site_answer.specs.Digests.{digest_of, kept_body}
+use Rattle.site_records.specs.declared.version.Version.TheVariants.{Second}
 use Rattle.site_records.specs.Entries.{Entry, answered, no_response, IsNew}
 use Rattle.site_records.specs.Records.{answers_of, rules_of, version_line}
 
@@ -56,4 +57,4 @@ writings_text [] = []
 writings_text (w ∷ ws) = writing_text w ++ writings_text ws
 
 abbrev pub writings_record : List Writing → List ℕ
-writings_record ws = version_line ++ writings_text ws
+writings_record ws = version_line Second ++ writings_text ws

@@ -1,13 +1,17 @@
 //! Lines of a record: what each says by itself.
-ghost use Rattle.std.specs.Prelude.{◌≡◌, ℕ, List, [], ◌∷◌, MatchOption};
+ghost use Rattle.std.specs.Prelude.{◌≡◌, ◌≢◌, ℕ, List, [], ◌∷◌, MatchOption, Some};
 ghost use Rattle.std.specs.Char.{is_ascii_digit};
 ghost use Rattle.std.specs.List.{list_all};
 ghost use Rattle.site_maps.specs.Lines.{fields};
-ghost use Rattle.site_records.specs.EntryLines.{Statement, is_length, length_of, IsForm};
+ghost use Rattle.site_records.specs.EntryLines.{Statement, is_length, length_of, is_of, IsForm, IsHopCount};
 ghost use Rattle.site_records.specs.Said.{said};
 
+use crate::version::Version;
 use fetcher::FaultKind;
 use site_maps::first_field;
+
+/// How many hops a chain may have: one, and one for each redirect that may be followed (RFC 9309, section 2.3.1.2).
+pub(crate) const MAX_HOPS: usize = 6;
 
 /// What a line of a record says. Addresses are texts of the line, not read yet.
 #[derive(Drop)]
@@ -22,6 +26,8 @@ pub(crate) enum EntryLine<'a> {
     Free(&'a str),
     /// Nothing is allowed there.
     Closed(&'a str),
+    /// The robots file of the address's origin was asked for, and so many hops follow.
+    Chain(&'a str, usize),
 }
 
 impl<'a> EntryLine<'a> {
@@ -29,15 +35,20 @@ impl<'a> EntryLine<'a> {
     pub(crate) fn of(line: &'a str) -> Option<EntryLine<'a>>
         ensures { MatchOption result ((s : Statement) → ¬ IsForm (fields line.now) s) (λ s. IsForm (fields line.now) (said s)) }
     {
-        let (word, Some(rest)) = first_field(line) else {
-            return None;
-        };
-        let (second, Some(rest)) = first_field(rest) else {
-            return None;
-        };
-        match first_field(rest) {
-            (third, None) => EntryLine::of_three(word, second, third),
-            (_, Some(_)) => None,
+        let (word, second, third) = three_fields(line)?;
+        EntryLine::of_three(word, second, third)
+    }
+
+    /// Whether records of a version have such entries.
+    pub(crate) fn is_of(&self, version: Version) -> bool
+        ensures { result ≡ is_of version (said self.now) }
+    {
+        match self {
+            EntryLine::Page(_, _) | EntryLine::Fault(_, _) => true,
+            EntryLine::Robots(_, _) | EntryLine::Free(_) | EntryLine::Closed(_) => {
+                version == Version::First
+            }
+            EntryLine::Chain(_, _) => version == Version::Second,
         }
     }
 
@@ -60,9 +71,40 @@ impl<'a> EntryLine<'a> {
             },
             "rules" if second == "all" => Some(EntryLine::Free(third)),
             "rules" if second == "none" => Some(EntryLine::Closed(third)),
+            "chain" => match hop_count(third) {
+                Some(count) => Some(EntryLine::Chain(second, count)),
+                None => None,
+            },
             _ => None,
         }
     }
+}
+
+// The fields of a line that has three.
+pub(crate) fn three_fields(line: &str) -> Option<(&str, &str, &str)>
+    ensures { MatchOption result ((a b c : List ℕ) → fields line.now ≢ a ∷ b ∷ c ∷ []) (λ f. fields line.now ≡ f.0.now ∷ f.1.now ∷ f.2.now ∷ []) }
+{
+    let (word, Some(rest)) = first_field(line) else {
+        return None;
+    };
+    let (second, Some(rest)) = first_field(rest) else {
+        return None;
+    };
+    match first_field(rest) {
+        (third, None) => Some((word, second, third)),
+        (_, Some(_)) => None,
+    }
+}
+
+// The number of hops that a text writes.
+fn hop_count(text: &str) -> Option<usize>
+    ensures { MatchOption result ((n : ℕ) → length_of text.now ≡ Some n → ¬ IsHopCount n) (λ n. (length_of text.now ≡ Some n) × IsHopCount n) }
+{
+    let count = length_of(text)?;
+    if count < 1 || MAX_HOPS < count {
+        return None;
+    }
+    Some(count)
 }
 
 // Whether each byte is a decimal digit.
@@ -82,7 +124,7 @@ fn is_length(text: &str) -> bool
 
 // The number that decimal digits without leading zeros write, or the greatest number where it is
 // greater.
-fn length_of(text: &str) -> Option<usize>
+pub(crate) fn length_of(text: &str) -> Option<usize>
     ensures { result ≡ length_of text.now }
 {
     if !is_length(text) {

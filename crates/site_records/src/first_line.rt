@@ -1,7 +1,10 @@
 //! The front of a record's text: its first line, and bytes whose number is known.
 ghost use Rattle.std.specs.Prelude.{◌≡◌, ◌==◌, ℕ, List, MatchOption, Some, slice_get};
 ghost use Rattle.std.specs.List.{position};
+ghost use Rattle.std.specs.Str.{IsUtf8};
 ghost use Rattle.site_records.specs.Entries.{IsLine, HasBytes};
+
+use std::str;
 
 // Where the first line feed stands.
 fn first_line_feed(text: &[u8]) -> Option<usize>
@@ -11,11 +14,24 @@ fn first_line_feed(text: &[u8]) -> Option<usize>
 }
 
 // The first line without its line feed, and what stands behind that.
-pub(crate) fn first_line(text: &[u8]) -> Option<(&[u8], &[u8])>
+fn first_line(text: &[u8]) -> Option<(&[u8], &[u8])>
     ensures { MatchOption result ((line : List ℕ) (behind : List ℕ) → ¬ IsLine text.now line behind) (λ parts. IsLine text.now parts.0.now parts.1.now) }
 {
     let end = first_line_feed(text)?;
     Some((&text[..end], &text[end + 1..]))
+}
+
+// The same where the first line is UTF-8.
+pub(crate) fn first_text_line(text: &[u8]) -> Option<(&str, &[u8])>
+    ensures { MatchOption result ((line : List ℕ) (behind : List ℕ) → IsLine text.now line behind → ¬ IsUtf8 line) (λ parts. IsLine text.now parts.0.now parts.1.now × IsUtf8 parts.0.now) }
+{
+    let Some((line, behind)) = first_line(text) else {
+        return None;
+    };
+    match str::from_utf8(line) {
+        Ok(line) => Some((line, behind)),
+        Err(_) => None,
+    }
 }
 
 // So many bytes, and what stands behind the line feed that follows them.

@@ -3,12 +3,17 @@
 //! meaning is written in `specs/`.
 #![tactic(auto)]
 
+mod entry_fault;
 mod entry_line;
 mod first_line;
+mod hop_line;
+mod hop_row;
 mod reading;
 mod recorded_site;
 mod replayed;
 mod resumed;
+mod taken;
+mod version;
 
 pub use recorded_site::RecordedSite;
 pub use resumed::Resumed;

@@ -1,40 +1,46 @@
 //! A record in mid-read: the answers and the rule sets that the entries so far state.
-ghost use Rattle.std.specs.Prelude.{◌≡◌, ◌<◌, [], IfOk, MatchResult, length};
+ghost use Rattle.std.specs.Prelude.{◌≡◌, ◌≤◌, ◌+◌, [], IfOk, MatchResult, length};
 ghost use Rattle.site_maps.specs.Readings.{IsVacant};
-ghost use Rattle.site_records.specs.EntryLines.{page, fault, file, free, closed};
+ghost use Rattle.site_records.specs.EntryLines.{page, fault, file, free, closed, chain, IsHopCount};
 ghost use Rattle.site_records.specs.Said.{said};
-ghost use Rattle.site_records.specs.Readings.{Takes, Reads, IsBad};
+ghost use Rattle.site_records.specs.Readings.{Takes, TakesEntry, IsCounted, Reads, IsBad, lines_to};
 
+use crate::entry_fault::{EntryFault, alone};
 use crate::entry_line::EntryLine;
-use crate::first_line::{counted, first_line};
+use crate::first_line::{counted, first_text_line};
+use crate::hop_row::read_chain;
 use crate::replayed::{answer_of, no_response};
+use crate::taken::Taken;
+use crate::version::Version;
 use address::{Address, Origin};
 use fetcher::{Answer, FaultKind};
 use indexmap::IndexMap;
 use robots_rules::{RuleSet, parse};
 use site_maps::{InputLineFault, KeptRules, read_address, read_origin};
 use std::alloc::Global;
-use std::str;
 
 /// What the entries read so far state.
 #[derive(Drop)]
 pub(crate) struct Reading {
     pub(crate) alloc: Global,
     pub(crate) robots: bool,
+    pub(crate) version: Version,
     pub(crate) answers: IndexMap<Address, Answer>,
     pub(crate) rules: IndexMap<Origin, KeptRules>,
 }
 
 impl Reading {
     // Before the first entry.
-    pub(crate) fn new(alloc: Global, robots: bool) -> Self
+    pub(crate) fn new(alloc: Global, robots: bool, version: Version) -> Self
         ensures robots { result.robots ≡ robots }
+        ensures version { result.version ≡ version }
         ensures answers { result.answers.entries ≡ [] }
         ensures rules { result.rules.entries ≡ [] }
     {
         Reading {
             alloc,
             robots,
+            version,
             answers: IndexMap::new(alloc),
             rules: IndexMap::new(alloc),
         }
@@ -136,34 +142,56 @@ impl Reading {
         Ok(behind)
     }
 
+    // Takes the line of an origin's chain, which has so many hops.
+    fn add_chain<'a>(
+        &mut self,
+        text: &str,
+        count: usize,
+        behind: &'a [u8],
+    ) -> Result<Taken<'a>, EntryFault>
+        requires { IsHopCount count }
+        ensures { TakesEntry self.old (chain text.now count) behind.now result self.new }
+    {
+        let origin = read_origin(self.alloc, text)?;
+        self.unruled(&origin)?;
+        let (hops, after) = read_chain(self.alloc, &origin, count, behind)?;
+        let rules = hops.rules(self.alloc)?;
+        self.rules
+            .insert(origin, KeptRules::new(self.alloc, rules))?;
+        let lines = count + 1;
+        Ok(Taken { lines, after })
+    }
+
     // Takes what a line says, with what is behind it.
-    fn add<'a>(&mut self, line: EntryLine<'_>, behind: &'a [u8]) -> Result<&'a [u8], InputLineFault>
-        ensures { Takes self.old (said line.entry) behind.now result self.new }
+    fn add<'a>(&mut self, line: EntryLine<'_>, behind: &'a [u8]) -> Result<Taken<'a>, EntryFault>
+        requires { IsCounted (said line) }
+        ensures { TakesEntry self.old (said line.entry) behind.now result self.new }
     {
         match line {
-            EntryLine::Page(text, count) => self.add_page(text, count, behind),
-            EntryLine::Fault(kind, text) => self.add_fault(kind, text, behind),
-            EntryLine::Robots(text, count) => self.add_robots(text, count, behind),
-            EntryLine::Free(text) => self.add_free(text, behind),
-            EntryLine::Closed(text) => self.add_closed(text, behind),
+            EntryLine::Page(text, count) => alone(self.add_page(text, count, behind)),
+            EntryLine::Fault(kind, text) => alone(self.add_fault(kind, text, behind)),
+            EntryLine::Robots(text, count) => alone(self.add_robots(text, count, behind)),
+            EntryLine::Free(text) => alone(self.add_free(text, behind)),
+            EntryLine::Closed(text) => alone(self.add_closed(text, behind)),
+            EntryLine::Chain(text, count) => self.add_chain(text, count, behind),
         }
     }
 
     /// Takes the entry that the text begins with, and gives what follows it. An error says what is
     /// wrong with it; then nothing more may be read.
-    pub(crate) fn read_entry<'a>(&mut self, text: &'a [u8]) -> Result<&'a [u8], InputLineFault>
-        ensures read { MatchResult result (λ after. Reads self.old text.now after.now self.new) (λ f. IsBad self.old text.now f) }
-        ensures shorter { IfOk result (λ after. length after.now < length text.now) }
+    pub(crate) fn read_entry<'a>(&mut self, text: &'a [u8]) -> Result<Taken<'a>, EntryFault>
+        ensures read { MatchResult result (λ taken. Reads self.old text.now taken.lines taken.after.now self.new) (λ f. IsBad self.old text.now f) }
+        ensures shorter { MatchResult result (λ taken. length taken.after.now + taken.lines ≤ length text.now) (λ f. lines_to f ≤ length text.now) }
     {
-        let Some((line, behind)) = first_line(text) else {
-            return Err(InputLineFault::Line);
-        };
-        let Ok(line) = str::from_utf8(line) else {
-            return Err(InputLineFault::Line);
+        let Some((line, behind)) = first_text_line(text) else {
+            return Err(EntryFault::Own(InputLineFault::Line));
         };
         let Some(line) = EntryLine::of(line) else {
-            return Err(InputLineFault::Line);
+            return Err(EntryFault::Own(InputLineFault::Line));
         };
+        if !line.is_of(self.version) {
+            return Err(EntryFault::Own(InputLineFault::Line));
+        }
         self.add(line, behind)
     }
 }

@@ -1,6 +1,7 @@
 //! Sites that are read from a record of responses.
 use crate::reading::Reading;
 use crate::replayed::copy_of;
+use crate::version::version_of;
 use address::{Address, Origin};
 use fetcher::{Answer, Ask, Body, Fetcher, Outcome};
 use indexmap::IndexMap;
@@ -9,9 +10,6 @@ use site_maps::{InputFault, KeptRules};
 use std::alloc::{AllocError, Global};
 use std::marker::Model;
 use std::sync::Arc;
-
-/// The first line of a record.
-const VERSION_LINE: &[u8] = b"wgetr-record 1\n";
 
 /// The status of an address that a record doesn't name: Not Found (RFC 9110, section 15.5.5).
 const NOT_FOUND: u16 = 404;
@@ -58,16 +56,21 @@ impl RecordedSite {
         ensures record { IfOk result (λ m. (said : List Entry) × IsRecord robots bytes.now said × (m ≡ record { answers = answers_of said; rules = rules_of said; asks = [] })) }
         ensures fault { IfErr result (λ f. IsFault robots bytes.now f) }
     {
-        let Some(mut rest) = bytes.strip_prefix(VERSION_LINE) else {
+        let Some((version, mut rest)) = version_of(bytes) else {
             return Err(InputFault::Line(1));
         };
-        let mut reading = Reading::new(alloc, robots);
+        let mut reading = Reading::new(alloc, robots, version);
         let mut number = 1;
         'entries: while !rest.is_empty() {
-            number += 1;
             match reading.read_entry(rest) {
-                Ok(after) => rest = after,
-                Err(fault) => return Err(fault.at(number)),
+                Ok(taken) => {
+                    number += taken.lines;
+                    rest = taken.after;
+                }
+                Err(fault) => {
+                    let line = number + 1;
+                    return Err(fault.at(line));
+                }
             }
         }
         Ok(RecordedSite::of(reading)?)
@@ -82,6 +85,7 @@ impl RecordedSite {
             answers,
             rules,
             robots: _,
+            version: _,
         } = reading;
         Ok(RecordedSite {
             alloc,

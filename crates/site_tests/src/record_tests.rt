@@ -69,6 +69,27 @@ line 2: wgetr-record 1~page http://h/ 18446744073709551616~~;
 address 2: wgetr-record 1~page http://u@h/ 99999999999999999999999~~;
 line 2: wgetr-record 1~page http://u@h/ 01~~;
 line 2: wgetr-record 1~chain http://h/ 1~;
+line 1: wgetr-record 2;
+line 1: wgetr-record 2|~;
+line 2: wgetr-record 2~robots http://h/ 0~~;
+line 2: wgetr-record 2~rules all http://u@h/~;
+line 2: wgetr-record 2~hop http://h/robots.txt 0~~;
+line 2: wgetr-record 2~chain http://h/ 0~;
+line 2: wgetr-record 2~chain http://h/ 01~hopfault head http://h/robots.txt~;
+line 2: wgetr-record 2~chain http://u@h/ 7~;
+line 2: wgetr-record 2~chain http://h/a 1~hopfault head http://h/robots.txt~;
+line 3: wgetr-record 2~chain http://h/ 1~;
+line 3: wgetr-record 2~chain http://h/ 1~hopfault head http://h/robots.txt;
+line 3: wgetr-record 2~chain http://h/ 1~fault head http://h/robots.txt~;
+line 3: wgetr-record 2~chain http://h/ 1~hop http://h/robots.txt 1~~;
+line 3: wgetr-record 2~chain http://h/ 1~hop http://h/robots.txt 1~ab~;
+line 3: wgetr-record 2~chain http://h/ 1~hop http://h/r.txt 99~;
+address 3: wgetr-record 2~chain http://h/ 1~hop http://u@h/robots.txt 99~;
+line 2: wgetr-record 2~chain http://h/ 1~hop http://h/robots.txt 32~HTTP/1.1 301 X|Location: /r||~;
+line 4: wgetr-record 2~chain http://h/ 2~hop http://h/robots.txt 32~HTTP/1.1 301 X|Location: /r||~hopfault head http://h/q~;
+line 4: wgetr-record 2~chain http://h/ 2~hopfault head http://h/robots.txt~hopfault head http://h/robots.txt~;
+line 5: wgetr-record 2~chain http://h/ 2~hop http://h/robots.txt 32~HTTP/1.1 301 X|Location: /r||~hopfault head http://h/r~x~;
+line 4: wgetr-record 2~chain http://h/ 1~hopfault head http://h/robots.txt~chain http://h:80/ 1~hopfault head http://h/robots.txt~;
 ";
 
 // A record, and where its first line and each of its entries end.
@@ -77,9 +98,17 @@ const CUT: &str =
 
 const ENDS: [usize; 5] = [15, 62, 84, 107, 127];
 
-// The site of the record of `SITE`.
-fn recorded(rt: &impl Abort, alloc: Global, robots: bool) -> RecordedSite {
-    let bytes = bytes_of(rt, alloc, SITE);
+// The same of a record with a chain of two hops, each of which is a line, and the ends behind which a hop is due.
+const CUT_CHAIN: &str =
+    "wgetr-record 2\nchain http://h/ 2\nhop http://h/robots.txt 32\nHTTP/1.1 301 X|Location: /r||\nhopfault head http://h/r\nfault head http://h/a\n";
+
+const CHAIN_ENDS: [usize; 5] = [15, 33, 93, 118, 140];
+
+const DUE: [usize; 2] = [33, 93];
+
+// The site of a record.
+fn recorded(rt: &impl Abort, alloc: Global, record: &str, robots: bool) -> RecordedSite {
+    let bytes = bytes_of(rt, alloc, record);
     let Ok(site) = RecordedSite::read(alloc, &bytes, robots) else {
         panic!(rt; "no record");
     };
@@ -88,7 +117,7 @@ fn recorded(rt: &impl Abort, alloc: Global, robots: bool) -> RecordedSite {
 
 #[test]
 fn a_record_says_what_its_entries_say(rt: HostRuntime) {
-    let first = recorded(&rt, rt.alloc(), true);
+    let first = recorded(&rt, rt.alloc(), SITE, true);
     let mut site = first.try_clone().expect(&rt, "memory");
     for row in ANSWERS.lines() {
         demand(&rt, says(&rt, rt.alloc(), &mut site, row), row);
@@ -99,7 +128,67 @@ fn a_record_says_what_its_entries_say(rt: HostRuntime) {
     drop(first);
 }
 
+// A record of version 2: a robots file, one behind a redirect whose answer is a fault, one that is missing, redirects round a
+// ring, and one that is cut short.
+const SECOND: &str = "wgetr-record 2
+page http://h/ 54
+HTTP/1.1 200 OK|Content-Type: text/html||<a href=b>
+chain http://h/ 1
+hop http://h/robots.txt 63
+HTTP/1.1 200 |Content-Length: 26||User-agent: *
+Disallow: /
+
+chain http://k/ 2
+hop HTTP://K:80/robots.txt#x 40
+HTTP/1.1 301 X|Location: http://l/r||
+hopfault connect http://l/r
+fault head http://h/z
+chain http://m/ 1
+hop http://m/robots.txt 37
+HTTP/1.1 404 X|Content-Length: 0||
+chain http://n/ 6
+hop http://n/robots.txt 41
+HTTP/1.1 302 X|Location: /robots.txt||
+hop http://n/robots.txt 41
+HTTP/1.1 302 X|Location: /robots.txt||
+hop http://n/robots.txt 41
+HTTP/1.1 302 X|Location: /robots.txt||
+hop http://n/robots.txt 41
+HTTP/1.1 302 X|Location: /robots.txt||
+hop http://n/robots.txt 41
+HTTP/1.1 302 X|Location: /robots.txt||
+hop http://n/robots.txt 41
+HTTP/1.1 302 X|Location: /robots.txt||
+chain http://o/ 1
+hop http://o/robots.txt 4
+HTTP
+";
+
 // Whether this agent may ask an origin of that record for a path, a row for each.
+const LED: &str = "http://h/ /a no
+http://k/ /a no
+http://m/ /a yes
+http://n/ /a yes
+http://o/ /a no
+http://l/ /a yes
+";
+
+#[test]
+fn a_record_of_chains_has_the_rules_at_their_ends(rt: HostRuntime) {
+    let mut site = recorded(&rt, rt.alloc(), SECOND, true);
+    for row in LED.lines() {
+        demand(&rt, rules(&rt, rt.alloc(), &mut site, row), row);
+    }
+    demand(
+        &rt,
+        says(&rt, rt.alloc(), &mut site, "http://h/z 0 Fault(Head)"),
+        "fault",
+    );
+    assert_eq!(rt; site.asks().len(), 7);
+    drop(site);
+}
+
+// Whether this agent may ask an origin of the first record for a path, a row for each.
 const ALLOWED: &str = "http://h/ /b no
 http://h/ /a yes
 http://k/ /a no
@@ -109,7 +198,7 @@ http://z/ /b yes
 
 #[test]
 fn a_record_has_the_rules_of_its_origins(rt: HostRuntime) {
-    let mut site = recorded(&rt, rt.alloc(), true);
+    let mut site = recorded(&rt, rt.alloc(), SITE, true);
     for row in ALLOWED.lines() {
         demand(&rt, rules(&rt, rt.alloc(), &mut site, row), row);
     }
@@ -119,7 +208,7 @@ fn a_record_has_the_rules_of_its_origins(rt: HostRuntime) {
 
 #[test]
 fn links_that_a_page_forbids_are_followed_where_robots_are_off(rt: HostRuntime) {
-    let mut site = recorded(&rt, rt.alloc(), false);
+    let mut site = recorded(&rt, rt.alloc(), SITE, false);
     let at = address(&rt, rt.alloc(), "http://h/q");
     let answer = site.ask(&at).expect(&rt, "memory");
     assert_eq!(rt; answer.outcome.edge_count(), 1);
@@ -145,24 +234,35 @@ fn the_first_bad_entry_is_named(rt: HostRuntime) {
     }
 }
 
-// The fault of the record of `CUT` where it is cut at this length: none where an entry ends, else the line of that which is cut.
-fn fault_at(len: usize) -> Option<InputFault> {
-    if ENDS.contains(&len) {
+// The fault of a record whose lines end so where it is cut at this length: none where an entry ends, else the line of that which
+// is cut.
+fn fault_at(ends: &[usize], due: &[usize], len: usize) -> Option<InputFault> {
+    if ends.contains(&len) && !due.contains(&len) {
         return None;
     }
-    let whole = ENDS.iter().filter(|end| **end <= len).count();
+    let whole = ends.iter().filter(|end| **end <= len).count();
     Some(InputFault::Line(whole.wrapping_add(1)))
+}
+
+// Cuts a record at each byte.
+fn cut(rt: &impl Abort, alloc: Global, record: &str, ends: &[usize], due: &[usize]) {
+    let bytes = bytes_of(rt, alloc, record);
+    assert_eq!(rt; Some(&bytes.len()), ends.last());
+    for len in 0..bytes.len() {
+        assert_eq!(rt;
+            fault_of(alloc, &bytes[..len]),
+            fault_at(ends, due, len),
+            "at {len}"
+        );
+    }
 }
 
 #[test]
 fn a_record_that_is_cut_names_the_entry_that_is_cut(rt: HostRuntime) {
-    let bytes = bytes_of(&rt, rt.alloc(), CUT);
-    assert_eq!(rt; bytes.len(), 127);
-    for len in 0..bytes.len() {
-        assert_eq!(rt;
-            fault_of(rt.alloc(), &bytes[..len]),
-            fault_at(len),
-            "at {len}"
-        );
-    }
+    cut(&rt, rt.alloc(), CUT, &ENDS, &[]);
+}
+
+#[test]
+fn a_chain_that_is_cut_names_the_hop_that_is_cut(rt: HostRuntime) {
+    cut(&rt, rt.alloc(), CUT_CHAIN, &CHAIN_ENDS, &DUE);
 }

@@ -25,4 +25,4 @@ returns c =
     let put = insert_entry-new bytes_eq c.args.self.now.answers c.in_ok-at.at a none in
     takes_answer c.args.self.now _ (fault c.args.kind c.args.text.now) c.args.behind.now c.args.behind.now c.in_ok-at.at a c.in_ok-at.ensures tt
     (fault_states c.args.self.now.robots c.args.kind c.args.text.now c.args.behind.now c.in_ok-at.at)
-    none (rw c.no_response.ensures at c.in_ok-insert.ensures.entries ∙ put) refl refl
+    none (rw c.no_response.ensures at c.in_ok-insert.ensures.entries ∙ put) refl refl refl

@@ -28,4 +28,4 @@ returns c =
     let put = insert_entry-new bytes_eq c.args.self.now.rules c.in_ok-origin.origin r none in
     takes_rules c.args.self.now _ (free c.args.text.now) c.args.behind.now c.args.behind.now c.in_ok-origin.origin r named root
     (refl, ap (λ o. ruled o r) (sym is))
-    none (rw (c.new.ensures, c.all.ensures.value) at c.in_ok-insert.ensures.entries ∙ put) refl refl
+    none (rw (c.new.ensures, c.all.ensures.value) at c.in_ok-insert.ensures.entries ∙ put) refl refl refl

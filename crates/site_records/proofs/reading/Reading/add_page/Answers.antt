@@ -33,4 +33,4 @@ returns c =
     let put = insert_entry-new bytes_eq c.args.self.now.answers c.in_ok-at.at c.in_ok-answer.answer none in
     takes_answer c.args.self.now _ (page c.args.text.now c.args.count) c.args.behind.now c.in-Some.after.now c.in_ok-at.at c.in_ok-answer.answer c.in_ok-at.ensures tt
     (page_states c.args.self.now.robots c.args.text.now c.args.count c.args.behind.now c.in-Some.bytes.now c.in-Some.after.now c.in_ok-at.at c.in_ok-answer.answer has c.in_ok-answer.ensures)
-    none (c.in_ok-insert.ensures.entries ∙ put) refl refl
+    none (c.in_ok-insert.ensures.entries ∙ put) refl refl refl

@@ -33,4 +33,4 @@ returns c =
     let put = insert_entry-new bytes_eq c.args.self.now.rules c.in_ok-origin.origin c.in_ok-rules.rules none in
     takes_rules c.args.self.now _ (file c.args.text.now c.args.count) c.args.behind.now c.in-Some.after.now c.in_ok-origin.origin c.in_ok-rules.rules named root
     (file_states c.args.self.now.robots c.args.text.now c.args.count c.args.behind.now c.in-Some.bytes.now c.in-Some.after.now c.in_ok-origin.origin c.in_ok-rules.rules has c.in_ok-rules.ensures.rules is)
-    none (rw c.new.ensures at c.in_ok-insert.ensures.entries ∙ put) refl refl
+    none (rw c.new.ensures at c.in_ok-insert.ensures.entries ∙ put) refl refl refl

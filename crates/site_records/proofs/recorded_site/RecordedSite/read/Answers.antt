@@ -1,20 +1,38 @@
 -- The loop keeps the entries so far, and ends at the first bad one or behind the last.
-use Rattle.std.proofs.Common.{◌≡◌, ◌∙◌, refl, sym, inl, inr, arith}
+use Rattle.std.proofs.Common.{◌≡◌, ◌++◌, ◌∙◌, refl, sym, subst, inl, inr, arith, rules}
 use Rattle.std.proofs.lemmas.Result.{err_from_is_err_and}
-use Rattle.site_records.proofs.ReadLaws.{starts, no_version, goes_on, first_bad, all_read, not_empty, is_empty, some_left}
+use Rattle.site_records.specs.Records.{version_line}
+use Rattle.site_records.proofs.ReadLaws.{starts, goes_on, first_bad, line_within, all_read, not_empty, is_empty, some_left}
 use Rattle.site_records.proofs.recorded_site.RecordedSite.read.Goals as goal
 
 pub entries-init : goal.entries-init
-entries-init c = starts c.args.robots c.args.bytes.now c.new-reading.result c.in-Some.rest.now c.in-Some.ensures.cases.0 c.in-Some.ensures.cases.1 c.new-reading.ensures.answers c.new-reading.ensures.rules c.new-reading.ensures.robots
+entries-init c =
+    let h = c.in-Some.ensures in
+    let a = c.in-Some.version-is in
+    let b = c.in-Some.rest-is in
+    let is : c.args.bytes.now ≡ version_line c.in-Some.version ++ c.in-Some.rest.now = first_of (assumption h, search (rules, h), grind (arith, h, a, b)) in
+    starts c.args.robots c.args.bytes.now c.new-reading.result c.in-Some.rest.now
+    (subst (λ v. c.args.bytes.now ≡ version_line v ++ c.in-Some.rest.now) (sym c.new-reading.ensures.version) is)
+    c.new-reading.ensures.answers c.new-reading.ensures.rules c.new-reading.ensures.robots
 
 pub entries-preserved : goal.entries-preserved
-entries-preserved c = goes_on _ _ _ _ _ _ _ c.entries.invariant c.in-Ok.ensures.read c.in-Ok.ensures.shorter
+entries-preserved c = goes_on _ _ _ _ _ _ _ _ c.entries.invariant c.in-Ok.ensures.read c.in-Ok.ensures.shorter
 
 pub overflow_add-number : goal.overflow_add-number
-overflow_add-number c = omega (arith, c.entries.invariant.within, some_left c.entries.rest.now (sym c.is_empty.ensures ∙ c.entries-test.true))
+overflow_add-number c = omega (arith, c.entries.invariant.within, c.in-Ok.ensures.shorter)
+
+pub overflow_add-line : goal.overflow_add-line
+overflow_add-line c =
+    let fits = line_within _ _ _ _ _ _ c.entries.invariant c.in-Err.ensures.shorter in
+    omega (arith, fits)
+
+pub at-requires : goal.at-requires
+at-requires c =
+    let fits = line_within _ _ _ _ _ _ c.entries.invariant c.in-Err.ensures.shorter in
+    omega (arith, fits)
 
 pub returns-in_default-clause-fault : goal.returns-in_default-clause-fault
-returns-in_default-clause-fault c = inl (refl, no_version c.args.bytes.now c.in_default.ensures.cases)
+returns-in_default-clause-fault c = inl (refl, c.in_default.ensures)
 
 pub returns-in-Err-clause-fault : goal.returns-in-Err-clause-fault
 returns-in-Err-clause-fault c = rw c.at.ensures (first_bad _ _ _ _ _ c.in-Err.fault c.entries.invariant (not_empty c.entries.rest.now (sym c.is_empty.ensures ∙ c.entries-test.true)) c.in-Err.ensures.read)

@@ -1,8 +1,7 @@
--- No form has four fields.
+-- A fourth field stands behind the third.
 use Rattle.std.proofs.Common.{◌==◌}
 use Rattle.site_maps.proofs.Splits.{slice_split-first_part}
-use Rattle.site_records.proofs.FormLaws.{four_fields}
-use Rattle.site_records.proofs.entry_line.EntryLine.of.Goals as goal
+use Rattle.site_records.proofs.entry_line.three_fields.Goals as goal
 
 pub returns-in_default-Some-first_field-2 : goal.returns-in_default-Some-first_field-2
 returns-in_default-Some-first_field-2 c =
@@ -13,4 +12,4 @@ returns-in_default-Some-first_field-2 c =
     let second = rw (two, one) at c.first_field-2.ensures in
     let third = rw (three, two) at c.first_field-3.ensures in
     let (_, _, fourth) = slice_split-first_part (λ b. b == 32) c.in_default-Some-first_field-2.field-0-1.now in
-    rw (first, second, third, fourth) (four_fields _ _ _ _ _)
+    rw (first, second, third, fourth) (λ a b c e. cc)

@@ -1,0 +1,28 @@
+-- The rules at the end of a chain go behind the others.
+use Rattle.std.proofs.Common.{◌∙◌, ◌++◌, ◌∷◌, [], refl, ap}
+use Rattle.std.specs.Str.{bytes_eq}
+use Rattle.std.proofs.lemmas.Result.{err_from_is_err_and}
+use Rattle.indexmap.proofs.CallerLemmas.{insert_entry-new}
+use Rattle.site_records.specs.EntryLines.{chain}
+use Rattle.site_records.proofs.EntryLaws.{unrooted, ruled_before, takes_chain}
+use Rattle.site_records.proofs.reading.Reading.add_chain.Goals as goal
+
+pub returns-in_err-origin : goal.returns-in_err-origin
+returns-in_err-origin c =
+    let p = err_from_is_err_and c.from_residual.result c.from_residual.ensures.1 in
+    rw (p.1, p.2) (unrooted c.args.self.now (chain c.args.text.now c.args.count) c.args.behind.now _ (λ h. h) c.in_err-origin.ensures)
+
+pub returns-in_err-unruled : goal.returns-in_err-unruled
+returns-in_err-unruled c =
+    let p = err_from_is_err_and c.from_residual-in_err-unruled.result c.from_residual-in_err-unruled.ensures.1 in
+    let (named, root, is) = c.in_ok-origin.ensures in
+    rw (p.1, p.2) (ruled_before c.args.self.now (chain c.args.text.now c.args.count) c.args.behind.now c.in_ok-origin.origin _ named is (λ k. k) c.in_err-unruled.ensures)
+
+pub returns : goal.returns
+returns c =
+    let (named, root, is) = c.in_ok-origin.ensures in
+    let (are, long, same, admitted) = c.in_ok-hops.ensures in
+    let vacant = c.in_ok-unruled.ensures in
+    let put = insert_entry-new bytes_eq c.args.self.now.rules c.in_ok-origin.origin c.in_ok-rules.rules vacant in
+    takes_chain c.args.self.now _ c.args.text.now c.args.count c.args.behind.now _ c.in_ok-origin.origin c.in_ok-hops.hops.hops named root is are long admitted vacant
+    (rw c.new.ensures at c.in_ok-insert.ensures.entries ∙ put ∙ ap (λ r. c.args.self.now.rules.entries ++ (c.in_ok-origin.origin, r) ∷ []) c.in_ok-rules.ensures) refl refl refl refl

@@ -1,0 +1,76 @@
+//! What is wrong with an entry of a record, and in which of its lines.
+ghost use Rattle.site_records.specs.Readings.{IsAlone};
+
+use crate::taken::Taken;
+use site_maps::{InputFault, InputLineFault};
+use std::alloc::{AllocError, AllocFailed};
+
+/// What is wrong with an entry.
+#[derive(Clone, Copy, Debug, PartialEq, Eq)]
+pub(crate) enum EntryFault {
+    /// This, in its own line.
+    Own(InputLineFault),
+    /// This, in the line of the hop that stands behind so many others of its chain.
+    Hop(usize, InputLineFault),
+}
+
+impl EntryFault {
+    ghost use Rattle.std.specs.Prelude.{◌≡◌, ◌<◌, ◌+◌, ◌^◌};
+    ghost use Rattle.site_records.specs.Readings.{fault_at, lines_to};
+
+    /// The fault of the entry whose own line has this number.
+    pub(crate) fn at(self, number: usize) -> InputFault
+        requires { number + lines_to self < 2 ^ 64 }
+        ensures { result ≡ fault_at self number }
+    {
+        match self {
+            EntryFault::Own(fault) => fault.at(number),
+            EntryFault::Hop(place, fault) => fault.at(number + place + 1),
+        }
+    }
+}
+
+impl From<InputLineFault> for EntryFault {
+    ghost use Rattle.std.specs.Prelude.{◌≡◌};
+    ghost use Rattle.site_records.specs.declared.entry_fault.EntryFault.TheVariants.{Own};
+
+    ghost from_gives = { λ wrong fault. fault ≡ Own wrong };
+
+    fn from(wrong: InputLineFault) -> EntryFault {
+        EntryFault::Own(wrong)
+    }
+}
+
+impl<T: Drop> From<AllocFailed<T>> for EntryFault {
+    ghost use Rattle.std.specs.Prelude.{◌≡◌};
+    ghost use Rattle.site_maps.specs.declared.input_fault.InputLineFault.TheVariants.{Memory};
+    ghost use Rattle.site_records.specs.declared.entry_fault.EntryFault.TheVariants.{Own};
+
+    ghost from_gives = { λ _ fault. fault ≡ Own Memory };
+
+    fn from(_error: AllocFailed<T>) -> EntryFault {
+        EntryFault::Own(InputLineFault::Memory)
+    }
+}
+
+impl From<AllocError> for EntryFault {
+    ghost use Rattle.std.specs.Prelude.{◌≡◌};
+    ghost use Rattle.site_maps.specs.declared.input_fault.InputLineFault.TheVariants.{Memory};
+    ghost use Rattle.site_records.specs.declared.entry_fault.EntryFault.TheVariants.{Own};
+
+    ghost from_gives = { λ _ fault. fault ≡ Own Memory };
+
+    fn from(_error: AllocError) -> EntryFault {
+        EntryFault::Own(InputLineFault::Memory)
+    }
+}
+
+// What was taken of a line that is an entry alone.
+pub(crate) fn alone(taken: Result<&[u8], InputLineFault>) -> Result<Taken<'_>, EntryFault>
+    ensures { IsAlone taken.entry result }
+{
+    match taken {
+        Ok(after) => Ok(Taken { lines: 1, after }),
+        Err(fault) => Err(EntryFault::Own(fault)),
+    }
+}

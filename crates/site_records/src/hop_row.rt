@@ -1,0 +1,139 @@
+//! The hops of a chain, as a record tells them (RFC 9309, section 2.3.1.2).
+ghost use Rattle.std.specs.Prelude.{◌≡◌, ◌≤◌, ℕ, List, Some, IfOk, MatchResult, length};
+ghost use Rattle.site_answer.specs.HopChains.{IsAdmitted};
+ghost use Rattle.site_records.specs.EntryLines.{IsHopCount};
+ghost use Rattle.site_records.specs.Entries.{AreHopsOf, IsBegun, IsHop, IsToldIn, chain_start, due};
+ghost use Rattle.site_records.specs.Readings.{AddsHop, IsBadHop, IsWrongChain, IsWrongHop, IsWrongRow, NamesDue};
+ghost use Rattle.site_records.specs.Said.{said_hop};
+
+use crate::entry_fault::EntryFault;
+use crate::entry_line::MAX_HOPS;
+use crate::first_line::{counted, first_text_line};
+use crate::hop_line::HopLine;
+use address::{Address, Origin};
+use response_reader::{SliceWire, read_response};
+use site_answer::{Given, Hops, Told, kind_of_fault};
+use site_maps::{InputLineFault, read_address};
+use std::alloc::{AllocError, Global};
+
+// What these bytes tell as a response.
+pub(crate) fn told_of(alloc: Global, bytes: &[u8]) -> Result<Told, AllocError>
+    ensures { IfOk result (IsToldIn bytes.now) }
+{
+    let mut wire = SliceWire::new(bytes);
+    match read_response(alloc, &mut wire) {
+        Ok(response) => Ok(Told::Whole(Given::new(response))),
+        Err(fault) => match kind_of_fault(fault) {
+            Some(kind) => Ok(Told::Fault(kind)),
+            None => Err(AllocError),
+        },
+    }
+}
+
+// The address that a text names, where a chain leads there.
+fn read_due(alloc: Global, next: &Option<Address>, text: &str) -> Result<Address, InputLineFault>
+    ensures { NamesDue next.now text.now result }
+{
+    let at = read_address(alloc, text)?;
+    let Some(address) = next else {
+        return Err(InputLineFault::Line);
+    };
+    if *address != at {
+        return Err(InputLineFault::Line);
+    }
+    Ok(at)
+}
+
+// Takes the line of a hop, with what is behind it, where a chain leads to its address.
+fn take_hop<'a>(
+    alloc: Global,
+    next: &Option<Address>,
+    line: HopLine<'_>,
+    behind: &'a [u8],
+) -> Result<(Address, Told, &'a [u8]), InputLineFault>
+    ensures { MatchResult result (λ h. AddsHop next.now (said_hop line.entry) behind.now (h.0, h.1) h.2.now) (λ f. IsWrongHop next.now (said_hop line.entry) behind.now f) }
+{
+    match line {
+        HopLine::Whole(text, count) => {
+            let at = read_due(alloc, next, text)?;
+            let Some((bytes, after)) = counted(behind, count) else {
+                return Err(InputLineFault::Line);
+            };
+            let told = told_of(alloc, bytes)?;
+            Ok((at, told, after))
+        }
+        HopLine::Failed(kind, text) => {
+            let at = read_due(alloc, next, text)?;
+            Ok((at, Told::Fault(kind), behind))
+        }
+    }
+}
+
+// Takes the hop that a text begins with, where a chain leads to its address.
+fn read_hop<'a>(
+    alloc: Global,
+    next: &Option<Address>,
+    text: &'a [u8],
+) -> Result<(Address, Told, &'a [u8]), InputLineFault>
+    ensures { MatchResult result (λ h. IsHop text.now (h.0, h.1) h.2.now × (next.now ≡ Some h.0)) (λ f. IsBadHop f next.now text.now) }
+{
+    let Some((line, behind)) = first_text_line(text) else {
+        return Err(InputLineFault::Line);
+    };
+    let Some(line) = HopLine::of(line) else {
+        return Err(InputLineFault::Line);
+    };
+    take_hop(alloc, next, line, behind)
+}
+
+/// So many hops, where the chain leads behind them, and what follows them in the text.
+#[derive(Drop)]
+struct Row<'a> {
+    hops: Vec<(Address, Told)>,
+    next: Option<Address>,
+    rest: &'a [u8],
+}
+
+// Takes so many hops of an origin's chain.
+fn read_row<'a>(
+    alloc: Global,
+    of: &Origin,
+    count: usize,
+    text: &'a [u8],
+) -> Result<Row<'a>, EntryFault>
+    ensures { MatchResult result (λ row. IsBegun of.now text.now row.hops.items row.rest.now × (length row.hops.items ≡ count) × (row.next ≡ due (chain_start of.now) row.hops.items))
+        (λ f. IsWrongRow of.now count text.now f) }
+{
+    let mut hops = Vec::new(alloc);
+    let mut next = Some(of.robots_file()?);
+    let mut rest = text;
+    'hops: while hops.len() < count {
+        match read_hop(alloc, &next, rest) {
+            Ok((at, told, after)) => {
+                next = told.target(&at)?;
+                hops.push((at, told))?;
+                rest = after;
+            }
+            Err(fault) => return Err(EntryFault::Hop(hops.len(), fault)),
+        }
+    }
+    Ok(Row { hops, next, rest })
+}
+
+/// Takes the chain of an origin, which has so many hops, and gives what follows it in the text.
+pub(crate) fn read_chain<'a>(
+    alloc: Global,
+    of: &Origin,
+    count: usize,
+    text: &'a [u8],
+) -> Result<(Hops, &'a [u8]), EntryFault>
+    requires { IsHopCount count }
+    ensures { MatchResult result (λ chain. AreHopsOf text.now chain.0.hops chain.1.now × (length chain.0.hops ≡ count) × (chain.0.of ≡ of.now) × IsAdmitted of.now chain.0.hops)
+        (λ f. IsWrongChain of.now count text.now f) }
+{
+    let Row { hops, next, rest } = read_row(alloc, of, count, text)?;
+    if count < MAX_HOPS && next.is_some() {
+        return Err(EntryFault::Own(InputLineFault::Line));
+    }
+    Ok((Hops::new(of.try_clone()?, hops), rest))
+}
