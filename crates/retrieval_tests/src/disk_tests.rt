@@ -1,6 +1,6 @@
 //! Files on a disk: made with their directories, replaced, and never put through a link. Files in
 //! memory, and a put that fails. Names stand in a text with a blank between two.
-use local_tree::{DiskFolder, Folder, MemoryFolder};
+use local_tree::{Close, DiskFolder, Folder, MemoryFolder};
 use std::alloc::Global;
 use std::fs;
 use std::fs::Files;
@@ -30,7 +30,10 @@ fn link(rt: &(impl Abort + Files), target: &str, path: &str) {
 }
 
 // A folder on the disk.
-fn folder<'a, R: Abort + Files>(rt: &'a R, alloc: Global, path: &str) -> DiskFolder<'a, R> {
+fn folder<'a, R: Abort + Files>(rt: &'a R, alloc: Global, path: &str) -> DiskFolder<'a, R>
+where
+    R::File: Close,
+{
     DiskFolder::new(rt, alloc, path, 7).expect(rt, "memory")
 }
 
