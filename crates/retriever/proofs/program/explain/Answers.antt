@@ -2,7 +2,7 @@
 use Rattle.std.proofs.Common.{◌≡◌, Option, Some, None, [], map, refl, subst}
 use Rattle.std.specs.Option.{option_map_or}
 use Rattle.retriever.specs.Advice.{Told, told_by, told_on, said}
-use Rattle.retriever.specs.Streams.{AppendsFront}
+use Rattle.streams.specs.Streams.{AppendsFront}
 use Rattle.retriever.proofs.ProgramLaws.{nothing_of}
 use Rattle.retriever.proofs.program.explain.Goals as goal
 

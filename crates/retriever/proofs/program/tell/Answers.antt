@@ -1,6 +1,6 @@
 -- The text, or a front of it, was written; or there was no memory for it.
 use Rattle.std.proofs.Common.{◌∙◌, List, ℕ, subst}
-use Rattle.retriever.specs.Streams.{AppendsFront}
+use Rattle.streams.specs.Streams.{AppendsFront}
 use Rattle.retriever.proofs.ProgramLaws.{nothing_of, wrote}
 use Rattle.retriever.proofs.program.tell.Goals as goal
 
