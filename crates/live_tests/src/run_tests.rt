@@ -5,7 +5,7 @@ use address::Address;
 use follow_filters::Plan;
 use local_tree::{Folder, MemoryFolder, WriteFault, names, write_site};
 use options::read_order;
-use retriever::{ReadFault, System, read_input, run, run_program};
+use retriever::{System, run, run_program};
 use site_answer::{HttpFetcher, MemoryConnect, StoredAnswer};
 use site_records::RecordedSite;
 use std::alloc::{AllocError, Global};
@@ -15,6 +15,7 @@ use std::io::{Error, ErrorKind, Read, Write};
 use std::process::Abort;
 use std::sync::Wait;
 use std::thread::Threads;
+use streams::{ReadFault, read_input};
 use workers::{Halt, Harvest, retrieve_in_order};
 
 /// Sites that are told by maps.

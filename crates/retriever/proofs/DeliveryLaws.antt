@@ -3,7 +3,7 @@ use Rattle.std.proofs.Common.{◌≡◌, ◌∙◌, ◌++◌, ℕ, List, Option,
 use Rattle.std.specs.Io.KnownBytes.{Appends}
 use Rattle.std.proofs.KnownBytes.{Appends-trans}
 use Rattle.retriever.specs.Parts.{IsDelivered}
-use Rattle.retriever.specs.Streams.{AppendsFront}
+use Rattle.streams.specs.Streams.{AppendsFront}
 
 -- a front of the first of two texts is one of both
 pub front_of_first : (old new : Option (List ℕ)) (first second : List ℕ) → AppendsFront old new first → AppendsFront old new (first ++ second)

@@ -15,7 +15,7 @@ use Rattle.retriever.specs.Order.{IsRefused}
 use Rattle.retriever.specs.Parts.{IsRefusal}
 use Rattle.retriever.specs.Program.{IsExplained, IsTold, Starts}
 use Rattle.retriever.specs.Run.{Failed, Runs}
-use Rattle.retriever.specs.Streams.{AppendsFront}
+use Rattle.streams.specs.Streams.{AppendsFront}
 use Rattle.retriever.specs.declared.fault.Fault.{Fault}
 use Rattle.retriever.specs.declared.fault.Fault.TheVariants as fault
 use Rattle.retriever.proofs.RunLaws.{ends_memory, ends_refused}

@@ -8,10 +8,10 @@ use Rattle.retriever.specs.Order.{IsOrdered, IsRefused}
 use Rattle.retriever.specs.Parts.{TellsFault, IsOutput}
 use Rattle.retriever.specs.Run.{Comes, Ending, EndsFor, Failed, Ended, ending_text, ending_status}
 use Rattle.retriever.specs.Site.{IsToldBy, IsWrongBy}
-use Rattle.retriever.specs.Streams.{IsInput}
+use Rattle.streams.specs.Streams.{IsInput}
 use Rattle.retriever.specs.declared.fault.Fault.{Fault}
 use Rattle.retriever.specs.declared.fault.Fault.TheVariants as fault
-use Rattle.retriever.specs.declared.input.ReadFault.TheVariants as reading
+use Rattle.streams.specs.declared.input.ReadFault.TheVariants as reading
 use Rattle.retriever.specs.declared.told.Output.{Output}
 
 -- some bytes are what the reader has left

@@ -1,5 +1,4 @@
 pub mod Order
-pub mod Streams
 pub mod Trace
 pub mod Site
 pub mod Retrieved

@@ -20,15 +20,15 @@ use Rattle.local_tree.specs.PlainNames.{plain_name_of}
 use Rattle.report.specs.Entries.{lines_of as harvest_lines}
 use Rattle.report.specs.ExitStatus.{exit_status}
 use Rattle.report.specs.Report.{report_text}
-use Rattle.retriever.specs.declared.input.TheConstants.{MAX_INPUT}
+use Rattle.retriever.specs.declared.input_run.TheConstants.{MAX_INPUT}
 use Rattle.retriever.specs.Retrieved.{Finish, Reported, Stopped, Finishes}
 use Rattle.retriever.specs.Run.{fault_words, fault_status, finish_text, finish_status}
 use Rattle.retriever.specs.Site.{whole_of}
-use Rattle.retriever.specs.Streams.{IsInput, AppendsFront}
+use Rattle.streams.specs.Streams.{IsInput, AppendsFront}
 use Rattle.retriever.specs.Trace.{trace_text}
 use Rattle.retriever.specs.declared.fault.Fault.{Fault}
 use Rattle.retriever.specs.declared.fault.Fault.TheVariants as fault
-use Rattle.retriever.specs.declared.input.ReadFault.TheVariants as reading
+use Rattle.streams.specs.declared.input.ReadFault.TheVariants as reading
 
 -- what the reader has left tells this site
 abbrev pub TellsOf : (List ℕ → SiteAnswers → Type 0) → Option (List ℕ) → SiteAnswers → Type 0

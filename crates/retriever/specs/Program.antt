@@ -13,7 +13,7 @@ use Rattle.retriever.specs.Live.{Lives, holding}
 use Rattle.retriever.specs.Order.{AreForInput, AreForLive, IsLiveOrder, IsRefused}
 use Rattle.retriever.specs.Parts.{IsDelivered, IsRefusal}
 use Rattle.retriever.specs.Run.{Runs, fault_words, fault_status}
-use Rattle.retriever.specs.Streams.{AppendsFront}
+use Rattle.streams.specs.Streams.{AppendsFront}
 use Rattle.retriever.specs.declared.fault.Fault.{Fault}
 use Rattle.retriever.specs.declared.fault.Fault.TheVariants as fault
 

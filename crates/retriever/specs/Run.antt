@@ -12,18 +12,18 @@ use Rattle.options.specs.Order.{order_of, without_kind}
 use Rattle.options.specs.declared.fault.LineFault.{LineFault}
 use Rattle.options.specs.declared.fault.LineFault.TheVariants as line
 use Rattle.options.specs.declared.order.Order.{Order}
-use Rattle.retriever.specs.declared.input.TheConstants.{MAX_INPUT}
+use Rattle.retriever.specs.declared.input_run.TheConstants.{MAX_INPUT}
 use Rattle.retriever.specs.Order.{IsOrdered, AreForInput, AreForLive}
 use Rattle.report.specs.ExitStatus.{exit_status, outcomes_in}
 use Rattle.report.specs.Report.{report_text}
 use Rattle.retriever.specs.Retrieved.{Finish, Reported, Stopped, Finishes}
 use Rattle.retriever.specs.Site.{IsToldBy, IsWrongBy, whole_of}
-use Rattle.retriever.specs.Streams.{IsInput, AppendsFront}
+use Rattle.streams.specs.Streams.{IsInput, AppendsFront}
 use Rattle.retriever.specs.Trace.{cause_word, trace_text}
 use Rattle.retriever.specs.declared.fault.Fault.{Fault}
 use Rattle.retriever.specs.declared.fault.Fault.TheVariants as fault
-use Rattle.retriever.specs.declared.input.ReadFault.{ReadFault}
-use Rattle.retriever.specs.declared.input.ReadFault.TheVariants as reading
+use Rattle.streams.specs.declared.input.ReadFault.{ReadFault}
+use Rattle.streams.specs.declared.input.ReadFault.TheVariants as reading
 
 -- the words and the input come to this fault; memory may run out at any time, and a reader may fail once the words are read
 abbrev pub Comes : List (List ℕ) → List ℕ → Fault → Type 0

@@ -2,11 +2,11 @@
 ghost use Rattle.std.specs.Prelude.{◌≡◌, ◌++◌, IfOk, codes, string_bytes};
 ghost use Rattle.retriever.specs.Run.{start_words, line_words, reading_words, fault_words};
 
-use crate::input::ReadFault;
 use address::AddressFault;
 use options::LineFault;
 use site_maps::InputFault;
 use std::alloc::{AllocError, Global};
+use streams::ReadFault;
 
 /// Why a run has no report.
 #[derive(Clone, Copy)]

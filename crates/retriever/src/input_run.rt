@@ -11,9 +11,7 @@ ghost use Rattle.retriever.specs.Run.{EndsFor, Ending, Failed, Runs, ending_text
 
 use crate::copies::{Copied, copies_of};
 use crate::fault::{Fault, fault_text};
-use crate::input::{MAX_INPUT, read_input};
 use crate::order::input_order;
-use crate::output::write_text;
 use crate::told::{Output, brought_by, told_of};
 use fetcher::Fetcher;
 use options::{Order, Source};
@@ -23,7 +21,11 @@ use std::alloc::{AllocError, Global};
 use std::io::{Read, Write};
 use std::sync::Wait;
 use std::thread::Threads;
+use streams::{read_input, write_text};
 use workers::retrieve_in_order;
+
+/// The most bytes of an input.
+pub(crate) const MAX_INPUT: usize = 1_073_741_824;
 
 // The site of the map that is the input.
 fn map_of<R: Read>(alloc: Global, reader: &mut R) -> Result<MapSite, Fault>

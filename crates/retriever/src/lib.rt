@@ -3,7 +3,6 @@
 //! `specs/Run.antt`, what is made of the program's arguments and told to a person in `specs/Program.antt`.
 #![tactic(auto)]
 
-pub use crate::input::{ReadFault, read_input};
 pub use crate::input_run::run;
 pub use crate::live_run::live;
 pub use crate::program::run_program;
@@ -12,12 +11,9 @@ pub use crate::system::System;
 mod advice;
 mod copies;
 mod fault;
-mod input;
 mod input_run;
-mod interruption;
 mod live_run;
 mod order;
-mod output;
 mod program;
 mod system;
 mod told;

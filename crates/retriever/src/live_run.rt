@@ -9,7 +9,6 @@ ghost use Rattle.retriever.specs.Retrieved.{Stopped};
 ghost use Rattle.retriever.specs.Run.{finish_text};
 
 use crate::input_run::deliver;
-use crate::output::write_text;
 use crate::told::{brought_by, halt_text, telling_of};
 use fetcher::Fetcher;
 use frontier_core::Cause;
@@ -20,6 +19,7 @@ use std::alloc::{AllocError, Global};
 use std::io::Write;
 use std::sync::Wait;
 use std::thread::Threads;
+use streams::write_text;
 use workers::{Halt, Harvest};
 
 // The line for a cause where there is no memory for more.

@@ -8,13 +8,12 @@ ghost use Rattle.retriever.specs.Order.{AreForInput, AreForLive};
 ghost use Rattle.retriever.specs.Program.{IsExplained, IsTold, LivesFor, LivesIn, Starts, words_behind, words_fault};
 ghost use Rattle.retriever.specs.Parts.{IsRefusal};
 ghost use Rattle.retriever.specs.Run.{Runs, fault_words};
-ghost use Rattle.retriever.specs.Streams.{AppendsFront};
+ghost use Rattle.streams.specs.Streams.{AppendsFront};
 
 use crate::advice::{advice_on, advice_text};
 use crate::fault::{Fault, fault_text};
 use crate::input_run::{deliver, refuse, run};
 use crate::live_run::live;
-use crate::output::write_text;
 use crate::system::System;
 use options::{Order, Source, read_order};
 use std::alloc::{AllocError, Global};
@@ -23,6 +22,7 @@ use std::io;
 use std::io::{ErrorKind, Read, Write};
 use std::sync::Wait;
 use std::thread::Threads;
+use streams::write_text;
 
 // All words of the command line, the program's name first.
 fn all_words(alloc: Global, args: Args) -> Result<Vec<String>, AllocError>

@@ -2,7 +2,7 @@
 use Rattle.std.proofs.Common.{◌≡◌, ℕ, List, inr, refl, subst}
 use Rattle.std.specs.Io.KnownBytes.{Appends}
 use Rattle.retriever.specs.Parts.{IsDelivered}
-use Rattle.retriever.specs.Streams.{AppendsFront}
+use Rattle.streams.specs.Streams.{AppendsFront}
 use Rattle.retriever.proofs.DeliveryLaws.{delivered_behind, front_of_first}
 use Rattle.retriever.proofs.live_run.deliver_both.Goals as goal
 

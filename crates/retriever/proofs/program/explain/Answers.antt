@@ -4,7 +4,7 @@ use Rattle.std.specs.Option.{option_map_or}
 use Rattle.retriever.specs.Advice.{Told, told_on, said, said_of}
 use Rattle.retriever.specs.Parts.{IsDelivered}
 use Rattle.retriever.specs.Run.{fault_status}
-use Rattle.retriever.specs.Streams.{AppendsFront}
+use Rattle.streams.specs.Streams.{AppendsFront}
 use Rattle.retriever.specs.declared.fault.Fault.{Fault}
 use Rattle.retriever.proofs.program.explain.Goals as goal
 

@@ -1,8 +1,8 @@
 -- What was read so far is the front of what the reader had; each turn reads a byte or counts an interruption.
 use Rattle.std.proofs.Common.{◌<◌, ◌≤◌, length, ◌+◌, ◌-◌}
 use Rattle.std.specs.Io.KnownBytes.{Consumes}
-use Rattle.retriever.specs.declared.interruption.TheConstants.{MAX_INTERRUPTED}
-use Rattle.retriever.proofs.input.read_input.Given as goal
+use Rattle.streams.specs.declared.interruption.TheConstants.{MAX_INTERRUPTED}
+use Rattle.streams.proofs.input.read_input.Given as goal
 
 abbrev pub invariant-pieces : goal.invariant-pieces
 invariant-pieces g l = record {

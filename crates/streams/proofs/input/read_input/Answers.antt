@@ -2,8 +2,8 @@
 use Rattle.std.proofs.Common.{◌<◌, ℕ, List, Option, None, Some, length, length-append, arith, refl}
 use Rattle.std.specs.Io.KnownBytes.{Consumes}
 use Rattle.std.proofs.KnownBytes.{Consumes-trans}
-use Rattle.retriever.specs.Streams.{IsInput}
-use Rattle.retriever.proofs.input.read_input.Goals as goal
+use Rattle.streams.specs.Streams.{IsInput}
+use Rattle.streams.proofs.input.read_input.Goals as goal
 
 too_long : (old new : Option (List ℕ)) (read : List ℕ) (limit : ℕ) → Consumes old new read → limit < length read → (input : List ℕ) × IsInput old input × (limit < length input)
 too_long None new read limit h long = (read, tt, long)

@@ -1,6 +1,6 @@
 //! The input: all bytes of a reader, up to a limit.
 ghost use Rattle.std.specs.Prelude.{◌≡◌, ◌<◌, ◌≤◌, ℕ, List, length, IfOk, IfSome};
-ghost use Rattle.retriever.specs.Streams.{IsInput};
+ghost use Rattle.streams.specs.Streams.{IsInput};
 
 use crate::interruption::count_interrupted;
 use std::alloc::{AllocError, Global};
@@ -19,7 +19,7 @@ pub enum ReadFault {
 
 impl From<AllocError> for ReadFault {
     ghost use Rattle.std.specs.Prelude.{◌≡◌};
-    ghost use Rattle.retriever.specs.declared.input.ReadFault.TheVariants.{Memory};
+    ghost use Rattle.streams.specs.declared.input.ReadFault.TheVariants.{Memory};
 
     ghost from_gives = { λ _ fault. fault ≡ Memory };
 
@@ -27,9 +27,6 @@ impl From<AllocError> for ReadFault {
         ReadFault::Memory
     }
 }
-
-/// The most bytes of an input.
-pub(crate) const MAX_INPUT: usize = 1_073_741_824;
 
 /// How many bytes are asked of a reader at once.
 const PIECE: usize = 65_536;

@@ -1,0 +1,13 @@
+//! Reading an input to its end, and writing a text whole. Its one idea: a call that was interrupted is made again, up to a
+//! number that is counted over the whole input or text, so that no stream holds a program for ever. It knows no format. What
+//! a reader gives and a writer holds stands in `specs/Streams.antt`.
+#![tactic(auto)]
+
+mod input;
+mod interruption;
+mod output;
+mod pieces;
+
+pub use input::{ReadFault, read_input};
+pub use output::{WriteFailed, write_text};
+pub use pieces::Pieces;
