@@ -107,8 +107,7 @@ fn workers_share_what_is_known_of_hosts(rt: HostRuntime) {
     }
     assert!(rt; tried.get(18 - 1) == Some(&SocketAddr::from(([0, 0, 0, 0, 0, 0, 0, 1], 8080))));
     drop(tried);
-    let set = network.log.set.lock(&rt);
-    assert!(rt; set.get(..4) == Some(SET));
+    assert!(rt; network.limits() == LIMITS);
     assert!(rt; network.clock() == 0);
 }
 
@@ -126,14 +125,9 @@ const TRIED: &[(usize, ([u8; 4], u16))] = &[
     (31, ([10, 0, 0, 2], 80)),
 ];
 
-/// What is set at the first connection: 900 seconds for reads and for writes, as Wget's manual has it, and no delay; and a tenth
-/// of a second at its end.
-const SET: &[(&str, u64)] = &[
-    ("read", 900_000),
-    ("write", 900_000),
-    ("nodelay", 1),
-    ("read", 100),
-];
+/// The limits of the first connection: 900 seconds for reads and for writes, as Wget's manual has it, and a tenth of a second
+/// for a read at its end; and how many connections were set to delay nothing.
+const LIMITS: (u64, u64, u64, u64) = (900_000, 100, 900_000, 24);
 
 #[test]
 fn a_connection_that_failed_says_nothing_of_how_its_server_closes(rt: HostRuntime) {

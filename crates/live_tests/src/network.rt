@@ -61,8 +61,10 @@ pub struct Log {
     pub reads: AtomicU64,
     /// The addresses at which a connection was asked for, in order.
     pub tried: Mutex<Vec<SocketAddr>>,
-    /// The options that were set, in order: the milliseconds of a limit, or 1.
-    pub set: Mutex<Vec<(&'static str, u64)>>,
+    /// The milliseconds of the first limits that were set: on reads, on reads behind these, and on writes.
+    pub limits: [AtomicU64; 3],
+    /// How often it was set that nothing is delayed.
+    pub undelayed: AtomicU64,
     /// The milliseconds that were slept.
     pub clock: AtomicU64,
     // Whether there is no descriptor, where one looks for that.
@@ -80,17 +82,14 @@ pub struct Network<'a, R: Wait + Abort> {
 
 /// A connection to the server at an address.
 #[derive(Drop)]
-pub struct FakeStream<'a, R: Wait + Abort> {
-    rt: &'a R,
+pub struct FakeStream {
     server: SocketAddr,
     log: Arc<Log>,
 }
 
 /// No server is made here.
 #[derive(Drop)]
-pub struct FakeListener<'a, R: Wait + Abort> {
-    _rt: &'a R,
-}
+pub struct FakeListener;
 
 impl<'a, R: Wait + Abort> Network<'a, R> {
     pub fn new(rt: &'a R, alloc: Global) -> Network<'a, R> {
@@ -98,7 +97,8 @@ impl<'a, R: Wait + Abort> Network<'a, R> {
             lookups: AtomicU64::new(0),
             reads: AtomicU64::new(0),
             tried: Mutex::new(Vec::new(alloc)),
-            set: Mutex::new(Vec::new(alloc)),
+            limits: [AtomicU64::new(0), AtomicU64::new(0), AtomicU64::new(0)],
+            undelayed: AtomicU64::new(0),
             clock: AtomicU64::new(0),
             is_full: AtomicBool::new(false),
         };
@@ -122,6 +122,17 @@ impl<'a, R: Wait + Abort> Network<'a, R> {
             self.log.lookups.load(Ordering::SeqCst),
             self.log.reads.load(Ordering::SeqCst),
             self.log.tried.lock(self.rt).len(),
+        )
+    }
+
+    /// The milliseconds of the first limits on reads, on reads behind these, and on writes, and how often no delay was set.
+    pub fn limits(&self) -> (u64, u64, u64, u64) {
+        let [reads, ends, writes] = &self.log.limits;
+        (
+            reads.load(Ordering::SeqCst),
+            ends.load(Ordering::SeqCst),
+            writes.load(Ordering::SeqCst),
+            self.log.undelayed.load(Ordering::SeqCst),
         )
     }
 
@@ -207,22 +218,21 @@ fn millis(duration: Duration) -> u64 {
     u64::try_from(duration.as_millis()).unwrap_or(u64::MAX)
 }
 
-impl<'a, R: Wait + Abort> Net for Network<'a, R> {
-    type Stream = FakeStream<'a, R>;
+impl<R: Wait + Abort> Net for Network<'_, R> {
+    type Stream = FakeStream;
 
-    type Listener = FakeListener<'a, R>;
+    type Listener = FakeListener;
 
-    fn bind(&self, _addr: SocketAddr) -> io::Result<FakeListener<'a, R>> {
+    fn bind(&self, _addr: SocketAddr) -> io::Result<FakeListener> {
         Err(io::Error::from(ErrorKind::Unsupported))
     }
 
-    fn connect(&self, addr: SocketAddr) -> io::Result<FakeStream<'a, R>> {
+    fn connect(&self, addr: SocketAddr) -> io::Result<FakeStream> {
         let tried = self.log.tried.lock(self.rt).push(addr);
         tried.expect(self.rt, "memory");
         match self.met_at(addr) {
             Some(e) => Err(e),
             None => Ok(FakeStream {
-                rt: self.rt,
                 server: addr,
                 log: Arc::try_clone(&self.log).expect(self.rt, "memory"),
             }),
@@ -255,7 +265,7 @@ impl<'a, R: Wait + Abort> Net for Network<'a, R> {
     }
 }
 
-impl<R: Wait + Abort> Read for FakeStream<'_, R> {
+impl Read for FakeStream {
     fn read(&mut self, buf: &mut [u8]) -> io::Result<usize> {
         let reads = self.log.reads.fetch_add(1, Ordering::SeqCst);
         match self.server.port() {
@@ -268,7 +278,7 @@ impl<R: Wait + Abort> Read for FakeStream<'_, R> {
     }
 }
 
-impl<R: Wait + Abort> Write for FakeStream<'_, R> {
+impl Write for FakeStream {
     fn write(&mut self, buf: &[u8]) -> io::Result<usize> {
         match self.server.port() {
             LOSES_WRITES => Err(io::Error::from(ErrorKind::BrokenPipe)),
@@ -281,11 +291,9 @@ impl<R: Wait + Abort> Write for FakeStream<'_, R> {
     }
 }
 
-impl<R: Wait + Abort> FakeStream<'_, R> {
-    // Notes an option, which this server's connections may refuse.
-    fn set(&self, option: &'static str, value: u64, refuses: u16) -> io::Result<()> {
-        let noted = self.log.set.lock(self.rt).push((option, value));
-        noted.expect(self.rt, "memory");
+impl FakeStream {
+    // What is answered to an option that the connections of some servers refuse.
+    fn answer(&self, refuses: u16) -> io::Result<()> {
         if self.server.port() == refuses {
             return Err(io::Error::from(ErrorKind::InvalidInput));
         }
@@ -293,39 +301,54 @@ impl<R: Wait + Abort> FakeStream<'_, R> {
     }
 }
 
-impl<R: Wait + Abort> OpenStream for FakeStream<'_, R> {
+// Notes a limit, unless one was noted there; whether it was noted.
+fn note(limit: &AtomicU64, dur: Option<Duration>) -> bool {
+    let millis = dur.map_or(0, millis);
+    limit
+        .compare_exchange(0, millis, Ordering::SeqCst, Ordering::SeqCst)
+        .is_ok()
+}
+
+impl OpenStream for FakeStream {
     fn peer_addr(&self) -> io::Result<SocketAddr> {
         Ok(self.server)
     }
 
     fn set_nodelay(&self, nodelay: bool) -> io::Result<()> {
-        self.set("nodelay", u64::from(nodelay), REFUSES_DELAY)
+        self.log
+            .undelayed
+            .fetch_add(u64::from(nodelay), Ordering::SeqCst);
+        self.answer(REFUSES_DELAY)
     }
 
     fn set_read_timeout(&self, dur: Option<Duration>) -> io::Result<()> {
-        self.set("read", dur.map_or(0, millis), 0)
+        if !note(&self.log.limits[0], dur) {
+            note(&self.log.limits[1], dur);
+        }
+        Ok(())
     }
 
     fn set_write_timeout(&self, dur: Option<Duration>) -> io::Result<()> {
-        self.set("write", dur.map_or(0, millis), REFUSES_LIMIT)
+        note(&self.log.limits[2], dur);
+        self.answer(REFUSES_LIMIT)
     }
 }
 
-impl<R: Wait + Abort> AsRawFd for FakeStream<'_, R> {
+impl AsRawFd for FakeStream {
     fn as_raw_fd(&self) -> RawFd {
         -1
     }
 }
 
-impl<'a, R: Wait + Abort> OpenListener for FakeListener<'a, R> {
-    type Stream = FakeStream<'a, R>;
+impl OpenListener for FakeListener {
+    type Stream = FakeStream;
 
-    fn accept(&self) -> io::Result<(FakeStream<'a, R>, SocketAddr)> {
+    fn accept(&self) -> io::Result<(FakeStream, SocketAddr)> {
         Err(io::Error::from(ErrorKind::Unsupported))
     }
 }
 
-impl<R: Wait + Abort> AsRawFd for FakeListener<'_, R> {
+impl AsRawFd for FakeListener {
     fn as_raw_fd(&self) -> RawFd {
         -1
     }
