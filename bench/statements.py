@@ -18,10 +18,16 @@ GHOST_MEMBER = re.compile(r"\bghost (\w+)\s*[:=]\s*\{")
 CLOSING = {"(": ")", "{": "}", "[": "]"}
 # Constructors of the kit that a pattern may have and that don't begin with a capital.
 KIT_CONSTRUCTORS = {"zero", "suc", "true", "false", "[]", "pos", "negsuc", "tt", "alloc_error"}
+# What antt has without a `use` line.
+BUILT_IN = set("Type record where elim as let in do then else unfolding × ¬ ⊥ absurd Unit tt IsProp IsSet Dec yes no Discrete".split())
 # Bounds of the kit without ghost members.
 MARKERS = {"Drop", "Send", "Sync", "Sized", "Copy"}
 # The constructors of the files of specs/ that were read, as pairs of module and name.
 CONSTRUCTORS = set()
+
+
+class Lost(Exception):
+    """A name that is cited and isn't found."""
 
 
 def read(path):
@@ -64,9 +70,8 @@ class Node:
 class Names:
     """The names that terms of a file or a block see: `direct` ones, and those behind a name with a dot."""
 
-    def __init__(self, above=None):
-        self.direct = dict(above.direct) if above else {}
-        self.behind = dict(above.behind) if above else {}
+    def __init__(self):
+        self.direct, self.behind = {}, {}
 
     def use(self, path, items, alias):
         """Adds what a `use` line brings."""
@@ -100,19 +105,17 @@ def closing(tokens, at):
 
 
 def is_name(token):
-    return token not in CLOSING and token not in CLOSING.values() and token not in (",", ";", ".", ":", "=", "→", "_") and token[0] != '"'
+    return token not in {*CLOSING, *CLOSING.values(), ",", ";", ".", ":", "=", "→", "_"} and token[0] != '"'
 
 
 class Walk:
     """A walk through a term: it finds the names that no binder of the term hides."""
 
     def __init__(self, names, found):
-        self.names, self.found = names, found
+        self.names, self.found, self.unknown = names, found, set()
 
     def named(self, name):
-        target = self.names.direct.get(name)
-        if target is not None:
-            self.found.append(target)
+        self.found.append(self.names.direct[name])
 
     def path(self, tokens, at):
         """A name at this place with what stands behind its dots; answers where it ends."""
@@ -124,11 +127,12 @@ class Walk:
             self.found.append((self.names.behind[parts[0]], parts[1]))
         elif parts[0] == "Rattle":
             self.found.append((".".join(parts[:-1]), parts[-1]))
-        else:
+        elif parts[0] in self.names.direct:
             self.named(parts[0])
-            target = self.names.direct.get(parts[0])
-            if target is not None and len(parts) > 1:
-                self.found.append((target, parts[1], "member"))
+            if len(parts) > 1:
+                self.found.append((self.names.direct[parts[0]], parts[1], "member"))
+        elif parts[0] not in BUILT_IN and not parts[0][0].isdigit():
+            self.unknown.add(parts[0])
         return end
 
     def binders(self, tokens, at, bound):
@@ -148,15 +152,13 @@ class Walk:
         return at + 1
 
     def parameters(self, tokens, bound):
-        """The parameters in a head, each in brackets with its type; they are bound from there on."""
+        """The parameters in a head, each in brackets with its type and bound from there on; and the type behind them."""
         at = 0
         while at < len(tokens):
-            at = self.bracket(tokens, at, bound) if tokens[at] in CLOSING else self.skip(tokens, at, bound)
-
-    def skip(self, tokens, at, bound):
-        """What stands between parameters, as the `Type 0` at a head's end."""
-        self.term(tokens[at : at + 1], bound)
-        return at + 1
+            if tokens[at] == ":":
+                return self.term(tokens[at + 1 :], bound)
+            at = self.bracket(tokens, at, bound) if tokens[at] in CLOSING else at + 1
+        return None
 
     def term(self, tokens, bound):
         """A term in which these names are bound already."""
@@ -312,6 +314,9 @@ class Spec:
             walk.parameters(tokens_of(block.section)[2:-1], bound)
         head, *parts = (tokens_of("\n".join(part)) for part in self.parts(block))
         if block.kind is None:
+            helpers = (re.match(r"\s+([^\s(){}]+) :", line) for line in self.lines[block.first + 1 : block.end])
+            bound |= {at[1] for at in helpers if at}
+        if block.kind is None:
             walk.term(head[head.index(":") + 1 :], bound)
         else:
             walk.parameters(head[head.index(block.name) + 1 :], bound)
@@ -321,6 +326,8 @@ class Spec:
             elif ":" in part:
                 walk.term(part[part.index(":") + 1 :], bound)
                 bound |= set(part[: part.index(":")]) - {"pub", "open"} if block.kind == "record" else set()
+        if walk.unknown:
+            raise Lost(f"{self.path}: {block.name} has names that aren't known: {', '.join(sorted(walk.unknown))}")
         return found
 
     def parts(self, block):
@@ -440,6 +447,7 @@ class Source:
                 names.use(at[1], at[2], at[3])
         return names
 
+    @functools.cache
     def uses(self):
         """What each name of a `use` line of Rust stands for, as a path."""
         found = {}
@@ -521,29 +529,24 @@ class Statements:
             module = f"{module}.{front}"
         # the constructors of a type stand in a module of its name too
         spec = self.specs.get(module) or self.specs.get(module.rpartition(".")[0])
-        if spec is not None:
-            return spec.nodes.get(spec.owner.get(name, name))
         parts = module.split(".")
-        if parts[0] == "Rattle" and parts[1] in self.crates:
-            return self.declared(parts[1], parts[3:], name) if "declared" in parts else None
-        return (module, name)
+        if spec is not None:
+            found = spec.nodes.get(spec.owner.get(name, name))
+        elif parts[0] == "Rattle" and parts[1] in self.crates:
+            found = self.declared(parts[1], parts[4:], name) if parts[3] == "declared" else None
+        else:
+            return (module, name)
+        if found is None:
+            raise Lost(f"{name} of {module} isn't found")
+        return found
 
     def declared(self, crate, parts, name):
         """The Rust type or constant that a generated module means."""
-        parts = parts[1:]
-        if parts and parts[-1] in ("TheVariants", "TheInside", "TheConstants"):
-            is_constant, parts = parts[-1] == "TheConstants", parts[:-1]
-            if not is_constant and parts:
-                name = parts[-1]
-                parts = parts[:-1]
-        elif parts and parts[-1] == name:
+        if parts and parts[-1] in ("TheVariants", "TheInside"):
+            name, parts = parts[-2], parts[:-2]
+        elif parts and parts[-1] in ("TheConstants", name):
             parts = parts[:-1]
-        found = self.item(crate, f"crates/{crate}/src/{'/'.join(parts) or 'lib'}.rt", name)
-        if found is None:
-            for path in self.sources:
-                if path.startswith(f"crates/{crate}/src/") and name in self.sources[path].items:
-                    return self.item(crate, path, name)
-        return found
+        return self.item(crate, f"crates/{crate}/src/{'/'.join(parts) or 'lib'}.rt", name)
 
     # -- names of Rust
 
@@ -682,7 +685,7 @@ class Statements:
     def bound_words(self, source, header, text):
         """The ghost members that a clause takes from bounds of the kit, as `contents` of a writer."""
         found, uses = [], source.uses()
-        for name, bounds in re.findall(r"[<,]\s*(\w+):\s*([^,<>]+)", header):
+        for name, bounds in re.findall(r"[<,]\s*([A-Z]\w*):\s*([^,<>]+)", header):
             kits = [it for it in re.findall(r"\w+", bounds) if uses.get(it, [""])[0] == "std"]
             for member in dict.fromkeys(re.findall(rf"\b{name}\.(\w+)", text)):
                 found += [("::".join(uses[it]), member) for it in kits if it not in MARKERS]
