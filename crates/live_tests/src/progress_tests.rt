@@ -159,7 +159,8 @@ fn connections_that_are_counted_are_handed_back(rt: HostRuntime) {
         &terminal,
         &Progress::new(&terminal, true),
     );
-    assert_eq!(rt; network.counts(), (2, 15, 6));
+    // Two reads of each of five connections, and one at the end of the three that didn't break.
+    assert_eq!(rt; network.counts(), (2, 13, 6));
 }
 
 #[test]
