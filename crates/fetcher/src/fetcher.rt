@@ -89,6 +89,13 @@ pub trait Fetcher: Drop {
         ensures site { site self.new ≡ site self.old }
         ensures log { log self.new ≡ log self.old }
     {}
+
+    /// Is told that one more answer came from a record in place of the site, for somebody who looks on. Nothing that is asked or
+    /// answered depends on it.
+    fn tell_recorded(&mut self)
+        ensures site { site self.new ≡ site self.old }
+        ensures log { log self.new ≡ log self.old }
+    {}
 }
 
 /// Fetches of a steady site: each address has exactly one outcome, which is no fault, and each

@@ -63,6 +63,13 @@ pub trait Connect: Drop {
         ensures refused { refused self.new ≡ refused self.old }
     {}
 
+    /// Is told that one more answer came from a record, for somebody who looks on.
+    fn tell_recorded(&mut self)
+        ensures made { made self.new ≡ made self.old }
+        ensures failed { failed self.new ≡ failed self.old }
+        ensures refused { refused self.new ≡ refused self.old }
+    {}
+
     /// How many calls answered an error; at the largest number it stays.
     fn failures(&self) -> u64
         ensures { result ≡ failed self.now };

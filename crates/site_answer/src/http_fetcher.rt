@@ -19,6 +19,7 @@ use crate::given::Given;
 use crate::hops::Hops;
 use crate::noted::Noted;
 use crate::read_fault::kind_of_fault;
+use crate::telling::Telling;
 use crate::told::Told;
 use address::{Address, Origin};
 use fetcher::{Answer, Ask, Body, FaultKind, Fetcher, Outcome};
@@ -364,5 +365,64 @@ impl<C: Connect> Fetcher for HttpFetcher<C> {
         ensures notes { self.new.notes ≡ self.old.notes }
     {
         self.connect.tell_waiting(waiting);
+    }
+
+    fn tell_recorded(&mut self)
+        ensures asks { self.new.asks ≡ self.old.asks }
+        ensures robots { self.new.robots ≡ self.old.robots }
+        ensures made { C.made self.new.connect ≡ C.made self.old.connect }
+        ensures is_recording { self.new.is_recording ≡ self.old.is_recording }
+        ensures notes { self.new.notes ≡ self.old.notes }
+    {
+        self.connect.tell_recorded();
+    }
+}
+
+impl<C: Connect> Telling for HttpFetcher<C> {
+    ghost honours = { λ f. f.robots };
+
+    fn honours_robots(&self) -> bool {
+        self.robots
+    }
+
+    fn ask_told(&mut self, at: &Address) -> Result<Told, AllocError>
+        ensures asked { OnOk result (self.new.asks ≡ self.old.asks ++ ask.Page at.now ∷ []) }
+        ensures refused { OnErr result (GainedAtMost self.old.asks self.new.asks (ask.Page at.now)) }
+        // No connection is asked for before the ask is logged.
+        ensures first { OnErr result ((C.made self.new.connect ≡ C.made self.old.connect) ⊎ (self.new.asks ≡ self.old.asks ++ ask.Page at.now ∷ [])) }
+        ensures honours { self.new.robots ≡ self.old.robots }
+        // One connection is asked for, and what is told came over it. Nothing is noted.
+        ensures one { OnOk result (C.made self.new.connect ≡ counted (C.made self.old.connect) 1) }
+        ensures most { C.made self.new.connect ≤ C.made self.old.connect + 1 }
+        ensures told { IfOk result (λ t.
+            IsUnmade (C.refused self.old.connect) (C.refused self.new.connect) (outcome_told self.old.robots at.now t) (body_told t)
+            ⊎ IsToldBy (C.gives self.old.connect) C.Wire.incoming C.Wire.outgoing C.Wire.failed self.old.robots at.now (outcome_told self.old.robots at.now t) (body_told t)) }
+        ensures is_recording { self.new.is_recording ≡ self.old.is_recording }
+        ensures notes { self.new.notes ≡ self.old.notes }
+    {
+        let page = Ask::Page(at.try_clone()?);
+        self.asks.push(page)?;
+        self.exchange_whole(at)
+    }
+
+    fn ask_hops(&mut self, of: &Origin) -> Result<Hops, AllocError>
+        ensures asked { OnOk result (self.new.asks ≡ self.old.asks ++ ask.Rules of.now ∷ []) }
+        ensures refused { OnErr result (GainedAtMost self.old.asks self.new.asks (ask.Rules of.now)) }
+        // No connection is asked for before the ask is logged.
+        ensures first { OnErr result ((C.made self.new.connect ≡ C.made self.old.connect) ⊎ (self.new.asks ≡ self.old.asks ++ ask.Rules of.now ∷ [])) }
+        ensures honours { self.new.robots ≡ self.old.robots }
+        // The rules are those at the end of the chain of redirects that begins at the origin's file. Nothing is noted.
+        ensures of { IfOk result (λ found. found.of ≡ of.now) }
+        ensures few { C.made self.new.connect ≤ C.made self.old.connect + (max_redirects + 1) }
+        ensures chain { IfOk result (λ found. IsChain
+            (IsGiven C.gives C.refused C.Wire.incoming C.Wire.outgoing C.Wire.failed self.old.robots)
+            max_redirects (of.now ++ codes "/robots.txt") (rules_of_hops found.hops)) }
+        ensures is_recording { self.new.is_recording ≡ self.old.is_recording }
+        ensures notes { self.new.notes ≡ self.old.notes }
+    {
+        let rules = Ask::Rules(of.try_clone()?);
+        self.asks.push(rules)?;
+        let (hops, _) = self.follow(of)?;
+        Ok(hops)
     }
 }

@@ -17,6 +17,7 @@ mod memory_connect;
 mod noted;
 mod read_fault;
 mod stage;
+mod telling;
 mod told;
 mod whole_response;
 
@@ -32,5 +33,6 @@ pub use memory_connect::{FailingPlace, MemoryConnect, PlannedFailure, StoredAnsw
 pub use noted::Noted;
 pub use read_fault::kind_of_fault;
 pub use site_maps::{InputFault, MapSite, SteadyMap};
+pub use telling::Telling;
 pub use told::Told;
 pub use whole_response::{digest, into_answer};

@@ -1,5 +1,5 @@
 //! Texts in pieces: what was made for them, and what is lent and so never copied.
-ghost use Rattle.std.specs.Prelude.{◌≡◌, ◌++◌, [], OnOk, OnErr};
+ghost use Rattle.std.specs.Prelude.{◌≡◌, ◌++◌, [], IfOk, OnOk, OnErr};
 ghost use Rattle.std.specs.Io.KnownBytes.{Appends};
 ghost use Rattle.streams.specs.Streams.{AppendsFront, piece_text};
 
@@ -68,6 +68,26 @@ impl<'a> Pieces<'a> {
     {
         self.pieces.push(Piece::Lent(bytes))?;
         Ok(())
+    }
+
+    // How many bytes it has, or the largest number, where they are more.
+    fn len(&self) -> usize {
+        let mut len: usize = 0;
+        for piece in &self.pieces {
+            len = len.saturating_add(piece.as_slice().len());
+        }
+        len
+    }
+
+    /// The text as one, which can be written by one call. The error is want of memory.
+    pub fn joined(&self, alloc: Global) -> Result<Vec<u8>, AllocError>
+        ensures { IfOk result (λ text. text.items ≡ self.now) }
+    {
+        let mut text = Vec::with_capacity(alloc, self.len())?;
+        for piece in &self.pieces {
+            text.extend_from_slice(piece.as_slice())?;
+        }
+        Ok(text)
     }
 
     /// Writes the text and flushes it. Interrupted calls are counted over all of it; it takes no memory. Where the writer fails, a
