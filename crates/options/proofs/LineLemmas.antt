@@ -1,17 +1,19 @@
 -- The command is one whose matches and refusals are functions of the words.
-use Rattle.std.proofs.Common.{◌≡◌, ◌∙◌, List, [], ◌∷◌, Ok, Err, true, false, refl, ap, sym, subst}
-use Rattle.std.specs.Prelude.{Result, IfOk, MatchResult, fold}
+use Rattle.std.proofs.Common.{◌≡◌, ◌∙◌, List, [], ◌∷◌, Ok, Err, true, false, refl, ap, sym, subst, map}
+use Rattle.std.specs.Prelude.{All, Result, IfOk, MatchResult, fold}
+use Rattle.std.proofs.lemmas.List.Elements.{All-head, All-tail}
 use Rattle.std.proofs.lemmas.Bool.{and_parts}
-use Rattle.clap.specs.Words.{AddsArg, AddsInTurn, App, FailsBy, HasKind, HasMatchesOf, Rule, Text, fault_of, found_of, is_simple, is_simple_and_free, app_of, matches_of, rows_of, rule_of, with_rule}
+use Rattle.clap.specs.Words.{AddsArg, AddsInTurn, App, FailsBy, HasKind, HasMatchesOf, Text, fault_of, found_of, is_simple, is_simple_and_free, app_of, matches_of, rows_of, rule_of, with_rule}
 use Rattle.clap.specs.declared.Error.{Error}
 use Rattle.clap.specs.declared.builder.arg.Arg.{Arg}
 use Rattle.clap.specs.declared.builder.command.Command.{Command}
 use Rattle.clap.specs.declared.parser.matches.ArgMatches.{ArgMatches}
 use Rattle.clap.proofs.OnLiterals.{clap_on_literals}
-use Rattle.options.specs.Line.{line, refusals, rows}
+use Rattle.options.specs.Line.{line, line_rules, no_options, refusals, rows}
+use Rattle.options.specs.Table.{table}
 
 pub line_is_simple : is_simple_and_free line ≡ true
-unfolding clap_on_literals line
+unfolding clap_on_literals line line_rules table
 line_is_simple = refl
 
 line_simple : is_simple line ≡ true
@@ -27,19 +29,19 @@ parsed (Ok m) words same matches kinds = (
 parsed (Err e) words same matches kinds =
     subst (λ app. HasKind (fault_of app words) e) same (kinds (ap is_simple_and_free same ∙ line_is_simple))
 
-with_all_same : {a b : App} (rules : List Rule) → a ≡ b → fold with_rule a rules ≡ fold with_rule b rules
-with_all_same rules same = ap (λ a. fold with_rule a rules) same
-
--- a command that takes these arguments in turn has these rules
-pub record Gives (args : List Arg) (rules : List Rule) : Type 0 where
+-- a command that takes arguments in turn has their rules
+pub record Gives (args : List Arg) : Type 0 where
   pub follows : (start : App) (old new : Command) → app_of old ≡ start → AddsInTurn AddsArg old args new
-      → app_of new ≡ fold with_rule start rules
+      → app_of new ≡ fold with_rule start (map rule_of args)
 
-pub gives_none : Gives [] []
-gives_none = record { follows = λ start old new begins same. ap app_of (sym same) ∙ begins }
-
-pub gives : {args : List Arg} {rules : List Rule} {rule : Rule} (a : Arg) → rule_of a ≡ rule → a.global ≡ false → Gives args rules → Gives (a ∷ args) (rule ∷ rules)
-gives {rule} a is own others = record {
-  follows = λ start old new begins turns. others.follows (with_rule start rule) turns.0 new
-      (turns.1.shape own ∙ ap (λ r. with_rule (app_of old) r) is ∙ ap (λ app. with_rule app rule) begins) turns.2;
+pub gives : (args : List Arg) → All (λ a. a.global ≡ false) args → Gives args
+gives [] own = record { follows = λ start old new begins same. ap app_of (sym same) ∙ begins }
+gives (a ∷ args) own = record {
+  follows = λ start old new begins turns. (gives args (All-tail (λ a. a.global ≡ false) a args own)).follows (with_rule start (rule_of a)) turns.0 new
+      (turns.1.shape (All-head (λ a. a.global ≡ false) a args own) ∙ ap (λ app. with_rule app (rule_of a)) begins) turns.2;
 }
+
+-- the command of the line's arguments is the line
+pub gives_line : (args : List Arg) (old new : Command) → All (λ a. a.global ≡ false) args → map rule_of args ≡ line_rules → app_of old ≡ no_options → AddsInTurn AddsArg old args new → app_of new ≡ line
+unfolding line
+gives_line args old new own are begins turns = (gives args own).follows no_options old new begins turns ∙ ap (λ rules. fold with_rule no_options rules) are

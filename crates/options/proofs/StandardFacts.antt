@@ -1,7 +1,37 @@
--- The limits of an order are the documented numbers.
-use Rattle.std.proofs.Common.{◌≡◌, refl}
-use Rattle.options.specs.declared.order.TheConstants.{MAX_WORKERS}
+-- The limits of an order, its usual numbers and the forms of the options are the documented ones.
+use Rattle.std.proofs.Common.{◌≡◌, ◌∷◌, [], Option, Some, None, codes, map, refl}
+use Rattle.clap.specs.Walk.{Text}
+use Rattle.options.specs.Help.{value_name}
+use Rattle.options.specs.Table.{table}
+use Rattle.options.specs.declared.order.TheConstants.{DEFAULT_MAX_URLS, DEFAULT_PER_HOST, DEFAULT_WORKERS, MAX_WORKERS}
+use Rattle.options.specs.declared.table.Row.{Row}
 
 -- workers
 most_workers : MAX_WORKERS ≡ 64
 most_workers = refl
+
+usual_workers : DEFAULT_WORKERS ≡ 4
+usual_workers = refl
+
+-- requests out to an origin
+usual_requests : DEFAULT_PER_HOST ≡ 2
+usual_requests = refl
+
+-- addresses
+usual_addresses : DEFAULT_MAX_URLS ≡ 100000
+usual_addresses = refl
+
+-- the short form, the name, and what its value is called where it has one
+abbrev forms_of : Row Text → Text × Text × Option Text
+forms_of row = (row.short, row.name, value_name row.kind)
+
+-- docs/OPTIONS.md
+forms : map forms_of table ≡ (codes "r", codes "recursive", None) ∷ (codes "l", codes "level", Some (codes "N")) ∷ (codes "p", codes "page-requisites", None)
+    ∷ (codes "n", codes "n", Some (codes "p")) ∷ (codes "np", codes "no-parent", None) ∷ (codes "H", codes "span-hosts", None)
+    ∷ (codes "D", codes "domains", Some (codes "LIST")) ∷ ([], codes "exclude-domains", Some (codes "LIST")) ∷ (codes "I", codes "include-directories", Some (codes "LIST"))
+    ∷ (codes "X", codes "exclude-directories", Some (codes "LIST")) ∷ (codes "A", codes "accept", Some (codes "LIST")) ∷ (codes "R", codes "reject", Some (codes "LIST"))
+    ∷ (codes "e", codes "execute", Some (codes "COMMAND")) ∷ ([], codes "workers", Some (codes "N")) ∷ ([], codes "per-host", Some (codes "N"))
+    ∷ ([], codes "max-urls", Some (codes "N")) ∷ ([], codes "map", None) ∷ ([], codes "record", None) ∷ ([], codes "resume", Some (codes "FILE"))
+    ∷ (codes "P", codes "directory-prefix", Some (codes "DIR")) ∷ ([], codes "trace", None) ∷ ([], codes "save", Some (codes "FILE")) ∷ []
+unfolding table
+forms = refl

@@ -13,7 +13,7 @@ use Rattle.follow_filters.specs.declared.plan.TheConstants.{MAX_PER_HOST, MAX_UR
 use Rattle.follow_filters.specs.Domains.{read_domain}
 use Rattle.follow_filters.specs.Directories.{read_directory}
 use Rattle.follow_filters.specs.Patterns.{read_element}
-use Rattle.options.specs.declared.order.TheConstants.{MAX_WORKERS}
+use Rattle.options.specs.declared.order.TheConstants.{DEFAULT_MAX_URLS, DEFAULT_PER_HOST, DEFAULT_WORKERS, MAX_WORKERS}
 use Rattle.options.specs.declared.order.Source.{Source}
 use Rattle.options.specs.declared.order.Source.TheVariants.{Map, Recorded, Live}
 use Rattle.options.specs.declared.order.Order.{Order}
@@ -96,11 +96,11 @@ pub record Counts : Type 0 where
   pub per_host : ℕ
   pub max_urls : ℕ
 
--- these numbers, 4, 2 and 100,000 where they aren't given
+-- these numbers, the usual ones where they aren't given
 unfoldable pub counts_of : List Row → Option Counts
 counts_of found =
     option_and_then (λ w. option_and_then (λ p. option_map (λ u. record { workers = w; per_host = p; max_urls = u })
-    (number_of (codes "max-urls") MAX_URLS 100000 found)) (number_of (codes "per-host") MAX_PER_HOST 2 found)) (number_of (codes "workers") MAX_WORKERS 4 found)
+    (number_of (codes "max-urls") MAX_URLS DEFAULT_MAX_URLS found)) (number_of (codes "per-host") MAX_PER_HOST DEFAULT_PER_HOST found)) (number_of (codes "workers") MAX_WORKERS DEFAULT_WORKERS found)
 
 -- the start, or why it is no address
 unfoldable pub start_of : List Row → Result (List ℕ) AddressFault
@@ -172,8 +172,8 @@ order_of_rows found =
       source = source_of found;
       trace = is_set (codes "trace") found;
       prefix = prefix_of found;
-      resume = None;
-      save = None;
+      resume = first_of (codes "resume") found;
+      save = first_of (codes "save") found;
     })))))))
 
 -- words with no kind of refusal are taken

@@ -1,65 +1,86 @@
-//! The command line as `clap` reads it: the table of options, and what words match (GNU Wget manual, chapter Invoking).
-ghost use Rattle.std.specs.Prelude.{◌≡◌, false, IfOk, MatchResult, codes, map, []};
-ghost use Rattle.clap.specs.Words.{app_of, found_of, rows_of, rule_of, HasKind};
-ghost use Rattle.options.specs.Line as spec;
-ghost use Rattle.options.specs.Line.{line, rows, refusals, no_options, start_rule};
+//! The command line as `clap` reads it: the table's options, and what words match (GNU Wget manual, chapter Invoking).
+ghost use Rattle.std.specs.Prelude.{◌≡◌, false, All, IfOk, MatchResult, map, []};
+ghost use Rattle.clap.specs.Words.{app_of, found_of, new_rule, rows_of, rule_of, HasKind};
+ghost use Rattle.options.specs.Line.{letter_of, line, line_rules, no_options, number_rule, option_rule, refusals, rows, start_rule, with_kind, with_letter, with_long};
+ghost use Rattle.options.specs.Table.{kind_in, row_in};
 
-use crate::order::MAX_WORKERS;
+use crate::help::VERSION;
+use crate::table::{Kind, Row, TABLE};
 use clap::{Arg, ArgAction, ArgMatches, Command, Error, value_parser};
-use follow_filters::{MAX_PER_HOST, MAX_URLS};
 use std::alloc::{AllocError, Global};
 
-// `-s`, `--name`
-fn flag<'a>(alloc: Global, short: char, name: &'a str) -> Arg<'a>
-    ensures rule { rule_of result ≡ spec.flag short name.entry.now }
-    ensures own { result.global ≡ false }
+// The letter that is the short form, for `clap`.
+fn letter(short: &str) -> Option<char>
+    ensures { result ≡ letter_of short.now }
 {
-    Arg::new(alloc, name)
-        .short(short)
-        .long(name)
-        .action(ArgAction::SetTrue)
+    match short.as_bytes() {
+        [letter] => Some(char::from(*letter)),
+        _ => None,
+    }
 }
 
-// `--name`
-fn long_flag<'a>(alloc: Global, name: &'a str) -> Arg<'a>
-    ensures rule { rule_of result ≡ spec.long_flag name.entry.now }
-    ensures own { result.global ≡ false }
-{
-    Arg::new(alloc, name).long(name).action(ArgAction::SetTrue)
-}
-
-// `-s VALUE`, `--name VALUE`
-fn option<'a>(alloc: Global, short: char, name: &'a str) -> Arg<'a>
-    ensures rule { rule_of result ≡ spec.option short name.entry.now }
-    ensures own { result.global ≡ false }
-{
-    Arg::new(alloc, name).short(short).long(name)
-}
-
-// `--name VALUE`
-fn long_option<'a>(alloc: Global, name: &'a str) -> Arg<'a>
-    ensures rule { rule_of result ≡ spec.long_option name.entry.now }
-    ensures own { result.global ≡ false }
-{
-    Arg::new(alloc, name).long(name)
-}
-
-// `-s VALUE`
-fn short_option<'a>(alloc: Global, short: char, name: &'a str) -> Arg<'a>
-    ensures rule { rule_of result ≡ spec.short_option short name.entry.now }
-    ensures own { result.global ≡ false }
-{
-    Arg::new(alloc, name).short(short)
-}
-
-// `--name N`, a whole number from 1 to `most`
+// The argument of a number from 1 to the most.
 fn number<'a>(alloc: Global, name: &'a str, most: u32) -> Arg<'a>
-    ensures rule { rule_of result ≡ spec.number name.entry.now most }
+    ensures rule { rule_of result ≡ number_rule most (new_rule name.entry.now) }
     ensures own { result.global ≡ false }
 {
-    Arg::new(alloc, name)
-        .long(name)
-        .value_parser(value_parser!(u32).range(1..=i64::from(most)))
+    Arg::new(alloc, name).value_parser(value_parser!(u32).range(1..=i64::from(most)))
+}
+
+// The argument of this name with what stands behind it.
+fn of_kind<'a>(alloc: Global, name: &'a str, kind: &Kind<&'static str>) -> Arg<'a>
+    ensures rule { rule_of result ≡ with_kind (kind_in kind.now) (new_rule name.entry.now) }
+    ensures own { result.global ≡ false }
+{
+    match kind {
+        Kind::Flag => Arg::new(alloc, name).action(ArgAction::SetTrue),
+        Kind::Value(_) | Kind::Usual(_, _) => Arg::new(alloc, name),
+        Kind::Number(most, _) => number(alloc, name, *most),
+    }
+}
+
+// The argument with its short form, where it has one.
+fn with_letter<'a>(arg: Arg<'a>, letter: Option<char>) -> Arg<'a>
+    ensures rule { rule_of result ≡ with_letter letter (rule_of arg.entry) }
+    ensures own { result.global ≡ arg.entry.global }
+{
+    match letter {
+        Some(letter) => arg.short(letter),
+        None => arg,
+    }
+}
+
+// The argument with its long form, where it has one.
+fn with_long<'a>(arg: Arg<'a>, row: &Row<&'static str>) -> Arg<'a>
+    ensures rule { rule_of result ≡ with_long (row_in row.now) (rule_of arg.entry) }
+    ensures own { result.global ≡ arg.entry.global }
+{
+    if row.name == row.short {
+        arg
+    } else {
+        arg.long(row.name)
+    }
+}
+
+// The option of a row.
+fn option<'a>(alloc: Global, row: &Row<&'static str>) -> Arg<'a>
+    ensures rule { rule_of result ≡ option_rule (row_in row.now) }
+    ensures own { result.global ≡ false }
+{
+    let arg = of_kind(alloc, row.name, &row.kind);
+    with_long(with_letter(arg, letter(row.short)), row)
+}
+
+// The arguments of these rows.
+fn arguments_of<'a>(alloc: Global, rows: &[Row<&'static str>]) -> Result<Vec<Arg<'a>>, AllocError>
+    ensures rules { IfOk result (λ args. map rule_of args.items ≡ map option_rule (map row_in rows.now)) }
+    ensures own { IfOk result (λ args. All (λ a. a.global ≡ false) args.items) }
+{
+    let mut args = Vec::new(alloc);
+    for row in rows {
+        args.push(option(alloc, row))?;
+    }
+    Ok(args)
 }
 
 // START
@@ -70,42 +91,28 @@ fn start<'a>(alloc: Global) -> Arg<'a>
     Arg::new(alloc, "start").required(true)
 }
 
-// The options in their order: how far is followed; which hosts and directories; which names are followed and kept, whether
-// robots files are honoured, and where files are put; how many requests and addresses there may be; where the site is, what
-// is shown, and the start.
+// The arguments: the options in the order of the table, and START.
+fn arguments<'a>(alloc: Global) -> Result<Vec<Arg<'a>>, AllocError>
+    ensures rules { IfOk result (λ args. map rule_of args.items ≡ line_rules) }
+    ensures own { IfOk result (λ args. All (λ a. a.global ≡ false) args.items) }
+{
+    let mut args = arguments_of(alloc, &TABLE)?;
+    args.push(start(alloc))?;
+    Ok(args)
+}
+
 fn command<'a>(alloc: Global) -> Result<Command<'a>, AllocError>
     ensures { IfOk result (λ c. app_of c ≡ line) }
 {
-    let args = vec![in alloc;
-        flag(alloc, 'r', "recursive"),
-        option(alloc, 'l', "level"),
-        flag(alloc, 'p', "page-requisites"),
-        short_option(alloc, 'n', "n"),
-        long_flag(alloc, "no-parent"),
-        flag(alloc, 'H', "span-hosts"),
-        option(alloc, 'D', "domains"),
-        long_option(alloc, "exclude-domains"),
-        option(alloc, 'I', "include-directories"),
-        option(alloc, 'X', "exclude-directories"),
-        option(alloc, 'A', "accept"),
-        option(alloc, 'R', "reject"),
-        option(alloc, 'e', "execute"),
-        option(alloc, 'P', "directory-prefix"),
-        number(alloc, "workers", MAX_WORKERS),
-        number(alloc, "per-host", MAX_PER_HOST),
-        number(alloc, "max-urls", MAX_URLS),
-        long_flag(alloc, "map"),
-        long_flag(alloc, "record"),
-        long_flag(alloc, "trace"),
-        start(alloc),
-    ]?;
-    empty_command(alloc).args(args)
+    empty_command(alloc).args(arguments(alloc)?)
 }
 
 fn empty_command<'a>(alloc: Global) -> Command<'a>
     ensures { app_of result ≡ no_options }
 {
-    Command::new(alloc, "wgetr").no_binary_name(true)
+    Command::new(alloc, "wgetr")
+        .no_binary_name(true)
+        .version(VERSION)
 }
 
 /// What is found for each option, or the kind of the first thing that is wrong.

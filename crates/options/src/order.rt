@@ -9,6 +9,15 @@ use std::marker::Model;
 /// The most workers of a retrieval.
 pub const MAX_WORKERS: u32 = 64;
 
+/// The workers where their number isn't given.
+pub(crate) const DEFAULT_WORKERS: u32 = 4;
+
+/// The requests out to an origin at a time where their number isn't given.
+pub(crate) const DEFAULT_PER_HOST: u32 = 2;
+
+/// The addresses that may be held where their number isn't given.
+pub(crate) const DEFAULT_MAX_URLS: u32 = 100_000;
+
 /// Where the site is.
 #[derive(Clone, Copy, PartialEq, Eq, Debug)]
 pub enum Source {
@@ -70,6 +79,14 @@ impl Model for FilePath {
 }
 
 impl FilePath {
+    pub(crate) fn of(alloc: Global, path: &str) -> Result<FilePath, AllocError>
+        ensures { IfOk result (λ file. file ≡ path.now) }
+    {
+        Ok(FilePath {
+            path: String::from_str(alloc, path)?,
+        })
+    }
+
     /// The path of the file, as it was given. Takes no memory.
     pub fn as_str(&self) -> &str
         ensures { result.now ≡ self.now }
@@ -91,9 +108,9 @@ pub struct Order {
     pub trace: bool,
     /// The folder below which files are put.
     pub prefix: Prefix,
-    /// The record whose answers aren't asked for again. No word names one yet.
+    /// The record whose answers aren't asked for again.
     pub resume: Option<FilePath>,
-    /// The record that is written of what was told. No word names one yet.
+    /// The record that is written of what was told.
     pub save: Option<FilePath>,
     pub ghost some_workers: { 0 < workers },
     pub ghost workers_in_range: { workers ≤ MAX_WORKERS },

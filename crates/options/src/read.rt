@@ -1,5 +1,5 @@
 //! Words are read as an order, or refused by the lowest fault.
-ghost use Rattle.std.specs.Prelude.{◌≡◌, ◌≢◌, ◌⊎◌, ℕ, List, true, ◌<◌, ◌≤◌, false, not, is_none, option_map, if◌then◌else◌, Some, None, Ok, Err, map, IfOk, MatchOption, MatchResult};
+ghost use Rattle.std.specs.Prelude.{◌≡◌, ◌≢◌, ◌⊎◌, ℕ, List, true, ◌<◌, ◌≤◌, codes, false, not, is_none, option_map, if◌then◌else◌, Some, None, Ok, Err, map, IfOk, MatchOption, MatchResult};
 ghost use Rattle.clap.specs.Words.{found_of, rows_of, first_of, kind_of};
 ghost use Rattle.address.specs.Address as address;
 ghost use Rattle.address.specs.Address.{is_robots_file};
@@ -16,7 +16,10 @@ ghost use Rattle.options.specs.Order.{Answers, order_of, order_of_rows, are_good
 use crate::fault::LineFault;
 use crate::given::{given, is_set, level, list, number};
 use crate::line::parse;
-use crate::order::{MAX_WORKERS, Order, Prefix, Source};
+use crate::order::{
+    DEFAULT_MAX_URLS, DEFAULT_PER_HOST, DEFAULT_WORKERS, FilePath, MAX_WORKERS, Order, Prefix,
+    Source,
+};
 use address::{Address, AddressFault};
 use clap::error::ErrorKind;
 use clap::{ArgMatches, Error};
@@ -38,6 +41,14 @@ struct Counts {
     ghost per_host_in_range: { per_host ≤ MAX_PER_HOST },
     ghost some_urls: { 0 < max_urls },
     ghost max_urls_in_range: { max_urls ≤ MAX_URLS },
+}
+
+// The folder below which files are put, and the records that are resumed and saved.
+#[derive(Drop)]
+struct Paths {
+    prefix: Prefix,
+    resume: Option<FilePath>,
+    save: Option<FilePath>,
 }
 
 // The lists of an option and of its opposite.
@@ -92,9 +103,9 @@ fn read_counts(matches: &ArgMatches) -> Option<Counts>
         (λ c. counts_of (rows_of (found_of matches.now)) ≡ Some (record { workers = c.workers; per_host = c.per_host; max_urls = c.max_urls })) }
 {
     Some(Counts {
-        workers: number(matches, "workers", MAX_WORKERS, 4)?,
-        per_host: number(matches, "per-host", MAX_PER_HOST, 2)?,
-        max_urls: number(matches, "max-urls", MAX_URLS, 100_000)?,
+        workers: number(matches, "workers", MAX_WORKERS, DEFAULT_WORKERS)?,
+        per_host: number(matches, "per-host", MAX_PER_HOST, DEFAULT_PER_HOST)?,
+        max_urls: number(matches, "max-urls", MAX_URLS, DEFAULT_MAX_URLS)?,
     })
 }
 
@@ -260,7 +271,7 @@ fn order_of_matches(alloc: Global, matches: &ArgMatches) -> Result<Order, LineFa
             return Err(fault);
         }
     };
-    let Ok(prefix) = prefix(alloc, matches) else {
+    let Ok(paths) = read_paths(alloc, matches) else {
         drop(names);
         drop(places);
         drop(hosts);
@@ -287,9 +298,9 @@ fn order_of_matches(alloc: Global, matches: &ArgMatches) -> Result<Order, LineFa
         workers: counts.workers,
         source: source(matches),
         trace: is_set(matches, "trace"),
-        prefix,
-        resume: None,
-        save: None,
+        prefix: paths.prefix,
+        resume: paths.resume,
+        save: paths.save,
     })
 }
 
@@ -327,6 +338,32 @@ fn folder_of(value: Option<&str>) -> &str
         Some(path) if !path.is_empty() => path,
         _ => ".",
     }
+}
+
+// The file that an option names.
+fn file(alloc: Global, matches: &ArgMatches, id: &str) -> Result<Option<FilePath>, AllocError>
+    ensures { IfOk result (λ file. file ≡ first_of id.now (rows_of (found_of matches.now))) }
+{
+    match given(matches, id) {
+        Some(path) => Ok(Some(FilePath::of(alloc, path)?)),
+        None => Ok(None),
+    }
+}
+
+// The folder and the files that the words name.
+fn read_paths(alloc: Global, matches: &ArgMatches) -> Result<Paths, AllocError>
+    ensures prefix { IfOk result (λ p. p.prefix ≡ prefix_of (rows_of (found_of matches.now))) }
+    ensures resume { IfOk result (λ p. p.resume ≡ first_of (codes "resume") (rows_of (found_of matches.now))) }
+    ensures save { IfOk result (λ p. p.save ≡ first_of (codes "save") (rows_of (found_of matches.now))) }
+{
+    let prefix = prefix(alloc, matches)?;
+    let resume = file(alloc, matches, "resume")?;
+    let save = file(alloc, matches, "save")?;
+    Ok(Paths {
+        prefix,
+        resume,
+        save,
+    })
 }
 
 /// Reads the words of a command line, without the program's name. Of several faults the lowest is

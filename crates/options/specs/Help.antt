@@ -1,0 +1,54 @@
+-- The help: what the program is for, its usage, and a line for each option, in columns of 80 (GNU Wget manual, chapter Invoking).
+use Rattle.std.specs.Prelude.{◌==◌, ◌++◌, ◌-◌, ℕ, List, [], Option, Some, None, codes, length, replicate, if◌then◌else◌}
+use Rattle.std.specs.Fmt.{decimal}
+use Rattle.std.specs.List.{flat_map}
+use Rattle.clap.specs.Walk.{Text}
+use Rattle.options.specs.declared.help.TheConstants.{HEAD, FOOT}
+use Rattle.options.specs.declared.table.Kind.{Kind}
+use Rattle.options.specs.declared.table.Kind.TheVariants as kind
+use Rattle.options.specs.declared.table.Row.{Row}
+use Rattle.options.specs.Table.{table}
+
+-- a text with spaces behind it up to a width
+abbrev pub in_columns : ℕ → Text → Text
+in_columns width text = text ++ replicate (width - length text) 32
+
+-- the short form as it is shown
+abbrev pub short_text : Text → Text
+short_text short = if length short == 0 then [] else codes "  -" ++ short ++ codes ","
+
+-- the name of what stands behind an option
+abbrev pub value_name : Kind Text → Option Text
+value_name kind.Flag = None
+value_name (kind.Value name) = Some name
+value_name (kind.Usual name usual) = Some name
+value_name (kind.Number most usual) = Some (codes "N")
+
+-- a value behind its option
+abbrev pub value_text : Option Text → Text
+value_text None = []
+value_text (Some name) = codes "=" ++ name
+
+-- the forms of an option, with what stands behind it
+abbrev pub left_text : Row Text → Text
+left_text row = in_columns 7 (short_text row.short) ++ codes "--" ++ row.name ++ value_text (value_name row.kind)
+
+-- what counts where an option isn't given, and its range
+abbrev pub usual_text : Kind Text → Text
+usual_text kind.Flag = []
+usual_text (kind.Value name) = []
+usual_text (kind.Usual name usual) = codes " (" ++ usual ++ codes ")"
+usual_text (kind.Number most usual) = codes ", 1 to " ++ decimal most ++ codes " (" ++ decimal usual ++ codes ")"
+
+-- the line of an option behind its heading; none where nothing is said of it, which is another option's short form
+abbrev pub row_text : Row Text → Text
+row_text row =
+    if length row.says == 0 then [] else row.heading ++ in_columns 35 (left_text row) ++ row.says ++ usual_text row.kind ++ codes "\n"
+
+-- the lines of options
+abbrev pub rows_text : List (Row Text) → Text
+rows_text rows = flat_map row_text rows
+
+-- the help
+unfoldable pub help_text : Text
+help_text = HEAD.now ++ rows_text table ++ FOOT.now

@@ -1,0 +1,161 @@
+//! The help: what the program is for, its usage, and a line for each option (GNU Wget manual, chapter Invoking).
+ghost use Rattle.std.specs.Prelude.{◌≡◌, ◌++◌, IfOk, OnOk, codes, map, option_map, replicate, string_bytes};
+ghost use Rattle.std.specs.Fmt.{decimal};
+ghost use Rattle.options.specs.Help.{help_text, in_columns, left_text, row_text, rows_text, short_text, usual_text, value_name};
+ghost use Rattle.options.specs.Table.{kind_in, row_in};
+
+use crate::table::{Kind, Row, TABLE};
+use std::alloc::{AllocError, Global};
+
+/// The version of the program.
+pub const VERSION: &str = "1.0";
+
+const HEAD: &str = "\
+wgetr retrieves a site recursively and reports what it found: it follows links\n\
+by GNU Wget's rules and heeds robots files.\n\
+\n\
+usage: wgetr [OPTION]... START\n       \
+wgetr [OPTION]... --map START < MAP\n       \
+wgetr [OPTION]... --record START < RECORD\n";
+
+const FOOT: &str = "
+Others:
+  -h,  --help                      print this help
+  -V,  --version                   print name and version
+
+START is an http address. A LIST has commas between its elements.
+";
+
+// Adds so many spaces.
+fn push_spaces(text: &mut String, count: usize) -> Result<(), AllocError>
+    ensures ok { OnOk result (string_bytes text.new ≡ string_bytes text.old ++ replicate count 32) }
+{
+    for at in 0..count {
+        text.push_str(" ")?;
+    }
+    Ok(())
+}
+
+// Adds a text, and spaces up to a width.
+fn push_column(text: &mut String, shown: &str, width: usize) -> Result<(), AllocError>
+    ensures ok { OnOk result (string_bytes text.new ≡ string_bytes text.old ++ in_columns width shown.now) }
+{
+    text.push_str(shown)?;
+    push_spaces(text, width.saturating_sub(shown.len()))
+}
+
+// The short form as it is shown.
+fn short_text(alloc: Global, short: &str) -> Result<String, AllocError>
+    ensures { IfOk result (λ text. string_bytes text ≡ short_text short.now) }
+{
+    if short.is_empty() {
+        return Ok(String::new(alloc));
+    }
+    format!(in alloc; "  -{short},")
+}
+
+// The name of what stands behind an option.
+fn value_name(kind: &Kind<&'static str>) -> Option<&'static str>
+    ensures { option_map (λ name. name.now) result ≡ value_name (kind_in kind.now) }
+{
+    match kind {
+        Kind::Flag => None,
+        Kind::Value(name) => Some(*name),
+        Kind::Usual(name, _) => Some(*name),
+        Kind::Number(_, _) => Some("N"),
+    }
+}
+
+// The forms of an option, with what stands behind it.
+fn left_text(alloc: Global, row: &Row<&'static str>) -> Result<String, AllocError>
+    ensures { IfOk result (λ text. string_bytes text ≡ left_text (row_in row.now)) }
+{
+    let mut text = String::new(alloc);
+    push_column(&mut text, short_text(alloc, row.short)?.as_str(), 7)?;
+    text.push_str("--")?;
+    text.push_str(row.name)?;
+    if let Some(name) = value_name(&row.kind) {
+        text.push_str("=")?;
+        text.push_str(name)?;
+    }
+    Ok(text)
+}
+
+// What counts where an option isn't given, and its range.
+fn usual_text(alloc: Global, kind: &Kind<&'static str>) -> Result<String, AllocError>
+    ensures { IfOk result (λ text. string_bytes text ≡ usual_text (kind_in kind.now)) }
+{
+    match kind {
+        Kind::Flag => Ok(String::new(alloc)),
+        Kind::Value(_) => Ok(String::new(alloc)),
+        Kind::Usual(_, usual) => format!(in alloc; " ({usual})"),
+        Kind::Number(most, usual) => range_text(alloc, *most, *usual),
+    }
+}
+
+// A number in decimal.
+fn number_text(alloc: Global, number: u32) -> Result<String, AllocError>
+    ensures { IfOk result (λ text. string_bytes text ≡ decimal number) }
+{
+    format!(in alloc; "{number}")
+}
+
+// The range of a number, and what counts where it isn't given.
+fn range_text(alloc: Global, most: u32, usual: u32) -> Result<String, AllocError>
+    ensures { IfOk result (λ text. string_bytes text ≡ codes ", 1 to " ++ decimal most ++ codes " (" ++ decimal usual ++ codes ")") }
+{
+    let mut text = String::from_str(alloc, ", 1 to ")?;
+    text.push_str(number_text(alloc, most)?.as_str())?;
+    text.push_str(" (")?;
+    text.push_str(number_text(alloc, usual)?.as_str())?;
+    text.push_str(")")?;
+    Ok(text)
+}
+
+// Adds the line of an option, behind its heading.
+fn push_row(alloc: Global, text: &mut String, row: &Row<&'static str>) -> Result<(), AllocError>
+    ensures ok { OnOk result (string_bytes text.new ≡ string_bytes text.old ++ row_text (row_in row.now)) }
+{
+    if row.says.is_empty() {
+        return Ok(());
+    }
+    let left = left_text(alloc, row)?;
+    let usual = usual_text(alloc, &row.kind)?;
+    text.push_str(row.heading)?;
+    push_column(text, left.as_str(), 35)?;
+    text.push_str(row.says)?;
+    text.push_str(usual.as_str())?;
+    text.push_str("\n")
+}
+
+// Adds the lines of these options.
+fn push_rows(alloc: Global, text: &mut String, rows: &[Row<&'static str>]) -> Result<(), AllocError>
+    ensures ok { OnOk result (string_bytes text.new ≡ string_bytes text.old ++ rows_text (map row_in rows.now)) }
+{
+    for row in rows {
+        push_row(alloc, text, row)?;
+    }
+    Ok(())
+}
+
+// The lines of these options between two texts.
+fn between(
+    alloc: Global,
+    head: &str,
+    rows: &[Row<&'static str>],
+    foot: &str,
+) -> Result<String, AllocError>
+    ensures { IfOk result (λ text. string_bytes text ≡ head.now ++ rows_text (map row_in rows.now) ++ foot.now) }
+{
+    let mut text = String::from_str(alloc, head)?;
+    push_rows(alloc, &mut text, rows)?;
+    text.push_str(foot)?;
+    Ok(text)
+}
+
+/// The help, in 80 columns.
+pub fn help_text(alloc: Global) -> Result<String, AllocError>
+    ensures { IfOk result (λ text. string_bytes text ≡ help_text) }
+{
+    between(alloc, HEAD, &TABLE, FOOT)
+}
