@@ -1,6 +1,6 @@
 -- How a chain grows, and when it is one that is admitted.
-use Rattle.std.proofs.Common.{◌≡◌, ◌≢◌, ℕ, zero, suc, ◌+◌, ◌<◌, ◌≤◌, ◌⊎◌, ◌++◌, ◌∙◌, Bool, true, false, List, [], ◌∷◌, Option, Some, None, refl, sym, ap, subst, inl, inr, length, arith, length-append}
-use Rattle.std.specs.Prelude.{IsSome, Ok, Err}
+use Rattle.std.proofs.Common.{◌≡◌, ◌≢◌, ℕ, zero, suc, ◌+◌, ◌<◌, ◌≤◌, ◌⊎◌, ◌++◌, ◌∙◌, Bool, false, List, [], ◌∷◌, Option, Some, None, refl, sym, ap, subst, inl, inr, length, arith}
+use Rattle.std.specs.Prelude.{Ok, Err}
 use Rattle.std.specs.Option.{is_some}
 use Rattle.address.specs.Address.{AddressText, OriginText, read_address}
 use Rattle.site_maps.proofs.ReadingLaws.{names}
@@ -9,9 +9,9 @@ use Rattle.site_answer.specs.Tellings.{target_told}
 use Rattle.site_answer.specs.HopChains.{HopValue, AreHops, IsAdmitted, robots_file}
 use Rattle.site_maps.specs.declared.input_fault.InputLineFault.{InputLineFault}
 use Rattle.site_maps.specs.declared.input_fault.InputLineFault.TheVariants.{Line, Address, Memory}
-use Rattle.site_maps.specs.Maps.{named, IsNamed}
-use Rattle.site_records.specs.EntryLines.{HopStatement, hop, hopfault, HasHopForm, hop_text, IsHopCount}
-use Rattle.site_records.specs.Entries.{IsLine, AreHopsOf, no_hops, more_hops, IsHop, IsBegun, AreLed, due, chain_start, BeginsHop, HasHopBytes, IsBadRow}
+use Rattle.site_maps.specs.Maps.{IsNamed}
+use Rattle.site_records.specs.EntryLines.{HopStatement, HasHopForm, hop_text, IsHopCount}
+use Rattle.site_records.specs.Entries.{IsLine, more_hops, IsHop, IsBegun, AreLed, due, chain_start, BeginsHop}
 use Rattle.site_records.specs.Readings.{AddsHop, IsWrongHop, IsBadHop, NamesDue}
 use Rattle.std.specs.Str.{IsUtf8}
 use Rattle.site_records.proofs.EntryLaws.{same_line}

@@ -1,10 +1,9 @@
 -- What a line that is taken, or refused, states.
-use Rattle.std.proofs.Common.{◌≡◌, ◌≢◌, ◌==◌, ℕ, ◌+◌, ◌<◌, ◌≤◌, ◌⊎◌, ◌++◌, ◌∙◌, Bool, List, [], ◌∷◌, Option, Some, None, Result, Ok, Err, MatchResult, IfOk, refl, sym, ap, subst, inl, inr, length, drop, take, arith, length-drop, length-append}
+use Rattle.std.proofs.Common.{◌≡◌, ◌≢◌, ◌==◌, ℕ, ◌+◌, ◌<◌, ◌≤◌, ◌⊎◌, ◌++◌, ◌∙◌, Bool, List, [], ◌∷◌, Option, None, Result, Ok, Err, MatchResult, refl, sym, ap, subst, inl, inr, length, drop, take, arith, length-drop, length-append}
 use Rattle.std.specs.Prelude.{codes, IsSome}
 use Rattle.std.specs.Borrow.{Bor}
 use Rattle.std.specs.Map.{lookup}
 use Rattle.std.specs.Str.{bytes_eq, IsUtf8}
-use Rattle.std.specs.List.{position}
 use Rattle.std.proofs.lemmas.List.{append-nil}
 use Rattle.std.proofs.lemmas.List.Quantifiers.{position-Some}
 use Rattle.address.specs.Address.{read_address, origin_of, path_query_of}
@@ -18,9 +17,9 @@ use Rattle.site_maps.specs.Maps.{named, IsNamed}
 use Rattle.site_maps.proofs.ReadingLaws.{names}
 use Rattle.site_records.specs.declared.reading.Reading.{Reading}
 use Rattle.site_records.specs.EntryLines.{Statement, page, fault, file, free, closed, chain, IsForm, HasForm, text_of, HopStatement, hop, hopfault}
-use Rattle.site_records.specs.Entries.{Entry, answered, ruled, chained, lines_of, no_response, HasBytes, IsLine, IsReadAs, States, IsAtRoot, IsEntry, Begins, IsRepeated, HasItsBytes, AreHopsOf, no_hops, more_hops, IsHop, Tells, IsBegun, IsBadRow, IsBadBehind, LeadsOn}
-use Rattle.site_records.specs.Records.{answers_of, rules_of}
-use Rattle.site_records.specs.Readings.{Keeps, Adds, AddsLines, IsWrong, IsWrongAt, IsWrongChain, IsBadHop, Takes, TakesEntry, IsAlone, IsBad, Reads, lines_to, IsCounted}
+use Rattle.site_records.specs.Entries.{Entry, answered, ruled, chained, lines_of, no_response, HasBytes, IsLine, IsReadAs, States, IsAtRoot, Begins, IsRepeated, HasItsBytes, AreHopsOf, no_hops, more_hops, IsHop, Tells, IsBadRow, IsBadBehind, LeadsOn}
+use Rattle.site_records.specs.RecordNotes.{AddsNote}
+use Rattle.site_records.specs.Readings.{Adds, AddsLines, IsWrong, IsWrongAt, IsWrongChain, IsBadHop, Takes, TakesEntry, IsAlone, IsBad, Reads, lines_to, IsCounted}
 use Rattle.address.specs.Address.{AddressText}
 use Rattle.site_answer.specs.HopChains.{HopValue, IsAdmitted, rules_of_hops}
 use Rattle.site_answer.specs.declared.told.Told.{Told}
@@ -28,7 +27,6 @@ use Rattle.site_records.specs.declared.entry_fault.EntryFault.{EntryFault}
 use Rattle.site_records.specs.declared.entry_fault.EntryFault.TheVariants.{Own, Hop}
 use Rattle.site_records.specs.declared.taken.Taken.{Taken}
 use Rattle.site_records.specs.declared.version.Version.{Version}
-use Rattle.site_records.specs.declared.version.Version.TheVariants.{First, Second}
 
 -- a line whose address isn't read
 pub unread : (old : Reading) (s : Statement) (behind : List ℕ) (f : InputLineFault) → (f ≡ Memory) ⊎ ((f ≡ Address) × ¬ IsNamed (text_of s)) → IsWrong old s behind f
@@ -45,13 +43,14 @@ unrooted old s behind f root (inr (inr h)) = rw h.0 (h.1, inl (λ k. h.2 (root k
 -- an answer goes behind the others
 pub takes_answer : (old new : Reading) (s : Statement) (behind after : List ℕ) (at : List ℕ) (a : Answer) → read_address (text_of s) ≡ Ok at
     → IsAtRoot s → (named (text_of s) ≡ at → States old.robots s behind (answered at a) after) → lookup (bytes_eq at) old.answers.entries ≡ None
-    → new.answers.entries ≡ old.answers.entries ++ (at, a) ∷ [] → new.rules.entries ≡ old.rules.entries → new.robots ≡ old.robots → new.version ≡ old.version → Adds old s behind after new
-takes_answer old new s behind after at a reads root states none put same robots version = record {
+    → new.answers.entries ≡ old.answers.entries ++ (at, a) ∷ [] → new.rules.entries ≡ old.rules.entries → new.robots ≡ old.robots → new.version ≡ old.version → new.keeps_notes ≡ old.keeps_notes
+    → AddsNote old.keeps_notes old.robots old.notes.items (answered at a) new.notes.items → Adds old s behind after new
+takes_answer old new s behind after at a reads root states none put same robots version keeps noted = record {
   entry = answered at a;
   is_named = (names (text_of s) at reads).0;
   at_root = root;
   states = states (names (text_of s) at reads).1;
-  keeps = record { answers = put; rules = same ∙ sym (append-nil old.rules.entries); robots = robots; version = version; is_new = none };
+  keeps = record { answers = put; rules = same ∙ sym (append-nil old.rules.entries); robots = robots; version = version; keeps_notes = keeps; noted = noted; is_new = none };
 }
 
 -- the answer of a page is what its bytes are read as
@@ -65,13 +64,14 @@ fault_states robots kind text behind at is = (refl, rw is refl)
 -- a rule set goes behind the others
 pub takes_rules : (old new : Reading) (s : Statement) (behind after : List ℕ) (of : List ℕ) (r : RuleSetValue) → IsNamed (text_of s)
     → IsAtRoot s → States old.robots s behind (ruled of r) after → lookup (bytes_eq of) old.rules.entries ≡ None
-    → new.rules.entries ≡ old.rules.entries ++ (of, r) ∷ [] → new.answers.entries ≡ old.answers.entries → new.robots ≡ old.robots → new.version ≡ old.version → Adds old s behind after new
-takes_rules old new s behind after of r named_is root states none put same robots version = record {
+    → new.rules.entries ≡ old.rules.entries ++ (of, r) ∷ [] → new.answers.entries ≡ old.answers.entries → new.robots ≡ old.robots → new.version ≡ old.version → new.keeps_notes ≡ old.keeps_notes
+    → AddsNote old.keeps_notes old.robots old.notes.items (ruled of r) new.notes.items → Adds old s behind after new
+takes_rules old new s behind after of r named_is root states none put same robots version keeps noted = record {
   entry = ruled of r;
   is_named = named_is;
   at_root = root;
   states = states;
-  keeps = record { answers = same ∙ sym (append-nil old.answers.entries); rules = put; robots = robots; version = version; is_new = none };
+  keeps = record { answers = same ∙ sym (append-nil old.answers.entries); rules = put; robots = robots; version = version; keeps_notes = keeps; noted = noted; is_new = none };
 }
 
 -- ---- from the line to the text
@@ -204,15 +204,15 @@ alone_closed old new text behind taken r t is = alone_takes old new (closed text
 -- the rules of a chain go behind the others
 pub takes_chain : (old new : Reading) (text : List ℕ) (n : ℕ) (behind : List ℕ) (taken : Taken) (of : List ℕ) (hops : List HopValue) → IsNamed text
     → path_query_of (named text) ≡ codes "/" → origin_of (named text) ≡ of → AreHopsOf behind hops taken.after.now → length hops ≡ n → IsAdmitted of hops → lookup (bytes_eq of) old.rules.entries ≡ None
-    → new.rules.entries ≡ old.rules.entries ++ (of, rules_of_hops hops) ∷ [] → new.answers.entries ≡ old.answers.entries → new.robots ≡ old.robots → new.version ≡ old.version
-    → taken.lines ≡ n + 1 → AddsLines old (chain text n) behind taken new
-takes_chain old new text n behind taken of hops named_is root is are long admitted none put same robots version lines = record {
+    → new.rules.entries ≡ old.rules.entries ++ (of, rules_of_hops hops) ∷ [] → new.answers.entries ≡ old.answers.entries → new.robots ≡ old.robots → new.version ≡ old.version → new.keeps_notes ≡ old.keeps_notes
+    → AddsNote old.keeps_notes old.robots old.notes.items (chained of hops) new.notes.items → taken.lines ≡ n + 1 → AddsLines old (chain text n) behind taken new
+takes_chain old new text n behind taken of hops named_is root is are long admitted none put same robots version keeps noted lines = record {
   adds = record {
     entry = chained of hops;
     is_named = named_is;
     at_root = root;
     states = (hops, are, long, subst (λ o. IsAdmitted o hops) (sym is) admitted, ap (λ o. chained o hops) (sym is));
-    keeps = record { answers = same ∙ sym (append-nil old.answers.entries); rules = put; robots = robots; version = version; is_new = none };
+    keeps = record { answers = same ∙ sym (append-nil old.answers.entries); rules = put; robots = robots; version = version; keeps_notes = keeps; noted = noted; is_new = none };
   };
   lines = lines ∙ ap (λ k. k + 1) (sym long);
 }

@@ -4,3 +4,12 @@ pub mod ChainLaws
 pub mod ReadLaws
 pub mod ResumptionLaws
 pub mod WrittenEntryLaws
+pub mod WrittenRecordLaws
+pub mod DraftLaws
+pub mod TornLaws
+pub mod EntryTextLaws
+pub mod NamedLaws
+pub mod CutLaws
+pub mod FrontLaws
+pub mod FirstVersionLaws
+pub mod NoteLaws

@@ -1,11 +1,10 @@
 -- A record that is read so far, and how it ends.
-use Rattle.std.proofs.Common.{◌≡◌, ◌≢◌, ◌==◌, ℕ, ◌+◌, ◌<◌, ◌≤◌, ◌⊎◌, ◌++◌, ◌∙◌, Bool, true, false, List, [], ◌∷◌, Option, Some, None, refl, sym, ap, subst, inl, inr, length, arith, append_assoc, take, drop}
+use Rattle.std.proofs.Common.{◌≡◌, ◌≢◌, ◌==◌, ℕ, ◌+◌, ◌<◌, ◌≤◌, ◌++◌, ◌∙◌, Bool, true, false, List, [], ◌∷◌, Option, Some, None, refl, sym, ap, subst, inl, inr, length, arith, take, drop, map}
 use Rattle.std.specs.Str.{bytes_eq}
-use Rattle.std.proofs.lemmas.List.{take-append-drop, length-append}
+use Rattle.std.proofs.lemmas.List.{take-append-drop, length-append, map-append}
 use Rattle.std.proofs.lemmas.Bool.{eqb-true}
 use Rattle.std.proofs.lemmas.Slice.Eq.{bytes_eq-Decides}
 use Rattle.std.proofs.Math.Seq.{take-append_seam}
-use Rattle.site_maps.specs.declared.input_fault.InputLineFault.{InputLineFault}
 use Rattle.site_maps.specs.declared.input_fault.InputLineFault.TheVariants.{Line, Address, Memory}
 use Rattle.address.specs.Address.{AddressText, OriginText}
 use Rattle.robots_rules.specs.Access.{RuleSetValue}
@@ -18,7 +17,10 @@ use Rattle.site_records.specs.declared.version.Version.TheVariants.{First, Secon
 use Rattle.site_records.specs.declared.reading.Reading.{Reading}
 use Rattle.site_records.specs.Entries.{Entry, answered, ruled, chained, lines_of, IsEntry, IsNew, IsBadLine, IsBadAddress, IsFormed}
 use Rattle.site_records.specs.Records.{answers_of, rules_of, version_line, IsFront, none, next, IsRecord, line_count, lines_ahead, FirstBad, HasVersion, IsFault}
-use Rattle.site_records.specs.Readings.{Keeps, Reads, IsBad, fault_at}
+use Rattle.site_answer.specs.declared.noted.Noted.{Noted}
+use Rattle.site_records.specs.WrittenEntries.{note_entry}
+use Rattle.site_records.specs.RecordNotes.{HasNotes, AddsNote}
+use Rattle.site_records.specs.Readings.{Reads, IsBad, fault_at}
 
 -- the entries so far are kept, and this is the rest
 pub record IsReadTo (robots : Bool) (bytes : List ℕ) (reading : Reading) (number : ℕ) (rest : List ℕ) : Type 0 where
@@ -29,6 +31,7 @@ pub record IsReadTo (robots : Bool) (bytes : List ℕ) (reading : Reading) (numb
   pub answers : reading.answers.entries ≡ answers_of above
   pub rules : reading.rules.entries ≡ rules_of above
   pub robots_is : reading.robots ≡ robots
+  pub noted : HasNotes reading.keeps_notes robots reading.notes.items above
   pub count : number ≡ line_count above + 1
   pub within : number + length rest < length bytes
 
@@ -50,10 +53,28 @@ line_count-push : (xs : List Entry) (e : Entry) → line_count (xs ++ e ∷ []) 
 line_count-push [] e = omega arith
 line_count-push (x ∷ xs) e = let more = line_count-push xs e in omega (arith, more)
 
+-- nothing is noted of nothing
+no_notes : (keeps robots : Bool) (notes : List Noted) → notes ≡ [] → HasNotes keeps robots notes []
+no_notes true robots notes e = record { answers = ap (λ l. answers_of (map (note_entry robots) l)) e; rules = ap (λ l. rules_of (map (note_entry robots) l)) e }
+no_notes false robots notes e = e
+
+-- a note more says one entry more
+notes_grow : (keeps robots : Bool) (old new : List Noted) (above : List Entry) (e : Entry) → HasNotes keeps robots old above → AddsNote keeps robots old e new → HasNotes keeps robots new (above ++ e ∷ [])
+notes_grow false robots old new above e was adds = adds ∙ was
+notes_grow true robots old new above e was (note, pushed, says) =
+    let f = note_entry robots in
+    let more : map f new ≡ map f old ++ map f (note ∷ []) = ap (map f) pushed ∙ map-append f old (note ∷ []) in
+    record {
+      answers = ap answers_of more ∙ answers_of-append (map f old) (map f (note ∷ [])) ∙ ap (λ l. l ++ answers_of (map f (note ∷ []))) was.answers
+          ∙ ap (λ l. answers_of above ++ l) says.answers ∙ sym (answers_of-append above (e ∷ []));
+      rules = ap rules_of more ∙ rules_of-append (map f old) (map f (note ∷ [])) ∙ ap (λ l. l ++ rules_of (map f (note ∷ []))) was.rules
+          ∙ ap (λ l. rules_of above ++ l) says.rules ∙ sym (rules_of-append above (e ∷ []));
+    }
+
 -- nothing is read behind the first line
 pub starts : (robots : Bool) (bytes : List ℕ) (reading : Reading) (rest : List ℕ) → bytes ≡ version_line reading.version ++ rest
-    → reading.answers.entries ≡ [] → reading.rules.entries ≡ [] → reading.robots ≡ robots → IsReadTo robots bytes reading 1 rest
-starts robots bytes reading rest is answers rules same =
+    → reading.answers.entries ≡ [] → reading.rules.entries ≡ [] → reading.robots ≡ robots → reading.notes.items ≡ [] → IsReadTo robots bytes reading 1 rest
+starts robots bytes reading rest is answers rules same none_noted =
     let some = long_line reading.version in
     let long = length-append (version_line reading.version) rest in
     let all = ap length is in
@@ -65,6 +86,7 @@ starts robots bytes reading rest is answers rules same =
       answers = answers;
       rules = rules;
       robots_is = same;
+      noted = no_notes reading.keeps_notes robots reading.notes.items none_noted;
       count = refl;
       within = omega (arith, some, long, all);
     }
@@ -74,7 +96,7 @@ starts robots bytes reading rest is answers rules same =
     long_line Second = omega arith
 
 -- bytes that begin with neither line
-begins_so : (line bytes text : List ℕ) → bytes_eq (take (length line) bytes) line ≡ false → bytes ≢ line ++ text
+pub begins_so : (line bytes text : List ℕ) → bytes_eq (take (length line) bytes) line ≡ false → bytes ≢ line ++ text
 begins_so line bytes text other is =
     let begins : take (length line) bytes ≡ line = ap (λ l. take (length line) l) is ∙ take-append_seam line text in
     let same = (bytes_eq-Decides (take (length line) bytes) line).1 begins in
@@ -107,12 +129,14 @@ goes_on robots bytes old new number lines rest after so_far r less =
       answers = r.keeps.answers ∙ ap (λ l. l ++ answers_of (r.entry ∷ [])) so_far.answers ∙ sym (answers_of-append so_far.above (r.entry ∷ []));
       rules = r.keeps.rules ∙ ap (λ l. l ++ rules_of (r.entry ∷ [])) so_far.rules ∙ sym (rules_of-append so_far.above (r.entry ∷ []));
       robots_is = r.keeps.robots ∙ so_far.robots_is;
+      noted = subst (λ b. HasNotes b robots new.notes.items (so_far.above ++ r.entry ∷ [])) (sym r.keeps.keeps_notes)
+          (notes_grow old.keeps_notes robots old.notes.items new.notes.items so_far.above r.entry so_far.noted (subst (λ b. AddsNote old.keeps_notes b old.notes.items r.entry new.notes.items) so_far.robots_is r.keeps.noted));
       count = let was = so_far.count in let lines_are = r.lines_are in omega (arith, was, longer, lines_are);
       within = let was = so_far.within in omega (arith, was, less);
     }
 
 -- a bad entry is the first
-first_bad_at : (robots : Bool) (bytes : List ℕ) (old : Reading) (number : ℕ) (rest : List ℕ) (IsBadSo : Version → List (AddressText × Answer) → List (OriginText × RuleSetValue) → Option ℕ → List ℕ → Type 0)
+pub first_bad_at : (robots : Bool) (bytes : List ℕ) (old : Reading) (number : ℕ) (rest : List ℕ) (IsBadSo : Version → List (AddressText × Answer) → List (OriginText × RuleSetValue) → Option ℕ → List ℕ → Type 0)
     (place : Option ℕ) (line : ℕ) → IsReadTo robots bytes old number rest → rest ≢ [] → line ≡ number + 1 + lines_ahead place
     → IsBadSo old.version old.answers.entries old.rules.entries place rest → FirstBad robots bytes line IsBadSo
 first_bad_at robots bytes old number rest IsBadSo place line s more is bad = record {

@@ -1,5 +1,5 @@
 -- A fetcher that is asked for what a record doesn't state.
-use Rattle.std.proofs.Common.{◌≡◌, ◌+◌, ◌≤◌, ℕ, ◌⊎◌, ◌++◌, ◌∙◌, List, [], ◌∷◌, All, Option, Some, None, MatchOption, Result, Ok, Err, OnOk, OnErr, refl, sym, ap, subst, inl, inr, length, take, drop, arith}
+use Rattle.std.proofs.Common.{◌≡◌, ◌≤◌, ℕ, ◌++◌, ◌∙◌, List, [], ◌∷◌, All, Option, Some, None, MatchOption, Result, Ok, Err, OnOk, OnErr, refl, sym, ap, subst, inl, inr, length, take, drop, arith}
 use Rattle.std.specs.Map.{lookup}
 use Rattle.std.specs.Str.{bytes_eq}
 use Rattle.std.proofs.lemmas.List.{drop-append-le, take-append-le, length-append}

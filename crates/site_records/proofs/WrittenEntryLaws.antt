@@ -1,46 +1,51 @@
--- What is written of a page is an entry, which states the answer of its response.
-use Rattle.std.proofs.Common.{◌≡◌, ◌≢◌, ◌==◌, ℕ, zero, suc, ◌+◌, ◌-◌, ◌^◌, ◌<◌, ◌≤◌, ◌++◌, ◌∙◌, Bool, true, false, ◌&&◌, ◌||◌, cond, List, [], ◌∷◌, Option, Some, None, Ok, refl, sym, ap, subst, inl, inr, length, take, drop, min, arith, append_assoc, append-nil, length-append, rules}
-use Rattle.std.specs.Prelude.{codes, decimal, All, IsOk, slice_get, slice_index, not, nat_lt, nat_le, get_or, map}
+-- What is written of a note is an entry, which states what was noted.
+use Rattle.std.proofs.Common.{◌≡◌, ◌==◌, ℕ, zero, suc, ◌+◌, ◌-◌, ◌^◌, ◌<◌, ◌≤◌, ◌++◌, ◌∙◌, Bool, true, false, ◌&&◌, ◌||◌, cond, List, [], ◌∷◌, Some, None, refl, sym, ap, subst, inl, inr, length, min, arith, append_assoc, append-nil, length-append}
+use Rattle.std.specs.Prelude.{codes, decimal, All, IsOk, slice_index, not, nat_lt, nat_le, flat_map}
 use Rattle.std.specs.List.{position, position_or_len, list_all}
-use Rattle.std.specs.Str.{IsUtf8, IsAscii}
+use Rattle.std.specs.Str.{IsAscii}
 use Rattle.std.specs.Char.{is_ascii_digit}
 use Rattle.std.specs.Result.{result_unwrap_or}
-use Rattle.std.specs.Str.Parse.{digits_value, AllDigits}
+use Rattle.std.specs.Str.Parse.{AllDigits}
 use Rattle.std.proofs.lemmas.Bool.{ne_eqb, lt-ltb, leb-true, cases_lt}
 use Rattle.std.proofs.lemmas.Option.{slice_get-get_or}
-use Rattle.std.proofs.lemmas.List.{get_or_past}
+use Rattle.std.proofs.lemmas.List.{get_or_past, append_cancel_left}
 use Rattle.std.proofs.lemmas.Str.Parse.{digit_from_value}
 use Rattle.std.proofs.lemmas.Str.{IsUtf8-from_ascii}
 use Rattle.std.proofs.lemmas.List.Splits.{slice_split_at, slice_split_none}
 use Rattle.std.proofs.lemmas.List.Elements.{All-nil, All-cons, All-head, All-tail, All-append, All-weaker}
 use Rattle.std.proofs.lemmas.Fmt.{decimal_is_IsNumeral, decimal_digit, first_decimal, decimal_nonempty, digits_decimal, digits_value-decimal}
 use Rattle.std.proofs.Math.Seq.{take-append_seam, drop-append-add, get_or-append_seam}
-use Rattle.address.specs.Address.{AddressText, IsAddress, IsAddressByte, read_address}
+use Rattle.address.specs.Address.{AddressText, OriginText, IsAddress, IsAddressByte, IsOrigin, origin_of, path_query_of}
 use Rattle.fetcher.specs.declared.answer.Answer.{Answer}
 use Rattle.response_reader.specs.Heads.{max_heads_len}
 use Rattle.response_reader.specs.Response.{ResponseParts, CanBeGiven}
 use Rattle.response_reader.specs.Written.{head_text, response_text}
 use Rattle.response_reader.proofs.WrittenLemmas.{written_reads_back}
-use Rattle.site_maps.specs.Maps.{named, IsNamed}
+use Rattle.site_maps.specs.Maps.{named}
 use Rattle.site_maps.specs.Lines.{fields}
+use Rattle.site_answer.specs.Chains.{max_redirects}
 use Rattle.site_answer.specs.Digests.{digest_of, kept_body}
+use Rattle.site_answer.specs.HopChains.{HopValue, AreHops, IsAdmitted, robots_file}
+use Rattle.site_answer.specs.declared.told.Told.{Told}
+use Rattle.site_answer.specs.declared.told.Told.TheVariants as told
+use Rattle.site_answer.specs.declared.noted.Noted.{Noted}
+use Rattle.site_answer.specs.declared.noted.Noted.TheVariants as noted
 use Rattle.site_records.specs.declared.version.Version.{Version}
 use Rattle.site_records.specs.declared.version.Version.TheVariants.{Second}
-use Rattle.site_records.specs.EntryLines.{Statement, page, fault, HasForm, length_of, is_length, is_numeral}
-use Rattle.site_records.specs.Entries.{Entry, answered, no_response, IsLine, HasBytes, IsDigest, IsEntry}
-use Rattle.site_records.specs.Records.{IsFront, none, next, IsRecord}
+use Rattle.site_records.specs.EntryLines.{page, fault, chain, hop, hopfault, length_of, is_length, is_numeral}
+use Rattle.site_records.specs.Entries.{answered, chained, no_response, IsLine, HasBytes, IsEntry, IsHop, AreHopsOf, no_hops, more_hops}
 use Rattle.fetcher.specs.declared.fault_kind.FaultKind.{FaultKind}
 use Rattle.fetcher.specs.declared.fault_kind.FaultKind.TheVariants.{Connect, Device, Ended, Head, HeadLong, Length, Coding, Chunk, BodyLong}
 use Rattle.fetcher.specs.FaultWords.{word_of}
-use Rattle.site_records.specs.WrittenEntries.{line_of_three, counted_entry, worded_entry, Writing, whole, faulty, writing_text, writing_entry, IsWritable, AreWritable, writings_text, writings_record}
+use Rattle.site_records.specs.WrittenEntries.{line_of_three, counted_entry, worded_entry, chain_line, told_head, is_short, hop_entry, note_text, note_entry, has_short_heads, IsToldOf, IsNote}
 use Rattle.site_records.proofs.FormLaws.{own_digits, and_parts}
 
 -- the byte is visible: neither a line feed nor a space
-abbrev IsVisible : ℕ → Type 0
+abbrev pub IsVisible : ℕ → Type 0
 IsVisible b = (33 ≤ b) × (b ≤ 126)
 
 -- the byte may stand in a line
-abbrev IsPlain : ℕ → Type 0
+abbrev pub IsPlain : ℕ → Type 0
 IsPlain b = (32 ≤ b) × (b ≤ 126)
 
 no_feed : (b : ℕ) → IsPlain b → (b == 10) ≡ false
@@ -66,14 +71,14 @@ first_place p line behind end clear is =
 -- ---- a line of three fields
 
 -- each byte of digits is visible
-digits_visible : (ds : List ℕ) → AllDigits 10 ds → All IsVisible ds
+pub digits_visible : (ds : List ℕ) → AllDigits 10 ds → All IsVisible ds
 digits_visible [] h = All-nil IsVisible
 digits_visible (d ∷ ds) h =
     let range = digit_from_value d h.0 in
     let low = range.0 in let high = range.1 in
     All-cons IsVisible d ds (omega arith, omega arith) (digits_visible ds h.1)
 
-plain_line : (a b c : List ℕ) → All IsVisible a → All IsVisible b → All IsVisible c → All IsPlain (line_of_three a b c)
+pub plain_line : (a b c : List ℕ) → All IsVisible a → All IsVisible b → All IsVisible c → All IsPlain (line_of_three a b c)
 plain_line a b c va vb vc =
     All-append IsPlain a (32 ∷ (b ++ (32 ∷ c))) (wide a va) (All-cons IsPlain 32 (b ++ (32 ∷ c)) space
     (All-append IsPlain b (32 ∷ c) (wide b vb) (All-cons IsPlain 32 c space (wide c vc))))
@@ -84,7 +89,7 @@ plain_line a b c va vb vc =
     wide : (xs : List ℕ) → All IsVisible xs → All IsPlain xs
     wide xs h = All-weaker IsVisible IsPlain (λ x v. let low = v.0 in (omega arith, v.1)) xs h
 
-three_fields : (a b c : List ℕ) → All IsVisible a → All IsVisible b → All IsVisible c → fields (line_of_three a b c) ≡ a ∷ b ∷ c ∷ []
+pub three_fields : (a b c : List ℕ) → All IsVisible a → All IsVisible b → All IsVisible c → fields (line_of_three a b c) ≡ a ∷ b ∷ c ∷ []
 three_fields a b c va vb vc =
     slice_split_at is_space a 32 (b ++ (32 ∷ c)) (clear a va) refl
     ∙ ap (λ more. a ∷ more) (slice_split_at is_space b 32 c (clear b vb) refl ∙ ap (λ more. b ∷ more) (slice_split_none is_space c (clear c vc)))
@@ -95,7 +100,7 @@ three_fields a b c va vb vc =
     clear : (xs : List ℕ) → All IsVisible xs → All (λ b. is_space b ≡ false) xs
     clear xs h = All-weaker IsVisible (λ b. is_space b ≡ false) no_space xs h
 
-ascii_line : (line : List ℕ) → All IsPlain line → IsAscii line
+pub ascii_line : (line : List ℕ) → All IsPlain line → IsAscii line
 ascii_line line h i =
     elim (cases_lt i (length line)) [
       | inl within ↦ let v = (h i 0 within).1 in omega arith
@@ -104,7 +109,7 @@ ascii_line line h i =
 
 -- ---- a decimal is a length
 
-length_is : (n : ℕ) → n < 2 ^ 64 - 1 → length_of (decimal n) ≡ Some n
+pub length_is : (n : ℕ) → n < 2 ^ 64 - 1 → length_of (decimal n) ≡ Some n
 length_is n small =
     let fits : n < 2 ^ 64 = omega arith in
     let digits : list_all is_ascii_digit (decimal n) ≡ true = digits_decimal own_digits n fits in
@@ -124,7 +129,7 @@ length_is n small =
 
 -- ---- an entry of a page
 
-address_visible : (at : AddressText) → IsAddress at → All IsVisible at
+pub address_visible : (at : AddressText) → IsAddress at → All IsVisible at
 address_visible at is = All-weaker IsAddressByte IsVisible (λ b v. (v.0, v.1)) at is.plain
 
 named_is : (at : AddressText) → IsAddress at → named at ≡ at
@@ -136,7 +141,7 @@ page_visible =
     (All-cons IsVisible 103 (101 ∷ []) (omega arith, omega arith) (All-cons IsVisible 101 [] (omega arith, omega arith) (All-nil IsVisible))))
 
 -- bytes and a line feed behind a line
-has_bytes : (bytes after : List ℕ) → HasBytes (bytes ++ 10 ∷ after) (length bytes) bytes after
+pub has_bytes : (bytes after : List ℕ) → HasBytes (bytes ++ 10 ∷ after) (length bytes) bytes after
 has_bytes bytes after =
     let long = length-append bytes (10 ∷ after) in
     record {
@@ -146,10 +151,19 @@ has_bytes bytes after =
     }
 
 -- the text of an entry with bytes, in front of what follows
-entry_text : (word bytes after : List ℕ) (at : AddressText) → counted_entry word at bytes ++ after ≡ line_of_three word at (decimal (length bytes)) ++ 10 ∷ (bytes ++ 10 ∷ after)
+pub entry_text : (word bytes after : List ℕ) (at : AddressText) → counted_entry word at bytes ++ after ≡ line_of_three word at (decimal (length bytes)) ++ 10 ∷ (bytes ++ 10 ∷ after)
 entry_text word bytes after at =
     append_assoc (line_of_three word at (decimal (length bytes))) (10 ∷ (bytes ++ (10 ∷ []))) after
     ∙ ap (λ l. line_of_three word at (decimal (length bytes)) ++ 10 ∷ l) (append_assoc bytes (10 ∷ []) after)
+
+-- a line in front of what follows its line feed
+pub line_is : (line behind : List ℕ) → All IsPlain line → IsLine (line ++ 10 ∷ behind) line behind
+line_is line behind plain = record {
+  place = length line;
+  first = first_place (λ b. b == 10) line behind 10 (All-weaker IsPlain (λ b. (b == 10) ≡ false) no_feed line plain) refl;
+  line_is = sym (take-append_seam line (10 ∷ behind));
+  behind_is = sym (drop-append-add line (10 ∷ behind) 1);
+}
 
 -- the answer of a response
 abbrev pub answer_of : Bool → AddressText → ResponseParts → Answer
@@ -170,12 +184,7 @@ page_is_entry version robots at r after is given short small =
       line = line;
       behind = bytes ++ 10 ∷ after;
       says = page at n;
-      is_line = record {
-        place = length line;
-        first = first_place (λ b. b == 10) line (bytes ++ 10 ∷ after) 10 (All-weaker IsPlain (λ b. (b == 10) ≡ false) no_feed line plain) refl;
-        line_is = sym (take-append_seam line (10 ∷ (bytes ++ 10 ∷ after)));
-        behind_is = sym (drop-append-add line (10 ∷ (bytes ++ 10 ∷ after)) 1);
-      };
+      is_line = line_is line (bytes ++ 10 ∷ after) plain;
       form = (IsUtf8-from_ascii line (ascii_line line plain), (decimal n, three_fields (codes "page") at (decimal n) page_visible (address_visible at is) digits, length_is n small), refl);
       is_named = subst (λ r. IsOk r) (sym is.reads) refl;
       at_root = tt;
@@ -195,14 +204,14 @@ page_is_entry version robots at r after is given short small =
 
 -- ---- an entry of a fault
 
-all_visible : (bs : List ℕ) → list_all (λ b. nat_le 33 b && nat_le b 126) bs ≡ true → All IsVisible bs
+pub all_visible : (bs : List ℕ) → list_all (λ b. nat_le 33 b && nat_le b 126) bs ≡ true → All IsVisible bs
 all_visible [] h = All-nil IsVisible
 all_visible (b ∷ bs) h =
     let (here, more) = and_parts (nat_le 33 b && nat_le b 126) (list_all (λ b. nat_le 33 b && nat_le b 126) bs) h in
     let (low, high) = and_parts (nat_le 33 b) (nat_le b 126) here in
     All-cons IsVisible b bs (leb-true 33 b low, leb-true b 126 high) (all_visible bs more)
 
-word_visible : (kind : FaultKind) → All IsVisible (word_of kind)
+pub word_visible : (kind : FaultKind) → All IsVisible (word_of kind)
 word_visible Connect = all_visible (word_of Connect) refl
 word_visible Device = all_visible (word_of Device) refl
 word_visible Ended = all_visible (word_of Ended) refl
@@ -224,43 +233,128 @@ fault_is_entry version robots at kind after is =
       line = line;
       behind = after;
       says = fault kind at;
-      is_line = record {
-        place = length line;
-        first = first_place (λ b. b == 10) line after 10 (All-weaker IsPlain (λ b. (b == 10) ≡ false) no_feed line plain) refl;
-        line_is = sym (take-append_seam line (10 ∷ after));
-        behind_is = sym (drop-append-add line (10 ∷ after) 1);
-      };
+      is_line = line_is line after plain;
       form = (IsUtf8-from_ascii line (ascii_line line plain), three_fields (codes "fault") (word_of kind) at word (word_visible kind) (address_visible at is), refl);
       is_named = subst (λ r. IsOk r) (sym is.reads) refl;
       at_root = tt;
       states = (refl, ap (λ a. answered a (no_response kind)) (sym (named_is at is)));
     })
 
--- ---- a record of several
+-- ---- a hop of a chain
 
-writing_is_entry : (version : Version) (robots : Bool) (w : Writing) (after : List ℕ) → IsWritable w → IsEntry version robots (writing_text w ++ after) (writing_entry robots w) after
-writing_is_entry version robots (whole at r) after h = page_is_entry version robots at r after h.0 h.1 h.2 h.3
-writing_is_entry version robots (faulty at kind) after h = fault_is_entry version robots at kind after h
+-- the text of a response that can be given is shorter than what counts as the greatest length
+pub small_response : (r : ResponseParts) → CanBeGiven r → length (head_text r) ≤ max_heads_len → length (response_text r) < 2 ^ 64 - 1
+unfolding response_text
+small_response r given short =
+    let body = given.1.1.body_len in
+    let long = length-append (head_text r) r.body in
+    omega (arith, long, body, short)
 
-writings_front : (version : Version) (robots : Bool) (text : List ℕ) (above : List Entry) (ws : List Writing) (rest : List ℕ) → AreWritable robots above ws
-    → IsFront version robots text above (writings_text ws ++ rest) → IsFront version robots text (above ++ map (writing_entry robots) ws) rest
-writings_front version robots text above [] rest h front = subst (λ l. IsFront version robots text l rest) (sym (append-nil above)) front
-writings_front version robots text above (w ∷ ws) rest h front =
-    let begins = subst (λ t. IsFront version robots text above t) (append_assoc (writing_text w) (writings_text ws) rest) front in
-    let longer = next above (writing_text w ++ (writings_text ws ++ rest)) (writing_entry robots w) (writings_text ws ++ rest) begins
-    (writing_is_entry version robots w (writings_text ws ++ rest) h.0) h.1 in
-    subst (λ l. IsFront version robots text l rest) (append_assoc above (writing_entry robots w ∷ []) (map (writing_entry robots) ws))
-    (writings_front version robots text (above ++ writing_entry robots w ∷ []) ws rest h.2 longer)
+pub short_head : (told : Told) → is_short told ≡ true → length (told_head told) ≤ max_heads_len
+short_head told h = leb-true (length (told_head told)) max_heads_len h
 
--- what is written reads back as a record of just this
-pub written_record_reads_back : (robots : Bool) (ws : List Writing) → AreWritable robots [] ws → IsRecord robots (writings_record ws) (map (writing_entry robots) ws)
-written_record_reads_back robots ws h = record {
-  version = Second;
-  text = writings_text ws;
-  begins = refl;
-  all = writings_front Second robots (writings_text ws) [] ws [] h (subst (λ t. IsFront Second robots (writings_text ws) [] t) (sym (append-nil (writings_text ws))) none);
-}
+-- what is written of a hop is one, whatever stands behind it
+told_is_hop : (at : AddressText) (told : Told) (after : List ℕ) → IsToldOf at told → is_short told ≡ true → IsHop (hop_entry (at, told) ++ after) (at, told) after
+told_is_hop at (told.Whole r) after h few =
+    let short = short_head (told.Whole r) few in
+    let bytes = response_text r in
+    let n = length bytes in
+    let small = small_response r h.1 short in
+    let line = line_of_three (codes "hop") at (decimal n) in
+    let word = all_visible (codes "hop") refl in
+    let digits = digits_visible (decimal n) (decimal_is_IsNumeral n (omega (arith, small))).0.1 in
+    let plain = plain_line (codes "hop") at (decimal n) word (address_visible at h.0) digits in
+    subst (λ t. IsHop t (at, told.Whole r) after) (sym (entry_text (codes "hop") bytes after at)) (record {
+      line = line;
+      behind = bytes ++ 10 ∷ after;
+      says = hop at n;
+      is_line = line_is line (bytes ++ 10 ∷ after) plain;
+      form = (IsUtf8-from_ascii line (ascii_line line plain), (decimal n, three_fields (codes "hop") at (decimal n) word (address_visible at h.0) digits, length_is n small));
+      is_named = subst (λ r. IsOk r) (sym h.0.reads) refl;
+      at = sym (named_is at h.0);
+      tells = (bytes, has_bytes bytes after, ([], written_reads_back r h.1 short));
+    })
+told_is_hop at (told.Fault kind) after h few =
+    let line = line_of_three (codes "hopfault") (word_of kind) at in
+    let word = all_visible (codes "hopfault") refl in
+    let plain = plain_line (codes "hopfault") (word_of kind) at word (word_visible kind) (address_visible at h) in
+    subst (λ t. IsHop t (at, told.Fault kind) after) (sym (append_assoc line (10 ∷ []) after)) (record {
+      line = line;
+      behind = after;
+      says = hopfault kind at;
+      is_line = line_is line after plain;
+      form = (IsUtf8-from_ascii line (ascii_line line plain), three_fields (codes "hopfault") (word_of kind) at word (word_visible kind) (address_visible at h));
+      is_named = subst (λ r. IsOk r) (sym h.reads) refl;
+      at = sym (named_is at h);
+      tells = (refl, refl);
+    })
 
--- a front of it that ends behind some writings is a front of the record: what was written before a run ended is kept
-pub front_of_record : (version : Version) (robots : Bool) (ws : List Writing) (torn : List ℕ) → AreWritable robots [] ws → IsFront version robots (writings_text ws ++ torn) (map (writing_entry robots) ws) torn
-front_of_record version robots ws torn h = writings_front version robots (writings_text ws ++ torn) [] ws torn h none
+-- what is written of hops is these, behind others
+hops_follow : (text : List ℕ) (above hops : List HopValue) (after : List ℕ) → All (λ (h : HopValue). IsToldOf h.0 h.1) hops → list_all (λ (h : HopValue). is_short h.1) hops ≡ true
+    → AreHopsOf text above (flat_map hop_entry hops ++ after) → AreHopsOf text (above ++ hops) after
+hops_follow text above [] after told short are = subst (λ l. AreHopsOf text l after) (sym (append-nil above)) are
+hops_follow text above (h ∷ hops) after told short are =
+    let (here, more) = and_parts (is_short h.1) (list_all (λ (h : HopValue). is_short h.1) hops) short in
+    let rest = flat_map hop_entry hops ++ after in
+    let whole : flat_map hop_entry (h ∷ hops) ++ after ≡ hop_entry h ++ rest = append_assoc (hop_entry h) (flat_map hop_entry hops) after in
+    let begun = subst (λ t. AreHopsOf text above t) whole are in
+    let is = told_is_hop h.0 h.1 rest (All-head (λ (h : HopValue). IsToldOf h.0 h.1) h hops told) here in
+    subst (λ l. AreHopsOf text l after) (append_assoc above (h ∷ []) hops)
+    (hops_follow text (above ++ h ∷ []) hops after (All-tail (λ (h : HopValue). IsToldOf h.0 h.1) h hops told) more (more_hops above (hop_entry h ++ rest) h rest begun is))
+
+-- ---- an entry of a chain
+
+-- so many hops are a chain
+pub hop_count : (left : ℕ) (at : AddressText) (hops : List HopValue) → AreHops left at hops → (1 ≤ length hops) × (length hops ≤ left + 1)
+hop_count left at [] led = absurd led
+hop_count zero at (first ∷ []) led = (omega arith, omega arith)
+hop_count (suc left) at (first ∷ []) led = (omega arith, omega arith)
+hop_count zero at (first ∷ second ∷ more) led = absurd led
+hop_count (suc left) at (first ∷ second ∷ more) led = let (some, few) = hop_count left second.0 (second ∷ more) led.2 in (omega arith, omega (arith, few))
+
+-- an origin's root is its `/`, and of this origin
+root_path : (of : OriginText) → IsOrigin of → path_query_of (of ++ codes "/") ≡ codes "/"
+root_path of is =
+    let split = is.address.split in
+    let own : of ++ codes "/" ≡ of ++ path_query_of (of ++ codes "/") = split ∙ ap (λ o. o ++ path_query_of (of ++ codes "/")) is.origin in
+    sym (append_cancel_left of (codes "/") (path_query_of (of ++ codes "/")) own)
+
+-- what is written of a chain is an entry, whatever stands behind it
+chain_is_entry : (robots : Bool) (of : OriginText) (hops : List HopValue) (after : List ℕ) → IsOrigin of → IsAdmitted of hops → All (λ (h : HopValue). IsToldOf h.0 h.1) hops
+    → list_all (λ (h : HopValue). is_short h.1) hops ≡ true
+    → IsEntry Second robots ((chain_line of (length hops) ++ flat_map hop_entry hops) ++ after) (chained of hops) after
+chain_is_entry robots of hops after is admitted told short =
+    let n = length hops in
+    let root = of ++ codes "/" in
+    let count = hop_count max_redirects (robots_file of) hops admitted in
+    let few : n < 2 ^ 64 - 1 = let most = count.1 in omega (arith, most) in
+    let line = line_of_three (codes "chain") root (decimal n) in
+    let behind = flat_map hop_entry hops ++ after in
+    let word = all_visible (codes "chain") refl in
+    let digits = digits_visible (decimal n) (decimal_is_IsNumeral n (omega (arith, few))).0.1 in
+    let at = address_visible root is.address in
+    let plain = plain_line (codes "chain") root (decimal n) word at digits in
+    let same = named_is root is.address in
+    let whole : (chain_line of n ++ flat_map hop_entry hops) ++ after ≡ line ++ 10 ∷ behind =
+    append_assoc (chain_line of n) (flat_map hop_entry hops) after ∙ append_assoc line (10 ∷ []) behind in
+    let origin : origin_of (named root) ≡ of = ap origin_of same ∙ is.origin in
+    subst (λ t. IsEntry Second robots t (chained of hops) after) (sym whole) (record {
+      line = line;
+      behind = behind;
+      says = chain root n;
+      is_line = line_is line behind plain;
+      form = (IsUtf8-from_ascii line (ascii_line line plain), (decimal n, three_fields (codes "chain") root (decimal n) word at digits, length_is n few, count), refl);
+      is_named = subst (λ r. IsOk r) (sym is.address.reads) refl;
+      at_root = ap path_query_of same ∙ root_path of is;
+      states = (hops, hops_follow behind [] hops after told short no_hops, refl, subst (λ o. IsAdmitted o hops) (sym origin) admitted, ap (λ o. chained o hops) (sym origin));
+    })
+
+-- ---- an entry of any note
+
+-- what is written of a note is its entry, whatever stands behind it
+pub note_is_entry : (robots : Bool) (note : Noted) (after : List ℕ) → IsNote note → has_short_heads note ≡ true → IsEntry Second robots (note_text note ++ after) (note_entry robots note) after
+note_is_entry robots (noted.Page at (told.Whole r)) after h short =
+    let few = short_head (told.Whole r) short in
+    page_is_entry Second robots at r after h.0 h.1 few (small_response r h.1 few)
+note_is_entry robots (noted.Page at (told.Fault kind)) after h short = fault_is_entry Second robots at kind after h
+note_is_entry robots (noted.Chain c) after h short = chain_is_entry robots c.of c.hops after h.0 h.1 h.2 short

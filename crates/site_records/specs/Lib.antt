@@ -6,3 +6,7 @@ pub mod Readings
 pub mod RecordSites
 pub mod Resumption
 pub mod WrittenEntries
+pub mod WrittenRecords
+pub mod RecordDrafts
+pub mod Fronts
+pub mod RecordNotes

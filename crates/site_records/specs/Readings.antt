@@ -15,6 +15,7 @@ use Rattle.site_records.specs.declared.reading.Reading.{Reading}
 use Rattle.site_records.specs.EntryLines.{Statement, text_of, HopStatement, hop_text, chain, IsHopCount}
 use Rattle.site_records.specs.Entries.{Entry, lines_of, States, IsAtRoot, IsRepeated, IsEntry, IsNew, IsMisplaced, IsBadLine, IsBadAddress, IsFormed, HasHopBytes, Tells, IsBadHopLine, IsBadHopAddress, IsBadRow, IsBadBehind, LeadsOn}
 use Rattle.site_records.specs.Records.{answers_of, rules_of}
+use Rattle.site_records.specs.RecordNotes.{AddsNote}
 
 -- the entry is kept behind the others
 pub record Keeps (old : Reading) (e : Entry) (new : Reading) : Type 0 where
@@ -22,6 +23,8 @@ pub record Keeps (old : Reading) (e : Entry) (new : Reading) : Type 0 where
   pub rules : new.rules.entries ≡ old.rules.entries ++ rules_of (e ∷ [])
   pub robots : new.robots ≡ old.robots
   pub version : new.version ≡ old.version
+  pub keeps_notes : new.keeps_notes ≡ old.keeps_notes
+  pub noted : AddsNote old.keeps_notes old.robots old.notes.items e new.notes.items
   pub is_new : IsNew old.answers.entries old.rules.entries e
 
 -- the line, and what is behind it, are taken as this entry

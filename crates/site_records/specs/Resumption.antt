@@ -1,5 +1,5 @@
 -- A site that is answered from a record as far as this says, and by a fetcher for the rest.
-use Rattle.std.specs.Prelude.{◌≡◌, ◌≤◌, ◌++◌, ℕ, List, All, Some, None, MatchOption, length, drop, take}
+use Rattle.std.specs.Prelude.{◌≡◌, ◌≤◌, ℕ, List, All, Some, None, MatchOption, length, drop, take}
 use Rattle.std.specs.Map.{lookup}
 use Rattle.std.specs.Str.{bytes_eq}
 use Rattle.address.specs.Address.{AddressText, OriginText}
@@ -37,6 +37,11 @@ pub record Resuming (F : Type 0) : Type 0 where
   pub inner : F
   pub asks : List Ask
   pub since : ℕ
+
+-- the site of such a fetcher
+abbrev pub resumption_of : {F S : Type 0} → (F → S) → (F → List Ask) → Resuming F → Resumption S
+resumption_of site log r =
+    record { answers = r.recorded.answers; rules = r.recorded.rules; inner = site r.inner; before = take r.since (log r.inner) }
 
 -- what the fetcher was asked since is not what the record states
 pub record IsSpared (answers : List (AddressText × Answer)) (rules : List (OriginText × RuleSetValue)) (since : ℕ) (log : List Ask) : Type 0 where

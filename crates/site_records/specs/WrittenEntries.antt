@@ -1,60 +1,85 @@
--- How an entry of a record is written.
-use Rattle.std.specs.Prelude.{ℕ, ◌-◌, ◌^◌, ◌<◌, ◌≤◌, Bool, List, [], ◌∷◌, ◌++◌, length, decimal, codes}
-use Rattle.address.specs.Address.{AddressText, IsAddress}
+-- How what was noted is written as an entry of a record of version 2, and which entry that is.
+use Rattle.std.specs.Prelude.{ℕ, nat_le, Bool, List, [], ◌∷◌, ◌++◌, All, length, flat_map, decimal, codes, if◌then◌else◌}
+use Rattle.std.specs.List.{list_all}
+use Rattle.address.specs.Address.{AddressText, OriginText, IsAddress, IsOrigin}
 use Rattle.fetcher.specs.declared.fault_kind.FaultKind.{FaultKind}
 use Rattle.fetcher.specs.FaultWords.{word_of}
 use Rattle.response_reader.specs.Heads.{max_heads_len}
-use Rattle.response_reader.specs.Response.{ResponseParts, CanBeGiven}
+use Rattle.response_reader.specs.Response.{CanBeGiven}
 use Rattle.response_reader.specs.Written.{head_text, response_text}
-use Rattle.site_answer.specs.Digests.{digest_of, kept_body}
-use Rattle.site_records.specs.declared.version.Version.TheVariants.{Second}
-use Rattle.site_records.specs.Entries.{Entry, answered, no_response, IsNew}
-use Rattle.site_records.specs.Records.{answers_of, rules_of, version_line}
+use Rattle.site_answer.specs.Tellings.{outcome_told, body_told}
+use Rattle.site_answer.specs.HopChains.{HopValue, IsAdmitted}
+use Rattle.site_answer.specs.declared.told.Told.{Told}
+use Rattle.site_answer.specs.declared.told.Told.TheVariants.{Whole, Fault}
+use Rattle.site_answer.specs.declared.noted.Noted.{Noted}
+use Rattle.site_answer.specs.declared.noted.Noted.TheVariants.{Page, Chain}
+use Rattle.site_records.specs.Entries.{Entry, answered, chained}
 
 -- a line of three fields
 abbrev pub line_of_three : List ℕ → List ℕ → List ℕ → List ℕ
 line_of_three a b c = a ++ (32 ∷ (b ++ (32 ∷ c)))
 
--- an entry with bytes behind its line
+-- a line with bytes behind it
 abbrev pub counted_entry : List ℕ → AddressText → List ℕ → List ℕ
 counted_entry word at bytes = line_of_three word at (decimal (length bytes)) ++ (10 ∷ (bytes ++ (10 ∷ [])))
 
--- an entry of a line alone
+-- a line alone
 abbrev pub worded_entry : List ℕ → FaultKind → AddressText → List ℕ
 worded_entry word kind at = line_of_three word (word_of kind) at ++ (10 ∷ [])
 
--- ---- what is told of addresses, in a row
+-- the line of a chain: the root of its origin, and how many hops follow
+abbrev pub chain_line : OriginText → ℕ → List ℕ
+chain_line of n = line_of_three (codes "chain") (of ++ codes "/") (decimal n) ++ (10 ∷ [])
 
--- an address with its response, or with why it has none
-pub data Writing : Type 0 where
-  whole : AddressText → ResponseParts → Writing
-  faulty : AddressText → FaultKind → Writing
+-- ---- what was told of an address
 
--- its text
-abbrev pub writing_text : Writing → List ℕ
-writing_text (whole at r) = counted_entry (codes "page") at (response_text r)
-writing_text (faulty at kind) = worded_entry (codes "fault") kind at
+-- the head that is written of it: that of a response
+abbrev pub told_head : Told → List ℕ
+told_head (Whole r) = head_text r
+told_head (Fault kind) = []
 
--- the entry that it is
-abbrev pub writing_entry : Bool → Writing → Entry
-writing_entry robots (whole at r) = answered at (record { outcome = digest_of robots at r; body = kept_body r.head.status r.body })
-writing_entry robots (faulty at kind) = answered at (no_response kind)
+-- it can be read again: its head is as short as heads may be
+abbrev pub is_short : Told → Bool
+is_short told = nat_le (length (told_head told)) max_heads_len
 
--- it can be read again
-abbrev pub IsWritable : Writing → Type 0
-IsWritable (whole at r) = IsAddress at × CanBeGiven r × (length (head_text r) ≤ max_heads_len) × (length (response_text r) < 2 ^ 64 - 1)
-IsWritable (faulty at kind) = IsAddress at
+-- its text, under the word of a response or that of a fault
+abbrev pub told_text : List ℕ → List ℕ → AddressText → Told → List ℕ
+told_text word fault_word at (Whole r) = counted_entry word at (response_text r)
+told_text word fault_word at (Fault kind) = worded_entry fault_word kind at
 
--- each can be read again, and is about an address that neither those above nor those before it name
-abbrev pub AreWritable : Bool → List Entry → List Writing → Type 0
-AreWritable robots above [] = Unit {0}
-AreWritable robots above (w ∷ ws) =
-    IsWritable w × IsNew (answers_of above) (rules_of above) (writing_entry robots w) × AreWritable robots (above ++ writing_entry robots w ∷ []) ws
+-- the text of a hop
+abbrev pub hop_entry : HopValue → List ℕ
+hop_entry h = told_text (codes "hop") (codes "hopfault") h.0 h.1
 
--- the record of them
-abbrev pub writings_text : List Writing → List ℕ
-writings_text [] = []
-writings_text (w ∷ ws) = writing_text w ++ writings_text ws
+-- ---- what was noted
 
-abbrev pub writings_record : List Writing → List ℕ
-writings_record ws = version_line Second ++ writings_text ws
+-- the text of a note
+abbrev pub note_text : Noted → List ℕ
+note_text (Page at told) = told_text (codes "page") (codes "fault") at told
+note_text (Chain c) = chain_line c.of (length c.hops) ++ flat_map hop_entry c.hops
+
+-- each head of it is short enough to be read again
+abbrev pub has_short_heads : Noted → Bool
+has_short_heads (Page at told) = is_short told
+has_short_heads (Chain c) = list_all (λ (h : HopValue). is_short h.1) c.hops
+
+-- the text of a note that is left out where a head of it is too long
+abbrev pub written_note : Noted → List ℕ
+written_note note = if has_short_heads note then note_text note else []
+
+-- the entry that a note is
+abbrev pub note_entry : Bool → Noted → Entry
+note_entry robots (Page at told) = answered at (record { outcome = outcome_told robots at told; body = body_told told })
+note_entry robots (Chain c) = chained c.of c.hops
+
+-- ---- what notes are made of
+
+-- an address, and a response that some bytes give or a fault
+abbrev pub IsToldOf : AddressText → Told → Type 0
+IsToldOf at (Whole r) = IsAddress at × CanBeGiven r
+IsToldOf at (Fault kind) = IsAddress at
+
+-- a note of an address, or of an origin with a chain that leads from its robots file
+abbrev pub IsNote : Noted → Type 0
+IsNote (Page at told) = IsToldOf at told
+IsNote (Chain c) = IsOrigin c.of × IsAdmitted c.of c.hops × All (λ (h : HopValue). IsToldOf h.0 h.1) c.hops

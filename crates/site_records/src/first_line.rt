@@ -14,7 +14,7 @@ fn first_line_feed(text: &[u8]) -> Option<usize>
 }
 
 // The first line without its line feed, and what stands behind that.
-fn first_line(text: &[u8]) -> Option<(&[u8], &[u8])>
+pub(crate) fn first_line(text: &[u8]) -> Option<(&[u8], &[u8])>
     ensures { MatchOption result ((line : List ℕ) (behind : List ℕ) → ¬ IsLine text.now line behind) (λ parts. IsLine text.now parts.0.now parts.1.now) }
 {
     let end = first_line_feed(text)?;

@@ -1,19 +1,31 @@
-//! Records of responses: reads one as a site, which answers what was recorded. This crate knows the
-//! format of records and nothing of connections; what a response answers is `site_answer`'s. The
-//! meaning is written in `specs/`.
+//! Records of responses: reads one as a site, which answers what was recorded, and writes one of what
+//! was noted. This crate knows the format of records and nothing of connections; what a response
+//! answers is `site_answer`'s. The meaning is written in `specs/`.
 #![tactic(auto)]
 
 mod entry_fault;
 mod entry_line;
 mod first_line;
+mod first_version;
+mod front;
 mod hop_line;
 mod hop_row;
+mod note_entry;
 mod reading;
+mod record_fault;
 mod recorded_site;
+mod recording;
 mod replayed;
 mod resumed;
 mod taken;
+mod torn;
 mod version;
+mod written_record;
 
+pub use front::{RecordFront, read_front};
+pub use note_entry::push_note;
+pub use record_fault::RecordFault;
 pub use recorded_site::RecordedSite;
+pub use recording::Recording;
 pub use resumed::Resumed;
+pub use written_record::write_record;

@@ -1,5 +1,5 @@
 //! A record in mid-read: the answers and the rule sets that the entries so far state.
-ghost use Rattle.std.specs.Prelude.{◌≡◌, ◌≤◌, ◌+◌, [], IfOk, MatchResult, length};
+ghost use Rattle.std.specs.Prelude.{◌≡◌, ◌≤◌, ◌+◌, ◌++◌, ◌∷◌, [], IfOk, MatchResult, OnOk, if◌then◌else◌, length};
 ghost use Rattle.site_maps.specs.Readings.{IsVacant};
 ghost use Rattle.site_records.specs.EntryLines.{page, fault, file, free, closed, chain, IsHopCount};
 ghost use Rattle.site_records.specs.Said.{said};
@@ -8,16 +8,18 @@ ghost use Rattle.site_records.specs.Readings.{Takes, TakesEntry, IsCounted, Read
 use crate::entry_fault::{EntryFault, alone};
 use crate::entry_line::EntryLine;
 use crate::first_line::{counted, first_text_line};
-use crate::hop_row::read_chain;
-use crate::replayed::{answer_of, no_response};
+use crate::first_version::{closed_chain, file_chain, free_chain};
+use crate::hop_row::{read_chain, told_of};
+use crate::replayed::no_response;
 use crate::taken::Taken;
 use crate::version::Version;
 use address::{Address, Origin};
 use fetcher::{Answer, FaultKind};
 use indexmap::IndexMap;
 use robots_rules::{RuleSet, parse};
+use site_answer::{Noted, Told};
 use site_maps::{InputLineFault, KeptRules, read_address, read_origin};
-use std::alloc::Global;
+use std::alloc::{AllocError, Global};
 
 /// What the entries read so far state.
 #[derive(Drop)]
@@ -25,15 +27,19 @@ pub(crate) struct Reading {
     pub(crate) alloc: Global,
     pub(crate) robots: bool,
     pub(crate) version: Version,
+    pub(crate) keeps_notes: bool,
+    pub(crate) notes: Vec<Noted>,
     pub(crate) answers: IndexMap<Address, Answer>,
     pub(crate) rules: IndexMap<Origin, KeptRules>,
 }
 
 impl Reading {
     // Before the first entry.
-    pub(crate) fn new(alloc: Global, robots: bool, version: Version) -> Self
+    pub(crate) fn new(alloc: Global, robots: bool, version: Version, keeps_notes: bool) -> Self
         ensures robots { result.robots ≡ robots }
         ensures version { result.version ≡ version }
+        ensures keeps_notes { result.keeps_notes ≡ keeps_notes }
+        ensures notes { result.notes.items ≡ [] }
         ensures answers { result.answers.entries ≡ [] }
         ensures rules { result.rules.entries ≡ [] }
     {
@@ -41,6 +47,8 @@ impl Reading {
             alloc,
             robots,
             version,
+            keeps_notes,
+            notes: Vec::new(alloc),
             answers: IndexMap::new(alloc),
             rules: IndexMap::new(alloc),
         }
@@ -66,6 +74,17 @@ impl Reading {
         Ok(())
     }
 
+    // Keeps a note behind the others, where notes are kept. The error is want of memory.
+    fn note(&mut self, note: Noted) -> Result<(), AllocError>
+        ensures kept { self.new ≡ record self.old { notes = self.new.notes } }
+        ensures notes { OnOk result (self.new.notes.items ≡ (if self.old.keeps_notes then self.old.notes.items ++ note ∷ [] else self.old.notes.items)) }
+    {
+        if self.keeps_notes {
+            self.notes.push(note)?;
+        }
+        Ok(())
+    }
+
     // Takes a line with an address's response, which has so many bytes.
     fn add_page<'a>(
         &mut self,
@@ -80,8 +99,11 @@ impl Reading {
         let Some((bytes, after)) = counted(behind, count) else {
             return Err(InputLineFault::Line);
         };
-        let answer = answer_of(self.alloc, &at, bytes, self.robots)?;
+        let told = told_of(self.alloc, bytes)?;
+        let answer = told.answer(self.alloc, &at, self.robots)?;
+        let noted = Noted::Page(at.try_clone()?, told);
         self.answers.insert(at, answer)?;
+        self.note(noted)?;
         Ok(after)
     }
 
@@ -96,7 +118,9 @@ impl Reading {
     {
         let at = read_address(self.alloc, text)?;
         self.unstated(&at)?;
+        let noted = Noted::Page(at.try_clone()?, Told::Fault(kind));
         self.answers.insert(at, no_response(self.alloc, kind))?;
+        self.note(noted)?;
         Ok(behind)
     }
 
@@ -115,8 +139,10 @@ impl Reading {
             return Err(InputLineFault::Line);
         };
         let rules = parse(self.alloc, bytes)?;
+        let hops = file_chain(self.alloc, &origin, bytes)?;
         self.rules
             .insert(origin, KeptRules::new(self.alloc, rules))?;
+        self.note(Noted::Chain(hops))?;
         Ok(after)
     }
 
@@ -126,8 +152,10 @@ impl Reading {
     {
         let origin = read_origin(self.alloc, text)?;
         self.unruled(&origin)?;
+        let hops = free_chain(self.alloc, &origin)?;
         self.rules
             .insert(origin, KeptRules::new(self.alloc, RuleSet::all()))?;
+        self.note(Noted::Chain(hops))?;
         Ok(behind)
     }
 
@@ -137,8 +165,10 @@ impl Reading {
     {
         let origin = read_origin(self.alloc, text)?;
         self.unruled(&origin)?;
+        let hops = closed_chain(self.alloc, &origin)?;
         self.rules
             .insert(origin, KeptRules::new(self.alloc, RuleSet::none()))?;
+        self.note(Noted::Chain(hops))?;
         Ok(behind)
     }
 
@@ -158,6 +188,7 @@ impl Reading {
         let rules = hops.rules(self.alloc)?;
         self.rules
             .insert(origin, KeptRules::new(self.alloc, rules))?;
+        self.note(Noted::Chain(hops))?;
         let lines = count + 1;
         Ok(Taken { lines, after })
     }

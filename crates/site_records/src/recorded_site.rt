@@ -6,6 +6,7 @@ use address::{Address, Origin};
 use fetcher::{Answer, Ask, Body, Fetcher, Outcome};
 use indexmap::IndexMap;
 use robots_rules::RuleSet;
+use site_answer::Noted;
 use site_maps::{InputFault, KeptRules};
 use std::alloc::{AllocError, Global};
 use std::marker::Model;
@@ -19,11 +20,12 @@ const NOT_FOUND: u16 = 404;
 pub(crate) struct Stated {
     pub(crate) answers: IndexMap<Address, Answer>,
     pub(crate) rules: IndexMap<Origin, KeptRules>,
+    pub(crate) notes: Vec<Noted>,
 }
 
 /// A site in memory, read from a record. It gives each address one answer, and each origin one rule
 /// set. Copies share what the record states. Contracts see the answers and the rule sets that the
-/// record states, and what was asked.
+/// record states, the notes that are kept of it, and what was asked.
 #[derive(Drop)]
 pub struct RecordedSite {
     alloc: Global,
@@ -37,29 +39,54 @@ impl Model for RecordedSite {
 
     ghost Value = { RecordValue };
 
-    ghost view = { λ m. record { answers = (arc_value m.stated).answers.entries; rules = (arc_value m.stated).rules.entries; asks = m.asks.items } };
+    ghost view = { λ m. record { answers = (arc_value m.stated).answers.entries; rules = (arc_value m.stated).rules.entries; notes = (arc_value m.stated).notes.items; asks = m.asks.items } };
 }
 
 impl RecordedSite {
-    ghost use Rattle.std.specs.Prelude.{◌≡◌, [], List, IfOk, IfErr};
+    ghost use Rattle.std.specs.Prelude.{◌≡◌, ◌+◌, [], List, IfOk, IfErr, length};
     ghost use Rattle.std.specs.Map.{lookup};
     ghost use Rattle.std.specs.Str.{bytes_eq};
     ghost use Rattle.site_maps.specs.Maps.{rules_at};
     ghost use Rattle.site_records.specs.Entries.{Entry};
     ghost use Rattle.site_records.specs.Records.{IsRecord, answers_of, rules_of, answer_in, IsFault};
+    ghost use Rattle.site_records.specs.RecordNotes.{SayJust, HasNotes};
 
     /// Reads a record. Each `page` entry states the answer of an address by its response, each
-    /// `fault` entry that there was none, and each `robots` and `rules` entry the rules of an origin.
-    /// Where `robots` says so, a page that asks that its links aren't followed has no edges. The error
-    /// names the first bad line, or says that memory ran out.
+    /// `fault` entry that there was none, and each `robots`, `rules` and `chain` entry the rules of an
+    /// origin. Where `robots` says so, a page that asks that its links aren't followed has no edges. The
+    /// error names the first bad line, or says that memory ran out.
     pub fn read(alloc: Global, bytes: &[u8], robots: bool) -> Result<RecordedSite, InputFault>
-        ensures record { IfOk result (λ m. (said : List Entry) × IsRecord robots bytes.now said × (m ≡ record { answers = answers_of said; rules = rules_of said; asks = [] })) }
+        ensures record { IfOk result (λ m. (said : List Entry) × IsRecord robots bytes.now said × (m ≡ record { answers = answers_of said; rules = rules_of said; notes = []; asks = [] })) }
+        ensures fault { IfErr result (λ f. IsFault robots bytes.now f) }
+    {
+        RecordedSite::read_as(alloc, bytes, robots, false)
+    }
+
+    /// The same, with a note of each entry in their order, so that the record can be written again with
+    /// what is noted later. Bodies of pages are held twice, by the answers and by the notes.
+    pub fn read_noted(alloc: Global, bytes: &[u8], robots: bool) -> Result<RecordedSite, InputFault>
+        ensures record { IfOk result (λ m. (said : List Entry) × IsRecord robots bytes.now said
+            × (m ≡ record { answers = answers_of said; rules = rules_of said; notes = m.notes; asks = [] }) × SayJust robots m.notes said) }
+        ensures fault { IfErr result (λ f. IsFault robots bytes.now f) }
+    {
+        RecordedSite::read_as(alloc, bytes, robots, true)
+    }
+
+    // Reads a record, with or without notes.
+    fn read_as(
+        alloc: Global,
+        bytes: &[u8],
+        robots: bool,
+        keeps_notes: bool,
+    ) -> Result<RecordedSite, InputFault>
+        ensures record { IfOk result (λ m. (said : List Entry) × IsRecord robots bytes.now said
+            × (m ≡ record { answers = answers_of said; rules = rules_of said; notes = m.notes; asks = [] }) × HasNotes keeps_notes robots m.notes said) }
         ensures fault { IfErr result (λ f. IsFault robots bytes.now f) }
     {
         let Some((version, mut rest)) = version_of(bytes) else {
             return Err(InputFault::Line(1));
         };
-        let mut reading = Reading::new(alloc, robots, version);
+        let mut reading = Reading::new(alloc, robots, version, keeps_notes);
         let mut number = 1;
         'entries: while !rest.is_empty() {
             match reading.read_entry(rest) {
@@ -77,19 +104,28 @@ impl RecordedSite {
     }
 
     // The site of the answers and the rule sets that were read.
-    fn of(reading: Reading) -> Result<RecordedSite, AllocError>
-        ensures { IfOk result (λ m. m ≡ record { answers = reading.answers.entries; rules = reading.rules.entries; asks = [] }) }
+    pub(crate) fn of(reading: Reading) -> Result<RecordedSite, AllocError>
+        ensures { IfOk result (λ m. m ≡ record { answers = reading.answers.entries; rules = reading.rules.entries; notes = reading.notes.items; asks = [] }) }
     {
         let Reading {
             alloc,
             answers,
             rules,
+            notes,
             robots: _,
             version: _,
+            keeps_notes: _,
         } = reading;
         Ok(RecordedSite {
             alloc,
-            stated: Arc::new(alloc, Stated { answers, rules })?,
+            stated: Arc::new(
+                alloc,
+                Stated {
+                    answers,
+                    rules,
+                    notes,
+                },
+            )?,
             asks: Vec::new(alloc),
         })
     }
@@ -104,6 +140,22 @@ impl RecordedSite {
             stated: self.stated.clone()?,
             asks: self.asks.clone()?,
         })
+    }
+
+    /// How many entries the record has: each states an answer or rules.
+    pub fn entry_count(&self) -> usize
+        ensures { result ≡ length self.now.answers + length self.now.rules }
+    {
+        self.stated.answers.len() + self.stated.rules.len()
+    }
+
+    /// What the entries of the record tell, in their order, where it was read so; else none. What version
+    /// 1 says of an origin's rules is a chain of one hop: a robots file is status 200 with its first
+    /// 512,001 bytes, `rules all` status 404, `rules none` the fault Device.
+    pub fn notes(&self) -> &[Noted]
+        ensures { result.now ≡ self.now.notes }
+    {
+        self.stated.notes.as_slice()
     }
 
     /// What the record states of an address, with a copy of its body; none where it states nothing. The error is want of memory.

@@ -5,9 +5,11 @@ ghost use Rattle.fetcher.specs.declared.fetcher.Ask.{Ask};
 ghost use Rattle.site_records.specs.Resumption.{AreOf, IsUnstated, IsSpared, RulesOr, SaysOr};
 
 use crate::recorded_site::RecordedSite;
+use crate::recording::Recording;
 use address::{Address, Origin};
 use fetcher::{Answer, Ask, Fetcher};
 use robots_rules::RuleSet;
+use site_answer::Noted;
 use std::alloc::{AllocError, Global};
 use std::marker::Model;
 
@@ -71,12 +73,11 @@ impl<F: Fetcher> Resumed<F> {
 }
 
 impl<F: Fetcher> Fetcher for Resumed<F> {
-    ghost use Rattle.std.specs.Prelude.{take};
-    ghost use Rattle.site_records.specs.Resumption.{Resumption, SaysOr, RulesOr};
+    ghost use Rattle.site_records.specs.Resumption.{Resumption, resumption_of, SaysOr, RulesOr};
 
     ghost Site = { Resumption F.Site };
 
-    ghost site = { λ r. record { answers = r.recorded.answers; rules = r.recorded.rules; inner = F.site r.inner; before = take r.since (F.log r.inner) } };
+    ghost site = { resumption_of F.site F.log };
 
     ghost says = { SaysOr F.says };
 
@@ -87,7 +88,10 @@ impl<F: Fetcher> Fetcher for Resumed<F> {
     fn ask(&mut self, at: &Address) -> Result<Answer, AllocError> {
         self.asks.push(Ask::Page(at.try_clone()?))?;
         match self.recorded.stated_answer(at)? {
-            Some(answer) => Ok(answer),
+            Some(answer) => {
+                self.inner.tell_recorded();
+                Ok(answer)
+            }
             None => self.inner.ask(at),
         }
     }
@@ -95,7 +99,10 @@ impl<F: Fetcher> Fetcher for Resumed<F> {
     fn ask_robots(&mut self, of: &Origin) -> Result<RuleSet, AllocError> {
         self.asks.push(Ask::Rules(of.try_clone()?))?;
         match self.recorded.stated_rules(of)? {
-            Some(rules) => Ok(rules),
+            Some(rules) => {
+                self.inner.tell_recorded();
+                Ok(rules)
+            }
             None => self.inner.ask_robots(of),
         }
     }
@@ -106,5 +113,18 @@ impl<F: Fetcher> Fetcher for Resumed<F> {
 
     fn tell_waiting(&mut self, waiting: usize) {
         self.inner.tell_waiting(waiting);
+    }
+
+    fn tell_recorded(&mut self) {
+        self.inner.tell_recorded();
+    }
+}
+
+// The fetcher's notes: what the record states isn't noted again.
+impl<F: Recording> Recording for Resumed<F> {
+    ghost noted = { λ r. F.noted r.inner };
+
+    fn notes(&self) -> &[Noted] {
+        self.inner.notes()
     }
 }

@@ -15,7 +15,7 @@ pub(crate) enum Version {
 const VERSION_LINE: &[u8] = b"wgetr-record 1\n";
 
 /// The first line of a record of version 2.
-const SECOND_VERSION_LINE: &[u8] = b"wgetr-record 2\n";
+pub(crate) const SECOND_VERSION_LINE: &[u8] = b"wgetr-record 2\n";
 
 // The version of a record, and what stands behind its first line; none where that names no version.
 pub(crate) fn version_of(bytes: &[u8]) -> Option<(Version, &[u8])>

@@ -1,12 +1,14 @@
 -- A page's answer goes behind the others.
-use Rattle.std.proofs.Common.{◌∙◌, ◌++◌, ◌∷◌, [], refl, arith, rules}
+use Rattle.std.proofs.Common.{◌∙◌, ap, arith, rules}
 use Rattle.std.specs.Str.{bytes_eq}
 use Rattle.std.proofs.lemmas.Result.{err_from_is_err_and}
 use Rattle.indexmap.proofs.CallerLemmas.{insert_entry-new}
 use Rattle.site_maps.proofs.ReadingLaws.{names}
 use Rattle.site_records.specs.EntryLines.{page}
-use Rattle.site_records.specs.Entries.{HasBytes}
+use Rattle.site_records.specs.declared.reading.Reading.{Reading}
+use Rattle.site_records.specs.Entries.{HasBytes, answered}
 use Rattle.site_records.proofs.EntryLaws.{unread, answered_before, without_bytes, takes_answer, page_states}
+use Rattle.site_records.proofs.NoteLaws.{read_as_told, note_added, page_says}
 use Rattle.site_records.proofs.reading.Reading.add_page.Goals as goal
 
 pub returns-in_err-at : goal.returns-in_err-at
@@ -29,8 +31,13 @@ returns c =
     let a = c.in-Some.bytes-is in
     let b = c.in-Some.after-is in
     let has : HasBytes c.args.behind.now c.args.count c.in-Some.bytes.now c.in-Some.after.now = first_of (assumption h, search (rules, h), grind (arith, h, a, b)) in
+    let kept = c.in_ok-note.ensures.kept in
     let none = c.in_ok-unstated.ensures in
     let put = insert_entry-new bytes_eq c.args.self.now.answers c.in_ok-at.at c.in_ok-answer.answer none in
     takes_answer c.args.self.now _ (page c.args.text.now c.args.count) c.args.behind.now c.in-Some.after.now c.in_ok-at.at c.in_ok-answer.answer c.in_ok-at.ensures tt
-    (page_states c.args.self.now.robots c.args.text.now c.args.count c.args.behind.now c.in-Some.bytes.now c.in-Some.after.now c.in_ok-at.at c.in_ok-answer.answer has c.in_ok-answer.ensures)
-    none (c.in_ok-insert.ensures.entries ∙ put) refl refl refl
+    (page_states c.args.self.now.robots c.args.text.now c.args.count c.args.behind.now c.in-Some.bytes.now c.in-Some.after.now c.in_ok-at.at c.in_ok-answer.answer has
+    (read_as_told c.args.self.now.robots c.in_ok-at.at c.in-Some.bytes.now c.in_ok-told.told c.in_ok-answer.answer c.in_ok-told.ensures c.in_ok-answer.ensures.outcome c.in_ok-answer.ensures.body))
+    none (ap (λ (r : Reading). r.answers.entries) kept ∙ c.in_ok-insert.ensures.entries ∙ put) (ap (λ (r : Reading). r.rules.entries) kept) (ap (λ (r : Reading). r.robots) kept) (ap (λ (r : Reading). r.version) kept)
+    (ap (λ (r : Reading). r.keeps_notes) kept)
+    (note_added c.args.self.now.keeps_notes c.args.self.now.robots c.args.self.now.notes.items _ _ (answered c.in_ok-at.at c.in_ok-answer.answer) c.in_ok-note.ensures.notes
+    (page_says c.args.self.now.robots c.in_ok-at.at c.in_ok-try_clone.field-0 c.in_ok-told.told c.in_ok-answer.answer c.in_ok-try_clone.ensures c.in_ok-answer.ensures.outcome c.in_ok-answer.ensures.body))

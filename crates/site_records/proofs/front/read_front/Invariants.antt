@@ -1,10 +1,13 @@
 -- The entries so far are kept, and each makes the rest shorter.
-use Rattle.std.proofs.Common.{length}
+use Rattle.std.proofs.Common.{◌≡◌, false, length}
 use Rattle.site_records.proofs.ReadLaws.{IsReadTo}
-use Rattle.site_records.proofs.recorded_site.RecordedSite.read.Given as goal
+use Rattle.site_records.proofs.front.read_front.Given as goal
 
 abbrev pub invariant-entries : goal.invariant-entries
-invariant-entries l = IsReadTo l.robots l.bytes l.reading l.number l.rest
+invariant-entries l = record {
+  read : IsReadTo l.robots l.bytes l.reading l.number l.rest;
+  keeps : l.reading.keeps_notes ≡ false;
+}
 
 abbrev pub decreases-entries : goal.decreases-entries
 decreases-entries l = length l.rest

@@ -1,0 +1,69 @@
+//! The chains that stand in notes for what version 1 says of an origin's robots file: one hop each, with the same rules.
+ghost use Rattle.std.specs.Prelude.{◌≡◌, ◌≤◌, ◌||◌, ◌==◌, ◌++◌, [], false, length, None, IfOk, take};
+ghost use Rattle.robots_rules.specs.Groups.{rules_in};
+ghost use Rattle.response_reader.specs.Bodies.{max_body_len};
+ghost use Rattle.response_reader.specs.Response.{CanBeGiven};
+ghost use Rattle.site_answer.specs.Chains.{none_allowed, all_allowed};
+ghost use Rattle.site_answer.specs.HopChains.{rules_of_hops, robots_file};
+ghost use Rattle.site_answer.specs.Tellings.{target_told, rules_told};
+
+use address::Origin;
+use fetcher::FaultKind;
+use response_reader::Response;
+use site_answer::{Given, Hops, Told};
+use std::alloc::{AllocError, Global};
+
+/// How many bytes of a robots file are kept: those that are used, and one more, so that it is known that the file is longer
+/// (RFC 9309, section 2.5).
+const KEPT_FILE: usize = 512_001;
+
+// The chain of one answer for an origin's robots file, which redirects nowhere. The error is want of memory.
+fn chain_of(alloc: Global, of: &Origin, told: Told) -> Result<Hops, AllocError>
+    requires { target_told (robots_file of.now) told ≡ None }
+    ensures of { IfOk result (λ hops. hops.of ≡ of.now) }
+    ensures rules { IfOk result (λ hops. rules_of_hops hops.hops ≡ rules_told told) }
+{
+    let mut hops = Vec::new(alloc);
+    hops.push((of.robots_file()?, told))?;
+    Ok(Hops::new(of.try_clone()?, hops))
+}
+
+/// The chain whose answer is a robots file. The error is want of memory.
+pub(crate) fn file_chain(alloc: Global, of: &Origin, file: &[u8]) -> Result<Hops, AllocError>
+    ensures of { IfOk result (λ hops. hops.of ≡ of.now) }
+    ensures rules { IfOk result (λ hops. rules_of_hops hops.hops ≡ rules_in file.now) }
+{
+    let kept = KEPT_FILE.min(file.len());
+    let body = Vec::from_slice(alloc, &file[..kept])?;
+    let response = Response {
+        status: 200,
+        content_type: None,
+        coded: false,
+        location: None,
+        body,
+    };
+    chain_of(alloc, of, Told::Whole(Given::new(response)))
+}
+
+/// The chain by which everything is allowed: there is no robots file (RFC 9309, section 2.3.1.3). The error is want of memory.
+pub(crate) fn free_chain(alloc: Global, of: &Origin) -> Result<Hops, AllocError>
+    ensures of { IfOk result (λ hops. hops.of ≡ of.now) }
+    ensures rules { IfOk result (λ hops. rules_of_hops hops.hops ≡ all_allowed) }
+{
+    let response = Response {
+        status: 404,
+        content_type: None,
+        coded: false,
+        location: None,
+        body: Vec::new(alloc),
+    };
+    chain_of(alloc, of, Told::Whole(Given::new(response)))
+}
+
+/// The chain by which nothing is allowed: the robots file isn't to be had (RFC 9309, section 2.3.1.4). The error is want of memory.
+pub(crate) fn closed_chain(alloc: Global, of: &Origin) -> Result<Hops, AllocError>
+    ensures of { IfOk result (λ hops. hops.of ≡ of.now) }
+    ensures rules { IfOk result (λ hops. rules_of_hops hops.hops ≡ none_allowed) }
+{
+    chain_of(alloc, of, Told::Fault(FaultKind::Device))
+}

@@ -1,0 +1,162 @@
+//! The entry that is written of a note, in version 2 of records.
+ghost use Rattle.std.specs.Prelude.{◌≡◌, ◌≤◌, ◌++◌, ◌∷◌, [], true, false, All, IfOk, MatchOption, OnOk, flat_map, if◌then◌else◌, length};
+ghost use Rattle.std.specs.List.{list_all};
+ghost use Rattle.response_reader.specs.Heads.{max_heads_len};
+ghost use Rattle.response_reader.specs.Response.{CanBeGiven};
+ghost use Rattle.response_reader.specs.Written.{head_text, response_text};
+ghost use Rattle.site_answer.specs.HopChains.{HopValue};
+ghost use Rattle.site_answer.specs.declared.noted.Noted.TheVariants.{Chain};
+ghost use Rattle.site_records.specs.WrittenEntries.{line_of_three, counted_entry, told_head, is_short, told_text, hop_entry, has_short_heads, written_note, IsToldOf, IsNote};
+
+use address::Address;
+use response_reader::push_head;
+use site_answer::{Given, Hops, Noted, Told};
+use std::alloc::{AllocError, Global};
+use streams::Pieces;
+
+/// How many bytes the head of a response may have that can be read again.
+const MAX_HEAD: usize = 65_536;
+
+// A line of three fields.
+fn line_of_three(
+    alloc: Global,
+    first: &[u8],
+    second: &[u8],
+    third: &[u8],
+) -> Result<Vec<u8>, AllocError>
+    ensures { IfOk result (λ line. line.items ≡ line_of_three first.now second.now third.now ++ 10 ∷ []) }
+{
+    let mut line = Vec::from_slice(alloc, first)?;
+    line.extend_from_slice(b" ")?;
+    line.extend_from_slice(second)?;
+    line.extend_from_slice(b" ")?;
+    line.extend_from_slice(third)?;
+    line.extend_from_slice(b"\n")?;
+    Ok(line)
+}
+
+// The head that is written of what was told, unless it is too long to be read again.
+fn short_head(alloc: Global, told: &Told) -> Result<Option<Vec<u8>>, AllocError>
+    ensures { IfOk result (λ head. MatchOption head (is_short told.now ≡ false) (λ h. (h.items ≡ told_head told.now) × (is_short told.now ≡ true))) }
+{
+    let mut head = Vec::new(alloc);
+    if let Told::Whole(given) = told {
+        push_head(&mut head, given.response())?;
+    }
+    if head.len() > MAX_HEAD {
+        return Ok(None);
+    }
+    Ok(Some(head))
+}
+
+// Adds a response under a word, with the head that was made for it.
+fn push_whole<'a>(
+    alloc: Global,
+    pieces: &mut Pieces<'a>,
+    word: &[u8],
+    at: &Address,
+    given: &'a Given,
+    head: &[u8],
+) -> Result<(), AllocError>
+    requires head { head.now ≡ head_text given.now }
+    requires short { length head.now ≤ max_heads_len }
+    ensures text { OnOk result (pieces.new ≡ pieces.old ++ counted_entry word.now at.now (response_text given.now)) }
+    ensures given { OnOk result (CanBeGiven given.now) }
+{
+    let body = given.response().body.as_slice();
+    let len = head.len() + body.len();
+    let count = format!(in alloc; "{len}")?;
+    let mut front = line_of_three(alloc, word, at.as_str().as_bytes(), count.as_bytes())?;
+    front.extend_from_slice(head)?;
+    pieces.push_made(front)?;
+    pieces.push_lent(body)?;
+    pieces.push_lent(b"\n")
+}
+
+// Adds what was told of an address, under the word of a response or that of a fault; nothing where it couldn't be read again.
+fn push_told<'a>(
+    alloc: Global,
+    pieces: &mut Pieces<'a>,
+    word: &[u8],
+    fault_word: &[u8],
+    at: &Address,
+    told: &'a Told,
+) -> Result<(), AllocError>
+    ensures text { OnOk result (pieces.new ≡ pieces.old ++ (if is_short told.now then told_text word.now fault_word.now at.now told.now else [])) }
+    ensures told { OnOk result (is_short told.now ≡ true → IsToldOf at.now told.now) }
+{
+    let Some(head) = short_head(alloc, told)? else {
+        return Ok(());
+    };
+    let text = at.as_str().as_bytes();
+    match told {
+        Told::Whole(given) => push_whole(alloc, pieces, word, at, given, head.as_slice()),
+        Told::Fault(kind) => {
+            let line = line_of_three(alloc, fault_word, kind.word().as_bytes(), text)?;
+            pieces.push_made(line)
+        }
+    }
+}
+
+// Whether all these hops can be read again.
+fn are_short(alloc: Global, hops: &[(Address, Told)]) -> Result<bool, AllocError>
+    ensures { IfOk result (λ b. b ≡ list_all (λ (h : HopValue). is_short h.1) hops.now) }
+{
+    for hop in hops {
+        if short_head(alloc, &hop.1)?.is_none() {
+            return Ok(false);
+        }
+    }
+    Ok(true)
+}
+
+// Adds hops that can be read again.
+fn push_hops<'a>(
+    alloc: Global,
+    pieces: &mut Pieces<'a>,
+    hops: &'a [(Address, Told)],
+) -> Result<(), AllocError>
+    requires { list_all (λ (h : HopValue). is_short h.1) hops.now ≡ true }
+    ensures text { OnOk result (pieces.new ≡ pieces.old ++ flat_map hop_entry hops.now) }
+    ensures told { OnOk result (All (λ (h : HopValue). IsToldOf h.0 h.1) hops.now) }
+{
+    for hop in hops {
+        push_told(alloc, pieces, b"hop", b"hopfault", &hop.0, &hop.1)?;
+    }
+    Ok(())
+}
+
+// Adds a chain; nothing where a hop of it couldn't be read again.
+fn push_chain<'a>(alloc: Global, pieces: &mut Pieces<'a>, chain: &'a Hops) -> Result<(), AllocError>
+    ensures text { OnOk result (pieces.new ≡ pieces.old ++ written_note (Chain chain.now)) }
+    ensures note { OnOk result (has_short_heads (Chain chain.now) ≡ true → IsNote (Chain chain.now)) }
+{
+    let hops = chain.hops();
+    if !are_short(alloc, hops)? {
+        return Ok(());
+    }
+    // What every origin is holds of this one.
+    let _text = chain.of().as_str();
+    let root = chain.of().address()?;
+    let len = hops.len();
+    let count = format!(in alloc; "{len}")?;
+    let line = line_of_three(alloc, b"chain", root.as_str().as_bytes(), count.as_bytes())?;
+    pieces.push_made(line)?;
+    push_hops(alloc, pieces, hops)
+}
+
+/// Adds the entry of a note to a text; nothing where a head of it, written, has more than 65,536 bytes and so couldn't be read
+/// again. Bodies are lent. The error is want of memory; then a front of the entry may have been added.
+pub fn push_note<'a>(
+    alloc: Global,
+    pieces: &mut Pieces<'a>,
+    note: &'a Noted,
+) -> Result<(), AllocError>
+    ensures text { OnOk result (pieces.new ≡ pieces.old ++ written_note note.now) }
+    ensures note { OnOk result (has_short_heads note.now ≡ true → IsNote note.now) }
+{
+    match note {
+        Noted::Page(at, told) => push_told(alloc, pieces, b"page", b"fault", at, told),
+        Noted::Chain(chain) => push_chain(alloc, pieces, chain),
+    }
+}

@@ -1,0 +1,24 @@
+//! Fetchers that may have notes of what they were told.
+ghost use Rattle.std.specs.Prelude.{◌≡◌, List};
+ghost use Rattle.site_answer.specs.declared.noted.Noted.{Noted};
+
+use fetcher::Fetcher;
+use site_answer::{Connect, HttpFetcher, Noted};
+
+/// Asks as any fetcher does, and may note what it is told, so that this can be saved.
+pub trait Recording: Fetcher {
+    /// What was noted, in order.
+    ghost noted: { Self → List Noted };
+
+    /// What was noted, in order. Takes no memory.
+    fn notes(&self) -> &[Noted]
+        ensures { result.now ≡ noted self.now };
+}
+
+impl<C: Connect> Recording for HttpFetcher<C> {
+    ghost noted = { λ f. f.notes };
+
+    fn notes(&self) -> &[Noted] {
+        HttpFetcher::notes(self)
+    }
+}

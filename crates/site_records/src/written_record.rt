@@ -1,0 +1,114 @@
+//! A record that is written, of version 2.
+ghost use Rattle.std.specs.Prelude.{◌≡◌, ◌++◌, ◌∷◌, [], Bool, List, not, IfOk, OnOk, Err};
+ghost use Rattle.std.specs.Io.KnownBytes.{Appends};
+ghost use Rattle.streams.specs.Streams.{AppendsFront};
+ghost use Rattle.site_answer.specs.declared.noted.Noted.{Noted};
+ghost use Rattle.site_records.specs.Records.{IsRecord};
+ghost use Rattle.site_records.specs.WrittenRecords.{is_repeated, written_notes, record_text, record_entries, all_noted};
+ghost use Rattle.site_records.specs.Fronts.{IsReadCut};
+ghost use Rattle.site_records.specs.RecordDrafts.{AreNamed, IsDraft};
+
+use crate::note_entry::push_note;
+use crate::record_fault::RecordFault;
+use crate::version::SECOND_VERSION_LINE;
+use indexmap::IndexSet;
+use site_answer::Noted;
+use std::alloc::{AllocError, Global};
+use std::io::Write;
+use streams::Pieces;
+
+/// The addresses and the origins of the notes so far.
+#[derive(Drop)]
+struct Named<'a> {
+    addresses: IndexSet<&'a str>,
+    origins: IndexSet<&'a str>,
+}
+
+impl<'a> Named<'a> {
+    // Those of no notes. Takes no memory.
+    fn new(alloc: Global) -> Named<'a>
+        ensures { AreNamed result [] }
+    {
+        Named {
+            addresses: IndexSet::new(alloc),
+            origins: IndexSet::new(alloc),
+        }
+    }
+
+    // Adds that of one more note, and tells whether none of the notes so far has it. The error is want of memory.
+    fn add(&mut self, note: &'a Noted) -> Result<bool, AllocError>
+        ensures { IfOk result (λ is_new. (notes : List Noted) → AreNamed self.old notes
+            → AreNamed self.new (notes ++ note.now ∷ []) × (is_new ≡ not (is_repeated notes note.now))) }
+    {
+        match note {
+            Noted::Page(at, _) => Ok(self.addresses.insert(at.as_str())?),
+            Noted::Chain(chain) => Ok(self.origins.insert(chain.of().as_str())?),
+        }
+    }
+}
+
+// Adds one more note, unless one before it is of the same address or origin. The error is want of memory.
+fn add_note<'a>(
+    alloc: Global,
+    text: &mut Pieces<'a>,
+    named: &mut Named<'a>,
+    note: &'a Noted,
+) -> Result<(), AllocError>
+    ensures { OnOk result ((notes : List Noted) → IsDraft text.old named.old notes → IsDraft text.new named.new (notes ++ note.now ∷ [])) }
+{
+    if named.add(note)? {
+        push_note(alloc, text, note)?;
+    }
+    Ok(())
+}
+
+// Adds more notes. The error is want of memory.
+fn add_notes<'a>(
+    alloc: Global,
+    text: &mut Pieces<'a>,
+    named: &mut Named<'a>,
+    more: &'a [Noted],
+) -> Result<(), AllocError>
+    ensures { OnOk result ((notes : List Noted) → IsDraft text.old named.old notes → IsDraft text.new named.new (notes ++ more.now)) }
+{
+    for note in more {
+        add_note(alloc, text, named, note)?;
+    }
+    Ok(())
+}
+
+// The text of the record of these notes. The error is want of memory.
+fn text_of<'a>(alloc: Global, notes: &[&'a [Noted]]) -> Result<Pieces<'a>, AllocError>
+    ensures { IfOk result (λ text. (named : Named) × IsDraft text named (all_noted notes.now)) }
+{
+    let mut text = Pieces::new(alloc);
+    text.push_lent(SECOND_VERSION_LINE)?;
+    let mut named = Named::new(alloc);
+    for part in notes {
+        add_notes(alloc, &mut text, &mut named, part)?;
+    }
+    Ok(text)
+}
+
+/// Writes a record of version 2, and flushes it: the notes of all parts in their order. Of several notes of one address, or of one
+/// origin, the first counts; it is left out where a head of it, written, has more than 65,536 bytes, which couldn't be read again.
+/// Bodies are not copied. Memory is wanted only before the first byte is written; where the writer fails a front of the record may
+/// be written.
+pub fn write_record<W: Write>(
+    alloc: Global,
+    writer: &mut W,
+    notes: &[&[Noted]],
+) -> Result<(), RecordFault>
+    ensures written { OnOk result (Appends (W.contents writer.old) (W.contents writer.new) (record_text (all_noted notes.now))) }
+    ensures device { result ≡ Err RecordFault.Device → AppendsFront (W.contents writer.old) (W.contents writer.new) (record_text (all_noted notes.now)) }
+    ensures memory { result ≡ Err RecordFault.Memory → writer.new ≡ writer.old }
+
+    // It is read again, with or without robots rules, as just what the notes say.
+    ensures reads { OnOk result ((robots : Bool) → IsRecord robots (record_text (all_noted notes.now)) (record_entries robots (all_noted notes.now))) }
+    // Cut anywhere behind its first line it is the entries of the first of these notes, and a front of the next one's.
+    ensures cut { OnOk result ((robots : Bool) → IsReadCut robots (written_notes (all_noted notes.now))) }
+{
+    let text = text_of(alloc, notes)?;
+    text.write(writer)?;
+    Ok(())
+}
