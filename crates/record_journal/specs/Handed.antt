@@ -1,0 +1,42 @@
+-- What a fetcher with a journal does with what it is told: the journal has it, or the fetcher keeps it.
+use Rattle.std.specs.Prelude.{◌≡◌, ◌⊎◌, ℕ, Bool, true, false, List, [], ◌∷◌, ◌++◌, Option}
+use Rattle.std.specs.Io.KnownBytes.{Appends}
+use Rattle.streams.specs.Streams.{AppendsFront}
+use Rattle.address.specs.Address.{AddressText, OriginText}
+use Rattle.robots_rules.specs.Access.{RuleSetValue}
+use Rattle.fetcher.specs.declared.outcome.Outcome.{Outcome}
+use Rattle.site_answer.specs.Tellings.{outcome_told, body_told}
+use Rattle.site_answer.specs.HopChains.{HopValue, rules_of_hops}
+use Rattle.site_answer.specs.declared.told.Told.{Told}
+use Rattle.site_answer.specs.declared.noted.Noted.{Noted}
+use Rattle.site_answer.specs.declared.noted.Noted.TheVariants.{Page, Chain}
+use Rattle.site_records.specs.WrittenEntries.{written_note}
+
+-- a fetcher with a journal, whether what it is told is to be saved, and the notes that the journal didn't take
+pub record Journaling (F J : Type 0) : Type 0 where
+  pub inner : F
+  pub journal : J
+  pub is_recording : Bool
+  pub kept : List Noted
+
+-- the journal gained the entry of the note; or a front of it, and the note is kept behind the others
+abbrev pub IsHanded : {F J : Type 0} → (J → Option (List ℕ)) → Noted → Journaling F J → Journaling F J → Type 0
+IsHanded contents note old new =
+    (Appends (contents old.journal) (contents new.journal) (written_note note) × (new.kept ≡ old.kept))
+    ⊎ (AppendsFront (contents old.journal) (contents new.journal) (written_note note) × (new.kept ≡ old.kept ++ note ∷ []))
+
+-- nothing was handed over
+abbrev pub IsStill : {F J : Type 0} → Journaling F J → Journaling F J → Type 0
+IsStill old new = (new.journal ≡ old.journal) × (new.kept ≡ old.kept)
+
+-- where answers are saved a note of this address was handed over, which says this outcome with this body; else none was
+abbrev pub HandsPage : {F J : Type 0} → (J → Option (List ℕ)) → Bool → Bool → AddressText → Outcome → List ℕ → Journaling F J → Journaling F J → Type 0
+HandsPage contents true robots at x body old new =
+    (told : Told) × IsHanded contents (Page at told) old new × (x ≡ outcome_told robots at told) × (body ≡ body_told told)
+HandsPage contents false robots at x body old new = IsStill old new
+
+-- where answers are saved a note of this origin was handed over, which says these rules; else none was
+abbrev pub HandsChain : {F J : Type 0} → (J → Option (List ℕ)) → Bool → OriginText → RuleSetValue → Journaling F J → Journaling F J → Type 0
+HandsChain contents true of rules old new =
+    (hops : List HopValue) × IsHanded contents (Chain (record { of = of; hops = hops })) old new × (rules ≡ rules_of_hops hops)
+HandsChain contents false of rules old new = IsStill old new

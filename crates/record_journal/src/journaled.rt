@@ -1,0 +1,203 @@
+//! A fetcher whose answers a journal has.
+ghost use Rattle.std.specs.Prelude.{◌≡◌, ◌∷◌, ◌++◌, [], true, false, IfOk, OnOk, OnErr};
+ghost use Rattle.std.specs.Io.KnownBytes.{Appends};
+ghost use Rattle.fetcher.specs.declared.fetcher.Ask.TheVariants as ask;
+ghost use Rattle.fetcher.specs.Logs.{GainedAtMost};
+ghost use Rattle.site_records.specs.WrittenEntries.{written_note};
+ghost use Rattle.streams.specs.Streams.{AppendsFront};
+ghost use Rattle.record_journal.specs.Handed.{HandsPage, HandsChain, IsHanded};
+
+use crate::journal::Journal;
+use address::{Address, Origin};
+use fetcher::{Answer, Ask, Fetcher};
+use robots_rules::RuleSet;
+use site_answer::{Noted, Telling};
+use site_records::{Recording, push_note};
+use std::alloc::{AllocError, Global};
+use std::marker::Model;
+use streams::Pieces;
+
+/// Asks a fetcher, and hands what this is told to a journal before it answers. What the journal doesn't take is kept, so that
+/// it can be saved when all is done.
+#[derive(Drop)]
+pub struct Journaled<F: Telling, J: Journal> {
+    alloc: Global,
+    inner: F,
+    journal: J,
+    is_recording: bool,
+    kept: Vec<Noted>,
+}
+
+impl<F: Telling, J: Journal> Model for Journaled<F, J> {
+    ghost use Rattle.record_journal.specs.Handed.{Journaling};
+
+    ghost Value = { Journaling F J };
+
+    ghost view = { λ f. record { inner = f.inner; journal = f.journal; is_recording = f.is_recording; kept = f.kept.items } };
+}
+
+// The text of a note's entry. The error is want of memory.
+fn entry_of(alloc: Global, note: &Noted) -> Result<Vec<u8>, AllocError>
+    ensures { IfOk result (λ entry. entry.items ≡ written_note note.now) }
+{
+    let mut pieces = Pieces::new(alloc);
+    push_note(alloc, &mut pieces, note)?;
+    pieces.joined(alloc)
+}
+
+// Adds a note's entry to the journal, and answers whether it stands there whole. Where there is no memory for it, it doesn't.
+fn is_taken<J: Journal>(alloc: Global, journal: &mut J, note: &Noted) -> bool
+    ensures taken { result ≡ true → Appends (J.contents journal.old) (J.contents journal.new) (written_note note.now) }
+    ensures refused { result ≡ false → AppendsFront (J.contents journal.old) (J.contents journal.new) (written_note note.now) }
+{
+    match entry_of(alloc, note) {
+        Ok(entry) => journal.append(entry.as_slice()),
+        Err(_) => false,
+    }
+}
+
+impl<F: Telling, J: Journal> Journaled<F, J> {
+    /// Asks `inner`. Where answers are saved, each goes to the journal. Takes no memory; later growth comes from `alloc`.
+    pub fn new(alloc: Global, inner: F, journal: J, is_recording: bool) -> Journaled<F, J>
+        ensures inner { result.inner ≡ inner }
+        ensures journal { result.journal ≡ journal }
+        ensures is_recording { result.is_recording ≡ is_recording }
+        ensures kept { result.kept ≡ [] }
+    {
+        Journaled {
+            alloc,
+            inner,
+            journal,
+            is_recording,
+            kept: Vec::new(alloc),
+        }
+    }
+
+    /// The fetcher that is asked.
+    pub fn inner(&self) -> &F
+        ensures { result.now ≡ self.now.inner }
+    {
+        &self.inner
+    }
+
+    /// The journal.
+    pub fn journal(&self) -> &J
+        ensures { result.now ≡ self.now.journal }
+    {
+        &self.journal
+    }
+
+    // Hands a note over. The error is that the journal didn't take it, and there is no memory to keep it.
+    fn hand(&mut self, note: Noted) -> Result<(), AllocError>
+        ensures inner { self.new.inner ≡ self.old.inner }
+        ensures is_recording { self.new.is_recording ≡ self.old.is_recording }
+        ensures ok { OnOk result (IsHanded J.contents note self.old self.new) }
+        ensures err { OnErr result (self.new.kept ≡ self.old.kept) }
+    {
+        if is_taken(self.alloc, &mut self.journal, &note) {
+            return Ok(());
+        }
+        self.kept.push(note)?;
+        Ok(())
+    }
+
+    // Asks for a page, and hands over what was told of it. The error is want of memory.
+    fn ask_and_hand(&mut self, at: &Address) -> Result<Answer, AllocError>
+        ensures site { F.site self.new.inner ≡ F.site self.old.inner }
+        ensures honours { F.honours self.new.inner ≡ F.honours self.old.inner }
+        ensures is_recording { self.new.is_recording ≡ self.old.is_recording }
+        ensures told { IfOk result (λ a. F.says (F.site self.old.inner) at.now a.outcome a.body) }
+        ensures asked { OnOk result (F.log self.new.inner ≡ F.log self.old.inner ++ ask.Page at.now ∷ []) }
+        ensures refused { OnErr result (GainedAtMost (F.log self.old.inner) (F.log self.new.inner) (ask.Page at.now)) }
+        ensures handed { IfOk result (λ a. HandsPage J.contents true (F.honours self.old.inner) at.now a.outcome a.body self.old self.new) }
+        ensures unkept { OnErr result (self.new.kept ≡ self.old.kept) }
+    {
+        let name = at.try_clone()?;
+        let told = self.inner.ask_told(at)?;
+        let answer = told.answer(self.alloc, at, self.inner.honours_robots())?;
+        self.hand(Noted::Page(name, told))?;
+        Ok(answer)
+    }
+
+    // Asks for an origin's rules, and hands over what was told. The error is want of memory.
+    fn ask_robots_and_hand(&mut self, of: &Origin) -> Result<RuleSet, AllocError>
+        ensures site { F.site self.new.inner ≡ F.site self.old.inner }
+        ensures honours { F.honours self.new.inner ≡ F.honours self.old.inner }
+        ensures is_recording { self.new.is_recording ≡ self.old.is_recording }
+        ensures told { IfOk result (λ r. F.rules (F.site self.old.inner) of.now r) }
+        ensures asked { OnOk result (F.log self.new.inner ≡ F.log self.old.inner ++ ask.Rules of.now ∷ []) }
+        ensures refused { OnErr result (GainedAtMost (F.log self.old.inner) (F.log self.new.inner) (ask.Rules of.now)) }
+        ensures handed { IfOk result (λ r. HandsChain J.contents true of.now r self.old self.new) }
+        ensures unkept { OnErr result (self.new.kept ≡ self.old.kept) }
+    {
+        let hops = self.inner.ask_hops(of)?;
+        let rules = hops.rules(self.alloc)?;
+        self.hand(Noted::Chain(hops))?;
+        Ok(rules)
+    }
+}
+
+impl<F: Telling, J: Journal> Fetcher for Journaled<F, J> {
+    ghost Site = { F.Site };
+
+    ghost site = { λ f. F.site f.inner };
+
+    ghost says = { F.says };
+
+    ghost rules = { F.rules };
+
+    ghost log = { λ f. F.log f.inner };
+
+    fn ask(&mut self, at: &Address) -> Result<Answer, AllocError>
+        ensures site { F.site self.new.inner ≡ F.site self.old.inner }
+        ensures told { IfOk result (λ a. F.says (F.site self.old.inner) at.now a.outcome a.body) }
+        ensures asked { OnOk result (F.log self.new.inner ≡ F.log self.old.inner ++ ask.Page at.now ∷ []) }
+        ensures refused { OnErr result (GainedAtMost (F.log self.old.inner) (F.log self.new.inner) (ask.Page at.now)) }
+        // Where answers are saved, what was told is handed over before it is answered.
+        ensures is_recording { self.new.is_recording ≡ self.old.is_recording }
+        ensures handed { IfOk result (λ a. HandsPage J.contents self.old.is_recording (F.honours self.old.inner) at.now a.outcome a.body self.old self.new) }
+        ensures unkept { OnErr result (self.new.kept ≡ self.old.kept) }
+    {
+        if self.is_recording {
+            return self.ask_and_hand(at);
+        }
+        self.inner.ask(at)
+    }
+
+    fn ask_robots(&mut self, of: &Origin) -> Result<RuleSet, AllocError>
+        ensures site { F.site self.new.inner ≡ F.site self.old.inner }
+        ensures told { IfOk result (λ r. F.rules (F.site self.old.inner) of.now r) }
+        ensures asked { OnOk result (F.log self.new.inner ≡ F.log self.old.inner ++ ask.Rules of.now ∷ []) }
+        ensures refused { OnErr result (GainedAtMost (F.log self.old.inner) (F.log self.new.inner) (ask.Rules of.now)) }
+        // Where answers are saved, what was told is handed over before it is answered.
+        ensures is_recording { self.new.is_recording ≡ self.old.is_recording }
+        ensures handed { IfOk result (λ r. HandsChain J.contents self.old.is_recording of.now r self.old self.new) }
+        ensures unkept { OnErr result (self.new.kept ≡ self.old.kept) }
+    {
+        if self.is_recording {
+            return self.ask_robots_and_hand(of);
+        }
+        self.inner.ask_robots(of)
+    }
+
+    fn asks(&self) -> &[Ask] {
+        self.inner.asks()
+    }
+
+    fn tell_waiting(&mut self, waiting: usize) {
+        self.inner.tell_waiting(waiting);
+    }
+
+    fn tell_recorded(&mut self) {
+        self.inner.tell_recorded();
+    }
+}
+
+// What was told and isn't in the journal.
+impl<F: Telling, J: Journal> Recording for Journaled<F, J> {
+    ghost noted = { λ f. f.kept };
+
+    fn notes(&self) -> &[Noted] {
+        self.kept.as_slice()
+    }
+}

@@ -1,0 +1,33 @@
+//! One worker's hold of a journal on a disk.
+ghost use Rattle.std.specs.Prelude.{None};
+
+use crate::journal::Journal;
+use crate::saving::Saving;
+use std::fs::Files;
+use std::sync::Wait;
+use std::time::Clock;
+
+/// Adds one worker's entries to the journal of the run, where there is one by then. Others add to it too, so it tells nothing.
+#[derive(Drop)]
+pub struct Pen<'a, R: Wait + Clock + Eprint, D: Files> {
+    rt: &'a R,
+    saving: &'a Saving<D>,
+}
+
+impl<'a, R: Wait + Clock + Eprint, D: Files> Pen<'a, R, D> {
+    /// Adds to the journal that is held here. Takes no memory.
+    pub fn new(rt: &'a R, saving: &'a Saving<D>) -> Pen<'a, R, D> {
+        Pen { rt, saving }
+    }
+}
+
+impl<'a, R: Wait + Clock + Eprint, D: Files> Journal for Pen<'a, R, D> {
+    ghost contents = { λ _. None };
+
+    fn append(&mut self, entry: &[u8]) -> bool {
+        match self.saving.journal() {
+            Some(journal) => journal.append(self.rt, entry),
+            None => false,
+        }
+    }
+}

@@ -1,0 +1,205 @@
+//! The file of a record, which gets its name when it is whole.
+ghost use Rattle.std.specs.Prelude.{None};
+
+use crate::disk_journal::DiskJournal;
+use crate::held_journal::look_for_file;
+use local_tree::Close;
+use std::alloc::{AllocError, Global};
+use std::fs::{File, Files, OpenFile};
+use std::io;
+use std::io::{Error, ErrorKind, Write};
+use std::sync::Wait;
+
+/// How many bytes a record may have that is to be read again.
+const MAX_READ: u64 = 1_073_741_824;
+
+/// How many bytes the first line of a record has.
+const FIRST_LEN: u64 = 15;
+
+/// A record's file in the making. What is written goes into `SAVED.part`. When it is flushed, the entries of the run's journal
+/// are added behind, all is brought onto the disk, the part gets the file's name, and the journal is removed. Where nothing but
+/// the first line was written, the journal is that record, and gets the file's name itself. So the file is the old one or the new
+/// one at any moment, and an answer is in the file or in the journal. Where a call fails, the old file and the journal stay.
+///
+/// A link, a directory or a device isn't replaced.
+#[derive(Drop)]
+pub struct SavedFile<'a, R: Wait + Eprint, D: Files> {
+    rt: &'a R,
+    disk: &'a D,
+    path: String,
+    part: String,
+    file: Option<D::File>,
+    // Whether a write failed for good.
+    is_lost: bool,
+    journal: Option<&'a DiskJournal<D>>,
+}
+
+// Makes a new file. What a killed run left there is taken away first; a link isn't followed.
+fn create_new<D: Files>(disk: &D, path: &str) -> io::Result<D::File> {
+    match File::create_new(disk, path) {
+        Err(e) if e.kind() == ErrorKind::AlreadyExists => {
+            disk.remove_file(path)?;
+            File::create_new(disk, path)
+        }
+        made => made,
+    }
+}
+
+// The file that is being made, which is made now where none is.
+fn opened<'a, D: Files>(
+    disk: &D,
+    path: &str,
+    file: &'a mut Option<D::File>,
+) -> io::Result<&'a mut D::File> {
+    if file.is_none() {
+        *file = Some(create_new(disk, path)?);
+    }
+    match file {
+        Some(file) => Ok(file),
+        None => Err(Error::from(ErrorKind::NotFound)),
+    }
+}
+
+// Brings a file onto the disk and closes it. Gives its length in bytes.
+fn finish<F: OpenFile + Close + Drop>(file: F) -> io::Result<u64> {
+    let len = file.metadata()?.len();
+    file.sync_all()?;
+    file.close()?;
+    Ok(len)
+}
+
+impl<'a, R: Wait + Eprint, D: Files> SavedFile<'a, R, D>
+where
+    D::File: Close,
+{
+    /// The file at this path, with the run's journal beside it, where there is one. Nothing is made before the first write. The
+    /// error is want of memory.
+    pub fn new(
+        rt: &'a R,
+        disk: &'a D,
+        alloc: Global,
+        path: &str,
+        journal: Option<&'a DiskJournal<D>>,
+    ) -> Result<SavedFile<'a, R, D>, AllocError> {
+        Ok(SavedFile {
+            rt,
+            disk,
+            path: String::from_str(alloc, path)?,
+            part: format!(in alloc; "{path}.part")?,
+            file: None,
+            is_lost: false,
+            journal,
+        })
+    }
+
+    // Refuses to go on behind a write that failed: the part lacks bytes.
+    fn writable(&self) -> io::Result<()> {
+        if self.is_lost {
+            return Err(Error::from(ErrorKind::BrokenPipe));
+        }
+        Ok(())
+    }
+
+    // Takes the part away where a write failed for good, so that a full disk isn't kept full by it.
+    fn give_up(&mut self, kind: ErrorKind) {
+        if kind == ErrorKind::Interrupted {
+            return;
+        }
+        self.is_lost = true;
+        self.file = None;
+        let _ = self.disk.remove_file(self.part.as_str());
+    }
+
+    // Puts the part in place, or the journal where nothing else is saved.
+    fn put(&self, file: D::File) -> io::Result<()> {
+        let _ = look_for_file(self.disk, self.path.as_str())?;
+        if file.metadata()?.len() == FIRST_LEN && self.is_journal_put()? {
+            let _ = self.disk.remove_file(self.part.as_str());
+            return Ok(());
+        }
+        self.put_part(file)
+    }
+
+    // Gives the journal the file's name, where it is the record. Answers whether it did.
+    fn is_journal_put(&self) -> io::Result<bool> {
+        match self.journal {
+            Some(journal) => journal.become_record(
+                self.rt,
+                self.disk,
+                self.path.as_str(),
+                FIRST_LEN,
+                MAX_READ,
+            ),
+            None => Ok(false),
+        }
+    }
+
+    // Adds the journal's entries, and gives the part the file's name.
+    fn put_part(&self, mut file: D::File) -> io::Result<()> {
+        if let Some(journal) = self.journal {
+            journal.copy_added(self.rt, &mut file)?;
+        }
+        let len = finish(file)?;
+        let _ = look_for_file(self.disk, self.path.as_str())?;
+        self.disk.rename(self.part.as_str(), self.path.as_str())?;
+        if len > MAX_READ {
+            self.tell_long(len);
+        } else {
+            self.drop_journal();
+        }
+        Ok(())
+    }
+
+    // Removes the journal: all that it has is in the file. Where it stays, a later run takes from it what the file has too.
+    fn drop_journal(&self) {
+        if let Some(journal) = self.journal {
+            journal.remove(self.disk);
+        }
+    }
+
+    // Tells a person that the file is whole, and that no run will take it.
+    fn tell_long(&self, len: u64) {
+        let path = self.path.as_str();
+        let _ = eprintln!(self.rt;
+            "{path}: {len} bytes, more than the {MAX_READ} that can be resumed"
+        );
+    }
+}
+
+impl<'a, R: Wait + Eprint, D: Files> Write for SavedFile<'a, R, D>
+where
+    D::File: Close,
+{
+    ghost contents = { λ _. None };
+
+    fn write(&mut self, bytes: &[u8]) -> io::Result<usize> {
+        self.writable()?;
+        let written = opened(self.disk, self.part.as_str(), &mut self.file)?.write(bytes);
+        if let Err(e) = &written {
+            self.give_up(e.kind());
+        }
+        written
+    }
+
+    fn write_all(&mut self, bytes: &[u8]) -> io::Result<()> {
+        self.writable()?;
+        let written = opened(self.disk, self.part.as_str(), &mut self.file)?.write_all(bytes);
+        if let Err(e) = &written {
+            self.give_up(e.kind());
+        }
+        written
+    }
+
+    /// Puts what was written in place; where nothing was, it changes nothing.
+    fn flush(&mut self) -> io::Result<()> {
+        self.writable()?;
+        let Some(file) = self.file.take() else {
+            return Ok(());
+        };
+        let put = self.put(file);
+        if put.is_err() {
+            let _ = self.disk.remove_file(self.part.as_str());
+        }
+        put
+    }
+}

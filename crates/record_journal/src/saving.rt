@@ -1,0 +1,322 @@
+//! Where a run saves its answers, and what an earlier run left there.
+use crate::disk_journal::DiskJournal;
+use crate::held_journal::{HeldJournal, look_for_file};
+use crate::journal_fault::JournalFault;
+use crate::lock::Lock;
+use site_maps::InputFault;
+use site_records::{RecordFault, RecordFront, RecordedSite, read_front, write_record};
+use std::alloc::{AllocError, Global};
+use std::fs::{File, Files};
+use std::io::ErrorKind;
+use std::sync::{Mutex, OnceLock, Wait};
+use std::time::Clock;
+use streams::{ReadFault, read_input};
+use thiserror::Error;
+
+/// How many bytes a journal may have that is to be read.
+const MAX_READ: usize = 1_073_741_824;
+
+/// A record without entries.
+const FIRST_LINE: &[u8] = b"wgetr-record 2\n";
+
+/// Why a run may not save there.
+#[derive(Clone, Copy, Debug, PartialEq, Eq, Error)]
+pub enum HoldFault {
+    /// Another run saves there, or answers are left there that this run would lose. A person is told.
+    #[error("answers can't be saved there")]
+    Refused,
+    /// Memory ran out.
+    #[error("out of memory")]
+    Memory,
+}
+
+/// Where a run saves its answers: nowhere, until it holds the file of a record. All its workers share it.
+#[derive(Drop)]
+pub struct Saving<D: Files> {
+    journal: OnceLock<DiskJournal<D>>,
+    // What the journal had that is resumed, until it is taken: a record, or nothing where there was no journal.
+    left: Mutex<Option<Vec<u8>>>,
+}
+
+// What stands in a journal, from its beginning.
+fn text_of<R: Eprint, D: Files>(
+    rt: &R,
+    alloc: Global,
+    held: &mut HeldJournal<D>,
+) -> Result<Vec<u8>, HoldFault> {
+    match read_input(alloc, held.file(), MAX_READ) {
+        Ok(text) => Ok(text),
+        Err(ReadFault::Memory) => Err(HoldFault::Memory),
+        Err(_) => {
+            let path = held.path();
+            let _ = eprintln!(rt;
+                "{path}: can't be read, or is longer than {MAX_READ} bytes; move it away, or remove it"
+            );
+            Err(HoldFault::Refused)
+        }
+    }
+}
+
+// Whether a journal is a record of version 2, or was cut within its first line.
+fn is_journal(text: &[u8]) -> bool {
+    text.starts_with(FIRST_LINE) || FIRST_LINE.starts_with(text)
+}
+
+// Tells a person which line of a journal isn't one of a record, and refuses it.
+fn refuse_line<R: Eprint, T>(rt: &R, path: &str, line: usize) -> Result<T, HoldFault> {
+    let _ = eprintln!(rt;
+        "{path}: line {line} is none of a record of version 2; mend it, or move the journal away"
+    );
+    Err(HoldFault::Refused)
+}
+
+// The whole entries at the front of a journal.
+fn front_of<R: Eprint>(
+    rt: &R,
+    alloc: Global,
+    path: &str,
+    text: &[u8],
+) -> Result<RecordFront, HoldFault> {
+    if !is_journal(text) {
+        return refuse_line(rt, path, 1);
+    }
+    match read_front(alloc, text, false) {
+        Ok(front) => Ok(front),
+        Err(InputFault::Memory) => Err(HoldFault::Memory),
+        Err(InputFault::Line(line) | InputFault::Address(line)) => refuse_line(rt, path, line),
+    }
+}
+
+// A number with its thousands apart.
+fn grouped(alloc: Global, number: usize) -> Result<String, AllocError> {
+    let digits = format!(in alloc; "{number}")?;
+    let mut text = String::new(alloc);
+    let mut left = digits.len();
+    for digit in digits.chars() {
+        if left % 3 == 0 && !text.is_empty() {
+            text.push(',')?;
+        }
+        text.push(digit)?;
+        left = left.saturating_sub(1);
+    }
+    Ok(text)
+}
+
+// Tells a person how many answers of a journal are taken, and how many bytes of one that isn't whole are left out.
+fn tell_taken<R: Eprint>(
+    rt: &R,
+    alloc: Global,
+    path: &str,
+    answers: usize,
+    torn: usize,
+) -> Result<(), AllocError> {
+    let answers = grouped(alloc, answers)?;
+    if torn == 0 {
+        let _ = eprintln!(rt; "{path}: {answers} answers taken");
+        return Ok(());
+    }
+    let torn = grouped(alloc, torn)?;
+    let _ = eprintln!(rt;
+        "{path}: {answers} answers taken, {torn} bytes of one that wasn't whole dropped"
+    );
+    Ok(())
+}
+
+// Cuts a journal to its front, and tells a person of it. One without a whole first line is a record without entries.
+fn cut_to<R: Eprint>(
+    rt: &R,
+    alloc: Global,
+    path: &str,
+    text: &mut Vec<u8>,
+    front: &RecordFront,
+) -> Result<(), AllocError> {
+    let torn = text.len().saturating_sub(front.len);
+    text.truncate(front.len);
+    if text.is_empty() {
+        text.extend_from_slice(FIRST_LINE)?;
+    }
+    tell_taken(rt, alloc, path, front.site.entry_count(), torn)
+}
+
+// All bytes of the file at a path, at most so many; none where there is no file.
+fn read_at<D: Files>(
+    disk: &D,
+    alloc: Global,
+    path: &str,
+    limit: usize,
+) -> Result<Option<Vec<u8>>, ReadFault> {
+    match File::open(disk, path) {
+        Ok(mut file) => Ok(Some(read_input(alloc, &mut file, limit)?)),
+        Err(e) if e.kind() == ErrorKind::NotFound => Ok(None),
+        Err(e) if e.kind() == ErrorKind::OutOfMemory => Err(ReadFault::Memory),
+        Err(_) => Err(ReadFault::Failed),
+    }
+}
+
+// Refuses what isn't replaced by a record, and tells a person of it.
+fn refuse_no_file<R: Eprint, D: Files>(rt: &R, disk: &D, saved: &str) -> Result<(), HoldFault> {
+    match look_for_file(disk, saved) {
+        Err(e) if e.kind() == ErrorKind::AlreadyExists => {
+            let _ = eprintln!(rt;
+                "{saved}: a link, a folder or a device isn't replaced; name a file"
+            );
+            Err(HoldFault::Refused)
+        }
+        _ => Ok(()),
+    }
+}
+
+// The whole entries of the journal beside a record that isn't saved to; nothing where there is no journal. One that is none is
+// handed out as it is, so that its line is told.
+fn left_beside<R: Eprint, D: Files>(
+    rt: &R,
+    disk: &D,
+    alloc: Global,
+    saved: &str,
+) -> Result<Vec<u8>, ReadFault> {
+    let path = format!(in alloc; "{saved}.journal")?;
+    let Some(mut text) = read_at(disk, alloc, path.as_str(), MAX_READ)? else {
+        return Ok(Vec::new(alloc));
+    };
+    match front_of(rt, alloc, path.as_str(), text.as_slice()) {
+        Ok(front) => {
+            cut_to(rt, alloc, path.as_str(), &mut text, &front)?;
+            Ok(text)
+        }
+        Err(HoldFault::Refused) => Ok(text),
+        Err(HoldFault::Memory) => Err(ReadFault::Memory),
+    }
+}
+
+// The record of a record's answers and of those of a journal that it doesn't have. Where one of both is no record it is handed
+// out as it is, so that its line is told.
+fn joined(alloc: Global, record: Vec<u8>, journal: Vec<u8>) -> Result<Vec<u8>, ReadFault> {
+    let Ok(first) = RecordedSite::read_noted(alloc, record.as_slice(), false) else {
+        return Ok(record);
+    };
+    drop(record);
+    let Ok(more) = RecordedSite::read_noted(alloc, journal.as_slice(), false) else {
+        return Ok(journal);
+    };
+    drop(journal);
+    let mut text = Vec::new(alloc);
+    match write_record(alloc, &mut text, &[first.notes(), more.notes()]) {
+        Ok(()) => Ok(text),
+        Err(RecordFault::Device | RecordFault::Memory) => Err(ReadFault::Memory),
+    }
+}
+
+impl From<AllocError> for HoldFault {
+    fn from(_: AllocError) -> HoldFault {
+        HoldFault::Memory
+    }
+}
+
+impl<D: Files> Saving<D> {
+    /// Nowhere. Takes no memory.
+    pub fn new() -> Saving<D> {
+        Saving {
+            journal: OnceLock::new(),
+            left: Mutex::new(None),
+        }
+    }
+
+    /// The journal of the run, where one is held.
+    pub fn journal(&self) -> Option<&DiskJournal<D>> {
+        self.journal.get()
+    }
+
+    /// Holds the file of a record, so that no other run saves there, and begins its journal. Answers that are left in the journal
+    /// stay there; where the run doesn't resume them it is refused, and where a link, a folder or a device stands in the file's
+    /// place. Where the journal can't be opened a person is told, and the run goes on without one. To be called once, before
+    /// anything is asked.
+    pub fn hold<R: Wait + Clock + Eprint>(
+        &self,
+        rt: &R,
+        disk: &D,
+        alloc: Global,
+        saved: &str,
+        is_resumed: bool,
+    ) -> Result<(), HoldFault>
+    where
+        D::File: Lock,
+    {
+        refuse_no_file(rt, disk, saved)?;
+        match HeldJournal::open(disk, alloc, saved) {
+            Ok(held) => self.begin(rt, alloc, held, saved, is_resumed),
+            Err(JournalFault::Memory) => Err(HoldFault::Memory),
+            Err(JournalFault::Held) => {
+                let _ = eprintln!(rt; "{saved}: another run saves there");
+                Err(HoldFault::Refused)
+            }
+            Err(JournalFault::Device) => {
+                let _ = eprintln!(rt;
+                    "{saved}.journal: can't be opened; answers are kept in memory, and lost if this run is killed"
+                );
+                Ok(())
+            }
+        }
+    }
+
+    // Begins a journal behind what is left there.
+    fn begin<R: Wait + Clock + Eprint>(
+        &self,
+        rt: &R,
+        alloc: Global,
+        mut held: HeldJournal<D>,
+        saved: &str,
+        is_resumed: bool,
+    ) -> Result<(), HoldFault> {
+        let mut text = text_of(rt, alloc, &mut held)?;
+        let front = front_of(rt, alloc, held.path(), text.as_slice())?;
+        if front.site.entry_count() > 0 && !is_resumed {
+            let path = held.path();
+            let _ = eprintln!(rt;
+                "{path}: has answers of a run that was stopped; resume them by --resume {saved}, or remove it"
+            );
+            return Err(HoldFault::Refused);
+        }
+        if is_resumed {
+            if !held.is_new() {
+                cut_to(rt, alloc, held.path(), &mut text, &front)?;
+            }
+            *self.left.lock(rt) = Some(text);
+        }
+        let journal = held.begin(rt, alloc, front.len as u64);
+        if !journal.is_open(rt) {
+            journal.tell_closed(rt);
+        }
+        let _ = self.journal.try_set(journal);
+        Ok(())
+    }
+
+    /// The record at a path, of at most so many bytes, with what the journal beside it has: of two answers of one address, or of
+    /// one origin, that of the record. Where one of both is missing it is the other. A person is told what of the journal is taken.
+    pub fn read<R: Wait + Eprint>(
+        &self,
+        rt: &R,
+        disk: &D,
+        alloc: Global,
+        path: &str,
+        limit: usize,
+    ) -> Result<Vec<u8>, ReadFault> {
+        let left = self.left.lock(rt).take();
+        let journal = match left {
+            Some(left) => left,
+            None => left_beside(rt, disk, alloc, path)?,
+        };
+        match read_at(disk, alloc, path, limit)? {
+            Some(record) if journal.is_empty() => Ok(record),
+            Some(record) => joined(alloc, record, journal),
+            None if journal.is_empty() => Err(ReadFault::Failed),
+            None => Ok(journal),
+        }
+    }
+
+    /// Ends the run: a journal that has no answer is removed.
+    pub fn end<R: Wait>(&self, rt: &R, disk: &D) {
+        if let Some(journal) = self.journal.get() {
+            journal.remove_where_empty(rt, disk);
+        }
+    }
+}
