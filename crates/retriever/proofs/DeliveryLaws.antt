@@ -1,8 +1,9 @@
 -- A text that is written behind another.
 use Rattle.std.proofs.Common.{◌≡◌, ◌∙◌, ◌++◌, ℕ, List, Option, inl, inr, sym, ap, append_assoc}
+use Rattle.std.specs.Prelude.{Result, Ok, Err}
 use Rattle.std.specs.Io.KnownBytes.{Appends}
 use Rattle.std.proofs.KnownBytes.{Appends-trans}
-use Rattle.retriever.specs.Parts.{IsDelivered}
+use Rattle.retriever.specs.Parts.{IsDelivered, IsToldAs, status_told}
 use Rattle.streams.specs.Streams.{AppendsFront}
 
 -- a front of the first of two texts is one of both
@@ -28,3 +29,15 @@ pub delivered_behind : (old between new : Option (List ℕ)) (first second : Lis
     → IsDelivered old new (first ++ second) wanted status
 delivered_behind old between new first second wanted status whole (inl (is, appends)) = inl (is, Appends-trans old between new first second whole appends)
 delivered_behind old between new first second wanted status whole (inr (is, front)) = inr (is, front_of_second old between new first second whole front)
+
+-- the second is told behind the first
+pub told_behind : {E : Type 0} (old between new : Option (List ℕ)) (first second : List ℕ) (wanted : ℕ) (told : Result ℕ E) → Appends old between first → IsToldAs between new told second wanted
+    → IsToldAs old new told (first ++ second) wanted
+told_behind old between new first second wanted (Ok status) whole (is, appends) = (is, Appends-trans old between new first second whole appends)
+told_behind old between new first second wanted (Err failed) whole front = front_of_second old between new first second whole front
+
+-- what is told is delivered, where nothing more is
+pub told_delivered : {E : Type 0} (old new : Option (List ℕ)) (told : Result ℕ E) (status : ℕ) → status ≡ status_told told → (text : List ℕ) (wanted : ℕ) → IsToldAs old new told text wanted
+    → IsDelivered old new text wanted status
+told_delivered old new (Ok s) status same text wanted (is, appends) = inl (same ∙ is, appends)
+told_delivered old new (Err failed) status same text wanted front = inr (same, front)

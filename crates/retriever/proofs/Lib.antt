@@ -5,3 +5,5 @@ pub mod RunLaws
 pub mod DeliveryLaws
 pub mod ProgramLaws
 pub mod LiveLaws
+pub mod SavingLaws
+pub mod ResumeLaws

@@ -33,10 +33,11 @@ use Rattle.report.specs.Named.{names_in}
 use Rattle.report.specs.Report.{report_text}
 use Rattle.report.proofs.NamedLaws.{names_of_lines, pages_of_lines}
 use Rattle.retriever.specs.Live.{IsRetrieved, HasHalted, Holding, LiveEnd, Whole, Torn, Halted, EndsLive, Lives, live_text, live_status, torn_line}
-use Rattle.retriever.specs.Parts.{IsDelivered, IsRead, brought_by, shown_of}
+use Rattle.retriever.specs.Parts.{IsRead, IsToldAs, brought_by, crew_left, shown_of, status_told}
 use Rattle.retriever.specs.Puts.{IsHaltTold, IsPutOf}
 use Rattle.retriever.specs.Trace.{trace_text}
 use Rattle.retriever.proofs.FoundLaws.{are_lines}
+use Rattle.retriever.proofs.DeliveryLaws.{told_delivered}
 use Rattle.retriever.proofs.EndLaws.{are_named, none_shown, status_of}
 
 -- what is complete by its own record is complete for that
@@ -97,14 +98,14 @@ once_left may_say may_rule plan asks cause h (inr empty) = empty.once
 -- ---- an end
 
 module _ (may_say : Text → Outcome → List ℕ → Type 0) (may_rule : Text → RuleSetValue → Type 0) (order : Order) (workers : ℕ) (asks : List Ask) (old new : Holding)
-    (before after : Option (List ℕ)) (status : ℕ) where
-  -- an end, with what is shown, and its text
-  abbrev Finished : Type 0
+    (IsTold : List ℕ → ℕ → Type 0) where
+  -- an end, with what is shown, and its text is told
+  abbrev pub Finished : Type 0
   Finished =
       (shown : List Event) × (ending : LiveEnd) × EndsLive may_say may_rule order workers asks old new shown ending
-      × IsDelivered before after (trace_text shown ++ live_text ending) (live_status ending) status
+      × IsTold (trace_text shown ++ live_text ending) (live_status ending)
 
-  ended : (h : Harvested) → Brings may_say may_rule order.plan asks h → IsRead h → IsPutOf order.trace (Ok h) old new before after status → Finished
+  ended : (h : Harvested) → Brings may_say may_rule order.plan asks h → IsRead h → IsPutOf IsTold order.trace (Ok h) old new → Finished
   ended h brings read (inl (same, told)) = ([], Halted why.Memory, (brings.once, inl refl, inl same), told)
   ended h brings read (inr (names, naming, inl (whole, quiet, told))) =
       let lines = lines_of h names in (
@@ -117,7 +118,7 @@ module _ (may_say : Text → Outcome → List ℕ → Type 0) (may_rule : Text �
           refl,
           (subst (λ (given : List (List ℕ)). IsWhole given h.bodies old.files new.files) (given h names read naming) whole, quiet),
         ),
-        subst (λ (wanted : ℕ). IsDelivered before after (trace_text (shown_of order.trace h.trace) ++ report_text lines) wanted status) (status_of order h names read brings.follows) told,
+        subst (λ (wanted : ℕ). IsTold (trace_text (shown_of order.trace h.trace) ++ report_text lines) wanted) (status_of order h names read brings.follows) told,
       )
   ended h brings read (inr (names, naming, inr (whole, torn, inl told))) =
       let lines = lines_of h names in (
@@ -130,7 +131,7 @@ module _ (may_say : Text → Outcome → List ℕ → Type 0) (may_rule : Text �
           refl,
           subst (λ (given : List (List ℕ)). IsTorn given h.bodies old.files new.files old.failed new.failed whole) (given h names read naming) torn,
         ),
-        subst (λ (text : List ℕ). IsDelivered before after text 3 status) (append_assoc (trace_text (shown_of order.trace h.trace)) (report_text lines) (torn_line whole)) told,
+        subst (λ (text : List ℕ). IsTold text 3) (append_assoc (trace_text (shown_of order.trace h.trace)) (report_text lines) (torn_line whole)) told,
       )
   ended h brings read (inr (names, naming, inr (whole, torn, inr told))) = (
     [],
@@ -157,7 +158,7 @@ module _ (may_say : Text → Outcome → List ℕ → Type 0) (may_rule : Text �
   left_halted cause h (inr empty) many = inl (none_shown order.trace h.trace empty.trace)
 
   stopped : (cause : Cause) (h : Harvested) → (cause ≢ why.Mismatch → IsLeft may_say may_rule order.plan asks cause h) → (cause ≡ why.Full → HasTooMany (policy order.plan) (answers h.state))
-      → (workers ≡ 1 → cause ≢ why.Mismatch) → new ≡ old → IsHaltTold order.trace (record { cause = cause; harvest = h }) before after status → Finished
+      → (workers ≡ 1 → cause ≢ why.Mismatch) → new ≡ old → IsHaltTold IsTold order.trace (record { cause = cause; harvest = h }) → Finished
   stopped why.Full h left many one same (inl told) =
       elim (left (λ is. cc)) [
         | inl leaves ↦ (shown_of order.trace h.trace, Halted why.Full, (h.trace, halted may_say may_rule order.plan asks why.Full h leaves many, refl, same), told)
@@ -179,27 +180,38 @@ module _ (may_say : Text → Outcome → List ℕ → Type 0) (may_rule : Text �
 -- ---- a crew
 
 module _ {F S : Type 0} (site : F → S) (says : S → Text → Outcome → List ℕ → Type 0) (rules : S → Text → RuleSetValue → Type 0) (log : F → List Ask) where
-  -- an end of what is known of the fetchers is that of a live retrieval
-  lives_from : (order : Order) (olds news : List F) (old new : Holding) (before after : Option (List ℕ)) (status : ℕ) → AreLater site log olds news
-      → Finished (SomeSays site says log olds news) (SomeRules site rules log olds news) order (length olds) (all_gained log olds news) old new before after status
-      → Lives site says rules log order olds old new before after status
-  lives_from order olds news old new before after status later (shown, ending, ends, written) =
-      record { left = news; later = later; shown = shown; ending = ending; ends = ends; written = written }
-
-  pub crew_lives : (order : Order) (olds : List F) (crew : Result (Retrieved F) (StoppedCrew F)) (brought : Result Harvested Halt) (old new : Holding) (before after : Option (List ℕ)) (status : ℕ)
+  -- what is put and told of what a crew brought is an end, by what is known of its fetchers
+  pub crew_ends : (order : Order) (olds : List F) (crew : Result (Retrieved F) (StoppedCrew F)) (brought : Result Harvested Halt) (old new : Holding) (IsTold : List ℕ → ℕ → Type 0)
       → brought ≡ brought_by crew
-      → IfOk crew (λ r. AreLater site log olds r.fetchers.items) × IfErr crew (λ s. AreLater site log olds s.fetchers.items)
       → IfOk crew (λ r. Brings (SomeSays site says log olds r.fetchers.items) (SomeRules site rules log olds r.fetchers.items) order.plan (all_gained log olds r.fetchers.items) r.harvest)
       → IfErr crew (λ s. s.cause ≢ why.Mismatch → IsLeft (SomeSays site says log olds s.fetchers.items) (SomeRules site rules log olds s.fetchers.items) order.plan
       (all_gained log olds s.fetchers.items) s.cause s.harvest)
       → IfErr crew (λ s. s.cause ≡ why.Full → HasTooMany (policy order.plan) (answers s.harvest.state) × IsOverfull (policy order.plan) s.harvest.state)
-      → (length olds ≡ 1 → IfErr crew (λ s. s.cause ≢ why.Mismatch)) → IfOk brought IsRead → IsPutOf order.trace brought old new before after status
+      → (length olds ≡ 1 → IfErr crew (λ s. s.cause ≢ why.Mismatch)) → IfOk brought IsRead → IsPutOf IsTold order.trace brought old new
+      → Finished (SomeSays site says log olds (crew_left crew)) (SomeRules site rules log olds (crew_left crew)) order (length olds) (all_gained log olds (crew_left crew)) old new IsTold
+  crew_ends order olds (Ok r) brought old new IsTold is brings left full one read put =
+      ended _ _ order (length olds) _ old new IsTold r.harvest brings (subst (λ (b : Result Harvested Halt). IfOk b IsRead) is read)
+      (subst (λ (b : Result Harvested Halt). IsPutOf IsTold order.trace b old new) is put)
+  crew_ends order olds (Err s) brought old new IsTold is brings left full one read put =
+      let told = subst (λ (b : Result Harvested Halt). IsPutOf IsTold order.trace b old new) is put in
+      stopped _ _ order (length olds) _ old new IsTold s.cause s.harvest left (λ why. (full why).0) one told.0 told.1
+
+  -- the fetchers of a crew are those that were given, each after some asks
+  pub crew_later : (olds : List F) (crew : Result (Retrieved F) (StoppedCrew F))
+      → IfOk crew (λ r. AreLater site log olds r.fetchers.items) × IfErr crew (λ s. AreLater site log olds s.fetchers.items) → AreLater site log olds (crew_left crew)
+  crew_later olds (Ok r) later = later.0
+  crew_later olds (Err s) later = later.1
+
+  -- an end whose text is delivered is a live retrieval
+  pub lives_from : {E : Type 0} (order : Order) (olds news : List F) (old new : Holding) (before after : Option (List ℕ)) (told : Result ℕ E) (status : ℕ) → AreLater site log olds news
+      → status ≡ status_told told
+      → Finished (SomeSays site says log olds news) (SomeRules site rules log olds news) order (length olds) (all_gained log olds news) old new (IsToldAs before after told)
       → Lives site says rules log order olds old new before after status
-  crew_lives order olds (Ok r) brought old new before after status is later brings left full one read put =
-      lives_from order olds r.fetchers.items old new before after status later.0
-      (ended _ _ order (length olds) _ old new before after status r.harvest brings (subst (λ (b : Result Harvested Halt). IfOk b IsRead) is read)
-      (subst (λ (b : Result Harvested Halt). IsPutOf order.trace b old new before after status) is put))
-  crew_lives order olds (Err s) brought old new before after status is later brings left full one read put =
-      let told = subst (λ (b : Result Harvested Halt). IsPutOf order.trace b old new before after status) is put in
-      lives_from order olds s.fetchers.items old new before after status later.1
-      (stopped _ _ order (length olds) _ old new before after status s.cause s.harvest left (λ why. (full why).0) one told.0 told.1)
+  lives_from order olds news old new before after told status later same (shown, ending, ends, written) = record {
+    left = news;
+    later = later;
+    shown = shown;
+    ending = ending;
+    ends = ends;
+    written = told_delivered before after told status same _ _ written;
+  }

@@ -4,8 +4,11 @@ use Rattle.std.specs.List.{flat_map}
 use Rattle.std.specs.Option.{option_map_or}
 use Rattle.clap.specs.Values.{kind_text}
 use Rattle.clap.specs.declared.error.ErrorKind.{ErrorKind}
+use Rattle.clap.specs.declared.error.ErrorKind.TheVariants.{DisplayVersion}
 use Rattle.address.specs.declared.fault.AddressFault.{AddressFault}
 use Rattle.address.specs.declared.fault.AddressFault.TheVariants as refused
+use Rattle.options.specs.Help.{help_text}
+use Rattle.options.specs.declared.help.TheConstants.{VERSION}
 use Rattle.options.specs.declared.fault.LineFault.{LineFault}
 use Rattle.options.specs.declared.fault.LineFault.TheVariants as line
 use Rattle.retriever.specs.declared.advice.Advice.{Advice}
@@ -13,46 +16,52 @@ use Rattle.retriever.specs.declared.advice.Advice.TheVariants as advice
 use Rattle.retriever.specs.declared.fault.Fault.{Fault}
 use Rattle.retriever.specs.declared.fault.Fault.TheVariants as fault
 
--- what a person is told: what the program is for and its usage, or what is wrong and what is accepted in its place
+-- what a person is told: the help, name and version, or what is wrong and what is accepted in its place
 pub data Told : Type 0 where
-  Usage : Told
+  Help : Told
+  Version : Told
   Correction : List ℕ → List ℕ → Told
 
 -- what an advice tells
 abbrev pub told_by : Advice → Told
-told_by advice.Usage = Usage
+told_by advice.Help = Help
+told_by advice.Version = Version
 told_by (advice.Correction wrong accepted) = Correction wrong.now accepted.now
 
 -- ---- what is accepted
 
 -- as words
 abbrev pub accepted_words : List ℕ
-accepted_words =
-    codes "accepted are START and, once each, -r, -l N, -p, -np, -H, -D LIST, --exclude-domains LIST, -I LIST, -X LIST, -A LIST, -R LIST, -e robots=on, -e robots=off, -P DIR, --workers 1 to 64, --per-host 1 to 16, --max-urls 1 to 1000000, --map, --record and --trace"
+accepted_words = codes "wgetr --help says which words are accepted"
 
 -- as a start
 abbrev pub accepted_start : List ℕ
 accepted_start =
-    codes "START is an address as http://host/path?query, without user name and password, with at most 8192 bytes and a host of at most 255"
+    codes "START is an address in full, as http://example.org/path?query, without user name and password, with at most 8192 bytes and a host of at most 255"
 
 -- ---- what is told
 
 -- what is wrong with a start that is no address; nothing where memory ran out
 abbrev pub wrong_start : AddressFault → Option (List ℕ)
 wrong_start refused.TooLong = Some (codes "START is too long")
-wrong_start refused.NotUrl = Some (codes "START is no URL")
-wrong_start refused.NotHttp = Some (codes "START isn't an http address")
+wrong_start refused.NotUrl = Some (codes "START is no URL (http:// may be missing)")
+wrong_start refused.NotHttp = Some (codes "START isn't an http address, and wgetr speaks neither https nor any other scheme")
 wrong_start refused.UserInfo = Some (codes "START has a user name or a password")
 wrong_start refused.Memory = None
 
--- of the parser's short text on words that it refuses; it has none of a request for help, which the usage answers
-abbrev pub told_of_text : Option (List ℕ) → Told
-told_of_text None = Usage
-told_of_text (Some wrong) = Correction wrong accepted_words
+-- of words that ask for something: for the version, or for help
+abbrev pub told_of_asked : ErrorKind → Told
+told_of_asked DisplayVersion = Version
+told_of_asked other = Help
+
+-- of words for which the parser has this short text; it has none of words that ask for something
+abbrev pub told_of_text : ErrorKind → Option (List ℕ) → Told
+told_of_text why None = told_of_asked why
+told_of_text why (Some wrong) = Correction wrong accepted_words
 
 -- of words that the parser refuses
 abbrev pub told_of_kind : ErrorKind → Told
-told_of_kind why = told_of_text (kind_text why)
+told_of_kind why = told_of_text why (kind_text why)
 
 -- of words that are no order; nothing where memory ran out
 abbrev pub told_on_line : LineFault → Option Told
@@ -83,10 +92,9 @@ told_on fault.Memory = None
 
 -- ---- the text
 
--- what the program is for, and its usage
-abbrev pub usage : List ℕ
-usage =
-    codes "wgetr retrieves a site recursively and reports what it found: it follows links by GNU Wget's rules and heeds robots files.\nusage: wgetr [options] START\n       wgetr [options] --map START < MAP\n       wgetr [options] --record START < RECORD\n"
+-- name and version
+abbrev pub version_text : List ℕ
+version_text = codes "wgetr " ++ VERSION.now ++ codes "\n"
 
 -- a word behind a space
 abbrev pub word_text : List ℕ → List ℕ
@@ -99,7 +107,8 @@ correction_text words wrong accepted =
 
 -- the lines of what is told of these words
 abbrev pub said : List (List ℕ) → Told → List ℕ
-said words Usage = usage ++ accepted_words ++ codes "\n"
+said words Help = help_text
+said words Version = version_text
 said words (Correction wrong accepted) = correction_text words wrong accepted
 
 -- the lines on a fault of these words, none where nothing is told

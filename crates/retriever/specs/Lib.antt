@@ -8,3 +8,6 @@ pub mod Advice
 pub mod Program
 pub mod Live
 pub mod Puts
+pub mod Saving
+pub mod Resuming
+pub mod Systems

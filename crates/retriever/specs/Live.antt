@@ -139,6 +139,5 @@ pub record Lives {F S : Type 0} (site : F → S) (says : S → Text → Outcome 
 -- ---- parts
 
 -- a report's text is told behind a put that failed: with the line of it, or there is no memory for that
-abbrev pub IsTornTold : List ℕ → ℕ → Option (List ℕ) → Option (List ℕ) → ℕ → Type 0
-IsTornTold text whole before after status =
-    IsDelivered before after (text ++ torn_line whole) 3 status ⊎ IsDelivered before after (codes "stopped memory\n") 1 status
+abbrev pub IsTornTold : (List ℕ → ℕ → Type 0) → List ℕ → ℕ → Type 0
+IsTornTold IsTold text whole = IsTold (text ++ torn_line whole) 3 ⊎ IsTold (codes "stopped memory\n") 1

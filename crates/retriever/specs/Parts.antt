@@ -61,6 +61,16 @@ IsOutput IsOf order known text status = (site : SiteAnswers) × TellsOf IsOf kno
 abbrev pub IsDelivered : Option (List ℕ) → Option (List ℕ) → List ℕ → ℕ → ℕ → Type 0
 IsDelivered old new text wanted status = ((status ≡ wanted) × Appends old new text) ⊎ ((status ≡ 1) × AppendsFront old new text)
 
+-- the writer gained the text, behind which the run has this status unless more is told, or the writer failed
+abbrev pub IsToldAs : {E : Type 0} → Option (List ℕ) → Option (List ℕ) → Result ℕ E → List ℕ → ℕ → Type 0
+IsToldAs old new (Ok status) text wanted = (status ≡ wanted) × Appends old new text
+IsToldAs old new (Err failed) text wanted = AppendsFront old new text
+
+-- the status of a run that has nothing more to tell
+abbrev pub status_told : {E : Type 0} → Result ℕ E → ℕ
+status_told (Ok status) = status
+status_told (Err failed) = 1
+
 -- the line of the fault is delivered with its status, or that of want of memory
 abbrev pub IsRefusal : Option (List ℕ) → Option (List ℕ) → Fault → ℕ → Type 0
 IsRefusal old new wrong status =
@@ -82,6 +92,11 @@ is_borne_out cause.Mismatch = false
 abbrev pub brought_by : {F : Type 0} → Result (Retrieved F) (StoppedCrew F) → Result Harvested Halt
 brought_by (Ok r) = Ok r.harvest
 brought_by (Err s) = Err (record { cause = s.cause; harvest = s.harvest })
+
+-- the fetchers of a crew
+abbrev pub crew_left : {F : Type 0} → Result (Retrieved F) (StoppedCrew F) → List F
+crew_left (Ok r) = r.fetchers.items
+crew_left (Err s) = s.fetchers.items
 
 -- what is told of a retrieval: its report, in which the kept pages have their names, and the status of its records, or the
 -- cause for which it stopped; before either what is shown of its trace, which is nothing where a check failed

@@ -1,18 +1,13 @@
 -- What the program makes of its arguments, and what a person is told of them.
-use Rattle.std.specs.Prelude.{◌≡◌, ◌⊎◌, ◌++◌, ℕ, Bool, List, Option, String, All, codes, drop, length, map, string_bytes}
+use Rattle.std.specs.Prelude.{◌≡◌, ◌⊎◌, ◌++◌, ℕ, List, Option, String, codes, drop, map, string_bytes}
 use Rattle.std.specs.declared.io.ErrorKind.{ErrorKind}
 use Rattle.std.specs.declared.io.ErrorKind.TheVariants.{OutOfMemory}
 use Rattle.retriever.specs.Advice.{said_of}
 use Rattle.options.specs.declared.order.Order.{Order}
-use Rattle.local_tree.specs.Folders.{Files}
-use Rattle.fetcher.specs.declared.fetcher.Ask.{Ask}
-use Rattle.fetcher.specs.declared.outcome.Outcome.{Outcome}
-use Rattle.robots_rules.specs.Access.{RuleSetValue}
-use Rattle.frontier_core.specs.Tables.{Text}
-use Rattle.retriever.specs.Live.{Lives, holding}
 use Rattle.retriever.specs.Order.{AreForInput, AreForLive, IsLiveOrder, IsRefused}
 use Rattle.retriever.specs.Parts.{IsDelivered, IsRefusal}
 use Rattle.retriever.specs.Run.{Runs, fault_words, fault_status}
+use Rattle.retriever.specs.Systems.{Means, LivesIn}
 use Rattle.streams.specs.Streams.{AppendsFront}
 use Rattle.retriever.specs.declared.fault.Fault.{Fault}
 use Rattle.retriever.specs.declared.fault.Fault.TheVariants as fault
@@ -40,23 +35,10 @@ IsTold words before after errors_old errors_new told_before told_after status =
 
 -- ---- a site on the network
 
--- The live retrieval that is ordered, by fetchers that the system makes for the plan's robots setting, as many as there are
--- to be workers, and into a folder that it opens at the order's prefix.
-pub record LivesIn {F T D : Type 0} (site : F → T) (says : T → Text → Outcome → List ℕ → Type 0) (rules : T → Text → RuleSetValue → Type 0) (log : F → List Ask)
-    (makes : Bool → F → Type 0) (opens : List ℕ → D → Type 0) (files : D → Option Files) (failed : D → ℕ) (order : Order) (before after : Option (List ℕ)) (status : ℕ) : Type 0 where
-  pub fetchers : List F
-  pub made : All (makes order.plan.robots) fetchers
-  pub count : length fetchers ≡ order.workers
-  pub folder : D
-  pub opened : opens order.prefix folder
-  pub left : D
-  pub lives : Lives site says rules log order fetchers (holding files failed folder) (holding files failed left) before after status
-
 -- the live retrieval that the words order, or the line of want of memory before it
-abbrev pub LivesFor : {F T D : Type 0} → (F → T) → (T → Text → Outcome → List ℕ → Type 0) → (T → Text → RuleSetValue → Type 0) → (F → List Ask)
-    → (Bool → F → Type 0) → (List ℕ → D → Type 0) → (D → Option Files) → (D → ℕ) → Option (List ℕ) → Option (List ℕ) → ℕ → List (List ℕ) → Type 0
-LivesFor site says rules log makes opens files failed before after status words =
-    ((order : Order) × IsLiveOrder words order × LivesIn site says rules log makes opens files failed order before after status) ⊎ IsRefusal before after fault.Memory status
+abbrev pub LivesFor : {S F D V : Type 0} → Means S F D V → Option (List ℕ) → Option (List ℕ) → ℕ → List (List ℕ) → Type 0
+LivesFor m before after status words =
+    ((order : Order) × IsLiveOrder words order × LivesIn m order before after status) ⊎ IsRefusal before after fault.Memory status
 
 -- ---- the program
 

@@ -1,4 +1,5 @@
--- What is put into a folder and told of what a retrieval brought, before it is said what that is.
+-- What is put into a folder and told of what a retrieval brought, before it is said what that is. How a text is told, with the
+-- status that belongs to it, is left to who says it.
 use Rattle.std.specs.Prelude.{◌≡◌, ◌⊎◌, ◌&&◌, ℕ, Bool, List, ◌++◌, map, codes, Option, Result, Ok, Err}
 use Rattle.frontier_core.specs.declared.event.Cause.{Cause}
 use Rattle.frontier_core.specs.declared.event.Cause.TheVariants as cause
@@ -25,20 +26,20 @@ bare_cause cause.Memory = cause.Memory
 bare_cause cause.Mismatch = cause.Mismatch
 
 -- the line of a retrieval that stopped is told, behind what is shown of its trace, or without that for want of memory
-abbrev pub IsHaltTold : Bool → Halt → Option (List ℕ) → Option (List ℕ) → ℕ → Type 0
-IsHaltTold is_shown halt before after status =
-    IsDelivered before after (trace_text (shown_of (is_borne_out halt.cause && is_shown) halt.harvest.trace) ++ finish_text (Stopped halt.cause)) 1 status
-    ⊎ IsDelivered before after (finish_text (Stopped (bare_cause halt.cause))) 1 status
+abbrev pub IsHaltTold : (List ℕ → ℕ → Type 0) → Bool → Halt → Type 0
+IsHaltTold IsTold is_shown halt =
+    IsTold (trace_text (shown_of (is_borne_out halt.cause && is_shown) halt.harvest.trace) ++ finish_text (Stopped halt.cause)) 1
+    ⊎ IsTold (finish_text (Stopped (bare_cause halt.cause))) 1
 
 -- how many files were whole when a put failed
 abbrev pub files_whole : WriteFault → ℕ
 files_whole (Device whole) = whole
 
 -- these files were put, and then the text was told with this status, or a put failed
-abbrev pub IsPutAndTold : List (List ℕ) → List (List ℕ) → List ℕ → ℕ → Holding → Holding → Option (List ℕ) → Option (List ℕ) → ℕ → Type 0
-IsPutAndTold names bodies text wanted old new before after status =
-    (IsWhole names bodies old.files new.files × (new.failed ≡ old.failed) × IsDelivered before after text wanted status)
-    ⊎ ((whole : ℕ) × IsTorn names bodies old.files new.files old.failed new.failed whole × IsTornTold text whole before after status)
+abbrev pub IsPutAndTold : (List ℕ → ℕ → Type 0) → List (List ℕ) → List (List ℕ) → List ℕ → ℕ → Holding → Holding → Type 0
+IsPutAndTold IsTold names bodies text wanted old new =
+    (IsWhole names bodies old.files new.files × (new.failed ≡ old.failed) × IsTold text wanted)
+    ⊎ ((whole : ℕ) × IsTorn names bodies old.files new.files old.failed new.failed whole × IsTornTold IsTold text whole)
 
 -- the text of a harvest whose kept pages have these names
 abbrev pub harvest_text : Bool → Harvested → List (List ℕ) → List ℕ
@@ -46,9 +47,9 @@ harvest_text is_shown h names = trace_text (shown_of is_shown h.trace) ++ report
 
 -- what is put and told of what a retrieval brought: the kept pages and the report, or the line of the cause for which it
 -- stopped; or there is no memory for it, and nothing is put
-abbrev pub IsPutOf : Bool → Result Harvested Halt → Holding → Holding → Option (List ℕ) → Option (List ℕ) → ℕ → Type 0
-IsPutOf is_shown (Ok h) old new before after status =
-    ((new ≡ old) × IsDelivered before after (codes "stopped memory\n") 1 status)
+abbrev pub IsPutOf : (List ℕ → ℕ → Type 0) → Bool → Result Harvested Halt → Holding → Holding → Type 0
+IsPutOf IsTold is_shown (Ok h) old new =
+    ((new ≡ old) × IsTold (codes "stopped memory\n") 1)
     ⊎ ((names : List (List ℕ)) × IsNaming (map plain_name_of h.kept) names
-    × IsPutAndTold names h.bodies (harvest_text is_shown h names) (exit_status (map (λ recorded. recorded.1) h.records)) old new before after status)
-IsPutOf is_shown (Err halt) old new before after status = (new ≡ old) × IsHaltTold is_shown halt before after status
+    × IsPutAndTold IsTold names h.bodies (harvest_text is_shown h names) (exit_status (map (λ recorded. recorded.1) h.records)) old new)
+IsPutOf IsTold is_shown (Err halt) old new = (new ≡ old) × IsHaltTold IsTold is_shown halt

@@ -1,35 +1,31 @@
-//! What is said to a person of words that are refused: what is wrong and what is accepted, or what the program is for.
+//! What is said to a person of words that are refused: what is wrong and what is accepted, or the help or the version that they
+//! ask for.
 
 ghost use Rattle.std.specs.Prelude.{◌≡◌, ◌++◌, IfOk, codes, map, option_map, string_bytes};
 ghost use Rattle.std.specs.List.{flat_map};
-ghost use Rattle.retriever.specs.Advice.{wrong_start, told_by, told_of_kind, told_on, told_on_line, said, word_text};
+ghost use Rattle.retriever.specs.Advice.{wrong_start, told_by, told_of_asked, told_of_kind, told_on, told_on_line, said, word_text};
 
 use crate::fault::Fault;
 use address::AddressFault;
 use clap::error::ErrorKind;
-use options::LineFault;
+use options::{LineFault, VERSION, help_text};
 use std::alloc::{AllocError, Global};
 
 /// What a person is told.
 #[derive(Clone, Copy)]
 pub(crate) enum Advice {
-    /// What the program is for, and its usage.
-    Usage,
+    /// The help, which was asked for.
+    Help,
+    /// Name and version, which were asked for.
+    Version,
     /// What is wrong with the words, and what is accepted in its place.
     Correction(&'static str, &'static str),
 }
 
-const USAGE: &str =
-    "wgetr retrieves a site recursively and reports what it found: it follows links by GNU Wget's rules and heeds robots files.\n\
-usage: wgetr [options] START\n       wgetr [options] --map START < MAP\n       wgetr [options] --record START < RECORD\n";
-
-const OPTIONS: &str =
-    "accepted are START and, once each, -r, -l N, -p, -np, -H, -D LIST, --exclude-domains LIST, \
--I LIST, -X LIST, -A LIST, -R LIST, -e robots=on, -e robots=off, -P DIR, --workers 1 to 64, --per-host 1 to 16, \
---max-urls 1 to 1000000, --map, --record and --trace";
+const OPTIONS: &str = "wgetr --help says which words are accepted";
 
 const START: &str =
-    "START is an address as http://host/path?query, without user name and password, with at most \
+    "START is an address in full, as http://example.org/path?query, without user name and password, with at most \
 8192 bytes and a host of at most 255";
 
 // What is wrong with a start that is no address.
@@ -38,21 +34,32 @@ fn wrong_start(refused: AddressFault) -> Option<&'static str>
 {
     match refused {
         AddressFault::TooLong => Some("START is too long"),
-        AddressFault::NotUrl => Some("START is no URL"),
-        AddressFault::NotHttp => Some("START isn't an http address"),
+        AddressFault::NotUrl => Some("START is no URL (http:// may be missing)"),
+        AddressFault::NotHttp => Some(
+            "START isn't an http address, and wgetr speaks neither https nor any other scheme",
+        ),
         AddressFault::UserInfo => Some("START has a user name or a password"),
         AddressFault::Memory => None,
     }
 }
 
-// What is said of words that the parser refuses: its own short text. It has none of a request for help, which the usage
-// answers.
+// What is said of words that ask for something: for the version, or for help.
+fn asked_advice(kind: ErrorKind) -> Advice
+    ensures { told_by result ≡ told_of_asked kind }
+{
+    match kind {
+        ErrorKind::DisplayVersion => Advice::Version,
+        _ => Advice::Help,
+    }
+}
+
+// What is said of words that the parser refuses: its own short text. It has none of words that ask for something.
 fn kind_advice(kind: ErrorKind) -> Advice
     ensures { told_by result ≡ told_of_kind kind }
 {
     match kind.as_str() {
         Some(wrong) => Advice::Correction(wrong, OPTIONS),
-        None => Advice::Usage,
+        None => asked_advice(kind),
     }
 }
 
@@ -125,7 +132,8 @@ pub(crate) fn advice_text(
     ensures { IfOk result (λ text. string_bytes text ≡ said (map (λ word. word.now) words.now) (told_by advice)) }
 {
     match advice {
-        Advice::Usage => format!(in alloc; "{USAGE}{OPTIONS}\n"),
+        Advice::Help => help_text(alloc),
+        Advice::Version => format!(in alloc; "wgetr {VERSION}\n"),
         Advice::Correction(wrong, accepted) => correction_text(alloc, wrong, accepted, words),
     }
 }

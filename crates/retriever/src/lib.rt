@@ -6,15 +6,19 @@
 pub use crate::input_run::run;
 pub use crate::live_run::live;
 pub use crate::program::run_program;
-pub use crate::system::System;
+pub use crate::saved_run::live_resumed;
+pub use crate::system::{HoldFault, System};
 
 mod advice;
 mod copies;
 mod fault;
 mod input_run;
+mod live_order;
 mod live_run;
 mod order;
 mod program;
+mod resume_fault;
+mod saved_run;
 mod system;
 mod told;
 mod trace;

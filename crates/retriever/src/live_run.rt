@@ -3,12 +3,11 @@ ghost use Rattle.std.specs.Prelude.{◌≡◌, ◌<◌, ◌≤◌, ◌++◌, IfO
 ghost use Rattle.report.specs.ExitStatus.{exit_status};
 ghost use Rattle.local_tree.specs.Names.{AreDistinct};
 ghost use Rattle.retriever.specs.Live.{IsTornTold, Lives, holding, torn_line};
-ghost use Rattle.retriever.specs.Parts.{IsDelivered, IsRead};
+ghost use Rattle.retriever.specs.Parts.{IsRead, IsToldAs, status_told};
 ghost use Rattle.retriever.specs.Puts.{IsHaltTold, IsPutAndTold, IsPutOf, bare_cause, files_whole};
 ghost use Rattle.retriever.specs.Retrieved.{Stopped};
 ghost use Rattle.retriever.specs.Run.{finish_text};
 
-use crate::input_run::deliver;
 use crate::told::{brought_by, halt_text, telling_of};
 use fetcher::Fetcher;
 use frontier_core::Cause;
@@ -19,7 +18,7 @@ use std::alloc::{AllocError, Global};
 use std::io::Write;
 use std::sync::Wait;
 use std::thread::Threads;
-use streams::write_text;
+use streams::{WriteFailed, write_text};
 use workers::{Halt, Harvest};
 
 // The line for a cause where there is no memory for more.
@@ -32,30 +31,49 @@ fn bare_line(cause: Cause) -> &'static str
     }
 }
 
+// Writes a text, and gives the status of a run that has nothing more to tell. The error is that the writer failed: then nothing
+// more is told.
+fn tell<W: Write>(writer: &mut W, text: &[u8], status: u8) -> Result<u8, WriteFailed>
+    ensures { IsToldAs (W.contents writer.old) (W.contents writer.new) result text.now status }
+{
+    write_text(writer, text)?;
+    Ok(status)
+}
+
 // Tells of a retrieval that stopped.
-fn tell_halt<W: Write>(alloc: Global, is_shown: bool, halt: &Halt, writer: &mut W) -> u8
-    ensures { IsHaltTold is_shown halt.now (W.contents writer.old) (W.contents writer.new) result }
+fn tell_halt<W: Write>(
+    alloc: Global,
+    is_shown: bool,
+    halt: &Halt,
+    writer: &mut W,
+) -> Result<u8, WriteFailed>
+    ensures { IsHaltTold (IsToldAs (W.contents writer.old) (W.contents writer.new) result) is_shown halt.now }
 {
     match halt_text(alloc, is_shown, halt) {
-        Ok(text) => deliver(writer, text.as_bytes(), 1),
-        Err(_) => deliver(writer, bare_line(halt.cause).as_bytes(), 1),
+        Ok(text) => tell(writer, text.as_bytes(), 1),
+        Err(_) => tell(writer, bare_line(halt.cause).as_bytes(), 1),
     }
 }
 
 // Tells a harvest's text, with the status of its report.
-fn tell_report<W: Write>(harvest: &Harvest, text: &str, writer: &mut W) -> u8
-    ensures { IsDelivered (W.contents writer.old) (W.contents writer.new) text.now (exit_status (map (λ recorded. recorded.1) harvest.now.records)) result }
+fn tell_report<W: Write>(harvest: &Harvest, text: &str, writer: &mut W) -> Result<u8, WriteFailed>
+    ensures { IsToldAs (W.contents writer.old) (W.contents writer.new) result text.now (exit_status (map (λ recorded. recorded.1) harvest.now.records)) }
 {
-    deliver(writer, text.as_bytes(), exit_status(harvest))
+    tell(writer, text.as_bytes(), exit_status(harvest))
 }
 
-// Writes one text behind another, and gives this status, or 1 where the writer fails.
-fn deliver_both<W: Write>(writer: &mut W, first: &str, second: &str, status: u8) -> u8
-    ensures { IsDelivered (W.contents writer.old) (W.contents writer.new) (first.now ++ second.now) status result }
+// Writes one text behind another, and gives this status.
+fn tell_both<W: Write>(
+    writer: &mut W,
+    first: &str,
+    second: &str,
+    status: u8,
+) -> Result<u8, WriteFailed>
+    ensures { IsToldAs (W.contents writer.old) (W.contents writer.new) result (first.now ++ second.now) status }
 {
     match write_text(writer, first.as_bytes()) {
-        Ok(()) => deliver(writer, second.as_bytes(), status),
-        Err(_) => 1,
+        Ok(()) => tell(writer, second.as_bytes(), status),
+        Err(failed) => Err(failed),
     }
 }
 
@@ -68,12 +86,17 @@ fn torn_line(alloc: Global, whole: usize) -> Result<String, AllocError>
 
 // Tells a harvest's text, and behind it how many files were whole when a put failed. The text isn't copied for that line, since
 // memory may be what failed.
-fn tell_torn<W: Write>(alloc: Global, text: &str, whole: usize, writer: &mut W) -> u8
-    ensures { IsTornTold text.now whole (W.contents writer.old) (W.contents writer.new) result }
+fn tell_torn<W: Write>(
+    alloc: Global,
+    text: &str,
+    whole: usize,
+    writer: &mut W,
+) -> Result<u8, WriteFailed>
+    ensures { IsTornTold (IsToldAs (W.contents writer.old) (W.contents writer.new) result) text.now whole }
 {
     match torn_line(alloc, whole) {
-        Ok(line) => deliver_both(writer, text, line.as_str(), 3),
-        Err(_) => deliver(writer, b"stopped memory\n", 1),
+        Ok(line) => tell_both(writer, text, line.as_str(), 3),
+        Err(_) => tell(writer, b"stopped memory\n", 1),
     }
 }
 
@@ -94,11 +117,11 @@ fn put_and_tell<D: Folder, W: Write>(
     harvest: &Harvest,
     folder: &mut D,
     writer: &mut W,
-) -> u8
+) -> Result<u8, WriteFailed>
     requires count { length names.now ≡ length harvest.now.kept }
     requires distinct { AreDistinct (map string_bytes names.now) }
-    ensures { IsPutAndTold (map string_bytes names.now) harvest.now.bodies text.now (exit_status (map (λ recorded. recorded.1) harvest.now.records))
-        (holding D.files D.failed folder.old) (holding D.files D.failed folder.new) (W.contents writer.old) (W.contents writer.new) result }
+    ensures { IsPutAndTold (IsToldAs (W.contents writer.old) (W.contents writer.new) result) (map string_bytes names.now) harvest.now.bodies text.now
+        (exit_status (map (λ recorded. recorded.1) harvest.now.records)) (holding D.files D.failed folder.old) (holding D.files D.failed folder.new) }
 {
     match write_site(folder, names, harvest) {
         Ok(()) => tell_report(harvest, text, writer),
@@ -113,8 +136,9 @@ fn finish_harvest<D: Folder, W: Write>(
     harvest: &Harvest,
     folder: &mut D,
     writer: &mut W,
-) -> u8
-    ensures told { IsPutOf is_shown (Ok harvest.now) (holding D.files D.failed folder.old) (holding D.files D.failed folder.new) (W.contents writer.old) (W.contents writer.new) result }
+) -> Result<u8, WriteFailed>
+    ensures told { IsPutOf (IsToldAs (W.contents writer.old) (W.contents writer.new) result) is_shown (Ok harvest.now)
+        (holding D.files D.failed folder.old) (holding D.files D.failed folder.new) }
     ensures read { IsRead harvest.now }
 {
     match telling_of(alloc, is_shown, harvest) {
@@ -126,24 +150,35 @@ fn finish_harvest<D: Folder, W: Write>(
             folder,
             writer,
         ),
-        Err(_) => deliver(writer, b"stopped memory\n", 1),
+        Err(_) => tell(writer, b"stopped memory\n", 1),
     }
 }
 
-// Puts and tells what a retrieval brought.
-fn finish<D: Folder, W: Write>(
+/// Puts and tells what a retrieval brought. The error is that the writer failed.
+pub(crate) fn finish<D: Folder, W: Write>(
     alloc: Global,
     is_shown: bool,
     brought: &Result<Harvest, Halt>,
     folder: &mut D,
     writer: &mut W,
-) -> u8
-    ensures told { IsPutOf is_shown brought.now (holding D.files D.failed folder.old) (holding D.files D.failed folder.new) (W.contents writer.old) (W.contents writer.new) result }
+) -> Result<u8, WriteFailed>
+    ensures told { IsPutOf (IsToldAs (W.contents writer.old) (W.contents writer.new) result) is_shown brought.now
+        (holding D.files D.failed folder.old) (holding D.files D.failed folder.new) }
     ensures read { IfOk brought.now IsRead }
 {
     match brought {
         Ok(harvest) => finish_harvest(alloc, is_shown, harvest, folder, writer),
         Err(halt) => tell_halt(alloc, is_shown, halt, writer),
+    }
+}
+
+// The status of a run that has nothing more to tell: 1 where the writer failed.
+fn status_told(told: Result<u8, WriteFailed>) -> u8
+    ensures { result ≡ status_told told }
+{
+    match told {
+        Ok(status) => status,
+        Err(_) => 1,
     }
 }
 
@@ -167,5 +202,5 @@ pub fn live<H: Threads + Wait + Sync, F: Fetcher + Send, D: Folder, W: Write>(
         (W.contents writer.old) (W.contents writer.new) result }
 {
     let brought = brought_by(workers::retrieve(rt, alloc, &order.plan, fetchers));
-    finish(alloc, order.trace, &brought, folder, writer)
+    status_told(finish(alloc, order.trace, &brought, folder, writer))
 }

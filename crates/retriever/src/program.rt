@@ -1,19 +1,19 @@
 //! The program on its words, its three streams and the system: what a person is told, and the run, or the live retrieval.
-ghost use Rattle.std.specs.Prelude.{◌≡◌, ◌≢◌, ◌⊎◌, ◌++◌, [], codes, All, IfOk, IfErr, OnErr, Ok, None, drop, map, string_bytes, vec_len};
+ghost use Rattle.std.specs.Prelude.{◌≡◌, ◌≢◌, ◌⊎◌, ◌++◌, [], codes, IfOk, IfErr, Ok, None, drop, map, string_bytes};
 ghost use Rattle.std.specs.IoError.{error_kind};
 ghost use Rattle.std.specs.Vec.Iter.{into_iter_items};
 ghost use Rattle.options.specs.Order.{order_of, said_by};
 ghost use Rattle.retriever.specs.Advice.{told_on, said_of};
 ghost use Rattle.retriever.specs.Order.{AreForInput, AreForLive};
-ghost use Rattle.retriever.specs.Program.{IsExplained, IsTold, LivesFor, LivesIn, Starts, words_behind, words_fault};
-ghost use Rattle.retriever.specs.Parts.{IsRefusal};
+ghost use Rattle.retriever.specs.Program.{IsExplained, IsTold, LivesFor, Starts, words_behind, words_fault};
 ghost use Rattle.retriever.specs.Run.{Runs, fault_words};
+ghost use Rattle.retriever.specs.Systems.{means};
 ghost use Rattle.streams.specs.Streams.{AppendsFront};
 
 use crate::advice::{advice_on, advice_text};
 use crate::fault::{Fault, fault_text};
 use crate::input_run::{deliver, refuse, run};
-use crate::live_run::live;
+use crate::live_order::live_order;
 use crate::system::System;
 use options::{Order, Source, read_order};
 use std::alloc::{AllocError, Global};
@@ -121,56 +121,6 @@ fn explain<W: Write, E: Write>(
     }
 }
 
-// Fetchers for so many workers.
-fn fetchers_of<S: System>(
-    alloc: Global,
-    system: &S,
-    robots: bool,
-    count: u32,
-) -> Result<Vec<S::Fetcher>, AllocError>
-    ensures count { IfOk result (λ fetchers. vec_len fetchers ≡ count) }
-    ensures made { IfOk result (λ fetchers. All (S.makes system.now robots) fetchers.items) }
-{
-    let mut fetchers = Vec::new(alloc);
-    for _ in 0..count {
-        fetchers.push(system.fetcher(robots))?;
-    }
-    Ok(fetchers)
-}
-
-// Retrieves the live site that the order says, by fetchers of the system, into its folder.
-fn live_in<H: Threads + Wait + Sync, S: System, W: Write>(
-    rt: &H,
-    alloc: Global,
-    system: &S,
-    order: &Order,
-    writer: &mut W,
-) -> Result<u8, AllocError>
-    ensures lives { IfOk result (LivesIn S.Fetcher.site S.Fetcher.says S.Fetcher.rules S.Fetcher.log (S.makes system.now) (S.opens system.now) S.Folder.files S.Folder.failed order.now (W.contents writer.old) (W.contents writer.new)) }
-    ensures unwritten { OnErr result (writer.new ≡ writer.old) }
-{
-    let fetchers = fetchers_of(alloc, system, order.plan.robots, order.workers)?;
-    let mut folder = system.folder(order.prefix.as_str())?;
-    Ok(live(rt, alloc, order, fetchers, &mut folder, writer))
-}
-
-// The same, with its line where memory runs out before.
-fn live_of<H: Threads + Wait + Sync, S: System, W: Write>(
-    rt: &H,
-    alloc: Global,
-    system: &S,
-    order: &Order,
-    writer: &mut W,
-) -> u8
-    ensures { LivesIn S.Fetcher.site S.Fetcher.says S.Fetcher.rules S.Fetcher.log (S.makes system.now) (S.opens system.now) S.Folder.files S.Folder.failed order.now (W.contents writer.old) (W.contents writer.new) result
-        ⊎ IsRefusal (W.contents writer.old) (W.contents writer.new) Fault.Memory result }
-{
-    match live_in(rt, alloc, system, order, writer) {
-        Ok(status) => status,
-        Err(_) => refuse(alloc, Fault::Memory, writer),
-    }
-}
-
 // Retrieves the site on the network that the words order by the system, and runs on those for an input.
 fn run_order<H: Threads + Wait + Sync, S: System, R: Read, W: Write>(
     rt: &H,
@@ -184,11 +134,11 @@ fn run_order<H: Threads + Wait + Sync, S: System, R: Read, W: Write>(
     requires said { order_of (map (λ word. word.now) words.now) ≡ Ok (said_by order.now) }
     ensures runs { order.now.source ≢ Source.Live → Runs (map (λ word. word.now) words.now) (R.remaining reader.old) (W.contents writer.old) (W.contents writer.new) result }
     ensures lives { order.now.source ≡ Source.Live
-        → LivesFor S.Fetcher.site S.Fetcher.says S.Fetcher.rules S.Fetcher.log (S.makes system.now) (S.opens system.now) S.Folder.files S.Folder.failed (W.contents writer.old) (W.contents writer.new) result (map (λ word. word.now) words.now) }
+        → LivesFor (means S.System system.now S.Fetcher.Fetcher S.Fetcher.noted S.Folder.Folder S.Record.Write) (W.contents writer.old) (W.contents writer.new) result (map (λ word. word.now) words.now) }
     ensures unread { order.now.source ≡ Source.Live → reader.new ≡ reader.old }
 {
     match order.source {
-        Source::Live => live_of(rt, alloc, system, order, writer),
+        Source::Live => live_order(rt, alloc, system, order, writer),
         Source::Map => run(rt, alloc, words, reader, writer),
         Source::Recorded => run(rt, alloc, words, reader, writer),
     }
@@ -204,7 +154,7 @@ fn run_texts<H: Threads + Wait + Sync, S: System, R: Read, W: Write, E: Write>(
     writer: &mut W,
     errors: &mut E,
 ) -> u8
-    ensures { Starts (LivesFor S.Fetcher.site S.Fetcher.says S.Fetcher.rules S.Fetcher.log (S.makes system.now) (S.opens system.now) S.Folder.files S.Folder.failed (W.contents writer.old) (W.contents writer.new) result)
+    ensures { Starts (LivesFor (means S.System system.now S.Fetcher.Fetcher S.Fetcher.noted S.Folder.Folder S.Record.Write) (W.contents writer.old) (W.contents writer.new) result)
         (R.remaining reader.old) (W.contents writer.old) (W.contents writer.new) reader.old reader.new errors.old errors.new (E.contents errors.old) (E.contents errors.new) result
         (map (λ word. word.now) words.now) }
 {
@@ -224,7 +174,7 @@ fn run_words<H: Threads + Wait + Sync, S: System, R: Read, W: Write, E: Write>(
     writer: &mut W,
     errors: &mut E,
 ) -> u8
-    ensures { Starts (LivesFor S.Fetcher.site S.Fetcher.says S.Fetcher.rules S.Fetcher.log (S.makes system.now) (S.opens system.now) S.Folder.files S.Folder.failed (W.contents writer.old) (W.contents writer.new) result)
+    ensures { Starts (LivesFor (means S.System system.now S.Fetcher.Fetcher S.Fetcher.noted S.Folder.Folder S.Record.Write) (W.contents writer.old) (W.contents writer.new) result)
         (R.remaining reader.old) (W.contents writer.old) (W.contents writer.new) reader.old reader.new errors.old errors.new (E.contents errors.old) (E.contents errors.new) result
         (words_behind all.now) }
 {
@@ -244,7 +194,7 @@ fn run_args<H: Threads + Wait + Sync, S: System, R: Read, W: Write, E: Write>(
     writer: &mut W,
     errors: &mut E,
 ) -> u8
-    ensures { Starts (LivesFor S.Fetcher.site S.Fetcher.says S.Fetcher.rules S.Fetcher.log (S.makes system.now) (S.opens system.now) S.Folder.files S.Folder.failed (W.contents writer.old) (W.contents writer.new) result)
+    ensures { Starts (LivesFor (means S.System system.now S.Fetcher.Fetcher S.Fetcher.noted S.Folder.Folder S.Record.Write) (W.contents writer.old) (W.contents writer.new) result)
         (R.remaining reader.old) (W.contents writer.old) (W.contents writer.new) reader.old reader.new errors.old errors.new (E.contents errors.old) (E.contents errors.new) result
         (words_behind (into_iter_items args)) }
 {
@@ -255,7 +205,9 @@ fn run_args<H: Threads + Wait + Sync, S: System, R: Read, W: Write, E: Write>(
 }
 
 /// Runs the program on its arguments, the program's name first, and its three streams. Words that order a site on the network
-/// are retrieved by [`live`], with as many fetchers of the system as they order workers, into its folder at their prefix;
+/// are retrieved by [`live`](crate::live), with as many fetchers of the system as they order workers, into its folder at their
+/// prefix. Where they resume a record, that is read first, and nothing that it states is asked for; a record that can't be resumed
+/// ends the run with its line. Where they save one, it is done by [`live_resumed`](crate::live_resumed);
 /// `run` gets all others behind that name. What is wrong with words that order nothing is told to a person on `errors`; where
 /// the writer of that fails a front of it may be written, and nothing is written there of other words, nor where memory runs
 /// out for it: then the line says that. Arguments that can't
@@ -272,7 +224,7 @@ pub fn run_program<H: Threads + Wait + Sync, S: System, R: Read, W: Write, E: Wr
     ensures runs { IfOk args (λ all. ¬ AreForLive (words_behind (into_iter_items all))
         → Runs (words_behind (into_iter_items all)) (R.remaining reader.old) (W.contents writer.old) (W.contents writer.new) result) }
     ensures lives { IfOk args (λ all. AreForLive (words_behind (into_iter_items all))
-        → LivesFor S.Fetcher.site S.Fetcher.says S.Fetcher.rules S.Fetcher.log (S.makes system.now) (S.opens system.now) S.Folder.files S.Folder.failed (W.contents writer.old) (W.contents writer.new) result (words_behind (into_iter_items all))) }
+        → LivesFor (means S.System system.now S.Fetcher.Fetcher S.Fetcher.noted S.Folder.Folder S.Record.Write) (W.contents writer.old) (W.contents writer.new) result (words_behind (into_iter_items all))) }
     ensures unread { IfOk args (λ all. ¬ AreForInput (words_behind (into_iter_items all)) → reader.new ≡ reader.old) }
     ensures told { IfOk args (λ all. ¬ AreForInput (words_behind (into_iter_items all)) → ¬ AreForLive (words_behind (into_iter_items all))
         → IsTold (words_behind (into_iter_items all)) (W.contents writer.old) (W.contents writer.new) errors.old errors.new (E.contents errors.old) (E.contents errors.new) result) }

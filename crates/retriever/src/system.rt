@@ -1,29 +1,70 @@
 //! What a live run has of the system.
-ghost use Rattle.std.specs.Prelude.{ℕ, Bool, List, IfOk};
+ghost use Rattle.std.specs.Prelude.{◌≡◌, ℕ, Bool, List, IfOk, Err, ⊤};
 
-use fetcher::Fetcher;
 use local_tree::Folder;
-use std::alloc::AllocError;
+use site_records::Recording;
+use std::alloc::{AllocError, Global};
+use std::io::Write;
+use streams::ReadFault;
 
-/// Makes a live run's fetchers, and its folder.
+/// Why a run may not save at a path.
+#[derive(Clone, Copy)]
+pub enum HoldFault {
+    /// Another run saves there, or answers that an earlier one left there would be lost.
+    Refused,
+    /// Memory ran out.
+    Memory,
+}
+
+/// Makes a live run's fetchers, its folder and its records.
 pub trait System {
     /// What asks the site for one worker.
-    type Fetcher: Fetcher + Send;
+    type Fetcher: Recording + Send;
 
     /// A folder that files are put into.
     type Folder: Folder + Drop;
 
-    // The fetchers that may be given where robots are honoured, or aren't.
-    ghost makes: { Self → Bool → Self.Fetcher → Type 0 };
+    /// What the record of a run is written into.
+    type Record: Write + Drop;
+
+    // The fetchers that may be given where robots are honoured, or aren't, and where answers are to be noted, or aren't.
+    ghost makes: { Self → Bool → Bool → Self.Fetcher → Type 0 };
 
     // The folders that may be given for a path.
     ghost opens: { Self → List ℕ → Self.Folder → Type 0 };
 
-    /// A fetcher for one more worker. Where robots are honoured, a page that asks that its links aren't followed has none.
-    fn fetcher(&self, robots: bool) -> Self::Fetcher
-        ensures { makes self.now robots result };
+    // The bytes that the file at a path may have.
+    ghost holds: { Self → List ℕ → List ℕ → Type 0 };
+
+    // The paths at which nothing may be saved.
+    ghost refuses: { Self → List ℕ → Type 0 } = { λ _ _. ⊤ };
+
+    // The writers that may be given for a path.
+    ghost names: { Self → List ℕ → Self.Record → Type 0 };
+
+    /// A fetcher for one more worker. Where robots are honoured, a page that asks that its links aren't followed has none. Where
+    /// answers aren't to be noted, no memory is taken for notes.
+    fn fetcher(&self, robots: bool, is_recording: bool) -> Self::Fetcher
+        ensures { makes self.now robots is_recording result };
 
     /// The folder at a path. Nothing is made there before the first put. The error is that memory is wanting.
     fn folder(&self, path: &str) -> Result<Self::Folder, AllocError>
         ensures { IfOk result (opens self.now path.now) };
+
+    /// Holds the place at which a run saves, before anything is read or asked for, so that no other saves there. It says whether
+    /// the run goes on from the file at this path. Why a path is refused is told to a person.
+    fn hold(&self, _path: &str, _is_resumed: bool) -> Result<(), HoldFault>
+        ensures { result ≡ Err HoldFault.Refused → refuses self.now _path.now }
+    {
+        Ok(())
+    }
+
+    /// All bytes of the file at a path, at most so many. It is closed when they are read.
+    fn read_file(&self, alloc: Global, path: &str, limit: usize) -> Result<Vec<u8>, ReadFault>
+        ensures { IfOk result (λ bytes. holds self.now path.now bytes.items) };
+
+    /// What takes the record that is to stand at a path, and fails where none can stand there. The file that stands there is
+    /// replaced by the whole record, or stays. The error is that memory is wanting.
+    fn record(&self, path: &str) -> Result<Self::Record, AllocError>
+        ensures { IfOk result (names self.now path.now) };
 }

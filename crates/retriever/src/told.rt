@@ -4,7 +4,7 @@ ghost use Rattle.local_tree.specs.Names.{AreDistinct, IsNaming};
 ghost use Rattle.local_tree.specs.PlainNames.{plain_name_of};
 ghost use Rattle.report.specs.Entries.{lines_of};
 ghost use Rattle.report.specs.Report.{report_text};
-ghost use Rattle.retriever.specs.Parts.{IsRead, IsToldOf, brought_by, is_borne_out, shown_of};
+ghost use Rattle.retriever.specs.Parts.{IsRead, IsToldOf, brought_by, crew_left, is_borne_out, shown_of};
 ghost use Rattle.retriever.specs.Retrieved.{Stopped as StoppedFor};
 ghost use Rattle.retriever.specs.Run.{finish_text};
 ghost use Rattle.retriever.specs.Trace.{trace_text};
@@ -130,6 +130,29 @@ pub(crate) fn brought_by<F: Drop>(crew: Result<Retrieved<F>, Stopped<F>>) -> Res
                 fetchers: _,
             } = stopped;
             Err(Halt { cause, harvest })
+        }
+    }
+}
+
+/// What a crew brings, and its fetchers.
+pub(crate) fn parted<F: Drop>(
+    crew: Result<Retrieved<F>, Stopped<F>>,
+) -> (Result<Harvest, Halt>, Vec<F>)
+    ensures brought { result.0 ≡ brought_by crew }
+    ensures left { result.1.items ≡ crew_left crew }
+{
+    match crew {
+        Ok(retrieved) => {
+            let Retrieved { harvest, fetchers } = retrieved;
+            (Ok(harvest), fetchers)
+        }
+        Err(stopped) => {
+            let Stopped {
+                cause,
+                harvest,
+                fetchers,
+            } = stopped;
+            (Err(Halt { cause, harvest }), fetchers)
         }
     }
 }

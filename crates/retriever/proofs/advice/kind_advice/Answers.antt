@@ -1,10 +1,10 @@
 -- The text of what is accepted is the one that is meant.
-use Rattle.std.proofs.Common.{ap}
+use Rattle.std.proofs.Common.{◌∙◌, ap}
 use Rattle.retriever.specs.Advice.{told_of_text}
 use Rattle.retriever.proofs.advice.kind_advice.Goals as goal
 
 pub returns-in-Some : goal.returns-in-Some
-returns-in-Some c = ap told_of_text c.in-Some.ensures
+returns-in-Some c = ap (told_of_text c.args.kind) c.in-Some.ensures
 
 pub returns-in-None : goal.returns-in-None
-returns-in-None c = ap told_of_text c.in-None.ensures
+returns-in-None c = c.asked_advice.ensures ∙ ap (told_of_text c.args.kind) c.in-None.ensures

@@ -1,13 +1,20 @@
 -- What the crew brought is put and told.
 use Rattle.std.proofs.Common.{◌∙◌}
-use Rattle.retriever.proofs.LiveLaws.{crew_lives}
+use Rattle.retriever.specs.Live.{holding}
+use Rattle.retriever.specs.Parts.{IsToldAs, crew_left}
+use Rattle.retriever.proofs.LiveLaws.{crew_ends, crew_later, lives_from}
 use Rattle.retriever.proofs.live_run.live.Goals as goal
 
 pub returns : goal.returns
 returns g c =
     let F = g.F.Fetcher in
+    let D = g.D.Folder in
     let crew = c.retrieve.ensures in
+    let ends = crew_ends F.site F.says F.rules F.log c.args.order.now c.args.fetchers.items c.retrieve.result c.brought_by-brought.result
+    (holding D.files D.failed c.args.folder.now) (holding D.files D.failed c.finish.new.folder)
+    (IsToldAs (g.W.Write.contents c.args.writer.now) (g.W.Write.contents c.finish.new.writer) c.finish.result) c.brought_by-brought.ensures
+    crew.ok crew.err crew.full (λ is. crew.one (c.args.fetchers.ok.0 ∙ is)) c.finish.ensures.read c.finish.ensures.told in
     record {
-      lives = crew_lives F.site F.says F.rules F.log c.args.order.now c.args.fetchers.items c.retrieve.result c.brought_by-brought.result _ _ _ _ _ c.brought_by-brought.ensures
-          crew.fetchers crew.ok crew.err crew.full (λ is. crew.one (c.args.fetchers.ok.0 ∙ is)) c.finish.ensures.read c.finish.ensures.told;
+      lives = lives_from F.site F.says F.rules F.log c.args.order.now c.args.fetchers.items (crew_left c.retrieve.result) _ _ _ _ c.finish.result c.status_told.result
+          (crew_later F.site F.says F.rules F.log c.args.fetchers.items c.retrieve.result crew.fetchers) c.status_told.ensures ends;
     }

@@ -1,5 +1,5 @@
 -- The source says which of the two it is.
-use Rattle.std.proofs.Common.{◌≡◌, inl, inr, refl, sym, ◌∙◌}
+use Rattle.std.proofs.Common.{◌≡◌, inl, refl, sym, ◌∙◌}
 use Rattle.options.specs.declared.order.Source.{Source}
 use Rattle.options.specs.declared.order.Source.TheVariants as source
 use Rattle.retriever.proofs.ProgramLaws.{map_is_not_live, record_is_not_live}
@@ -8,11 +8,7 @@ use Rattle.retriever.proofs.program.run_order.Goals as goal
 pub returns-in-Live : goal.returns-in-Live
 returns-in-Live g c = record {
   runs = λ not. absurd (not c.in-Live.is);
-  lives = λ is.
-      elim c.live_of.ensures [
-        | inl done ↦ inl (c.args.order.now, (c.requires.said, is), done)
-        | inr refused ↦ inr refused
-      ];
+  lives = λ is. inl (c.args.order.now, (c.requires.said, is), c.live_order.ensures);
   unread = λ is. refl;
 }
 

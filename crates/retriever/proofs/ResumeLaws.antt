@@ -1,0 +1,64 @@
+-- A record that is read is the one that the order resumes, and what the order says is done with it.
+use Rattle.std.proofs.Common.{◌≡◌, ℕ, Bool, true, false, List, Option, Some, None, sym, subst}
+use Rattle.std.specs.Prelude.{Result, Ok, Err, IfOk, IfErr, is_some}
+use Rattle.std.specs.declared.alloc.AllocError.{AllocError}
+use Rattle.options.specs.declared.order.Order.{Order}
+use Rattle.site_maps.specs.declared.input_fault.InputFault.{InputFault}
+use Rattle.site_maps.specs.declared.input_fault.InputFault.TheVariants as input
+use Rattle.site_records.specs.RecordSites.{RecordValue}
+use Rattle.site_records.specs.Records.{IsFault}
+use Rattle.streams.specs.declared.input.ReadFault.TheVariants as reading
+use Rattle.retriever.specs.Systems.{Means, IsNotRead, IsNotResumed, IsReadAs, IsResumed, LivesAgain, LivesBy, LivesPlainly, LivesSaving, LivesWith, is_plain}
+use Rattle.retriever.specs.declared.resume_fault.ResumeFault.{ResumeFault}
+use Rattle.retriever.specs.declared.resume_fault.ResumeFault.TheVariants.{Read, Input, Refused}
+
+-- a fault of bytes that a file may hold
+pub fault_not_read : (holds : List ℕ → Type 0) (robots : Bool) (bytes : List ℕ) (wrong : InputFault) → holds bytes → IsFault robots bytes wrong → IsNotRead holds robots (Input wrong)
+fault_not_read holds robots bytes input.Memory held bad = tt
+fault_not_read holds robots bytes (input.Line n) held bad = (bytes, held, bad)
+fault_not_read holds robots bytes (input.Address n) held bad = (bytes, held, bad)
+
+module _ {S F D V : Type 0} (m : Means S F D V) (order : Order) where
+  -- what is read of the file that the order names is resumed
+  pub read_resumed : (path given : List ℕ) (r : Result RecordValue ResumeFault) → order.resume ≡ Some path → given ≡ path
+      → IfOk r (λ x. (bytes : List ℕ) × m.gives.holds m.system given bytes × IsReadAs (is_some order.save) order.plan.robots bytes x) → IfOk r (λ x. IsResumed m order x)
+  read_resumed path given (Ok x) is same (bytes, held, read) = rw is (bytes, subst (λ (p : List ℕ). m.gives.holds m.system p bytes) same held, read)
+  read_resumed path given (Err wrong) is same read = read
+
+  -- what can't be read of it isn't resumed
+  pub read_not_resumed : (path given : List ℕ) (r : Result RecordValue ResumeFault) → order.resume ≡ Some path → given ≡ path
+      → IfErr r (IsNotRead (m.gives.holds m.system given) order.plan.robots) → IfErr r (IsNotResumed m order)
+  read_not_resumed path given (Ok x) is same bad = bad
+  read_not_resumed path given (Err (Read reading.Memory)) is same bad = tt
+  read_not_resumed path given (Err (Read reading.Long)) is same bad = (path, is, tt)
+  read_not_resumed path given (Err (Read reading.Failed)) is same bad = (path, is, tt)
+  read_not_resumed path given (Err (Input input.Memory)) is same bad = tt
+  read_not_resumed path given (Err Refused) is same bad = absurd bad
+  read_not_resumed path given (Err (Input (input.Line n))) is same (bytes, held, bad) =
+      (path, is, (bytes, subst (λ (p : List ℕ). m.gives.holds m.system p bytes) same held, bad))
+  read_not_resumed path given (Err (Input (input.Address n))) is same (bytes, held, bad) =
+      (path, is, (bytes, subst (λ (p : List ℕ). m.gives.holds m.system p bytes) same held, bad))
+
+  module _ (before after : Option (List ℕ)) where
+    -- a retrieval that is saved at the order's path
+    pub saves : (path given : List ℕ) (r : Result ℕ AllocError) → order.save ≡ Some path → given ≡ path → IfOk r (LivesSaving m order given before after)
+        → IfOk r (LivesWith m order.save order before after)
+    saves path given r is same lives =
+        subst (λ (save : Option (List ℕ)). IfOk r (LivesWith m save order before after)) (sym is)
+        (subst (λ (p : List ℕ). IfOk r (LivesSaving m order p before after)) same lives)
+
+    -- one that isn't saved
+    pub saves_not : (r : Result ℕ AllocError) → order.save ≡ None → IfOk r (LivesAgain m order before after) → IfOk r (LivesWith m order.save order before after)
+    saves_not r is lives = subst (λ (save : Option (List ℕ)). IfOk r (LivesWith m save order before after)) (sym is) lives
+
+    -- one of an order that neither resumes nor saves
+    pub plainly : (resume save : Option (List ℕ)) (status : ℕ) → is_plain resume save ≡ true → LivesPlainly m order before after status → LivesBy m resume save order before after status
+    plainly None None status is lives = lives
+    plainly None (Some path) status is lives = cc
+    plainly (Some from) save status is lives = cc
+
+    -- one of an order that does either
+    pub not_plainly : (resume save : Option (List ℕ)) (status : ℕ) → is_plain resume save ≡ false → LivesWith m save order before after status → LivesBy m resume save order before after status
+    not_plainly None None status is lives = cc
+    not_plainly None (Some path) status is lives = lives
+    not_plainly (Some from) save status is lives = lives

@@ -1,0 +1,25 @@
+-- The fetchers are the system's, each behind the record.
+use Rattle.std.proofs.Common.{◌∙◌, ℕ, List, sym, subst}
+use Rattle.site_records.specs.Resumption.{Resuming, resumption_of, SaysOr, RulesOr}
+use Rattle.retriever.specs.Live.{Lives, holding}
+use Rattle.retriever.proofs.live_order.live_again.Goals as goal
+
+pub returns-clause-lives : goal.returns-clause-lives
+returns-clause-lives g c =
+    let F = g.S.Fetcher.Fetcher in
+    let D = g.S.Folder.Folder in
+    record {
+      recorded = c.args.recorded.now;
+      resumed = c.requires.resumed;
+      fetchers = c.in_ok-fetchers.fetchers.items;
+      folder = c.in_ok-folder.folder;
+      given = record {
+        made = c.in_ok-fetchers.ensures.made;
+        count = sym c.in_ok-fetchers.fetchers.ok.0 ∙ c.in_ok-fetchers.ensures.count;
+        opened = subst (λ (path : List ℕ). g.S.System.opens c.args.system.now path c.in_ok-folder.folder) c.as_str.ensures c.in_ok-folder.ensures;
+      };
+      left = c.live.new.folder;
+      lives = subst (λ (all : List (Resuming _)). Lives (resumption_of F.site F.log) (SaysOr F.says) (RulesOr F.rules) (λ r. r.asks) c.args.order.now all
+          (holding D.files D.failed c.in_ok-folder.folder) (holding D.files D.failed c.live.new.folder) (g.W.Write.contents c.args.writer.now) (g.W.Write.contents c.live.new.writer) c.live.result)
+          c.in_ok-resumed.ensures.resuming c.live.ensures.lives;
+    }

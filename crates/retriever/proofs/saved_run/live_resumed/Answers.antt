@@ -1,0 +1,20 @@
+-- The fetchers that resume are those that the record makes of the given ones.
+use Rattle.std.proofs.Common.{List, inl, inr, refl, subst}
+use Rattle.site_answer.specs.declared.noted.Noted.{Noted}
+use Rattle.site_records.specs.Resumption.{Resuming, resumption_of, SaysOr, RulesOr}
+use Rattle.retriever.specs.Live.{holding}
+use Rattle.retriever.specs.Saving.{LivesSaved, noted_within}
+use Rattle.retriever.proofs.saved_run.live_resumed.Goals as goal
+
+pub returns-in-Ok : goal.returns-in-Ok
+returns-in-Ok g c =
+    let F = g.F.Fetcher in
+    let D = g.D.Folder in
+    let lives = λ (given : List Noted) (all : List (Resuming g.row.F.Denot)). LivesSaved (resumption_of F.site F.log) (SaysOr F.says) (RulesOr F.rules) (λ r. r.asks)
+    (noted_within g.F.Recording.noted) c.args.order.now given all (holding D.files D.failed c.args.folder.now) (holding D.files D.failed c.live_saved.new.folder)
+    (g.W.Write.contents c.args.writer.now) (g.W.Write.contents c.live_saved.new.writer) (g.V.Write.contents c.args.saved.now) (g.V.Write.contents c.live_saved.new.saved) c.live_saved.result in
+    let of_record = subst (λ (given : List Noted). lives given c.in-Ok.resuming.items) c.notes.ensures c.live_saved.ensures in
+    record { lives = inl (subst (λ (all : List (Resuming g.row.F.Denot)). lives c.args.recorded.now.notes all) c.in-Ok.ensures.resuming of_record) }
+
+pub returns-in-Err : goal.returns-in-Err
+returns-in-Err g c = record { lives = inr (c.deliver.ensures, refl, refl) }

@@ -1,0 +1,32 @@
+-- What the crew brought is put and told, and what its fetchers noted is saved.
+use Rattle.std.proofs.Common.{◌≡◌, ◌∙◌, ◌++◌, List, ap, subst}
+use Rattle.std.specs.List.{flat_map}
+use Rattle.site_records.specs.WrittenRecords.{record_text}
+use Rattle.retriever.specs.Live.{holding}
+use Rattle.retriever.specs.Parts.{IsToldAs, crew_left}
+use Rattle.retriever.specs.Saving.{IsSaved}
+use Rattle.retriever.proofs.LiveLaws.{crew_ends, crew_later}
+use Rattle.retriever.proofs.saved_run.live_saved.Goals as goal
+
+pub returns : goal.returns
+returns g c =
+    let F = g.F.Fetcher in
+    let D = g.D.Folder in
+    let noted = g.F.Recording.noted in
+    let crew = c.retrieve.ensures in
+    let olds = c.args.fetchers.items in
+    let (shown, ending, ends, written) = crew_ends F.site F.says F.rules F.log c.args.order.now olds c.retrieve.result _
+    (holding D.files D.failed c.args.folder.now) (holding D.files D.failed c.finish-told.new.folder)
+    (IsToldAs (g.W.Write.contents c.args.writer.now) (g.W.Write.contents c.finish-told.new.writer) c.finish-told.result) c.parted-brought.ensures.brought
+    crew.ok crew.err crew.full (λ is. crew.one (c.args.fetchers.ok.0 ∙ is)) c.finish-told.ensures.read c.finish-told.ensures.told in
+    record {
+      left = crew_left c.retrieve.result;
+      later = crew_later F.site F.says F.rules F.log olds c.retrieve.result crew.fetchers;
+      shown = shown;
+      ending = ending;
+      ends = ends;
+      saving = c.save-saving.result;
+      saved = subst (λ (left : List g.row.F.Denot). IsSaved c.save-saving.result (g.V.Write.contents c.args.saved.now) (g.V.Write.contents c.save-saving.new.saved)
+          (record_text (c.args.given.now ++ flat_map noted left))) (c.as_slice.ensures.value ∙ c.parted-brought.ensures.left) c.save-saving.ensures;
+      written = c.tell_saving_behind.ensures _ _ _ written;
+    }

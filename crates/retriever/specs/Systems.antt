@@ -1,0 +1,129 @@
+-- What a live run makes of an order by what a system gives it.
+use Rattle.std.specs.Prelude.{◌≡◌, ◌⊎◌, ◌&&◌, ℕ, Bool, is_none, is_some, true, false, List, All, Option, Some, None, MatchOption, bytes_eq, codes, length, map}
+use Rattle.std.specs.declared.io.Write.{Ghosts as Writers}
+use Rattle.options.specs.declared.order.Order.{Order}
+use Rattle.fetcher.specs.declared.fetcher.Fetcher.{Ghosts as Fetchers}
+use Rattle.local_tree.specs.declared.folder.Folder.{Ghosts as Folders}
+use Rattle.site_answer.specs.declared.noted.Noted.{Noted}
+use Rattle.site_maps.specs.declared.input_fault.InputFault.TheVariants as input
+use Rattle.streams.specs.declared.input.ReadFault.TheVariants as reading
+use Rattle.site_records.specs.Entries.{Entry}
+use Rattle.site_records.specs.RecordNotes.{HasNotes}
+use Rattle.site_records.specs.RecordSites.{RecordValue}
+use Rattle.site_records.specs.Records.{IsRecord, IsFault, answers_of, rules_of}
+use Rattle.site_records.specs.Resumption.{resumption_of, SaysOr, RulesOr}
+use Rattle.retriever.specs.Live.{Lives, Holding, holding}
+use Rattle.retriever.specs.Resuming.{IsUnresumed}
+use Rattle.retriever.specs.Saving.{LivesResumed, resuming_of}
+use Rattle.retriever.specs.declared.resume_fault.ResumeFault.{ResumeFault}
+use Rattle.retriever.specs.declared.resume_fault.ResumeFault.TheVariants.{Read, Input, Refused}
+use Rattle.retriever.specs.declared.system.System.{Ghosts as Systems}
+
+-- a system, and what its fetchers, its folders and the writers of its records mean
+pub record Means (S F D V : Type 0) : Type 1 where
+  pub gives : Systems S F D V
+  pub system : S
+  pub fetchers : Fetchers F
+  pub noted : F → List Noted
+  pub folders : Folders D
+  pub records : Writers V
+
+-- what belongs to a system
+abbrev pub means : {S F D V : Type 0} → Systems S F D V → S → Fetchers F → (F → List Noted) → Folders D → Writers V → Means S F D V
+means gives system fetchers noted folders records =
+    record { gives = gives; system = system; fetchers = fetchers; noted = noted; folders = folders; records = records }
+
+-- the bytes are a record, which says this; where it is saved again its notes say the same
+abbrev pub IsReadAs : Bool → Bool → List ℕ → RecordValue → Type 0
+IsReadAs is_saving robots bytes recorded =
+    (said : List Entry) × IsRecord robots bytes said × (recorded.answers ≡ answers_of said) × (recorded.rules ≡ rules_of said) × HasNotes is_saving robots recorded.notes said
+
+-- why no record is read of bytes that a file may hold: they can't be had, or have this fault
+abbrev pub IsNotRead : (List ℕ → Type 0) → Bool → ResumeFault → Type 0
+IsNotRead holds robots (Read wrong) = Unit {0}
+IsNotRead holds robots (Input input.Memory) = Unit {0}
+IsNotRead holds robots Refused = ⊥
+IsNotRead holds robots (Input wrong) = (bytes : List ℕ) × holds bytes × IsFault robots bytes wrong
+
+-- an order that resumes this goes on from the file at the path
+abbrev pub goes_on_from : Option (List ℕ) → List ℕ → Bool
+goes_on_from None path = false
+goes_on_from (Some from) path = bytes_eq from path
+
+-- an order with these neither resumes nor saves
+abbrev pub is_plain : Option (List ℕ) → Option (List ℕ) → Bool
+is_plain resume save = is_none resume && is_none save
+
+module _ {S F D V : Type 0} (m : Means S F D V) where
+  -- what a folder of the system tells
+  abbrev pub held : D → Holding
+  held folder = holding m.folders.files m.folders.failed folder
+
+  -- fetchers that the system makes for the plan's robots setting, as many as there are to be workers, with notes or without, and a
+  -- folder that it opens at the order's prefix
+  pub record AreGiven (order : Order) (is_recording : Bool) (fetchers : List F) (folder : D) : Type 0 where
+    pub made : All (m.gives.makes m.system order.plan.robots is_recording) fetchers
+    pub count : length fetchers ≡ order.workers
+    pub opened : m.gives.opens m.system order.prefix folder
+
+  -- the live retrieval that is ordered, by such fetchers and into such a folder
+  pub record LivesPlainly (order : Order) (before after : Option (List ℕ)) (status : ℕ) : Type 0 where
+    pub fetchers : List F
+    pub folder : D
+    pub given : AreGiven order false fetchers folder
+    pub left : D
+    pub lives : Lives m.fetchers.site m.fetchers.says m.fetchers.rules m.fetchers.log order fetchers (held folder) (held left) before after status
+
+  -- this is recorded in the file that the order resumes, or in a record without entries where it resumes none
+  abbrev pub IsResumed : Order → RecordValue → Type 0
+  IsResumed order recorded =
+      MatchOption order.resume (IsReadAs (is_some order.save) order.plan.robots (codes "wgetr-record 2\n") recorded)
+      (λ path. (bytes : List ℕ) × m.gives.holds m.system path bytes × IsReadAs (is_some order.save) order.plan.robots bytes recorded)
+
+  -- the same by fetchers that ask such ones for what is recorded in the file that the order resumes
+  pub record LivesAgain (order : Order) (before after : Option (List ℕ)) (status : ℕ) : Type 0 where
+    pub recorded : RecordValue
+    pub resumed : IsResumed order recorded
+    pub fetchers : List F
+    pub folder : D
+    pub given : AreGiven order false fetchers folder
+    pub left : D
+    pub lives : Lives (resumption_of m.fetchers.site m.fetchers.log) (SaysOr m.fetchers.says) (RulesOr m.fetchers.rules) (λ r. r.asks) order
+        (map (resuming_of m.fetchers.log recorded) fetchers) (held folder) (held left) before after status
+
+  -- the same, where the notes of what is recorded, and what such fetchers note, are saved at this path
+  pub record LivesSaving (order : Order) (path : List ℕ) (before after : Option (List ℕ)) (status : ℕ) : Type 0 where
+    pub recorded : RecordValue
+    pub resumed : IsResumed order recorded
+    pub fetchers : List F
+    pub folder : D
+    pub given : AreGiven order true fetchers folder
+    pub left : D
+    pub record_begun : V
+    pub named : m.gives.names m.system path record_begun
+    pub record_left : V
+    pub lives : LivesResumed m.fetchers.site m.fetchers.says m.fetchers.rules m.fetchers.log m.noted order recorded fetchers (held folder) (held left) before after
+        (m.records.contents record_begun) (m.records.contents record_left) status
+
+  -- one of the last two, by where the order saves
+  abbrev pub LivesWith : Option (List ℕ) → Order → Option (List ℕ) → Option (List ℕ) → ℕ → Type 0
+  LivesWith None order before after status = LivesAgain order before after status
+  LivesWith (Some path) order before after status = LivesSaving order path before after status
+
+  -- one of the three, by whether the order resumes and saves
+  abbrev pub LivesBy : Option (List ℕ) → Option (List ℕ) → Order → Option (List ℕ) → Option (List ℕ) → ℕ → Type 0
+  LivesBy None None order before after status = LivesPlainly order before after status
+  LivesBy None (Some path) order before after status = LivesWith (Some path) order before after status
+  LivesBy (Some from) save order before after status = LivesWith save order before after status
+
+  -- why the file that the order resumes can't be, or none may stand where it saves
+  abbrev pub IsNotResumed : Order → ResumeFault → Type 0
+  IsNotResumed order (Read reading.Memory) = Unit {0}
+  IsNotResumed order (Input input.Memory) = Unit {0}
+  IsNotResumed order Refused = (path : List ℕ) × (order.save ≡ Some path) × m.gives.refuses m.system path
+  IsNotResumed order wrong = (path : List ℕ) × (order.resume ≡ Some path) × IsNotRead (m.gives.holds m.system path) order.plan.robots wrong
+
+  -- the live retrieval that is ordered, or the line that tells why its record can't be resumed, or of want of memory
+  abbrev pub LivesIn : Order → Option (List ℕ) → Option (List ℕ) → ℕ → Type 0
+  LivesIn order before after status =
+      LivesBy order.resume order.save order before after status ⊎ ((wrong : ResumeFault) × IsNotResumed order wrong × IsUnresumed before after wrong status)

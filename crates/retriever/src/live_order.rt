@@ -1,0 +1,253 @@
+//! A live order: what it names is taken from the system, a record is read and written where it says so, and its site is retrieved.
+ghost use Rattle.std.specs.Prelude.{◌≡◌, ◌≢◌, ◌⊎◌, ℕ, List, All, IfOk, IfErr, OnErr, codes, is_some, vec_len};
+ghost use Rattle.site_records.specs.Records.{IsFault};
+ghost use Rattle.retriever.specs.Resuming.{IsUnresumed};
+ghost use Rattle.retriever.specs.Systems.{goes_on_from, IsNotRead, IsNotResumed, IsReadAs, IsResumed, LivesAgain, LivesBy, LivesIn, LivesPlainly, LivesSaving, LivesWith, is_plain, means};
+
+use crate::input_run::{MAX_INPUT, deliver};
+use crate::live_run::live;
+use crate::resume_fault::{ResumeFault, resume_status, resume_text};
+use crate::saved_run::{live_resumed, resuming};
+use crate::system::{HoldFault, System};
+use options::Order;
+use site_maps::InputFault;
+use site_records::RecordedSite;
+use std::alloc::{AllocError, Global};
+use std::io::Write;
+use std::sync::Wait;
+use std::thread::Threads;
+use streams::ReadFault;
+
+/// A record without entries.
+const EMPTY: &[u8] = b"wgetr-record 2\n";
+
+// Fetchers for so many workers.
+fn fetchers_of<S: System>(
+    alloc: Global,
+    system: &S,
+    robots: bool,
+    is_recording: bool,
+    count: u32,
+) -> Result<Vec<S::Fetcher>, AllocError>
+    ensures count { IfOk result (λ fetchers. vec_len fetchers ≡ count) }
+    ensures made { IfOk result (λ fetchers. All (S.makes system.now robots is_recording) fetchers.items) }
+{
+    let mut fetchers = Vec::new(alloc);
+    for _ in 0..count {
+        fetchers.push(system.fetcher(robots, is_recording))?;
+    }
+    Ok(fetchers)
+}
+
+// Retrieves the live site that the order says, by fetchers of the system, into its folder.
+fn live_plainly<H: Threads + Wait + Sync, S: System, W: Write>(
+    rt: &H,
+    alloc: Global,
+    system: &S,
+    order: &Order,
+    writer: &mut W,
+) -> Result<u8, AllocError>
+    ensures lives { IfOk result (LivesPlainly (means S.System system.now S.Fetcher.Fetcher S.Fetcher.noted S.Folder.Folder S.Record.Write) order.now (W.contents writer.old) (W.contents writer.new)) }
+    ensures unwritten { OnErr result (writer.new ≡ writer.old) }
+{
+    let fetchers = fetchers_of(alloc, system, order.plan.robots, false, order.workers)?;
+    let mut folder = system.folder(order.prefix.as_str())?;
+    Ok(live(rt, alloc, order, fetchers, &mut folder, writer))
+}
+
+// The same by fetchers that ask those of the system for what the record doesn't state.
+fn live_again<H: Threads + Wait + Sync, S: System, W: Write>(
+    rt: &H,
+    alloc: Global,
+    system: &S,
+    order: &Order,
+    recorded: &RecordedSite,
+    writer: &mut W,
+) -> Result<u8, AllocError>
+    requires resumed { IsResumed (means S.System system.now S.Fetcher.Fetcher S.Fetcher.noted S.Folder.Folder S.Record.Write) order.now recorded.now }
+    ensures lives { IfOk result (LivesAgain (means S.System system.now S.Fetcher.Fetcher S.Fetcher.noted S.Folder.Folder S.Record.Write) order.now (W.contents writer.old) (W.contents writer.new)) }
+    ensures unwritten { OnErr result (writer.new ≡ writer.old) }
+{
+    let fetchers = fetchers_of(alloc, system, order.plan.robots, false, order.workers)?;
+    let resumed = resuming(alloc, recorded, fetchers)?;
+    let mut folder = system.folder(order.prefix.as_str())?;
+    Ok(live(rt, alloc, order, resumed, &mut folder, writer))
+}
+
+// The same, and what the record says and these fetchers note is saved at the path.
+fn live_saving<H: Threads + Wait + Sync, S: System, W: Write>(
+    rt: &H,
+    alloc: Global,
+    system: &S,
+    order: &Order,
+    recorded: &RecordedSite,
+    path: &str,
+    writer: &mut W,
+) -> Result<u8, AllocError>
+    requires resumed { IsResumed (means S.System system.now S.Fetcher.Fetcher S.Fetcher.noted S.Folder.Folder S.Record.Write) order.now recorded.now }
+    ensures lives { IfOk result (LivesSaving (means S.System system.now S.Fetcher.Fetcher S.Fetcher.noted S.Folder.Folder S.Record.Write) order.now path.now (W.contents writer.old) (W.contents writer.new)) }
+    ensures unwritten { OnErr result (writer.new ≡ writer.old) }
+{
+    let fetchers = fetchers_of(alloc, system, order.plan.robots, true, order.workers)?;
+    let mut folder = system.folder(order.prefix.as_str())?;
+    let mut saved = system.record(path)?;
+    Ok(live_resumed(
+        rt,
+        alloc,
+        order,
+        recorded,
+        fetchers,
+        &mut folder,
+        writer,
+        &mut saved,
+    ))
+}
+
+// Reads a record, with notes of what it states where the order saves.
+fn read_bytes(alloc: Global, bytes: &[u8], order: &Order) -> Result<RecordedSite, InputFault>
+    ensures ok { IfOk result (λ r. IsReadAs (is_some order.now.save) order.now.plan.robots bytes.now r) }
+    ensures err { IfErr result (IsFault order.now.plan.robots bytes.now) }
+{
+    if order.save.is_some() {
+        return RecordedSite::read_noted(alloc, bytes, order.plan.robots);
+    }
+    RecordedSite::read(alloc, bytes, order.plan.robots)
+}
+
+// Reads the record at a path.
+fn read_record<S: System>(
+    alloc: Global,
+    system: &S,
+    path: &str,
+    order: &Order,
+) -> Result<RecordedSite, ResumeFault>
+    ensures ok { IfOk result (λ r. (bytes : List ℕ) × S.holds system.now path.now bytes × IsReadAs (is_some order.now.save) order.now.plan.robots bytes r) }
+    ensures err { IfErr result (IsNotRead (S.holds system.now path.now) order.now.plan.robots) }
+{
+    let bytes = system.read_file(alloc, path, MAX_INPUT)?;
+    Ok(read_bytes(alloc, bytes.as_slice(), order)?)
+}
+
+// A record without entries.
+fn read_nothing(alloc: Global, order: &Order) -> Result<RecordedSite, AllocError>
+    ensures { IfOk result (λ r. IsReadAs (is_some order.now.save) order.now.plan.robots (codes "wgetr-record 2\n") r) }
+{
+    match read_bytes(alloc, EMPTY, order) {
+        Ok(recorded) => Ok(recorded),
+        Err(_) => Err(AllocError),
+    }
+}
+
+// What the order resumes: a record without entries where it resumes none.
+fn resumption_of<S: System>(
+    alloc: Global,
+    system: &S,
+    order: &Order,
+) -> Result<RecordedSite, ResumeFault>
+    ensures ok { IfOk result (λ r. IsResumed (means S.System system.now S.Fetcher.Fetcher S.Fetcher.noted S.Folder.Folder S.Record.Write) order.now r) }
+    ensures err { IfErr result (IsNotResumed (means S.System system.now S.Fetcher.Fetcher S.Fetcher.noted S.Folder.Folder S.Record.Write) order.now) }
+{
+    match &order.resume {
+        Some(path) => read_record(alloc, system, path.as_str(), order),
+        None => Ok(read_nothing(alloc, order)?),
+    }
+}
+
+// Retrieves with what is recorded, and saves where the order says so.
+fn live_with<H: Threads + Wait + Sync, S: System, W: Write>(
+    rt: &H,
+    alloc: Global,
+    system: &S,
+    order: &Order,
+    recorded: &RecordedSite,
+    writer: &mut W,
+) -> Result<u8, AllocError>
+    requires resumed { IsResumed (means S.System system.now S.Fetcher.Fetcher S.Fetcher.noted S.Folder.Folder S.Record.Write) order.now recorded.now }
+    ensures lives { IfOk result (LivesWith (means S.System system.now S.Fetcher.Fetcher S.Fetcher.noted S.Folder.Folder S.Record.Write) order.now.save order.now (W.contents writer.old) (W.contents writer.new)) }
+    ensures unwritten { OnErr result (writer.new ≡ writer.old) }
+{
+    match &order.save {
+        Some(path) => live_saving(rt, alloc, system, order, recorded, path.as_str(), writer),
+        None => live_again(rt, alloc, system, order, recorded, writer),
+    }
+}
+
+// Whether the order goes on from this file.
+fn goes_on_from(order: &Order, path: &str) -> bool
+    ensures { result ≡ goes_on_from order.now.resume path.now }
+{
+    match &order.resume {
+        Some(from) => from.as_str() == path,
+        None => false,
+    }
+}
+
+// Holds the place where the order saves, where it does.
+fn hold<S: System>(system: &S, order: &Order) -> Result<(), ResumeFault>
+    ensures { IfErr result (IsNotResumed (means S.System system.now S.Fetcher.Fetcher S.Fetcher.noted S.Folder.Folder S.Record.Write) order.now) }
+{
+    let Some(path) = &order.save else {
+        return Ok(());
+    };
+    let is_resumed = goes_on_from(order, path.as_str());
+    match system.hold(path.as_str(), is_resumed) {
+        Ok(()) => Ok(()),
+        Err(HoldFault::Refused) => Err(ResumeFault::Refused),
+        Err(HoldFault::Memory) => Err(ResumeFault::Read(ReadFault::Memory)),
+    }
+}
+
+// Whether the order neither resumes nor saves.
+fn is_plain(order: &Order) -> bool
+    ensures { result ≡ is_plain order.now.resume order.now.save }
+{
+    order.resume.is_none() && order.save.is_none()
+}
+
+// Retrieves as the order says. The error is why its record can't be resumed, or want of memory.
+fn live_in<H: Threads + Wait + Sync, S: System, W: Write>(
+    rt: &H,
+    alloc: Global,
+    system: &S,
+    order: &Order,
+    writer: &mut W,
+) -> Result<u8, ResumeFault>
+    ensures lives { IfOk result (LivesBy (means S.System system.now S.Fetcher.Fetcher S.Fetcher.noted S.Folder.Folder S.Record.Write) order.now.resume order.now.save order.now (W.contents writer.old) (W.contents writer.new)) }
+    ensures unresumed { IfErr result (IsNotResumed (means S.System system.now S.Fetcher.Fetcher S.Fetcher.noted S.Folder.Folder S.Record.Write) order.now) }
+    ensures unwritten { OnErr result (writer.new ≡ writer.old) }
+{
+    if is_plain(order) {
+        return Ok(live_plainly(rt, alloc, system, order, writer)?);
+    }
+    hold(system, order)?;
+    let recorded = resumption_of(alloc, system, order)?;
+    Ok(live_with(rt, alloc, system, order, &recorded, writer)?)
+}
+
+// Writes the line of a fault, and gives its status; where memory runs out, the line of that.
+fn refuse_resume<W: Write>(alloc: Global, fault: ResumeFault, writer: &mut W) -> u8
+    ensures { IsUnresumed (W.contents writer.old) (W.contents writer.new) fault result }
+{
+    match resume_text(alloc, fault) {
+        Ok(text) => deliver(writer, text.as_bytes(), resume_status(fault)),
+        Err(_) => deliver(writer, b"stopped memory\n", 1),
+    }
+}
+
+/// Retrieves the live site that the order says, by fetchers of the system, into its folder: what the order resumes isn't asked
+/// for again, and what it saves is saved. Where a record can't be resumed its line stands in place of all else, and nothing is
+/// asked for or saved.
+pub(crate) fn live_order<H: Threads + Wait + Sync, S: System, W: Write>(
+    rt: &H,
+    alloc: Global,
+    system: &S,
+    order: &Order,
+    writer: &mut W,
+) -> u8
+    ensures { LivesIn (means S.System system.now S.Fetcher.Fetcher S.Fetcher.noted S.Folder.Folder S.Record.Write) order.now (W.contents writer.old) (W.contents writer.new) result }
+{
+    match live_in(rt, alloc, system, order, writer) {
+        Ok(status) => status,
+        Err(fault) => refuse_resume(alloc, fault, writer),
+    }
+}

@@ -1,0 +1,84 @@
+//! Why a record can't be resumed, or none may be saved: the line that is written in place of a report, and the status.
+ghost use Rattle.std.specs.Prelude.{◌≡◌, ◌++◌, IfOk, codes, string_bytes};
+ghost use Rattle.retriever.specs.Resuming.{resume_status, resume_words};
+
+use site_maps::InputFault;
+use std::alloc::{AllocError, Global};
+use streams::ReadFault;
+
+/// Why a run doesn't go on from a record.
+#[derive(Clone, Copy)]
+pub(crate) enum ResumeFault {
+    /// The file can't be read, or memory ran out.
+    Read(ReadFault),
+    /// What it holds is no record, or memory ran out.
+    Input(InputFault),
+    /// Nothing may be saved where the run is to save.
+    Refused,
+}
+
+/// The status with which the run ends: 3 where the file can't be read or none may be saved, 2 where it holds no record that can be resumed, 1 where
+/// memory ran out.
+pub(crate) fn resume_status(fault: ResumeFault) -> u8
+    ensures { result ≡ resume_status fault }
+{
+    match fault {
+        ResumeFault::Read(ReadFault::Failed) => 3,
+        ResumeFault::Read(ReadFault::Long) => 2,
+        ResumeFault::Read(ReadFault::Memory) => 1,
+        ResumeFault::Input(InputFault::Line(_) | InputFault::Address(_)) => 2,
+        ResumeFault::Input(InputFault::Memory) => 1,
+        ResumeFault::Refused => 3,
+    }
+}
+
+/// The line of a fault.
+pub(crate) fn resume_text(alloc: Global, fault: ResumeFault) -> Result<String, AllocError>
+    ensures { IfOk result (λ text. string_bytes text ≡ resume_words fault ++ codes "\n") }
+{
+    match fault {
+        ResumeFault::Read(ReadFault::Failed) => format!(in alloc; "resume read\n"),
+        ResumeFault::Read(ReadFault::Long) => format!(in alloc; "resume long\n"),
+        ResumeFault::Read(ReadFault::Memory) => format!(in alloc; "stopped memory\n"),
+        ResumeFault::Input(InputFault::Line(number)) => format!(in alloc; "resume line {number}\n"),
+        ResumeFault::Input(InputFault::Address(number)) => {
+            format!(in alloc; "resume address {number}\n")
+        }
+        ResumeFault::Input(InputFault::Memory) => format!(in alloc; "stopped memory\n"),
+        ResumeFault::Refused => format!(in alloc; "record not written\n"),
+    }
+}
+
+impl From<ReadFault> for ResumeFault {
+    ghost use Rattle.std.specs.Prelude.{◌≡◌};
+    ghost use Rattle.retriever.specs.declared.resume_fault.ResumeFault.TheVariants.{Read};
+
+    ghost from_gives = { λ wrong fault. fault ≡ Read wrong };
+
+    fn from(wrong: ReadFault) -> ResumeFault {
+        ResumeFault::Read(wrong)
+    }
+}
+
+impl From<InputFault> for ResumeFault {
+    ghost use Rattle.std.specs.Prelude.{◌≡◌};
+    ghost use Rattle.retriever.specs.declared.resume_fault.ResumeFault.TheVariants.{Input};
+
+    ghost from_gives = { λ wrong fault. fault ≡ Input wrong };
+
+    fn from(wrong: InputFault) -> ResumeFault {
+        ResumeFault::Input(wrong)
+    }
+}
+
+impl From<AllocError> for ResumeFault {
+    ghost use Rattle.std.specs.Prelude.{◌≡◌};
+    ghost use Rattle.retriever.specs.declared.resume_fault.ResumeFault.TheVariants.{Read};
+    ghost use Rattle.streams.specs.declared.input.ReadFault.TheVariants.{Memory};
+
+    ghost from_gives = { λ _ fault. fault ≡ Read Memory };
+
+    fn from(_: AllocError) -> ResumeFault {
+        ResumeFault::Read(ReadFault::Memory)
+    }
+}

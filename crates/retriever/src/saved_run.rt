@@ -1,0 +1,155 @@
+//! A live retrieval that goes on from a record, and whose answers are saved as one.
+ghost use Rattle.std.specs.Prelude.{◌≡◌, ◌≢◌, ◌<◌, ◌≤◌, ◌++◌, ℕ, List, Option, IfOk, flat_map, map, vec_len};
+ghost use Rattle.site_records.specs.WrittenRecords.{all_noted, record_text};
+ghost use Rattle.retriever.specs.Live.{holding};
+ghost use Rattle.retriever.specs.Parts.{IsDelivered, IsToldAs};
+ghost use Rattle.retriever.specs.Saving.{IsSaved, LivesResumed, LivesSaved, resuming_of, save_status, save_text, unsaved_status};
+
+use crate::input_run::deliver;
+use crate::live_run::finish;
+use crate::told::parted;
+use local_tree::Folder;
+use options::Order;
+use site_answer::Noted;
+use site_records::{RecordFault, RecordedSite, Recording, Resumed, write_record};
+use std::alloc::{AllocError, Global};
+use std::io::Write;
+use std::sync::Wait;
+use std::thread::Threads;
+use streams::WriteFailed;
+
+/// Fetchers that ask these for what the record doesn't state.
+pub(crate) fn resuming<F: Recording>(
+    alloc: Global,
+    recorded: &RecordedSite,
+    fetchers: Vec<F>,
+) -> Result<Vec<Resumed<F>>, AllocError>
+    ensures count { IfOk result (λ all. vec_len all ≡ vec_len fetchers) }
+    ensures resuming { IfOk result (λ all. all.items ≡ map (resuming_of F.log recorded.now) fetchers.items) }
+{
+    let mut all = Vec::new(alloc);
+    for fetcher in fetchers {
+        all.push(Resumed::new(alloc, recorded.try_clone()?, fetcher))?;
+    }
+    Ok(all)
+}
+
+// The notes that are given, and behind them those of each fetcher.
+fn parts_of<'a, F: Recording>(
+    alloc: Global,
+    given: &'a [Noted],
+    fetchers: &'a [F],
+) -> Result<Vec<&'a [Noted]>, AllocError>
+    ensures { IfOk result (λ parts. all_noted parts.items ≡ given.now ++ flat_map F.noted fetchers.now) }
+{
+    let mut parts = Vec::new(alloc);
+    parts.push(given)?;
+    for fetcher in fetchers {
+        parts.push(fetcher.notes())?;
+    }
+    Ok(parts)
+}
+
+// Saves the notes that are given, and behind them those of each fetcher.
+fn save<F: Recording, V: Write>(
+    alloc: Global,
+    given: &[Noted],
+    fetchers: &[F],
+    saved: &mut V,
+) -> Result<(), RecordFault>
+    ensures { IsSaved result (V.contents saved.old) (V.contents saved.new) (record_text (given.now ++ flat_map F.noted fetchers.now)) }
+{
+    let parts = parts_of(alloc, given, fetchers)?;
+    write_record(alloc, saved, parts.as_slice())
+}
+
+// The status of a run whose record isn't whole, by what it would be else.
+fn unsaved_status(status: u8) -> u8
+    ensures { result ≡ unsaved_status status }
+{
+    if status == 1 { 1 } else { 3 }
+}
+
+// Tells how the record was saved, and gives the status of the run that has this one without it.
+fn tell_saving<W: Write>(status: u8, saving: Result<(), RecordFault>, writer: &mut W) -> u8
+    ensures { IsDelivered (W.contents writer.old) (W.contents writer.new) (save_text saving) (save_status saving status) result }
+{
+    match saving {
+        Ok(()) => status,
+        Err(RecordFault::Device) => {
+            deliver(writer, b"record not written\n", unsaved_status(status))
+        }
+        Err(RecordFault::Memory) => deliver(writer, b"stopped memory\n", 1),
+    }
+}
+
+// Tells it behind what was told, unless the writer failed there.
+fn tell_saving_behind<W: Write>(
+    told: Result<u8, WriteFailed>,
+    saving: Result<(), RecordFault>,
+    writer: &mut W,
+) -> u8
+    ensures { (before : Option (List ℕ)) (text : List ℕ) (wanted : ℕ) → IsToldAs before (W.contents writer.old) told text wanted
+        → IsDelivered before (W.contents writer.new) (text ++ save_text saving) (save_status saving wanted) result }
+{
+    match told {
+        Ok(status) => tell_saving(status, saving, writer),
+        Err(_) => 1,
+    }
+}
+
+// Retrieves live, and saves what is given and what the fetchers note. They are let go before a report is made.
+fn live_saved<H: Threads + Wait + Sync, F: Recording + Send, D: Folder, W: Write, V: Write>(
+    rt: &H,
+    alloc: Global,
+    order: &Order,
+    given: &[Noted],
+    fetchers: Vec<F>,
+    folder: &mut D,
+    writer: &mut W,
+    saved: &mut V,
+) -> u8
+    requires some { 0 < vec_len fetchers }
+    requires most { vec_len fetchers ≤ 64 }
+    ensures { LivesSaved F.site F.says F.rules F.log F.noted order.now given.now fetchers.items (holding D.files D.failed folder.old) (holding D.files D.failed folder.new)
+        (W.contents writer.old) (W.contents writer.new) (V.contents saved.old) (V.contents saved.new) result }
+{
+    let (brought, left) = parted(workers::retrieve(rt, alloc, &order.plan, fetchers));
+    let saving = save(alloc, given, left.as_slice(), saved);
+    drop(left);
+    let told = finish(alloc, order.trace, &brought, folder, writer);
+    tell_saving_behind(told, saving, writer)
+}
+
+/// Retrieves as [`live`](crate::live) does, but that nothing is asked for that the record states, and saves the record's notes
+/// and behind them what the fetchers noted, whatever end the retrieval came to. This is done before anything is put or told. Where the saved record's writer fails, the line `record not written` stands behind all else, and the status is 3 where it would not be 1;
+/// where memory runs out for it, `stopped memory`, with status 1. Where there is no memory to begin with, nothing is saved.
+pub fn live_resumed<H: Threads + Wait + Sync, F: Recording + Send, D: Folder, W: Write, V: Write>(
+    rt: &H,
+    alloc: Global,
+    order: &Order,
+    recorded: &RecordedSite,
+    fetchers: Vec<F>,
+    folder: &mut D,
+    writer: &mut W,
+    saved: &mut V,
+) -> u8
+    requires some { 0 < vec_len fetchers }
+    requires most { vec_len fetchers ≤ 64 }
+    ensures lives { LivesResumed F.site F.says F.rules F.log F.noted order.now recorded.now fetchers.items (holding D.files D.failed folder.old)
+        (holding D.files D.failed folder.new) (W.contents writer.old) (W.contents writer.new) (V.contents saved.old) (V.contents saved.new) result }
+{
+    match resuming(alloc, recorded, fetchers) {
+        Ok(resuming) => live_saved(
+            rt,
+            alloc,
+            order,
+            recorded.notes(),
+            resuming,
+            folder,
+            writer,
+            saved,
+        ),
+        Err(_) => deliver(writer, b"stopped memory\n", 1),
+    }
+}
