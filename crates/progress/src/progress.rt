@@ -14,6 +14,8 @@ pub struct Progress<'a, R: Clock + Eprint> {
     start: Option<Instant>,
     answered: AtomicU64,
     failed: AtomicU64,
+    // How many answers came from a record.
+    recorded: AtomicU64,
     // How many addresses wait, as far as was told.
     waiting: AtomicUsize,
     bytes: AtomicU64,
@@ -31,6 +33,7 @@ impl<'a, R: Clock + Eprint> Progress<'a, R> {
             start,
             answered: AtomicU64::new(0),
             failed: AtomicU64::new(0),
+            recorded: AtomicU64::new(0),
             waiting: AtomicUsize::new(0),
             bytes: AtomicU64::new(0),
             due: AtomicU64::new(PAUSE),
@@ -45,6 +48,20 @@ impl<'a, R: Clock + Eprint> Progress<'a, R> {
         let count = if failed { &self.failed } else { &self.answered };
         count.fetch_add(1, Ordering::SeqCst);
         self.bytes.fetch_add(bytes, Ordering::SeqCst);
+        self.show_due(start);
+    }
+
+    // Counts an answer that came from a record, and shows the line where it is due.
+    pub(crate) fn took_recorded(&self) {
+        let Some(start) = &self.start else {
+            return;
+        };
+        self.recorded.fetch_add(1, Ordering::SeqCst);
+        self.show_due(start);
+    }
+
+    // Shows the line where it is due.
+    fn show_due(&self, start: &Instant) {
         let Ok(elapsed) = start.elapsed(self.rt) else {
             return;
         };
@@ -77,10 +94,18 @@ impl<'a, R: Clock + Eprint> Progress<'a, R> {
         let waiting = self.waiting.load(Ordering::Relaxed);
         let kilobytes = self.bytes.load(Ordering::SeqCst) / 1000;
         let rate = kilobytes.saturating_mul(1000) / now.max(1);
-        let _ = eprint!(self.rt;
-            "\r{:79}\r{answered} answered, {waiting} waiting, {failed} failed, {kilobytes} kB, {rate} kB/s",
-            ""
-        );
+        let recorded = self.recorded.load(Ordering::SeqCst);
+        let _ = if recorded == 0 {
+            eprint!(self.rt;
+                "\r{:79}\r{answered} answered, {waiting} waiting, {failed} failed, {kilobytes} kB, {rate} kB/s",
+                ""
+            )
+        } else {
+            eprint!(self.rt;
+                "\r{:79}\r{recorded} recorded, {answered} answered, {waiting} waiting, {failed} failed, {kilobytes} kB, {rate} kB/s",
+                ""
+            )
+        };
     }
 
     /// Ends the line, and clears it where it was shown: no other is written. Later calls change nothing.

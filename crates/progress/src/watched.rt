@@ -83,6 +83,11 @@ impl<'a, C: Connect, R: Clock + Eprint> Connect for Watched<'a, C, R> {
         self.inner.tell_waiting(waiting);
     }
 
+    fn tell_recorded(&mut self) {
+        self.progress.took_recorded();
+        self.inner.tell_recorded();
+    }
+
     fn failures(&self) -> u64 {
         self.inner.failures()
     }

@@ -2,10 +2,9 @@
 //! its arguments and its streams is stated at `retriever::run_program`; `main` only names them, and what the system gives.
 #![tactic(auto)]
 
-mod network;
-
-use network::Network;
+use host_system::Network;
 use progress::{BehindLine, Progress};
+use record_journal::Saving;
 use retriever::run_program;
 use std::io::IsTerminal;
 use std::process::ExitCode;
@@ -15,11 +14,13 @@ use tcp_connect::Hosts;
 fn main(rt: HostRuntime) -> ExitCode {
     let hosts = Hosts::new(rt.alloc());
     let progress = Progress::new(&rt, rt.stderr().is_terminal());
+    let saving = Saving::new();
     let network = Network::new(
         &rt,
         rt.alloc(),
         &hosts,
         &progress,
+        &saving,
         process::id(rt.process()),
     );
     let status = run_program(
@@ -31,5 +32,6 @@ fn main(rt: HostRuntime) -> ExitCode {
         &mut BehindLine::new(rt.stdout(), &progress),
         &mut rt.stderr(),
     );
+    saving.end(&rt, &rt);
     ExitCode::from(status)
 }

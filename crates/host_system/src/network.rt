@@ -1,0 +1,108 @@
+//! What a live run has of the system: fetchers over TCP, and folders and records on the disk.
+use crate::asking::Asking;
+use crate::disk::{Disk, Saved};
+use local_tree::{Close, DiskFolder};
+use progress::{Progress, Watched};
+use record_journal::{HoldFault as Held, Journaled, Lock, Pen, SavedFile, Saving};
+use retriever::{HoldFault, System};
+use site_answer::HttpFetcher;
+use std::alloc::{AllocError, Global};
+use std::fs::Files;
+use std::net::Net;
+use std::sync::Wait;
+use std::time::Clock;
+use streams::ReadFault;
+use tcp_connect::{Hosts, TcpConnect};
+
+/// The network and the disk, by the program's handle.
+#[derive(Drop)]
+pub struct Network<'a, R: Net + Wait + Files + Clock + Eprint> {
+    rt: &'a R,
+    alloc: Global,
+    hosts: &'a Hosts,
+    progress: &'a Progress<'a, R>,
+    saving: &'a Saving<R>,
+    process: u32,
+}
+
+impl<'a, R: Net + Wait + Files + Clock + Eprint> Network<'a, R> {
+    /// By this handle, with what the run knows of hosts, the line that counts its connections and where it saves, for the process
+    /// of this number. Takes no memory.
+    pub fn new(
+        rt: &'a R,
+        alloc: Global,
+        hosts: &'a Hosts,
+        progress: &'a Progress<'a, R>,
+        saving: &'a Saving<R>,
+        process: u32,
+    ) -> Network<'a, R> {
+        Network {
+            rt,
+            alloc,
+            hosts,
+            progress,
+            saving,
+            process,
+        }
+    }
+}
+
+impl<'a, R: Net + Wait + Files + Clock + Eprint + Sync> System for Network<'a, R>
+where
+    R::File: Close + Lock + Send + Sync,
+{
+    ghost use Rattle.std.specs.Prelude.{◌≡◌, ⊤};
+    ghost use Rattle.local_tree.specs.Folders.{opened_at};
+
+    type Fetcher = Asking<'a, R>;
+
+    type Folder = Disk<'a, R>;
+
+    type Record = Saved<'a, R>;
+
+    ghost makes = { λ network robots is_recording fetcher. (fetcher.inner.inner.robots ≡ robots) × (fetcher.inner.is_recording ≡ is_recording) };
+
+    ghost opens = { λ network path folder. folder.inner ≡ opened_at path };
+
+    ghost holds = { λ network path bytes. ⊤ };
+
+    ghost names = { λ network path saved. ⊤ };
+
+    fn fetcher(&self, robots: bool, is_recording: bool) -> Asking<'a, R> {
+        let connect = TcpConnect::new(self.rt, self.alloc, self.hosts);
+        let connect = Watched::new(connect, self.progress);
+        let fetcher = HttpFetcher::new(self.alloc, connect, robots);
+        let pen = Pen::new(self.rt, self.saving);
+        Asking {
+            inner: Journaled::new(self.alloc, fetcher, pen, is_recording),
+        }
+    }
+
+    fn folder(&self, path: &str) -> Result<Disk<'a, R>, AllocError> {
+        match DiskFolder::new(self.rt, self.alloc, path, self.process) {
+            Ok(inner) => Ok(Disk { inner }),
+            Err(_) => Err(AllocError),
+        }
+    }
+
+    fn hold(&self, path: &str, is_resumed: bool) -> Result<(), HoldFault> {
+        match self
+            .saving
+            .hold(self.rt, self.rt, self.alloc, path, is_resumed)
+        {
+            Ok(()) => Ok(()),
+            Err(Held::Refused) => Err(HoldFault::Refused),
+            Err(Held::Memory) => Err(HoldFault::Memory),
+        }
+    }
+
+    fn read_file(&self, alloc: Global, path: &str, limit: usize) -> Result<Vec<u8>, ReadFault> {
+        self.saving.read(self.rt, self.rt, alloc, path, limit)
+    }
+
+    fn record(&self, path: &str) -> Result<Saved<'a, R>, AllocError> {
+        let journal = self.saving.journal();
+        let inner = SavedFile::new(self.rt, self.rt, self.alloc, path, journal)?;
+        Ok(Saved { inner })
+    }
+}
