@@ -297,24 +297,34 @@ const CALLS: &[(
         Err(WireFault::Interrupted),
         Err(WireFault::Interrupted),
     ),
-    (
-        Err(ErrorKind::WouldBlock),
-        Err(WireFault::Failed),
-        Err(WireFault::Failed),
-    ),
-    (
-        Err(ErrorKind::ConnectionReset),
-        Err(WireFault::Failed),
-        Err(WireFault::Failed),
-    ),
 ];
+
+/// Whether a wire answers so over a stream that answers each call so.
+fn answers(
+    answer: Result<usize, ErrorKind>,
+    read: Result<usize, WireFault>,
+    write: Result<usize, WireFault>,
+) -> bool {
+    let mut wire = TcpWire::new(Stuck(answer));
+    wire.read(&mut [0u8; 2]) == read
+        && wire.write(b"ab") == write
+        && wire.write(b"").is_ok() == answer.is_ok()
+}
 
 #[test]
 fn faults_of_streams_are_faults_of_wires(rt: HostRuntime) {
     for (answer, read, write) in CALLS {
-        let mut wire = TcpWire::new(Stuck(*answer));
-        assert!(rt; wire.read(&mut [0u8; 2]) == *read);
-        assert!(rt; wire.write(b"ab") == *write);
-        assert!(rt; wire.write(b"").is_ok() == answer.is_ok());
+        assert!(rt; answers(*answer, *read, *write));
+    }
+    for kind in [
+        ErrorKind::WouldBlock,
+        ErrorKind::TimedOut,
+        ErrorKind::ConnectionReset,
+        ErrorKind::ConnectionAborted,
+        ErrorKind::BrokenPipe,
+        ErrorKind::Other,
+    ] {
+        let failed = Err(WireFault::Failed);
+        assert!(rt; answers(Err(kind), failed, failed), "{kind:?}");
     }
 }

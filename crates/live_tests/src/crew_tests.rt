@@ -5,13 +5,16 @@ use fetcher::{Answer, Ask, Body, FaultKind, Fetcher, Outcome};
 use local_tree::MemoryFolder;
 use retriever::{System, run, run_program};
 use robots_rules::RuleSet;
+use site_answer::Noted;
 use site_maps::MapSite;
+use site_records::Recording;
 use std::alloc::{AllocError, Global};
 use std::process::Abort;
 use std::sync::Wait;
 use std::sync::atomic::{AtomicU64, Ordering};
 use std::thread;
 use std::thread::Threads;
+use streams::ReadFault;
 
 // Answers the start at once, and each other page only once so many are being asked for.
 #[derive(Drop)]
@@ -70,6 +73,16 @@ impl<'a> Fetcher for Meeting<'a> {
     }
 }
 
+impl<'a> Recording for Meeting<'a> {
+    ghost use Rattle.std.specs.Prelude.{[]};
+
+    ghost noted = { λ _. [] };
+
+    fn notes(&self) -> &[Noted] {
+        &[]
+    }
+}
+
 // A network whose fetchers meet.
 #[derive(Drop)]
 struct Meetings<'a> {
@@ -86,11 +99,17 @@ impl<'a> System for Meetings<'a> {
 
     type Folder = MemoryFolder;
 
-    ghost makes = { λ meetings robots fetcher. ⊤ };
+    type Record = Vec<u8>;
+
+    ghost makes = { λ meetings robots is_recording fetcher. ⊤ };
 
     ghost opens = { λ meetings path folder. ⊤ };
 
-    fn fetcher(&self, _robots: bool) -> Meeting<'a> {
+    ghost holds = { λ meetings path bytes. ⊤ };
+
+    ghost names = { λ meetings path saved. ⊤ };
+
+    fn fetcher(&self, _robots: bool, _is_recording: bool) -> Meeting<'a> {
         Meeting {
             alloc: self.alloc,
             start: self.start,
@@ -102,6 +121,14 @@ impl<'a> System for Meetings<'a> {
 
     fn folder(&self, _path: &str) -> Result<MemoryFolder, AllocError> {
         Ok(MemoryFolder::new(self.alloc))
+    }
+
+    fn read_file(&self, _alloc: Global, _path: &str, _limit: usize) -> Result<Vec<u8>, ReadFault> {
+        Err(ReadFault::Failed)
+    }
+
+    fn record(&self, _path: &str) -> Result<Vec<u8>, AllocError> {
+        Ok(Vec::new(self.alloc))
     }
 }
 

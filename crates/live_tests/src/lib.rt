@@ -1,5 +1,6 @@
 //! Runs of the retriever: tests alone, of `retriever::run` and `retriever::run_program` on worked sites, of `retriever::live`
-//! over connections in memory that fail where they are told to, and over TCP to a server in a thread of the test; and that as
+//! over connections in memory that fail where they are told to, and over TCP to a server in a thread of the test; of
+//! `retriever::live_resumed` in sessions; and that as
 //! many workers retrieve as are ordered, live and from a map. And of connections over a network that isn't there: how hosts are
 //! looked up, which addresses are tried, how a connection ends, what a fault of a stream is to a wire, and what a person sees of
 //! it on a terminal. They stand above the program's crates, so that the program isn't proved once more with them.
@@ -21,6 +22,12 @@ mod progress_tests;
 mod run_tests;
 #[cfg(test)]
 mod server;
+#[cfg(test)]
+mod session_tests;
+#[cfg(test)]
+mod size_tests;
+#[cfg(test)]
+mod stream_tests;
 #[cfg(test)]
 mod tcp_tests;
 #[cfg(test)]

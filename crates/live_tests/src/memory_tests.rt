@@ -15,20 +15,19 @@ use site_answer::{
     Connect, FailingPlace, HttpFetcher, MemoryConnect, PlannedFailure, StoredAnswer,
 };
 use std::alloc::Global;
-use std::io;
 use std::io::Write;
 use std::process::Abort;
 use std::sync::Wait;
 use std::thread::Threads;
 
 /// A start with two pages.
-const SITE: &str =
+pub(crate) const SITE: &str =
     "< http://h/ HTTP/1.1 200 OK|Content-Type: text/html|Content-Length: 20||<a href=a><a href=b>
 < http://h/a HTTP/1.1 200 OK|Content-Length: 1||A
 < http://h/b HTTP/1.1 200 OK|Content-Length: 1||B";
 
 /// What is written of it, and its files.
-const WHOLE: &str =
+pub(crate) const WHOLE: &str =
     "0 200 http://h/ h/index.html\n1 200 http://h/a h/a\n1 200 http://h/b h/b\nfetched 3 kept 3 refused 0 failed 0\n";
 
 const FILES: [(&str, &str); 3] = [
@@ -287,7 +286,7 @@ fn held(number: usize, whole: u64, body: &str) -> Option<&[u8]> {
 }
 
 /// Whether the folder has the first so many files, and no other.
-fn has_front(folder: &MemoryFolder, whole: u64) -> bool {
+pub(crate) fn has_front(folder: &MemoryFolder, whole: u64) -> bool {
     for (number, (name, body)) in FILES.iter().enumerate() {
         if folder.file(name) != held(number, whole, body) {
             return false;
@@ -311,52 +310,5 @@ fn fails_behind<R: Abort + Threads + Wait + Sync>(rt: &R, alloc: Global, whole: 
 fn a_put_that_fails_is_told_behind_the_report(rt: HostRuntime) {
     for whole in 0..3u64 {
         assert!(rt; fails_behind(&rt, rt.alloc(), whole), "{whole}");
-    }
-}
-
-/// A writer that takes ten bytes at a time, up to so many, and then fails.
-#[derive(Drop)]
-struct Narrow {
-    held: Vec<u8>,
-    room: usize,
-}
-
-impl Write for Narrow {
-    fn write(&mut self, text: &[u8]) -> io::Result<usize> {
-        let taken = text.len().min(10).min(self.room);
-        self.held.extend_from_slice(&text[..taken])?;
-        self.room -= taken;
-        Ok(taken)
-    }
-
-    fn flush(&mut self) -> io::Result<()> {
-        Ok(())
-    }
-}
-
-/// Whether a writer of so much room holds a front of the text, and the files are put all the same.
-fn holds_a_front<R: Abort + Threads + Wait + Sync>(
-    rt: &R,
-    alloc: Global,
-    answers: &[StoredAnswer],
-    room: usize,
-) -> bool {
-    let mut folder = MemoryFolder::new(alloc);
-    let held = Vec::new(alloc);
-    let mut writer = Narrow { held, room };
-    let words = "-r http://h/";
-    let status = live_alone(rt, alloc, words, answers, &[], &mut folder, &mut writer);
-    let (last, body) = FILES[2];
-    status == 1
-        && writer.held.len() == room
-        && WHOLE.as_bytes().starts_with(&writer.held)
-        && folder.file(last) == Some(body.as_bytes())
-}
-
-#[test]
-fn a_writer_that_fails_holds_a_front_of_the_text(rt: HostRuntime) {
-    let answers = stored(&rt, rt.alloc(), SITE);
-    for room in 0..WHOLE.len() {
-        assert!(rt; holds_a_front(&rt, rt.alloc(), &answers, room), "{room}");
     }
 }

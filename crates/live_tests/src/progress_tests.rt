@@ -180,6 +180,21 @@ fn what_is_written_behind_the_line_covers_it_once(rt: HostRuntime) {
     assert!(rt; *terminal.text.lock(&rt) == shown(&rt, alloc, "first, second, flushed"));
 }
 
+#[test]
+fn line_counts_the_answers_from_a_record(rt: HostRuntime) {
+    let alloc = rt.alloc();
+    let terminal = Terminal::new(&rt, alloc);
+    let progress = Progress::new(&terminal, true);
+    let mut connect = Watched::new(MemoryConnect::new(alloc, &[], &[]), &progress);
+    for at in [1100u64, 1200, 1300] {
+        terminal.now.store(at, Ordering::SeqCst);
+        connect.tell_recorded();
+    }
+    let line = "3 recorded, 0 answered, 0 waiting, 0 failed, 0 kB, 0 kB/s";
+    let shown = format!(in alloc; "\r{:79}\r{line}", "").expect(&rt, "memory");
+    assert!(rt; *terminal.text.lock(&rt) == shown);
+}
+
 /// A terminal with a clock by which two threads meet: each of their calls waits for one of the other, and both are told the same
 /// time, a second behind that of the calls before. It counts what is written to it.
 #[derive(Drop)]

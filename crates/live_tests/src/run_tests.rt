@@ -1,21 +1,21 @@
-//! Runs of the retriever on worked sites, told by maps and by records, on wrong words and inputs, and over readers and writers
-//! that fail; the program over three streams. The form of the texts is told in `texts.rt`.
+//! Runs of the retriever on worked sites, told by maps and by records, and on wrong words and inputs; the program over three
+//! streams. The form of the texts is told in `texts.rt`.
 use crate::texts::{arguments_of, behind, status_of, text_of, words_of};
 use address::Address;
 use follow_filters::Plan;
 use local_tree::{Folder, MemoryFolder, WriteFault, names, write_site};
 use options::read_order;
-use retriever::{System, run, run_program};
+use retriever::{HoldFault, System, run, run_program};
 use site_answer::{HttpFetcher, MemoryConnect, StoredAnswer};
 use site_records::RecordedSite;
 use std::alloc::{AllocError, Global};
 use std::env::Args;
 use std::io;
-use std::io::{Error, ErrorKind, Read, Write};
+use std::io::{Error, ErrorKind, Write};
 use std::process::Abort;
 use std::sync::Wait;
 use std::thread::Threads;
-use streams::{ReadFault, read_input};
+use streams::ReadFault;
 use workers::{Halt, Harvest, retrieve_in_order};
 
 /// Sites that are told by maps.
@@ -735,12 +735,100 @@ $ wgetr -r --workers 2 http://h/
 $ wgetr -q
 > line words
 ! wgetr: unexpected argument found, in: -q
-? accepted are START
+! wgetr --help says which words are accepted
 = 2
+
+$ wgetr -A [a http://h/
+> line pattern
+! wgetr: an element of -A, --accept or -R, --reject is no pattern, in: -A [a http://h/
+! an element is a suffix, or a pattern with *, ? and classes as [a-z], each closed
+= 2
+
+$ wgetr -X a http://h/
+> line directory
+! wgetr: an element of -I, --include-directories or -X, --exclude-directories is no directory, in: -X a http://h/
+! an element begins with / and has none of *, ?, [ and ]
+= 2
+
+$ wgetr -D a*b http://h/
+> line domain
+! wgetr: an element of -D, --domains or --exclude-domains is no domain, in: -D a*b http://h/
+! an element is letters, digits, -, _ and dots, as example.org
+= 2
+
+$ wgetr example.org
+> line start not-url
+! wgetr: START is no URL (http:// may be missing), in: example.org
+? START is an address in full, as http://example.org/path?query, without user name
+= 2
+
+$ wgetr https://h/
+> line start not-http
+! wgetr: START isn't an http address, and wgetr speaks neither https nor any other scheme, in: https://h/
+? START is an address in full
+= 2
+
+$ wgetr http://a@h/
+> line start user-info
+! wgetr: START has a user name or a password, in: http://a@h/
+? START is an address in full
+= 2
+
+$ wgetr http://h/robots.txt
+> line start-robots
+! wgetr: START is a robots file, in: http://h/robots.txt
+! START is any other page
+= 2
+
+$ wgetr --resume none http://h/
+> resume read
+= 3
+
+$ wgetr --resume long http://h/
+> resume long
+= 2
+
+$ wgetr --resume empty --save full http://h/
+> resume line 1
+= 2
+
+$ wgetr --resume page --save held http://h/
+> record not written
+= 3
+
+$ wgetr --resume held --save held http://h/
+> resume line 1
+= 2
+
+$ wgetr --resume https http://h/
+> resume address 2
+= 2
+
+$ wgetr -r --resume page http://h/
+> 0 connect http://h/ -
+> fetched 1 kept 0 refused 0 failed 1
+= 4
+
+$ wgetr -r --save full http://h/
+> 0 200 http://h/ h/index.html
+> 1 404 http://h/b -
+> fetched 2 kept 1 refused 0 failed 1
+> record not written
+= 3
+
+$ wgetr -r --max-urls 1 --save full http://h/
+> stopped full
+> record not written
+= 1
 
 $ wgetr -h
 > line words
 ? wgetr retrieves a site recursively
+= 2
+
+$ wgetr --version
+> line words
+! wgetr 1.0
 = 2
 
 $ wgetr --help
@@ -754,7 +842,8 @@ $ wgetr -r -l 1 -e robots=off --workers 1 --per-host 1 --map http://h/
 > fetched 2 kept 1 refused 0 failed 1
 = 8";
 
-/// A site on the network that is in memory: its start alone is stored. Its folder is let go with its files.
+/// A site on the network that is in memory: its start alone is stored. Its folder is let go with its files, and no record can be
+/// saved.
 #[derive(Drop)]
 struct Stored<'a> {
     alloc: Global,
@@ -768,17 +857,58 @@ impl<'a> System for Stored<'a> {
 
     type Folder = MemoryFolder;
 
-    ghost makes = { λ stored robots fetcher. fetcher.robots ≡ robots };
+    type Record = Shut;
+
+    ghost makes = { λ stored robots is_recording fetcher. fetcher.robots ≡ robots };
 
     ghost opens = { λ stored path folder. ⊤ };
 
-    fn fetcher(&self, robots: bool) -> HttpFetcher<MemoryConnect<'a>> {
+    ghost holds = { λ stored path bytes. ⊤ };
+
+    ghost names = { λ stored path saved. ⊤ };
+
+    fn fetcher(&self, robots: bool, _is_recording: bool) -> HttpFetcher<MemoryConnect<'a>> {
         let connect = MemoryConnect::new(self.alloc, self.answers, &[]);
         HttpFetcher::new(self.alloc, connect, robots)
     }
 
     fn folder(&self, _path: &str) -> Result<MemoryFolder, AllocError> {
         Ok(MemoryFolder::new(self.alloc))
+    }
+
+    fn hold(&self, path: &str, is_resumed: bool) -> Result<(), HoldFault> {
+        if path == "held" && !is_resumed {
+            return Err(HoldFault::Refused);
+        }
+        Ok(())
+    }
+
+    fn read_file(&self, alloc: Global, path: &str, _limit: usize) -> Result<Vec<u8>, ReadFault> {
+        match path {
+            "none" => Err(ReadFault::Failed),
+            "long" => Err(ReadFault::Long),
+            "https" => Ok(b"wgetr-record 1\nrules all https://h/\n".to_vec(alloc)?),
+            "page" => Ok(b"wgetr-record 1\nfault connect http://h/\n".to_vec(alloc)?),
+            _ => Ok(Vec::new(alloc)),
+        }
+    }
+
+    fn record(&self, _path: &str) -> Result<Shut, AllocError> {
+        Ok(Shut)
+    }
+}
+
+/// Takes nothing.
+#[derive(Drop)]
+struct Shut;
+
+impl Write for Shut {
+    fn write(&mut self, _text: &[u8]) -> io::Result<usize> {
+        Ok(0)
+    }
+
+    fn flush(&mut self) -> io::Result<()> {
+        Ok(())
     }
 }
 
@@ -833,7 +963,7 @@ fn a_person_is_told_what_is_wrong_beside_the_line(rt: HostRuntime) {
 /// Calls whose arguments aren't UTF-8, and can't be had for want of memory.
 const NO_UTF8: &str = "> line words
 ! wgetr: a word isn't UTF-8, in:
-? accepted are START
+! wgetr --help says which words are accepted
 = 2";
 
 const NO_MEMORY: &str = "> stopped memory
@@ -848,143 +978,6 @@ fn arguments_that_cannot_be_had_end_the_program(rt: HostRuntime) {
         let args = Err(Error::from(kind));
         assert!(rt; ends(&rt, rt.alloc(), &[], args, call), "{call}");
     }
-}
-
-/// A reader that gives one byte at a time, and is interrupted before each until it has been so often.
-#[derive(Drop)]
-struct Hesitant<'a> {
-    rest: &'a [u8],
-    interrupted: u32,
-    is_ready: bool,
-}
-
-impl Read for Hesitant<'_> {
-    fn read(&mut self, room: &mut [u8]) -> io::Result<usize> {
-        if self.interrupted > 0 && !self.is_ready {
-            self.interrupted -= 1;
-            self.is_ready = true;
-            return Err(Error::from(ErrorKind::Interrupted));
-        }
-        self.is_ready = false;
-        let ([first, ..], [byte, rest @ ..]) = (room, self.rest) else {
-            return Ok(0);
-        };
-        *first = *byte;
-        self.rest = rest;
-        Ok(1)
-    }
-}
-
-/// A writer that takes one byte at a time, up to so many, and is interrupted before each until it has been so often; at the
-/// end it flushes, or is interrupted once more.
-#[derive(Drop)]
-struct Slow {
-    interrupted: u32,
-    is_ready: bool,
-    room: u32,
-    flushes: bool,
-}
-
-impl Write for Slow {
-    fn write(&mut self, text: &[u8]) -> io::Result<usize> {
-        if self.interrupted > 0 && !self.is_ready {
-            self.interrupted -= 1;
-            self.is_ready = true;
-            return Err(Error::from(ErrorKind::Interrupted));
-        }
-        self.is_ready = false;
-        if self.room > 0 && !text.is_empty() {
-            self.room -= 1;
-            return Ok(1);
-        }
-        Ok(0)
-    }
-
-    fn flush(&mut self) -> io::Result<()> {
-        if self.flushes {
-            return Ok(());
-        }
-        Err(Error::from(ErrorKind::Interrupted))
-    }
-}
-
-/// A front and so many letters.
-fn lengthened(rt: &impl Abort, alloc: Global, front: &str, letters: u32) -> String {
-    let mut text = String::from_str(alloc, front).expect(rt, "memory");
-    for _ in 0..letters {
-        text.push('a').expect(rt, "memory");
-    }
-    text
-}
-
-/// Whether a run on an input of 1,202 bytes that is interrupted so often comes out like this.
-fn bears<R: Abort + Threads + Wait + Sync>(
-    rt: &R,
-    alloc: Global,
-    interrupted: u32,
-    text: &str,
-    status: u8,
-) -> bool {
-    let input = lengthened(rt, alloc, "# ", 1_200);
-    let mut reader = Hesitant {
-        rest: input.as_bytes(),
-        interrupted,
-        is_ready: false,
-    };
-    let mut written: Vec<u8> = Vec::new(alloc);
-    let ended = run(
-        rt,
-        alloc,
-        &["--map", "http://h/"],
-        &mut reader,
-        &mut written,
-    );
-    written.as_slice() == text.as_bytes() && ended == status
-}
-
-#[test]
-fn interrupted_reads_are_counted_over_the_whole_input(rt: HostRuntime) {
-    let alloc = rt.alloc();
-    let whole = "0 404 http://h/ -\nfetched 1 kept 0 refused 0 failed 1\n";
-    assert!(rt; bears(&rt, alloc, 999, whole, 8));
-    assert!(rt; bears(&rt, alloc, 1000, "input read\n", 1));
-}
-
-/// How a run over such a writer ends whose address has 1,200 bytes, and whose report 1,245.
-fn ends_over<R: Abort + Threads + Wait + Sync>(rt: &R, alloc: Global, writer: &mut Slow) -> u8 {
-    let start = lengthened(rt, alloc, "http://h/", 1_191);
-    let words = ["--map", start.as_str()];
-    run(rt, alloc, &words, &mut b"".as_slice(), writer)
-}
-
-#[test]
-fn a_writer_that_fails_or_takes_nothing_ends_with_status_1(rt: HostRuntime) {
-    for (interrupted, room, flushes, status) in [
-        (999, 1_245, true, 8),
-        (1000, 1_245, true, 1),
-        (0, 1_244, true, 1),
-        (0, 0, true, 1),
-        (0, 1_245, false, 1),
-    ] {
-        let mut writer = Slow {
-            interrupted,
-            is_ready: false,
-            room,
-            flushes,
-        };
-        assert!(rt;
-            ends_over(&rt, rt.alloc(), &mut writer) == status,
-            "{interrupted} {room} {flushes}"
-        );
-    }
-}
-
-#[test]
-fn an_input_above_its_limit_is_long(rt: HostRuntime) {
-    let long = read_input(rt.alloc(), &mut b"abc".as_slice(), 2);
-    assert!(rt; long.err() == Some(ReadFault::Long));
-    let input = read_input(rt.alloc(), &mut b"abc".as_slice(), 3).expect(&rt, "the input");
-    assert!(rt; input.as_slice() == b"abc".as_slice());
 }
 
 /// Three pages, each with a body of its own.

@@ -1,16 +1,13 @@
-//! Retrievals by several workers: the same as by one, and at the same time. The form of the rows is told in `rows.rt`.
-use crate::retrieval::{Seen, asked, retrieved};
-use crate::rows::{behind, plan, plan_of, text_of};
-use address::{Address, Origin};
-use fetcher::{Answer, Ask, Body, Edge, EdgeKind, Edges, FaultKind, Fetcher, Outcome};
-use robots_rules::RuleSet;
-use site_maps::MapSite;
-use std::alloc::{AllocError, Global};
+//! Retrievals by several workers: the same as by one, at one time, and by all of them to the end. The form of the rows is told
+//! in `rows.rt`.
+use crate::crew::{NAP, come_to, crew, fetchers};
+use crate::retrieval::retrieved;
+use crate::rows::plan_of;
+use std::alloc::Global;
 use std::process::Abort;
 use std::sync::Wait;
-use std::sync::atomic::{AtomicU64, Ordering};
-use std::thread;
 use std::thread::Threads;
+use std::time::{CpuClock, Duration};
 
 /// Sites that any number of workers retrieves.
 const SITES: &str = "`/d` is found behind `/z` at 2, and behind `/b` at 3; `/f` is beyond three hops
@@ -111,6 +108,30 @@ most 1
 robots on
 < page 200 http://h/
 > 0 - http://h/
+
+one address more than may be held
+hops 5
+most 3
+robots on
+entries 3
+= full
+< page 200 http://h/
+< link http://h/a
+< link http://h/b
+< link http://h/c
+
+no second page for want of memory
+hops 1
+most 100
+robots off
+memory short
+= memory
+< page 200 http://h/
+< link http://h/1
+< link http://h/2
+> 0 - http://h/
+> 1 none http://h/1
+> 1 none http://h/2
 ";
 
 /// `/c` is found behind `/b` at 3, and behind the redirect `/q` at 1, so that `/d` is found only once its depth has fallen;
@@ -149,17 +170,50 @@ robots on
 > 1 - http://h/s
 ";
 
-/// A site with one address more than may be held.
-const OVERFULL: &str = "hops 5
-most 3
-robots on
+/// More pages fail than there are workers; then there is one page at a time, so that the others have nothing to do; and then
+/// all four are asked for at one time, or a worker left.
+const FAULTS: &str = "hops 4
+most 100
+robots off
+host 4
+meet 4
 < page 200 http://h/
+< link http://h/1
+< link http://h/2
+< link http://h/3
+< link http://h/4
+< link http://h/5
+< link http://h/6
+< link http://h/m
+< fault connect http://h/1
+< fault ended http://h/2
+< fault device http://h/3
+< fault connect http://h/4
+< fault ended http://h/5
+< fault device http://h/6
+< page 200 http://h/m
+< link http://h/n
+< page 200 http://h/n
+< link http://h/o
+< page 200 http://h/o
 < link http://h/a
 < link http://h/b
 < link http://h/c
-< leaf 200 http://h/a
-< leaf 200 http://h/b
-< leaf 200 http://h/c
+< link http://h/d
+> 0 - http://h/
+> 1 connect http://h/1
+> 1 ended http://h/2
+> 1 device http://h/3
+> 1 connect http://h/4
+> 1 ended http://h/5
+> 1 device http://h/6
+> 4 404 http://h/a
+> 4 404 http://h/b
+> 4 404 http://h/c
+> 4 404 http://h/d
+> 1 - http://h/m
+> 2 - http://h/n
+> 3 - http://h/o
 ";
 
 /// A page with five links.
@@ -173,105 +227,6 @@ robots off
 < link http://h/4
 < link http://h/5
 ";
-
-/// A map's site that lets other threads run before it answers, as often as its seed says.
-#[derive(Drop)]
-struct Hesitant {
-    site: MapSite,
-    seed: u64,
-    // The most addresses that it was told wait.
-    waiting: usize,
-}
-
-/// Lets other threads run up to 63 times, and gives the next seed.
-fn hesitate(seed: u64) -> u64 {
-    for _ in 0..seed >> 58 {
-        thread::yield_now();
-    }
-    seed.wrapping_mul(6_364_136_223_846_793_005)
-        .wrapping_add(1_442_695_040_888_963_407)
-}
-
-impl Fetcher for Hesitant {
-    ghost use Rattle.site_maps.specs.Maps.{says_of};
-    ghost use Rattle.fetcher.specs.Sites.{SiteAnswers, GivesOutcome, GivesRules};
-
-    ghost Site = { SiteAnswers };
-
-    ghost site = { λ s. says_of s.site.answers s.site.rules };
-
-    ghost says = { GivesOutcome };
-
-    ghost rules = { GivesRules };
-
-    ghost log = { λ s. s.site.asks };
-
-    fn ask(&mut self, at: &Address) -> Result<Answer, AllocError> {
-        self.seed = hesitate(self.seed);
-        self.site.ask(at)
-    }
-
-    fn ask_robots(&mut self, of: &Origin) -> Result<RuleSet, AllocError> {
-        self.seed = hesitate(self.seed);
-        self.site.ask_robots(of)
-    }
-
-    fn asks(&self) -> &[Ask] {
-        self.site.asks()
-    }
-
-    fn tell_waiting(&mut self, waiting: usize) {
-        self.waiting = self.waiting.max(waiting);
-    }
-}
-
-/// So many copies of a row's site, each with a seed of its own.
-fn sites(rt: &impl Abort, alloc: Global, row: &str, count: u8, seed: u64) -> Vec<Hesitant> {
-    let map = text_of(rt, alloc, row, "< ");
-    let mut sites = Vec::new(alloc);
-    let mut seed = seed;
-    for _ in 0..count {
-        seed = hesitate(seed);
-        let site = MapSite::read(alloc, map.as_bytes()).expect(rt, "a map");
-        sites
-            .push(Hesitant {
-                site,
-                seed,
-                waiting: 0,
-            })
-            .expect(rt, "memory");
-    }
-    sites
-}
-
-/// Has so many workers retrieve a row's site.
-fn crew<R: Abort + Threads + Wait + Sync>(
-    rt: &R,
-    alloc: Global,
-    row: &str,
-    workers: u8,
-    seed: u64,
-) -> (Seen, Vec<Hesitant>) {
-    let plan = plan_of(rt, alloc, row);
-    retrieved(rt, alloc, &plan, sites(rt, alloc, row, workers, seed))
-}
-
-/// Whether so many workers come to the row's report, and just what is recorded was asked for.
-fn come_to<R: Abort + Threads + Wait + Sync>(
-    rt: &R,
-    alloc: Global,
-    row: &str,
-    workers: u8,
-    seed: u64,
-) -> bool {
-    let (seen, sites) = crew(rt, alloc, row, workers, seed);
-    let report = text_of(rt, alloc, row, "> ");
-    let (pages, rules) = asked(&sites);
-    seen.end == "whole"
-        && pages == seen.pages
-        && rules == seen.rules
-        && seen.report.as_str() == report.as_str()
-}
 
 #[test]
 fn any_number_of_workers_comes_to_one_report(rt: HostRuntime) {
@@ -295,31 +250,19 @@ fn whatever_the_interleaving_the_report_is_one(rt: HostRuntime) {
         for workers in [2, 5, 64] {
             assert!(rt; come_to(&rt, rt.alloc(), WEB, workers, seed));
         }
-    }
-}
-
-/// Whether so many workers stop since three addresses are held and there are more.
-fn stop_full<R: Abort + Threads + Wait + Sync>(rt: &R, alloc: Global, workers: u8) -> bool {
-    let (seen, _sites) = crew(rt, alloc, OVERFULL, workers, 1);
-    seen.end == "full" && seen.entries == 3
-}
-
-#[test]
-fn a_full_table_stops_all_workers(rt: HostRuntime) {
-    for workers in [1, 2, 4, 8] {
-        assert!(rt; stop_full(&rt, rt.alloc(), workers));
+        assert!(rt; come_to(&rt, rt.alloc(), FAULTS, 4, seed));
     }
 }
 
 /// The most addresses that one of so many workers was told wait.
 fn most_waiting<R: Abort + Threads + Wait + Sync>(rt: &R, alloc: Global, workers: u8) -> usize {
-    let (seen, sites) = crew(rt, alloc, STAR, workers, 1);
+    let (seen, fetchers) = crew(rt, alloc, STAR, workers, 1);
     if seen.end != "whole" {
         return 0;
     }
     let mut most = 0usize;
-    for site in &sites {
-        most = most.max(site.waiting);
+    for fetcher in &fetchers {
+        most = most.max(fetcher.waiting);
     }
     most
 }
@@ -332,178 +275,46 @@ fn workers_are_told_how_many_addresses_wait(rt: HostRuntime) {
     assert!(rt; most == 3 || most == 4);
 }
 
-/// A site that finds memory for the start alone.
-#[derive(Drop)]
-struct Poor {
-    site: MapSite,
-}
-
-impl Fetcher for Poor {
-    ghost use Rattle.site_maps.specs.Maps.{says_of};
-    ghost use Rattle.fetcher.specs.Sites.{SiteAnswers, GivesOutcome, GivesRules};
-
-    ghost Site = { SiteAnswers };
-
-    ghost site = { λ s. says_of s.site.answers s.site.rules };
-
-    ghost says = { GivesOutcome };
-
-    ghost rules = { GivesRules };
-
-    ghost log = { λ s. s.site.asks };
-
-    fn ask(&mut self, at: &Address) -> Result<Answer, AllocError> {
-        if at.path_query() != "/" {
-            return Err(AllocError);
-        }
-        self.site.ask(at)
+/// A page with so many links, which are asked for at one time by as many workers, 16 of a host.
+fn meeting(rt: &impl Abort, alloc: Global, count: u8) -> String {
+    let per_host = count.min(16);
+    let entries = u16::from(count) + 1;
+    let mut row = String::new(alloc);
+    write!(row, "hops 1\nmost 100\nrobots on\nhost {per_host}\n").expect(rt, "memory");
+    write!(
+        row,
+        "meet {count}\nentries {entries}\n< page 200 http://h/\n"
+    )
+    .expect(rt, "memory");
+    for link in 0..count {
+        let host = link / 16;
+        writeln!(row, "< link http://h{host}/{link}").expect(rt, "memory");
     }
-
-    fn ask_robots(&mut self, of: &Origin) -> Result<RuleSet, AllocError> {
-        self.site.ask_robots(of)
-    }
-
-    fn asks(&self) -> &[Ask] {
-        self.site.asks()
-    }
-}
-
-/// Whether so many workers that find no memory for a second page stop for that, and keep the first.
-fn stop_for_memory<R: Abort + Threads + Wait + Sync>(rt: &R, alloc: Global, workers: u8) -> bool {
-    let map = text_of(rt, alloc, STAR, "< ");
-    let mut sites = Vec::new(alloc);
-    for _ in 0..workers {
-        let site = MapSite::read(alloc, map.as_bytes()).expect(rt, "a map");
-        sites.push(Poor { site }).expect(rt, "memory");
-    }
-    let plan = plan_of(rt, alloc, STAR);
-    let (seen, sites) = retrieved(rt, alloc, &plan, sites);
-    seen.end == "memory"
-        && seen.pages == 1
-        && seen.entries == 6
-        && sites.len() == usize::from(workers)
+    row
 }
 
 #[test]
-fn want_of_memory_stops_all_workers(rt: HostRuntime) {
-    for workers in [1, 2, 8] {
-        assert!(rt; stop_for_memory(&rt, rt.alloc(), workers), "{workers}");
+fn as_many_workers_meet_as_there_are(rt: HostRuntime) {
+    for workers in [2, 8, 64] {
+        let row = meeting(&rt, rt.alloc(), workers);
+        assert!(rt;
+            come_to(&rt, rt.alloc(), row.as_str(), workers, 1),
+            "{workers}"
+        );
     }
-}
-
-/// Answers a page other than the start only once as many are being asked for as there are links.
-#[derive(Drop)]
-struct Meeting<'a> {
-    alloc: Global,
-    front: &'a Outcome,
-    links: u64,
-    arrived: &'a AtomicU64,
-    log: Vec<Ask>,
-}
-
-impl<'a> Meeting<'a> {
-    fn outcome(&self, at: &Address) -> Result<Outcome, AllocError> {
-        if at.path_query() == "/" {
-            return self.front.try_clone();
-        }
-        self.arrived.fetch_add(1, Ordering::SeqCst);
-        for _ in 0..1_000_000u32 {
-            if self.arrived.load(Ordering::SeqCst) >= self.links {
-                return Ok(Outcome::Leaf(200));
-            }
-            thread::yield_now();
-        }
-        Ok(Outcome::Fault(FaultKind::Device))
-    }
-}
-
-impl<'a> Fetcher for Meeting<'a> {
-    ghost use Rattle.std.specs.Prelude.{⊤};
-
-    ghost Site = { Unit {0} };
-
-    ghost site = { λ _. tt };
-
-    ghost says = { λ _ _ _ _. ⊤ };
-
-    ghost rules = { λ _ _ _. ⊤ };
-
-    ghost log = { λ s. s.log.items };
-
-    fn ask(&mut self, at: &Address) -> Result<Answer, AllocError> {
-        self.log.push(Ask::Page(at.try_clone()?))?;
-        Ok(Answer {
-            outcome: self.outcome(at)?,
-            body: Body::new(Vec::new(self.alloc)),
-        })
-    }
-
-    fn ask_robots(&mut self, of: &Origin) -> Result<RuleSet, AllocError> {
-        self.log.push(Ask::Rules(of.try_clone()?))?;
-        Ok(RuleSet::all())
-    }
-
-    fn asks(&self) -> &[Ask] {
-        self.log.as_slice()
-    }
-}
-
-/// A page with links to these addresses, which stand in a text with a blank between two.
-fn page(rt: &impl Abort, alloc: Global, links: &str) -> Outcome {
-    let mut edges = Vec::new(alloc);
-    for link in links.split(' ') {
-        let target = Address::read(alloc, link).expect(rt, "an address");
-        let kind = EdgeKind::Link;
-        edges.push(Edge { target, kind }).expect(rt, "memory");
-    }
-    Outcome::Page(200, Edges::new(edges).expect(rt, "memory"))
-}
-
-/// So many fetchers of a front page.
-fn meetings<'a>(
-    rt: &impl Abort,
-    alloc: Global,
-    front: &'a Outcome,
-    links: u8,
-    arrived: &'a AtomicU64,
-) -> Vec<Meeting<'a>> {
-    let mut fetchers = Vec::new(alloc);
-    for _ in 0..links {
-        let log = Vec::new(alloc);
-        let fetcher = Meeting {
-            alloc,
-            front,
-            links: u64::from(links),
-            arrived,
-            log,
-        };
-        fetchers.push(fetcher).expect(rt, "memory");
-    }
-    fetchers
-}
-
-/// Whether so many links of a front page are answered by as many workers, each only once all are being asked for. No more of a
-/// host are asked for at a time than there are links.
-fn meet<R: Abort + Threads + Wait + Sync>(rt: &R, alloc: Global, count: u8, links: &str) -> bool {
-    let front = page(rt, alloc, links);
-    let arrived = AtomicU64::new(0);
-    let mut plan = plan(rt, alloc, 1, 100);
-    plan.per_host = if count == 2 { 2 } else { 8 };
-    let fetchers = meetings(rt, alloc, &front, count, &arrived);
-    let (seen, _fetchers) = retrieved(rt, alloc, &plan, fetchers);
-    seen.end == "whole" && seen.faults == 0 && seen.pages == usize::from(count) + 1
 }
 
 #[test]
-fn two_workers_meet(rt: HostRuntime) {
-    assert!(rt; meet(&rt, rt.alloc(), 2, "http://h/a http://h/b"));
-}
-
-/// Eight links.
-const EIGHT: &str =
-    "http://h/a http://h/b http://h/c http://h/d http://h/e http://h/f http://h/g http://h/i";
-
-#[test]
-fn eight_workers_meet(rt: HostRuntime) {
-    assert!(rt; meet(&rt, rt.alloc(), 8, EIGHT));
+fn workers_that_wait_take_no_processor_time(rt: HostRuntime) {
+    let plan = plan_of(&rt, rt.alloc(), STAR);
+    let mut fetchers = fetchers(&rt, rt.alloc(), STAR, 4, 1);
+    for fetcher in &mut fetchers {
+        fetcher.sleeper = Some(rt);
+    }
+    let before = rt.process_cpu_time().expect(&rt, "a clock");
+    let (seen, _fetchers) = retrieved(&rt, rt.alloc(), &plan, fetchers);
+    let after = rt.process_cpu_time().expect(&rt, "a clock");
+    assert!(rt;
+        seen.end == "whole" && after.saturating_sub(before) < Duration::from_millis(NAP / 2)
+    );
 }

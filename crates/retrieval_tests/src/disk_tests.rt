@@ -1,5 +1,6 @@
-//! Files on a disk: made with their directories, replaced, and never put through a link. Files in
-//! memory, and a put that fails. Names stand in a text with a blank between two.
+//! Files on a disk: made with their directories, replaced, and never put through a link; a disk that fails, and one that another
+//! process uses. Files in memory, and a put that fails. Names stand in a text with a blank between two.
+use crate::disk::{Disk, Log, Mishap};
 use local_tree::{Close, DiskFolder, Folder, MemoryFolder};
 use std::alloc::Global;
 use std::fs;
@@ -7,7 +8,7 @@ use std::fs::Files;
 use std::process::Abort;
 
 // Whether the file holds these bytes.
-fn holds(rt: &HostRuntime, path: &str, bytes: &[u8]) -> bool {
+fn holds(rt: &(impl Files + AllocGlobal), path: &str, bytes: &[u8]) -> bool {
     match fs::read(rt, path) {
         Ok(found) => found.as_slice() == bytes,
         Err(_) => false,
@@ -15,7 +16,7 @@ fn holds(rt: &HostRuntime, path: &str, bytes: &[u8]) -> bool {
 }
 
 // Whether nothing stands there.
-fn is_absent(rt: &HostRuntime, path: &str) -> bool {
+fn is_absent(rt: &impl Files, path: &str) -> bool {
     fs::metadata(rt, path).is_err()
 }
 
@@ -61,11 +62,11 @@ fn puts_none(folder: &mut impl Folder, names: &str) -> bool {
 fn files_are_put_below_the_folder(rt: HostRuntime) {
     let mut folder = folder(&rt, rt.alloc(), "tree/of files");
     assert!(rt; is_absent(&rt, "tree"));
-    // The third directory is named as the two before it are in one.
+    // The third directory is named as the two before it are in one; the text of one begins with that of the next, twice.
     assert!(rt;
         puts_all(
             &mut folder,
-            "h/index.html h/a/b?c=%2F hh/a/d h:81/index.html"
+            "h/index.html h/a/b?c=%2F hh/a/d h:81/index.html m/a!/x m/a/y n.com/x n/y"
         )
     );
     assert!(rt; holds(&rt, "tree/of files/hh/a/d", b"hh/a/d"));
@@ -76,6 +77,8 @@ fn files_are_put_below_the_folder(rt: HostRuntime) {
     write(&rt, "tree/of files/.wgetr%part7", "left");
     assert!(rt; folder.put("h/index.html", b"4").is_ok());
     assert!(rt; holds(&rt, "tree/of files/h/index.html", b"4"));
+    assert!(rt; folder.put("h/empty", b"").is_ok());
+    assert!(rt; holds(&rt, "tree/of files/h/empty", b""));
     // A directory stands where a file is to stand, a file where a directory is to; a name leads out. The last is empty.
     assert!(rt; puts_none(&mut folder, "h/a h/index.html/b ../x /x h//x h/./x "));
     assert_eq!(rt; folder.failures(), 7);
@@ -91,6 +94,7 @@ fn make_links(rt: &(impl Abort + Files)) {
     link(rt, "../../outside", "inside/h/d");
     link(rt, "../../outside/kept", "inside/h/f");
     link(rt, "../../outside/new", "inside/h/g");
+    link(rt, "../outside", "inside/k");
     link(rt, "../outside/kept", "inside/.wgetr%part7");
 }
 
@@ -98,10 +102,136 @@ fn make_links(rt: &(impl Abort + Files)) {
 fn links_are_not_followed(rt: HostRuntime) {
     make_links(&rt);
     let mut folder = folder(&rt, rt.alloc(), "inside");
-    assert!(rt; puts_none(&mut folder, "h/d/kept h/d h/f h/g"));
+    assert!(rt; puts_none(&mut folder, "h/d/kept h/d h/f h/g k/kept k/x/y"));
     assert!(rt; puts_all(&mut folder, "h/e"));
     assert!(rt; holds(&rt, "outside/kept", b"as it was"));
     assert!(rt; is_absent(&rt, "outside/new"));
+}
+
+// The folder `disk` with a file, and beside it another.
+fn lay_out(rt: &(impl Abort + Files), alloc: Global) {
+    let _ = rt.remove_dir_all(alloc, "disk");
+    fs::create_dir_all(rt, "disk/h").expect(rt, "the disk");
+    fs::create_dir_all(rt, "outside").expect(rt, "the disk");
+    write(rt, "disk/h/x", "as it was");
+    write(rt, "disk/.wgetr%part7", "of another run");
+}
+
+// Whether the file holds what was put, where that ended well, and else what was there, if anything.
+fn is_whole(
+    rt: &(impl Files + AllocGlobal),
+    path: &str,
+    is_put: bool,
+    put: &[u8],
+    before: &[u8],
+) -> bool {
+    match fs::read(rt, path) {
+        Ok(found) => found.as_slice() == if is_put { put } else { before },
+        Err(_) => !is_put && before.is_empty(),
+    }
+}
+
+// The texts that are put over a file and into a new directory.
+const REPLACED: &[u8] = b"replaced";
+
+const NEW: &[u8] = b"new file";
+
+// Puts both. Whether each ended well.
+fn put_both(folder: &mut impl Folder) -> (bool, bool) {
+    let replaced = folder.put("h/x", REPLACED).is_ok();
+    (replaced, folder.put("k/y", NEW).is_ok())
+}
+
+// Whether the files of a disk are whole of which so many calls fail from this on: both puts end well only where no call failed and
+// each file was closed, what failed isn't seen, and once the disk is mended both are put.
+fn stays_whole<R: Abort + Files + AllocGlobal, D: Files>(
+    rt: &R,
+    disk: &D,
+    log: &Log,
+    from: u64,
+    lasting: u64,
+) -> bool
+where
+    D::File: Close,
+{
+    lay_out(rt, rt.alloc());
+    let mut folder = DiskFolder::new(disk, rt.alloc(), "disk", 17).expect(rt, "memory");
+    let (replaced, new) = put_both(&mut folder);
+    let is_felt = log.calls() > from;
+    let is_kept = is_whole(rt, "disk/h/x", replaced, REPLACED, b"as it was")
+        && is_whole(rt, "disk/k/y", new, NEW, b"")
+        && (lasting > 1 || is_absent(rt, "disk/.wgetr%part17"));
+    let is_closed = log.closed() >= u64::from(replaced).saturating_add(u64::from(new));
+    log.mend();
+    is_felt != (replaced && new)
+        && is_kept
+        && is_closed
+        && put_both(&mut folder) == (true, true)
+        && holds(rt, "disk/h/x", REPLACED)
+        && holds(rt, "disk/k/y", NEW)
+        && is_absent(rt, "disk/.wgetr%part17")
+        && holds(rt, "disk/.wgetr%part7", b"of another run")
+}
+
+#[test]
+fn a_disk_that_fails_leaves_each_file_whole(rt: HostRuntime) {
+    for lasting in [1, u64::MAX] {
+        for from in 0..20u64 {
+            let disk = Disk::new(rt, rt.alloc(), Mishap::Fails(from, lasting));
+            let disk = disk.expect(&rt, "memory");
+            assert!(rt;
+                stays_whole(&rt, &disk, disk.log(), from, lasting),
+                "{from} {lasting}"
+            );
+        }
+    }
+}
+
+// What another process makes while `k/y` is put: before which call, for which path, what; and how the put ends. A link that is made
+// behind the look for it isn't seen, as the folder says.
+const MEETINGS: &str = "mkdir disk/k dir whole
+mkdir disk/k file refused
+mkdir disk/k link refused
+lstat disk/k file refused
+lstat disk/k link refused
+lstat disk/k/y dir refused
+lstat disk/k/y link refused
+open disk/.wgetr%part17 file whole
+open disk/.wgetr%part17 link whole
+rename disk/k/y file whole
+rename disk/k/y dir refused";
+
+// What a line says befalls the disk, and how the put ends.
+fn meeting_of(rt: &impl Abort, line: &'static str) -> (Mishap, &'static str) {
+    let mut words = line.split(' ');
+    let call = words.next().expect(rt, "a call");
+    let path = words.next().expect(rt, "a path");
+    let made = words.next().expect(rt, "a thing");
+    let ends = words.next().expect(rt, "an end");
+    (Mishap::Meets(call, path, made), ends)
+}
+
+// Whether the put ends as it is to, with the file whole where it ends well, and neither a part of it nor anything outside.
+fn meets<R: Abort + Files + AllocGlobal, D: Files>(rt: &R, disk: &D, ends: &str) -> bool
+where
+    D::File: Close,
+{
+    lay_out(rt, rt.alloc());
+    let mut folder = DiskFolder::new(disk, rt.alloc(), "disk", 17).expect(rt, "memory");
+    let is_put = ends == "whole";
+    folder.put("k/y", NEW).is_ok() == is_put
+        && holds(rt, "disk/k/y", NEW) == is_put
+        && is_absent(rt, "disk/.wgetr%part17")
+        && is_absent(rt, "outside/y")
+}
+
+#[test]
+fn what_another_process_makes_is_seen(rt: HostRuntime) {
+    for line in MEETINGS.lines() {
+        let (mishap, ends) = meeting_of(&rt, line);
+        let disk = Disk::new(rt, rt.alloc(), mishap).expect(&rt, "memory");
+        assert!(rt; meets(&rt, &disk, ends), "{line}");
+    }
 }
 
 #[test]

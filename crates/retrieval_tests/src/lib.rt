@@ -1,25 +1,29 @@
 //! Retrievals that were worked out by hand, and what is made of them: tests alone, of the frontier, of what it is made of and
 //! of those who drive it, in order and in threads, of the lock, of spools, of the names of pages, of folders in memory and on a
-//! disk, and of the report. They stand above these crates, so none is proved once more with them, and their proofs see clauses
+//! disk, of journals, and of the report. They stand above these crates, so none is proved once more with them, and their proofs see clauses
 //! and no fields. What is large is let go by `drop`, which is cheaper to prove than its end of scope.
 #![tactic(auto)]
 
 #[cfg(test)]
 mod agenda_tests;
 #[cfg(test)]
+mod crew;
+#[cfg(test)]
 mod crew_tests;
+#[cfg(test)]
+mod disk;
 #[cfg(test)]
 mod disk_tests;
 #[cfg(test)]
 mod frontier_tests;
+#[cfg(test)]
+mod journal_tests;
 #[cfg(test)]
 mod label_tests;
 #[cfg(test)]
 mod lock_tests;
 #[cfg(test)]
 mod long_crew_tests;
-#[cfg(test)]
-mod long_tests;
 #[cfg(test)]
 mod memory_tests;
 #[cfg(test)]

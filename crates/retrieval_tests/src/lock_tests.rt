@@ -153,15 +153,13 @@ fn the_first_cause_stops_all_workers(rt: HostRuntime) {
     assert!(rt; is_left_given_up(lock, &start));
 }
 
-/// How far two workers are: one holds a permit, and the other asks for work.
+/// How far the workers are: one holds a permit, and so many more ask for work.
 const HELD: u64 = 1;
 
-const ASKED: u64 = 2;
-
-/// Lets other threads run until the two workers are so far.
+/// Lets other threads run until the workers are so far.
 fn wait_until(progress: &AtomicU64, reached: u64) {
     for _ in 0..1_000_000u32 {
-        if progress.load(Ordering::SeqCst) == reached {
+        if progress.load(Ordering::SeqCst) >= reached {
             return;
         }
         thread::yield_now();
@@ -171,21 +169,22 @@ fn wait_until(progress: &AtomicU64, reached: u64) {
 /// What worker 1 is told that asks for work while worker 0 holds a permit.
 fn wait_for_work<R: Abort + Wait>(rt: &R, lock: &FrontierLock, progress: &AtomicU64) -> Told {
     wait_until(progress, HELD);
-    progress.store(ASKED, Ordering::SeqCst);
+    progress.fetch_add(1, Ordering::SeqCst);
     let work = lock.next_or_wait(rt, 1).expect(rt, "memory");
     tell(rt, lock, work)
 }
 
-/// Has worker 0 answer its page, or give it up, a while after worker 1 asked for work.
+/// Has worker 0 answer its page, or give it up, a while after so many others asked for work.
 fn end_permit<R: Abort + Wait>(
     rt: &R,
     lock: &FrontierLock,
     progress: &AtomicU64,
+    others: u64,
     answer: Option<Outcome>,
 ) {
     let permit = page_permit(rt, lock, 0);
     progress.store(HELD, Ordering::SeqCst);
-    wait_until(progress, ASKED);
+    wait_until(progress, HELD.saturating_add(others));
     for _ in 0..1_000u32 {
         thread::yield_now();
     }
@@ -202,38 +201,9 @@ fn woken<R: Abort + Threads + Wait + Sync>(rt: &R, alloc: Global, answer: Option
     let (told, ()) = thread::join(
         rt,
         || wait_for_work(rt, &lock, &progress),
-        || end_permit(rt, &lock, &progress, answer),
+        || end_permit(rt, &lock, &progress, 1, answer),
     );
     told
-}
-
-/// What a worker is told that waits beside another.
-fn wait_among<R: Abort + Wait>(rt: &R, lock: &FrontierLock, progress: &AtomicU64) -> Told {
-    wait_for(progress, HELD);
-    progress.fetch_add(1, Ordering::SeqCst);
-    let work = lock.next_or_wait(rt, 1).expect(rt, "memory");
-    tell(rt, lock, work)
-}
-
-/// Lets other threads run until so many steps are made.
-fn wait_for(progress: &AtomicU64, reached: u64) {
-    for _ in 0..1_000_000u32 {
-        if progress.load(Ordering::SeqCst) >= reached {
-            return;
-        }
-        thread::yield_now();
-    }
-}
-
-/// Has worker 0 give its page up a while after two others asked for work.
-fn give_up_among<R: Abort + Wait>(rt: &R, lock: &FrontierLock, progress: &AtomicU64) {
-    let permit = page_permit(rt, lock, 0);
-    progress.store(HELD, Ordering::SeqCst);
-    wait_for(progress, HELD + 2);
-    for _ in 0..1_000u32 {
-        thread::yield_now();
-    }
-    lock.halt(rt, Some(Held::Page(permit)), Cause::Memory);
 }
 
 #[test]
@@ -245,11 +215,11 @@ fn a_halt_wakes_all_that_sleep(rt: HostRuntime) {
         || {
             thread::join(
                 &rt,
-                || wait_among(&rt, &lock, &progress),
-                || wait_among(&rt, &lock, &progress),
+                || wait_for_work(&rt, &lock, &progress),
+                || wait_for_work(&rt, &lock, &progress),
             )
         },
-        || give_up_among(&rt, &lock, &progress),
+        || end_permit(&rt, &lock, &progress, 2, None),
     );
     assert!(rt; one == Told::Stopped(Cause::Memory));
     assert!(rt; other == Told::Stopped(Cause::Memory));

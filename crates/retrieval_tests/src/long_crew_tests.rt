@@ -1,8 +1,8 @@
-//! Retrievals by one worker and by eight of a site without end, and of a long ring of redirects.
+//! Retrievals in order, and by one worker and by eight, of a site without end, and of a long ring of redirects.
 ghost use Rattle.std.specs.Prelude.{◌≡◌, true};
 ghost use Rattle.follow_filters.specs.Limits.{is_in_range};
 
-use crate::retrieval::retrieved;
+use crate::retrieval::{Seen, retrieved, retrieved_in_order};
 use address::Address;
 use fetcher::{Ask, Fetcher};
 use follow_filters::{Limit, Plan};
@@ -47,7 +47,7 @@ fn chain_of<'a>(rt: &impl Abort, line: &'a str) -> Chain<'a> {
 }
 
 /// The map of a chain.
-pub(crate) fn map_of(rt: &impl Abort, alloc: Global, is_ring: bool) -> String {
+fn map_of(rt: &impl Abort, alloc: Global, is_ring: bool) -> String {
     let mut map = String::new(alloc);
     for page in 0..MOST {
         let next = page + 1;
@@ -84,7 +84,7 @@ fn plan(rt: &impl Abort, alloc: Global, limit: Limit) -> Plan
 }
 
 /// The plan of a chain.
-pub(crate) fn plan_of(rt: &impl Abort, alloc: Global, follows_all: bool) -> Plan {
+fn plan_of(rt: &impl Abort, alloc: Global, follows_all: bool) -> Plan {
     if follows_all {
         return plan(rt, alloc, Limit::Unlimited);
     }
@@ -120,16 +120,18 @@ fn are_asked_once(fetchers: &[MapSite]) -> bool {
     asked.iter().all(|mark| *mark)
 }
 
+/// Whether a retrieval came to what a chain's line says.
+fn is_as_told(seen: &Seen, chain: Chain<'_>) -> bool {
+    seen.end == chain.end && seen.entries == 1_000 && seen.deepest == chain.deepest
+}
+
 /// Whether so many workers bring what a chain's line says.
 fn bring<R: Abort + Threads + Wait + Sync>(rt: &R, alloc: Global, line: &str, workers: u8) -> bool {
     let chain = chain_of(rt, line);
     let plan = plan_of(rt, alloc, chain.follows_all);
     let sites = sites(rt, alloc, chain.is_ring, workers);
     let (seen, sites) = retrieved(rt, alloc, &plan, sites);
-    seen.end == chain.end
-        && seen.entries == 1_000
-        && seen.deepest == chain.deepest
-        && are_asked_once(&sites)
+    is_as_told(&seen, chain) && are_asked_once(&sites)
 }
 
 #[test]
@@ -138,5 +140,46 @@ fn a_thousand_addresses_in_a_row_are_asked_for_once(rt: HostRuntime) {
         for line in CHAINS.lines() {
             assert!(rt; bring(&rt, rt.alloc(), line, workers), "{workers} {line}");
         }
+    }
+}
+
+/// Whether 1,000 pages and nothing else were asked for: `http://h/0`, `http://h/1` and so on, each once.
+fn are_asked_in_turn(rt: &impl Abort, alloc: Global, asks: &[Ask]) -> bool {
+    for (k, ask) in asks.iter().enumerate() {
+        let text = format!(in alloc; "http://h/{k}").expect(rt, "memory");
+        match ask {
+            Ask::Page(address) if address.as_str() == text.as_str() => {}
+            _ => return false,
+        }
+    }
+    asks.len() == 1_000
+}
+
+/// Whether the last address was answered, as deep as it is to be.
+fn has_last(rt: &impl Abort, alloc: Global, seen: &Seen) -> bool {
+    let (report, deepest) = (seen.report.as_str(), seen.deepest);
+    let line = format!(in alloc; "\n{deepest} - http://h/999\n").expect(rt, "memory");
+    report.contains(line.as_str())
+}
+
+/// Whether one fetcher asked in order brings what a chain's line says.
+fn brings_in_order(rt: &impl Abort, alloc: Global, line: &str) -> bool {
+    let chain = chain_of(rt, line);
+    let plan = plan_of(rt, alloc, chain.follows_all);
+    let mut sites = sites(rt, alloc, chain.is_ring, 1);
+    let Some(site) = sites.first_mut() else {
+        return false;
+    };
+    let seen = retrieved_in_order(rt, alloc, &plan, site);
+    drop(plan);
+    let is_in_turn = are_asked_in_turn(rt, alloc, site.asks());
+    drop(sites);
+    is_in_turn && is_as_told(&seen, chain) && has_last(rt, alloc, &seen)
+}
+
+#[test]
+fn a_thousand_addresses_in_a_row_are_asked_for_in_turn(rt: HostRuntime) {
+    for line in CHAINS.lines() {
+        assert!(rt; brings_in_order(&rt, rt.alloc(), line), "{line}");
     }
 }

@@ -1,57 +1,19 @@
 //! A retrieval that stops for want of memory keeps what it found.
-use crate::script::plan;
-use address::{Address, Origin};
-use fetcher::{Answer, Ask, Fetcher};
+use crate::crew::{Crewed, fetchers};
+use crate::rows::plan_of;
 use frontier_core::{Cause, Event};
-use robots_rules::RuleSet;
-use site_maps::MapSite;
-use std::alloc::{AllocError, Global};
+use std::alloc::Global;
 use std::process::Abort;
 use workers::{Halt, Harvest, retrieve_in_order};
 
-/// The start leads to `/a`.
-const PAIR: &str = "page 200 http://h/
-link http://h/a
-leaf 200 http://h/a
+/// The start leads to `/a`, for which there is no memory. The form is told in `rows.rt`.
+const PAIR: &str = "hops 3
+most 100
+robots on
+memory short
+< page 200 http://h/
+< link http://h/a
 ";
-
-/// A site that answers one ask for a page, and finds no memory for another.
-#[derive(Drop)]
-struct Short {
-    site: MapSite,
-    is_spent: bool,
-}
-
-impl Fetcher for Short {
-    ghost use Rattle.site_maps.specs.Maps.{says_of};
-    ghost use Rattle.fetcher.specs.Sites.{SiteAnswers, GivesOutcome, GivesRules};
-
-    ghost Site = { SiteAnswers };
-
-    ghost site = { λ s. says_of s.site.answers s.site.rules };
-
-    ghost says = { GivesOutcome };
-
-    ghost rules = { GivesRules };
-
-    ghost log = { λ s. s.site.asks };
-
-    fn ask(&mut self, at: &Address) -> Result<Answer, AllocError> {
-        if self.is_spent {
-            return Err(AllocError);
-        }
-        self.is_spent = true;
-        self.site.ask(at)
-    }
-
-    fn ask_robots(&mut self, of: &Origin) -> Result<RuleSet, AllocError> {
-        self.site.ask_robots(of)
-    }
-
-    fn asks(&self) -> &[Ask] {
-        self.site.asks()
-    }
-}
 
 /// How many addresses the harvest has an outcome of.
 fn record_count(harvest: &Harvest) -> usize {
@@ -77,10 +39,10 @@ fn kept_one(halt: &Halt) -> bool {
         && ends_for_memory(harvest)
 }
 
-/// The halt of this site.
-fn halt_of(rt: &impl Abort, alloc: Global, short: &mut Short) -> Halt {
-    let plan = plan(rt, alloc, 3, 100);
-    match retrieve_in_order(alloc, &plan, short) {
+/// The halt of a fetcher.
+fn halt_of(rt: &impl Abort, alloc: Global, fetcher: &mut Crewed) -> Halt {
+    let plan = plan_of(rt, alloc, PAIR);
+    match retrieve_in_order(alloc, &plan, fetcher) {
         Ok(_harvest) => panic!(rt; "no halt"),
         Err(halt) => {
             drop(plan);
@@ -89,20 +51,13 @@ fn halt_of(rt: &impl Abort, alloc: Global, short: &mut Short) -> Halt {
     }
 }
 
-/// A site of these lines with one ask.
-fn short_of(rt: &impl Abort, alloc: Global, lines: &str) -> Short {
-    let site = MapSite::read(alloc, lines.as_bytes()).expect(rt, "a map");
-    Short {
-        site,
-        is_spent: false,
-    }
-}
-
 #[test]
 fn a_stop_for_memory_keeps_what_was_found(rt: HostRuntime) {
-    let mut short = short_of(&rt, rt.alloc(), PAIR);
-    let halt = halt_of(&rt, rt.alloc(), &mut short);
-    assert!(rt; kept_one(&halt));
-    drop(halt);
-    drop(short);
+    let mut fetchers = fetchers(&rt, rt.alloc(), PAIR, 1, 1);
+    for fetcher in &mut fetchers {
+        let halt = halt_of(&rt, rt.alloc(), fetcher);
+        assert!(rt; kept_one(&halt));
+        drop(halt);
+    }
+    drop(fetchers);
 }

@@ -2,7 +2,10 @@
 //!
 //! Rows stand in a text with an empty line between two. The first line of a row may say what it shows; the others begin with a
 //! word: `hops`, how many hops are followed; `most`, how many addresses may be held; `robots`, whether robots rules are honoured;
-//! `<`, a line of the site's map; `>`, a line of the report.
+//! `host`, how many pages of a host are asked for at a time; `<`, a line of the site's map; `=`, how the retrieval ends, where
+//! it doesn't find all; `>`, a line of the report, or `entries`, how many lines it has. What the site's fetchers do besides: by
+//! `memory short` they find memory for the start alone, and by `meet` they answer a page without links only once so many of
+//! them were asked for.
 use address::Address;
 use follow_filters::{Limit, Plan};
 use std::alloc::Global;
@@ -35,14 +38,16 @@ fn number(rt: &impl Abort, row: &str, word: &str) -> u8 {
     behind(row, word).parse::<u8>().expect(rt, "a number")
 }
 
-/// A plan without filters from `http://h/`, so many hops deep and for so many addresses.
+/// A plan from `http://h/` to any host, so many hops deep and for so many addresses.
 pub(crate) fn plan(rt: &impl Abort, alloc: Global, hops: u8, most: u8) -> Plan {
     let start = Address::read(alloc, "http://h/").expect(rt, "an address");
     if start.is_robots_file() || most == 0 {
         panic!(rt; "no plan");
     }
     let limit = Limit::AtMost(u32::from(hops));
-    Plan::unfiltered(alloc, start, limit, u32::from(most))
+    let mut plan = Plan::unfiltered(alloc, start, limit, u32::from(most));
+    plan.span_hosts = true;
+    plan
 }
 
 /// The plan of a row.
@@ -51,5 +56,8 @@ pub(crate) fn plan_of(rt: &impl Abort, alloc: Global, row: &str) -> Plan {
     let most = number(rt, row, "most ");
     let mut plan = plan(rt, alloc, hops, most);
     plan.robots = behind(row, "robots ") == "on";
+    if let Ok(per_host) = behind(row, "host ").parse::<u32>() {
+        plan.per_host = per_host.clamp(1, 16);
+    }
     plan
 }

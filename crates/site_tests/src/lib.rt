@@ -34,3 +34,5 @@ mod robots_tests;
 mod text_tests;
 #[cfg(test)]
 mod word_tests;
+#[cfg(test)]
+mod written_tests;

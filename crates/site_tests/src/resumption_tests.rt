@@ -10,7 +10,7 @@ use std::alloc::Global;
 use std::process::Abort;
 
 // A page, and a robots file behind a redirect.
-const SITE: &str = "http://h/ HTTP/1.1 200 |Content-Type: text/html||<a href=b>
+pub(crate) const SITE: &str = "http://h/ HTTP/1.1 200 |Content-Type: text/html||<a href=b>
 http://h/robots.txt HTTP/1.1 302 |Location: /r|Content-Length: 0||
 http://h/r HTTP/1.1 200 ||Disallow: /";
 
@@ -54,7 +54,7 @@ fn noted(rt: &impl Abort, alloc: Global, notes: &[Noted]) -> String {
 }
 
 // Asks for the page, for one that isn't there, and for the rules.
-fn ask_all<C: Connect>(rt: &impl Abort, alloc: Global, fetcher: &mut HttpFetcher<C>) {
+pub(crate) fn ask_all<C: Connect>(rt: &impl Abort, alloc: Global, fetcher: &mut HttpFetcher<C>) {
     for at in ["http://h/", "http://h/none"] {
         let _ = fetcher.ask(&address(rt, alloc, at)).expect(rt, "memory");
     }

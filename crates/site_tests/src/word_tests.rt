@@ -3,7 +3,7 @@ use crate::common::{demand, repeated};
 use address::AddressFault;
 use clap::error::ErrorKind;
 use follow_filters::{Limit, Plan};
-use options::{LineFault, Order, Source, read_order};
+use options::{LineFault, Order, Source, help_text, read_order};
 use std::alloc::Global;
 use std::process::Abort;
 
@@ -16,6 +16,7 @@ fn word_of(fault: LineFault) -> &'static str {
         LineFault::Words(ErrorKind::InvalidValue) => "words: bad value",
         LineFault::Words(ErrorKind::MissingRequiredArgument) => "words: no start",
         LineFault::Words(ErrorKind::DisplayHelp) => "words: help",
+        LineFault::Words(ErrorKind::DisplayVersion) => "words: version",
         LineFault::Words(_) => "words",
         LineFault::Depth => "depth",
         LineFault::Pattern => "pattern",
@@ -68,6 +69,7 @@ words: out of range => --per-host 17 http://h/
 words: bad value => -nq http://h/
 words: bad value => -e robots=of http://h/
 words: help => -h
+words: version => --version
 ";
 
 // The words of a row.
@@ -218,4 +220,54 @@ fn no_parent_and_requisites_are_told_apart(rt: HostRuntime) {
             row,
         );
     }
+}
+
+const HELP: &str = "\
+wgetr retrieves a site recursively and reports what it found: it follows links
+by GNU Wget's rules and heeds robots files.
+
+usage: wgetr [OPTION]... START
+       wgetr [OPTION]... --map START < MAP
+       wgetr [OPTION]... --record START < RECORD
+
+What is followed:
+  -r,  --recursive                 follow links
+  -l,  --level=N                   at most N hops; 0 and inf are no limit (5)
+  -p,  --page-requisites           also what pages show, as pictures and styles
+  -np, --no-parent                 only the directory of START and below
+  -H,  --span-hosts                other hosts too
+  -D,  --domains=LIST              only hosts of these domains
+       --exclude-domains=LIST      no hosts of these domains
+  -I,  --include-directories=LIST  only these directories and what is below
+  -X,  --exclude-directories=LIST  not these directories
+  -A,  --accept=LIST               only names with these suffixes or patterns
+  -R,  --reject=LIST               no names with these suffixes or patterns
+
+How it is asked for:
+  -e,  --execute=COMMAND           robots=off: no robots files (robots=on)
+       --workers=N                 N workers, 1 to 64 (4)
+       --per-host=N                N requests at a time to a server, 1 to 16 (2)
+       --max-urls=N                at most N addresses, 1 to 1000000 (100000)
+
+Where the site is:
+       --map                       the site is a map on standard input
+       --record                    the site is a record on standard input
+       --resume=FILE               what this record has isn't asked for again
+
+What becomes of it:
+  -P,  --directory-prefix=DIR      put files below DIR (.)
+       --trace                     the trace before the report
+       --save=FILE                 write what the site answered into this record
+
+Others:
+  -h,  --help                      print this help
+  -V,  --version                   print name and version
+
+START is an http address. A LIST has commas between its elements.
+";
+
+#[test]
+fn the_help_has_a_line_for_each_option(rt: HostRuntime) {
+    let text = help_text(rt.alloc()).expect(&rt, "memory");
+    assert!(rt; text.as_str() == HELP);
 }

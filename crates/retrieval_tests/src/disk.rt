@@ -1,0 +1,224 @@
+//! A disk for tests: that of the test, but calls of it fail, or another process is there first. A write takes three bytes at
+//! most.
+use local_tree::Close;
+use std::alloc::{AllocError, Allocator, Global};
+use std::fs::{File, Files, Metadata, OpenFile, OpenOptions};
+use std::io;
+use std::io::{Error, ErrorKind, Read, Seek, SeekFrom, Write};
+use std::sync::Arc;
+use std::sync::atomic::{AtomicBool, AtomicU64, Ordering};
+
+/// What befalls a disk.
+#[derive(Clone, Copy)]
+pub(crate) enum Mishap {
+    /// From the call of this number on, counted from 0, so many calls fail and do nothing.
+    Fails(u64, u64),
+    /// Before the first call of this name for this path another process makes this there: a `dir`, a `file`, or a `link` to
+    /// `../outside`.
+    Meets(&'static str, &'static str, &'static str),
+}
+
+/// What a disk and its files share.
+#[derive(Drop)]
+pub(crate) struct Log {
+    mishap: Mishap,
+    calls: AtomicU64,
+    closed: AtomicU64,
+    is_over: AtomicBool,
+}
+
+/// A disk to which something befalls.
+#[derive(Drop)]
+pub(crate) struct Disk {
+    rt: HostRuntime,
+    log: Arc<Log>,
+}
+
+/// An open file of it.
+#[derive(Drop)]
+pub(crate) struct DiskFile {
+    file: File,
+    log: Arc<Log>,
+}
+
+/// What is answered to a call that nobody makes here.
+fn unsupported<T>() -> io::Result<T> {
+    Err(Error::from(ErrorKind::Unsupported))
+}
+
+impl Log {
+    // Counts a call, and answers whether it fails.
+    fn count(&self) -> io::Result<()> {
+        let number = self.calls.fetch_add(1, Ordering::SeqCst);
+        match self.mishap {
+            Mishap::Fails(from, lasting)
+                if number >= from
+                    && number - from < lasting
+                    && !self.is_over.load(Ordering::SeqCst) => {
+                Err(Error::from(ErrorKind::Other))
+            }
+            _ => Ok(()),
+        }
+    }
+
+    /// How many calls were made.
+    pub(crate) fn calls(&self) -> u64 {
+        self.calls.load(Ordering::SeqCst)
+    }
+
+    /// How many files were closed with an answer.
+    pub(crate) fn closed(&self) -> u64 {
+        self.closed.load(Ordering::SeqCst)
+    }
+
+    /// Nothing befalls the disk any more.
+    pub(crate) fn mend(&self) {
+        self.is_over.store(true, Ordering::SeqCst);
+    }
+}
+
+impl Disk {
+    pub(crate) fn new(rt: HostRuntime, alloc: Global, mishap: Mishap) -> Result<Disk, AllocError> {
+        let log = Log {
+            mishap,
+            calls: AtomicU64::new(0),
+            closed: AtomicU64::new(0),
+            is_over: AtomicBool::new(false),
+        };
+        Ok(Disk {
+            rt,
+            log: Arc::new(alloc, log)?,
+        })
+    }
+
+    /// What befell it.
+    pub(crate) fn log(&self) -> &Log {
+        &self.log
+    }
+
+    // Counts a call for a path, which fails, or to which another process comes first.
+    fn begin(&self, call: &str, path: &str) -> io::Result<()> {
+        self.log.count()?;
+        let Mishap::Meets(at, there, made) = self.log.mishap else {
+            return Ok(());
+        };
+        if at != call || there != path || self.log.is_over.swap(true, Ordering::SeqCst) {
+            return Ok(());
+        }
+        match made {
+            "dir" => self.rt.create_dir(path),
+            "file" => std::fs::write(&self.rt, path, "theirs"),
+            _ => self.rt.symlink("../outside", path),
+        }
+    }
+}
+
+impl Files for Disk {
+    type File = DiskFile;
+
+    type Dir = <HostRuntime as Files>::Dir;
+
+    fn open_file(&self, how: &OpenOptions, path: &str) -> io::Result<DiskFile> {
+        self.begin("open", path)?;
+        Ok(DiskFile {
+            file: self.rt.open_file(how, path)?,
+            log: Arc::try_clone(&self.log)?,
+        })
+    }
+
+    fn open_dir(&self, _path: &str) -> io::Result<Self::Dir> {
+        unsupported()
+    }
+
+    fn metadata(&self, path: &str) -> io::Result<Metadata> {
+        self.begin("stat", path)?;
+        self.rt.metadata(path)
+    }
+
+    fn symlink_metadata(&self, path: &str) -> io::Result<Metadata> {
+        self.begin("lstat", path)?;
+        self.rt.symlink_metadata(path)
+    }
+
+    fn copy(&self, _from: &str, _to: &str) -> io::Result<u64> {
+        unsupported()
+    }
+
+    fn rename(&self, from: &str, to: &str) -> io::Result<()> {
+        self.begin("rename", to)?;
+        self.rt.rename(from, to)
+    }
+
+    fn remove_file(&self, path: &str) -> io::Result<()> {
+        self.begin("remove", path)?;
+        self.rt.remove_file(path)
+    }
+
+    // Where a directory stands none is made in any case, so that such a call doesn't count.
+    fn create_dir(&self, path: &str) -> io::Result<()> {
+        if self.rt.symlink_metadata(path).is_err() {
+            self.begin("mkdir", path)?;
+        }
+        self.rt.create_dir(path)
+    }
+
+    fn remove_dir(&self, _path: &str) -> io::Result<()> {
+        unsupported()
+    }
+
+    fn remove_dir_all<B: Allocator>(&self, _alloc: B, _path: &str) -> io::Result<()> {
+        unsupported()
+    }
+}
+
+impl Read for DiskFile {
+    fn read(&mut self, _room: &mut [u8]) -> io::Result<usize> {
+        Err(Error::from(ErrorKind::Unsupported))
+    }
+}
+
+impl Write for DiskFile {
+    fn write(&mut self, bytes: &[u8]) -> io::Result<usize> {
+        self.log.count()?;
+        self.file.write(&bytes[..bytes.len().min(3)])
+    }
+
+    fn flush(&mut self) -> io::Result<()> {
+        Ok(())
+    }
+}
+
+impl Seek for DiskFile {
+    fn seek(&mut self, _to: SeekFrom) -> io::Result<u64> {
+        unsupported()
+    }
+}
+
+impl OpenFile for DiskFile {
+    fn metadata(&self) -> io::Result<Metadata> {
+        unsupported()
+    }
+
+    fn set_len(&self, _size: u64) -> io::Result<()> {
+        unsupported()
+    }
+
+    fn sync_all(&self) -> io::Result<()> {
+        self.log.count()
+    }
+
+    fn sync_data(&self) -> io::Result<()> {
+        self.log.count()
+    }
+}
+
+// A file is closed also where it answers that it failed.
+impl Close for DiskFile {
+    fn close(self) -> io::Result<()> {
+        let DiskFile { file, log } = self;
+        let closed = file.close();
+        log.closed.fetch_add(1, Ordering::SeqCst);
+        log.count()?;
+        closed
+    }
+}
