@@ -546,6 +546,9 @@ class Statements:
             name, parts = parts[-2], parts[:-2]
         elif parts and parts[-1] in ("TheConstants", name):
             parts = parts[:-1]
+        elif parts and name == "Ghosts":
+            # the members of a trait, as one record
+            name, parts = parts[-1], parts[:-1]
         return self.item(crate, f"crates/{crate}/src/{'/'.join(parts) or 'lib'}.rt", name)
 
     # -- names of Rust

@@ -1,0 +1,105 @@
+"""Reads a record, version 1 or 2 (docs/RECORDS.md), by its lengths: which entries stand whole in it, and where they end. So it
+knows what is left of one that was cut, as a journal is whose run was killed."""
+import collections
+import re
+
+# One answer: the first word of its line, its address, where it begins and ends in the record, and its faults, which are those
+# of its line or of its hops.
+Entry = collections.namedtuple("Entry", "kind address start end faults")
+FIRST_LINES = {b"wgetr-record 1": 1, b"wgetr-record 2": 2}
+WORDS = b"connect device ended head head-long length coding chunk body-long".split()
+
+
+class Cut(Exception):
+    """The record ends before the entry does."""
+
+
+class Wrong(Exception):
+    """The record has something else than an entry here."""
+
+
+def line_at(text, at):
+    """The line that begins here, and where it ends."""
+    end = text.find(b"\n", at)
+    if end < 0:
+        raise Cut
+    return text[at:end], end + 1
+
+
+def behind_bytes(text, at, length):
+    """Where the bytes of a response end, and the line feed behind them."""
+    if not re.fullmatch(rb"0|[1-9]\d{0,18}", length):
+        raise Wrong(f"the length {length!r} at byte {at}")
+    end = at + int(length)
+    if end >= len(text):
+        raise Cut
+    if text[end] != 10:
+        raise Wrong(f"no line feed at byte {end}, behind a response")
+    return end + 1
+
+
+def answer_at(text, at, page, fault):
+    """An answer, which is a response or a fault by its first word: its address, where it ends and its faults."""
+    line, end = line_at(text, at)
+    match line.split(b" "):
+        case [word, address, length] if word == page:
+            return address, behind_bytes(text, end, length), []
+        case [word, kind, address] if word == fault and kind in WORDS:
+            return address, end, [kind.decode()]
+    raise Wrong(f"the line {line[:80]!r} at byte {at}")
+
+
+def hops_at(text, at, count):
+    """Where so many hops end, and their faults."""
+    faults = []
+    for _ in range(count):
+        _, at, more = answer_at(text, at, b"hop", b"hopfault")
+        faults += more
+    return at, faults
+
+
+def entry_at(text, start, version):
+    line, end = line_at(text, start)
+    faults = []
+    match line.split(b" "), version:
+        case [b"page" | b"fault", *_], _:
+            address, end, faults = answer_at(text, start, b"page", b"fault")
+        case [b"chain", address, count], 2 if count in (b"1", b"2", b"3", b"4", b"5", b"6"):
+            end, faults = hops_at(text, end, int(count))
+        case [b"robots", address, length], 1:
+            end = behind_bytes(text, end, length)
+        case [b"rules", b"all" | b"none", address], 1:
+            pass
+        case _:
+            raise Wrong(f"the line {line[:80]!r} at byte {start}")
+    return Entry(line.split(b" ")[0].decode(), address.decode(), start, end, faults)
+
+
+def read_front(text):
+    """The entries that stand whole in a record, and how many bytes it has up to the end of the last. Raises Wrong where what
+    stands behind them is more than a front of another, or an address is there twice."""
+    entries, known, whole = [], set(), 0
+    try:
+        line, whole = line_at(text, 0)
+        if line not in FIRST_LINES:
+            raise Wrong(f"the first line {line[:80]!r}")
+        while whole < len(text):
+            entry = entry_at(text, whole, FIRST_LINES[line])
+            # An origin's rules and its first page have one address.
+            key = (entry.kind in ("page", "fault"), entry.address)
+            if key in known:
+                raise Wrong(f"{entry.kind} {entry.address} at byte {entry.start} was there before")
+            known.add(key)
+            entries.append(entry)
+            whole = entry.end
+    except Cut:
+        pass
+    return entries, whole
+
+
+def read_whole(text):
+    """The entries of a record, all of which is there."""
+    entries, whole = read_front(text)
+    if not text or whole < len(text):
+        raise Wrong(f"what stands behind byte {whole} isn't whole")
+    return entries
