@@ -25,6 +25,9 @@ pub(crate) struct Crewed {
     // How many pages without links the whole crew asked for, and how many have to be before it answers one.
     leaves: Arc<AtomicU64>,
     awaited: u64,
+    // The same of the robots rules of other hosts than `h`.
+    others: Arc<AtomicU64>,
+    awaited_rules: u64,
     /// It waited for them in vain.
     pub(crate) is_alone: bool,
     /// The most addresses that it was told wait.
@@ -91,6 +94,9 @@ impl Fetcher for Crewed {
 
     fn ask_robots(&mut self, of: &Origin) -> Result<RuleSet, AllocError> {
         self.seed = hesitate(self.seed);
+        if of.as_str() != "http://h" && !meet(&self.others, self.awaited_rules) {
+            self.is_alone = true;
+        }
         self.site.ask_robots(of)
     }
 
@@ -113,6 +119,7 @@ pub(crate) fn fetchers(
 ) -> Vec<Crewed> {
     let map = text_of(rt, alloc, row, "< ");
     let leaves = Arc::new(alloc, AtomicU64::new(0)).expect(rt, "memory");
+    let others = Arc::new(alloc, AtomicU64::new(0)).expect(rt, "memory");
     let mut fetchers = Vec::new(alloc);
     let mut seed = seed;
     for _ in 0..count {
@@ -123,6 +130,8 @@ pub(crate) fn fetchers(
             is_poor: behind(row, "memory ") == "short",
             leaves: Arc::try_clone(&leaves).expect(rt, "memory"),
             awaited: behind(row, "meet ").parse::<u64>().unwrap_or(0),
+            others: Arc::try_clone(&others).expect(rt, "memory"),
+            awaited_rules: behind(row, "rules ").parse::<u64>().unwrap_or(0),
             is_alone: false,
             waiting: 0,
             sleeper: None,

@@ -275,15 +275,17 @@ fn workers_are_told_how_many_addresses_wait(rt: HostRuntime) {
     assert!(rt; most == 3 || most == 4);
 }
 
-/// A page with so many links, which are asked for at one time by as many workers, 16 of a host.
+/// A page with so many links, which are asked for at one time by as many workers, 16 of a host; before, the rules of these hosts
+/// are.
 fn meeting(rt: &impl Abort, alloc: Global, count: u8) -> String {
     let per_host = count.min(16);
     let entries = u16::from(count) + 1;
+    let hosts = count.div_ceil(16);
     let mut row = String::new(alloc);
     write!(row, "hops 1\nmost 100\nrobots on\nhost {per_host}\n").expect(rt, "memory");
     write!(
         row,
-        "meet {count}\nentries {entries}\n< page 200 http://h/\n"
+        "meet {count}\nrules {hosts}\nentries {entries}\n< page 200 http://h/\n"
     )
     .expect(rt, "memory");
     for link in 0..count {
