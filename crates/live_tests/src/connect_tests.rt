@@ -81,6 +81,10 @@ const VISITS: &[(usize, &str, bool, (u64, u64, usize))] = &[
     // Without a limit on its time no connection is used, and without the other option it is.
     (0, "http://two:85/", false, (5, 21, 33)),
     (1, "http://two:86/", true, (5, 22, 34)),
+    // Either error of a time limit says that a server keeps its connections open.
+    (0, "http://two:88/", true, (5, 23, 35)),
+    (0, "http://two:88/", true, (5, 24, 36)),
+    (0, "http://two:88/", true, (5, 24, 37)),
 ];
 
 #[test]
@@ -127,25 +131,27 @@ const TRIED: &[(usize, ([u8; 4], u16))] = &[
 
 /// The limits of the first connection: 900 seconds for reads and for writes, as Wget's manual has it, and a tenth of a second
 /// for a read at its end; and how many connections were set to delay nothing.
-const LIMITS: (u64, u64, u64, u64) = (900_000, 100, 900_000, 24);
+const LIMITS: (u64, u64, u64, u64) = (900_000, 100, 900_000, 27);
 
 #[test]
 fn a_connection_that_failed_says_nothing_of_how_its_server_closes(rt: HostRuntime) {
     let alloc = rt.alloc();
-    let network = Network::new(&rt, alloc);
-    let hosts = Hosts::new(alloc);
-    let mut connect = TcpConnect::new(&network, alloc, &hosts);
-    let of = origin(&rt, alloc, "http://two:81/");
-    for reads in 1..4 {
-        let Ok(mut wire) = connect.connect(&of) else {
-            panic!(rt; "no connection");
-        };
-        assert!(rt; wire.read(&mut [0u8; 2]) == Err(WireFault::Failed));
-        connect.close(wire);
-        assert!(rt; network.counts().1 == reads);
+    for text in ["http://two:81/", "http://two:83/", "http://two:88/"] {
+        let network = Network::new(&rt, alloc);
+        let hosts = Hosts::new(alloc);
+        let mut connect = TcpConnect::new(&network, alloc, &hosts);
+        let of = origin(&rt, alloc, text);
+        for reads in 1..4 {
+            let Ok(mut wire) = connect.connect(&of) else {
+                panic!(rt; "no connection");
+            };
+            assert!(rt; wire.read(&mut [0u8; 2]) == Err(WireFault::Failed));
+            connect.close(wire);
+            assert!(rt; network.counts().1 == reads);
+        }
+        assert!(rt; visit(&rt, &mut connect, &of));
+        assert!(rt; network.counts().1 == 4);
     }
-    assert!(rt; visit(&rt, &mut connect, &of));
-    assert!(rt; network.counts().1 == 4);
 }
 
 /// Where a worker goes twice in a network of its own, whether it gets there and how many milliseconds were slept by then, and

@@ -28,6 +28,9 @@ pub const REFUSES_DELAY: u16 = 86;
 /// The port of the servers that keep open each connection at which an even number of reads was counted before.
 pub const STAYS_AT_TIMES: u16 = 87;
 
+/// The port of the servers that keep a connection open, where a time limit has the other error (recv(2) beside connect(2)).
+pub const TIMES_OUT: u16 = 88;
+
 /// The millisecond from which on this machine lacks nothing, where it did, and that for a host that needs longer.
 const SOON: u64 = 3_000;
 
@@ -271,6 +274,7 @@ impl Read for FakeStream {
         match self.server.port() {
             STAYS_AT_TIMES if reads % 2 == 0 => Err(io::Error::from(ErrorKind::WouldBlock)),
             STAYS => Err(io::Error::from(ErrorKind::WouldBlock)),
+            TIMES_OUT => Err(io::Error::from(ErrorKind::TimedOut)),
             SENDS | LOSES_WRITES => Ok(buf.len()),
             LOSES_READS => Err(io::Error::from(ErrorKind::ConnectionReset)),
             _ => Ok(0),
