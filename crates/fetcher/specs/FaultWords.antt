@@ -1,16 +1,24 @@
--- The words of faults, as maps and reports write them.
-use Rattle.std.specs.Prelude.{ℕ, List, codes}
+-- The words of faults, as maps and reports write them, and their classes (GNU Wget manual, Exit Status): those of the table.
+use Rattle.std.specs.Prelude.{ℕ, List, [], map, get_or}
+use Rattle.fetcher.specs.declared.fault_kind.FaultClass.{FaultClass}
+use Rattle.fetcher.specs.declared.fault_kind.FaultClass.TheVariants.{Protocol}
 use Rattle.fetcher.specs.declared.fault_kind.FaultKind.{FaultKind}
-use Rattle.fetcher.specs.declared.fault_kind.FaultKind.TheVariants.{Connect, Device, Ended, Head, HeadLong, Length, Coding, Chunk, BodyLong}
+use Rattle.fetcher.specs.declared.fault_kind.TheConstants.{TABLE}
+use Rattle.fetcher.specs.contracts.fault_kind.FaultKind.{the_type}
+use denote.Enum.Declared.{tag_of}
+
+-- the place of a fault among the faults, from 0
+abbrev pub place_of : FaultKind → ℕ
+place_of kind = tag_of the_type kind
+
+-- the words, each in its fault's place
+abbrev pub words : List (List ℕ)
+words = map (λ row. row.word.now) TABLE
 
 -- the word of a fault
-abbrev pub word_of : FaultKind → List ℕ
-word_of Connect = codes "connect"
-word_of Device = codes "device"
-word_of Ended = codes "ended"
-word_of Head = codes "head"
-word_of HeadLong = codes "head-long"
-word_of Length = codes "length"
-word_of Coding = codes "coding"
-word_of Chunk = codes "chunk"
-word_of BodyLong = codes "body-long"
+unfoldable pub word_of : FaultKind → List ℕ
+word_of kind = get_or words (place_of kind) []
+
+-- the class of a fault
+unfoldable pub class_of : FaultKind → FaultClass
+class_of kind = get_or (map (λ row. row.class) TABLE) (place_of kind) Protocol

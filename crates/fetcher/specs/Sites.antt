@@ -3,6 +3,7 @@ use Rattle.std.specs.Prelude.{◌≡◌, ℕ, false, List, [], refl}
 use Rattle.robots_rules.specs.Access.{RuleSetValue}
 use Rattle.fetcher.specs.declared.outcome.Outcome.{Outcome}
 use Rattle.fetcher.specs.declared.outcome.Outcome.TheVariants.{Page, Moved, Leaf, Fault}
+use Rattle.fetcher.specs.declared.status.TheConstants.{NOT_FOUND}
 use Rattle.fetcher.specs.Outcomes.{is_fault}
 
 -- the one outcome of each address, and the one rule set of each origin (RFC 9309, section 2.3)
@@ -32,9 +33,9 @@ IsSteady says rules site = (answers : SiteAnswers) × AreAnswers says rules site
 
 -- ---- a site that is steady whatever its answers are
 
--- the outcome, and status 404 in place of a fault
+-- the outcome, and that of an address that names nothing in place of a fault
 abbrev pub unless_fault : Outcome → Outcome
-unless_fault (Fault kind) = Leaf 404
+unless_fault (Fault kind) = Leaf NOT_FOUND
 unless_fault other = other
 
 -- the answers without their faults

@@ -1,6 +1,6 @@
 //! Asking and answering: what may become of an address that is asked for, and who is asked. Its one idea: a fetcher's
 //! answers are those that its site may give, and each ask stands in its log. What that means stands in `specs/`:
-//! `Outcomes` where an outcome leads, `Logs` what a log gains, `Sites` the sites that give each address one outcome.
+//! `Outcomes` where an outcome leads, `Statuses` which are successes and redirects, `FaultWords` the table of faults, `Logs` what a log gains, `Sites` the sites that give each address one outcome.
 #![tactic(auto)]
 
 mod answer;
@@ -8,9 +8,11 @@ mod edge;
 mod fault_kind;
 mod fetcher;
 mod outcome;
+mod status;
 
 pub use answer::{Answer, Body};
 pub use edge::{Edge, EdgeKind, Edges};
-pub use fault_kind::FaultKind;
+pub use fault_kind::{FaultClass, FaultKind};
 pub use fetcher::{Ask, Fetcher, SteadyFetcher};
 pub use outcome::Outcome;
+pub use status::{FIRST_SUCCESS, LAST_SUCCESS, NOT_FOUND, REDIRECTS, is_redirect, is_successful};

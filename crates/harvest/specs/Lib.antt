@@ -3,3 +3,4 @@ pub mod Entries
 pub mod Pages
 pub mod Gathered
 pub mod Shown
+pub mod inner

@@ -1,10 +1,10 @@
 //! Pages that are kept: an address with the body of its response.
 ghost use Rattle.std.specs.Prelude.{◌≡◌};
-ghost use Rattle.harvest.specs.Pages.{is_success, is_successful};
+ghost use Rattle.harvest.specs.Pages.{is_success};
 
 use address::Address;
 use bytes::Bytes;
-use fetcher::Outcome;
+use fetcher::{Outcome, is_successful};
 
 /// A page that is kept: its address, and the body of its response.
 #[derive(Drop)]
@@ -13,13 +13,6 @@ pub struct KeptPage {
     pub address: Address,
     /// The body of its response, as it stands in a spool.
     pub body: Bytes,
-}
-
-// Whether a status is one of success (RFC 9110, section 15.3).
-fn is_successful(status: u16) -> bool
-    ensures { result ≡ is_successful status }
-{
-    200 <= status && status <= 299
 }
 
 /// Whether the outcome is a response of success (RFC 9110, section 15.3).
