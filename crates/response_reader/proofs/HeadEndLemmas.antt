@@ -9,7 +9,7 @@ use Rattle.std.proofs.Math.Bool.{or-true}
 use Rattle.httparse.specs.Ascii.{line_feed, carriage_return, space}
 use Rattle.httparse.specs.Grammar.{LineEnd, ResponseHead, HasNoResponse, print_response, print_end, print_blank, print_version, print_reason, print_field}
 use Rattle.httparse.specs.Grammar.LineEnd.{crlf, lf}
-use Rattle.response_reader.specs.Fills.{HasNoLineEnd, line_end}
+use Rattle.response_reader.specs.inner.Fills.{HasNoLineEnd, line_end}
 use Rattle.response_reader.proofs.HeadStageLemmas.{front_in}
 
 end_of : (e : LineEnd) → (front : List ℕ) × (print_end e ≡ front ++ (line_feed ∷ []))

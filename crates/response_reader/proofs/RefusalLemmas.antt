@@ -2,7 +2,7 @@
 use Rattle.std.proofs.Common.{◌≡◌, ◌≢◌, Bool, true, refl, subst}
 use Rattle.response_reader.specs.declared.fault.ReadFault.{ReadFault}
 use Rattle.response_reader.specs.declared.fault.ReadFault.TheVariants.{Device, Ended, Head, HeadLong, Length, Coding, Chunk, BodyLong, Memory}
-use Rattle.response_reader.specs.Refusals.{FaultRefuses}
+use Rattle.response_reader.specs.inner.Refusals.{FaultRefuses}
 
 pub fault_refuses_unless : (f : ReadFault) (old new : Bool) → f ≢ Memory → new ≡ old → FaultRefuses old new f
 fault_refuses_unless Device old new ne x = x

@@ -1,8 +1,10 @@
 //! The request for one address (RFC 9112, sections 3 and 9.6).
-ghost use Rattle.std.specs.Prelude.{◌≡◌, ℕ, List, [], ◌++◌, ◌+◌, ◌<◌, ◌≤◌, length, drop, IsTrue, IfOk, OnOk, OnErr};
+ghost use Rattle.std.specs.Prelude.{◌≡◌, ℕ, List, [], codes, ◌++◌, ◌+◌, ◌<◌, ◌≤◌, length, drop, IsTrue, IfOk, OnOk, OnErr};
 ghost use Rattle.std.specs.Io.KnownBytes.{Appends, Keeps};
-ghost use Rattle.response_reader.specs.Request.{request_text, AppendsFront, WritesGiveUp};
-ghost use Rattle.response_reader.specs.Wire.{tally, GoesOn, HasRisen, counted};
+ghost use Rattle.response_reader.specs.Request.{request_with, request_text, kept_request_text, AppendsFront};
+ghost use Rattle.response_reader.specs.inner.Request.{WritesGiveUp};
+ghost use Rattle.response_reader.specs.Wire.{HasRisen, counted};
+ghost use Rattle.response_reader.specs.inner.Wire.{tally, GoesOn};
 
 use crate::retry::MAX_INTERRUPTED;
 use crate::wire::{Wire, WireFault};
@@ -34,8 +36,42 @@ pub fn write_request<W: Wire>(wire: &mut W, address: &Address) -> Result<(), Req
     ensures reads { IsTrue (W.reads_never_fail wire.old) → IsTrue (W.reads_never_fail wire.new) }
     ensures quiet { IsTrue (W.never_errs wire.old) → IsTrue (W.never_errs wire.new) }
 {
+    write_with(wire, address, b"Connection: close\r\n")
+}
+
+/// Writes the request for an address over a connection that is to stay open behind the response: the
+/// same text, but that it doesn't ask to close it (RFC 9112, section 9.3).
+pub fn write_kept_request<W: Wire>(wire: &mut W, address: &Address) -> Result<(), RequestFault>
+    ensures written { OnOk result (Appends (W.outgoing wire.old) (W.outgoing wire.new) (kept_request_text address.now)) }
+    ensures part { OnErr result (AppendsFront (W.outgoing wire.old) (W.outgoing wire.new) (kept_request_text address.now)) }
+    ensures device { OnErr result (HasRisen (W.failed wire.old) (W.failed wire.new)) }
+    ensures interrupted { OnErr result (IsTrue (W.writes_never_fail wire.old) → W.failed wire.new ≡ counted (W.failed wire.old) 1000) }
+    ensures few { OnOk result (W.failed wire.new < W.failed wire.old + 1000) }
+    ensures lost { OnOk result (W.lost wire.new ≡ W.lost wire.old) }
+    ensures read { Keeps (W.incoming wire.old) (W.incoming wire.new) }
+    ensures steady { IsTrue (W.writes_never_fail wire.old) → IsTrue (W.writes_never_fail wire.new) }
+    ensures reads { IsTrue (W.reads_never_fail wire.old) → IsTrue (W.reads_never_fail wire.new) }
+    ensures quiet { IsTrue (W.never_errs wire.old) → IsTrue (W.never_errs wire.new) }
+{
+    write_with(wire, address, b"")
+}
+
+/// Writes the request for an address with this field about the connection, or none.
+fn write_with<W: Wire>(wire: &mut W, address: &Address, closing: &[u8]) -> Result<(), RequestFault>
+    requires { length closing.now ≤ 32 }
+    ensures written { OnOk result (Appends (W.outgoing wire.old) (W.outgoing wire.new) (request_with address.now closing.now)) }
+    ensures part { OnErr result (AppendsFront (W.outgoing wire.old) (W.outgoing wire.new) (request_with address.now closing.now)) }
+    ensures device { OnErr result (HasRisen (W.failed wire.old) (W.failed wire.new)) }
+    ensures interrupted { OnErr result (IsTrue (W.writes_never_fail wire.old) → W.failed wire.new ≡ counted (W.failed wire.old) 1000) }
+    ensures few { OnOk result (W.failed wire.new < W.failed wire.old + 1000) }
+    ensures lost { OnOk result (W.lost wire.new ≡ W.lost wire.old) }
+    ensures read { Keeps (W.incoming wire.old) (W.incoming wire.new) }
+    ensures steady { IsTrue (W.writes_never_fail wire.old) → IsTrue (W.writes_never_fail wire.new) }
+    ensures reads { IsTrue (W.reads_never_fail wire.old) → IsTrue (W.reads_never_fail wire.new) }
+    ensures quiet { IsTrue (W.never_errs wire.old) → IsTrue (W.never_errs wire.new) }
+{
     let mut text = ArrayVec::new();
-    put_request(&mut text, address);
+    put_request(&mut text, address, closing);
     write_all(wire, text.as_slice(), 0)?;
     Ok(())
 }
@@ -54,10 +90,11 @@ fn put(text: &mut RequestText, bytes: &[u8])
     }
 }
 
-/// Puts the request for an address into an empty text.
-fn put_request(text: &mut RequestText, address: &Address)
-    requires { text.old.items ≡ [] }
-    ensures { text.new.items ≡ request_text address.now }
+/// Puts the request for an address, with this field about the connection or none, into an empty text.
+fn put_request(text: &mut RequestText, address: &Address, closing: &[u8])
+    requires empty { text.old.items ≡ [] }
+    requires short { length closing.now ≤ 32 }
+    ensures { text.new.items ≡ request_with address.now closing.now }
 {
     // Every address is short enough.
     let _address = address.as_str();
@@ -67,8 +104,10 @@ fn put_request(text: &mut RequestText, address: &Address)
     put(text, address.authority().as_bytes());
     put(
         text,
-        b"\r\nUser-Agent: wgetr/1.0\r\nAccept: */*\r\nAccept-Encoding: identity\r\nConnection: close\r\n\r\n",
+        b"\r\nUser-Agent: wgetr/1.0\r\nAccept: */*\r\nAccept-Encoding: identity\r\n",
     );
+    put(text, closing);
+    put(text, b"\r\n");
 }
 
 /// Writes all the bytes, where so many writes of the request were interrupted before, and says how

@@ -4,7 +4,7 @@ use Rattle.std.specs.Prelude.{◌==◌}
 use Rattle.std.specs.List.{list_any}
 use Rattle.std.proofs.lemmas.Result.{err_from_is_err_and}
 use Rattle.std.specs.Io.KnownBytes.{prepend_known}
-use Rattle.response_reader.specs.Fills.{HasNoLineEnd, line_end}
+use Rattle.response_reader.specs.inner.Fills.{HasNoLineEnd, line_end}
 use Rattle.response_reader.proofs.CountLemmas.{fault_counts_after}
 use Rattle.response_reader.proofs.FillsLemmas.{open_more}
 use Rattle.response_reader.proofs.WireLemmas.{ahead_same, consumes_trans, fills_ahead, goes_on_trans}
