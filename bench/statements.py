@@ -403,7 +403,8 @@ class Block:
         self.kind, self.at = at[1], at.start()
         brace = re.compile(r"[{;]").search(mask, at.end())
         if self.kind in ("const", "static", "type"):
-            brace = re.compile(r";").search(mask, at.end())
+            # (that of an array's length ends no line)
+            brace = re.compile(r";$", re.M).search(mask, at.end())
         self.body = brace.start()
         self.end = balanced(mask, brace.start()) if mask[brace.start()] == "{" else brace.start()
         self.header = mask[at.end() : brace.start()]
@@ -497,7 +498,7 @@ class Statements:
         self.specs, self.sources, self.rust = {}, {}, {}
         for crate in self.crates:
             for path in sorted(glob.glob(f"crates/{crate}/specs/**/*.antt", recursive=True)):
-                if not path.endswith("/Lib.antt"):
+                if not path.endswith(("/Lib.antt", "/inner.antt")):
                     spec = Spec(crate, path)
                     self.specs[spec.own] = spec
             for path in sorted(glob.glob(f"crates/{crate}/src/**/*.rt", recursive=True)):
@@ -532,8 +533,14 @@ class Statements:
         parts = module.split(".")
         if spec is not None:
             found = spec.nodes.get(spec.owner.get(name, name))
+            if found is None and name in spec.names.direct:
+                # a `pub use` passes it on
+                return self.resolve(spec.names.direct[name])
         elif parts[0] == "Rattle" and parts[1] in self.crates:
-            found = self.declared(parts[1], parts[4:], name) if parts[3] == "declared" else None
+            if name == "the_type":
+                # what the toolchain knows of a type, as the numbers of its variants
+                name = parts[-1]
+            found = self.declared(parts[1], parts[4:], name) if parts[3] in ("declared", "contracts") else None
         else:
             return (module, name)
         if found is None:
@@ -695,11 +702,12 @@ class Statements:
         return found
 
     def function(self, crate, name):
-        """The public function of this name that a crate passes on, or None."""
-        for path, source in self.sources.items():
+        """The public function of this name that a crate passes on, or the method `Type::name` of a type of it, or None."""
+        owner, _, name = name.rpartition("::")
+        for source in self.sources.values():
             if source.crate == crate:
                 for it in source.functions:
-                    if it.name == name and it.is_public and it.block is None:
+                    if it.name == name and (it.block.name == owner if it.block else it.is_public and not owner):
                         return it
         return None
 

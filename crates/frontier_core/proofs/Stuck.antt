@@ -7,7 +7,7 @@ use Rattle.fetcher.specs.declared.edge.Edge.{Edge}
 use Rattle.frontier_core.specs.Tables.{Text, lookup}
 use Rattle.frontier_core.specs.Routes.{Policy, admits, weight}
 use Rattle.frontier_core.specs.Machine.{State, Slot, Progress, Parked, Waiting, Out, Answered, Refused, slot, slot_outcome, outcome_in}
-use Rattle.frontier_core.specs.Inner.{edges_at, outcome_edges, key_at}
+use Rattle.frontier_core.specs.inner.TableCalls.{edges_at, outcome_edges, key_at}
 use Rattle.frontier_core.specs.Invariants.{IsStuck, IsOverfull}
 use Rattle.frontier_core.proofs.FindLaws.{placed}
 

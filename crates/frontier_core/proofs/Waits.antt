@@ -3,7 +3,8 @@
 use Rattle.std.proofs.Common.{refl}
 use Rattle.frontier_core.specs.Routes.{Policy}
 use Rattle.frontier_core.specs.Machine.{State, TakePage, TakeRules, Answer, Rule, Spread, Part, Abandon, AbandonRules, Stop}
-use Rattle.frontier_core.specs.Waits.{IsBusy, IsHeldUp}
+use Rattle.frontier_core.specs.Waits.{IsHeldUp}
+use Rattle.frontier_core.specs.inner.Waits.{IsBusy}
 
 pub held_up : (p : Policy) (s : State) → IsBusy p s → IsHeldUp p s
 held_up p s (running, spread, rules, page, left) (TakePage w u) next (going, room, (d, waits, is)) = absurd (page (u, d, waits, room))

@@ -1,12 +1,7 @@
 -- When a worker has to wait for others, and what can come next then.
 use Rattle.std.specs.Prelude.{Bool, true, false, IsTrue}
 use Rattle.frontier_core.specs.Routes.{Policy}
-use Rattle.frontier_core.specs.Machine.{State, Action, TakePage, TakeRules, Answer, Rule, Spread, Part, Abandon, AbandonRules, Stop, Step, IsRunning, IsQuiet}
-use Rattle.frontier_core.specs.Traced.{HasDue, HasRules, HasPage}
-
--- others are at work: nothing stopped it, nothing is due, no rules and no page may be taken, and yet something is left to do
-abbrev pub IsBusy : Policy → State → Type 0
-IsBusy p s = IsRunning s × (¬ HasDue s) × (¬ HasRules p s) × (¬ HasPage p s) × (¬ IsQuiet s)
+use Rattle.frontier_core.specs.Machine.{State, Action, TakePage, TakeRules, Answer, Rule, Spread, Part, Abandon, AbandonRules, Stop, Step}
 
 -- the steps that can end a wait: an answer, rules, a permit that is given up, and a stop
 abbrev pub ends_waits : Action → Bool

@@ -10,7 +10,7 @@ use Rattle.frontier_core.specs.declared.event.Cause.{Cause}
 use Rattle.frontier_core.specs.declared.work.Work.{Work}
 use Rattle.frontier_core.specs.declared.work.Work.TheVariants.{Stopped, Spread, Robots, Page, Quiet, Busy}
 use Rattle.frontier_core.proofs.Waits.{held_up}
-use Rattle.frontier_lock.specs.Waits.{IsSleptAt, MakesAtMostOne}
+use Rattle.frontier_lock.specs.inner.Waits.{IsSleptAt, MakesAtMostOne}
 
 -- a step that is made where somebody may be asleep is one that can end a wait
 pub ends : (old new : Traced) (action : Action) → IsSleptAt old → Makes old action new → IsTrue (ends_waits action)

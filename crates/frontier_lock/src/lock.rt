@@ -4,8 +4,8 @@ ghost use Rattle.frontier_core.specs.Machine.{Action};
 ghost use Rattle.frontier_core.specs.Traced.{Traced, Makes};
 ghost use Rattle.frontier_core.specs.Waits.{ends_waits};
 ghost use Rattle.frontier_lock.specs.Permits.{IsFor};
-ghost use Rattle.frontier_lock.specs.Steps.{Records, GivesUp};
-ghost use Rattle.frontier_lock.specs.Waits.{IsSleptAt, MakesAtMostOne, IsMadeBy, IsOneStep};
+ghost use Rattle.frontier_lock.specs.inner.Steps.{Records, GivesUp};
+ghost use Rattle.frontier_lock.specs.inner.Waits.{IsSleptAt, MakesAtMostOne, IsMadeBy, IsOneStep};
 
 use fetcher::Outcome;
 use frontier_core::{

@@ -2,7 +2,7 @@
 ghost use Rattle.std.specs.Prelude.{◌≡◌, ◌≤◌, length};
 ghost use Rattle.html_links.specs.Pieces.{until, from, is, is_white, ends_tag_name, ends_attribute_name, ends_bare_value, is_quote};
 ghost use Rattle.std.specs.Str.{bytes_eq};
-ghost use Rattle.html_links.specs.Spans.{ends_span};
+ghost use Rattle.html_links.specs.inner.Spans.{ends_span};
 
 use memchr::memchr;
 

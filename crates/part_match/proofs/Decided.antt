@@ -5,7 +5,8 @@ use Rattle.std.proofs.lemmas.Bool.{and_parts, and_from, or_left, or_right, or_ca
 use Rattle.std.proofs.lemmas.List.{drop-drop, drop_more, drop_all, take_more, get_or-drop, take-append-drop, length-take-le}
 use Rattle.std.proofs.lemmas.List.Sums.{sum_by-cons}
 use Rattle.std.specs.List.{AllZip, concat, list_all}
-use Rattle.part_match.specs.Cuts.{MatchesPiece, Matches, some_end, first_and, is_match, least_octets}
+use Rattle.part_match.specs.Cuts.{MatchesPiece, Matches, some_end, first_and, is_match}
+use Rattle.part_match.specs.inner.Cuts.{least_octets}
 
 -- ---- tests of the ends of a text
 

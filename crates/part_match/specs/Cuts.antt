@@ -1,5 +1,5 @@
 -- Texts that the parts of a pattern match one by one: cuts of the text, one piece for each part.
-use Rattle.std.specs.Prelude.{◌≡◌, ℕ, Bool, true, false, not, count_by, ◌⊎◌, ◌&&◌, ◌||◌, List, [], ◌∷◌, if◌then◌else◌}
+use Rattle.std.specs.Prelude.{◌≡◌, ℕ, Bool, true, false, ◌⊎◌, ◌&&◌, ◌||◌, List, [], ◌∷◌, if◌then◌else◌}
 use Rattle.std.specs.List.{AllZip, concat, list_all}
 
 -- a run matches any piece; every part matches a piece of one octet that it takes
@@ -29,7 +29,3 @@ unfoldable pub is_match : {P : Type 0} → (P → Bool) → (P → ℕ → Bool)
 is_match is_run takes [] text = list_all (λ _. false) text
 is_match is_run takes (part ∷ parts) text =
     if is_run part then some_end (is_match is_run takes parts) text else first_and (takes part) (is_match is_run takes parts) text
-
--- how many parts take one octet each: a text that the parts match has as many octets or more
-abbrev pub least_octets : {P : Type 0} → (P → Bool) → List P → ℕ
-least_octets is_run parts = count_by (λ part. not (is_run part)) parts

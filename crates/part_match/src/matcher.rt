@@ -1,7 +1,8 @@
 //! The matching of a whole text by the parts of a pattern.
 ghost use Rattle.std.specs.Prelude.{◌≡◌, ◌↔◌, ◌≤◌, IsTrue, not, count_by, length};
 ghost use Rattle.std.specs.List.{list_all};
-ghost use Rattle.part_match.specs.Cuts.{Matches, is_match, least_octets};
+ghost use Rattle.part_match.specs.Cuts.{Matches, is_match};
+ghost use Rattle.part_match.specs.inner.Cuts.{least_octets};
 
 use crate::parts::{Part, Text};
 

@@ -12,7 +12,7 @@ use Rattle.std.specs.List.{list_any}
 use Rattle.indexmap.specs.IndexSet.{insert_key}
 use Rattle.robots_rules.specs.Access.{RuleValue, RulesAllow}
 use Rattle.robots_rules.specs.Groups.{is_same_rule, with_rule}
-use Rattle.robots_rules.specs.RuleView.{rule_by}
+use Rattle.robots_rules.specs.inner.RuleView.{rule_by}
 
 beq-true : (a b : Bool) → beq a b ≡ true → a ≡ b
 beq-true true true e = refl

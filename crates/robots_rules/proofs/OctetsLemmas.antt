@@ -3,7 +3,8 @@ use Rattle.std.proofs.Common.{◌≡◌, ℕ, ◌+◌, ◌*◌, ◌≤◌, ◌<�
 use Rattle.std.proofs.lemmas.Bool.{and_from, and_parts, cond-true, cond-false, eq-eqb, lt-ltb, eqb-true, ltb-true, false_from_ne_true}
 use Rattle.std.specs.Char.{digit_value}
 use Rattle.percent_encoding.specs.Percent.{is_escape}
-use Rattle.robots_rules.specs.Octets.{normal, escape_if, escaped_octet, is_unreserved, KeepsFirst}
+use Rattle.robots_rules.specs.Octets.{normal, escape_if, escaped_octet, is_unreserved}
+use Rattle.robots_rules.specs.inner.Octets.{KeepsFirst}
 
 pub normal-nil : (m : ℕ → Bool) → normal m [] ≡ []
 unfolding normal

@@ -1,10 +1,7 @@
 pub mod Octets
 pub mod Patterns
-pub mod RuleView
 pub mod Access
 pub mod Lines
 pub mod Groups
-pub mod LineView
-pub mod AudienceView
-pub mod NormalTextView
 pub mod RuleSetView
+pub mod inner

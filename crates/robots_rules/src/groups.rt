@@ -3,8 +3,8 @@ ghost use Rattle.std.specs.Prelude.{◌≡◌, ◌++◌, ◌∷◌, [], IfOk, ma
 ghost use Rattle.std.specs.List.{before_first, list_any};
 ghost use Rattle.robots_rules.specs.Lines.{is_blank};
 ghost use Rattle.robots_rules.specs.Groups.{groups_of, is_in_token, names_all, names_us, rule_of, rules_for_us, rules_naming, token_of};
-ghost use Rattle.robots_rules.specs.LineView.{line_value};
-ghost use Rattle.robots_rules.specs.AudienceView.{names_one};
+ghost use Rattle.robots_rules.specs.inner.LineView.{line_value};
+ghost use Rattle.robots_rules.specs.inner.AudienceView.{names_one};
 
 use crate::lines::{Line, is_blank, is_word};
 use crate::rule::Rule;

@@ -2,7 +2,7 @@
 ghost use Rattle.std.specs.Prelude.{◌≡◌, ◌==◌, position, map, IfOk};
 ghost use Rattle.std.specs.List.{before_last};
 ghost use Rattle.robots_rules.specs.Lines.{is_line_end, is_blank, without_mark, used, trim_start, trim_end, trimmed, uncommented, line_by, line_of, lines_in, is_word};
-ghost use Rattle.robots_rules.specs.LineView.{line_value};
+ghost use Rattle.robots_rules.specs.inner.LineView.{line_value};
 ghost use Rattle.std.specs.Char.{to_ascii_lowercase};
 ghost use Rattle.std.specs.Option.{option_map};
 

@@ -1,7 +1,8 @@
 //! Paths and patterns in normal form, octet by octet.
 ghost use Rattle.std.specs.Prelude.{◌≡◌, ◌++◌, ◌∷◌, [], ℕ, Bool, List, ◌<◌, ◌≤◌, length, take, IfSome, IfNone, ◌↔◌, IsTrue};
-ghost use Rattle.robots_rules.specs.NormalTextView.{octets_of_text};
-ghost use Rattle.robots_rules.specs.Octets.{normal, normal_path, SplitsEscape, escape_if, is_unreserved, is_escaped};
+ghost use Rattle.robots_rules.specs.inner.NormalTextView.{octets_of_text};
+ghost use Rattle.robots_rules.specs.Octets.{normal, normal_path, escape_if, is_unreserved, is_escaped};
+ghost use Rattle.robots_rules.specs.inner.Octets.{SplitsEscape};
 
 use part_match::Text;
 use percent_encoding::percent_encode_byte;
@@ -17,7 +18,7 @@ pub(crate) struct NormalText<'a> {
 impl<'a> NormalText<'a> {
     ghost use Rattle.std.specs.Prelude.{◌≡◌, ◌↔◌, [], true, false, IsTrue};
     ghost use Rattle.robots_rules.specs.Octets.{normal_path, normal_pattern};
-    ghost use Rattle.robots_rules.specs.NormalTextView.{octets_of_text};
+    ghost use Rattle.robots_rules.specs.inner.NormalTextView.{octets_of_text};
 
     pub(crate) fn path(path: &'a str) -> Self
         ensures { octets_of_text result ≡ normal_path path.now }
@@ -50,7 +51,7 @@ impl<'a> NormalText<'a> {
 }
 
 impl Text for NormalText<'_> {
-    ghost use Rattle.robots_rules.specs.NormalTextView.{octets_of_text};
+    ghost use Rattle.robots_rules.specs.inner.NormalTextView.{octets_of_text};
 
     ghost octets = { octets_of_text };
 

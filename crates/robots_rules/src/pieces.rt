@@ -27,7 +27,7 @@ impl NormalPath for &[u8] {
 
 // A path that isn't written down is read octet by octet, so no piece can be searched for: each place is tried.
 impl NormalPath for NormalText<'_> {
-    ghost use Rattle.robots_rules.specs.NormalTextView.{octets_of_text};
+    ghost use Rattle.robots_rules.specs.inner.NormalTextView.{octets_of_text};
 
     ghost octets = { octets_of_text };
 

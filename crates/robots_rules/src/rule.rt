@@ -2,7 +2,7 @@
 ghost use Rattle.std.specs.Prelude.{◌≡◌, ◌↔◌, ◌++◌, [], ◌∷◌, ℕ, List, IsTrue, IfOk, IfSome, if◌then◌else◌, map, fold};
 ghost use Rattle.robots_rules.specs.Access.{RulesAllow, rules_allow};
 ghost use Rattle.robots_rules.specs.Groups.{with_rule};
-ghost use Rattle.robots_rules.specs.RuleView.{rule_by};
+ghost use Rattle.robots_rules.specs.inner.RuleView.{rule_by};
 
 use crate::pattern::{ends_text, normal_of};
 use crate::pieces::{NormalPath, matches_front};
@@ -21,7 +21,7 @@ pub(crate) struct Rule {
 // Contracts see a rule as whether it allows, and its pattern in normal form.
 impl Model for Rule {
     ghost use Rattle.robots_rules.specs.Access.{RuleValue};
-    ghost use Rattle.robots_rules.specs.RuleView.{AreParts, pattern_with};
+    ghost use Rattle.robots_rules.specs.inner.RuleView.{AreParts, pattern_with};
 
     ghost Value = { RuleValue };
 

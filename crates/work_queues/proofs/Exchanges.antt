@@ -3,7 +3,8 @@ use Rattle.std.proofs.Common.{◌≡◌, ◌≢◌, ◌<◌, ℕ, List, map, set
 use Rattle.std.specs.Prelude.{slice_get, vec_len, ◌≤◌}
 use Rattle.std.specs.Option.{option_map}
 use Rattle.std.proofs.lemmas.Option.{slice_get-map, slice_get_within}
-use Rattle.work_queues.specs.Queues.{Seat, numbers_of, queued_of, seat_of, seats, IsPlaced, IsRearranged}
+use Rattle.work_queues.specs.Queues.{Seat, numbers_of, queued_of, seat_of, seats, IsPlaced}
+use Rattle.work_queues.specs.inner.Queues.{IsRearranged}
 use Rattle.std.proofs.lemmas.List.{length-set, map-set}
 use Rattle.work_queues.specs.declared.queues.Member.{Member}
 use Rattle.work_queues.specs.declared.queues.Queue.{Queue}

@@ -9,7 +9,8 @@ use Rattle.std.proofs.lemmas.Option.{slice_get_within, get_or_from_slice_get}
 use Rattle.std.proofs.lemmas.List.Sums.{sum_by-cons, sum_by-set, sum_by_push, get_or-le-sum_by, count_by-le-length}
 use Rattle.work_queues.specs.Queues.{Seat, seats, numbers_of, queued_of}
 use Rattle.work_queues.specs.Tasks.{Text, Item, is_out, out_count}
-use Rattle.work_queues.specs.Lists.{key_at, item_of, items_of, hosts_in, one, host_seat, host_out, IsSeated, IsKept}
+use Rattle.work_queues.specs.Lists.{key_at, item_of, items_of, hosts_in, host_seat, host_out, IsSeated, IsKept}
+use Rattle.work_queues.specs.inner.Lists.{one}
 use Rattle.work_queues.specs.declared.lists.Job.{Job}
 use Rattle.work_queues.specs.declared.lists.Lists.{Lists}
 use Rattle.work_queues.specs.declared.pool.Pool.{Pool}

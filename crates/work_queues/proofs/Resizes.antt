@@ -5,7 +5,8 @@ use Rattle.std.specs.Option.{option_map}
 use Rattle.std.specs.Vec.{with_item}
 use Rattle.std.proofs.lemmas.Bool.Decides.{nat_tests}
 use Rattle.std.proofs.lemmas.Option.{slice_get-map, slice_get_within}
-use Rattle.work_queues.specs.Queues.{numbers_of, queued_of, seat_of, seats, IsPlaced, IsRearranged}
+use Rattle.work_queues.specs.Queues.{numbers_of, queued_of, seat_of, seats, IsPlaced}
+use Rattle.work_queues.specs.inner.Queues.{IsRearranged}
 use Rattle.work_queues.specs.declared.queues.Queue.{Queue}
 use Rattle.work_queues.specs.declared.queues.Place.{Place}
 use Rattle.work_queues.specs.declared.queues.Queues.{Queues}

@@ -14,7 +14,8 @@ use Rattle.indexmap.specs.IndexMap.{set_value_at, insert_entry}
 use Rattle.work_queues.specs.Queues.{Seat, seats, IsPlaced}
 use Rattle.work_queues.specs.Pools.{IsPool}
 use Rattle.work_queues.specs.Tasks.{Text, Item, is_parked, is_waiting, is_out, is_due}
-use Rattle.work_queues.specs.Lists.{texts, key_at, item_of, items_of, one, host_seat, host_out, IsSeated, IsKept}
+use Rattle.work_queues.specs.Lists.{texts, key_at, item_of, items_of, host_seat, host_out, IsSeated, IsKept}
+use Rattle.work_queues.specs.inner.Lists.{one}
 use Rattle.work_queues.specs.declared.lists.Job.{Job}
 use Rattle.work_queues.specs.declared.lists.Lists.{Lists}
 use Rattle.work_queues.specs.declared.pool.Pool.{Pool}

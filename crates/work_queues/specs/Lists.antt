@@ -1,7 +1,7 @@
 -- What the lists behind an agenda stand for, and what ties them together.
-use Rattle.std.specs.Prelude.{◌≡◌, ◌<◌, ◌≤◌, ℕ, Bool, ◌&&◌, ◌==◌, cond, List, [], map, take, length, slice_get, slice_index_or, Some, count_by, vec_len, vec_capacity}
+use Rattle.std.specs.Prelude.{◌≡◌, ◌<◌, ◌≤◌, ℕ, Bool, ◌&&◌, ◌==◌, List, [], map, take, length, slice_get, slice_index_or, Some, count_by, vec_len}
 use Rattle.work_queues.specs.Tasks.{Text, Item, is_parked, is_waiting, is_out, is_due}
-use Rattle.work_queues.specs.Queues.{Seat, IsPlaced, HasRoom, seats, numbers_of, queued_of}
+use Rattle.work_queues.specs.Queues.{Seat, IsPlaced, seats, numbers_of, queued_of}
 use Rattle.work_queues.specs.Pools.{IsPool}
 use Rattle.work_queues.specs.declared.lists.Job.{Job}
 use Rattle.work_queues.specs.declared.lists.Lists.{Lists}
@@ -35,10 +35,6 @@ waiting_of lists = hosts_in lists.hosts.entries lists.waiting
 abbrev pub parked_of : Lists → List Text
 parked_of lists = hosts_in lists.hosts.entries lists.parked
 
--- one where it is so
-abbrev pub one : Bool → ℕ
-one b = cond b 1 0
-
 -- the seat of a job among queues by host
 abbrev pub host_seat : (Job → Bool) → Job → Seat
 host_seat test job = record { queue = job.host; is_queued = test job }
@@ -63,10 +59,3 @@ pub record IsKept (lists : Lists) : Type 0 where
   pub due_placed : IsPlaced lists.due
   pub due : seats lists.due ≡ map (λ job. record { queue = 0; is_queued = is_due job.task }) lists.jobs.items
   pub due_queue : vec_len lists.due.queues ≡ 1
-
--- a number more of this host takes no memory
-pub record HasSpace (lists : Lists) (host : ℕ) : Type 0 where
-  pub jobs : vec_len lists.jobs < vec_capacity lists.jobs
-  pub waiting : HasRoom lists.waiting.numbers host
-  pub parked : HasRoom lists.parked.numbers host
-  pub due : HasRoom lists.due 0

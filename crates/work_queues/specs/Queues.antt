@@ -1,5 +1,5 @@
 -- Queues of numbers: each number belongs to one queue, and is in it or not.
-use Rattle.std.specs.Prelude.{◌≡◌, ◌<◌, ◌≤◌, ℕ, zero, suc, nat_lt, Bool, List, [], ◌∷◌, map, length, slice_get, Some, IfSome, vec_len, vec_capacity}
+use Rattle.std.specs.Prelude.{◌≡◌, ◌≤◌, ℕ, zero, suc, nat_lt, Bool, List, [], ◌∷◌, map, length, slice_get, Some}
 use Rattle.work_queues.specs.declared.queues.Queue.{Queue}
 use Rattle.work_queues.specs.declared.queues.Place.{Place}
 use Rattle.work_queues.specs.declared.queues.Queues.{Queues}
@@ -36,18 +36,3 @@ pub record IsPlaced (queues : Queues) : Type 0 where
   pub held : (number : ℕ) (place : Place) → slice_get queues.places.items number ≡ Some place
       → slice_get (numbers_of queues.queues.items place.queue) place.place ≡ Some number
   pub within : (queue : ℕ) → queued_of queues.queues.items queue ≤ length (numbers_of queues.queues.items queue)
-
--- members changed places within their queues, and no seat changed
-pub record IsRearranged (old new : Queues) : Type 0 where
-  pub placed : IsPlaced new
-  pub seats : seats new ≡ seats old
-  pub queued : (queue : ℕ) → queued_of new.queues.items queue ≡ queued_of old.queues.items queue
-  pub len : (queue : ℕ) → length (numbers_of new.queues.items queue) ≡ length (numbers_of old.queues.items queue)
-  pub queues : vec_len new.queues ≡ vec_len old.queues
-  pub places : vec_len new.places ≡ vec_len old.places
-
--- a number more of this queue takes no memory
-pub record HasRoom (queues : Queues) (queue : ℕ) : Type 0 where
-  pub places : vec_len queues.places < vec_capacity queues.places
-  pub members : IfSome (slice_get queues.queues.items queue) (λ here. vec_len here.members < vec_capacity here.members)
-  pub within : queue < vec_len queues.queues

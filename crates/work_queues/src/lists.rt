@@ -2,7 +2,8 @@
 ghost use Rattle.std.specs.Prelude.{◌≡◌, ◌<◌, ◌≤◌, ◌+◌, ◌^◌, ℕ, Bool, true, [], ◌∷◌, ◌++◌, Some, length, slice_get, slice_set, vec_len, OnOk, OnErr, IfOk, IfSome, IfNone, Contains};
 ghost use Rattle.work_queues.specs.Queues.{seats, numbers_of, queued_of};
 ghost use Rattle.work_queues.specs.Tasks.{Item, is_waiting, is_parked, is_out, is_due, out_count};
-ghost use Rattle.work_queues.specs.Lists.{IsKept, HasSpace, one, items_of, key_at, waiting_of, parked_of};
+ghost use Rattle.work_queues.specs.Lists.{IsKept, items_of, key_at, waiting_of, parked_of};
+ghost use Rattle.work_queues.specs.inner.Lists.{HasSpace, one};
 
 use crate::pool::Pool;
 use crate::queues::Queues;

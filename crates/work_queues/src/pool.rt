@@ -1,6 +1,7 @@
 //! Numbers by host: which of them are in, and which hosts have one that is.
 ghost use Rattle.std.specs.Prelude.{◌≡◌, ◌<◌, ◌+◌, ℕ, Bool, false, [], ◌∷◌, ◌++◌, Some, true, length, slice_get, slice_set, vec_len, OnOk, OnErr, IfOk};
-ghost use Rattle.work_queues.specs.Queues.{Seat, IsPlaced, HasRoom, seats, queued_of, numbers_of};
+ghost use Rattle.work_queues.specs.Queues.{Seat, IsPlaced, seats, queued_of, numbers_of};
+ghost use Rattle.work_queues.specs.inner.Queues.{HasRoom};
 ghost use Rattle.work_queues.specs.Pools.{IsPool};
 
 use crate::queues::Queues;

@@ -1,6 +1,7 @@
 //! Queues of numbers: each number belongs to one queue, and is in it or not. A queue gives the number of the least label first, and of equal labels the least number.
 ghost use Rattle.std.specs.Prelude.{◌≡◌, ◌≢◌, ◌<◌, ◌≤◌, ◌+◌, ◌-◌, ℕ, true, false, [], ◌∷◌, ◌++◌, Some, length, slice_get, slice_set, nat_lt, vec_len, OnOk, OnErr, IfSome, IfNone};
-ghost use Rattle.work_queues.specs.Queues.{Seat, numbers_of, queued_of, seats, IsPlaced, IsRearranged, HasRoom};
+ghost use Rattle.work_queues.specs.Queues.{Seat, numbers_of, queued_of, seats, IsPlaced};
+ghost use Rattle.work_queues.specs.inner.Queues.{IsRearranged, HasRoom};
 
 use std::alloc::{AllocError, Global};
 

@@ -13,7 +13,8 @@ use std::mem;
 
 impl Lexer {
     ghost use Rattle.html_links.specs.Markup.{Value, attributes, value_behind, with_attribute};
-    ghost use Rattle.html_links.specs.Lexing.{HasRead, Gives, Leaves, with_named, tags_with, kept_with, before_attribute, in_attribute_name, after_attribute_name, before_value, in_quoted_value, in_bare_value};
+    ghost use Rattle.html_links.specs.Lexing.{with_named, tags_with, kept_with, before_attribute, in_attribute_name, after_attribute_name, before_value, in_quoted_value, in_bare_value};
+    ghost use Rattle.html_links.specs.inner.Lexing.{HasRead, Gives, Leaves};
 
     pub(crate) fn before_attribute(&mut self, byte: u8) -> Result<bool, AllocError>
         ensures { IfOk result (λ ends. Gives (before_attribute self.old) byte ends self.new) }

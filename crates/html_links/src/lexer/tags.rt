@@ -21,7 +21,8 @@ pub(crate) fn push_lower(name: &mut Vec<u8>, text: &[u8]) -> Result<(), AllocErr
 
 impl Lexer {
     ghost use Rattle.html_links.specs.Markup.{start_tag, end_tag, attributes};
-    ghost use Rattle.html_links.specs.Lexing.{Gives, Leaves, remaining, content, tags_after, in_tag_name, in_end_tag_name, before_attribute};
+    ghost use Rattle.html_links.specs.Lexing.{remaining, content, tags_after, in_tag_name, in_end_tag_name, before_attribute};
+    ghost use Rattle.html_links.specs.inner.Lexing.{Gives, Leaves};
 
     pub(crate) fn tag_name(&mut self, byte: u8) -> Result<bool, AllocError>
         ensures { IfOk result (λ ends. Gives (in_tag_name self.old) byte ends self.new) }

@@ -1,7 +1,7 @@
 use Rattle.std.proofs.Common.{◌≡◌, ◌↔◌, ℕ, ◌+◌, ◌<◌, ◌≤◌, IsTrue, not, cond, true, false, length, get_or, refl, ap, arith}
 use Rattle.std.proofs.lemmas.List.{take_all}
 use Rattle.std.proofs.lemmas.List.Sums.{count_by_more_yes, count_by_more_no, sum_by-take-le}
-use Rattle.part_match.specs.Cuts.{least_octets}
+use Rattle.part_match.specs.inner.Cuts.{least_octets}
 use Rattle.part_match.proofs.matcher.is_long_enough.Goals as goal
 use Rattle.part_match.proofs.matcher.is_long_enough.Goals.{then-takes_one+in-Some, else-takes_one}
 

@@ -1,5 +1,5 @@
 use Rattle.std.proofs.Common.{◌≡◌, ◌+◌, take, length}
-use Rattle.part_match.specs.Cuts.{least_octets}
+use Rattle.part_match.specs.inner.Cuts.{least_octets}
 use Rattle.part_match.proofs.matcher.is_long_enough.Given as goal
 
 abbrev pub invariant-loop-part : goal.invariant-loop-part

@@ -3,7 +3,7 @@ use Rattle.std.proofs.lemmas.List.{drop_more, drop_all}
 use Rattle.std.proofs.lemmas.Bool.{or_left}
 use Rattle.std.specs.Borrow.{Bor}
 use Rattle.robots_rules.specs.Groups.{names_us}
-use Rattle.robots_rules.specs.LineView.{line_value}
+use Rattle.robots_rules.specs.inner.LineView.{line_value}
 use Rattle.robots_rules.specs.declared.lines.Line.{Line}
 use Rattle.robots_rules.specs.declared.lines.Line.TheVariants as line
 use Rattle.robots_rules.proofs.GroupLemmas.{some_agent, some_agent-groups}

@@ -1,6 +1,6 @@
 use Rattle.std.proofs.Common.{◌≡◌, drop, map}
 use Rattle.robots_rules.specs.Groups.{names_us}
-use Rattle.robots_rules.specs.LineView.{line_value}
+use Rattle.robots_rules.specs.inner.LineView.{line_value}
 use Rattle.robots_rules.proofs.GroupLemmas.{some_agent}
 use Rattle.robots_rules.proofs.groups.names_this_agent.Given as goal
 

@@ -3,8 +3,8 @@ use Rattle.std.proofs.lemmas.Bool.{cond-true, cond-false}
 use Rattle.std.specs.Result.{IfOk}
 use Rattle.robots_rules.specs.Groups.{rule_of, rules_for_us, rules_naming, groups_of}
 use Rattle.robots_rules.specs.Lines.{RuleLine}
-use Rattle.robots_rules.specs.LineView.{line_value}
-use Rattle.robots_rules.specs.AudienceView.{names_one}
+use Rattle.robots_rules.specs.inner.LineView.{line_value}
+use Rattle.robots_rules.specs.inner.AudienceView.{names_one}
 use Rattle.robots_rules.proofs.groups.rules_for_us.Goals as goal
 use Rattle.robots_rules.proofs.groups.rules_for_us.Goals.{then-names_this_agent, else-names_this_agent}
 

@@ -2,8 +2,8 @@ use Rattle.std.proofs.Common.{◌≡◌, ℕ, ◌+◌, ◌<◌, Bool, true, fals
 use Rattle.std.proofs.lemmas.List.{drop_more, drop_all}
 use Rattle.robots_rules.specs.Groups.{rule_of}
 use Rattle.robots_rules.specs.Access.{RuleValue}
-use Rattle.robots_rules.specs.LineView.{line_value}
-use Rattle.robots_rules.specs.AudienceView.{names_one}
+use Rattle.robots_rules.specs.inner.LineView.{line_value}
+use Rattle.robots_rules.specs.inner.AudienceView.{names_one}
 use Rattle.robots_rules.specs.declared.lines.Line.{Line}
 use Rattle.robots_rules.specs.declared.lines.Line.TheVariants as line
 use Rattle.std.specs.Borrow.{Bor}

@@ -1,7 +1,7 @@
 use Rattle.std.proofs.Common.{◌≡◌, ◌++◌, map, drop, true, false}
 use Rattle.robots_rules.specs.Groups.{rule_of}
-use Rattle.robots_rules.specs.LineView.{line_value}
-use Rattle.robots_rules.specs.AudienceView.{names_one}
+use Rattle.robots_rules.specs.inner.LineView.{line_value}
+use Rattle.robots_rules.specs.inner.AudienceView.{names_one}
 use Rattle.robots_rules.proofs.GroupLemmas.{collect}
 use Rattle.robots_rules.proofs.groups.rules_naming.Given as goal
 

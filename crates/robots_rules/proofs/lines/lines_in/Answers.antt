@@ -5,7 +5,7 @@ use Rattle.std.proofs.lemmas.Iterator.Consumers.{YieldsList-at}
 use Rattle.std.proofs.lemmas.Iterator.Splits.{YieldsList-from_slice_split}
 use Rattle.std.specs.List.{filter_map}
 use Rattle.robots_rules.specs.Lines.{is_line_end, used, line_of, lines_in}
-use Rattle.robots_rules.specs.LineView.{line_value}
+use Rattle.robots_rules.specs.inner.LineView.{line_value}
 use Rattle.robots_rules.proofs.LinesLemmas.{said_more, said_nothing, filter_map-map, drained}
 use Rattle.robots_rules.proofs.lines.lines_in.Goals as goal
 

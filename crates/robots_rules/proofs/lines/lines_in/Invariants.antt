@@ -1,7 +1,7 @@
 use Rattle.std.proofs.Common.{◌≡◌, map}
 use Rattle.std.specs.List.{filter_map}
 use Rattle.robots_rules.specs.Lines.{line_of}
-use Rattle.robots_rules.specs.LineView.{line_value}
+use Rattle.robots_rules.specs.inner.LineView.{line_value}
 use Rattle.robots_rules.proofs.lines.lines_in.Given as goal
 
 abbrev pub invariant-loop-text : goal.invariant-loop-text

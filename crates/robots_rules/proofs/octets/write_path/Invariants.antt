@@ -1,6 +1,6 @@
 use Rattle.std.proofs.Common.{◌≡◌, ◌≤◌, ◌++◌, length, take}
 use Rattle.robots_rules.specs.Octets.{normal_path}
-use Rattle.robots_rules.specs.NormalTextView.{octets_of_text}
+use Rattle.robots_rules.specs.inner.NormalTextView.{octets_of_text}
 use Rattle.robots_rules.proofs.octets.write_path.Given as goal
 
 abbrev pub invariant-loop-octet : goal.invariant-loop-octet

@@ -1,6 +1,6 @@
 use Rattle.std.proofs.Common.{◌≡◌, ◌++◌, length}
 use Rattle.robots_rules.specs.Octets.{normal_pattern}
-use Rattle.robots_rules.specs.NormalTextView.{octets_of_text}
+use Rattle.robots_rules.specs.inner.NormalTextView.{octets_of_text}
 use Rattle.robots_rules.proofs.pattern.normal_pattern.Given as goal
 
 abbrev pub invariant-loop-octet : goal.invariant-loop-octet

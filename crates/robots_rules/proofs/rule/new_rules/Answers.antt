@@ -1,6 +1,6 @@
 use Rattle.std.proofs.Common.{◌∙◌, ◌++◌, ◌∷◌, [], List, ap, sym, map}
 use Rattle.robots_rules.specs.Access.{RuleValue}
-use Rattle.robots_rules.specs.RuleView.{rule_by}
+use Rattle.robots_rules.specs.inner.RuleView.{rule_by}
 use Rattle.robots_rules.proofs.KeptLemmas.{kept-push}
 use Rattle.robots_rules.proofs.rule.new_rules.Goals as goal
 

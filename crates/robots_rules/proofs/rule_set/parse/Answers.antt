@@ -1,7 +1,7 @@
 use Rattle.std.proofs.Common.{◌≡◌, ℕ, ◌∙◌, [], false, List, refl, sym, ap, map, subst}
 use Rattle.std.specs.Prelude.{fold}
 use Rattle.robots_rules.specs.Lines.{Line as Said, lines_in}
-use Rattle.robots_rules.specs.LineView.{line_value}
+use Rattle.robots_rules.specs.inner.LineView.{line_value}
 use Rattle.robots_rules.specs.Octets.{normal_path}
 use Rattle.robots_rules.specs.Access.{RuleValue, RuleSetValue, RulesAllow}
 use Rattle.robots_rules.specs.Groups.{rule_of, rules_for_us, groups_of, with_rule, stated_in, rules_in}

@@ -1,7 +1,7 @@
 use Rattle.std.proofs.Common.{sym, refl, ◌∙◌, true≢false, below_more, arith}
 use Rattle.std.proofs.lemmas.Bool.{false≢true}
 use Rattle.frontier_core.specs.Plans.{policy}
-use Rattle.frontier_core.specs.Inner.{key_at}
+use Rattle.frontier_core.specs.inner.TableCalls.{key_at}
 use Rattle.frontier_core.proofs.Stuck.{overfull_at, stuck_of}
 use Rattle.frontier_core.proofs.board.Board.is_overfull.Goals as goal
 

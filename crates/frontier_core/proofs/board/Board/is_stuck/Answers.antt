@@ -1,7 +1,7 @@
 use Rattle.std.proofs.Common.{◌≡◌, ◌+◌, sym, refl, ◌∙◌, true, true≢false, below_more, arith}
 use Rattle.std.proofs.lemmas.Bool.{false≢true}
 use Rattle.frontier_core.specs.Plans.{policy}
-use Rattle.frontier_core.specs.Inner.{key_at}
+use Rattle.frontier_core.specs.inner.TableCalls.{key_at}
 use Rattle.frontier_core.specs.Routes.{admits, weight as weight_of}
 use Rattle.fetcher.specs.declared.edge.Edge.{Edge}
 use Rattle.frontier_core.proofs.Stuck.{stuck_at, unstuck, stuck_within}

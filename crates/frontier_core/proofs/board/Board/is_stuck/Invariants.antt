@@ -1,5 +1,5 @@
 use Rattle.std.proofs.Common.{ℕ, ◌<◌}
-use Rattle.frontier_core.specs.Inner.{key_at}
+use Rattle.frontier_core.specs.inner.TableCalls.{key_at}
 use Rattle.frontier_core.specs.Invariants.{IsStuck}
 use Rattle.frontier_core.specs.Plans.{policy}
 use Rattle.frontier_core.proofs.board.Board.is_stuck.Given as goal

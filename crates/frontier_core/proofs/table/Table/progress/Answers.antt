@@ -1,5 +1,5 @@
 use Rattle.std.proofs.Common.{◌≡◌, ◌<◌, length, arith}
-use Rattle.frontier_core.specs.Holdings.{entries_of}
+use Rattle.frontier_core.specs.inner.Holdings.{entries_of}
 use Rattle.frontier_core.proofs.HoldLaws.{length-entries, progress_there}
 use Rattle.frontier_core.proofs.table.Table.progress.Goals as goal
 

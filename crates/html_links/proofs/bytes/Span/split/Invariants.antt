@@ -1,7 +1,7 @@
 -- The part goes on as far as the search has come.
 use Rattle.std.proofs.Common.{◌≡◌, ◌++◌, take, drop}
 use Rattle.html_links.specs.Pieces.{until, from}
-use Rattle.html_links.specs.Spans.{ends_span}
+use Rattle.html_links.specs.inner.Spans.{ends_span}
 use Rattle.html_links.proofs.bytes.Span.split.Given as goal
 
 abbrev pub invariant-loop-i : goal.invariant-loop-i

@@ -1,6 +1,6 @@
 use Rattle.std.proofs.Common.{◌↔◌, ◌∙◌, ◌++◌, ◌==◌, IsTrue, List, length, sym, ap}
 use Rattle.robots_rules.specs.Access.{RuleValue, RulesAllow}
-use Rattle.robots_rules.specs.NormalTextView.{octets_of_text}
+use Rattle.robots_rules.specs.inner.NormalTextView.{octets_of_text}
 use Rattle.robots_rules.specs.Octets.{normal_path}
 use Rattle.robots_rules.proofs.AccessLemmas.{nothing_stated}
 use Rattle.robots_rules.proofs.rule_set.RuleSet.allows.Goals as goal

@@ -3,7 +3,7 @@ use Rattle.std.specs.Prelude.{slice_get}
 use Rattle.std.proofs.lemmas.List.{length-map}
 use Rattle.work_queues.specs.Queues.{seats}
 use Rattle.work_queues.specs.Tasks.{is_out, is_waiting, is_parked}
-use Rattle.work_queues.specs.Lists.{one}
+use Rattle.work_queues.specs.inner.Lists.{one}
 use Rattle.work_queues.specs.declared.lists.Job.{Job}
 use Rattle.work_queues.proofs.QueueLaws.{read}
 use Rattle.work_queues.proofs.ListLaws.{seated, count_read, out_some, out_few, mapped}

@@ -1,5 +1,6 @@
 use Rattle.std.proofs.Common.{◌<◌, ◌-◌}
-use Rattle.work_queues.specs.Queues.{queued_of, IsRearranged}
+use Rattle.work_queues.specs.Queues.{queued_of}
+use Rattle.work_queues.specs.inner.Queues.{IsRearranged}
 use Rattle.work_queues.proofs.queues.Queues.sink.Given as goal
 
 abbrev pub invariant-loop-below : goal.invariant-loop-below

@@ -1,0 +1,26 @@
+-- What proofs alone need beside `Lexing`.
+use Rattle.std.specs.Prelude.{◌≡◌, ℕ, Bool, List, ◌∷◌, ◌++◌}
+use Rattle.html_links.specs.Pieces.{Tag, is}
+use Rattle.html_links.specs.Markup.{attributes}
+use Rattle.html_links.specs.Asked.{asked}
+use Rattle.html_links.specs.declared.lexer.Lexer.{Lexer}
+use Rattle.html_links.specs.Lexing.{given, kept_with, remaining}
+
+-- a lexer behind an attribute of that value
+pub record HasRead (old : Lexer) (value : List ℕ) (new : Lexer) : Type 0 where
+  pub asked : new.asked ≡ old.asked
+  pub raw : new.raw ≡ old.raw
+  pub name : new.name.items ≡ old.name.items
+  pub attributes : new.attributes.items ≡ kept_with old value
+
+-- the start tag that a step ended
+abbrev pub tag_ended : Bool → Lexer → List Tag
+tag_ended ends l = given ends l.name.items l.attributes.items
+
+-- A step over a byte: what comes of the byte and the rest is the tag that it ended and what comes of the rest.
+abbrev pub Gives : (List ℕ → List Tag) → ℕ → Bool → Lexer → Type 0
+Gives before byte ends new = (rest : List ℕ) → before (byte ∷ rest) ≡ tag_ended ends new ++ remaining new rest
+
+-- A run over the front of a text that ends no tag: what comes of the text and the rest is what comes of what is left of it and the rest.
+abbrev pub Leaves : (List ℕ → List Tag) → List ℕ → List ℕ → Lexer → Type 0
+Leaves before text left new = (rest : List ℕ) → before (text ++ rest) ≡ remaining new (left ++ rest)

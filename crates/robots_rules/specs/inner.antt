@@ -1,0 +1,6 @@
+-- Definitions that proofs alone need: no public clause cites them.
+pub mod Octets
+pub mod RuleView
+pub mod LineView
+pub mod AudienceView
+pub mod NormalTextView
