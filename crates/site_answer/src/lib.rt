@@ -1,38 +1,13 @@
-//! What a site answers, in one place: the words of asking and answering (`fetcher`), sites that are read from maps
-//! (`site_maps`), what a response answers, whole or in pieces, and sites that are asked over connections. It opens none
-//! itself: who hands in a `Connect` does. The meaning is written in `specs/`: `Digests` what a response answers,
-//! `Digesting` what a sink in mid-response stands for, `Fetching` how an answer comes over a connection, `Chains` how the
-//! rules of an origin come of its robots file, `Talks` what connections in memory answer.
+//! What a site answers, in one place for who takes it from outside: the words of asking and answering (`fetcher`), sites that
+//! are read from maps (`site_maps`), what a response answers (`response_answer`), what was told (`answer_notes`), sites that
+//! are asked over connections (`http_fetcher`), and connections in memory (`memory_connect`). It has nothing of its own.
 #![tactic(auto)]
 
-mod chain;
-mod connect;
-mod digester;
-mod given;
-mod head_kind;
-mod hops;
-mod http_fetcher;
-mod links;
-mod memory_connect;
-mod noted;
-mod read_fault;
-mod stage;
-mod telling;
-mod told;
-mod whole_response;
-
-pub use connect::{Connect, ConnectFault};
-pub use digester::Digester;
+pub use answer_notes::{Given, Hops, Noted, Recording, Telling, Told};
 pub use fetcher::{
     Answer, Ask, Body, Edge, EdgeKind, Edges, FaultKind, Fetcher, Outcome, SteadyFetcher,
 };
-pub use given::Given;
-pub use hops::Hops;
-pub use http_fetcher::HttpFetcher;
+pub use http_fetcher::{Connect, ConnectFault, HttpFetcher};
 pub use memory_connect::{FailingPlace, MemoryConnect, PlannedFailure, StoredAnswer, StoredWire};
-pub use noted::Noted;
-pub use read_fault::kind_of_fault;
+pub use response_answer::{Digester, digest, into_answer, kind_of_fault};
 pub use site_maps::{InputFault, MapSite, SteadyMap};
-pub use telling::Telling;
-pub use told::Told;
-pub use whole_response::{digest, into_answer};

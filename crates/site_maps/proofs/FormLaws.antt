@@ -2,15 +2,16 @@
 use Rattle.std.proofs.Common.{◌≡◌, ℕ, List, ◌∷◌, Option, Some, None, MatchOption, ◌==◌, false, length, slice_index, inl, inr, arith, Result, Ok, Err}
 use Rattle.std.specs.Prelude.{IsUtf8}
 use Rattle.site_maps.specs.declared.map_line.MapLine.{MapLine}
-use Rattle.site_maps.specs.Lines.{Statement, skipped, page, edge, moved, leaf, fault, robots, closed, rule, fields, IsForm, IsSkipped, HasForm, IsBehind, SaysRule}
+use Rattle.site_maps.specs.Lines.{Statement, skipped, page, edge, moved, leaf, fault, robots, closed, rule, IsForm, IsSkipped, HasForm, IsBehind, SaysRule}
+use Rattle.site_inputs.specs.Fields.{fields}
 use Rattle.site_maps.specs.declared.rule_kind.RuleKind.{RuleKind}
 use Rattle.site_maps.specs.declared.rule_kind.RuleKind.TheVariants.{Allow, Disallow}
 use Rattle.site_maps.specs.RuleLines.{rule_word}
-use Rattle.site_maps.specs.Said.{said}
-use Rattle.site_maps.specs.declared.input_fault.InputLineFault.{InputLineFault}
-use Rattle.site_maps.specs.declared.input_fault.InputLineFault.TheVariants.{Line, Address, Memory}
+use Rattle.site_maps.specs.inner.Said.{said}
+use Rattle.site_inputs.specs.declared.input_fault.InputLineFault.{InputLineFault}
+use Rattle.site_inputs.specs.declared.input_fault.InputLineFault.TheVariants.{Line, Address, Memory}
 use Rattle.site_maps.specs.declared.reading.Reading.{Reading}
-use Rattle.site_maps.specs.Readings.{Takes, Reads}
+use Rattle.site_maps.specs.inner.Readings.{Takes, Reads}
 use Rattle.fetcher.specs.declared.edge.EdgeKind.TheVariants.{Link, Inline, Redirect}
 use Rattle.std.proofs.lemmas.Grind.{common_steps}
 

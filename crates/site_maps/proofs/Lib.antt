@@ -1,4 +1,3 @@
-pub mod Splits
 pub mod FormLaws
 pub mod MapLaws
 pub mod ReadingLaws

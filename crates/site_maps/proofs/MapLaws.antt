@@ -7,7 +7,8 @@ use Rattle.address.specs.Address.{origin_of}
 use Rattle.robots_rules.specs.Groups.{rules_in}
 use Rattle.site_maps.specs.RuleLines.{file_head, file_line}
 use Rattle.site_maps.specs.Lines.{Statement, skipped, page, edge, moved, leaf, fault, robots, closed, rule}
-use Rattle.site_maps.specs.Maps.{named, edges_below, answers_of, file_below, rules_of, is_between, is_ruling, HasAbove, IsPage, IsRobots}
+use Rattle.site_inputs.specs.Names.{named}
+use Rattle.site_maps.specs.Maps.{edges_below, answers_of, file_below, rules_of, is_between, is_ruling, HasAbove, IsPage, IsRobots}
 
 -- ---- lists
 

@@ -5,12 +5,12 @@ use Rattle.std.proofs.lemmas.List.{take-append-le, get_or_push, get_or_append_le
 use Rattle.std.proofs.Math.Seq.{take-append_seam}
 use Rattle.std.proofs.lemmas.Bool.{cases_lt}
 use Rattle.std.proofs.lemmas.Option.{slice_get_within, get_or_from_slice_get, slice_get-get_or}
-use Rattle.site_maps.specs.declared.input_fault.InputLineFault.{InputLineFault}
-use Rattle.site_maps.specs.declared.input_fault.InputLineFault.TheVariants.{Line, Address, Memory}
-use Rattle.site_maps.specs.Faults.{numbered}
+use Rattle.site_inputs.specs.declared.input_fault.InputLineFault.{InputLineFault}
+use Rattle.site_inputs.specs.declared.input_fault.InputLineFault.TheVariants.{Line, Address, Memory}
+use Rattle.site_inputs.specs.Faults.{numbered}
 use Rattle.site_maps.specs.Lines.{Statement, HasForm}
 use Rattle.site_maps.specs.Maps.{lines_of, IsGood, IsMap, IsFault}
-use Rattle.site_maps.specs.Readings.{IsBad}
+use Rattle.site_maps.specs.inner.Readings.{IsBad}
 
 forms_push : (lines : List (List ℕ)) (said : List Statement) (line : List ℕ) (s : Statement) → AllZip HasForm lines said → HasForm line s → AllZip HasForm (lines ++ line ∷ []) (said ++ s ∷ [])
 forms_push [] [] line s all h = (h, tt)

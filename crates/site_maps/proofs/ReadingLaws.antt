@@ -16,8 +16,8 @@ use Rattle.fetcher.specs.declared.fault_kind.FaultKind.{FaultKind}
 use Rattle.site_maps.specs.declared.rule_kind.RuleKind.{RuleKind}
 use Rattle.fetcher.specs.declared.outcome.Outcome.{Outcome}
 use Rattle.fetcher.specs.declared.outcome.Outcome.TheVariants as outcome
-use Rattle.site_maps.specs.declared.input_fault.InputLineFault.{InputLineFault}
-use Rattle.site_maps.specs.declared.input_fault.InputLineFault.TheVariants.{Line, Address, Memory}
+use Rattle.site_inputs.specs.declared.input_fault.InputLineFault.{InputLineFault}
+use Rattle.site_inputs.specs.declared.input_fault.InputLineFault.TheVariants.{Line, Address, Memory}
 use Rattle.site_maps.specs.declared.open_robots.OpenRobots.{OpenRobots}
 use Rattle.site_maps.specs.declared.reading.OpenPage.{OpenPage}
 use Rattle.site_maps.specs.declared.reading.Open.{Open}
@@ -25,8 +25,10 @@ use Rattle.site_maps.specs.declared.reading.Open.TheVariants.{Page, Robots}
 use Rattle.site_maps.specs.declared.reading.Reading.{Reading}
 use Rattle.site_maps.specs.RuleLines.{file_head, file_line}
 use Rattle.site_maps.specs.Lines.{Statement, skipped, page, edge, moved, leaf, fault, robots, closed, rule}
-use Rattle.site_maps.specs.Maps.{named, edges_below, answers_of, file_below, rules_of, is_between, is_ruling, HasAbove, HasRobots, IsPage, IsRobots, IsInPlace, IsNamed, IsAtRoot, IsRepeated, IsGood, texts_of}
-use Rattle.site_maps.specs.Readings.{opened, opened_rules, answers_in, all_rules, IsFresh, TellsAnswers, TellsRules, Tells, IsWrong, IsTaken, Closes, Adds, Takes}
+use Rattle.site_inputs.specs.Names.{named, IsNamed}
+use Rattle.site_maps.specs.Maps.{edges_below, answers_of, file_below, rules_of, is_between, is_ruling, HasAbove, HasRobots, IsPage, IsRobots, IsInPlace, IsAtRoot, IsRepeated, IsGood, texts_of}
+use Rattle.site_maps.specs.inner.Readings.{opened, opened_rules, answers_in, all_rules, IsFresh, TellsAnswers, TellsRules, Tells, IsWrong, IsTaken, Closes, Adds, Takes}
+use Rattle.site_inputs.proofs.NameLaws.{names}
 use Rattle.site_maps.proofs.MapLaws.{snoc_same, edges_below-go, answers_of-append, answers_of-skipped, answers_of-open, file_below-go, file_below-skipped, rules_of-append, rules_of-skipped, rules_of-open, head_above, still_above, was_above, ends_above, page_apart, robots_apart}
 
 -- ---- entries for a key
@@ -119,10 +121,6 @@ not_repeated_rules above s origin r bare shape none (inr h) = apart_from (rules_
 pub not_repeated_bare : (above : List Statement) (s : Statement) → answers_of (s ∷ []) ≡ [] → rules_of (s ∷ []) ≡ [] → ¬ IsRepeated above s
 not_repeated_bare above s bare empty (inl h) = let k = rw bare at h.1 in cc
 not_repeated_bare above s bare empty (inr h) = let k = rw empty at h.1 in cc
-
--- what reads as an address is named by it
-pub names : (text address : List ℕ) → read_address text ≡ Ok address → IsNamed text × (named text ≡ address)
-names text address e = (rw e refl, rw e refl)
 
 -- ---- one more line: the answers
 

@@ -6,9 +6,11 @@ use Rattle.std.specs.Str.{bytes_eq}
 use Rattle.fetcher.specs.declared.edge.EdgeKind.TheVariants.{Link, Inline, Redirect}
 use Rattle.fetcher.specs.declared.fault_kind.FaultKind.TheVariants.{BodyLong}
 use Rattle.site_maps.specs.declared.rule_kind.RuleKind.TheVariants.{Allow, Disallow}
+use Rattle.fetcher.specs.FaultWords.{word_of}
 use Rattle.fetcher.proofs.FaultLaws.{kind_of, kind_of-word_of}
 use Rattle.site_maps.specs.RuleLines.{file_line}
-use Rattle.site_maps.specs.Lines.{Statement, skipped, page, edge, moved, leaf, fault, robots, closed, rule, fields, three_digits, IsForm, SaysRule}
+use Rattle.site_maps.specs.Lines.{Statement, skipped, page, edge, moved, leaf, fault, robots, closed, rule, three_digits, IsForm, SaysRule}
+use Rattle.site_inputs.specs.Fields.{fields}
 
 -- each form, with one line that has it
 pub record AreForms : Type 0 where
@@ -27,12 +29,13 @@ pub record AreForms : Type 0 where
   pub empty_address : IsForm (fields (codes "page 200 ")) (page 200 [])
 
 pub forms : AreForms
+unfolding word_of
 forms = record {
-  page_line = (codes "200", refl, refl, lit≤ tt, lit≤ tt);
-  last_page = (codes "299", refl, refl, lit≤ tt, lit≤ tt);
+  page_line = (codes "200", refl, refl, refl);
+  last_page = (codes "299", refl, refl, refl);
   link_line = refl;
   inline_line = refl;
-  moved_line = (codes "301", refl, refl, inl refl);
+  moved_line = (codes "301", refl, refl, refl);
   leaf_line = (codes "404", refl, refl, lit≤ tt);
   last_leaf = (codes "999", refl, refl, lit≤ tt);
   fault_line = refl;
@@ -40,7 +43,7 @@ forms = record {
   closed_line = refl;
   allow_line = (refl, inr refl);
   bare_rule = (refl, inl refl);
-  empty_address = (codes "200", refl, refl, lit≤ tt, lit≤ tt);
+  empty_address = (codes "200", refl, refl, refl);
 }
 
 -- a rule line in a robots file
@@ -66,7 +69,7 @@ said_by _ = None
 said_by-form : (fs : List (List ℕ)) (s : Statement) → IsForm fs s → said_by fs ≡ Some s
 unfolding said_by
 said_by-form fs skipped h = absurd h
-said_by-form fs (page status text) (number, e, value, low, high) = ap said_by e ∙ ap (option_map (λ n. page n text)) value
+said_by-form fs (page status text) (number, e, value, succeeds) = ap said_by e ∙ ap (option_map (λ n. page n text)) value
 said_by-form fs (edge Link text) e = ap said_by e
 said_by-form fs (edge Inline text) e = ap said_by e
 said_by-form fs (edge Redirect text) h = absurd h

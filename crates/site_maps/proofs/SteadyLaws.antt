@@ -7,6 +7,7 @@ use Rattle.std.specs.Str.{bytes_eq}
 use Rattle.fetcher.specs.declared.answer.Answer.{Answer}
 use Rattle.fetcher.specs.declared.outcome.Outcome.{Outcome}
 use Rattle.fetcher.specs.declared.outcome.Outcome.TheVariants.{Page, Moved, Leaf, Fault}
+use Rattle.fetcher.specs.declared.status.TheConstants.{NOT_FOUND}
 use Rattle.fetcher.specs.Outcomes.{is_fault}
 use Rattle.fetcher.specs.Sites.{SiteAnswers, GivesOutcome, unless_fault, without_faults}
 use Rattle.site_maps.specs.MapSites.{has_fault}
@@ -19,14 +20,14 @@ or_parts false b h = (refl, h)
 
 -- the same of one look-up
 never_at : (test : List ℕ → Bool) (answers : List (List ℕ × Outcome)) → list_any is_fault (values_of answers) ≡ false
-    → is_fault (unwrap_or (lookup test answers) (Leaf 404)) ≡ false
+    → is_fault (unwrap_or (lookup test answers) (Leaf NOT_FOUND)) ≡ false
 never_at test [] h = refl
 never_at test (a ∷ more) h =
     let both = or_parts (is_fault a.1) (list_any is_fault (values_of more)) h in
     first (test a.0) a.1 (lookup test more) both.0 (never_at test more both.1)
   where
-    first : (b : Bool) (x : Outcome) (rest : Option Outcome) → is_fault x ≡ false → is_fault (unwrap_or rest (Leaf 404)) ≡ false
-        → is_fault (unwrap_or (cond b (Some x) rest) (Leaf 404)) ≡ false
+    first : (b : Bool) (x : Outcome) (rest : Option Outcome) → is_fault x ≡ false → is_fault (unwrap_or rest (Leaf NOT_FOUND)) ≡ false
+        → is_fault (unwrap_or (cond b (Some x) rest) (Leaf NOT_FOUND)) ≡ false
     first true x rest here later = here
     first false x rest here later = later
 

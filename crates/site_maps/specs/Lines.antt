@@ -1,11 +1,13 @@
 -- What one line of a map says.
-use Rattle.std.specs.Prelude.{◌≡◌, ℕ, ◌+◌, ◌-◌, ◌*◌, ◌≤◌, ◌⊎◌, ◌==◌, ◌&&◌, List, [], ◌∷◌, ◌++◌, Option, Some, None, slice_index, codes, IsUtf8, if◌then◌else◌}
-use Rattle.std.specs.List.{slice_split}
+use Rattle.std.specs.Prelude.{◌≡◌, ℕ, ◌+◌, ◌-◌, ◌*◌, ◌≤◌, ◌⊎◌, ◌&&◌, List, [], ◌∷◌, ◌++◌, Option, Some, None, slice_index, codes, IsTrue, IsUtf8, if◌then◌else◌}
 use Rattle.std.specs.Char.{is_ascii_digit}
 use Rattle.fetcher.specs.declared.edge.EdgeKind.{EdgeKind}
 use Rattle.fetcher.specs.declared.edge.EdgeKind.TheVariants.{Link, Inline, Redirect}
 use Rattle.fetcher.specs.declared.fault_kind.FaultKind.{FaultKind}
 use Rattle.fetcher.specs.FaultWords.{word_of}
+use Rattle.fetcher.specs.Statuses.{is_redirect, is_successful}
+use Rattle.fetcher.specs.declared.status.TheConstants.{FIRST_SUCCESS}
+use Rattle.site_inputs.specs.Fields.{fields}
 use Rattle.site_maps.specs.declared.rule_kind.RuleKind.{RuleKind}
 use Rattle.site_maps.specs.RuleLines.{rule_word}
 
@@ -30,10 +32,6 @@ pub data Statement : Type 0 where
   -- the origin above has one more rule of this kind; this stands behind its word
   rule : RuleKind → List ℕ → Statement
 
--- the fields of a line: what stands between its spaces
-abbrev pub fields : List ℕ → List (List ℕ)
-fields line = slice_split (λ b. b == 32) line
-
 -- the value of three decimal digits; other texts have none
 abbrev pub three_digits : List ℕ → Option ℕ
 three_digits (a ∷ b ∷ c ∷ []) =
@@ -42,22 +40,18 @@ three_digits (a ∷ b ∷ c ∷ []) =
     else None
 three_digits _ = None
 
--- the statuses of redirects (RFC 9110, section 15.4)
-abbrev pub IsRedirect : ℕ → Type 0
-IsRedirect status = (status ≡ 301) ⊎ (status ≡ 302) ⊎ (status ≡ 303) ⊎ (status ≡ 307) ⊎ (status ≡ 308)
-
 -- the fields of a line that is neither empty nor a comment say this
 abbrev pub IsForm : List (List ℕ) → Statement → Type 0
 IsForm fs skipped = ⊥
 IsForm fs (page status text) =
-    (number : List ℕ) × (fs ≡ codes "page" ∷ number ∷ text ∷ []) × (three_digits number ≡ Some status) × (200 ≤ status) × (status ≤ 299)
+    (number : List ℕ) × (fs ≡ codes "page" ∷ number ∷ text ∷ []) × (three_digits number ≡ Some status) × IsTrue (is_successful status)
 IsForm fs (edge Link text) = fs ≡ codes "link" ∷ text ∷ []
 IsForm fs (edge Inline text) = fs ≡ codes "inline" ∷ text ∷ []
 IsForm fs (edge Redirect text) = ⊥
 IsForm fs (moved status text target) =
-    (number : List ℕ) × (fs ≡ codes "moved" ∷ number ∷ text ∷ target ∷ []) × (three_digits number ≡ Some status) × IsRedirect status
+    (number : List ℕ) × (fs ≡ codes "moved" ∷ number ∷ text ∷ target ∷ []) × (three_digits number ≡ Some status) × IsTrue (is_redirect status)
 IsForm fs (leaf status text) =
-    (number : List ℕ) × (fs ≡ codes "leaf" ∷ number ∷ text ∷ []) × (three_digits number ≡ Some status) × (200 ≤ status)
+    (number : List ℕ) × (fs ≡ codes "leaf" ∷ number ∷ text ∷ []) × (three_digits number ≡ Some status) × (FIRST_SUCCESS ≤ status)
 IsForm fs (fault kind text) = fs ≡ codes "fault" ∷ word_of kind ∷ text ∷ []
 IsForm fs (robots text) = fs ≡ codes "robots" ∷ text ∷ []
 IsForm fs (closed text) = fs ≡ codes "robots" ∷ text ∷ codes "none" ∷ []

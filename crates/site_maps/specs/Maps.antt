@@ -1,18 +1,20 @@
 -- What the lines of a map say together, and the first bad line.
-use Rattle.std.specs.Prelude.{◌≡◌, ℕ, ◌+◌, ◌⊎◌, ◌==◌, ◌++◌, Bool, true, false, List, [], ◌∷◌, Some, All, IsOk, IsSome, IsTrue, take, slice_get, unwrap_or, codes}
+use Rattle.std.specs.Prelude.{◌≡◌, ℕ, ◌+◌, ◌⊎◌, ◌==◌, ◌++◌, Bool, true, false, List, [], ◌∷◌, Some, All, IsSome, IsTrue, take, slice_get, unwrap_or, codes}
 use Rattle.std.specs.List.{slice_split, AllZip}
-use Rattle.std.specs.Result.{result_unwrap_or}
 use Rattle.std.specs.Map.{lookup}
 use Rattle.std.specs.Str.{bytes_eq}
-use Rattle.address.specs.Address.{read_address, origin_of, path_query_of}
+use Rattle.address.specs.Address.{origin_of, path_query_of}
 use Rattle.robots_rules.specs.Access.{RuleSetValue}
 use Rattle.robots_rules.specs.Groups.{rules_in}
 use Rattle.fetcher.specs.declared.edge.Edge.{Edge}
 use Rattle.fetcher.specs.declared.outcome.Outcome.{Outcome}
 use Rattle.fetcher.specs.declared.outcome.Outcome.TheVariants.{Page, Moved, Leaf, Fault}
-use Rattle.site_maps.specs.declared.input_fault.InputFault.{InputFault}
-use Rattle.site_maps.specs.declared.input_fault.InputFault.TheVariants.{Line, Address, Memory}
+use Rattle.fetcher.specs.declared.status.TheConstants.{NOT_FOUND}
+use Rattle.site_inputs.specs.declared.input_fault.InputFault.{InputFault}
+use Rattle.site_inputs.specs.declared.input_fault.InputFault.TheVariants.{Line, Address, Memory}
 use Rattle.fetcher.specs.Sites.{SiteAnswers}
+use Rattle.site_inputs.specs.Tables.{rules_at}
+use Rattle.site_inputs.specs.Names.{named, IsNamed}
 use Rattle.site_maps.specs.RuleLines.{file_head, file_line}
 use Rattle.site_maps.specs.Lines.{Statement, skipped, page, edge, moved, leaf, fault, robots, closed, rule, HasForm}
 
@@ -21,10 +23,6 @@ abbrev pub lines_of : List ℕ → List (List ℕ)
 lines_of text = slice_split (λ b. b == 10) text
 
 -- ---- what is stated
-
--- the address as which a text reads
-abbrev pub named : List ℕ → List ℕ
-named text = result_unwrap_or (read_address text) []
 
 -- the edges that these lines give the page above them: those before the next line of another kind
 abbrev pub edges_below : List Statement → List Edge
@@ -56,13 +54,9 @@ rules_of (robots text ∷ more) = (origin_of (named text), rules_in (file_head +
 rules_of (closed text ∷ more) = (origin_of (named text), record { closed = true; rules = [] }) ∷ rules_of more
 rules_of (other ∷ more) = rules_of more
 
--- what a map of these answers says of an address: what it states, and status 404 of an address that it doesn't name
+-- what a map of these answers says of an address: what it states, and not found of an address that it doesn't name
 abbrev pub outcome_in : List (List ℕ × Outcome) → List ℕ → Outcome
-outcome_in answers at = unwrap_or (lookup (bytes_eq at) answers) (Leaf 404)
-
--- what a map of these rule sets says of an origin: what it states, and that everything is allowed at one that it doesn't name
-abbrev pub rules_at : List (List ℕ × RuleSetValue) → List ℕ → RuleSetValue
-rules_at rules of = unwrap_or (lookup (bytes_eq of) rules) (record { closed = false; rules = [] })
+outcome_in answers at = unwrap_or (lookup (bytes_eq at) answers) (Leaf NOT_FOUND)
 
 -- what a map of these answers and these rule sets says
 abbrev pub says_of : List (List ℕ × Outcome) → List (List ℕ × RuleSetValue) → SiteAnswers
@@ -109,10 +103,6 @@ abbrev pub IsInPlace : List Statement → Statement → Type 0
 IsInPlace above (edge kind text) = HasPage above
 IsInPlace above (rule kind rest) = HasRobots above
 IsInPlace above other = Unit {0}
-
--- the text reads as an address (URL Standard, section 4.4)
-abbrev pub IsNamed : List ℕ → Type 0
-IsNamed text = IsOk (read_address text)
 
 -- the address texts of a line, from the left
 abbrev pub texts_of : Statement → List (List ℕ)

@@ -1,16 +1,6 @@
 //! Fields of a map's line, which stand between single spaces.
-ghost use Rattle.std.specs.Prelude.{◌≡◌, ℕ, List, [], ◌∷◌, ◌++◌, ◌↔◌, IsTrue, MatchOption};
-ghost use Rattle.site_maps.specs.Lines.{fields, three_digits, IsRedirect, IsBehind};
-
-/// The first field of a text, and what follows its space, if there is one. Takes no memory.
-pub fn first_field(text: &str) -> (&str, Option<&str>)
-    ensures { MatchOption result.1 (fields text.now ≡ result.0.now ∷ []) (λ rest. fields text.now ≡ result.0.now ∷ fields rest.now) }
-{
-    match text.split_once(' ') {
-        Some((field, rest)) => (field, Some(rest)),
-        None => (text, None),
-    }
-}
+ghost use Rattle.std.specs.Prelude.{◌≡◌, ℕ, List, MatchOption};
+ghost use Rattle.site_maps.specs.Lines.{three_digits, IsBehind};
 
 // What stands behind the word that a text begins with: nothing, or a space and more.
 pub(crate) fn behind_word<'a>(text: &'a str, word: &str) -> Option<&'a str>
@@ -33,11 +23,4 @@ pub(crate) fn three_digits(text: &str) -> Option<u16>
         }
         _ => None,
     }
-}
-
-// Whether a status is that of a redirect.
-pub(crate) fn is_redirect(status: u16) -> bool
-    ensures { IsTrue result ↔ IsRedirect status }
-{
-    matches!(status, 301 | 302 | 303 | 307 | 308)
 }

@@ -1,7 +1,7 @@
 //! The addresses that a map's lines have named.
-use crate::input_fault::InputLineFault;
 use address::Address;
 use indexmap::IndexMap;
+use site_inputs::InputLineFault;
 use std::alloc::Global;
 use std::marker::Model;
 
@@ -14,7 +14,7 @@ pub(crate) struct KnownAddresses<'a> {
 }
 
 impl<'a> Model for KnownAddresses<'a> {
-    ghost use Rattle.site_maps.specs.Known.{Known, AreRead};
+    ghost use Rattle.site_maps.specs.inner.Known.{Known, AreRead};
 
     ghost Value = { Known };
 
@@ -24,7 +24,7 @@ impl<'a> Model for KnownAddresses<'a> {
 }
 
 impl<'a> KnownAddresses<'a> {
-    ghost use Rattle.site_maps.specs.Known.{Names};
+    ghost use Rattle.site_inputs.specs.Names.{Names};
 
     /// None yet. Takes no memory.
     pub(crate) fn new(alloc: Global) -> Self {

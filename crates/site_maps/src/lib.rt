@@ -4,20 +4,16 @@
 #![tactic(auto)]
 
 mod field;
-mod input_fault;
-mod kept_rules;
 mod known;
 mod map_line;
 mod map_site;
-mod naming;
 mod open_robots;
 mod reading;
 mod rule_kind;
 mod steady_map;
 
-pub use field::first_field;
-pub use input_fault::{InputFault, InputLineFault};
-pub use kept_rules::KeptRules;
 pub use map_site::MapSite;
-pub use naming::{read_address, read_origin};
+pub use site_inputs::{
+    InputFault, InputLineFault, KeptRules, first_field, read_address, read_origin,
+};
 pub use steady_map::SteadyMap;

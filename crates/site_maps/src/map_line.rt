@@ -1,7 +1,8 @@
 //! Lines of a map: what each says by itself.
-use crate::field::{behind_word, first_field, is_redirect, three_digits};
+use crate::field::{behind_word, three_digits};
 use crate::rule_kind::RuleKind;
-use fetcher::{EdgeKind, FaultKind};
+use fetcher::{EdgeKind, FIRST_SUCCESS, FaultKind, is_redirect, is_successful};
+use site_inputs::first_field;
 
 /// What a line of a map says. Addresses are texts of the line, not read yet.
 #[derive(Drop)]
@@ -30,8 +31,9 @@ impl<'a> MapLine<'a> {
     ghost use Rattle.std.specs.Prelude.{◌≡◌, ℕ, List, [], ◌∷◌, MatchOption};
     ghost use Rattle.site_maps.specs.declared.rule_kind.RuleKind.{RuleKind};
     ghost use Rattle.site_maps.specs.RuleLines.{rule_word};
-    ghost use Rattle.site_maps.specs.Lines.{Statement, fields, three_digits, IsForm, HasForm, IsBehind, SaysRule};
-    ghost use Rattle.site_maps.specs.Said.{said};
+    ghost use Rattle.site_maps.specs.Lines.{Statement, three_digits, IsForm, HasForm, IsBehind, SaysRule};
+    ghost use Rattle.site_inputs.specs.Fields.{fields};
+    ghost use Rattle.site_maps.specs.inner.Said.{said};
 
     /// What a line says, or none where it has no form.
     pub(crate) fn of(line: &'a str) -> Option<MapLine<'a>>
@@ -96,13 +98,11 @@ impl<'a> MapLine<'a> {
     {
         match word {
             "page" => match three_digits(second) {
-                Some(status) if 200 <= status && status <= 299 => {
-                    Some(MapLine::Page(status, third))
-                }
+                Some(status) if is_successful(status) => Some(MapLine::Page(status, third)),
                 _ => None,
             },
             "leaf" => match three_digits(second) {
-                Some(status) if 200 <= status => Some(MapLine::Leaf(status, third)),
+                Some(status) if FIRST_SUCCESS <= status => Some(MapLine::Leaf(status, third)),
                 _ => None,
             },
             "fault" => match FaultKind::of_word(second) {

@@ -1,19 +1,15 @@
 //! Sites that are read from a map.
-use crate::input_fault::InputFault;
-use crate::kept_rules::KeptRules;
 use crate::known::KnownAddresses;
 use crate::reading::Reading;
 use crate::steady_map::SteadyMap;
 use address::{Address, Origin};
-use fetcher::{Answer, Ask, Body, Fetcher, Outcome};
+use fetcher::{Answer, Ask, Body, Fetcher, NOT_FOUND, Outcome};
 use indexmap::IndexMap;
 use robots_rules::RuleSet;
+use site_inputs::{InputFault, KeptRules};
 use std::alloc::{AllocError, Global};
 use std::marker::Model;
 use std::sync::Arc;
-
-/// The status of an address that a map doesn't name: Not Found (RFC 9110, section 15.5.5).
-const NOT_FOUND: u16 = 404;
 
 // What a map states.
 #[derive(Drop)]
@@ -45,8 +41,9 @@ impl MapSite {
     ghost use Rattle.std.specs.Prelude.{◌≡◌, [], true, false, List, IfOk, IfErr};
     ghost use Rattle.site_maps.specs.MapSites.{has_fault};
     ghost use Rattle.site_maps.specs.Lines.{Statement};
-    ghost use Rattle.site_maps.specs.Maps.{lines_of, IsMap, answers_of, rules_of, outcome_in, rules_at, IsFault};
-    ghost use Rattle.site_maps.specs.Readings.{IsFresh, answers_in, all_rules};
+    ghost use Rattle.site_maps.specs.Maps.{lines_of, IsMap, answers_of, rules_of, outcome_in, IsFault};
+    ghost use Rattle.site_inputs.specs.Tables.{rules_at};
+    ghost use Rattle.site_maps.specs.inner.Readings.{IsFresh, answers_in, all_rules};
 
     /// Reads a map. Each page, moved, leaf and fault line states the outcome of an address, and
     /// each robots line the rules of an origin; edge lines give edges to the page above them, and

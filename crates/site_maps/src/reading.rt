@@ -1,20 +1,19 @@
 //! A map in mid-read: the answers and the rule sets that the lines so far state.
 ghost use Rattle.std.specs.Prelude.{[], OnOk};
 ghost use Rattle.site_maps.specs.Lines.{page, edge, moved, leaf, fault, robots, closed, rule};
-ghost use Rattle.site_maps.specs.Said.{said};
-ghost use Rattle.site_maps.specs.Readings.{IsFresh, IsVacant, Tells, Closes, Claims, ClaimsOrigin, Adds, Takes, Reads};
+ghost use Rattle.site_maps.specs.inner.Said.{said};
+ghost use Rattle.site_maps.specs.inner.Readings.{IsFresh, Tells, Closes, Claims, ClaimsOrigin, Adds, Takes, Reads};
+ghost use Rattle.site_inputs.specs.inner.Tables.{IsVacant};
 
-use crate::input_fault::InputLineFault;
-use crate::kept_rules::KeptRules;
 use crate::known::KnownAddresses;
 use crate::map_line::MapLine;
-use crate::naming::read_origin;
 use crate::open_robots::OpenRobots;
 use crate::rule_kind::RuleKind;
 use address::{Address, Origin};
 use fetcher::{Edge, EdgeKind, Edges, FaultKind, Outcome};
 use indexmap::IndexMap;
 use robots_rules::RuleSet;
+use site_inputs::{InputLineFault, KeptRules, read_origin};
 use std::alloc::{AllocError, Global};
 use std::str;
 

@@ -3,16 +3,16 @@ use Rattle.std.proofs.Common.{◌≡◌, ◌≢◌, ℕ, zero, suc, ◌+◌, ◌
 use Rattle.std.specs.Prelude.{Ok, Err}
 use Rattle.std.specs.Option.{is_some}
 use Rattle.address.specs.Address.{AddressText, OriginText, read_address}
-use Rattle.site_maps.proofs.ReadingLaws.{names}
-use Rattle.site_answer.specs.Chains.{max_redirects}
-use Rattle.site_answer.specs.Tellings.{target_told}
-use Rattle.site_answer.specs.HopChains.{HopValue, AreHops, IsAdmitted, robots_file}
-use Rattle.site_maps.specs.declared.input_fault.InputLineFault.{InputLineFault}
-use Rattle.site_maps.specs.declared.input_fault.InputLineFault.TheVariants.{Line, Address, Memory}
-use Rattle.site_maps.specs.Maps.{IsNamed}
+use Rattle.site_inputs.proofs.NameLaws.{names}
+use Rattle.answer_notes.specs.RobotsAnswers.{max_redirects}
+use Rattle.answer_notes.specs.Tellings.{target_told}
+use Rattle.answer_notes.specs.HopChains.{HopValue, AreHops, IsAdmitted, robots_file}
+use Rattle.site_inputs.specs.declared.input_fault.InputLineFault.{InputLineFault}
+use Rattle.site_inputs.specs.declared.input_fault.InputLineFault.TheVariants.{Line, Address, Memory}
+use Rattle.site_inputs.specs.Names.{IsNamed}
 use Rattle.site_records.specs.EntryLines.{HopStatement, HasHopForm, hop_text, IsHopCount}
 use Rattle.site_records.specs.Entries.{IsLine, more_hops, IsHop, IsBegun, AreLed, due, chain_start, BeginsHop}
-use Rattle.site_records.specs.Readings.{AddsHop, IsWrongHop, IsBadHop, NamesDue}
+use Rattle.site_records.specs.inner.Readings.{AddsHop, IsWrongHop, IsBadHop, NamesDue}
 use Rattle.std.specs.Str.{IsUtf8}
 use Rattle.site_records.proofs.EntryLaws.{same_line}
 

@@ -14,11 +14,11 @@ use Rattle.fetcher.specs.FaultWords.{word_of}
 use Rattle.response_reader.specs.Heads.{max_heads_len}
 use Rattle.response_reader.specs.Response.{ResponseParts, CanBeGiven}
 use Rattle.response_reader.specs.Written.{head_text, response_text}
-use Rattle.site_answer.specs.Chains.{max_redirects}
-use Rattle.site_answer.specs.HopChains.{HopValue, IsAdmitted, robots_file}
-use Rattle.site_answer.specs.declared.told.Told.TheVariants as told
-use Rattle.site_answer.specs.declared.noted.Noted.{Noted}
-use Rattle.site_answer.specs.declared.noted.Noted.TheVariants as noted
+use Rattle.answer_notes.specs.RobotsAnswers.{max_redirects}
+use Rattle.answer_notes.specs.HopChains.{HopValue, IsAdmitted, robots_file}
+use Rattle.answer_notes.specs.declared.told.Told.TheVariants as told
+use Rattle.answer_notes.specs.declared.noted.Noted.{Noted}
+use Rattle.answer_notes.specs.declared.noted.Noted.TheVariants as noted
 use Rattle.site_records.specs.declared.version.Version.TheVariants.{Second}
 use Rattle.site_records.specs.EntryLines.{page, chain, hop, hopfault}
 use Rattle.site_records.specs.Entries.{IsLine, HasBytes}

@@ -3,13 +3,13 @@ use Rattle.std.proofs.Common.{◌≡◌, ℕ, ◌++◌, ◌∙◌, Bool, true, f
 use Rattle.std.specs.Prelude.{All, filter, flat_map, not}
 use Rattle.std.proofs.lemmas.List.Elements.{All-nil, All-cons, All-append}
 use Rattle.std.proofs.lemmas.Grind.{flat_map-append}
-use Rattle.site_answer.specs.declared.noted.Noted.{Noted}
+use Rattle.answer_notes.specs.declared.noted.Noted.{Noted}
 use Rattle.site_records.specs.declared.written_record.Named.{Named}
 use Rattle.site_records.specs.declared.version.Version.TheVariants.{Second}
 use Rattle.site_records.specs.Records.{version_line}
 use Rattle.site_records.specs.WrittenEntries.{note_text, written_note, has_short_heads, IsNote}
 use Rattle.site_records.specs.WrittenRecords.{is_repeated, firsts_behind, written_notes, record_text}
-use Rattle.site_records.specs.RecordDrafts.{AreNamed, IsDraft}
+use Rattle.site_records.specs.inner.RecordDrafts.{AreNamed, IsDraft}
 
 filter_push : (ns more : List Noted) → filter has_short_heads (ns ++ more) ≡ filter has_short_heads ns ++ filter has_short_heads more
 filter_push [] more = refl

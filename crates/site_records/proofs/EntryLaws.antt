@@ -11,18 +11,18 @@ use Rattle.robots_rules.specs.Access.{RuleSetValue}
 use Rattle.robots_rules.specs.Groups.{rules_in}
 use Rattle.fetcher.specs.declared.answer.Answer.{Answer}
 use Rattle.fetcher.specs.declared.fault_kind.FaultKind.{FaultKind}
-use Rattle.site_maps.specs.declared.input_fault.InputLineFault.{InputLineFault}
-use Rattle.site_maps.specs.declared.input_fault.InputLineFault.TheVariants.{Line, Address, Memory}
-use Rattle.site_maps.specs.Maps.{named, IsNamed}
-use Rattle.site_maps.proofs.ReadingLaws.{names}
+use Rattle.site_inputs.specs.declared.input_fault.InputLineFault.{InputLineFault}
+use Rattle.site_inputs.specs.declared.input_fault.InputLineFault.TheVariants.{Line, Address, Memory}
+use Rattle.site_inputs.specs.Names.{named, IsNamed}
+use Rattle.site_inputs.proofs.NameLaws.{names}
 use Rattle.site_records.specs.declared.reading.Reading.{Reading}
 use Rattle.site_records.specs.EntryLines.{Statement, page, fault, file, free, closed, chain, IsForm, HasForm, text_of, HopStatement, hop, hopfault}
 use Rattle.site_records.specs.Entries.{Entry, answered, ruled, chained, lines_of, no_response, HasBytes, IsLine, IsReadAs, States, IsAtRoot, Begins, IsRepeated, HasItsBytes, AreHopsOf, no_hops, more_hops, IsHop, Tells, IsBadRow, IsBadBehind, LeadsOn}
-use Rattle.site_records.specs.RecordNotes.{AddsNote}
-use Rattle.site_records.specs.Readings.{Adds, AddsLines, IsWrong, IsWrongAt, IsWrongChain, IsBadHop, Takes, TakesEntry, IsAlone, IsBad, Reads, lines_to, IsCounted}
+use Rattle.site_records.specs.inner.RecordNotes.{AddsNote}
+use Rattle.site_records.specs.inner.Readings.{Adds, AddsLines, IsWrong, IsWrongAt, IsWrongChain, IsBadHop, Takes, TakesEntry, IsAlone, IsBad, Reads, lines_to, IsCounted}
 use Rattle.address.specs.Address.{AddressText}
-use Rattle.site_answer.specs.HopChains.{HopValue, IsAdmitted, rules_of_hops}
-use Rattle.site_answer.specs.declared.told.Told.{Told}
+use Rattle.answer_notes.specs.HopChains.{HopValue, IsAdmitted, rules_of_hops}
+use Rattle.answer_notes.specs.declared.told.Told.{Told}
 use Rattle.site_records.specs.declared.entry_fault.EntryFault.{EntryFault}
 use Rattle.site_records.specs.declared.entry_fault.EntryFault.TheVariants.{Own, Hop}
 use Rattle.site_records.specs.declared.taken.Taken.{Taken}

@@ -8,8 +8,8 @@ use Rattle.std.proofs.lemmas.List.Folds.{list_all_at}
 use Rattle.std.proofs.lemmas.Grind.{flat_map-append}
 use Rattle.response_reader.specs.Response.{ResponseParts}
 use Rattle.response_reader.specs.Written.{head_text, response_text}
-use Rattle.site_answer.specs.HopChains.{HopValue}
-use Rattle.site_answer.specs.declared.noted.Noted.TheVariants.{Chain}
+use Rattle.answer_notes.specs.HopChains.{HopValue}
+use Rattle.answer_notes.specs.declared.noted.Noted.TheVariants.{Chain}
 use Rattle.site_records.specs.WrittenEntries.{line_of_three, counted_entry, chain_line, is_short, told_text, hop_entry, written_note, IsToldOf}
 
 -- what follows of a fact does where a call succeeds

@@ -8,9 +8,9 @@ use Rattle.std.proofs.lemmas.List.{take_all, take-take, take_min, length-take}
 use Rattle.std.proofs.lemmas.List.Elements.{All-nil}
 use Rattle.std.proofs.lemmas.List.Sums.{AllPass-from_list_all}
 use Rattle.httparse.specs.Grammar.{IsField, crlf, is_value_byte, ResponseHead, IsResponseHead, print_response}
-use Rattle.site_answer.specs.Chains.{rules_by_status, all_allowed}
-use Rattle.site_answer.specs.Tellings.{rules_told}
-use Rattle.site_answer.specs.declared.told.Told.TheVariants.{Whole}
+use Rattle.answer_notes.specs.RobotsAnswers.{rules_by_status, all_allowed}
+use Rattle.answer_notes.specs.Tellings.{rules_told}
+use Rattle.answer_notes.specs.declared.told.Told.TheVariants.{Whole}
 use Rattle.response_reader.specs.Fields.{framing_of, parts_of}
 use Rattle.response_reader.specs.Bodies.{max_body_len}
 use Rattle.response_reader.specs.Response.{ResponseParts, CanBeGiven}

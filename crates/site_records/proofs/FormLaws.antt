@@ -2,7 +2,7 @@
 use Rattle.std.proofs.Common.{◌≡◌, ◌≢◌, ℕ, ◌≤◌, ◌<◌, ◌^◌, ◌-◌, Bool, true, false, ◌&&◌, ◌||◌, ◌∙◌, List, [], ◌∷◌, Some, Err, length, min, refl, sym, ap, inl, inr, arith, rules}
 use Rattle.std.specs.Prelude.{nat_lt, codes, not}
 use Rattle.std.specs.Str.{bytes_eq}
-use Rattle.site_maps.specs.Lines.{fields}
+use Rattle.site_inputs.specs.Fields.{fields}
 use Rattle.site_records.specs.declared.version.Version.{Version}
 use Rattle.site_records.specs.declared.version.Version.TheVariants.{First, Second}
 use Rattle.std.specs.Char.{is_ascii_digit}

@@ -3,13 +3,13 @@ use Rattle.std.proofs.Common.{◌≡◌, ◌≢◌, ℕ, ◌+◌, ◌++◌, ◌�
 use Rattle.std.specs.Str.{bytes_eq}
 use Rattle.std.proofs.lemmas.List.{take-append-drop}
 use Rattle.std.proofs.lemmas.Slice.Eq.{bytes_eq-Decides}
-use Rattle.site_maps.specs.declared.input_fault.InputLineFault.TheVariants.{Line, Address, Memory}
+use Rattle.site_inputs.specs.declared.input_fault.InputLineFault.TheVariants.{Line, Address, Memory}
 use Rattle.site_records.specs.declared.entry_fault.EntryFault.{EntryFault}
 use Rattle.site_records.specs.declared.entry_fault.EntryFault.TheVariants.{Own, Hop}
 use Rattle.site_records.specs.declared.version.Version.{Version}
 use Rattle.site_records.specs.declared.reading.Reading.{Reading}
 use Rattle.site_records.specs.Entries.{IsBadLine, IsBadAddress}
-use Rattle.site_records.specs.Readings.{IsBad, fault_at}
+use Rattle.site_records.specs.inner.Readings.{IsBad, fault_at}
 use Rattle.site_records.specs.Fronts.{HasNoLine, IsTorn, IsBadWhole, IsFrontFault, HasFront}
 use Rattle.site_records.proofs.ReadLaws.{IsReadTo, first_bad_at}
 

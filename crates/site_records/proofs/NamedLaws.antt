@@ -3,10 +3,10 @@ use Rattle.std.proofs.Common.{◌≡◌, ℕ, ◌++◌, ◌∙◌, Bool, true, f
 use Rattle.std.specs.List.{list_any}
 use Rattle.std.specs.Str.{bytes_eq}
 use Rattle.std.proofs.lemmas.List.Folds.{list_any-append}
-use Rattle.site_answer.specs.HopChains.{ChainValue}
-use Rattle.site_answer.specs.declared.told.Told.{Told}
-use Rattle.site_answer.specs.declared.noted.Noted.{Noted}
-use Rattle.site_answer.specs.declared.noted.Noted.TheVariants.{Page, Chain}
+use Rattle.answer_notes.specs.HopChains.{ChainValue}
+use Rattle.answer_notes.specs.declared.told.Told.{Told}
+use Rattle.answer_notes.specs.declared.noted.Noted.{Noted}
+use Rattle.answer_notes.specs.declared.noted.Noted.TheVariants.{Page, Chain}
 use Rattle.site_records.specs.WrittenRecords.{is_page_of, is_chain_of}
 
 abbrev pub has_text : List (Bor (List ℕ)) → Bor (List ℕ) → Bool

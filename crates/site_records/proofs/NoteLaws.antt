@@ -4,14 +4,15 @@ use Rattle.address.specs.Address.{AddressText, OriginText}
 use Rattle.robots_rules.specs.Access.{RuleSetValue}
 use Rattle.fetcher.specs.declared.answer.Answer.{Answer}
 use Rattle.fetcher.specs.declared.fault_kind.FaultKind.{FaultKind}
-use Rattle.site_answer.specs.Tellings.{outcome_told, body_told}
-use Rattle.site_answer.specs.HopChains.{ChainValue, rules_of_hops}
-use Rattle.site_answer.specs.declared.told.Told.{Told}
-use Rattle.site_answer.specs.declared.told.Told.TheVariants as told
-use Rattle.site_answer.specs.declared.noted.Noted.{Noted}
-use Rattle.site_answer.specs.declared.noted.Noted.TheVariants.{Page, Chain}
+use Rattle.answer_notes.specs.Tellings.{outcome_told, body_told}
+use Rattle.answer_notes.specs.HopChains.{ChainValue, rules_of_hops}
+use Rattle.answer_notes.specs.declared.told.Told.{Told}
+use Rattle.answer_notes.specs.declared.told.Told.TheVariants as told
+use Rattle.answer_notes.specs.declared.noted.Noted.{Noted}
+use Rattle.answer_notes.specs.declared.noted.Noted.TheVariants.{Page, Chain}
 use Rattle.site_records.specs.Entries.{Entry, answered, ruled, chained, no_response, IsReadAs, IsToldIn}
-use Rattle.site_records.specs.RecordNotes.{SayJust, AddsNote}
+use Rattle.site_records.specs.RecordNotes.{SayJust}
+use Rattle.site_records.specs.inner.RecordNotes.{AddsNote}
 
 -- what bytes tell is what they answer
 pub read_as_told : (robots : Bool) (at : AddressText) (bytes : List ℕ) (t : Told) (a : Answer) → IsToldIn bytes t → a.outcome ≡ outcome_told robots at t → a.body ≡ body_told t → IsReadAs robots at bytes a

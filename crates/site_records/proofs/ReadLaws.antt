@@ -5,11 +5,11 @@ use Rattle.std.proofs.lemmas.List.{take-append-drop, length-append, map-append}
 use Rattle.std.proofs.lemmas.Bool.{eqb-true}
 use Rattle.std.proofs.lemmas.Slice.Eq.{bytes_eq-Decides}
 use Rattle.std.proofs.Math.Seq.{take-append_seam}
-use Rattle.site_maps.specs.declared.input_fault.InputLineFault.TheVariants.{Line, Address, Memory}
+use Rattle.site_inputs.specs.declared.input_fault.InputLineFault.TheVariants.{Line, Address, Memory}
 use Rattle.address.specs.Address.{AddressText, OriginText}
 use Rattle.robots_rules.specs.Access.{RuleSetValue}
 use Rattle.fetcher.specs.declared.answer.Answer.{Answer}
-use Rattle.site_answer.specs.HopChains.{rules_of_hops}
+use Rattle.answer_notes.specs.HopChains.{rules_of_hops}
 use Rattle.site_records.specs.declared.entry_fault.EntryFault.{EntryFault}
 use Rattle.site_records.specs.declared.entry_fault.EntryFault.TheVariants.{Own, Hop}
 use Rattle.site_records.specs.declared.version.Version.{Version}
@@ -17,10 +17,11 @@ use Rattle.site_records.specs.declared.version.Version.TheVariants.{First, Secon
 use Rattle.site_records.specs.declared.reading.Reading.{Reading}
 use Rattle.site_records.specs.Entries.{Entry, answered, ruled, chained, lines_of, IsEntry, IsNew, IsBadLine, IsBadAddress, IsFormed}
 use Rattle.site_records.specs.Records.{answers_of, rules_of, version_line, IsFront, none, next, IsRecord, line_count, lines_ahead, FirstBad, HasVersion, IsFault}
-use Rattle.site_answer.specs.declared.noted.Noted.{Noted}
+use Rattle.answer_notes.specs.declared.noted.Noted.{Noted}
 use Rattle.site_records.specs.WrittenEntries.{note_entry}
-use Rattle.site_records.specs.RecordNotes.{HasNotes, AddsNote}
-use Rattle.site_records.specs.Readings.{Reads, IsBad, fault_at}
+use Rattle.site_records.specs.RecordNotes.{HasNotes}
+use Rattle.site_records.specs.inner.RecordNotes.{AddsNote}
+use Rattle.site_records.specs.inner.Readings.{Reads, IsBad, fault_at}
 
 -- the entries so far are kept, and this is the rest
 pub record IsReadTo (robots : Bool) (bytes : List ℕ) (reading : Reading) (number : ℕ) (rest : List ℕ) : Type 0 where

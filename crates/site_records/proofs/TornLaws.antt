@@ -5,10 +5,9 @@ use Rattle.std.specs.Str.{bytes_eq}
 use Rattle.std.proofs.lemmas.Bool.{leb-true}
 use Rattle.std.proofs.lemmas.Bool.Decides.{nat_tests}
 use Rattle.std.proofs.lemmas.Option.{slice_get_within}
-use Rattle.site_maps.specs.Lines.{fields}
+use Rattle.site_inputs.specs.Fields.{fields}
 use Rattle.fetcher.specs.declared.fault_kind.FaultKind.{FaultKind}
-use Rattle.fetcher.specs.declared.fault_kind.FaultKind.TheVariants.{Connect, Device, Ended, Head, HeadLong, Length, Coding, Chunk, BodyLong}
-use Rattle.fetcher.specs.FaultWords.{word_of}
+use Rattle.fetcher.proofs.FaultLaws.{kind_of, kind_of-word_of}
 use Rattle.site_records.specs.declared.version.Version.{Version}
 use Rattle.site_records.specs.EntryLines.{Statement, page, fault, file, free, closed, chain, IsForm, HasForm, length_of, HopStatement, hop, hopfault, IsHopForm, HasHopForm}
 use Rattle.site_records.specs.Entries.{IsLine, HasBytes, Begins, BeginsHop}
@@ -17,33 +16,10 @@ use Rattle.site_records.proofs.EntryLaws.{same_line}
 
 -- ---- a line has one form
 
-abbrev kind_named : List ℕ → Option FaultKind
-kind_named w =
-    if bytes_eq w (codes "connect") then Some Connect
-    else (if bytes_eq w (codes "device") then Some Device
-    else (if bytes_eq w (codes "ended") then Some Ended
-    else (if bytes_eq w (codes "head") then Some Head
-    else (if bytes_eq w (codes "head-long") then Some HeadLong
-    else (if bytes_eq w (codes "length") then Some Length
-    else (if bytes_eq w (codes "coding") then Some Coding
-    else (if bytes_eq w (codes "chunk") then Some Chunk
-    else Some BodyLong)))))))
-
-named_kind : (kind : FaultKind) → kind_named (word_of kind) ≡ Some kind
-named_kind Connect = refl
-named_kind Device = refl
-named_kind Ended = refl
-named_kind Head = refl
-named_kind HeadLong = refl
-named_kind Length = refl
-named_kind Coding = refl
-named_kind Chunk = refl
-named_kind BodyLong = refl
-
 abbrev said_as : List ℕ → List ℕ → List ℕ → Option Statement
 said_as w text third =
     if bytes_eq w (codes "page") then option_map (page text) (length_of third)
-    else (if bytes_eq w (codes "fault") then option_map (λ kind. fault kind third) (kind_named text)
+    else (if bytes_eq w (codes "fault") then option_map (λ kind. fault kind third) (kind_of text)
     else (if bytes_eq w (codes "robots") then option_map (file text) (length_of third)
     else (if bytes_eq w (codes "chain") then option_map (chain text) (length_of third)
     else (if bytes_eq text (codes "all") then Some (free third) else Some (closed third)))))
@@ -57,7 +33,7 @@ said_by (w ∷ text ∷ third ∷ more) = said_as w text third
 
 said_once : (fs : List (List ℕ)) (s : Statement) → IsForm fs s → said_by fs ≡ Some s
 said_once fs (page text n) h = ap said_by h.1 ∙ ap (option_map (page text)) h.2
-said_once fs (fault kind text) h = ap said_by h ∙ ap (option_map (λ kind. fault kind text)) (named_kind kind)
+said_once fs (fault kind text) h = ap said_by h ∙ ap (option_map (λ kind. fault kind text)) (kind_of-word_of kind)
 said_once fs (file text n) h = ap said_by h.1 ∙ ap (option_map (file text)) h.2
 said_once fs (free text) h = ap said_by h
 said_once fs (closed text) h = ap said_by h
@@ -68,11 +44,11 @@ abbrev hop_said_by : List (List ℕ) → Option HopStatement
 hop_said_by [] = None
 hop_said_by (w ∷ []) = None
 hop_said_by (w ∷ text ∷ []) = None
-hop_said_by (w ∷ text ∷ third ∷ more) = if bytes_eq w (codes "hop") then option_map (hop text) (length_of third) else option_map (λ kind. hopfault kind third) (kind_named text)
+hop_said_by (w ∷ text ∷ third ∷ more) = if bytes_eq w (codes "hop") then option_map (hop text) (length_of third) else option_map (λ kind. hopfault kind third) (kind_of text)
 
 hop_said_once : (fs : List (List ℕ)) (s : HopStatement) → IsHopForm fs s → hop_said_by fs ≡ Some s
 hop_said_once fs (hop text n) h = ap hop_said_by h.1 ∙ ap (option_map (hop text)) h.2
-hop_said_once fs (hopfault kind text) h = ap hop_said_by h ∙ ap (option_map (λ kind. hopfault kind text)) (named_kind kind)
+hop_said_once fs (hopfault kind text) h = ap hop_said_by h ∙ ap (option_map (λ kind. hopfault kind text)) (kind_of-word_of kind)
 
 same_some : {A : Type 0} (o : Option A) (x y : A) → o ≡ Some x → o ≡ Some y → x ≡ y
 same_some o x y p q = cc

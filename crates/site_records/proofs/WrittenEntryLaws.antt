@@ -1,6 +1,6 @@
 -- What is written of a note is an entry, which states what was noted.
 use Rattle.std.proofs.Common.{◌≡◌, ◌==◌, ℕ, zero, suc, ◌+◌, ◌-◌, ◌^◌, ◌<◌, ◌≤◌, ◌++◌, ◌∙◌, Bool, true, false, ◌&&◌, ◌||◌, cond, List, [], ◌∷◌, Some, None, refl, sym, ap, subst, inl, inr, length, min, arith, append_assoc, append-nil, length-append}
-use Rattle.std.specs.Prelude.{codes, decimal, All, IsOk, slice_index, not, nat_lt, nat_le, flat_map}
+use Rattle.std.specs.Prelude.{codes, decimal, All, IsOk, slice_index, not, nat_lt, nat_le, get_or, flat_map}
 use Rattle.std.specs.List.{position, position_or_len, list_all}
 use Rattle.std.specs.Str.{IsAscii}
 use Rattle.std.specs.Char.{is_ascii_digit}
@@ -11,6 +11,7 @@ use Rattle.std.proofs.lemmas.Option.{slice_get-get_or}
 use Rattle.std.proofs.lemmas.List.{get_or_past, append_cancel_left}
 use Rattle.std.proofs.lemmas.Str.Parse.{digit_from_value}
 use Rattle.std.proofs.lemmas.Str.{IsUtf8-from_ascii}
+use Rattle.std.proofs.lemmas.List.Sums.{AllPass-from_list_all}
 use Rattle.std.proofs.lemmas.List.Splits.{slice_split_at, slice_split_none}
 use Rattle.std.proofs.lemmas.List.Elements.{All-nil, All-cons, All-head, All-tail, All-append, All-weaker}
 use Rattle.std.proofs.lemmas.Fmt.{decimal_is_IsNumeral, decimal_digit, first_decimal, decimal_nonempty, digits_decimal, digits_value-decimal}
@@ -21,22 +22,22 @@ use Rattle.response_reader.specs.Heads.{max_heads_len}
 use Rattle.response_reader.specs.Response.{ResponseParts, CanBeGiven}
 use Rattle.response_reader.specs.Written.{head_text, response_text}
 use Rattle.response_reader.proofs.WrittenLemmas.{written_reads_back}
-use Rattle.site_maps.specs.Maps.{named}
-use Rattle.site_maps.specs.Lines.{fields}
-use Rattle.site_answer.specs.Chains.{max_redirects}
-use Rattle.site_answer.specs.Digests.{digest_of, kept_body}
-use Rattle.site_answer.specs.HopChains.{HopValue, AreHops, IsAdmitted, robots_file}
-use Rattle.site_answer.specs.declared.told.Told.{Told}
-use Rattle.site_answer.specs.declared.told.Told.TheVariants as told
-use Rattle.site_answer.specs.declared.noted.Noted.{Noted}
-use Rattle.site_answer.specs.declared.noted.Noted.TheVariants as noted
+use Rattle.site_inputs.specs.Names.{named}
+use Rattle.site_inputs.specs.Fields.{fields}
+use Rattle.answer_notes.specs.RobotsAnswers.{max_redirects}
+use Rattle.response_answer.specs.Digests.{digest_of, kept_body}
+use Rattle.answer_notes.specs.HopChains.{HopValue, AreHops, IsAdmitted, robots_file}
+use Rattle.answer_notes.specs.declared.told.Told.{Told}
+use Rattle.answer_notes.specs.declared.told.Told.TheVariants as told
+use Rattle.answer_notes.specs.declared.noted.Noted.{Noted}
+use Rattle.answer_notes.specs.declared.noted.Noted.TheVariants as noted
 use Rattle.site_records.specs.declared.version.Version.{Version}
 use Rattle.site_records.specs.declared.version.Version.TheVariants.{Second}
 use Rattle.site_records.specs.EntryLines.{page, fault, chain, hop, hopfault, length_of, is_length, is_numeral}
 use Rattle.site_records.specs.Entries.{answered, chained, no_response, IsLine, HasBytes, IsEntry, IsHop, AreHopsOf, no_hops, more_hops}
 use Rattle.fetcher.specs.declared.fault_kind.FaultKind.{FaultKind}
-use Rattle.fetcher.specs.declared.fault_kind.FaultKind.TheVariants.{Connect, Device, Ended, Head, HeadLong, Length, Coding, Chunk, BodyLong}
-use Rattle.fetcher.specs.FaultWords.{word_of}
+use Rattle.fetcher.specs.FaultWords.{place_of, words, word_of}
+use Rattle.fetcher.proofs.FaultLaws.{has_row}
 use Rattle.site_records.specs.WrittenEntries.{line_of_three, counted_entry, worded_entry, chain_line, told_head, is_short, hop_entry, note_text, note_entry, has_short_heads, IsToldOf, IsNote}
 use Rattle.site_records.proofs.FormLaws.{own_digits, and_parts}
 
@@ -211,16 +212,16 @@ all_visible (b ∷ bs) h =
     let (low, high) = and_parts (nat_le 33 b) (nat_le b 126) here in
     All-cons IsVisible b bs (leb-true 33 b low, leb-true b 126 high) (all_visible bs more)
 
+is_visible : List ℕ → Bool
+is_visible word = list_all (λ b. nat_le 33 b && nat_le b 126) word
+
+words_visible : list_all is_visible words ≡ true
+unfolding is_visible
+words_visible = refl
+
 pub word_visible : (kind : FaultKind) → All IsVisible (word_of kind)
-word_visible Connect = all_visible (word_of Connect) refl
-word_visible Device = all_visible (word_of Device) refl
-word_visible Ended = all_visible (word_of Ended) refl
-word_visible Head = all_visible (word_of Head) refl
-word_visible HeadLong = all_visible (word_of HeadLong) refl
-word_visible Length = all_visible (word_of Length) refl
-word_visible Coding = all_visible (word_of Coding) refl
-word_visible Chunk = all_visible (word_of Chunk) refl
-word_visible BodyLong = all_visible (word_of BodyLong) refl
+unfolding word_of is_visible
+word_visible kind = all_visible (get_or words (place_of kind) []) (AllPass-from_list_all is_visible words words_visible (place_of kind) [] (has_row kind))
 
 -- what is written of a fault is an entry, whatever stands behind it
 pub fault_is_entry : (version : Version) (robots : Bool) (at : AddressText) (kind : FaultKind) (after : List ℕ) → IsAddress at

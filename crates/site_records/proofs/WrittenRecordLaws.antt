@@ -10,8 +10,8 @@ use Rattle.std.proofs.lemmas.List.Elements.{All-head, All-tail, filter_passes}
 use Rattle.std.proofs.lemmas.List.Folds.{list_any-append}
 use Rattle.std.proofs.lemmas.Slice.Eq.{bytes_eq-Decides}
 use Rattle.address.specs.Address.{AddressText, OriginText}
-use Rattle.site_answer.specs.declared.noted.Noted.{Noted}
-use Rattle.site_answer.specs.declared.noted.Noted.TheVariants.{Page, Chain}
+use Rattle.answer_notes.specs.declared.noted.Noted.{Noted}
+use Rattle.answer_notes.specs.declared.noted.Noted.TheVariants.{Page, Chain}
 use Rattle.site_records.specs.declared.version.Version.TheVariants.{Second}
 use Rattle.site_records.specs.Entries.{IsNew}
 use Rattle.site_records.specs.Records.{answers_of, rules_of, IsFront, none, next, IsRecord}

@@ -12,15 +12,15 @@ use Rattle.response_reader.specs.declared.fault.ReadFault.{ReadFault}
 use Rattle.fetcher.specs.declared.answer.Answer.{Answer}
 use Rattle.fetcher.specs.declared.fault_kind.FaultKind.{FaultKind}
 use Rattle.fetcher.specs.declared.outcome.Outcome.TheVariants.{Fault}
-use Rattle.site_answer.specs.Digests.{digest_of, kept_body}
-use Rattle.site_answer.specs.KindsOfFaults.{kind_of_fault}
-use Rattle.site_answer.specs.Chains.{max_redirects}
-use Rattle.site_answer.specs.Tellings.{target_told}
-use Rattle.site_answer.specs.HopChains.{HopValue, IsAdmitted, robots_file}
-use Rattle.site_answer.specs.declared.told.Told.{Told}
-use Rattle.site_answer.specs.declared.told.Told.TheVariants as told
+use Rattle.response_answer.specs.Digests.{digest_of, kept_body}
+use Rattle.response_answer.specs.KindsOfFaults.{kind_of_fault}
+use Rattle.answer_notes.specs.RobotsAnswers.{max_redirects}
+use Rattle.answer_notes.specs.Tellings.{target_told}
+use Rattle.answer_notes.specs.HopChains.{HopValue, IsAdmitted, robots_file}
+use Rattle.answer_notes.specs.declared.told.Told.{Told}
+use Rattle.answer_notes.specs.declared.told.Told.TheVariants as told
 use Rattle.site_records.specs.declared.version.Version.{Version}
-use Rattle.site_maps.specs.Maps.{named, IsNamed}
+use Rattle.site_inputs.specs.Names.{named, IsNamed}
 use Rattle.site_records.specs.EntryLines.{Statement, page, fault, file, free, closed, chain, HasForm, text_of, HopStatement, hop, hopfault, HasHopForm, hop_text}
 
 -- what an entry states

@@ -5,8 +5,8 @@ use Rattle.std.specs.List.{list_all}
 use Rattle.std.specs.Str.Parse.{digits_value}
 use Rattle.fetcher.specs.declared.fault_kind.FaultKind.{FaultKind}
 use Rattle.fetcher.specs.FaultWords.{word_of}
-use Rattle.site_maps.specs.Lines.{fields}
-use Rattle.site_answer.specs.Chains.{max_redirects}
+use Rattle.site_inputs.specs.Fields.{fields}
+use Rattle.answer_notes.specs.RobotsAnswers.{max_redirects}
 use Rattle.site_records.specs.declared.version.Version.{Version}
 use Rattle.site_records.specs.declared.version.Version.TheVariants.{First, Second}
 

@@ -3,9 +3,9 @@ use Rattle.std.specs.Prelude.{◌≡◌, ◌≢◌, ◌≤◌, ◌+◌, ◌⊎�
 use Rattle.address.specs.Address.{AddressText, OriginText}
 use Rattle.robots_rules.specs.Access.{RuleSetValue}
 use Rattle.fetcher.specs.declared.answer.Answer.{Answer}
-use Rattle.site_maps.specs.declared.input_fault.InputFault.{InputFault}
-use Rattle.site_maps.specs.declared.input_fault.InputFault.TheVariants.{Line, Address, Memory}
-use Rattle.site_answer.specs.declared.noted.Noted.{Noted}
+use Rattle.site_inputs.specs.declared.input_fault.InputFault.{InputFault}
+use Rattle.site_inputs.specs.declared.input_fault.InputFault.TheVariants.{Line, Address, Memory}
+use Rattle.answer_notes.specs.declared.noted.Noted.{Noted}
 use Rattle.site_records.specs.declared.version.Version.{Version}
 use Rattle.site_records.specs.declared.version.Version.TheVariants.{Second}
 use Rattle.site_records.specs.EntryLines.{Statement, page, file, chain, HopStatement, hop, hopfault}

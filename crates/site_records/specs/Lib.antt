@@ -1,12 +1,10 @@
 pub mod EntryLines
-pub mod Said
 pub mod Entries
 pub mod Records
-pub mod Readings
 pub mod RecordSites
 pub mod Resumption
 pub mod WrittenEntries
 pub mod WrittenRecords
-pub mod RecordDrafts
 pub mod Fronts
 pub mod RecordNotes
+pub mod inner

@@ -1,6 +1,6 @@
 -- Notes of a record that is read: they say just what its entries state.
-use Rattle.std.specs.Prelude.{◌≡◌, Bool, true, false, List, [], ◌∷◌, ◌++◌, map}
-use Rattle.site_answer.specs.declared.noted.Noted.{Noted}
+use Rattle.std.specs.Prelude.{◌≡◌, Bool, true, false, List, [], map}
+use Rattle.answer_notes.specs.declared.noted.Noted.{Noted}
 use Rattle.site_records.specs.Entries.{Entry}
 use Rattle.site_records.specs.Records.{answers_of, rules_of}
 use Rattle.site_records.specs.WrittenEntries.{note_entry}
@@ -14,8 +14,3 @@ pub record SayJust (robots : Bool) (notes : List Noted) (said : List Entry) : Ty
 abbrev pub HasNotes : Bool → Bool → List Noted → List Entry → Type 0
 HasNotes true robots notes said = SayJust robots notes said
 HasNotes false robots notes said = notes ≡ []
-
--- where notes are kept one that says just this stands behind the others, else nothing is added
-abbrev pub AddsNote : Bool → Bool → List Noted → Entry → List Noted → Type 0
-AddsNote true robots old e new = (note : Noted) × (new ≡ old ++ note ∷ []) × SayJust robots (note ∷ []) (e ∷ [])
-AddsNote false robots old e new = new ≡ old

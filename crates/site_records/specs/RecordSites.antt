@@ -4,7 +4,7 @@ use Rattle.address.specs.Address.{AddressText, OriginText}
 use Rattle.robots_rules.specs.Access.{RuleSetValue}
 use Rattle.fetcher.specs.declared.answer.Answer.{Answer}
 use Rattle.fetcher.specs.declared.fetcher.Ask.{Ask}
-use Rattle.site_answer.specs.declared.noted.Noted.{Noted}
+use Rattle.answer_notes.specs.declared.noted.Noted.{Noted}
 
 -- the answers and the rule sets that the record states, each in its order, the notes that are kept of it, and what was asked
 pub record RecordValue : Type 0 where

@@ -7,10 +7,11 @@ use Rattle.robots_rules.specs.Access.{RuleSetValue}
 use Rattle.fetcher.specs.declared.answer.Answer.{Answer}
 use Rattle.fetcher.specs.declared.outcome.Outcome.{Outcome}
 use Rattle.fetcher.specs.declared.outcome.Outcome.TheVariants.{Leaf}
-use Rattle.site_maps.specs.declared.input_fault.InputFault.{InputFault}
-use Rattle.site_maps.specs.declared.input_fault.InputFault.TheVariants.{Line, Address, Memory}
-use Rattle.site_maps.specs.Maps.{rules_at}
-use Rattle.site_answer.specs.HopChains.{rules_of_hops}
+use Rattle.fetcher.specs.declared.status.TheConstants.{NOT_FOUND}
+use Rattle.site_inputs.specs.declared.input_fault.InputFault.{InputFault}
+use Rattle.site_inputs.specs.declared.input_fault.InputFault.TheVariants.{Line, Address, Memory}
+use Rattle.site_inputs.specs.Tables.{rules_at}
+use Rattle.answer_notes.specs.HopChains.{rules_of_hops}
 use Rattle.site_records.specs.declared.version.Version.{Version}
 use Rattle.site_records.specs.declared.version.Version.TheVariants.{First, Second}
 use Rattle.site_records.specs.Entries.{Entry, answered, ruled, chained, lines_of, IsEntry, IsNew, IsBadLine, IsBadAddress, IsFormed}
@@ -31,11 +32,11 @@ rules_of (answered at a ∷ more) = rules_of more
 rules_of (ruled of r ∷ more) = (of, r) ∷ rules_of more
 rules_of (chained of hops ∷ more) = (of, rules_of_hops hops) ∷ rules_of more
 
--- status 404 and no body (RFC 9110, section 15.5.5)
+-- nothing is found, and there is no body (RFC 9110, section 15.5.5)
 abbrev pub not_found : Answer
-not_found = record { outcome = Leaf 404; body = [] }
+not_found = record { outcome = Leaf NOT_FOUND; body = [] }
 
--- what a record of these answers says of an address: what it states, and status 404 of an address that it doesn't name
+-- what a record of these answers says of an address: what it states, and not found of an address that it doesn't name
 abbrev pub answer_in : List (AddressText × Answer) → AddressText → Answer
 answer_in answers at = unwrap_or (lookup (bytes_eq at) answers) not_found
 

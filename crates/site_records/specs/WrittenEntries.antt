@@ -7,12 +7,12 @@ use Rattle.fetcher.specs.FaultWords.{word_of}
 use Rattle.response_reader.specs.Heads.{max_heads_len}
 use Rattle.response_reader.specs.Response.{CanBeGiven}
 use Rattle.response_reader.specs.Written.{head_text, response_text}
-use Rattle.site_answer.specs.Tellings.{outcome_told, body_told}
-use Rattle.site_answer.specs.HopChains.{HopValue, IsAdmitted}
-use Rattle.site_answer.specs.declared.told.Told.{Told}
-use Rattle.site_answer.specs.declared.told.Told.TheVariants.{Whole, Fault}
-use Rattle.site_answer.specs.declared.noted.Noted.{Noted}
-use Rattle.site_answer.specs.declared.noted.Noted.TheVariants.{Page, Chain}
+use Rattle.answer_notes.specs.Tellings.{outcome_told, body_told}
+use Rattle.answer_notes.specs.HopChains.{HopValue, IsAdmitted}
+use Rattle.answer_notes.specs.declared.told.Told.{Told}
+use Rattle.answer_notes.specs.declared.told.Told.TheVariants.{Whole, Fault}
+use Rattle.answer_notes.specs.declared.noted.Noted.{Noted}
+use Rattle.answer_notes.specs.declared.noted.Noted.TheVariants.{Page, Chain}
 use Rattle.site_records.specs.Entries.{Entry, answered, chained}
 
 -- a line of three fields

@@ -3,8 +3,8 @@ use Rattle.std.specs.Prelude.{ℕ, Bool, false, List, [], ◌∷◌, ◌++◌, m
 use Rattle.std.specs.Borrow.{Bor}
 use Rattle.std.specs.List.{list_any}
 use Rattle.address.specs.Address.{AddressText, OriginText}
-use Rattle.site_answer.specs.declared.noted.Noted.{Noted}
-use Rattle.site_answer.specs.declared.noted.Noted.TheVariants.{Page, Chain}
+use Rattle.answer_notes.specs.declared.noted.Noted.{Noted}
+use Rattle.answer_notes.specs.declared.noted.Noted.TheVariants.{Page, Chain}
 use Rattle.site_records.specs.declared.version.Version.TheVariants.{Second}
 use Rattle.site_records.specs.Entries.{Entry}
 use Rattle.site_records.specs.Records.{version_line}

@@ -1,8 +1,8 @@
 //! What is wrong with an entry of a record, and in which of its lines.
-ghost use Rattle.site_records.specs.Readings.{IsAlone};
+ghost use Rattle.site_records.specs.inner.Readings.{IsAlone};
 
 use crate::taken::Taken;
-use site_maps::{InputFault, InputLineFault};
+use site_inputs::{InputFault, InputLineFault};
 use std::alloc::{AllocError, AllocFailed};
 
 /// What is wrong with an entry.
@@ -16,7 +16,7 @@ pub(crate) enum EntryFault {
 
 impl EntryFault {
     ghost use Rattle.std.specs.Prelude.{◌≡◌, ◌<◌, ◌+◌, ◌^◌};
-    ghost use Rattle.site_records.specs.Readings.{fault_at, lines_to};
+    ghost use Rattle.site_records.specs.inner.Readings.{fault_at, lines_to};
 
     /// The fault of the entry whose own line has this number.
     pub(crate) fn at(self, number: usize) -> InputFault
@@ -43,7 +43,7 @@ impl From<InputLineFault> for EntryFault {
 
 impl<T: Drop> From<AllocFailed<T>> for EntryFault {
     ghost use Rattle.std.specs.Prelude.{◌≡◌};
-    ghost use Rattle.site_maps.specs.declared.input_fault.InputLineFault.TheVariants.{Memory};
+    ghost use Rattle.site_inputs.specs.declared.input_fault.InputLineFault.TheVariants.{Memory};
     ghost use Rattle.site_records.specs.declared.entry_fault.EntryFault.TheVariants.{Own};
 
     ghost from_gives = { λ _ fault. fault ≡ Own Memory };
@@ -55,7 +55,7 @@ impl<T: Drop> From<AllocFailed<T>> for EntryFault {
 
 impl From<AllocError> for EntryFault {
     ghost use Rattle.std.specs.Prelude.{◌≡◌};
-    ghost use Rattle.site_maps.specs.declared.input_fault.InputLineFault.TheVariants.{Memory};
+    ghost use Rattle.site_inputs.specs.declared.input_fault.InputLineFault.TheVariants.{Memory};
     ghost use Rattle.site_records.specs.declared.entry_fault.EntryFault.TheVariants.{Own};
 
     ghost from_gives = { λ _ fault. fault ≡ Own Memory };

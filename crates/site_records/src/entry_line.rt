@@ -2,13 +2,13 @@
 ghost use Rattle.std.specs.Prelude.{◌≡◌, ◌≢◌, ℕ, List, [], ◌∷◌, MatchOption, Some};
 ghost use Rattle.std.specs.Char.{is_ascii_digit};
 ghost use Rattle.std.specs.List.{list_all};
-ghost use Rattle.site_maps.specs.Lines.{fields};
+ghost use Rattle.site_inputs.specs.Fields.{fields};
 ghost use Rattle.site_records.specs.EntryLines.{Statement, is_length, length_of, is_of, IsForm, IsHopCount};
-ghost use Rattle.site_records.specs.Said.{said};
+ghost use Rattle.site_records.specs.inner.Said.{said};
 
 use crate::version::Version;
 use fetcher::FaultKind;
-use site_maps::first_field;
+use site_inputs::first_field;
 
 /// How many hops a chain may have: one, and one for each redirect that may be followed (RFC 9309, section 2.3.1.2).
 pub(crate) const MAX_HOPS: usize = 6;

@@ -3,14 +3,14 @@ ghost use Rattle.std.specs.Prelude.{◌≡◌, ◌≤◌, ◌||◌, ◌==◌, �
 ghost use Rattle.robots_rules.specs.Groups.{rules_in};
 ghost use Rattle.response_reader.specs.Bodies.{max_body_len};
 ghost use Rattle.response_reader.specs.Response.{CanBeGiven};
-ghost use Rattle.site_answer.specs.Chains.{none_allowed, all_allowed};
-ghost use Rattle.site_answer.specs.HopChains.{rules_of_hops, robots_file};
-ghost use Rattle.site_answer.specs.Tellings.{target_told, rules_told};
+ghost use Rattle.answer_notes.specs.RobotsAnswers.{none_allowed, all_allowed};
+ghost use Rattle.answer_notes.specs.HopChains.{rules_of_hops, robots_file};
+ghost use Rattle.answer_notes.specs.Tellings.{target_told, rules_told};
 
 use address::Origin;
+use answer_notes::{Given, Hops, Told};
 use fetcher::FaultKind;
 use response_reader::Response;
-use site_answer::{Given, Hops, Told};
 use std::alloc::{AllocError, Global};
 
 /// How many bytes of a robots file are kept: those that are used, and one more, so that it is known that the file is longer

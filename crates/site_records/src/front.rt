@@ -7,7 +7,7 @@ use crate::reading::Reading;
 use crate::recorded_site::RecordedSite;
 use crate::torn::is_torn;
 use crate::version::{SECOND_VERSION_LINE, Version, version_of};
-use site_maps::InputFault;
+use site_inputs::InputFault;
 use std::alloc::Global;
 
 /// What the whole entries at the front of a record state, and how long it is.

@@ -1,8 +1,8 @@
 //! Lines of the hops of a chain: what each says by itself.
 ghost use Rattle.std.specs.Prelude.{◌≡◌, ℕ, List, [], ◌∷◌, MatchOption};
-ghost use Rattle.site_maps.specs.Lines.{fields};
+ghost use Rattle.site_inputs.specs.Fields.{fields};
 ghost use Rattle.site_records.specs.EntryLines.{HopStatement, IsHopForm};
-ghost use Rattle.site_records.specs.Said.{said_hop};
+ghost use Rattle.site_records.specs.inner.Said.{said_hop};
 
 use crate::entry_line::{length_of, three_fields};
 use fetcher::FaultKind;

@@ -1,19 +1,20 @@
 //! The hops of a chain, as a record tells them (RFC 9309, section 2.3.1.2).
 ghost use Rattle.std.specs.Prelude.{◌≡◌, ◌≤◌, ℕ, List, Some, IfOk, MatchResult, length};
-ghost use Rattle.site_answer.specs.HopChains.{IsAdmitted};
+ghost use Rattle.answer_notes.specs.HopChains.{IsAdmitted};
 ghost use Rattle.site_records.specs.EntryLines.{IsHopCount};
 ghost use Rattle.site_records.specs.Entries.{AreHopsOf, IsBegun, IsHop, IsToldIn, chain_start, due};
-ghost use Rattle.site_records.specs.Readings.{AddsHop, IsBadHop, IsWrongChain, IsWrongHop, IsWrongRow, NamesDue};
-ghost use Rattle.site_records.specs.Said.{said_hop};
+ghost use Rattle.site_records.specs.inner.Readings.{AddsHop, IsBadHop, IsWrongChain, IsWrongHop, IsWrongRow, NamesDue};
+ghost use Rattle.site_records.specs.inner.Said.{said_hop};
 
 use crate::entry_fault::EntryFault;
 use crate::entry_line::MAX_HOPS;
 use crate::first_line::{counted, first_text_line};
 use crate::hop_line::HopLine;
 use address::{Address, Origin};
+use answer_notes::{Given, Hops, Told};
+use response_answer::kind_of_fault;
 use response_reader::{SliceWire, read_response};
-use site_answer::{Given, Hops, Told, kind_of_fault};
-use site_maps::{InputLineFault, read_address};
+use site_inputs::{InputLineFault, read_address};
 use std::alloc::{AllocError, Global};
 
 // What these bytes tell as a response.

@@ -4,13 +4,13 @@ ghost use Rattle.std.specs.List.{list_all};
 ghost use Rattle.response_reader.specs.Heads.{max_heads_len};
 ghost use Rattle.response_reader.specs.Response.{CanBeGiven};
 ghost use Rattle.response_reader.specs.Written.{head_text, response_text};
-ghost use Rattle.site_answer.specs.HopChains.{HopValue};
-ghost use Rattle.site_answer.specs.declared.noted.Noted.TheVariants.{Chain};
+ghost use Rattle.answer_notes.specs.HopChains.{HopValue};
+ghost use Rattle.answer_notes.specs.declared.noted.Noted.TheVariants.{Chain};
 ghost use Rattle.site_records.specs.WrittenEntries.{line_of_three, counted_entry, told_head, is_short, told_text, hop_entry, has_short_heads, written_note, IsToldOf, IsNote};
 
 use address::Address;
+use answer_notes::{Given, Hops, Noted, Told};
 use response_reader::push_head;
-use site_answer::{Given, Hops, Noted, Told};
 use std::alloc::{AllocError, Global};
 use streams::Pieces;
 

@@ -1,9 +1,9 @@
 //! A record in mid-read: the answers and the rule sets that the entries so far state.
 ghost use Rattle.std.specs.Prelude.{◌≡◌, ◌≤◌, ◌+◌, ◌++◌, ◌∷◌, [], IfOk, MatchResult, OnOk, if◌then◌else◌, length};
-ghost use Rattle.site_maps.specs.Readings.{IsVacant};
+ghost use Rattle.site_inputs.specs.inner.Tables.{IsVacant};
 ghost use Rattle.site_records.specs.EntryLines.{page, fault, file, free, closed, chain, IsHopCount};
-ghost use Rattle.site_records.specs.Said.{said};
-ghost use Rattle.site_records.specs.Readings.{Takes, TakesEntry, IsCounted, Reads, IsBad, lines_to};
+ghost use Rattle.site_records.specs.inner.Said.{said};
+ghost use Rattle.site_records.specs.inner.Readings.{Takes, TakesEntry, IsCounted, Reads, IsBad, lines_to};
 
 use crate::entry_fault::{EntryFault, alone};
 use crate::entry_line::EntryLine;
@@ -14,11 +14,11 @@ use crate::replayed::no_response;
 use crate::taken::Taken;
 use crate::version::Version;
 use address::{Address, Origin};
+use answer_notes::{Noted, Told};
 use fetcher::{Answer, FaultKind};
 use indexmap::IndexMap;
 use robots_rules::{RuleSet, parse};
-use site_answer::{Noted, Told};
-use site_maps::{InputLineFault, KeptRules, read_address, read_origin};
+use site_inputs::{InputLineFault, KeptRules, read_address, read_origin};
 use std::alloc::{AllocError, Global};
 
 /// What the entries read so far state.

@@ -3,17 +3,14 @@ use crate::reading::Reading;
 use crate::replayed::copy_of;
 use crate::version::version_of;
 use address::{Address, Origin};
-use fetcher::{Answer, Ask, Body, Fetcher, Outcome};
+use answer_notes::Noted;
+use fetcher::{Answer, Ask, Body, Fetcher, NOT_FOUND, Outcome};
 use indexmap::IndexMap;
 use robots_rules::RuleSet;
-use site_answer::Noted;
-use site_maps::{InputFault, KeptRules};
+use site_inputs::{InputFault, KeptRules};
 use std::alloc::{AllocError, Global};
 use std::marker::Model;
 use std::sync::Arc;
-
-/// The status of an address that a record doesn't name: Not Found (RFC 9110, section 15.5.5).
-const NOT_FOUND: u16 = 404;
 
 /// What a record states.
 #[derive(Drop)]
@@ -46,7 +43,7 @@ impl RecordedSite {
     ghost use Rattle.std.specs.Prelude.{◌≡◌, ◌+◌, [], List, IfOk, IfErr, length};
     ghost use Rattle.std.specs.Map.{lookup};
     ghost use Rattle.std.specs.Str.{bytes_eq};
-    ghost use Rattle.site_maps.specs.Maps.{rules_at};
+    ghost use Rattle.site_inputs.specs.Tables.{rules_at};
     ghost use Rattle.site_records.specs.Entries.{Entry};
     ghost use Rattle.site_records.specs.Records.{IsRecord, answers_of, rules_of, answer_in, IsFault};
     ghost use Rattle.site_records.specs.RecordNotes.{SayJust, HasNotes};

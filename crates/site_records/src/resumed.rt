@@ -5,11 +5,10 @@ ghost use Rattle.fetcher.specs.declared.fetcher.Ask.{Ask};
 ghost use Rattle.site_records.specs.Resumption.{AreOf, IsUnstated, IsSpared, RulesOr, SaysOr};
 
 use crate::recorded_site::RecordedSite;
-use crate::recording::Recording;
 use address::{Address, Origin};
+use answer_notes::{Noted, Recording};
 use fetcher::{Answer, Ask, Fetcher};
 use robots_rules::RuleSet;
-use site_answer::Noted;
 use std::alloc::{AllocError, Global};
 use std::marker::Model;
 

@@ -1,7 +1,7 @@
 //! Entries within which a text ends, as one does that was cut.
 ghost use Rattle.std.specs.Prelude.{◌↔◌, IsTrue};
 ghost use Rattle.site_records.specs.Fronts.{IsTorn, IsTornRow, RunsOut, RunsOutIn};
-ghost use Rattle.site_records.specs.Said.{said, said_hop};
+ghost use Rattle.site_records.specs.inner.Said.{said, said_hop};
 
 use crate::entry_line::EntryLine;
 use crate::first_line::{counted, first_line, first_text_line};

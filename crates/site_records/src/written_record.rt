@@ -2,17 +2,17 @@
 ghost use Rattle.std.specs.Prelude.{◌≡◌, ◌++◌, ◌∷◌, [], Bool, List, not, IfOk, OnOk, Err};
 ghost use Rattle.std.specs.Io.KnownBytes.{Appends};
 ghost use Rattle.streams.specs.Streams.{AppendsFront};
-ghost use Rattle.site_answer.specs.declared.noted.Noted.{Noted};
+ghost use Rattle.answer_notes.specs.declared.noted.Noted.{Noted};
 ghost use Rattle.site_records.specs.Records.{IsRecord};
 ghost use Rattle.site_records.specs.WrittenRecords.{is_repeated, written_notes, record_text, record_entries, all_noted};
 ghost use Rattle.site_records.specs.Fronts.{IsReadCut};
-ghost use Rattle.site_records.specs.RecordDrafts.{AreNamed, IsDraft};
+ghost use Rattle.site_records.specs.inner.RecordDrafts.{AreNamed, IsDraft};
 
 use crate::note_entry::push_note;
 use crate::record_fault::RecordFault;
 use crate::version::SECOND_VERSION_LINE;
+use answer_notes::Noted;
 use indexmap::IndexSet;
-use site_answer::Noted;
 use std::alloc::{AllocError, Global};
 use std::io::Write;
 use streams::Pieces;

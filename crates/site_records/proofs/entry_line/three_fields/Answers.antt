@@ -1,6 +1,6 @@
 -- A fourth field stands behind the third.
 use Rattle.std.proofs.Common.{◌==◌}
-use Rattle.site_maps.proofs.Splits.{slice_split-first_part}
+use Rattle.site_inputs.proofs.Splits.{slice_split-first_part}
 use Rattle.site_records.proofs.entry_line.three_fields.Goals as goal
 
 pub returns-in_default-Some-first_field-2 : goal.returns-in_default-Some-first_field-2

@@ -1,7 +1,7 @@
 -- The hops so far are short.
 use Rattle.std.proofs.Common.{◌≡◌, true, take}
 use Rattle.std.specs.List.{list_all}
-use Rattle.site_answer.specs.HopChains.{HopValue}
+use Rattle.answer_notes.specs.HopChains.{HopValue}
 use Rattle.site_records.specs.WrittenEntries.{is_short}
 use Rattle.site_records.proofs.note_entry.are_short.Given as goal
 

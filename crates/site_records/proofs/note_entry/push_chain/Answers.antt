@@ -3,7 +3,7 @@ use Rattle.std.proofs.Common.{◌≡◌, ◌++◌, ◌∙◌, true, length, sym,
 use Rattle.std.specs.Prelude.{codes, decimal, flat_map}
 use Rattle.std.specs.List.{list_all}
 use Rattle.std.proofs.lemmas.Grind.{common_steps}
-use Rattle.site_answer.specs.HopChains.{HopValue}
+use Rattle.answer_notes.specs.HopChains.{HopValue}
 use Rattle.site_records.specs.WrittenEntries.{is_short, hop_entry}
 use Rattle.site_records.proofs.EntryTextLaws.{on_ok, chain_text}
 use Rattle.site_records.proofs.note_entry.push_chain.Goals as goal

@@ -1,7 +1,7 @@
 -- The hops so far are added.
 use Rattle.std.proofs.Common.{◌≡◌, ◌++◌, take}
 use Rattle.std.specs.Prelude.{All, flat_map}
-use Rattle.site_answer.specs.HopChains.{HopValue}
+use Rattle.answer_notes.specs.HopChains.{HopValue}
 use Rattle.site_records.specs.WrittenEntries.{hop_entry, IsToldOf}
 use Rattle.site_records.proofs.note_entry.push_hops.Given as goal
 

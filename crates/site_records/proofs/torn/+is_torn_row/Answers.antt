@@ -1,7 +1,7 @@
 -- The bytes of a hop are there, and what follows them is looked at; or they aren't.
 use Rattle.std.proofs.Common.{◌<◌, ◌-◌, IsTrue, refl, arith, rules}
 use Rattle.std.specs.Str.{IsUtf8}
-use Rattle.site_maps.specs.Lines.{fields}
+use Rattle.site_inputs.specs.Fields.{fields}
 use Rattle.site_records.specs.EntryLines.{IsHopForm, hop}
 use Rattle.site_records.specs.Entries.{IsLine, HasBytes}
 use Rattle.site_records.proofs.TornLaws.{row_whole, row_short, le_test}

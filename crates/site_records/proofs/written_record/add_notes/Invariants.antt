@@ -1,7 +1,7 @@
 -- The notes so far are added.
 use Rattle.std.proofs.Common.{◌++◌, List, take}
-use Rattle.site_answer.specs.declared.noted.Noted.{Noted}
-use Rattle.site_records.specs.RecordDrafts.{IsDraft}
+use Rattle.answer_notes.specs.declared.noted.Noted.{Noted}
+use Rattle.site_records.specs.inner.RecordDrafts.{IsDraft}
 use Rattle.site_records.proofs.written_record.add_notes.Given as goal
 
 abbrev pub invariant-loop-note : goal.invariant-loop-note

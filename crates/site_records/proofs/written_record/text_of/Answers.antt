@@ -2,9 +2,9 @@
 use Rattle.std.proofs.Common.{◌++◌, ◌∙◌, ◌∷◌, [], List, take, sym, ap, subst, append-nil}
 use Rattle.std.proofs.lemmas.Grind.{flat_map-append}
 use Rattle.std.specs.Borrow.{Bor}
-use Rattle.site_answer.specs.declared.noted.Noted.{Noted}
+use Rattle.answer_notes.specs.declared.noted.Noted.{Noted}
 use Rattle.site_records.specs.WrittenRecords.{all_noted}
-use Rattle.site_records.specs.RecordDrafts.{IsDraft}
+use Rattle.site_records.specs.inner.RecordDrafts.{IsDraft}
 use Rattle.site_records.proofs.EntryTextLaws.{taken_more}
 use Rattle.site_records.proofs.written_record.text_of.Goals as goal
 

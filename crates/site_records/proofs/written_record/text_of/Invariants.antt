@@ -1,7 +1,7 @@
 -- The parts so far are added.
 use Rattle.std.proofs.Common.{take}
 use Rattle.site_records.specs.WrittenRecords.{all_noted}
-use Rattle.site_records.specs.RecordDrafts.{IsDraft}
+use Rattle.site_records.specs.inner.RecordDrafts.{IsDraft}
 use Rattle.site_records.proofs.written_record.text_of.Given as goal
 
 abbrev pub invariant-loop-part : goal.invariant-loop-part

@@ -1,6 +1,6 @@
 -- No form has five fields.
 use Rattle.std.proofs.Common.{◌==◌}
-use Rattle.site_maps.proofs.Splits.{slice_split-first_part}
+use Rattle.site_inputs.proofs.Splits.{slice_split-first_part}
 use Rattle.site_maps.proofs.FormLaws.{five_fields}
 use Rattle.site_maps.proofs.map_line.MapLine.of_fields.Goals as goal
 

@@ -2,7 +2,7 @@
 use Rattle.std.proofs.Common.{◌≡◌, List, length, map}
 use Rattle.site_maps.specs.Lines.{Statement}
 use Rattle.site_maps.specs.Maps.{IsMap}
-use Rattle.site_maps.specs.Readings.{Tells}
+use Rattle.site_maps.specs.inner.Readings.{Tells}
 use Rattle.site_maps.proofs.map_site.MapSite.read.Given as goal
 
 abbrev pub invariant-loop-line : goal.invariant-loop-line

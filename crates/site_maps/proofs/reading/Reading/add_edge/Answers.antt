@@ -3,7 +3,7 @@ use Rattle.std.proofs.Common.{Some, refl, ap, ◌∙◌, []}
 use Rattle.std.proofs.lemmas.Result.{err_from_is_err_and}
 use Rattle.std.proofs.lemmas.List.Elements.{All-head}
 use Rattle.site_maps.specs.Lines.{edge}
-use Rattle.site_maps.specs.Maps.{IsNamed}
+use Rattle.site_inputs.specs.Names.{IsNamed}
 use Rattle.site_maps.proofs.ReadingLaws.{takes_edge, unnamed}
 use Rattle.site_maps.proofs.reading.Reading.add_edge.Goals as goal
 

@@ -3,7 +3,7 @@ use Rattle.std.proofs.Common.{[], ◌∷◌}
 use Rattle.std.proofs.lemmas.Result.{err_from_is_err_and}
 use Rattle.std.proofs.lemmas.List.Elements.{All-head, All-tail}
 use Rattle.site_maps.specs.Lines.{moved}
-use Rattle.site_maps.specs.Maps.{IsNamed}
+use Rattle.site_inputs.specs.Names.{IsNamed}
 use Rattle.site_maps.proofs.ReadingLaws.{unnamed, takes_moved}
 use Rattle.site_maps.proofs.reading.Reading.add_moved.Goals as goal
 

@@ -6,7 +6,7 @@ use Rattle.std.proofs.lemmas.List.{append-nil}
 use Rattle.indexmap.proofs.CallerLemmas.{insert_entry-new}
 use Rattle.robots_rules.specs.Groups.{rules_in}
 use Rattle.fetcher.specs.declared.outcome.Outcome.TheVariants as outcome
-use Rattle.site_maps.specs.Readings.{opened, opened_rules}
+use Rattle.site_maps.specs.inner.Readings.{opened, opened_rules}
 use Rattle.site_maps.proofs.reading.Reading.close.Goals as goal
 
 pub returns-in_ok-insert-in-Some-Page : goal.returns-in_ok-insert-in-Some-Page

@@ -3,7 +3,7 @@ use Rattle.std.proofs.Common.{◌∙◌, ap, arith, rules}
 use Rattle.std.specs.Str.{bytes_eq}
 use Rattle.std.proofs.lemmas.Result.{err_from_is_err_and}
 use Rattle.indexmap.proofs.CallerLemmas.{insert_entry-new}
-use Rattle.site_maps.proofs.ReadingLaws.{names}
+use Rattle.site_inputs.proofs.NameLaws.{names}
 use Rattle.site_records.specs.EntryLines.{page}
 use Rattle.site_records.specs.declared.reading.Reading.{Reading}
 use Rattle.site_records.specs.Entries.{HasBytes, answered}

@@ -2,9 +2,9 @@
 use Rattle.std.proofs.Common.{◌≡◌, ◌++◌, ◌∙◌, ◌∷◌, [], sym, ap, subst}
 use Rattle.std.specs.Prelude.{not}
 use Rattle.std.specs.List.{list_any}
-use Rattle.site_answer.specs.declared.noted.Noted.{Noted}
+use Rattle.answer_notes.specs.declared.noted.Noted.{Noted}
 use Rattle.site_records.specs.WrittenRecords.{is_repeated, is_page_of, is_chain_of}
-use Rattle.site_records.specs.RecordDrafts.{AreNamed}
+use Rattle.site_records.specs.inner.RecordDrafts.{AreNamed}
 use Rattle.site_records.proofs.NamedLaws.{page_added, chain_added, pages_stay, chains_stay}
 use Rattle.site_records.proofs.written_record.Named.add.Goals as goal
 

@@ -1,0 +1,43 @@
+-- Chains of what was told of an origin's robots file and of the redirects behind it (RFC 9309, section 2.3.1.2).
+use Rattle.std.specs.Prelude.{◌≡◌, ⊤, ℕ, zero, suc, List, [], ◌∷◌, ◌++◌, Option, Some, None, codes}
+use Rattle.address.specs.Address.{AddressText, OriginText}
+use Rattle.robots_rules.specs.Access.{RuleSetValue}
+use Rattle.answer_notes.specs.RobotsAnswers.{none_allowed, max_redirects}
+use Rattle.answer_notes.specs.Tellings.{target_told, rules_told}
+use Rattle.answer_notes.specs.declared.told.Told.{Told}
+
+-- an address that was asked, and what was told of it
+abbrev pub HopValue : Type 0
+HopValue = AddressText × Told
+
+-- a hop ends the chain where so many more redirects may be followed: it redirects nowhere, or none may be
+abbrev pub Ends : ℕ → Option AddressText → Type 0
+Ends zero target = ⊤
+Ends (suc left) target = target ≡ None
+
+-- The hops begin at this address, of which so many more redirects may be followed: each further one is where the one before it
+-- redirects, and the last ends the chain.
+abbrev pub AreHops : ℕ → AddressText → List HopValue → Type 0
+AreHops left at [] = ⊥
+AreHops left at (hop ∷ []) = (hop.0 ≡ at) × Ends left (target_told at hop.1)
+AreHops zero at (hop ∷ next ∷ more) = ⊥
+AreHops (suc left) at (hop ∷ next ∷ more) = (hop.0 ≡ at) × (target_told at hop.1 ≡ Some next.0) × AreHops left next.0 (next ∷ more)
+
+-- the rules at the end of the hops
+abbrev pub rules_of_hops : List HopValue → RuleSetValue
+rules_of_hops [] = none_allowed
+rules_of_hops (hop ∷ []) = rules_told hop.1
+rules_of_hops (hop ∷ next ∷ more) = rules_of_hops (next ∷ more)
+
+-- an origin with its hops
+pub record ChainValue : Type 0 where
+  pub of : OriginText
+  pub hops : List HopValue
+
+-- the address of an origin's robots file (RFC 9309, section 2.3)
+abbrev pub robots_file : OriginText → AddressText
+robots_file of = of ++ codes "/robots.txt"
+
+-- the chain begins at the origin's robots file, and goes as far as redirects are followed
+abbrev pub IsAdmitted : OriginText → List HopValue → Type 0
+IsAdmitted of hops = AreHops max_redirects (robots_file of) hops

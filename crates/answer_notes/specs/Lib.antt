@@ -1,0 +1,3 @@
+pub mod RobotsAnswers
+pub mod Tellings
+pub mod HopChains

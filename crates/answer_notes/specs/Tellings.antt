@@ -1,0 +1,31 @@
+-- What was told of an address, a whole response or why there is none, and what that answers.
+use Rattle.std.specs.Prelude.{◌≡◌, ℕ, Bool, List, [], Option, Some, None}
+use Rattle.address.specs.Address.{AddressText}
+use Rattle.robots_rules.specs.Access.{RuleSetValue}
+use Rattle.fetcher.specs.declared.outcome.Outcome.{Outcome}
+use Rattle.fetcher.specs.declared.outcome.Outcome.TheVariants as outcome
+use Rattle.response_answer.specs.Digests.{digest_of, kept_body, target_of}
+use Rattle.answer_notes.specs.RobotsAnswers.{none_allowed, rules_by_status}
+use Rattle.answer_notes.specs.declared.told.Told.{Told}
+use Rattle.answer_notes.specs.declared.told.Told.TheVariants.{Whole, Fault}
+
+-- the outcome that it says
+abbrev pub outcome_told : Bool → AddressText → Told → Outcome
+outcome_told robots at (Whole response) = digest_of robots at response
+outcome_told robots at (Fault kind) = outcome.Fault kind
+
+-- the body that is kept of it
+abbrev pub body_told : Told → List ℕ
+body_told (Whole response) = kept_body response.head.status response.body
+body_told (Fault kind) = []
+
+-- where it redirects from the address that was asked
+abbrev pub target_told : AddressText → Told → Option AddressText
+target_told at (Whole response) = target_of at response.head
+target_told at (Fault kind) = None
+
+-- the rules of an origin whose robots file it is, where no redirect is followed any more (RFC 9309, section 2.3.1); a status
+-- that redirects is neither one of success nor one of a server that failed, so it allows everything
+abbrev pub rules_told : Told → RuleSetValue
+rules_told (Whole response) = rules_by_status response.head.status response.body
+rules_told (Fault kind) = none_allowed

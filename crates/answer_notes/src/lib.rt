@@ -1,0 +1,20 @@
+//! What was told of an address or of an origin, so that it can be noted, written down and answered again: a whole response or
+//! why there is none, and the chain of redirects of a robots file. It knows nothing of connections. The meaning is written in
+//! `specs/`: `Tellings` what a telling answers, `RobotsAnswers` the rules that it gives, `HopChains` which chains can be. Its
+//! tests stand in `site_tests`.
+#![tactic(auto)]
+
+mod given;
+mod hops;
+mod noted;
+mod recording;
+mod robots_answer;
+mod telling;
+mod told;
+
+pub use given::Given;
+pub use hops::Hops;
+pub use noted::Noted;
+pub use recording::Recording;
+pub use telling::Telling;
+pub use told::Told;

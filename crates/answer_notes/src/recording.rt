@@ -1,0 +1,16 @@
+//! Fetchers that may have notes of what they were told.
+ghost use Rattle.std.specs.Prelude.{◌≡◌, List};
+ghost use Rattle.answer_notes.specs.declared.noted.Noted.{Noted};
+
+use crate::noted::Noted;
+use fetcher::Fetcher;
+
+/// Asks as any fetcher does, and may note what it is told, so that this can be saved.
+pub trait Recording: Fetcher {
+    /// What was noted, in order.
+    ghost noted: { Self → List Noted };
+
+    /// What was noted, in order. Takes no memory.
+    fn notes(&self) -> &[Noted]
+        ensures { result.now ≡ noted self.now };
+}

@@ -1,0 +1,82 @@
+//! What was told of an address, as it can be written down: a whole response, or why there is none.
+ghost use Rattle.std.specs.Prelude.{◌≡◌, IfOk, Some, None};
+ghost use Rattle.answer_notes.specs.Tellings.{outcome_told, body_told, target_told, rules_told};
+
+use crate::given::Given;
+use crate::robots_answer::rules_by_status;
+use address::Address;
+use fetcher::{Answer, Body, FaultKind, Outcome};
+use response_answer::{digest, into_answer, redirect_target};
+use robots_rules::RuleSet;
+use std::alloc::{AllocError, Global};
+
+/// What was told of an address.
+#[derive(Drop)]
+pub enum Told {
+    /// A whole response.
+    Whole(Given),
+    /// No response, and why.
+    Fault(FaultKind),
+}
+
+impl Told {
+    ghost use Rattle.std.specs.Prelude.{◌≡◌, IfOk};
+
+    /// What it answers for the address that was asked. Where `robots` says so, a page that asks that its links aren't followed
+    /// has no edges. The error is want of memory.
+    pub fn answer(&self, alloc: Global, at: &Address, robots: bool) -> Result<Answer, AllocError>
+        ensures outcome { IfOk result (λ a. a.outcome ≡ outcome_told robots at.now self.now) }
+        ensures body { IfOk result (λ a. a.body ≡ body_told self.now) }
+    {
+        match self {
+            Told::Whole(given) => digest(alloc, at, given.response(), robots),
+            Told::Fault(kind) => Ok(Answer {
+                outcome: Outcome::Fault(*kind),
+                body: Body::new(Vec::new(alloc)),
+            }),
+        }
+    }
+
+    /// The same answer where it isn't needed any more: the body moves and isn't copied. The error is want of memory.
+    pub fn into_answer(
+        self,
+        alloc: Global,
+        at: &Address,
+        robots: bool,
+    ) -> Result<Answer, AllocError>
+        ensures outcome { IfOk result (λ a. a.outcome ≡ outcome_told robots at.now self) }
+        ensures body { IfOk result (λ a. a.body ≡ body_told self) }
+    {
+        match self {
+            Told::Whole(given) => into_answer(alloc, at, given.into_response(), robots),
+            Told::Fault(kind) => Ok(Answer {
+                outcome: Outcome::Fault(kind),
+                body: Body::new(Vec::new(alloc)),
+            }),
+        }
+    }
+
+    /// Where it redirects from the address that was asked, if anywhere. The error is want of memory.
+    pub fn target(&self, at: &Address) -> Result<Option<Address>, AllocError>
+        ensures { IfOk result (λ target. target ≡ target_told at.now self.now) }
+    {
+        match self {
+            Told::Whole(given) => redirect_target(at, given.response()),
+            Told::Fault(_) => Ok(None),
+        }
+    }
+
+    /// The rules of an origin whose robots file it is, where no redirect is followed any more (RFC 9309, section 2.3.1). The
+    /// error is want of memory.
+    pub fn rules(&self, alloc: Global) -> Result<RuleSet, AllocError>
+        ensures { IfOk result (λ rules. rules ≡ rules_told self.now) }
+    {
+        match self {
+            Told::Whole(given) => {
+                let response = given.response();
+                rules_by_status(alloc, response.status, response.body.as_slice())
+            }
+            Told::Fault(_) => Ok(RuleSet::none()),
+        }
+    }
+}

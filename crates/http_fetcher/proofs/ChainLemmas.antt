@@ -1,0 +1,52 @@
+-- How a chain of redirects grows.
+use Rattle.std.proofs.Common.{◌≡◌, ◌∙◌, ◌<◌, ◌+◌, ◌++◌, ℕ, zero, suc, Bool, List, [], ◌∷◌, Option, inl, inr, arith, ap, subst, length}
+use Rattle.std.proofs.lemmas.List.{length-append}
+use Rattle.address.specs.Address.{AddressText, OriginText}
+use Rattle.robots_rules.specs.Access.{RuleSetValue}
+use Rattle.response_reader.specs.Wire.{counted}
+use Rattle.fetcher.specs.declared.outcome.Outcome.{Outcome}
+use Rattle.answer_notes.specs.HopChains.{HopValue}
+use Rattle.http_fetcher.specs.declared.chain.Hop.{Hop}
+use Rattle.http_fetcher.specs.declared.chain.Hop.TheVariants.{Next, Last}
+use Rattle.http_fetcher.specs.Chains.{IsChain, SaysHop}
+use Rattle.http_fetcher.specs.Fetching.{IsGiven, IsTold, Tries}
+
+-- what was told over a connection is given, by what honours robots rules and keeps connections as before
+pub given_by : {C W : Type 0} (stands gives : C → OriginText → W → Type 0) (tries : C → Tries) (incoming outgoing : W → Option (List ℕ)) (failed : W → ℕ)
+    (robots same keeps kept : Bool) (at : AddressText) (x : Outcome) (body : List ℕ) (by after : C) → robots ≡ same → keeps ≡ kept
+    → IsTold (stands by) (gives by) incoming outgoing failed (tries by) (tries after) robots keeps at x body
+    → IsGiven stands gives tries incoming outgoing failed same kept at x body
+given_by stands gives tries incoming outgoing failed robots same keeps kept at x body by after is holds told =
+    let first = subst (λ b. IsTold (stands by) (gives by) incoming outgoing failed (tries by) (tries after) b keeps at x body) is told in
+    (by, after, subst (λ b. IsTold (stands by) (gives by) incoming outgoing failed (tries by) (tries after) same b at x body) holds first)
+
+-- what an answer says of the hop that it was read as
+pub says_of : (x : Outcome) (body : List ℕ) (n : ℕ) (hop read : Hop) → hop ≡ read → SaysHop x body n hop → SaysHop x body n read
+says_of x body n hop read is says = subst (λ h. SaysHop x body n h) is says
+
+-- a redirect that is followed may be
+pub may_follow : (x : Outcome) (body : List ℕ) (n : ℕ) (hop : Hop) (next : AddressText) → hop ≡ Next next → SaysHop x body n hop → 0 < n
+may_follow x body n hop next is says = let leads : SaysHop x body n (Next next) = says_of x body n hop (Next next) is says in leads.0
+
+-- an answer that decides ends a chain
+pub chain_ends : (Told : AddressText → Outcome → List ℕ → Type 0) (n : ℕ) (at : AddressText) (rules : RuleSetValue) (x : Outcome) (body : List ℕ)
+    → Told at x body → SaysHop x body n (Last rules) → IsChain Told n at rules
+unfolding IsChain
+chain_ends Told zero at rules x body told says = (x, body, told, says)
+chain_ends Told (suc n) at rules x body told says = (x, body, told, inl says)
+
+-- a chain goes on behind a redirect
+pub chain_goes_on : (Told : AddressText → Outcome → List ℕ → Type 0) (n m : ℕ) (at next : AddressText) (rules : RuleSetValue) (x : Outcome) (body : List ℕ)
+    → Told at x body → SaysHop x body n (Next next) → n ≡ m + 1 → IsChain Told m next rules → IsChain Told n at rules
+unfolding IsChain
+chain_goes_on Told zero m at next rules x body told says is chain = let none : 0 < 0 = says.0 in absurd (omega arith)
+chain_goes_on Told (suc n) m at next rules x body told says is chain =
+    let same : m ≡ n = omega arith in
+    (x, body, told, inr (next, says, subst (λ k. IsChain Told k next rules) same chain))
+
+-- a hop more, and a connection more
+pub one_more : (first before after : ℕ) (old new : List HopValue) (hop : HopValue) → before ≡ counted first (length old) → after ≡ counted before 1
+    → new ≡ old ++ hop ∷ [] → after ≡ counted first (length new)
+one_more first before after old new hop is one more =
+    let longer : length new ≡ length old + 1 = ap length more ∙ length-append old (hop ∷ []) in
+    omega arith

@@ -1,0 +1,5 @@
+pub mod AnswerLemmas
+pub mod ChainLemmas
+pub mod TellingLemmas
+pub mod MeaningLaws
+pub mod KeptLemmas

@@ -1,0 +1,85 @@
+-- Each redirect makes the chain and the hops longer by one answer, and the last answer ends them.
+use Rattle.std.proofs.Common.{◌∙◌, ◌<◌, ◌-◌, ◌++◌, [], ◌∷◌, arith, refl, sym, ap, subst, append_assoc}
+use Rattle.answer_notes.specs.HopChains.{IsAdmitted, rules_of_hops}
+use Rattle.http_fetcher.specs.inner.Chains.{TellsHop}
+use Rattle.http_fetcher.specs.declared.chain.Hop.TheVariants.{Next, Last}
+use Rattle.http_fetcher.specs.Fetching.{tries_by}
+use Rattle.http_fetcher.proofs.KeptLemmas.{stands_more}
+use Rattle.http_fetcher.proofs.ChainLemmas.{chain_ends, chain_goes_on, given_by, one_more}
+use Rattle.answer_notes.proofs.HopLemmas.{hop_goes_on, hop_ends, rules_behind}
+use Rattle.http_fetcher.proofs.TellingLemmas.{tells_of, tells_says}
+use Rattle.http_fetcher.proofs.http_fetcher.HttpFetcher.follow.Goals as goal
+
+pub hops-preserved : goal.hops-preserved
+hops-preserved g c =
+    let tells : TellsHop c.hops.at c.in_ok-told.told c.hops.left (Next c.in-Next.next) = tells_of c.hops.at c.in_ok-told.told c.hops.left _ _ c.in-Next.is c.in_ok-rules.ensures in
+    let some : 0 < c.hops.left = tells.0 in
+    record {
+      asks = c.in_ok-told.ensures.asks ∙ c.hops.invariant.asks;
+      robots = c.in_ok-told.ensures.robots ∙ c.hops.invariant.robots;
+      keeps = c.in_ok-told.ensures.keeps ∙ c.hops.invariant.keeps;
+      is_recording = c.in_ok-told.ensures.is_recording ∙ c.hops.invariant.is_recording;
+      notes = c.in_ok-told.ensures.notes ∙ c.hops.invariant.notes;
+      origin = c.hops.invariant.origin;
+      left = let was = c.hops.invariant.left in omega arith;
+      count = λ none. one_more _ _ _ c.hops.hops.items _ (c.hops.at, c.in_ok-told.told) (c.hops.invariant.count none) (c.in_ok-told.ensures.one (c.hops.invariant.keeps ∙ none)) c.in_ok-push-in-Next.ensures.items;
+      few = let was = c.hops.invariant.few in let most = c.in_ok-told.ensures.most in omega arith;
+      stands = stands_more _ _ _ g.C.Connect.again g.C.Wire.Wire.incoming g.C.Wire.Wire.outgoing _ _ c.hops.at c.hops.invariant.keeps c.hops.invariant.stands c.in_ok-told.ensures.stands;
+      chain = λ r chain. c.hops.invariant.chain r (chain_goes_on _ c.hops.left (c.hops.left - 1) _ _ r _ _
+          (given_by g.C.Connect.stands g.C.Connect.gives (tries_by g.C.Connect.made g.C.Connect.refused g.C.Connect.taken) g.C.Wire.Wire.incoming g.C.Wire.Wire.outgoing g.C.Wire.Wire.failed _ _ _ _ _ _ _ _ _ c.hops.invariant.robots c.hops.invariant.keeps c.in_ok-told.ensures.told)
+          (tells_says c.hops.self.robots c.hops.at c.in_ok-told.told c.hops.left (Next c.in-Next.next) tells) (omega arith) chain);
+      admitted = λ tail are. subst (λ l. IsAdmitted c.args.of.now l)
+          (sym (ap (λ l. l ++ tail) c.in_ok-push-in-Next.ensures.items ∙ append_assoc c.hops.hops.items ((c.hops.at, c.in_ok-told.told) ∷ []) tail))
+          (c.hops.invariant.admitted ((c.hops.at, c.in_ok-told.told) ∷ tail) (hop_goes_on c.hops.left (c.hops.left - 1) c.hops.at c.in-Next.next c.in_ok-told.told tail tells.1 (omega arith) are));
+    }
+
+pub new-requires : goal.new-requires
+new-requires g c =
+    let tells : TellsHop c.hops.at c.in_ok-told.told c.hops.left (Last c.in-Last.rules) = tells_of c.hops.at c.in_ok-told.told c.hops.left _ _ c.in-Last.is c.in_ok-rules.ensures in
+    subst (λ o. IsAdmitted o c.push.new.self.items) (sym c.hops.invariant.origin)
+    (subst (λ l. IsAdmitted c.args.of.now l) (sym c.in_ok-push-in-Last.ensures.items)
+    (c.hops.invariant.admitted ((c.hops.at, c.in_ok-told.told) ∷ []) (hop_ends c.hops.left c.hops.at c.in_ok-told.told tells.0)))
+
+pub returns-in-Last-clause-of : goal.returns-in-Last-clause-of
+returns-in-Last-clause-of g c = c.new.ensures.of ∙ c.hops.invariant.origin
+
+pub returns-in-Last-clause-rules : goal.returns-in-Last-clause-rules
+returns-in-Last-clause-rules g c =
+    let tells : TellsHop c.hops.at c.in_ok-told.told c.hops.left (Last c.in-Last.rules) = tells_of c.hops.at c.in_ok-told.told c.hops.left _ _ c.in-Last.is c.in_ok-rules.ensures in
+    tells.1 ∙ sym (ap rules_of_hops (c.new.ensures.hops ∙ c.in_ok-push-in-Last.ensures.items) ∙ rules_behind c.hops.hops.items (c.hops.at, c.in_ok-told.told) [])
+
+pub returns-in-Last-clause-chain : goal.returns-in-Last-clause-chain
+returns-in-Last-clause-chain g c =
+    let tells : TellsHop c.hops.at c.in_ok-told.told c.hops.left (Last c.in-Last.rules) = tells_of c.hops.at c.in_ok-told.told c.hops.left _ _ c.in-Last.is c.in_ok-rules.ensures in
+    c.hops.invariant.chain _ (chain_ends _ c.hops.left _ _ _ _
+    (given_by g.C.Connect.stands g.C.Connect.gives (tries_by g.C.Connect.made g.C.Connect.refused g.C.Connect.taken) g.C.Wire.Wire.incoming g.C.Wire.Wire.outgoing g.C.Wire.Wire.failed _ _ _ _ _ _ _ _ _ c.hops.invariant.robots c.hops.invariant.keeps c.in_ok-told.ensures.told)
+    (tells_says c.hops.self.robots c.hops.at c.in_ok-told.told c.hops.left (Last c.in-Last.rules) tells))
+
+pub returns-in-Last-clause-hops : goal.returns-in-Last-clause-hops
+returns-in-Last-clause-hops g c none =
+    one_more _ _ _ c.hops.hops.items _ (c.hops.at, c.in_ok-told.told) (c.hops.invariant.count none) (c.in_ok-told.ensures.one (c.hops.invariant.keeps ∙ none)) (c.new.ensures.hops ∙ c.in_ok-push-in-Last.ensures.items)
+
+pub returns-in-Last-clause-count : goal.returns-in-Last-clause-count
+returns-in-Last-clause-count g c none =
+    let tells : TellsHop c.hops.at c.in_ok-told.told c.hops.left (Last c.in-Last.rules) = tells_of c.hops.at c.in_ok-told.told c.hops.left _ _ c.in-Last.is c.in_ok-rules.ensures in (
+      c.hops.hops.items ++ (c.hops.at, c.in_ok-told.told) ∷ [],
+      c.hops.invariant.admitted ((c.hops.at, c.in_ok-told.told) ∷ []) (hop_ends c.hops.left c.hops.at c.in_ok-told.told tells.0),
+      tells.1 ∙ sym (rules_behind c.hops.hops.items (c.hops.at, c.in_ok-told.told) []),
+      one_more _ _ _ c.hops.hops.items _ (c.hops.at, c.in_ok-told.told) (c.hops.invariant.count none) (c.in_ok-told.ensures.one (c.hops.invariant.keeps ∙ none)) refl,
+    )
+
+pub returns-in-Last-clause-stands : goal.returns-in-Last-clause-stands
+returns-in-Last-clause-stands g c =
+    stands_more _ _ _ g.C.Connect.again g.C.Wire.Wire.incoming g.C.Wire.Wire.outgoing _ _ c.hops.at c.hops.invariant.keeps c.hops.invariant.stands c.in_ok-told.ensures.stands
+
+pub returns-in_err-rules-clause-stands : goal.returns-in_err-rules-clause-stands
+returns-in_err-rules-clause-stands g c =
+    stands_more _ _ _ g.C.Connect.again g.C.Wire.Wire.incoming g.C.Wire.Wire.outgoing _ _ c.hops.at c.hops.invariant.keeps c.hops.invariant.stands c.in_ok-told.ensures.stands
+
+pub returns-in_err-push-in-Last-clause-stands : goal.returns-in_err-push-in-Last-clause-stands
+returns-in_err-push-in-Last-clause-stands g c =
+    stands_more _ _ _ g.C.Connect.again g.C.Wire.Wire.incoming g.C.Wire.Wire.outgoing _ _ c.hops.at c.hops.invariant.keeps c.hops.invariant.stands c.in_ok-told.ensures.stands
+
+pub returns-in_err-push-in-Next-clause-stands : goal.returns-in_err-push-in-Next-clause-stands
+returns-in_err-push-in-Next-clause-stands g c =
+    stands_more _ _ _ g.C.Connect.again g.C.Wire.Wire.incoming g.C.Wire.Wire.outgoing _ _ c.hops.at c.hops.invariant.keeps c.hops.invariant.stands c.in_ok-told.ensures.stands

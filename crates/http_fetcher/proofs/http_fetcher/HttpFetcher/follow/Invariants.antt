@@ -1,0 +1,28 @@
+use Rattle.std.proofs.Common.{◌≡◌, ◌≤◌, ◌+◌, ◌++◌, List, codes, length, false}
+use Rattle.robots_rules.specs.Access.{RuleSetValue}
+use Rattle.response_reader.specs.Wire.{counted}
+use Rattle.answer_notes.specs.RobotsAnswers.{max_redirects}
+use Rattle.http_fetcher.specs.Chains.{IsChain}
+use Rattle.http_fetcher.specs.Fetching.{IsGiven, StandsBehind, tries_by}
+use Rattle.answer_notes.specs.HopChains.{HopValue, AreHops, IsAdmitted}
+use Rattle.http_fetcher.proofs.http_fetcher.HttpFetcher.follow.Given as goal
+
+abbrev pub invariant-hops : goal.invariant-hops
+invariant-hops g l =
+    let Told = IsGiven g.C.Connect.stands g.C.Connect.gives (tries_by g.C.Connect.made g.C.Connect.refused g.C.Connect.taken) g.C.Wire.Wire.incoming g.C.Wire.Wire.outgoing g.C.Wire.Wire.failed l.fn.self.robots l.fn.self.keeps in record {
+      asks : l.self.asks ≡ l.fn.self.asks;
+      robots : l.self.robots ≡ l.fn.self.robots;
+      keeps : l.self.keeps ≡ l.fn.self.keeps;
+      is_recording : l.self.is_recording ≡ l.fn.self.is_recording;
+      notes : l.self.notes ≡ l.fn.self.notes;
+      origin : l.origin ≡ l.fn.of;
+      left : l.left ≤ max_redirects;
+      count : l.fn.self.keeps ≡ false → g.C.Connect.made l.self.connect ≡ counted (g.C.Connect.made l.fn.self.connect) (length l.hops.items);
+      few : g.C.Connect.made l.self.connect + l.left ≤ g.C.Connect.made l.fn.self.connect + max_redirects;
+      stands : StandsBehind (g.C.Connect.stands l.fn.self.connect) (g.C.Connect.stands l.self.connect) g.C.Connect.again g.C.Wire.Wire.incoming g.C.Wire.Wire.outgoing l.fn.self.keeps;
+      chain : (r : RuleSetValue) → IsChain Told l.left l.at r → IsChain Told max_redirects (l.fn.of ++ codes "/robots.txt") r;
+      admitted : (tail : List HopValue) → AreHops l.left l.at tail → IsAdmitted l.fn.of (l.hops.items ++ tail);
+    }
+
+abbrev pub decreases-hops : goal.decreases-hops
+decreases-hops g l = l.left

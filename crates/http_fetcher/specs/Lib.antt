@@ -1,0 +1,6 @@
+pub mod Connects
+pub mod Chains
+pub mod Notes
+pub mod Fetching
+pub mod Meanings
+pub mod inner

@@ -1,0 +1,36 @@
+-- What a site may answer that is asked over connections.
+use Rattle.std.specs.Prelude.{◌≡◌, ◌⊎◌, ℕ, Bool, List, [], ◌++◌, Some, codes}
+use Rattle.address.specs.Address.{AddressText, OriginText}
+use Rattle.robots_rules.specs.Access.{RuleSetValue}
+use Rattle.response_reader.specs.ReadFaults.{IsFault}
+use Rattle.response_reader.specs.declared.fault.ReadFault.{ReadFault}
+use Rattle.fetcher.specs.declared.fault_kind.FaultKind.{FaultKind}
+use Rattle.fetcher.specs.declared.fault_kind.FaultKind.TheVariants as kind
+use Rattle.fetcher.specs.declared.outcome.Outcome.{Outcome}
+use Rattle.fetcher.specs.declared.outcome.Outcome.TheVariants.{Fault}
+use Rattle.response_answer.specs.KindsOfFaults.{kind_of_fault}
+use Rattle.answer_notes.specs.RobotsAnswers.{max_redirects}
+use Rattle.http_fetcher.specs.Chains.{IsChain}
+use Rattle.http_fetcher.specs.Fetching.{IsDigestOf}
+
+-- the answer is this fault, without a body
+abbrev pub IsNoResponse : FaultKind → Outcome → List ℕ → Type 0
+IsNoResponse kind x body = (x ≡ Fault kind) × (body ≡ [])
+
+-- the answer is the fault for which no response was read of these bytes
+abbrev pub IsUnread : Outcome → List ℕ → List ℕ → Type 0
+IsUnread x body bytes =
+    (fault : ReadFault) × (kind : FaultKind) × (kind_of_fault fault ≡ Some kind) × IsFault fault bytes × IsNoResponse kind x body
+
+-- what a site may answer for an address, where robots rules are honoured or not: what the response that begins some bytes answers,
+-- or the fault of such bytes; or no connection was made, or the request wasn't written
+abbrev pub MayAnswer : Bool → AddressText → Outcome → List ℕ → Type 0
+MayAnswer robots at x body =
+    ((bytes : List ℕ) × IsDigestOf robots at x body bytes)
+    ⊎ ((bytes : List ℕ) × IsUnread x body bytes)
+    ⊎ IsNoResponse kind.Connect x body
+    ⊎ IsNoResponse kind.Device x body
+
+-- which rules an origin may have: those at the end of a chain of such answers, which begins at its robots file (RFC 9309, section 2.3.1)
+abbrev pub MayRule : Bool → OriginText → RuleSetValue → Type 0
+MayRule robots of rules = IsChain (MayAnswer robots) max_redirects (of ++ codes "/robots.txt") rules

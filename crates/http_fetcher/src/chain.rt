@@ -1,0 +1,35 @@
+//! Which rules the answers of a robots file give, redirects followed (RFC 9309, section 2.3.1).
+ghost use Rattle.std.specs.Prelude.{◌≡◌, IfOk};
+ghost use Rattle.http_fetcher.specs.inner.Chains.{TellsHop};
+
+use address::Address;
+use answer_notes::Told;
+use robots_rules::RuleSet;
+use std::alloc::{AllocError, Global};
+
+/// What one answer says of an origin's rules.
+#[derive(Drop)]
+pub(crate) enum Hop {
+    /// The file is elsewhere: this address is to be asked.
+    Next(Address),
+    /// These are the rules.
+    Last(RuleSet),
+}
+
+/// What was told of an address says, where so many redirects may still be followed. The error is want of memory.
+pub(crate) fn read_hop(
+    alloc: Global,
+    at: &Address,
+    told: &Told,
+    left: u32,
+) -> Result<Hop, AllocError>
+    ensures { IfOk result (λ hop. TellsHop at.now told.now left hop) }
+{
+    if left == 0 {
+        return Ok(Hop::Last(told.rules(alloc)?));
+    }
+    match told.target(at)? {
+        Some(next) => Ok(Hop::Next(next)),
+        None => Ok(Hop::Last(told.rules(alloc)?)),
+    }
+}

@@ -1,0 +1,625 @@
+//! A fetcher that asks over connections, a new one for each question or one that served before (RFC 9112, sections 9.3 and 9.6).
+ghost use Rattle.std.specs.Prelude.{◌≡◌, ◌⊎◌, ◌≤◌, ◌+◌, ℕ, List, [], ◌∷◌, ◌++◌, true, false, length, IsTrue, Some, IfOk, IfSome, IfNone, OnOk, OnErr, codes};
+ghost use Rattle.std.specs.Io.KnownBytes.{Appends, IsAtEnd, Keeps};
+ghost use Rattle.response_reader.specs.Wire.{counted, HasRisen, OfBytes};
+ghost use Rattle.response_reader.specs.Reusable.{Reusable};
+ghost use Rattle.address.specs.Address.{origin_of};
+ghost use Rattle.response_answer.specs.KindsOfFaults.{kind_of_fault};
+ghost use Rattle.fetcher.specs.declared.fault_kind.FaultKind.{FaultKind};
+ghost use Rattle.fetcher.specs.declared.fetcher.Ask.TheVariants as ask;
+ghost use Rattle.fetcher.specs.Logs.{GainedAtMost};
+ghost use Rattle.answer_notes.specs.RobotsAnswers.{max_redirects};
+ghost use Rattle.answer_notes.specs.Tellings.{outcome_told, body_told};
+ghost use Rattle.answer_notes.specs.HopChains.{rules_of_hops};
+ghost use Rattle.answer_notes.specs.declared.told.Told.TheVariants as told;
+ghost use Rattle.http_fetcher.specs.Chains.{CountsHops, IsChain};
+ghost use Rattle.http_fetcher.specs.Connects.{Stays};
+ghost use Rattle.http_fetcher.specs.Fetching.{AnswersBytes, ComesOver, IsGiven, IsSilent, IsSilentOn, IsTold, IsToldBy, IsUnmade, LeavesUsable, StandsBehind, StandsBy, request_by, tries_by};
+ghost use Rattle.http_fetcher.specs.Notes.{NotesPage, NotesChain};
+ghost use Rattle.http_fetcher.specs.Meanings.{MayAnswer, MayRule};
+
+use crate::chain::{Hop, read_hop};
+use crate::connect::{Connect, ConnectFault};
+use address::{Address, Origin};
+use answer_notes::{Given, Hops, Noted, Recording, Telling, Told};
+use fetcher::{Answer, Ask, FaultKind, Fetcher};
+use response_answer::kind_of_fault;
+use response_reader::{
+    ReadFault, Reply, RequestFault, read_reply, read_reply_if_any, write_kept_request,
+    write_request,
+};
+use robots_rules::RuleSet;
+use std::alloc::{AllocError, Global};
+use std::marker::Model;
+
+/// How many redirects of a robots file are followed (RFC 9309, section 2.3.1.2).
+const MAX_REDIRECTS: u32 = 5;
+
+/// Asks a site over connections: a new one for each page and for each hop of a robots file, or one that served before and was
+/// kept. What such a site tells is unknown, so an answer is what some bytes say, or that none came, and rules stand at the end
+/// of a chain of such answers.
+#[derive(Drop)]
+pub struct HttpFetcher<C: Connect> {
+    alloc: Global,
+    connect: C,
+    robots: bool,
+    keeps: bool,
+    asks: Vec<Ask>,
+    is_recording: bool,
+    notes: Vec<Noted>,
+}
+
+impl<C: Connect> Model for HttpFetcher<C> {
+    ghost use Rattle.http_fetcher.specs.Fetching.{Fetching};
+
+    ghost Value = { Fetching C };
+
+    ghost view = { λ f. record { connect = f.connect; robots = f.robots; keeps = f.keeps; asks = f.asks.items; is_recording = f.is_recording; notes = f.notes.items } };
+}
+
+/// What was told over a wire, and whether its connection serves again.
+#[derive(Drop)]
+struct Heard {
+    told: Told,
+    serves: bool,
+}
+
+impl<C: Connect> HttpFetcher<C> {
+    /// Asks over these connections. Where robots rules are honoured, a page that asks that its links
+    /// aren't followed has no edges. Takes no memory; later growth comes from `alloc`.
+    pub fn new(alloc: Global, connect: C, robots: bool) -> HttpFetcher<C>
+        ensures connect { result.connect ≡ connect }
+        ensures robots { result.robots ≡ robots }
+        ensures keeps { result.keeps ≡ false }
+        ensures asks { result.asks ≡ [] }
+        ensures is_recording { result.is_recording ≡ false }
+        ensures notes { result.notes ≡ [] }
+    {
+        HttpFetcher {
+            alloc,
+            connect,
+            robots,
+            keeps: false,
+            asks: Vec::new(alloc),
+            is_recording: false,
+            notes: Vec::new(alloc),
+        }
+    }
+
+    /// The same, with a note of each ask that succeeds.
+    pub fn recording(alloc: Global, connect: C, robots: bool) -> HttpFetcher<C>
+        ensures connect { result.connect ≡ connect }
+        ensures robots { result.robots ≡ robots }
+        ensures keeps { result.keeps ≡ false }
+        ensures asks { result.asks ≡ [] }
+        ensures is_recording { result.is_recording ≡ true }
+        ensures notes { result.notes ≡ [] }
+    {
+        HttpFetcher {
+            alloc,
+            connect,
+            robots,
+            keeps: false,
+            asks: Vec::new(alloc),
+            is_recording: true,
+            notes: Vec::new(alloc),
+        }
+    }
+
+    /// The same fetcher, which keeps connections that serve again, and takes them again. Where one of these died before a byte
+    /// came over it, the question is asked once more over a new one (RFC 9112, section 9.3.1), so a server may see it twice.
+    pub fn keeping(self) -> HttpFetcher<C>
+        ensures connect { result.connect ≡ self.connect }
+        ensures robots { result.robots ≡ self.robots }
+        ensures keeps { result.keeps ≡ true }
+        ensures asks { result.asks ≡ self.asks }
+        ensures is_recording { result.is_recording ≡ self.is_recording }
+        ensures notes { result.notes ≡ self.notes }
+    {
+        let HttpFetcher {
+            alloc,
+            connect,
+            robots,
+            asks,
+            is_recording,
+            notes,
+            ..
+        } = self;
+        HttpFetcher {
+            alloc,
+            connect,
+            robots,
+            keeps: true,
+            asks,
+            is_recording,
+            notes,
+        }
+    }
+
+    /// What was noted, in order. Takes no memory.
+    pub fn notes(&self) -> &[Noted]
+        ensures { result.now ≡ self.now.notes }
+    {
+        self.notes.as_slice()
+    }
+
+    /// What makes the connections.
+    pub fn connect(&self) -> &C
+        ensures { result.now ≡ self.now.connect }
+    {
+        &self.connect
+    }
+
+    // What a wire tells, once the request was written. The error is want of memory.
+    fn read_told(&self, wire: &mut C::Wire, at: &Address) -> Result<Heard, AllocError>
+        ensures told { IfOk result (λ h. OfBytes (C.Wire.incoming wire.old)
+            (AnswersBytes self.now.robots at.now (C.Wire.failed wire.old) (C.Wire.failed wire.new) (outcome_told self.now.robots at.now h.told) (body_told h.told))) }
+        ensures serves { IfOk result (λ h. IsTrue h.serves → Reusable (C.Wire.incoming wire.old) (C.Wire.incoming wire.new) true) }
+        ensures written { Keeps (C.Wire.outgoing wire.old) (C.Wire.outgoing wire.new) }
+    {
+        // The address is named by the contract alone.
+        let _ = at;
+        match read_reply(self.alloc, wire) {
+            Ok(Reply { response, reusable }) => Ok(Heard {
+                told: Told::Whole(Given::new(response)),
+                serves: reusable,
+            }),
+            Err(fault) => self.unread(fault),
+        }
+    }
+
+    // What a fault tells, in which no response was read. The error is want of memory.
+    fn unread(&self, fault: ReadFault) -> Result<Heard, AllocError>
+        ensures told { IfOk result (λ h. (kind : FaultKind) × (kind_of_fault fault ≡ Some kind) × (h.told ≡ told.Fault kind)) }
+        ensures serves { IfOk result (λ h. h.serves ≡ false) }
+    {
+        match kind_of_fault(fault) {
+            Some(kind) => Ok(Heard {
+                told: Told::Fault(kind),
+                serves: false,
+            }),
+            None => Err(AllocError),
+        }
+    }
+
+    // What a wire tells that served before: none where no byte came. The error is want of memory.
+    fn read_again(&self, wire: &mut C::Wire, at: &Address) -> Result<Option<Heard>, AllocError>
+        ensures silent { IfOk result (λ o. IfNone o (Keeps (C.Wire.incoming wire.old) (C.Wire.incoming wire.new)
+            × (IsAtEnd (C.Wire.incoming wire.old) ⊎ HasRisen (C.Wire.failed wire.old) (C.Wire.failed wire.new)))) }
+        ensures told { IfOk result (λ o. IfSome o (λ h. OfBytes (C.Wire.incoming wire.old)
+            (AnswersBytes self.now.robots at.now (C.Wire.failed wire.old) (C.Wire.failed wire.new) (outcome_told self.now.robots at.now h.told) (body_told h.told)))) }
+        ensures serves { IfOk result (λ o. IfSome o (λ h. IsTrue h.serves → Reusable (C.Wire.incoming wire.old) (C.Wire.incoming wire.new) true)) }
+        ensures written { Keeps (C.Wire.outgoing wire.old) (C.Wire.outgoing wire.new) }
+    {
+        let _ = at;
+        match read_reply_if_any(self.alloc, wire) {
+            Ok(Some(Reply { response, reusable })) => Ok(Some(Heard {
+                told: Told::Whole(Given::new(response)),
+                serves: reusable,
+            })),
+            Ok(None) => Ok(None),
+            Err(fault) => {
+                let heard = self.unread(fault)?;
+                Ok(Some(heard))
+            }
+        }
+    }
+
+    // Writes the request, which asks to close the connection unless it is kept.
+    fn write(&self, wire: &mut C::Wire, at: &Address) -> Result<(), RequestFault>
+        ensures written { OnOk result (Appends (C.Wire.outgoing wire.old) (C.Wire.outgoing wire.new) (request_by self.now.keeps at.now)) }
+        ensures device { OnErr result (HasRisen (C.Wire.failed wire.old) (C.Wire.failed wire.new)) }
+        ensures read { Keeps (C.Wire.incoming wire.old) (C.Wire.incoming wire.new) }
+    {
+        if self.keeps {
+            write_kept_request(wire, at)
+        } else {
+            write_request(wire, at)
+        }
+    }
+
+    // What is told over a new wire. The error is want of memory.
+    fn told_over(&self, wire: &mut C::Wire, at: &Address) -> Result<Heard, AllocError>
+        ensures told { IfOk result (λ h. ComesOver C.Wire.incoming C.Wire.outgoing C.Wire.failed self.now.robots self.now.keeps at.now wire.old
+            (outcome_told self.now.robots at.now h.told) (body_told h.told)) }
+        ensures serves { IfOk result (λ h. IsTrue h.serves → LeavesUsable C.Wire.incoming C.Wire.outgoing self.now.keeps at.now wire.old wire.new) }
+        // Nothing is written behind the request.
+        ensures sent { Appends (C.Wire.outgoing wire.old) (C.Wire.outgoing wire.new) (request_by self.now.keeps at.now)
+            ⊎ HasRisen (C.Wire.failed wire.old) (C.Wire.failed wire.new) }
+    {
+        match self.write(wire, at) {
+            Ok(()) => self.read_told(wire, at),
+            Err(_) => Ok(Heard {
+                told: Told::Fault(FaultKind::Device),
+                serves: false,
+            }),
+        }
+    }
+
+    // What is told over a wire that served before: none where no byte came. The error is want of memory.
+    fn told_again(&self, wire: &mut C::Wire, at: &Address) -> Result<Option<Heard>, AllocError>
+        ensures silent { IfOk result (λ o. IfNone o (IsSilentOn C.Wire.incoming C.Wire.outgoing C.Wire.failed self.now.keeps at.now wire.old)) }
+        ensures told { IfOk result (λ o. IfSome o (λ h. ComesOver C.Wire.incoming C.Wire.outgoing C.Wire.failed self.now.robots self.now.keeps at.now wire.old
+            (outcome_told self.now.robots at.now h.told) (body_told h.told))) }
+        ensures serves { IfOk result (λ o. IfSome o (λ h. IsTrue h.serves → LeavesUsable C.Wire.incoming C.Wire.outgoing self.now.keeps at.now wire.old wire.new)) }
+    {
+        match self.write(wire, at) {
+            Ok(()) => self.read_again(wire, at),
+            Err(_) => Ok(None),
+        }
+    }
+
+    // Keeps a connection that serves again, and ends another.
+    fn put_away(&mut self, of: &Origin, wire: C::Wire, serves: bool)
+        ensures asks { self.new.asks ≡ self.old.asks }
+        ensures robots { self.new.robots ≡ self.old.robots }
+        ensures keeps { self.new.keeps ≡ self.old.keeps }
+        ensures is_recording { self.new.is_recording ≡ self.old.is_recording }
+        ensures notes { self.new.notes ≡ self.old.notes }
+        ensures made { C.made self.new.connect ≡ C.made self.old.connect }
+        ensures refused { C.refused self.new.connect ≡ C.refused self.old.connect }
+        ensures taken { C.taken self.new.connect ≡ C.taken self.old.connect }
+        ensures stands { (at : List ℕ) (w : C.Wire) → C.stands self.new.connect at w → C.stands self.old.connect at w
+            ⊎ ((at ≡ of.now) × (self.old.keeps ≡ true) × (serves ≡ true) × C.again wire w) }
+    {
+        if self.keeps && serves {
+            self.connect.give_back(of, wire);
+        } else {
+            self.connect.close(wire);
+        }
+    }
+
+    // Asks one question over one new connection. The error is want of memory.
+    fn ask_anew(&mut self, origin: &Origin, at: &Address) -> Result<Told, AllocError>
+        requires { origin.now ≡ origin_of at.now }
+        ensures asks { self.new.asks ≡ self.old.asks }
+        ensures robots { self.new.robots ≡ self.old.robots }
+        ensures keeps { self.new.keeps ≡ self.old.keeps }
+        ensures is_recording { self.new.is_recording ≡ self.old.is_recording }
+        ensures notes { self.new.notes ≡ self.old.notes }
+        ensures one { OnOk result (C.made self.new.connect ≡ counted (C.made self.old.connect) 1) }
+        ensures most { C.made self.new.connect ≤ C.made self.old.connect + 1 }
+        ensures taken { C.taken self.new.connect ≡ C.taken self.old.connect }
+        ensures told { IfOk result (λ t.
+            IsUnmade (C.refused self.old.connect) (C.refused self.new.connect) (outcome_told self.old.robots at.now t) (body_told t)
+            ⊎ IsToldBy (C.gives self.old.connect) C.Wire.incoming C.Wire.outgoing C.Wire.failed self.old.robots self.old.keeps at.now
+            (outcome_told self.old.robots at.now t) (body_told t)) }
+        ensures stands { StandsBy (C.stands self.old.connect) (C.stands self.new.connect) C.again C.Wire.incoming C.Wire.outgoing self.old.keeps at.now }
+    {
+        match self.connect.connect(origin) {
+            Ok(mut wire) => match self.told_over(&mut wire, at) {
+                Ok(heard) => {
+                    self.put_away(origin, wire, heard.serves);
+                    Ok(heard.told)
+                }
+                Err(none) => {
+                    self.connect.close(wire);
+                    Err(none)
+                }
+            },
+            Err(ConnectFault::Failed) => Ok(Told::Fault(FaultKind::Connect)),
+            Err(ConnectFault::Memory) => Err(AllocError),
+        }
+    }
+
+    // Asks it over a connection that was kept: none where there was none, or no byte came over it. The error is want of memory.
+    fn ask_again(&mut self, origin: &Origin, at: &Address) -> Result<Option<Told>, AllocError>
+        requires { origin.now ≡ origin_of at.now }
+        ensures asks { self.new.asks ≡ self.old.asks }
+        ensures robots { self.new.robots ≡ self.old.robots }
+        ensures keeps { self.new.keeps ≡ self.old.keeps }
+        ensures is_recording { self.new.is_recording ≡ self.old.is_recording }
+        ensures notes { self.new.notes ≡ self.old.notes }
+        ensures made { C.made self.new.connect ≡ C.made self.old.connect }
+        ensures refused { C.refused self.new.connect ≡ C.refused self.old.connect }
+        ensures gives { IfOk result (λ o. IfNone o (Stays (C.gives self.old.connect) (C.gives self.new.connect))) }
+        ensures silent { IfOk result (λ o. IfNone o ((C.taken self.new.connect ≡ C.taken self.old.connect)
+            ⊎ ((C.taken self.new.connect ≡ counted (C.taken self.old.connect) 1)
+            × (self.old.keeps ≡ true) × IsSilent (C.stands self.old.connect) C.Wire.incoming C.Wire.outgoing C.Wire.failed at.now))) }
+        ensures told { IfOk result (λ o. IfSome o (λ t. (C.taken self.new.connect ≡ counted (C.taken self.old.connect) 1)
+            × (self.old.keeps ≡ true) × IsToldBy (C.stands self.old.connect) C.Wire.incoming C.Wire.outgoing C.Wire.failed self.old.robots true at.now
+            (outcome_told self.old.robots at.now t) (body_told t))) }
+        ensures stands { StandsBy (C.stands self.old.connect) (C.stands self.new.connect) C.again C.Wire.incoming C.Wire.outgoing self.old.keeps at.now }
+    {
+        if !self.keeps {
+            return Ok(None);
+        }
+        let Some(mut wire) = self.connect.take(origin) else {
+            return Ok(None);
+        };
+        match self.told_again(&mut wire, at) {
+            Ok(Some(heard)) => {
+                self.put_away(origin, wire, heard.serves);
+                Ok(Some(heard.told))
+            }
+            Ok(None) => {
+                self.connect.close(wire);
+                Ok(None)
+            }
+            Err(none) => {
+                self.connect.close(wire);
+                Err(none)
+            }
+        }
+    }
+
+    // Asks one question, over a connection that was kept or else one new one. The error is want of memory.
+    fn exchange(&mut self, at: &Address) -> Result<Told, AllocError>
+        ensures asks { self.new.asks ≡ self.old.asks }
+        ensures robots { self.new.robots ≡ self.old.robots }
+        ensures keeps { self.new.keeps ≡ self.old.keeps }
+        ensures is_recording { self.new.is_recording ≡ self.old.is_recording }
+        ensures notes { self.new.notes ≡ self.old.notes }
+        ensures one { self.old.keeps ≡ false → OnOk result (C.made self.new.connect ≡ counted (C.made self.old.connect) 1) }
+        ensures most { C.made self.new.connect ≤ C.made self.old.connect + 1 }
+        ensures told { IfOk result (λ t. IsTold (C.stands self.old.connect) (C.gives self.old.connect) C.Wire.incoming C.Wire.outgoing C.Wire.failed
+            (tries_by C.made C.refused C.taken self.old.connect) (tries_by C.made C.refused C.taken self.new.connect)
+            self.old.robots self.old.keeps at.now (outcome_told self.old.robots at.now t) (body_told t)) }
+        ensures stands { StandsBy (C.stands self.old.connect) (C.stands self.new.connect) C.again C.Wire.incoming C.Wire.outgoing self.old.keeps at.now }
+    {
+        let origin = Origin::of(at)?;
+        match self.ask_again(&origin, at)? {
+            Some(told) => Ok(told),
+            None => self.ask_anew(&origin, at),
+        }
+    }
+
+    // Asks for a page. The error is want of memory.
+    fn ask_page(&mut self, at: &Address) -> Result<Answer, AllocError>
+        ensures asks { self.new.asks ≡ self.old.asks }
+        ensures robots { self.new.robots ≡ self.old.robots }
+        ensures keeps { self.new.keeps ≡ self.old.keeps }
+        ensures is_recording { self.new.is_recording ≡ self.old.is_recording }
+        ensures notes { self.new.notes ≡ self.old.notes }
+        ensures one { self.old.keeps ≡ false → OnOk result (C.made self.new.connect ≡ counted (C.made self.old.connect) 1) }
+        ensures most { C.made self.new.connect ≤ C.made self.old.connect + 1 }
+        ensures told { IfOk result (λ a. IsTold (C.stands self.old.connect) (C.gives self.old.connect) C.Wire.incoming C.Wire.outgoing C.Wire.failed
+            (tries_by C.made C.refused C.taken self.old.connect) (tries_by C.made C.refused C.taken self.new.connect)
+            self.old.robots self.old.keeps at.now a.outcome a.body) }
+        ensures stands { StandsBy (C.stands self.old.connect) (C.stands self.new.connect) C.again C.Wire.incoming C.Wire.outgoing self.old.keeps at.now }
+    {
+        let told = self.exchange(at)?;
+        let answer = told.into_answer(self.alloc, at, self.robots)?;
+        Ok(answer)
+    }
+
+    // Asks for a page, and notes what was told of it. The error is want of memory; then nothing is noted.
+    fn ask_and_note(&mut self, at: &Address) -> Result<Answer, AllocError>
+        ensures asks { self.new.asks ≡ self.old.asks }
+        ensures robots { self.new.robots ≡ self.old.robots }
+        ensures keeps { self.new.keeps ≡ self.old.keeps }
+        ensures is_recording { self.new.is_recording ≡ self.old.is_recording }
+        ensures one { self.old.keeps ≡ false → OnOk result (C.made self.new.connect ≡ counted (C.made self.old.connect) 1) }
+        ensures most { C.made self.new.connect ≤ C.made self.old.connect + 1 }
+        ensures told { IfOk result (λ a. IsTold (C.stands self.old.connect) (C.gives self.old.connect) C.Wire.incoming C.Wire.outgoing C.Wire.failed
+            (tries_by C.made C.refused C.taken self.old.connect) (tries_by C.made C.refused C.taken self.new.connect)
+            self.old.robots self.old.keeps at.now a.outcome a.body) }
+        ensures stands { StandsBy (C.stands self.old.connect) (C.stands self.new.connect) C.again C.Wire.incoming C.Wire.outgoing self.old.keeps at.now }
+        ensures noted { IfOk result (λ a. NotesPage true self.old.robots at.now a.outcome a.body self.old.notes self.new.notes) }
+        ensures unnoted { OnErr result (self.new.notes ≡ self.old.notes) }
+    {
+        let name = at.try_clone()?;
+        let told = self.exchange(at)?;
+        let answer = told.answer(self.alloc, at, self.robots)?;
+        self.notes.push(Noted::Page(name, told))?;
+        Ok(answer)
+    }
+
+    // What was told of an origin's robots file and of the redirects behind it, and the rules at the end. The error is want of
+    // memory.
+    fn follow(&mut self, of: &Origin) -> Result<(Hops, RuleSet), AllocError>
+        ensures asks { self.new.asks ≡ self.old.asks }
+        ensures robots { self.new.robots ≡ self.old.robots }
+        ensures keeps { self.new.keeps ≡ self.old.keeps }
+        ensures is_recording { self.new.is_recording ≡ self.old.is_recording }
+        ensures notes { self.new.notes ≡ self.old.notes }
+        ensures few { C.made self.new.connect ≤ C.made self.old.connect + (max_redirects + 1) }
+        ensures stands { StandsBehind (C.stands self.old.connect) (C.stands self.new.connect) C.again C.Wire.incoming C.Wire.outgoing self.old.keeps }
+        ensures count { self.old.keeps ≡ false → IfOk result (λ found. CountsHops (C.made self.old.connect) (C.made self.new.connect) of.now found.1) }
+        ensures hops { self.old.keeps ≡ false → IfOk result (λ found. C.made self.new.connect ≡ counted (C.made self.old.connect) (length found.0.hops)) }
+        ensures of { IfOk result (λ found. found.0.of ≡ of.now) }
+        ensures rules { IfOk result (λ found. found.1 ≡ rules_of_hops found.0.hops) }
+        ensures chain { IfOk result (λ found. IsChain
+            (IsGiven C.stands C.gives (tries_by C.made C.refused C.taken) C.Wire.incoming C.Wire.outgoing C.Wire.failed self.old.robots self.old.keeps)
+            max_redirects (of.now ++ codes "/robots.txt") found.1) }
+    {
+        let alloc = self.alloc;
+        let origin = of.try_clone()?;
+        let mut hops = Vec::new(alloc);
+        let mut at = of.robots_file()?;
+        let mut left = MAX_REDIRECTS;
+        'hops: loop {
+            let told = self.exchange(&at)?;
+            match read_hop(alloc, &at, &told, left)? {
+                Hop::Last(rules) => {
+                    hops.push((at, told))?;
+                    return Ok((Hops::new(origin, hops), rules));
+                }
+                Hop::Next(next) => {
+                    hops.push((at, told))?;
+                    at = next;
+                    left -= 1;
+                }
+            }
+        }
+    }
+
+    // Asks for an origin's rules, and notes what was told. The error is want of memory; then nothing is noted.
+    fn rules_of(&mut self, of: &Origin) -> Result<RuleSet, AllocError>
+        ensures asks { self.new.asks ≡ self.old.asks }
+        ensures robots { self.new.robots ≡ self.old.robots }
+        ensures keeps { self.new.keeps ≡ self.old.keeps }
+        ensures is_recording { self.new.is_recording ≡ self.old.is_recording }
+        ensures few { C.made self.new.connect ≤ C.made self.old.connect + (max_redirects + 1) }
+        ensures stands { StandsBehind (C.stands self.old.connect) (C.stands self.new.connect) C.again C.Wire.incoming C.Wire.outgoing self.old.keeps }
+        ensures count { self.old.keeps ≡ false → IfOk result (CountsHops (C.made self.old.connect) (C.made self.new.connect) of.now) }
+        ensures chain { IfOk result (IsChain
+            (IsGiven C.stands C.gives (tries_by C.made C.refused C.taken) C.Wire.incoming C.Wire.outgoing C.Wire.failed self.old.robots self.old.keeps)
+            max_redirects (of.now ++ codes "/robots.txt")) }
+        ensures noted { IfOk result (λ r. NotesChain self.old.is_recording of.now r self.old.notes self.new.notes) }
+        ensures unnoted { OnErr result (self.new.notes ≡ self.old.notes) }
+    {
+        let (hops, rules) = self.follow(of)?;
+        if self.is_recording {
+            self.notes.push(Noted::Chain(hops))?;
+        }
+        Ok(rules)
+    }
+}
+
+impl<C: Connect> Fetcher for HttpFetcher<C> {
+    ghost use Rattle.std.specs.Prelude.{Bool};
+
+    // Of the site it is known alone how its answers come of what it tells, robots rules honoured or not.
+    ghost Site = { Bool };
+
+    ghost site = { λ f. f.robots };
+
+    ghost says = { MayAnswer };
+
+    ghost rules = { MayRule };
+
+    ghost log = { λ f. f.asks };
+
+    fn ask(&mut self, at: &Address) -> Result<Answer, AllocError>
+        ensures asked { OnOk result (self.new.asks ≡ self.old.asks ++ ask.Page at.now ∷ []) }
+        ensures refused { OnErr result (GainedAtMost self.old.asks self.new.asks (ask.Page at.now)) }
+        // No connection is asked for before the ask is logged.
+        ensures first { OnErr result ((C.made self.new.connect ≡ C.made self.old.connect) ⊎ (self.new.asks ≡ self.old.asks ++ ask.Page at.now ∷ [])) }
+        ensures robots { self.new.robots ≡ self.old.robots }
+        ensures keeps { self.new.keeps ≡ self.old.keeps }
+        // The answer is what came over one connection behind its own request. Where none are kept, one is asked for.
+        ensures one { self.old.keeps ≡ false → OnOk result (C.made self.new.connect ≡ counted (C.made self.old.connect) 1) }
+        ensures most { C.made self.new.connect ≤ C.made self.old.connect + 1 }
+        ensures told { IfOk result (λ a. IsTold (C.stands self.old.connect) (C.gives self.old.connect) C.Wire.incoming C.Wire.outgoing C.Wire.failed
+            (tries_by C.made C.refused C.taken self.old.connect) (tries_by C.made C.refused C.taken self.new.connect)
+            self.old.robots self.old.keeps at.now a.outcome a.body) }
+        ensures stands { StandsBy (C.stands self.old.connect) (C.stands self.new.connect) C.again C.Wire.incoming C.Wire.outgoing self.old.keeps at.now }
+        ensures may { IfOk result (λ a. MayAnswer self.old.robots at.now a.outcome a.body) }
+        // A recording fetcher adds one note, which says the answer given.
+        ensures is_recording { self.new.is_recording ≡ self.old.is_recording }
+        ensures noted { IfOk result (λ a. NotesPage self.old.is_recording self.old.robots at.now a.outcome a.body self.old.notes self.new.notes) }
+        ensures unnoted { OnErr result (self.new.notes ≡ self.old.notes) }
+    {
+        self.asks.push(Ask::Page(at.try_clone()?))?;
+        if self.is_recording {
+            return self.ask_and_note(at);
+        }
+        self.ask_page(at)
+    }
+
+    fn ask_robots(&mut self, of: &Origin) -> Result<RuleSet, AllocError>
+        ensures asked { OnOk result (self.new.asks ≡ self.old.asks ++ ask.Rules of.now ∷ []) }
+        ensures refused { OnErr result (GainedAtMost self.old.asks self.new.asks (ask.Rules of.now)) }
+        // No connection is asked for before the ask is logged.
+        ensures first { OnErr result ((C.made self.new.connect ≡ C.made self.old.connect) ⊎ (self.new.asks ≡ self.old.asks ++ ask.Rules of.now ∷ [])) }
+        ensures robots { self.new.robots ≡ self.old.robots }
+        ensures keeps { self.new.keeps ≡ self.old.keeps }
+        // The rules are those at the end of the chain of redirects that begins at the origin's file, with a connection for each
+        // of its answers.
+        ensures few { C.made self.new.connect ≤ C.made self.old.connect + (max_redirects + 1) }
+        ensures stands { StandsBehind (C.stands self.old.connect) (C.stands self.new.connect) C.again C.Wire.incoming C.Wire.outgoing self.old.keeps }
+        ensures count { self.old.keeps ≡ false → IfOk result (CountsHops (C.made self.old.connect) (C.made self.new.connect) of.now) }
+        ensures chain { IfOk result (IsChain
+            (IsGiven C.stands C.gives (tries_by C.made C.refused C.taken) C.Wire.incoming C.Wire.outgoing C.Wire.failed self.old.robots self.old.keeps)
+            max_redirects (of.now ++ codes "/robots.txt")) }
+        ensures may { IfOk result (MayRule self.old.robots of.now) }
+        // A recording fetcher adds one note, which says the rules given.
+        ensures is_recording { self.new.is_recording ≡ self.old.is_recording }
+        ensures noted { IfOk result (λ r. NotesChain self.old.is_recording of.now r self.old.notes self.new.notes) }
+        ensures unnoted { OnErr result (self.new.notes ≡ self.old.notes) }
+    {
+        self.asks.push(Ask::Rules(of.try_clone()?))?;
+        self.rules_of(of)
+    }
+
+    fn asks(&self) -> &[Ask] {
+        self.asks.as_slice()
+    }
+
+    fn tell_waiting(&mut self, waiting: usize)
+        ensures asks { self.new.asks ≡ self.old.asks }
+        ensures robots { self.new.robots ≡ self.old.robots }
+        ensures keeps { self.new.keeps ≡ self.old.keeps }
+        ensures made { C.made self.new.connect ≡ C.made self.old.connect }
+        ensures is_recording { self.new.is_recording ≡ self.old.is_recording }
+        ensures notes { self.new.notes ≡ self.old.notes }
+    {
+        self.connect.tell_waiting(waiting);
+    }
+
+    fn tell_recorded(&mut self)
+        ensures asks { self.new.asks ≡ self.old.asks }
+        ensures robots { self.new.robots ≡ self.old.robots }
+        ensures keeps { self.new.keeps ≡ self.old.keeps }
+        ensures made { C.made self.new.connect ≡ C.made self.old.connect }
+        ensures is_recording { self.new.is_recording ≡ self.old.is_recording }
+        ensures notes { self.new.notes ≡ self.old.notes }
+    {
+        self.connect.tell_recorded();
+    }
+}
+
+impl<C: Connect> Telling for HttpFetcher<C> {
+    ghost honours = { λ f. f.robots };
+
+    fn honours_robots(&self) -> bool {
+        self.robots
+    }
+
+    fn ask_told(&mut self, at: &Address) -> Result<Told, AllocError>
+        ensures asked { OnOk result (self.new.asks ≡ self.old.asks ++ ask.Page at.now ∷ []) }
+        ensures refused { OnErr result (GainedAtMost self.old.asks self.new.asks (ask.Page at.now)) }
+        // No connection is asked for before the ask is logged.
+        ensures first { OnErr result ((C.made self.new.connect ≡ C.made self.old.connect) ⊎ (self.new.asks ≡ self.old.asks ++ ask.Page at.now ∷ [])) }
+        ensures honours { self.new.robots ≡ self.old.robots }
+        ensures keeps { self.new.keeps ≡ self.old.keeps }
+        // What is told came over one connection behind its own request. Where none are kept, one is asked for. Nothing is noted.
+        ensures one { self.old.keeps ≡ false → OnOk result (C.made self.new.connect ≡ counted (C.made self.old.connect) 1) }
+        ensures most { C.made self.new.connect ≤ C.made self.old.connect + 1 }
+        ensures told { IfOk result (λ t. IsTold (C.stands self.old.connect) (C.gives self.old.connect) C.Wire.incoming C.Wire.outgoing C.Wire.failed
+            (tries_by C.made C.refused C.taken self.old.connect) (tries_by C.made C.refused C.taken self.new.connect)
+            self.old.robots self.old.keeps at.now (outcome_told self.old.robots at.now t) (body_told t)) }
+        ensures stands { StandsBy (C.stands self.old.connect) (C.stands self.new.connect) C.again C.Wire.incoming C.Wire.outgoing self.old.keeps at.now }
+        ensures may { IfOk result (λ t. MayAnswer self.old.robots at.now (outcome_told self.old.robots at.now t) (body_told t)) }
+        ensures is_recording { self.new.is_recording ≡ self.old.is_recording }
+        ensures notes { self.new.notes ≡ self.old.notes }
+    {
+        let page = Ask::Page(at.try_clone()?);
+        self.asks.push(page)?;
+        self.exchange(at)
+    }
+
+    fn ask_hops(&mut self, of: &Origin) -> Result<Hops, AllocError>
+        ensures asked { OnOk result (self.new.asks ≡ self.old.asks ++ ask.Rules of.now ∷ []) }
+        ensures refused { OnErr result (GainedAtMost self.old.asks self.new.asks (ask.Rules of.now)) }
+        // No connection is asked for before the ask is logged.
+        ensures first { OnErr result ((C.made self.new.connect ≡ C.made self.old.connect) ⊎ (self.new.asks ≡ self.old.asks ++ ask.Rules of.now ∷ [])) }
+        ensures honours { self.new.robots ≡ self.old.robots }
+        ensures keeps { self.new.keeps ≡ self.old.keeps }
+        // The rules are those at the end of the chain of redirects that begins at the origin's file. Nothing is noted.
+        ensures of { IfOk result (λ found. found.of ≡ of.now) }
+        ensures few { C.made self.new.connect ≤ C.made self.old.connect + (max_redirects + 1) }
+        ensures stands { StandsBehind (C.stands self.old.connect) (C.stands self.new.connect) C.again C.Wire.incoming C.Wire.outgoing self.old.keeps }
+        ensures count { self.old.keeps ≡ false → IfOk result (λ found. C.made self.new.connect ≡ counted (C.made self.old.connect) (length found.hops)) }
+        ensures chain { IfOk result (λ found. IsChain
+            (IsGiven C.stands C.gives (tries_by C.made C.refused C.taken) C.Wire.incoming C.Wire.outgoing C.Wire.failed self.old.robots self.old.keeps)
+            max_redirects (of.now ++ codes "/robots.txt") (rules_of_hops found.hops)) }
+        ensures may { IfOk result (λ found. MayRule self.old.robots of.now (rules_of_hops found.hops)) }
+        ensures is_recording { self.new.is_recording ≡ self.old.is_recording }
+        ensures notes { self.new.notes ≡ self.old.notes }
+    {
+        let rules = Ask::Rules(of.try_clone()?);
+        self.asks.push(rules)?;
+        let (hops, _) = self.follow(of)?;
+        Ok(hops)
+    }
+}
+
+impl<C: Connect> Recording for HttpFetcher<C> {
+    ghost noted = { λ f. f.notes };
+
+    fn notes(&self) -> &[Noted] {
+        HttpFetcher::notes(self)
+    }
+}

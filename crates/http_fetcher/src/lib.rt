@@ -1,0 +1,11 @@
+//! Sites that are asked over connections. It opens none itself: who hands in a `Connect` does. The meaning is written in
+//! `specs/`: `Fetching` how an answer comes over a connection, `Chains` how the rules of an origin come of its robots file,
+//! `Notes` what is noted of an ask. Its tests stand in `site_tests`.
+#![tactic(auto)]
+
+mod chain;
+mod connect;
+mod http_fetcher;
+
+pub use connect::{Connect, ConnectFault};
+pub use http_fetcher::HttpFetcher;

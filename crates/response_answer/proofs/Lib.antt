@@ -1,0 +1,2 @@
+pub mod DigestLemmas
+pub mod LinkLemmas

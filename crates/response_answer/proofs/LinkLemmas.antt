@@ -1,0 +1,12 @@
+-- The edges of links, one after another.
+use Rattle.std.proofs.Common.{◌≡◌, ◌∙◌, ◌+◌, ◌<◌, ℕ, List, ◌∷◌, ◌++◌, length, drop, get_or, ap}
+use Rattle.std.proofs.lemmas.List.{drop_more}
+use Rattle.address.specs.Address.{AddressText, join_address}
+use Rattle.html_links.specs.Links.{Link}
+use Rattle.response_answer.specs.Digests.{edges_from, edge_to, address_or_none}
+
+-- the edges from a place on are that of the link there, and those behind it
+pub edges_step : (base : AddressText) (links : List Link) (i : ℕ) (d l : Link) → i < length links → get_or links i d ≡ l
+    → edges_from base (drop i links) ≡ edge_to l.kind (address_or_none (join_address base l.text)) ++ edges_from base (drop (i + 1) links)
+unfolding edges_from
+edges_step base links i d l below is = ap (edges_from base) (drop_more links i d below ∙ ap (λ x. x ∷ drop (i + 1) links) is)

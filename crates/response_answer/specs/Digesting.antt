@@ -1,0 +1,49 @@
+-- What a sink that digests a response has come to.
+use Rattle.std.specs.Prelude.{◌≡◌, ℕ, Bool, true, false, List, [], Option, Some, None}
+use Rattle.address.specs.Address.{AddressText}
+use Rattle.html_links.specs.Scanning.{StandsFor}
+use Rattle.response_reader.specs.Fields.{HeadParts}
+use Rattle.response_answer.specs.declared.stage.Stage.{Stage}
+use Rattle.response_answer.specs.declared.stage.Stage.TheVariants.{Fresh, Redirect, Page, Leaf}
+use Rattle.response_answer.specs.Digests.{target_of, named_from, is_document, is_successful, kept_body}
+
+-- the address that was asked and whether robots rules are honoured, what the head says, the body that is kept, and whether memory ran out
+pub record Digesting : Type 0 where
+  pub at : AddressText
+  pub robots : Bool
+  pub stage : Stage
+  pub kept : List ℕ
+  pub failed : Bool
+
+-- what a response is digested for: the address that was asked, and whether robots rules are honoured
+pub record Purpose : Type 0 where
+  pub at : AddressText
+  pub robots : Bool
+
+-- what this one is for
+abbrev pub purpose_of : Digesting → Purpose
+purpose_of d = record { at = d.at; robots = d.robots }
+
+-- whatever was asked for, the head redirects nowhere
+abbrev pub RedirectsNowhere : HeadParts → Type 0
+RedirectsNowhere head = (at : AddressText) → target_of at head ≡ None
+
+-- the stage is that of a response with this head and this front of a body
+abbrev pub IsStageOf : HeadParts → List ℕ → Stage → Type 0
+IsStageOf head front Fresh = ⊥
+IsStageOf head front (Redirect status location) =
+    (status ≡ head.status) × (is_successful head.status ≡ false) × (is_document head ≡ false)
+    × ((at : AddressText) → target_of at head ≡ named_from at location.items)
+IsStageOf head front (Page status scanner) =
+    (status ≡ head.status) × (is_successful head.status ≡ true) × (is_document head ≡ true) × RedirectsNowhere head × StandsFor scanner front
+IsStageOf head front (Leaf status) = (status ≡ head.status) × (is_document head ≡ false) × RedirectsNowhere head
+
+-- it works, and has taken this head, if any, and these bytes
+abbrev pub HasTaken : Digesting → Option HeadParts → List ℕ → Type 0
+HasTaken d None body = (d.failed ≡ false) × (d.kept ≡ []) × (body ≡ [])
+HasTaken d (Some head) body = (d.failed ≡ false) × IsStageOf head body d.stage × (d.kept ≡ kept_body head.status body)
+
+-- it has taken a head
+abbrev pub has_head : Stage → Bool
+has_head Fresh = false
+has_head other = true

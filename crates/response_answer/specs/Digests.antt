@@ -1,0 +1,102 @@
+-- What a response answers: a page with its links, a redirect, or neither (RFC 9110, section 15.4; HTML Standard, section 2.4.3).
+use Rattle.std.specs.Prelude.{◌≡◌, ℕ, ◌&&◌, ◌||◌, ◌==◌, not, Bool, true, false, List, [], ◌∷◌, ◌++◌, Option, Some, None, Result, Ok, Err, if◌then◌else◌, codes}
+use Rattle.std.specs.List.{before_first}
+use Rattle.std.specs.Str.{is_utf8, str_eq_ignore_ascii_case}
+use Rattle.httparse.specs.Grammar.{trim_ows}
+use Rattle.address.specs.Address.{AddressText, join_address}
+use Rattle.address.specs.declared.fault.AddressFault.{AddressFault}
+use Rattle.html_links.specs.Links.{Link, Links, links_of_body}
+use Rattle.html_links.specs.declared.links.LinkKind.{LinkKind}
+use Rattle.html_links.specs.declared.links.LinkKind.TheVariants as link
+use Rattle.response_reader.specs.Fields.{HeadParts}
+use Rattle.response_reader.specs.Response.{ResponseParts}
+pub use Rattle.fetcher.specs.Statuses.{is_redirect, is_successful}
+use Rattle.fetcher.specs.declared.edge.Edge.{Edge}
+use Rattle.fetcher.specs.declared.edge.EdgeKind.{EdgeKind}
+use Rattle.fetcher.specs.declared.edge.EdgeKind.TheVariants as edge
+use Rattle.fetcher.specs.declared.outcome.Outcome.{Outcome}
+use Rattle.fetcher.specs.declared.outcome.Outcome.TheVariants.{Page, Moved, Leaf}
+
+-- the address, unless there is none
+abbrev pub address_or_none : Result AddressText AddressFault → Option AddressText
+address_or_none (Ok address) = Some address
+address_or_none (Err fault) = None
+
+-- what bytes name from a base: an address, where they are text
+unfoldable pub named_from : AddressText → List ℕ → Option AddressText
+named_from base text = if is_utf8 text then address_or_none (join_address base text) else None
+
+-- the same of a field's value, where there is one
+abbrev pub named_by : AddressText → Option (List ℕ) → Option AddressText
+named_by base None = None
+named_by base (Some text) = named_from base text
+
+-- where a response redirects (RFC 9110, section 10.2.2)
+abbrev pub target_of : AddressText → HeadParts → Option AddressText
+target_of at head = if is_redirect head.status then named_by at head.location else None
+
+-- the media type of a Content-Type field, without parameters (RFC 9110, section 8.3.1); 59 is the semicolon
+abbrev pub media_type : List ℕ → List ℕ
+media_type value = trim_ows (before_first (λ b. b == 59) value)
+
+-- a media type of HTML
+unfoldable pub is_html : List ℕ → Bool
+is_html value =
+    str_eq_ignore_ascii_case (media_type value) (codes "text/html")
+    || str_eq_ignore_ascii_case (media_type value) (codes "application/xhtml+xml")
+
+-- the field says HTML, or there is none
+abbrev pub may_be_html : Option (List ℕ) → Bool
+may_be_html None = true
+may_be_html (Some value) = is_html value
+
+-- a body in which links are looked for
+abbrev pub is_document : HeadParts → Bool
+is_document head = is_successful head.status && not head.coded && may_be_html head.content_type
+
+-- how a page names what a link leads to
+abbrev pub edge_kind : LinkKind → EdgeKind
+edge_kind link.Link = edge.Link
+edge_kind link.Inline = edge.Inline
+
+-- the edge to an address, where there is one
+abbrev pub edge_to : LinkKind → Option AddressText → List Edge
+edge_to kind None = []
+edge_to kind (Some target) = record { target = target; kind = edge_kind kind } ∷ []
+
+-- the edges of links: those whose text, joined to the base, is an address
+unfoldable pub edges_from : AddressText → List Link → List Edge
+edges_from base [] = []
+edges_from base (l ∷ ls) = edge_to l.kind (address_or_none (join_address base l.text)) ++ edges_from base ls
+
+-- the base, or the page's own address where there is none
+abbrev pub base_or : AddressText → Option AddressText → AddressText
+base_or at None = at
+base_or at (Some base) = base
+
+-- the base of a document: what its first `base` names, or its own address (HTML Standard, section 2.4.3)
+abbrev pub base_of : AddressText → Option (List ℕ) → AddressText
+base_of at None = at
+base_of at (Some text) = base_or at (address_or_none (join_address at text))
+
+-- the edges of a page: none where robots rules are honoured and it asks that its links aren't followed
+abbrev pub page_edges : Bool → AddressText → Links → List Edge
+page_edges robots at found =
+    if robots && found.nofollow then [] else edges_from (base_of at found.base) found.links
+
+-- what a body that isn't a redirect's answers
+abbrev pub page_or_leaf : Bool → AddressText → ResponseParts → Outcome
+page_or_leaf robots at r =
+    if is_document r.head then Page r.head.status (page_edges robots at (links_of_body r.body)) else Leaf r.head.status
+
+abbrev pub outcome_by : Bool → AddressText → ResponseParts → Option AddressText → Outcome
+outcome_by robots at r None = page_or_leaf robots at r
+outcome_by robots at r (Some target) = Moved r.head.status target
+
+-- what a response answers
+abbrev pub digest_of : Bool → AddressText → ResponseParts → Outcome
+digest_of robots at r = outcome_by robots at r (target_of at r.head)
+
+-- the body that is kept of a response
+abbrev pub kept_body : ℕ → List ℕ → List ℕ
+kept_body status body = if is_successful status then body else []

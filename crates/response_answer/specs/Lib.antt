@@ -1,0 +1,4 @@
+pub mod Digests
+pub mod KindsOfFaults
+pub mod Digesting
+pub mod inner

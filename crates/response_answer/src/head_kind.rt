@@ -1,0 +1,73 @@
+//! What the head of a response says of its body (RFC 9110, sections 8.3, 8.4, 10.2.2 and 15).
+ghost use Rattle.std.specs.Prelude.{◌≡◌, ◌==◌, option_map, vec_items};
+ghost use Rattle.std.specs.List.{before_first, position};
+ghost use Rattle.std.specs.Str.{str_eq_ignore_ascii_case};
+ghost use Rattle.response_answer.specs.Digests.{is_html, media_type, may_be_html, is_document};
+ghost use Rattle.response_answer.specs.inner.HeadKinds.{kind_parts};
+
+use fetcher::is_successful;
+use response_reader::trim_blanks;
+
+/// The fields of a head, wherever they are kept.
+#[derive(Drop)]
+pub(crate) struct HeadKind<'a> {
+    pub status: u16,
+    pub content_type: &'a Option<Vec<u8>>,
+    pub coded: bool,
+    pub location: &'a Option<Vec<u8>>,
+}
+
+/// Whether links are looked for in the body after this head.
+pub(crate) fn is_document(head: &HeadKind<'_>) -> bool
+    ensures { result ≡ is_document (kind_parts head.now) }
+{
+    is_successful(head.status) && !head.coded && may_be_html(head.content_type)
+}
+
+fn first_semicolon(value: &[u8]) -> Option<usize>
+    ensures { result ≡ position (λ b. b == 59) value.now }
+{
+    value.iter().position(|b| *b == b';')
+}
+
+fn before_semicolon(value: &[u8]) -> &[u8]
+    ensures { result.now ≡ before_first (λ b. b == 59) value.now }
+{
+    match first_semicolon(value) {
+        Some(end) => &value[..end],
+        None => value,
+    }
+}
+
+// The media type of a Content-Type, without parameters (RFC 9110, section 8.3.1).
+fn media_type(value: &[u8]) -> &[u8]
+    ensures { result.now ≡ media_type value.now }
+{
+    trim_blanks(before_semicolon(value))
+}
+
+// Whether a media type is this one, in any case.
+fn is_type(media_type: &[u8], name: &[u8]) -> bool
+    ensures { result ≡ str_eq_ignore_ascii_case media_type.now name.now }
+{
+    media_type.eq_ignore_ascii_case(name)
+}
+
+// Whether a Content-Type is one of HTML.
+#[tactic(auto, unfolding(crate::specs::Digests::is_html))]
+fn is_html(value: &[u8]) -> bool
+    ensures { result ≡ is_html value.now }
+{
+    let media_type = media_type(value);
+    is_type(media_type, b"text/html") || is_type(media_type, b"application/xhtml+xml")
+}
+
+// Whether a body with this Content-Type may be HTML.
+fn may_be_html(content_type: &Option<Vec<u8>>) -> bool
+    ensures { result ≡ may_be_html (option_map vec_items content_type.now) }
+{
+    match content_type {
+        Some(value) => is_html(value),
+        None => true,
+    }
+}

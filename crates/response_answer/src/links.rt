@@ -1,0 +1,118 @@
+//! The edges of a page, from what a scan of its body found (HTML Standard, section 2.4.3).
+ghost use Rattle.std.specs.Prelude.{◌≡◌, ◌++◌, ◌&&◌, IfOk, OnOk, option_map, string_bytes};
+ghost use Rattle.html_links.specs.Scanning.{scanned};
+ghost use Rattle.response_answer.specs.Digests.{address_or_none, named_from, edge_kind, edges_from, base_of, base_or, page_edges};
+
+use address::{Address, AddressFault};
+use fetcher::{Edge, EdgeKind, Edges};
+use html_links::{Found, LinkKind, Scan};
+use std::alloc::{AllocError, Global};
+
+/// What a text names from a base. The error is want of memory.
+pub(crate) fn joined(base: &Address, text: &str) -> Result<Option<Address>, AllocError>
+    ensures { IfOk result (λ a. a ≡ address_or_none (join_address base.now text.now)) }
+{
+    match base.join(text) {
+        Ok(address) => Ok(Some(address)),
+        Err(AddressFault::Memory) => Err(AllocError),
+        Err(_) => Ok(None),
+    }
+}
+
+ghost use Rattle.address.specs.Address.{join_address};
+
+/// What bytes name from a base: an address, where they are text. The error is want of memory.
+pub(crate) fn named(base: &Address, text: &[u8]) -> Result<Option<Address>, AllocError>
+    ensures { IfOk result (λ a. a ≡ named_from base.now text.now) }
+{
+    match str::from_utf8(text) {
+        Ok(text) => joined(base, text),
+        Err(_) => Ok(None),
+    }
+}
+
+// How a page names what a link leads to.
+fn edge_kind(kind: LinkKind) -> EdgeKind
+    ensures { result ≡ edge_kind kind }
+{
+    match kind {
+        LinkKind::Link => EdgeKind::Link,
+        LinkKind::Inline => EdgeKind::Inline,
+    }
+}
+
+// Adds the edge of a link, where it leads to an address.
+fn add_edge(edges: &mut Vec<Edge>, base: &Address, link: &Found) -> Result<(), AllocError>
+    ensures { OnOk result (edges.new.items ≡ edges.old.items ++ edge_to link.now.kind (address_or_none (join_address base.now link.now.text))) }
+{
+    if let Some(target) = joined(base, link.text.as_str())? {
+        edges.push(Edge {
+            target,
+            kind: edge_kind(link.kind),
+        })?;
+    }
+    Ok(())
+}
+
+ghost use Rattle.response_answer.specs.Digests.{edge_to};
+
+// The edges of links that are joined to a base, in their order.
+fn edges_from(alloc: Global, base: &Address, links: &[Found]) -> Result<Vec<Edge>, AllocError>
+    ensures { IfOk result (λ edges. edges.items ≡ edges_from base.now links.now) }
+{
+    let mut edges = Vec::new(alloc);
+    for link in links {
+        add_edge(&mut edges, base, link)?;
+    }
+    Ok(edges)
+}
+
+// What the first `base` of a document names from its address, where it has one.
+fn named_base(at: &Address, base: &Option<String>) -> Result<Option<Address>, AllocError>
+    ensures { IfOk result (λ b. base_or at.now b ≡ base_of at.now (option_map string_bytes base.now)) }
+{
+    match base {
+        Some(text) => joined(at, text.as_str()),
+        None => Ok(None),
+    }
+}
+
+// The edges of links of a document whose base is this one, or its own address.
+fn edges_by(
+    alloc: Global,
+    at: &Address,
+    base: &Option<Address>,
+    links: &[Found],
+) -> Result<Vec<Edge>, AllocError>
+    ensures { IfOk result (λ edges. edges.items ≡ edges_from (base_or at.now base.now) links.now) }
+{
+    match base {
+        Some(base) => edges_from(alloc, base, links),
+        None => edges_from(alloc, at, links),
+    }
+}
+
+// Whether a page asks that its links aren't followed, and this is honoured.
+fn is_silent(robots: bool, scan: &Scan) -> bool
+    ensures { result ≡ (robots && scan.now.nofollow) }
+{
+    robots && scan.nofollow
+}
+
+/// The edges of a page, from what a scan of its body found. Where robots rules are honoured, a page
+/// that asks for it has none. The error is want of memory.
+pub(crate) fn page_edges(
+    alloc: Global,
+    at: &Address,
+    robots: bool,
+    scan: &Scan,
+) -> Result<Edges, AllocError>
+    ensures { IfOk result (λ edges. edges ≡ page_edges robots at.now (scanned scan.now)) }
+{
+    if is_silent(robots, scan) {
+        return Edges::new(Vec::new(alloc));
+    }
+    let base = named_base(at, &scan.base)?;
+    let edges = edges_by(alloc, at, &base, &scan.links)?;
+    Edges::new(edges)
+}

@@ -1,0 +1,92 @@
+//! What a response that is kept answers (RFC 9110, section 15).
+ghost use Rattle.std.specs.Prelude.{◌≡◌, IfOk};
+ghost use Rattle.response_reader.specs.Whole.{response_parts};
+ghost use Rattle.response_answer.specs.Digests.{digest_of, kept_body, target_of};
+
+use crate::head_kind::HeadKind;
+use crate::links::named;
+use crate::stage::Stage;
+use address::Address;
+use fetcher::{Answer, Body, Outcome, is_redirect, is_successful};
+use response_reader::Response;
+use std::alloc::{AllocError, Global};
+
+/// What a response answers for the address that was asked: a redirect, a page with its links, or
+/// neither, with the body where the status is 200 to 299. Where `robots` says so, a page that asks
+/// that its links aren't followed has no edges. The error is want of memory.
+pub fn digest(
+    alloc: Global,
+    at: &Address,
+    response: &Response,
+    robots: bool,
+) -> Result<Answer, AllocError>
+    ensures outcome { IfOk result (λ a. a.outcome ≡ digest_of robots at.now (response_parts response.now)) }
+    ensures body { IfOk result (λ a. a.body ≡ kept_body response.now.status response.now.body.items) }
+{
+    let outcome = outcome_of(alloc, at, response, robots)?;
+    let body = if is_successful(response.status) {
+        Vec::from_slice(alloc, &response.body)?
+    } else {
+        Vec::new(alloc)
+    };
+    Ok(Answer {
+        outcome,
+        body: Body::new(body),
+    })
+}
+
+/// The same answer of a response that isn't needed any more: its body moves and isn't copied.
+pub fn into_answer(
+    alloc: Global,
+    at: &Address,
+    response: Response,
+    robots: bool,
+) -> Result<Answer, AllocError>
+    ensures outcome { IfOk result (λ a. a.outcome ≡ digest_of robots at.now (response_parts response)) }
+    ensures body { IfOk result (λ a. a.body ≡ kept_body response.status response.body.items) }
+{
+    let outcome = outcome_of(alloc, at, &response, robots)?;
+    let Response { status, body, .. } = response;
+    let kept = if is_successful(status) {
+        body
+    } else {
+        Vec::new(alloc)
+    };
+    Ok(Answer {
+        outcome,
+        body: Body::new(kept),
+    })
+}
+
+/// Where a response for an address redirects, if anywhere (RFC 9110, section 10.2.2). The error is want of memory.
+pub fn redirect_target(at: &Address, response: &Response) -> Result<Option<Address>, AllocError>
+    ensures { IfOk result (λ target. target ≡ target_of at.now (response_parts response.now).head) }
+{
+    if !is_redirect(response.status) {
+        return Ok(None);
+    }
+    match &response.location {
+        Some(location) => named(at, location),
+        None => Ok(None),
+    }
+}
+
+// What became of the address that a whole response answers.
+fn outcome_of(
+    alloc: Global,
+    at: &Address,
+    response: &Response,
+    robots: bool,
+) -> Result<Outcome, AllocError>
+    ensures { IfOk result (λ x. x ≡ digest_of robots at.now (response_parts response.now)) }
+{
+    let head = HeadKind {
+        status: response.status,
+        content_type: &response.content_type,
+        coded: response.coded,
+        location: &response.location,
+    };
+    let mut stage = Stage::of(alloc, &head)?;
+    stage.take(&response.body)?;
+    stage.outcome(alloc, at, robots)
+}

@@ -1,8 +1,0 @@
-use Rattle.std.proofs.Common.{inr}
-use Rattle.site_answer.proofs.DigestLemmas.{if_ok_map}
-use Rattle.site_answer.proofs.http_fetcher.HttpFetcher.told_over.Goals as goal
-
-pub returns-in-Ok-clause-told : goal.returns-in-Ok-clause-told
-returns-in-Ok-clause-told g c =
-    if_ok_map c.read_told.result _ _ c.read_told.ensures.told
-    (λ t told. (c.write_request.new.wire, c.read_told.new.wire, inr (c.in-Ok.ensures.written, c.write_request.ensures.read, c.read_told.ensures.written, told)))

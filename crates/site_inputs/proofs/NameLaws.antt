@@ -1,0 +1,8 @@
+-- What reads as an address is named by it.
+use Rattle.std.proofs.Common.{◌≡◌, ℕ, List, Ok, refl}
+use Rattle.address.specs.Address.{read_address}
+use Rattle.site_inputs.specs.Names.{named, IsNamed}
+
+-- what reads as an address is named by it
+pub names : (text address : List ℕ) → read_address text ≡ Ok address → IsNamed text × (named text ≡ address)
+names text address e = (rw e refl, rw e refl)

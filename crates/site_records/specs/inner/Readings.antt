@@ -1,0 +1,143 @@
+-- A record in mid-read: what is kept, and what a line more adds to it.
+use Rattle.std.specs.Prelude.{◌≡◌, ◌≢◌, ◌⊎◌, ◌++◌, ◌+◌, ⊤, ℕ, List, [], ◌∷◌, Option, Some, None, Result, Ok, Err, MatchResult}
+use Rattle.std.specs.Borrow.{Bor}
+use Rattle.address.specs.Address.{AddressText, OriginText}
+use Rattle.answer_notes.specs.HopChains.{HopValue}
+use Rattle.site_inputs.specs.declared.input_fault.InputFault.{InputFault}
+use Rattle.site_inputs.specs.declared.input_fault.InputLineFault.{InputLineFault}
+use Rattle.site_inputs.specs.declared.input_fault.InputLineFault.TheVariants.{Line, Address, Memory}
+use Rattle.site_inputs.specs.Faults.{numbered}
+use Rattle.site_inputs.specs.Names.{named, IsNamed}
+use Rattle.site_records.specs.declared.entry_fault.EntryFault.{EntryFault}
+use Rattle.site_records.specs.declared.entry_fault.EntryFault.TheVariants.{Own, Hop}
+use Rattle.site_records.specs.declared.taken.Taken.{Taken}
+use Rattle.site_records.specs.declared.reading.Reading.{Reading}
+use Rattle.site_records.specs.EntryLines.{Statement, text_of, HopStatement, hop_text, chain, IsHopCount}
+use Rattle.site_records.specs.Entries.{Entry, lines_of, States, IsAtRoot, IsRepeated, IsEntry, IsNew, IsMisplaced, IsBadLine, IsBadAddress, IsFormed, HasHopBytes, Tells, IsBadHopLine, IsBadHopAddress, IsBadRow, IsBadBehind, LeadsOn}
+use Rattle.site_records.specs.Records.{answers_of, rules_of}
+use Rattle.site_records.specs.inner.RecordNotes.{AddsNote}
+
+-- the entry is kept behind the others
+pub record Keeps (old : Reading) (e : Entry) (new : Reading) : Type 0 where
+  pub answers : new.answers.entries ≡ old.answers.entries ++ answers_of (e ∷ [])
+  pub rules : new.rules.entries ≡ old.rules.entries ++ rules_of (e ∷ [])
+  pub robots : new.robots ≡ old.robots
+  pub version : new.version ≡ old.version
+  pub keeps_notes : new.keeps_notes ≡ old.keeps_notes
+  pub noted : AddsNote old.keeps_notes old.robots old.notes.items e new.notes.items
+  pub is_new : IsNew old.answers.entries old.rules.entries e
+
+-- the line, and what is behind it, are taken as this entry
+pub record Adds (old : Reading) (s : Statement) (behind : List ℕ) (after : List ℕ) (new : Reading) : Type 0 where
+  pub entry : Entry
+  pub is_named : IsNamed (text_of s)
+  pub at_root : IsAtRoot s
+  pub states : States old.robots s behind entry after
+  pub keeps : Keeps old entry new
+
+-- what is wrong with a line that says this
+abbrev pub IsWrong : Reading → Statement → List ℕ → InputLineFault → Type 0
+IsWrong old s behind Line = IsNamed (text_of s) × IsMisplaced old.answers.entries old.rules.entries s behind
+IsWrong old s behind Address = ¬ IsNamed (text_of s)
+IsWrong old s behind Memory = Unit {0}
+
+-- a line that says this is taken with what is behind it, or is refused for what is wrong with it
+abbrev pub Takes : Reading → Statement → List ℕ → Result (Bor (List ℕ)) InputLineFault → Reading → Type 0
+Takes old s behind result new = MatchResult result (λ after. Adds old s behind after.now new) (λ f. IsWrong old s behind f)
+
+-- ---- the hops of a chain
+
+-- what is wrong with a line that says this of a hop, where the chain leads to this address
+abbrev pub IsWrongHop : Option AddressText → HopStatement → List ℕ → InputLineFault → Type 0
+IsWrongHop lead s behind Line = IsNamed (hop_text s) × ((lead ≢ Some (named (hop_text s))) ⊎ ¬ HasHopBytes s behind)
+IsWrongHop lead s behind Address = ¬ IsNamed (hop_text s)
+IsWrongHop lead s behind Memory = ⊤
+
+-- the line of a hop, and what is behind it, are taken as this hop, to which the chain leads
+pub record AddsHop (lead : Option AddressText) (s : HopStatement) (behind : List ℕ) (h : HopValue) (after : List ℕ) : Type 0 where
+  pub is_named : IsNamed (hop_text s)
+  pub at : h.0 ≡ named (hop_text s)
+  pub led : lead ≡ Some h.0
+  pub tells : Tells s behind h.1 after
+
+-- what is wrong with the hop that the text begins with, where the chain leads to this address
+abbrev pub IsBadHop : InputLineFault → Option AddressText → List ℕ → Type 0
+IsBadHop Line lead text = IsBadHopLine lead text
+IsBadHop Address lead text = IsBadHopAddress text
+IsBadHop Memory lead text = ⊤
+
+-- the text names the address to which a chain leads, or is refused for what is wrong with it
+abbrev pub NamesDue : Option AddressText → List ℕ → Result AddressText InputLineFault → Type 0
+NamesDue lead text (Ok at) = IsNamed text × (at ≡ named text) × (lead ≡ Some at)
+NamesDue lead text (Err Line) = IsNamed text × (lead ≢ Some (named text))
+NamesDue lead text (Err Address) = ¬ IsNamed text
+NamesDue lead text (Err Memory) = ⊤
+
+-- what is wrong with so many hops of an origin's chain: one of them is bad
+abbrev pub IsWrongRow : OriginText → ℕ → List ℕ → EntryFault → Type 0
+IsWrongRow of n behind (Own Memory) = ⊤
+IsWrongRow of n behind (Own f) = ⊥
+IsWrongRow of n behind (Hop k f) = IsBadRow of n behind k (IsBadHop f)
+
+-- what is wrong with so many hops of an origin's chain: they lead on, or one of them is bad
+abbrev pub IsWrongChain : OriginText → ℕ → List ℕ → EntryFault → Type 0
+IsWrongChain of n behind (Own Line) = LeadsOn of n behind
+IsWrongChain of n behind (Own Address) = ⊥
+IsWrongChain of n behind (Own Memory) = ⊤
+IsWrongChain of n behind (Hop k f) = IsBadRow of n behind k (IsBadHop f)
+
+-- ---- a line of any kind
+
+-- what is wrong with an entry whose line says this
+abbrev pub IsWrongAt : Reading → Statement → List ℕ → EntryFault → Type 0
+IsWrongAt old s behind (Own f) = IsWrong old s behind f
+IsWrongAt old s behind (Hop k f) =
+    IsNamed (text_of s) × IsAtRoot s × ¬ IsRepeated old.answers.entries old.rules.entries s × IsBadBehind s behind k (IsBadHop f)
+
+-- the line, and what is behind it, are taken as an entry of so many lines
+pub record AddsLines (old : Reading) (s : Statement) (behind : List ℕ) (taken : Taken) (new : Reading) : Type 0 where
+  pub adds : Adds old s behind taken.after.now new
+  pub lines : taken.lines ≡ lines_of adds.entry
+
+-- the entry of a line that says this is taken, or is refused for what is wrong with it
+abbrev pub TakesEntry : Reading → Statement → List ℕ → Result Taken EntryFault → Reading → Type 0
+TakesEntry old s behind result new = MatchResult result (λ taken. AddsLines old s behind taken new) (λ f. IsWrongAt old s behind f)
+
+-- a line alone is an entry
+abbrev pub IsAlone : Result (Bor (List ℕ)) InputLineFault → Result Taken EntryFault → Type 0
+IsAlone (Ok after) (Ok taken) = (taken.after.now ≡ after.now) × (taken.lines ≡ 1)
+IsAlone (Err f) (Err fault) = fault ≡ Own f
+IsAlone taken other = ⊥
+
+-- how many lines behind an entry's own line a fault of it stands
+abbrev pub lines_to : EntryFault → ℕ
+lines_to (Own f) = 0
+lines_to (Hop k f) = k + 1
+
+-- the fault of the entry whose own line has this number
+abbrev pub fault_at : EntryFault → ℕ → InputFault
+fault_at (Own f) number = numbered f number
+fault_at (Hop k f) number = numbered f (number + k + 1)
+
+-- ---- one entry more, as bytes
+
+-- what is wrong with the entry that the text begins with
+abbrev pub IsBad : Reading → List ℕ → EntryFault → Type 0
+IsBad old text (Own Line) = IsBadLine old.version old.answers.entries old.rules.entries None text
+IsBad old text (Own Address) = IsBadAddress old.version old.answers.entries old.rules.entries None text
+IsBad old text (Own Memory) = IsFormed old.version text
+IsBad old text (Hop k Line) = IsBadLine old.version old.answers.entries old.rules.entries (Some k) text
+IsBad old text (Hop k Address) = IsBadAddress old.version old.answers.entries old.rules.entries (Some k) text
+IsBad old text (Hop k Memory) = IsFormed old.version text
+
+-- the text begins with this entry, which is kept and has so many lines, and after follows
+pub record Reads (old : Reading) (text : List ℕ) (lines : ℕ) (after : List ℕ) (new : Reading) : Type 0 where
+  pub entry : Entry
+  pub is : IsEntry old.version old.robots text entry after
+  pub lines_are : lines ≡ lines_of entry
+  pub keeps : Keeps old entry new
+
+-- the number of lines that a line counts is one that a chain may have
+abbrev pub IsCounted : Statement → Type 0
+IsCounted (chain text n) = IsHopCount n
+IsCounted s = ⊤
