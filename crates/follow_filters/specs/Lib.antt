@@ -12,3 +12,4 @@ pub mod Rules
 pub mod Plans
 pub mod Levels
 pub mod Lists
+pub mod inner

@@ -11,7 +11,8 @@ use address::Address;
 use std::alloc::{AllocError, Global};
 
 impl Plan {
-    ghost use Rattle.follow_filters.specs.Plans.{IsUnfiltered, have_same_bounds, have_same_flags, have_same_lists, is_same_plan};
+    ghost use Rattle.follow_filters.specs.Plans.{IsUnfiltered};
+    ghost use Rattle.follow_filters.specs.inner.Plans.{have_same_bounds, have_same_flags, have_same_lists, is_same_plan};
 
     /// A plan without filters: the start's host is followed but for its robots file, robots files
     /// aren't honoured, nothing lies beyond the limit, and two requests may be out to an origin. Takes no memory.
@@ -72,7 +73,7 @@ impl Plan {
         self.is_same(other)
     }
 
-    #[tactic(auto, unfolding(crate::specs::Plans::is_same_plan))]
+    #[tactic(auto, unfolding(crate::specs::inner::Plans::is_same_plan))]
     fn is_same(&self, other: &Plan) -> bool
         ensures { result ≡ is_same_plan self.now other.now }
     {

@@ -1,3 +1,4 @@
 pub mod StandardFacts
 pub mod LineLemmas
 pub mod ReadLemmas
+pub mod HintLemmas

@@ -1,7 +1,7 @@
 -- The order of what is found for each option, stage by stage.
-use Rattle.std.proofs.Common.{◌≡◌, ◌≢◌, subst, ◌⊎◌, ◌∙◌, ℕ, Bool, true, false, List, [], ◌∷◌, Option, Some, None, if◌then◌else◌, codes, refl, sym, ap, inl, inr, ⊎_elim}
+use Rattle.std.proofs.Common.{◌≡◌, ◌≢◌, subst, ◌⊎◌, ◌∙◌, ℕ, true, false, List, [], ◌∷◌, Some, None, if◌then◌else◌, refl, sym, ap, inl, inr, ⊎_elim}
 use Rattle.std.specs.Prelude.{Result, Ok, Err, MatchResult}
-use Rattle.clap.specs.Walk.{Row, Text, first_of}
+use Rattle.clap.specs.Walk.{Row, Text}
 use Rattle.clap.specs.Words.{IsAmong}
 use Rattle.clap.specs.declared.error.ErrorKind.{ErrorKind}
 use Rattle.clap.specs.declared.error.ErrorKind.TheVariants as kinds
@@ -14,9 +14,9 @@ use Rattle.options.specs.declared.fault.LineFault.{LineFault}
 use Rattle.options.specs.declared.fault.LineFault.TheVariants as fault
 use Rattle.options.specs.Line.{rows, refusals}
 use Rattle.follow_filters.specs.declared.limit.Limit.{Limit}
-use Rattle.options.specs.Given.{level_of, is_set}
-use Rattle.options.specs.declared.order.Source.{Source}
-use Rattle.options.specs.Order.{Ordered, Counts, start_of, started_at, StartsAt, FailsToStart, are_good, counts_of, patterns_of, directories_of, domains_of, order_of_rows, order_of, are_taken, words_refused, Answers, without_kind, fault_of_kind, limit_within, has_no_parent, honours_robots, source_of, prefix_of}
+use Rattle.options.specs.Given.{level_of}
+use Rattle.options.specs.Order.{Counts, start_of, started_at, are_good, counts_of, patterns_of, directories_of, domains_of, order_of_rows, order_of, are_taken, words_refused, Answers, without_kind, ordered}
+use Rattle.options.specs.inner.Order.{StartsAt, FailsToStart, fault_of_kind}
 
 pub starts-at : (found : List Row) (start : List ℕ) → start_of found ≡ Ok start → is_robots_file start ≡ false → StartsAt found start
 starts-at found start is page next =
@@ -59,48 +59,9 @@ pub bad-start : (found : List Row) (n : Counts) (l : Limit) (p d h : List (List 
 unfolding order_of_rows
 bad-start found n l p d h why words counts level patterns directories domains fails = rw (words, counts, level, patterns, directories, domains) (fails.1 _)
 
--- the order of these parts
-abbrev pub filled : Counts → (p d h : List (List ℕ) × List (List ℕ)) → (start : List ℕ) (limit : Limit) (span_hosts no_parent robots page_requisites : Bool) (source : Source) (trace : Bool) (prefix : List ℕ) (resume save : Option (List ℕ)) → Result Ordered LineFault
-filled n p d h start limit span_hosts no_parent robots page_requisites source trace prefix resume save = Ok (record {
-  start = start;
-  limit = limit;
-  span_hosts = span_hosts;
-  no_parent = no_parent;
-  domains = h.0;
-  exclude_domains = h.1;
-  include_dirs = d.0;
-  exclude_dirs = d.1;
-  accept = p.0;
-  reject = p.1;
-  robots = robots;
-  page_requisites = page_requisites;
-  max_urls = n.max_urls;
-  per_host = n.per_host;
-  workers = n.workers;
-  source = source;
-  trace = trace;
-  prefix = prefix;
-  resume = resume;
-  save = save;
-})
-
-pub good-order : (found : List Row) (n : Counts) (l : Limit) (p d h : List (List ℕ) × List (List ℕ)) (start : List ℕ) → are_good found ≡ true → counts_of found ≡ Some n → level_of found ≡ Some l → patterns_of found ≡ Some p → directories_of found ≡ Some d → domains_of found ≡ Some h → StartsAt found start → order_of_rows found ≡ filled n p d h start (limit_within l found) (is_set (codes "span-hosts") found) (has_no_parent found) (honours_robots found) (is_set (codes "page-requisites") found) (source_of found) (is_set (codes "trace") found) (prefix_of found) (first_of (codes "resume") found) (first_of (codes "save") found)
+pub good-order : (found : List Row) (n : Counts) (l : Limit) (p d h : List (List ℕ) × List (List ℕ)) (start : List ℕ) → are_good found ≡ true → counts_of found ≡ Some n → level_of found ≡ Some l → patterns_of found ≡ Some p → directories_of found ≡ Some d → domains_of found ≡ Some h → StartsAt found start → order_of_rows found ≡ Ok (ordered found n l p d h start)
 unfolding order_of_rows
 good-order found n l p d h start words counts level patterns directories domains starts = rw (words, counts, level, patterns, directories, domains) (starts _)
-
--- parts that are equal fill equal orders
-pub filled-same : (n : Counts) (p d h : List (List ℕ) × List (List ℕ)) (start : List ℕ) (l l' : Limit) (s s' np np' r r' q q' : Bool) (src src' : Source) (t t' : Bool) (x x' : List ℕ) (y y' z z' : Option (List ℕ)) → l' ≡ l → s' ≡ s → np' ≡ np → r' ≡ r → q' ≡ q → src' ≡ src → t' ≡ t → x' ≡ x → y' ≡ y → z' ≡ z → filled n p d h start l s np r q src t x y z ≡ filled n p d h start l' s' np' r' q' src' t' x' y' z'
-filled-same n p d h start l l' s s' np np' r r' q q' src src' t t' x x' y y' z z' e1 e2 e3 e4 e5 e6 e7 e8 e9 e10 =
-    ap (λ v. filled n p d h start v s np r q src t x y z) (sym e1)
-    ∙ ap (λ v. filled n p d h start l' v np r q src t x y z) (sym e2)
-    ∙ ap (λ v. filled n p d h start l' s' v r q src t x y z) (sym e3)
-    ∙ ap (λ v. filled n p d h start l' s' np' v q src t x y z) (sym e4)
-    ∙ ap (λ v. filled n p d h start l' s' np' r' v src t x y z) (sym e5)
-    ∙ ap (λ v. filled n p d h start l' s' np' r' q' v t x y z) (sym e6)
-    ∙ ap (λ v. filled n p d h start l' s' np' r' q' src' v x y z) (sym e7)
-    ∙ ap (λ v. filled n p d h start l' s' np' r' q' src' t' v y z) (sym e8)
-    ∙ ap (λ v. filled n p d h start l' s' np' r' q' src' t' x' v z) (sym e9)
-    ∙ ap (λ v. filled n p d h start l' s' np' r' q' src' t' x' y' v) (sym e10)
 
 -- ---- refused words
 

@@ -1,6 +1,8 @@
 -- The limits of an order, its usual numbers and the forms of the options are the documented ones.
 use Rattle.std.proofs.Common.{◌≡◌, ◌∷◌, [], Option, Some, None, codes, map, refl}
 use Rattle.clap.specs.Walk.{Text}
+use Rattle.clap.specs.declared.error.ErrorKind.TheVariants.{DisplayHelp, DisplayVersion}
+use Rattle.options.specs.Advice.{Help, Version, told_of_kind}
 use Rattle.options.specs.Help.{value_name}
 use Rattle.options.specs.Table.{table}
 use Rattle.options.specs.declared.order.TheConstants.{DEFAULT_MAX_URLS, DEFAULT_PER_HOST, DEFAULT_WORKERS, MAX_WORKERS}
@@ -31,7 +33,17 @@ forms : map forms_of table ≡ (codes "r", codes "recursive", None) ∷ (codes "
     ∷ (codes "D", codes "domains", Some (codes "LIST")) ∷ ([], codes "exclude-domains", Some (codes "LIST")) ∷ (codes "I", codes "include-directories", Some (codes "LIST"))
     ∷ (codes "X", codes "exclude-directories", Some (codes "LIST")) ∷ (codes "A", codes "accept", Some (codes "LIST")) ∷ (codes "R", codes "reject", Some (codes "LIST"))
     ∷ (codes "e", codes "execute", Some (codes "COMMAND")) ∷ ([], codes "workers", Some (codes "N")) ∷ ([], codes "per-host", Some (codes "N"))
-    ∷ ([], codes "max-urls", Some (codes "N")) ∷ ([], codes "map", None) ∷ ([], codes "record", None) ∷ ([], codes "resume", Some (codes "FILE"))
+    ∷ ([], codes "no-http-keep-alive", None) ∷ ([], codes "max-urls", Some (codes "N")) ∷ ([], codes "map", None) ∷ ([], codes "record", None) ∷ ([], codes "resume", Some (codes "FILE"))
     ∷ (codes "P", codes "directory-prefix", Some (codes "DIR")) ∷ ([], codes "trace", None) ∷ ([], codes "save", Some (codes "FILE")) ∷ []
 unfolding table
 forms = refl
+
+-- ---- help and version are answered by what they ask for
+
+-- `-h` and `--help`
+help_is_answered : told_of_kind DisplayHelp ≡ Help
+help_is_answered = refl
+
+-- `-V` and `--version`
+version_is_answered : told_of_kind DisplayVersion ≡ Version
+version_is_answered = refl

@@ -3,8 +3,7 @@ use Rattle.std.specs.Prelude.{◌≡◌, ◌⊎◌, ◌==◌, ℕ, length, optio
 use Rattle.std.specs.Option.{option_eq}
 use Rattle.clap.specs.Kinds.{Kinds}
 use Rattle.clap.specs.Walk.{Row, Text, first_of}
-use Rattle.clap.specs.declared.error.ErrorKind.{ErrorKind}
-use Rattle.clap.specs.declared.error.ErrorKind.TheVariants.{InvalidValue, OutOfMemory}
+use Rattle.clap.specs.declared.error.ErrorKind.TheVariants.{InvalidValue}
 use Rattle.address.specs.Address.{read_address, is_robots_file}
 use Rattle.address.specs.declared.fault.AddressFault.{AddressFault}
 use Rattle.follow_filters.specs.declared.limit.Limit.{Limit}
@@ -60,6 +59,7 @@ pub record Ordered : Type 0 where
   pub max_urls : ℕ
   pub per_host : ℕ
   pub workers : ℕ
+  pub keeps_connections : Bool
   pub source : Source
   pub trace : Bool
   pub prefix : List ℕ
@@ -144,7 +144,34 @@ prefix_of found = folder_of (first_of (codes "directory-prefix") found)
 abbrev pub words_refused : LineFault
 words_refused = fault.Words InvalidValue
 
--- what the options order, or the lowest fault; without `-r` no link is followed and no robots file is honoured
+-- what the options order with these numbers, this level, these lists and this start; without `-r` no link is followed and no robots
+-- file is honoured
+abbrev pub ordered : List Row → Counts → Limit → (patterns directories domains : List (List ℕ) × List (List ℕ)) → List ℕ → Ordered
+ordered found counts level patterns directories domains start = record {
+  start = start;
+  limit = limit_within level found;
+  span_hosts = is_set (codes "span-hosts") found;
+  no_parent = has_no_parent found;
+  domains = domains.0;
+  exclude_domains = domains.1;
+  include_dirs = directories.0;
+  exclude_dirs = directories.1;
+  accept = patterns.0;
+  reject = patterns.1;
+  robots = honours_robots found;
+  page_requisites = is_set (codes "page-requisites") found;
+  max_urls = counts.max_urls;
+  per_host = counts.per_host;
+  workers = counts.workers;
+  keeps_connections = not (is_set (codes "no-http-keep-alive") found);
+  source = source_of found;
+  trace = is_set (codes "trace") found;
+  prefix = prefix_of found;
+  resume = first_of (codes "resume") found;
+  save = first_of (codes "save") found;
+}
+
+-- what the options order, or the lowest fault
 unfoldable pub order_of_rows : List Row → Result Ordered LineFault
 order_of_rows found =
     if not (are_good found) then Err words_refused
@@ -153,28 +180,7 @@ order_of_rows found =
     found_or (patterns_of found) fault.Pattern (λ patterns.
     found_or (directories_of found) fault.Directory (λ directories.
     found_or (domains_of found) fault.Domain (λ domains.
-    started_at (start_of found) (λ start. Ok (record {
-      start = start;
-      limit = limit_within level found;
-      span_hosts = is_set (codes "span-hosts") found;
-      no_parent = has_no_parent found;
-      domains = domains.0;
-      exclude_domains = domains.1;
-      include_dirs = directories.0;
-      exclude_dirs = directories.1;
-      accept = patterns.0;
-      reject = patterns.1;
-      robots = honours_robots found;
-      page_requisites = is_set (codes "page-requisites") found;
-      max_urls = counts.max_urls;
-      per_host = counts.per_host;
-      workers = counts.workers;
-      source = source_of found;
-      trace = is_set (codes "trace") found;
-      prefix = prefix_of found;
-      resume = first_of (codes "resume") found;
-      save = first_of (codes "save") found;
-    })))))))
+    started_at (start_of found) (λ start. Ok (ordered found counts level patterns directories domains start)))))))
 
 -- words with no kind of refusal are taken
 abbrev pub are_taken : Kinds → Bool
@@ -205,12 +211,17 @@ said_by order = record {
   max_urls = order.plan.max_urls;
   per_host = order.plan.per_host;
   workers = order.workers;
+  keeps_connections = order.keeps_connections;
   source = order.source;
   trace = order.trace;
   prefix = order.prefix;
   resume = order.resume;
   save = order.save;
 }
+
+-- how many connections to a server may stand at a time, where they are kept
+abbrev pub kept_of : Order → Option ℕ
+kept_of order = if order.keeps_connections then Some order.plan.per_host else None
 
 -- the fault, but for the kind of refused words
 abbrev pub without_kind : LineFault → LineFault
@@ -221,16 +232,3 @@ without_kind other = other
 abbrev pub Answers : Result Order LineFault → Result Ordered LineFault → Type 0
 Answers result expected =
     MatchResult result (λ order. expected ≡ Ok (said_by order)) (λ f. (expected ≡ Err (without_kind f)) ⊎ (f ≡ fault.Memory))
-
--- the options start at this address
-abbrev pub StartsAt : List Row → List ℕ → Type 0
-StartsAt found start = (next : List ℕ → Result Ordered LineFault) → started_at (start_of found) next ≡ next start
-
--- the options start nowhere, for this fault
-abbrev pub FailsToStart : List Row → LineFault → Type 0
-FailsToStart found why = (without_kind why ≡ why) × ((next : List ℕ → Result Ordered LineFault) → started_at (start_of found) next ≡ Err why)
-
--- want of memory, or the kind of what is wrong with the words
-abbrev pub fault_of_kind : ErrorKind → LineFault
-fault_of_kind OutOfMemory = fault.Memory
-fault_of_kind kind = fault.Words kind

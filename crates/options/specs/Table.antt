@@ -1,6 +1,5 @@
 -- The table of options, with its texts as lists.
 use Rattle.std.specs.Prelude.{List, map}
-use Rattle.std.specs.Borrow.{Bor}
 use Rattle.clap.specs.Walk.{Text}
 use Rattle.options.specs.declared.table.Kind.{Kind}
 use Rattle.options.specs.declared.table.Kind.TheVariants as kind
@@ -18,14 +17,6 @@ kind_by read (kind.Number most usual) = kind.Number most usual
 abbrev pub row_by : {T : Type 0} → (T → Text) → Row T → Row Text
 row_by read row =
     record { short = read row.short; name = read row.name; kind = kind_by read row.kind; heading = read row.heading; says = read row.says }
-
--- what stands behind an option, as the code has it
-abbrev pub kind_in : Kind (Bor Text) → Kind Text
-kind_in behind = kind_by (λ text. text.now) behind
-
--- an option, as the code has it
-abbrev pub row_in : Row (Bor Text) → Row Text
-row_in row = row_by (λ text. text.now) row
 
 -- the options
 unfoldable pub table : List (Row Text)

@@ -2,7 +2,7 @@
 ghost use Rattle.std.specs.Prelude.{◌≡◌, ◌++◌, IfOk, OnOk, codes, map, option_map, replicate, string_bytes};
 ghost use Rattle.std.specs.Fmt.{decimal};
 ghost use Rattle.options.specs.Help.{help_text, in_columns, left_text, row_text, rows_text, short_text, usual_text, value_name};
-ghost use Rattle.options.specs.Table.{kind_in, row_in};
+ghost use Rattle.options.specs.inner.Table.{kind_in, row_in};
 
 use crate::table::{Kind, Row, TABLE};
 use std::alloc::{AllocError, Global};

@@ -1,15 +1,19 @@
-//! The command line of the retriever: words in, an order or the lowest fault out. What an order is
-//! stands in `specs/Order.antt`.
+//! The command line of the retriever: words in, an order or the lowest fault out, and what a person is told of it. What an order
+//! is stands in `specs/Order.antt`, what is told in `specs/Advice.antt` and `specs/Hints.antt`.
 #![tactic(auto)]
 
+mod advice;
 mod fault;
 mod given;
 mod help;
+mod hint;
 mod line;
 mod order;
 mod read;
 mod table;
+mod wget;
 
+pub use crate::advice::{advice_text, no_text_advice};
 pub use crate::fault::LineFault;
 pub use crate::help::{VERSION, help_text};
 pub use crate::order::{MAX_WORKERS, Order, Prefix, Source};

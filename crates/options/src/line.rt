@@ -2,7 +2,7 @@
 ghost use Rattle.std.specs.Prelude.{◌≡◌, false, All, IfOk, MatchResult, map, []};
 ghost use Rattle.clap.specs.Words.{app_of, found_of, new_rule, rows_of, rule_of, HasKind};
 ghost use Rattle.options.specs.Line.{letter_of, line, line_rules, no_options, number_rule, option_rule, refusals, rows, start_rule, with_kind, with_letter, with_long};
-ghost use Rattle.options.specs.Table.{kind_in, row_in};
+ghost use Rattle.options.specs.inner.Table.{kind_in, row_in};
 
 use crate::help::VERSION;
 use crate::table::{Kind, Row, TABLE};

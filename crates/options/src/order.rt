@@ -102,6 +102,8 @@ pub struct Order {
     pub plan: Plan,
     /// How many workers retrieve it, 1 to 64.
     pub workers: u32,
+    /// Whether connections are kept, to be used again.
+    pub keeps_connections: bool,
     /// Where the site is.
     pub source: Source,
     /// Whether the trace is shown before the report.
@@ -114,4 +116,20 @@ pub struct Order {
     pub save: Option<FilePath>,
     pub ghost some_workers: { 0 < workers },
     pub ghost workers_in_range: { workers ≤ MAX_WORKERS },
+}
+
+impl Order {
+    ghost use Rattle.std.specs.Prelude.{◌≡◌};
+    ghost use Rattle.options.specs.Order.{kept_of};
+
+    /// How many connections to a server may stand at a time, where they are kept: as many as there are requests to it.
+    pub fn kept(&self) -> Option<u32>
+        ensures { result ≡ kept_of self.now }
+    {
+        if self.keeps_connections {
+            Some(self.plan.per_host)
+        } else {
+            None
+        }
+    }
 }

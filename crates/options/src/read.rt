@@ -11,7 +11,8 @@ ghost use Rattle.follow_filters.specs.declared.plan.TheConstants.{MAX_PER_HOST, 
 ghost use Rattle.options.specs.declared.order.TheConstants.{MAX_WORKERS};
 ghost use Rattle.follow_filters.specs.declared.limit.Limit.TheVariants.{AtMost};
 ghost use Rattle.options.specs.Given.{level_of, list_of};
-ghost use Rattle.options.specs.Order.{Answers, order_of, order_of_rows, are_good, is_parent_value, is_robots_value, both, counts_of, start_of, StartsAt, FailsToStart, source_of, has_no_parent, has_robots_off, honours_robots, limit_within, folder_of, prefix_of, fault_of_kind};
+ghost use Rattle.options.specs.Order.{Answers, order_of, order_of_rows, are_good, is_parent_value, is_robots_value, both, counts_of, start_of, source_of, has_no_parent, has_robots_off, honours_robots, limit_within, ordered, said_by, folder_of, prefix_of};
+ghost use Rattle.options.specs.inner.Order.{StartsAt, FailsToStart, fault_of_kind};
 
 use crate::fault::LineFault;
 use crate::given::{given, is_set, level, list, number};
@@ -278,9 +279,31 @@ fn order_of_matches(alloc: Global, matches: &ArgMatches) -> Result<Order, LineFa
         drop(page);
         return Err(LineFault::Memory);
     };
-    Ok(Order {
+    Ok(filled(matches, counts, level, names, places, hosts, page, paths))
+}
+
+// The order of what was read and of the other options.
+fn filled(
+    matches: &ArgMatches,
+    counts: Counts,
+    level: Limit,
+    names: Lists<Pattern>,
+    places: Lists<Directory>,
+    hosts: Lists<Domain>,
+    start: Address,
+    paths: Paths,
+) -> Order
+    requires page { is_robots_file start ≡ false }
+    requires level { is_in_range level ≡ true }
+    requires prefix { paths.prefix ≡ prefix_of (rows_of (found_of matches.now)) }
+    requires resume { paths.resume ≡ first_of (codes "resume") (rows_of (found_of matches.now)) }
+    requires save { paths.save ≡ first_of (codes "save") (rows_of (found_of matches.now)) }
+    ensures { said_by result ≡ ordered (rows_of (found_of matches.now)) (record { workers = counts.workers; per_host = counts.per_host; max_urls = counts.max_urls })
+        level (names.given, names.excluded) (places.given, places.excluded) (hosts.given, hosts.excluded) start }
+{
+    Order {
         plan: Plan {
-            start: page,
+            start,
             limit: limit_within(matches, level),
             span_hosts: is_set(matches, "span-hosts"),
             no_parent: has_no_parent(matches),
@@ -296,12 +319,13 @@ fn order_of_matches(alloc: Global, matches: &ArgMatches) -> Result<Order, LineFa
             per_host: counts.per_host,
         },
         workers: counts.workers,
+        keeps_connections: !is_set(matches, "no-http-keep-alive"),
         source: source(matches),
         trace: is_set(matches, "trace"),
         prefix: paths.prefix,
         resume: paths.resume,
         save: paths.save,
-    })
+    }
 }
 
 // The limit of the level, or no hop where links aren't followed.

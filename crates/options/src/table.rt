@@ -31,7 +31,7 @@ pub(crate) struct Row<T> {
 }
 
 /// The options.
-pub(crate) const TABLE: [Row<&str>; 22] = [
+pub(crate) const TABLE: [Row<&str>; 23] = [
     Row {
         short: "r",
         name: "recursive",
@@ -136,6 +136,13 @@ pub(crate) const TABLE: [Row<&str>; 22] = [
         kind: Kind::Number(MAX_PER_HOST, DEFAULT_PER_HOST),
         heading: "",
         says: "N requests at a time to a server",
+    },
+    Row {
+        short: "",
+        name: "no-http-keep-alive",
+        kind: Kind::Flag,
+        heading: "",
+        says: "a connection of its own for each request",
     },
     Row {
         short: "",

@@ -6,7 +6,7 @@ use Rattle.std.proofs.lemmas.List.Elements.{All-push}
 use Rattle.clap.specs.Words.{Rule, rule_of}
 use Rattle.clap.specs.declared.builder.arg.Arg.{Arg}
 use Rattle.options.specs.Line.{option_rule}
-use Rattle.options.specs.Table.{row_in}
+use Rattle.options.specs.inner.Table.{row_in}
 use Rattle.options.proofs.line.arguments_of.Goals as goal
 
 pub loop-row-preserved : goal.loop-row-preserved

@@ -3,7 +3,7 @@ use Rattle.std.proofs.Common.{◌≡◌, false, map, take}
 use Rattle.std.specs.Prelude.{All}
 use Rattle.clap.specs.Words.{rule_of}
 use Rattle.options.specs.Line.{option_rule}
-use Rattle.options.specs.Table.{row_in}
+use Rattle.options.specs.inner.Table.{row_in}
 use Rattle.options.proofs.line.arguments_of.Given as goal
 
 abbrev pub invariant-loop-row : goal.invariant-loop-row

@@ -2,7 +2,7 @@
 use Rattle.std.proofs.Common.{◌∙◌, ap}
 use Rattle.clap.specs.Words.{rule_of}
 use Rattle.options.specs.Line.{letter_of, with_letter, with_long}
-use Rattle.options.specs.Table.{row_in}
+use Rattle.options.specs.inner.Table.{row_in}
 use Rattle.options.proofs.line.option.Goals as goal
 
 pub returns : goal.returns

@@ -1,10 +1,10 @@
-use Rattle.std.proofs.Common.{◌≡◌, ◌⊎◌, ◌∙◌, true, Some, None, inl, inr, ⊎_elim, sym, ap, codes}
-use Rattle.std.specs.Prelude.{Err}
-use Rattle.clap.specs.Words.{found_of, rows_of, first_of}
+use Rattle.std.proofs.Common.{◌≡◌, ◌⊎◌, ◌∙◌, true, Some, None, inl, inr, ⊎_elim, sym, ap}
+use Rattle.std.specs.Prelude.{Ok, Err}
+use Rattle.clap.specs.Words.{found_of, rows_of}
 use Rattle.options.specs.declared.fault.LineFault.TheVariants as fault
-use Rattle.options.specs.Given.{level_of, is_set}
-use Rattle.options.specs.Order.{are_good, patterns_of, directories_of, domains_of, without_kind, limit_within, has_no_parent, honours_robots, source_of, prefix_of}
-use Rattle.options.proofs.ReadLemmas.{bad-words, bad-counts, bad-level, bad-patterns, bad-directories, bad-domains, bad-start, good-order, filled-same}
+use Rattle.options.specs.Given.{level_of}
+use Rattle.options.specs.Order.{are_good, patterns_of, directories_of, domains_of, without_kind}
+use Rattle.options.proofs.ReadLemmas.{bad-words, bad-counts, bad-level, bad-patterns, bad-directories, bad-domains, bad-start, good-order}
 use Rattle.options.proofs.read.order_of_matches.Goals as goal
 
 pub returns-in-Some : goal.returns-in-Some
@@ -83,8 +83,4 @@ returns c =
     let directories : directories_of found ≡ Some (c.in-Ok-read_lists.places.given, c.in-Ok-read_lists.places.excluded) = c.in-Ok-read_lists.ensures in
     let domains : domains_of found ≡ Some (c.in-Ok-read_lists-2.hosts.given, c.in-Ok-read_lists-2.hosts.excluded) = c.in-Ok-read_lists-2.ensures in
     good-order found (record { workers = c.in-Some-read_counts.counts.workers; per_host = c.in-Some-read_counts.counts.per_host; max_urls = c.in-Some-read_counts.counts.max_urls }) c.in-Some-level.level (c.in-Ok.names.given, c.in-Ok.names.excluded) (c.in-Ok-read_lists.places.given, c.in-Ok-read_lists.places.excluded) (c.in-Ok-read_lists-2.hosts.given, c.in-Ok-read_lists-2.hosts.excluded) c.in-Ok-start.page words counts level patterns directories domains c.in-Ok-start.ensures.0
-    ∙ filled-same (record { workers = c.in-Some-read_counts.counts.workers; per_host = c.in-Some-read_counts.counts.per_host; max_urls = c.in-Some-read_counts.counts.max_urls }) (c.in-Ok.names.given, c.in-Ok.names.excluded) (c.in-Ok-read_lists.places.given, c.in-Ok-read_lists.places.excluded) (c.in-Ok-read_lists-2.hosts.given, c.in-Ok-read_lists-2.hosts.excluded) c.in-Ok-start.page
-    (limit_within c.in-Some-level.level found) c.limit_within.result (is_set (codes "span-hosts") found) c.is_set.result (has_no_parent found) c.has_no_parent.result
-    (honours_robots found) c.honours_robots.result (is_set (codes "page-requisites") found) c.is_set-2.result (source_of found) c.source.result (is_set (codes "trace") found) c.is_set-3.result
-    (prefix_of found) c.in-Ok-read_paths.paths.prefix (first_of (codes "resume") found) c.in-Ok-read_paths.paths.resume (first_of (codes "save") found) c.in-Ok-read_paths.paths.save
-    c.limit_within.ensures.value c.is_set.ensures c.has_no_parent.ensures c.honours_robots.ensures c.is_set-2.ensures c.source.ensures c.is_set-3.ensures c.in-Ok-read_paths.ensures.prefix c.in-Ok-read_paths.ensures.resume c.in-Ok-read_paths.ensures.save
+    ∙ ap Ok (sym c.filled.ensures)

@@ -33,5 +33,5 @@ returns c =
     let exclude_dirs : c.in_ok-clone-4.field-0 ≡ plan.exclude_dirs = search rules in
     let accept : c.in_ok-clone-5.field-0 ≡ plan.accept = search rules in
     let reject : c.in_ok-clone-6.field-0 ≡ plan.reject = search rules in
-    plan_equal _ plan (((c.in_ok-try_clone.ensures, refl), refl), refl) (((refl, refl), refl), refl)
-    (((((domains, exclude_domains), include_dirs), exclude_dirs), accept), reject)
+    let start = c.in_ok-try_clone.ensures in
+    plan_equal _ plan (rw (start, domains, exclude_domains, include_dirs, exclude_dirs, accept, reject) refl)

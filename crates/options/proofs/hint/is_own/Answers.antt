@@ -1,0 +1,17 @@
+-- The rows that the code has are the table.
+use Rattle.std.proofs.Common.{◌∙◌, false, ap}
+use Rattle.std.specs.List.{list_any}
+use Rattle.std.specs.Option.{option_map_or}
+use Rattle.options.specs.Hints.{is_long_form, is_own}
+use Rattle.options.specs.Table.{table}
+use Rattle.options.proofs.hint.is_own.Goals as goal
+
+pub returns-in-Some : goal.returns-in-Some
+unfolding is_own table
+returns-in-Some c =
+    c.is_known.ensures
+    ∙ ap (λ name. option_map_or (λ name. list_any (is_long_form name) table) name false) c.in-Some.ensures
+
+pub returns-in-None : goal.returns-in-None
+unfolding is_own table
+returns-in-None c = ap (λ name. option_map_or (λ name. list_any (is_long_form name) table) name false) c.in-None.ensures

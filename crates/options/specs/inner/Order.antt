@@ -1,0 +1,22 @@
+-- What proofs alone need beside `Order`.
+use Rattle.std.specs.Prelude.{◌≡◌, ℕ, List, Result, Err}
+use Rattle.clap.specs.Walk.{Row}
+use Rattle.clap.specs.declared.error.ErrorKind.{ErrorKind}
+use Rattle.clap.specs.declared.error.ErrorKind.TheVariants.{OutOfMemory}
+use Rattle.options.specs.declared.order.Order.{Order}
+use Rattle.options.specs.declared.fault.LineFault.{LineFault}
+use Rattle.options.specs.declared.fault.LineFault.TheVariants as fault
+use Rattle.options.specs.Order.{Ordered, start_of, started_at, without_kind}
+
+-- the options start at this address
+abbrev pub StartsAt : List Row → List ℕ → Type 0
+StartsAt found start = (next : List ℕ → Result Ordered LineFault) → started_at (start_of found) next ≡ next start
+
+-- the options start nowhere, for this fault
+abbrev pub FailsToStart : List Row → LineFault → Type 0
+FailsToStart found why = (without_kind why ≡ why) × ((next : List ℕ → Result Ordered LineFault) → started_at (start_of found) next ≡ Err why)
+
+-- want of memory, or the kind of what is wrong with the words
+abbrev pub fault_of_kind : ErrorKind → LineFault
+fault_of_kind OutOfMemory = fault.Memory
+fault_of_kind kind = fault.Words kind

@@ -1,0 +1,15 @@
+-- What proofs alone need beside `Table`.
+use Rattle.std.specs.Borrow.{Bor}
+use Rattle.clap.specs.Walk.{Text}
+use Rattle.options.specs.declared.table.Kind.{Kind}
+use Rattle.options.specs.declared.table.Kind.TheVariants as kind
+use Rattle.options.specs.declared.table.Row.{Row}
+use Rattle.options.specs.Table.{kind_by, row_by}
+
+-- what stands behind an option, as the code has it
+abbrev pub kind_in : Kind (Bor Text) → Kind Text
+kind_in behind = kind_by (λ text. text.now) behind
+
+-- an option, as the code has it
+abbrev pub row_in : Row (Bor Text) → Row Text
+row_in row = row_by (λ text. text.now) row

@@ -1,0 +1,151 @@
+//! What is said to a person of words that are refused: what is wrong, what was likely meant and what is accepted, or the help or
+//! the version that they ask for.
+ghost use Rattle.std.specs.Prelude.{◌≡◌, ◌++◌, IfOk, codes, map, option_map, string_bytes};
+ghost use Rattle.std.specs.List.{flat_map};
+ghost use Rattle.options.specs.Advice.{advice_text, correction_text, no_text_advice, wrong_start, told_of_asked, told_of_kind, told_on, said, word_text};
+ghost use Rattle.options.specs.inner.Advice.{told_by};
+
+use crate::fault::LineFault;
+use crate::help::{VERSION, help_text};
+use crate::hint::hint_on;
+use address::AddressFault;
+use clap::error::ErrorKind;
+use std::alloc::{AllocError, Global};
+
+/// What a person is told.
+#[derive(Clone, Copy)]
+pub(crate) enum Advice {
+    /// The help, which was asked for.
+    Help,
+    /// Name and version, which were asked for.
+    Version,
+    /// What is wrong with the words, and what is accepted in its place.
+    Correction(&'static str, &'static str),
+}
+
+const OPTIONS: &str = "wgetr --help says which words are accepted";
+
+const START: &str =
+    "START is an address in full, as http://example.org/path?query, without user name and password, with at most \
+8192 bytes and a host of at most 255 (see wgetr --help)";
+
+// What is wrong with a start that is no address.
+fn wrong_start(refused: AddressFault) -> Option<&'static str>
+    ensures { option_map (λ wrong. wrong.now) result ≡ wrong_start refused }
+{
+    match refused {
+        AddressFault::TooLong => Some("START is too long"),
+        AddressFault::NotUrl => Some("START is no URL"),
+        AddressFault::NotHttp => Some(
+            "START isn't an http address, and http alone is spoken: there is no TLS here, which https needs",
+        ),
+        AddressFault::UserInfo => Some("START has a user name or a password"),
+        AddressFault::Memory => None,
+    }
+}
+
+// What is said of words that ask for something: for the version, or for help.
+fn asked_advice(kind: ErrorKind) -> Advice
+    ensures { told_by result ≡ told_of_asked kind }
+{
+    match kind {
+        ErrorKind::DisplayVersion => Advice::Version,
+        _ => Advice::Help,
+    }
+}
+
+// What is said of words that the parser refuses: its own short text. It has none of words that ask for something.
+fn kind_advice(kind: ErrorKind) -> Advice
+    ensures { told_by result ≡ told_of_kind kind }
+{
+    match kind.as_str() {
+        Some(wrong) => Advice::Correction(wrong, OPTIONS),
+        None => asked_advice(kind),
+    }
+}
+
+// What is said of words that are no order; nothing of want of memory.
+fn advice_on(wrong: LineFault) -> Option<Advice>
+    ensures { option_map told_by result ≡ told_on wrong }
+{
+    match wrong {
+        LineFault::Words(kind) => Some(kind_advice(kind)),
+        LineFault::Depth => Some(Advice::Correction(
+            "the value of -l, --level is no level",
+            "a level is inf or decimal digits, at most 1000000 (see wgetr --help)",
+        )),
+        LineFault::Pattern => Some(Advice::Correction(
+            "an element of -A, --accept or -R, --reject is no pattern",
+            "an element is a suffix, or a pattern with *, ? and classes as [a-z], each closed (see wgetr --help)",
+        )),
+        LineFault::Directory => Some(Advice::Correction(
+            "an element of -I, --include-directories or -X, --exclude-directories is no directory",
+            "an element begins with / and has none of *, ?, [ and ] (see wgetr --help)",
+        )),
+        LineFault::Domain => Some(Advice::Correction(
+            "an element of -D, --domains or --exclude-domains is no domain",
+            "an element is letters, digits, -, _ and dots, as example.org (see wgetr --help)",
+        )),
+        LineFault::Start(refused) => Some(Advice::Correction(wrong_start(refused)?, START)),
+        LineFault::StartIsRobots => Some(Advice::Correction(
+            "START is a robots file",
+            "START is any other page (see wgetr --help)",
+        )),
+        LineFault::Memory => None,
+    }
+}
+
+// The lines of a correction: what is wrong, what was likely meant, in these words, and what is accepted.
+fn correction_text(
+    alloc: Global,
+    wrong: &str,
+    hint: &str,
+    accepted: &str,
+    words: &[&str],
+) -> Result<String, AllocError>
+    ensures { IfOk result (λ text. string_bytes text ≡ codes "wgetr: " ++ wrong.now ++ hint.now ++ codes ", in:"
+        ++ flat_map (λ word. word_text word.now) words.now ++ codes "\n" ++ accepted.now ++ codes "\n") }
+{
+    let mut text = format!(in alloc; "wgetr: {wrong}{hint}, in:")?;
+    for word in words {
+        write!(text, " {word}")?;
+    }
+    writeln!(text, "\n{accepted}")?;
+    Ok(text)
+}
+
+// The lines of an advice on these words, with what was likely meant.
+fn said(alloc: Global, advice: Advice, hint: &str, words: &[&str]) -> Result<String, AllocError>
+    ensures { IfOk result (λ text. string_bytes text ≡ said (map (λ word. word.now) words.now) hint.now (told_by advice)) }
+{
+    match advice {
+        Advice::Help => help_text(alloc),
+        Advice::Version => format!(in alloc; "wgetr {VERSION}\n"),
+        Advice::Correction(wrong, accepted) => {
+            correction_text(alloc, wrong, hint, accepted, words)
+        }
+    }
+}
+
+/// What a person is told of these words, which are refused for this fault: what is wrong with them and what was likely meant, and
+/// a line on what is accepted; or the help, or name and version, where they ask for it. Empty where memory ran out.
+pub fn advice_text(alloc: Global, fault: LineFault, words: &[&str]) -> Result<String, AllocError>
+    ensures { IfOk result (λ text. string_bytes text ≡ advice_text (map (λ word. word.now) words.now) fault) }
+{
+    match advice_on(fault) {
+        Some(advice) => said(alloc, advice, hint_on(alloc, fault, words)?.as_str(), words),
+        None => Ok(String::new(alloc)),
+    }
+}
+
+/// What a person is told where a word isn't UTF-8, beside these words.
+pub fn no_text_advice(alloc: Global, words: &[&str]) -> Result<String, AllocError>
+    ensures { IfOk result (λ text. string_bytes text ≡ no_text_advice (map (λ word. word.now) words.now)) }
+{
+    said(
+        alloc,
+        Advice::Correction("a word isn't UTF-8", OPTIONS),
+        "",
+        words,
+    )
+}
