@@ -4,4 +4,5 @@ pub mod NameLaws
 pub mod HarvestLaws
 pub mod NamedLaws
 pub mod StatusLaws
+pub mod SoleLaws
 mod StandardFacts

@@ -5,6 +5,7 @@ use Rattle.std.specs.List.{list_any}
 use Rattle.std.proofs.lemmas.Bool.{false≢true}
 use Rattle.std.proofs.lemmas.List.Folds.{Any-from_list_any, list_any_at}
 use Rattle.std.proofs.lemmas.List.Sorted.{Contains-permutation}
+use Rattle.fetcher.specs.Outcomes.{is_fault}
 use Rattle.fetcher.specs.declared.outcome.Outcome.{Outcome}
 use Rattle.frontier_core.specs.Tables.{Text, lookup, keys, IsOnce}
 use Rattle.frontier_core.specs.Machine.{State, Slot, outcome_in}
@@ -15,7 +16,7 @@ use Rattle.harvest.specs.Gathered.{AreEntries, AreRecords}
 use Rattle.harvest.specs.Harvests.{Harvested}
 use Rattle.harvest.specs.declared.entry.Entry.{Entry}
 use Rattle.report.specs.Entries.{fate_at, name_among, line_at, lines_of}
-use Rattle.report.specs.ExitStatus.{is_network_fault, is_fault, exit_status, outcome_of, outcomes_in}
+use Rattle.report.specs.ExitStatus.{is_network_fault, exit_status, outcome_of, outcomes_in}
 use Rattle.report.specs.Report.{Line, Fate, Asked, Refused, is_failed}
 use Rattle.report.proofs.HarvestLaws.{Answers, answered, unanswered, at_place, fate_from, by_rules, by_record, line_is}
 use Rattle.report.proofs.ListLaws.{to_map, from_map, to_given, from_given}

@@ -1,6 +1,6 @@
 pub mod Report
 pub mod Entries
 pub mod Named
-pub mod Rows
-pub mod OutcomeWord
 pub mod ExitStatus
+pub mod Trace
+pub mod inner

@@ -1,7 +1,7 @@
 //! Rows of a report: what is said of each address of a harvest.
 ghost use Rattle.std.specs.Prelude.{◌≡◌, ◌<◌, List, [], IsTrue, length, IfOk, map, option_map, slice_index_or, string_bytes};
 ghost use Rattle.address.specs.AddressOrder.{IsAscending};
-ghost use Rattle.report.specs.Rows.{line_of, fate_of};
+ghost use Rattle.report.specs.inner.Rows.{line_of, fate_of};
 ghost use Rattle.report.specs.Entries.{name_among, fate_at, line_at, lines_of};
 
 use address::Address;

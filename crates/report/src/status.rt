@@ -1,19 +1,17 @@
 //! The exit status of a retrieval (GNU Wget manual, Exit Status).
 ghost use Rattle.std.specs.Prelude.{◌≡◌, map};
-ghost use Rattle.report.specs.ExitStatus.{is_loss, is_network_fault, is_fault, exit_status};
+ghost use Rattle.fetcher.specs.FaultWords.{class_of};
+ghost use Rattle.report.specs.ExitStatus.{is_network, is_network_fault, exit_status};
 
 use crate::text::is_failed;
-use fetcher::{FaultKind, Outcome};
+use fetcher::{FaultClass, FaultKind, Outcome};
 use harvest::Harvest;
 
-// Whether nobody took the connection, or it was lost.
+// Whether it is the network's fault.
 fn is_loss(kind: FaultKind) -> bool
-    ensures { result ≡ is_loss kind }
+    ensures { result ≡ is_network (class_of kind) }
 {
-    matches!(
-        kind,
-        FaultKind::Connect | FaultKind::Device | FaultKind::Ended
-    )
+    kind.class() == FaultClass::Network
 }
 
 // Whether the network failed.
@@ -26,13 +24,6 @@ fn is_network_fault(outcome: &Outcome) -> bool
     }
 }
 
-// Whether there was a fault.
-fn is_fault(outcome: &Outcome) -> bool
-    ensures { result ≡ is_fault outcome.now }
-{
-    matches!(outcome, Outcome::Fault(_))
-}
-
 /// The exit status of a harvest: 4 where the network failed for an address, else 7 where there was
 /// another fault, else 8 where a status was 400 or more, else 0. Robots files don't count. Takes no
 /// memory.
@@ -42,7 +33,7 @@ pub fn exit_status(harvest: &Harvest) -> u8
     let records = harvest.records();
     if records.iter().any(|(_, outcome)| is_network_fault(outcome)) {
         4
-    } else if records.iter().any(|(_, outcome)| is_fault(outcome)) {
+    } else if records.iter().any(|(_, outcome)| outcome.is_fault()) {
         7
     } else if records.iter().any(|(_, outcome)| is_failed(outcome)) {
         8

@@ -1,9 +1,9 @@
 //! The text of a report: a line for each address, and the counts.
 ghost use Rattle.std.specs.Prelude.{◌≡◌, ◌++◌, IfOk, OnOk, length, map, string_bytes};
 ghost use Rattle.report.specs.Report.{outcome_word, is_failed, fate_word, was_asked, was_refused, has_failed, is_kept, report_text, counts_text, line_text, count_of, count_kept};
-ghost use Rattle.report.specs.Rows.{line_of, fate_of};
+ghost use Rattle.report.specs.inner.Rows.{line_of, fate_of};
 ghost use Rattle.report.specs.Entries.{lines_of};
-ghost use Rattle.report.specs.OutcomeWord.{word_text};
+ghost use Rattle.report.specs.inner.OutcomeWord.{word_text};
 
 use crate::rows::{Fate, Row, rows_of};
 use fetcher::{FaultKind, Outcome};
@@ -21,7 +21,7 @@ enum Word {
 
 impl fmt::Display for Word {
     ghost use Rattle.std.specs.Prelude.{Some};
-    ghost use Rattle.report.specs.OutcomeWord.{word_text};
+    ghost use Rattle.report.specs.inner.OutcomeWord.{word_text};
 
     ghost output = { λ word. Some (word_text word) };
 
@@ -81,7 +81,7 @@ struct Counts {
 impl Counts {
     ghost use Rattle.std.specs.Prelude.{◌≡◌, map};
     ghost use Rattle.report.specs.Report.{was_asked, was_refused, has_failed, count_of, count_kept};
-    ghost use Rattle.report.specs.Rows.{line_of};
+    ghost use Rattle.report.specs.inner.Rows.{line_of};
 
     // The counts of these rows.
     fn of(rows: &[Row<'_>]) -> Counts

@@ -14,13 +14,13 @@ use Rattle.std.specs.List.Sorted.{IsSortedBy, IsBinarySearchResult}
 use Rattle.std.specs.Ordering.{nat_cmp, is_lt, ordering_reverse}
 use Rattle.frontier_core.specs.Tables.{Text, IsOnce}
 use Rattle.frontier_core.proofs.RouteLaws.{contains_tail, contains_cases}
-use Rattle.workers.specs.Apart.{AreInOrder, IsOrdered, AreApart}
+use Rattle.workers.specs.inner.Apart.{AreInOrder, IsOrdered, AreApart}
 use Rattle.workers.specs.declared.note.PageNote.{PageNote}
 use Rattle.workers.specs.declared.note.RulesNote.{RulesNote}
 use Rattle.workers.specs.declared.worker.Seat.{Seat}
-use Rattle.workers.specs.Notes.{addresses, origins}
+use Rattle.workers.specs.inner.Notes.{addresses, origins}
 use Rattle.address.specs.AddressOrder.{IsAscending}
-use Rattle.workers.specs.Seats.{fetchers_of, page_notes, rules_notes}
+use Rattle.workers.specs.inner.Seats.{fetchers_of, page_notes, rules_notes}
 use Rattle.workers.proofs.ComparisonLaws.{once_ascending}
 use Rattle.workers.proofs.ConclusionLaws.{once_permutation}
 

@@ -120,7 +120,8 @@ less_lt Greater h = cc
 is_before_trans : (u v w : Text) → IsBefore u v → IsBefore v w → IsBefore u w
 is_before_trans u v w a b = ap is_lt (nat_list_cmp_total.trans u v w (less_lt _ a) (less_lt _ b))
 
-not_before_self : (u : Text) → IsBefore u u → ⊥
+-- no name stands before itself
+pub not_before_self : (u : Text) → IsBefore u u → ⊥
 not_before_self u h = go (slice_cmp nat_cmp u u) (nat_list_cmp_total.antisymm u u) h
   where
     go : (o : Ordering) → o ≡ ordering_reverse o → is_lt o ≡ true → ⊥

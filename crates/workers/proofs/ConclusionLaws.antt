@@ -21,9 +21,9 @@ use Rattle.workers.specs.declared.note.PageNote.{PageNote}
 use Rattle.workers.specs.declared.note.RulesNote.{RulesNote}
 use Rattle.harvest.specs.declared.page.KeptPage.{KeptPage}
 use Rattle.workers.specs.Asks.{pages_asked, origins_asked, AreOnce, AreRecordedOrLost, IsLost, HasLostRules}
-use Rattle.workers.specs.Concluded.{HasBody}
-use Rattle.workers.specs.Noted.{AreNoted, Agrees, StandsPage, StandsRules, page_of}
-use Rattle.workers.specs.Notes.{IsToldPage, IsToldRules, addresses, origins}
+use Rattle.workers.specs.inner.Concluded.{HasBody}
+use Rattle.workers.specs.inner.Noted.{AreNoted, Agrees, StandsPage, StandsRules, page_of}
+use Rattle.workers.specs.inner.Notes.{IsToldPage, IsToldRules, addresses, origins}
 use Rattle.harvest.specs.Pages.{IsKept, is_success}
 use Rattle.harvest.proofs.OrderLaws.{Apart, Apart-from_once, Apart-IsPermutation}
 

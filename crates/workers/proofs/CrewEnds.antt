@@ -16,6 +16,7 @@ use Rattle.frontier_core.specs.Routes.{Answers, HasTooMany}
 use Rattle.frontier_core.specs.Traced.{Traced}
 use Rattle.frontier_core.specs.declared.event.Cause.{Cause}
 use Rattle.frontier_core.specs.declared.event.Cause.TheVariants as why
+use Rattle.frontier_core.specs.declared.event.Event.{Event}
 use Rattle.frontier_core.proofs.Runs.{sound_replay}
 use Rattle.workers.specs.declared.note.PageNote.{PageNote}
 use Rattle.workers.specs.declared.note.RulesNote.{RulesNote}
@@ -23,21 +24,23 @@ use Rattle.workers.specs.declared.retrieval.Halt.{Halt}
 use Rattle.workers.specs.declared.worker.Seat.{Seat}
 use Rattle.workers.specs.declared.crew_retrieval.Retrieved.{Retrieved}
 use Rattle.workers.specs.declared.crew_retrieval.Stopped.{Stopped}
-use Rattle.workers.specs.Answered.{IsBrought, IsLeftBy, IsAccount}
+use Rattle.workers.specs.inner.Answered.{IsBrought, IsLeftBy, IsAccount, IsOwnAccount}
 use Rattle.workers.specs.declared.crew_retrieval.Noted.{Noted}
 use Rattle.workers.specs.declared.crew_retrieval.Noted.TheVariants as known
 use Rattle.workers.specs.declared.note.Notes.{Notes}
-use Rattle.workers.specs.Apart.{IsOrdered}
+use Rattle.workers.specs.inner.Apart.{IsOrdered}
 use Rattle.workers.specs.Asks.{gained, pages_asked, origins_asked, AreOnce}
-use Rattle.workers.specs.Concluded.{IsConcluded, IsBare}
+use Rattle.workers.specs.inner.Concluded.{IsConcluded, IsBare}
 use Rattle.workers.specs.Crews.{AreLater, all_gained, SomeSays, SomeRules, AllFit}
 use Rattle.harvest.specs.Harvests.{Harvested}
-use Rattle.workers.specs.Noted.{AreNoted}
-use Rattle.workers.specs.Notes.{addresses, origins}
+use Rattle.workers.specs.inner.Noted.{AreNoted}
+use Rattle.workers.specs.inner.Notes.{addresses, origins}
 use Rattle.workers.specs.Retrieval.{Brings, Leaves, IsLeft}
-use Rattle.workers.specs.Seats.{AllGo, fetchers_of, page_notes, rules_notes}
+use Rattle.workers.specs.inner.Seats.{AllGo, fetchers_of, page_notes, rules_notes}
 use Rattle.workers.specs.Sites.{IsCompleteFor}
-use Rattle.workers.specs.Turns.{IsNothing}
+use Rattle.workers.specs.Takers.{AreOwn}
+use Rattle.workers.specs.inner.Takers.{AreNotedBy}
+use Rattle.workers.specs.inner.Turns.{IsNothing}
 use Rattle.workers.proofs.ApartLaws.{same_fetchers}
 use Rattle.workers.proofs.CrewLaws.{crew_later, pages_are_noted, rules_are_noted}
 use Rattle.workers.proofs.RetrievalLaws.{gained_is, log_is}
@@ -216,6 +219,12 @@ module _ {F S : Type 0} (site : F → S) (says : S → Text → Outcome → List
         pages = subst IsOnce (sym (pages_are_noted site says rules log plan ss ts go no_pages)) pages;
         origins = subst IsOnce (sym (rules_are_noted site says rules log plan ss ts go no_sets)) sets;
       }
+
+-- ---- who took what
+
+pub account_own : {F : Type 0} (log : F → List Ask) (old new : List F) (noted : Noted) (notes : Notes) → IsOwnAccount log old new noted → noted ≡ known.All notes
+    → (trace : List Event) → AreNotedBy notes.pages.items notes.rules.items trace → AreOwn log 0 old new trace
+account_own log old new noted notes account is = subst (λ (n : Noted). IsOwnAccount log old new n) is account
 
 -- ---- what is handed on with its fetchers
 

@@ -1,5 +1,5 @@
 -- From what the workers did at their seats to what the fetchers were asked and what they may have said.
-use Rattle.std.proofs.Common.{◌≡◌, ℕ, List, [], ◌∷◌, ◌++◌, length, get_or, map, refl, sym, ap, ◌∙◌, subst, inl, inr, arith, Option, Some, None}
+use Rattle.std.proofs.Common.{◌≡◌, ◌+◌, ◌<◌, ℕ, zero, suc, List, [], ◌∷◌, ◌++◌, length, get_or, map, refl, sym, ap, ◌∙◌, subst, inl, inr, arith, Option, Some, None}
 use Rattle.std.specs.Prelude.{All, Contains, MatchOption, IfSome, IsPermutation}
 use Rattle.std.proofs.lemmas.List.{map-append, length-map, get_or-map}
 use Rattle.std.proofs.lemmas.List.Elements.{All-append, All-nil, All-weaker, filter_map-append}
@@ -9,14 +9,19 @@ use Rattle.robots_rules.specs.Access.{RuleSetValue}
 use Rattle.fetcher.specs.declared.fetcher.Ask.{Ask}
 use Rattle.fetcher.specs.declared.outcome.Outcome.{Outcome}
 use Rattle.frontier_core.specs.Tables.{Text}
+use Rattle.frontier_core.specs.declared.event.Event.{Event}
+use Rattle.frontier_core.specs.declared.event.Event.TheVariants as line
 use Rattle.workers.specs.declared.note.PageNote.{PageNote}
 use Rattle.workers.specs.declared.note.RulesNote.{RulesNote}
 use Rattle.workers.specs.declared.worker.Seat.{Seat}
 use Rattle.workers.specs.Asks.{gained, page_asked, origin_asked, pages_asked, origins_asked}
 use Rattle.workers.specs.Crews.{AreLater, all_gained, SomeSays, SomeRules}
-use Rattle.workers.specs.Noted.{AreNoted}
-use Rattle.workers.specs.Notes.{IsToldPage, IsToldRules, addresses, origins, body_of}
-use Rattle.workers.specs.Seats.{SeatGoes, AllGo, fetchers_of, page_notes, rules_notes}
+use Rattle.workers.specs.inner.Noted.{AreNoted}
+use Rattle.workers.specs.inner.Notes.{IsToldPage, IsToldRules, addresses, origins, body_of}
+use Rattle.workers.specs.inner.Seats.{SeatGoes, AllGo, fetchers_of, page_notes, rules_notes, AreNumbered}
+use Rattle.workers.specs.Takers.{IsOwn, AreOwn}
+use Rattle.workers.specs.inner.Takers.{IsNotedBy, AreNotedBy}
+use Rattle.workers.proofs.TakerLaws.{worker_is, noted_left, noted_right}
 use Rattle.workers.proofs.RetrievalLaws.{gained_is, log_is}
 
 nil_left : {X : Type 0} (xs ys : List X) → xs ++ ys ≡ [] → xs ≡ []
@@ -143,6 +148,53 @@ module _ {F S : Type 0} (site : F → S) (says : S → Text → Outcome → List
     told = all_told ss ts go no_pages;
     ruled = all_ruled ss ts go no_sets;
   }
+
+  -- what a line says of a worker's notes it says of the asks of its fetcher
+  own_line : (n : ℕ) (s t : Seat F) → SeatGoes site says rules log plan s t → s.number ≡ n → s.notes.pages.items ≡ [] → s.notes.rules.items ≡ [] → (event : Event)
+      → IsNotedBy t.notes.pages.items t.notes.rules.items event → IsOwn n (gained (log s.fetcher) (log t.fetcher)) event
+  own_line n s t go number no_pages no_sets (line.Opened u) h = tt
+  own_line n s t go number no_pages no_sets (line.Page w u) h = λ among.
+      let own : All (λ (note : PageNote). note.worker ≡ s.number) t.notes.pages.items =
+      subst (λ (notes : List PageNote). All (λ (note : PageNote). note.worker ≡ s.number) notes) (sym (fresh s.notes.pages.items go.pages t.notes.pages.items go.pages_are no_pages)) go.own in
+      let there : Contains (addresses t.notes.pages.items) u = subst (λ (us : List Text). Contains us u) (one_noted s t go no_pages) among in
+      worker_is (λ (note : PageNote). note.address) (λ (note : PageNote). note.worker) t.notes.pages.items u w s.number there h own ∙ number
+  own_line n s t go number no_pages no_sets (line.Rules w o) h = λ among.
+      let own : All (λ (note : RulesNote). note.worker ≡ s.number) t.notes.rules.items =
+      subst (λ (notes : List RulesNote). All (λ (note : RulesNote). note.worker ≡ s.number) notes) (sym (fresh s.notes.rules.items go.sets t.notes.rules.items go.sets_are no_sets)) go.own_sets in
+      let there : Contains (origins t.notes.rules.items) o = subst (λ (os : List Text). Contains os o) (one_ruled s t go no_sets) among in
+      worker_is (λ (note : RulesNote). note.origin) (λ (note : RulesNote). note.worker) t.notes.rules.items o w s.number there h own ∙ number
+  own_line n s t go number no_pages no_sets (line.Answer w u) h = tt
+  own_line n s t go number no_pages no_sets (line.Ruled w o) h = tt
+  own_line n s t go number no_pages no_sets (line.Spread d u k) h = tt
+  own_line n s t go number no_pages no_sets (line.Part d u k) h = tt
+  own_line n s t go number no_pages no_sets (line.Abandon w u) h = tt
+  own_line n s t go number no_pages no_sets (line.AbandonRules w o) h = tt
+  own_line n s t go number no_pages no_sets (line.Stop cause) h = tt
+
+  all_own : (n : ℕ) (ss ts : List (Seat F)) → AllGo site says rules log plan ss ts → ((k : ℕ) (d : Seat F) → k < length ss → (get_or ss k d).number ≡ n + k)
+      → page_notes ss ≡ [] → rules_notes ss ≡ [] → (trace : List Event) → AreNotedBy (page_notes ts) (rules_notes ts) trace → AreOwn log n (fetchers_of ss) (fetchers_of ts) trace
+  all_own n [] ts go numbers no_pages no_sets trace noted = tt
+  all_own n (s ∷ ss) [] go numbers no_pages no_sets trace noted = absurd go
+  all_own n (s ∷ ss) (t ∷ ts) go numbers no_pages no_sets trace noted =
+      let pages = t.notes.pages.items in
+      let sets = t.notes.rules.items in
+      let first : s.number ≡ n + 0 = numbers zero s (omega arith) in
+      let line_own : (event : Event) → IsNotedBy (page_notes (t ∷ ts)) (rules_notes (t ∷ ts)) event → IsOwn n (gained (log s.fetcher) (log t.fetcher)) event = λ event h.
+      own_line n s t go.0 (omega (arith, first)) (nil_left s.notes.pages.items (page_notes ss) no_pages) (nil_left s.notes.rules.items (rules_notes ss) no_sets) event
+      (noted_left pages (page_notes ts) sets (rules_notes ts) event h) in (
+        All-weaker (IsNotedBy (page_notes (t ∷ ts)) (rules_notes (t ∷ ts))) (IsOwn n (gained (log s.fetcher) (log t.fetcher))) line_own trace noted,
+        all_own (suc n) ss ts go.1 (λ k d lt. let next : (get_or ss k d).number ≡ n + suc k = numbers (suc k) d (omega (arith, lt)) in omega (arith, next))
+            (nil_right s.notes.pages.items (page_notes ss) no_pages) (nil_right s.notes.rules.items (rules_notes ss) no_sets) trace
+            (All-weaker (IsNotedBy (page_notes (t ∷ ts)) (rules_notes (t ∷ ts))) (IsNotedBy (page_notes ts) (rules_notes ts)) (λ event h. noted_right pages (page_notes ts) sets (rules_notes ts) event h) trace noted),
+      )
+
+  pub crew_own : (old new : List F) (ss ts : List (Seat F)) (pages : List PageNote) (sets : List RulesNote) → fetchers_of ss ≡ old → new ≡ fetchers_of ts → AreNumbered ss
+      → page_notes ss ≡ [] → rules_notes ss ≡ [] → pages ≡ page_notes ts → sets ≡ rules_notes ts → AllGo site says rules log plan ss ts
+      → (trace : List Event) → AreNotedBy pages sets trace → AreOwn log 0 old new trace
+  crew_own old new ss ts pages sets from to numbers no_pages no_sets pages_is sets_is go trace noted =
+      let noted' : AreNotedBy (page_notes ts) (rules_notes ts) trace =
+      subst (λ (xs : List PageNote). AreNotedBy xs (rules_notes ts) trace) pages_is (subst (λ (xs : List RulesNote). AreNotedBy pages xs trace) sets_is noted) in
+      rw (← from, to) (all_own 0 ss ts go (λ k d lt. omega (arith, numbers k d lt)) no_pages no_sets trace noted')
 
 -- there are as many seats as fetchers
 pub seated : {F : Type 0} (seats : List (Seat F)) (fetchers : List F) → fetchers_of seats ≡ fetchers → length seats ≡ length fetchers

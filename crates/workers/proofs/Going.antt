@@ -15,7 +15,7 @@ use Rattle.workers.specs.declared.note.PageNote.{PageNote}
 use Rattle.workers.specs.declared.note.RulesNote.{RulesNote}
 use Rattle.workers.specs.declared.note.Notes.{Notes}
 use Rattle.workers.specs.Asks.{page_asked, origin_asked}
-use Rattle.workers.specs.Notes.{Goes, IsToldPage, IsToldRules}
+use Rattle.workers.specs.inner.Notes.{Goes, IsToldPage, IsToldRules}
 
 -- an ask that found no memory was logged or not, as the log's length says
 pub not_logged : (old new : List Ask) (a : Ask) → GainedAtMost old new a → length new ≡ length old → new ≡ old
@@ -30,9 +30,9 @@ was_logged old new a (inr is) other = is
 pub noted_after : {X : Type 0} (old mid new : List X) (x : X) → new ≡ mid ++ x ∷ [] → mid ≡ old → new ≡ old ++ x ∷ []
 noted_after {X = X} old mid new x more same = more ∙ ap (λ (xs : List X). xs ++ x ∷ []) same
 
-module _ {F S : Type 0} (site : F → S) (says : S → Text → Outcome → List ℕ → Type 0) (rules : S → Text → RuleSetValue → Type 0) (log : F → List Ask) (plan : Plan) where
+module _ {F S : Type 0} (site : F → S) (says : S → Text → Outcome → List ℕ → Type 0) (rules : S → Text → RuleSetValue → Type 0) (log : F → List Ask) (plan : Plan) (worker : ℕ) where
   -- nothing was done
-  pub goes_none : (f : F) (notes : Notes) → Goes site says rules log plan f notes f notes
+  pub goes_none : (f : F) (notes : Notes) → Goes site says rules log plan worker f notes f notes
   goes_none f notes = record {
     asks = [];
     pages = [];
@@ -45,11 +45,13 @@ module _ {F S : Type 0} (site : F → S) (says : S → Text → Outcome → List
     rules_noted = refl;
     told = All-nil (IsToldPage (says (site f)) plan);
     ruled = All-nil (IsToldRules (rules (site f)));
+    own = All-nil (λ (note : PageNote). note.worker ≡ worker);
+    own_sets = All-nil (λ (note : RulesNote). note.worker ≡ worker);
   }
 
   -- nothing was asked, and nothing noted
   pub goes_idle : (f : F) (n : Notes) (g : F) (m : Notes) → site g ≡ site f → log g ≡ log f → m.pages.items ≡ n.pages.items → m.rules.items ≡ n.rules.items
-      → Goes site says rules log plan f n g m
+      → Goes site says rules log plan worker f n g m
   goes_idle f n g m same_site same_log same_pages same_sets = record {
     asks = [];
     pages = [];
@@ -62,12 +64,14 @@ module _ {F S : Type 0} (site : F → S) (says : S → Text → Outcome → List
     rules_noted = refl;
     told = All-nil (IsToldPage (says (site f)) plan);
     ruled = All-nil (IsToldRules (rules (site f)));
+    own = All-nil (λ (note : PageNote). note.worker ≡ worker);
+    own_sets = All-nil (λ (note : RulesNote). note.worker ≡ worker);
   }
 
   -- a page was asked for, and noted
   pub goes_page : (f : F) (n : Notes) (g : F) (m : Notes) (note : PageNote) → site g ≡ site f → log g ≡ log f ++ ask.Page note.address ∷ []
-      → m.pages.items ≡ n.pages.items ++ note ∷ [] → m.rules.items ≡ n.rules.items → IsToldPage (says (site f)) plan note → Goes site says rules log plan f n g m
-  goes_page f n g m note same_site logged noted same_sets told = record {
+      → m.pages.items ≡ n.pages.items ++ note ∷ [] → m.rules.items ≡ n.rules.items → IsToldPage (says (site f)) plan note → note.worker ≡ worker → Goes site says rules log plan worker f n g m
+  goes_page f n g m note same_site logged noted same_sets told own = record {
     asks = ask.Page note.address ∷ [];
     pages = note ∷ [];
     sets = [];
@@ -79,12 +83,14 @@ module _ {F S : Type 0} (site : F → S) (says : S → Text → Outcome → List
     rules_noted = refl;
     told = All-cons (IsToldPage (says (site f)) plan) note [] told (All-nil (IsToldPage (says (site f)) plan));
     ruled = All-nil (IsToldRules (rules (site f)));
+    own = All-cons (λ (note : PageNote). note.worker ≡ worker) note [] own (All-nil (λ (note : PageNote). note.worker ≡ worker));
+    own_sets = All-nil (λ (note : RulesNote). note.worker ≡ worker);
   }
 
   -- an origin's rules were asked for, and noted
   pub goes_rules : (f : F) (n : Notes) (g : F) (m : Notes) (note : RulesNote) → site g ≡ site f → log g ≡ log f ++ ask.Rules note.origin ∷ []
-      → m.pages.items ≡ n.pages.items → m.rules.items ≡ n.rules.items ++ note ∷ [] → IsToldRules (rules (site f)) note → Goes site says rules log plan f n g m
-  goes_rules f n g m note same_site logged same_pages noted told = record {
+      → m.pages.items ≡ n.pages.items → m.rules.items ≡ n.rules.items ++ note ∷ [] → IsToldRules (rules (site f)) note → note.worker ≡ worker → Goes site says rules log plan worker f n g m
+  goes_rules f n g m note same_site logged same_pages noted told own = record {
     asks = ask.Rules note.origin ∷ [];
     pages = [];
     sets = note ∷ [];
@@ -96,10 +102,12 @@ module _ {F S : Type 0} (site : F → S) (says : S → Text → Outcome → List
     rules_noted = refl;
     told = All-nil (IsToldPage (says (site f)) plan);
     ruled = All-cons (IsToldRules (rules (site f))) note [] told (All-nil (IsToldRules (rules (site f))));
+    own = All-nil (λ (note : PageNote). note.worker ≡ worker);
+    own_sets = All-cons (λ (note : RulesNote). note.worker ≡ worker) note [] own (All-nil (λ (note : RulesNote). note.worker ≡ worker));
   }
 
   -- one thing was done after the other
-  pub goes_on : (f : F) (n : Notes) (g : F) (m : Notes) (h : F) (l : Notes) → Goes site says rules log plan f n g m → Goes site says rules log plan g m h l → Goes site says rules log plan f n h l
+  pub goes_on : (f : F) (n : Notes) (g : F) (m : Notes) (h : F) (l : Notes) → Goes site says rules log plan worker f n g m → Goes site says rules log plan worker g m h l → Goes site says rules log plan worker f n h l
   goes_on f n g m h l a b = record {
     asks = a.asks ++ b.asks;
     pages = a.pages ++ b.pages;
@@ -114,4 +122,6 @@ module _ {F S : Type 0} (site : F → S) (says : S → Text → Outcome → List
         ∙ (ap (λ (x : List Text). map (λ (note : RulesNote). note.origin) a.sets ++ x) b.rules_noted ∙ sym (map-append (λ (note : RulesNote). note.origin) a.sets b.sets)));
     told = All-append (IsToldPage (says (site f)) plan) a.pages b.pages a.told (subst (λ (s : S). All (IsToldPage (says s) plan) b.pages) a.site_is b.told);
     ruled = All-append (IsToldRules (rules (site f))) a.sets b.sets a.ruled (subst (λ (s : S). All (IsToldRules (rules s)) b.sets) a.site_is b.ruled);
+    own = All-append (λ (note : PageNote). note.worker ≡ worker) a.pages b.pages a.own b.own;
+    own_sets = All-append (λ (note : RulesNote). note.worker ≡ worker) a.sets b.sets a.own_sets b.own_sets;
   }

@@ -8,6 +8,7 @@ pub mod RetrievalLaws
 pub mod Going
 pub mod Eachs
 pub mod ComparisonLaws
+pub mod TakerLaws
 pub mod ConclusionLaws
 pub mod ApartLaws
 pub mod ServingLaws

@@ -1,8 +1,11 @@
 -- What is moved piece by piece from the front of one list to the end of another.
-use Rattle.std.proofs.Common.{◌≡◌, ◌≤◌, ◌<◌, ◌+◌, ℕ, suc, List, [], ◌∷◌, ◌++◌, length, get_or, map, drop, drop-cons, add-one, refl, ap, sym, ◌∙◌, append_assoc, append-nil, length-append, arith}
+use Rattle.std.proofs.Common.{◌≡◌, ◌≤◌, ◌<◌, ◌+◌, ℕ, suc, List, [], ◌∷◌, ◌++◌, length, get_or, map, drop, drop-cons, add-one, refl, ap, sym, ◌∙◌, append_assoc, append-nil, length-append, inl, inr, subst, arith}
 use Rattle.std.specs.List.{flat_map}
-use Rattle.std.proofs.lemmas.List.{map-append}
+use Rattle.std.proofs.lemmas.Bool.{cases_lt}
+use Rattle.std.proofs.lemmas.List.{map-append, get_or_append_left, get_or-append-add}
 use Rattle.std.proofs.lemmas.Grind.{flat_map-append}
+use Rattle.workers.specs.declared.worker.Seat.{Seat}
+use Rattle.workers.specs.inner.Seats.{AreNumbered}
 
 -- with the next piece moved, what was moved and what is left are still the whole
 pub piece_moved : {X : Type 0} (done piece rest left new all : List X) → left ≡ piece ++ rest → new ≡ done ++ piece → done ++ left ≡ all → new ++ rest ≡ all
@@ -37,3 +40,16 @@ none_added xs new x f is empty none = rw (is, flat_map-append f xs (x ∷ []), n
 -- the next one's part stands behind the others'
 pub one_added : {X Y : Type 0} (xs new : List X) (x : X) (f : X → Y) → new ≡ xs ++ x ∷ [] → map f new ≡ map f xs ++ f x ∷ []
 one_added xs new x f is = rw is (map-append f xs (x ∷ []))
+
+-- one seat more is numbered by its place
+pub numbered_more : {F : Type 0} (seats new : List (Seat F)) (seat : Seat F) → new ≡ seats ++ seat ∷ [] → seat.number ≡ length seats → AreNumbered seats → AreNumbered new
+numbered_more {F = F} seats new seat is here numbers = subst (λ (xs : List (Seat F)). AreNumbered xs) (sym is) all
+  where
+    all : AreNumbered (seats ++ seat ∷ [])
+    all k d lt = elim (cases_lt k (length seats)) [
+      | inl below ↦ ap (λ (s : Seat F). s.number) (get_or_append_left seats (seat ∷ []) d k below) ∙ numbers k d below
+      | inr least ↦ (
+          let last : k ≡ length seats + 0 = omega (arith, lt, least, length-append seats (seat ∷ [])) in
+          rw last (ap (λ (s : Seat F). s.number) (get_or-append-add seats (seat ∷ []) 0 d) ∙ (here ∙ omega arith))
+          )
+    ]

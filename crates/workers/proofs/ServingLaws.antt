@@ -28,13 +28,13 @@ use Rattle.workers.specs.declared.note.RulesNote.{RulesNote}
 use Rattle.harvest.specs.declared.page.KeptPage.{KeptPage}
 use Rattle.workers.specs.declared.retrieval.Halt.{Halt}
 use Rattle.workers.specs.Asks.{pages_asked, origins_asked, IsTold}
-use Rattle.workers.specs.Concluded.{HasBody, IsConcluded, IsBare}
+use Rattle.workers.specs.inner.Concluded.{HasBody, IsConcluded, IsBare}
 use Rattle.harvest.specs.Harvests.{Harvested}
-use Rattle.workers.specs.Noted.{AreNoted, Agrees, StandsPage, StandsRules, page_of}
-use Rattle.workers.specs.Notes.{IsToldPage, IsToldRules, origins, body_of}
+use Rattle.workers.specs.inner.Noted.{AreNoted, Agrees, StandsPage, StandsRules, page_of}
+use Rattle.workers.specs.inner.Notes.{IsToldPage, IsToldRules, origins, body_of}
 use Rattle.harvest.specs.Pages.{IsBodyOf, is_success}
 use Rattle.workers.specs.Retrieval.{Brings, Leaves, IsLeft}
-use Rattle.workers.specs.Turns.{IsServing, AtEnd, AtStop}
+use Rattle.workers.specs.inner.Turns.{IsServing, AtEnd, AtStop}
 use Rattle.workers.proofs.ConclusionLaws.{found_note, noted_moved, once_asked, rules_noted, recorded_or_lost, kept_once, kept_is}
 use Rattle.workers.proofs.RetrievalLaws.{brings, leaves}
 

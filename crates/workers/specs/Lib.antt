@@ -2,11 +2,6 @@ pub mod Asks
 pub mod Sites
 pub mod Retrieval
 pub mod OneWorker
-pub mod Turns
 pub mod Crews
-pub mod Notes
-pub mod Seats
-pub mod Apart
-pub mod Noted
-pub mod Concluded
-pub mod Answered
+pub mod Takers
+pub mod inner

@@ -2,8 +2,9 @@
 ghost use Rattle.std.specs.Prelude.{◌≡◌, ◌↔◌, ℕ, false, List, All, Contains, IsSome, IsTrue, IsPermutation, map};
 ghost use Rattle.frontier_core.specs.Machine.{answers};
 ghost use Rattle.frontier_core.specs.Tables.{Text, IsOnce};
-ghost use Rattle.workers.specs.Notes.{addresses, origins};
-ghost use Rattle.workers.specs.Noted.{StandsPage, StandsRules, Agrees};
+ghost use Rattle.workers.specs.inner.Apart.{AreInOrder};
+ghost use Rattle.workers.specs.inner.Notes.{addresses, origins};
+ghost use Rattle.workers.specs.inner.Noted.{StandsPage, StandsRules, Agrees};
 ghost use Rattle.address.specs.AddressOrder.{IsAscending};
 
 use crate::note::{Notes, PageNote, RulesNote};
@@ -136,10 +137,11 @@ fn known_rules_are_noted(frontier: &Frontier, notes: &[RulesNote]) -> bool
     true
 }
 
-/// Whether notes agree with the table. They are left in the order of addresses and origins. Takes no memory.
+/// Whether notes agree with the table. Where they do they are left in the order of addresses and origins. Takes no memory.
 pub fn agree(frontier: &Frontier, notes: &mut Notes) -> bool
     ensures pages { IsPermutation notes.old.pages.items notes.new.pages.items }
     ensures rules { IsPermutation notes.old.rules.items notes.new.rules.items }
+    ensures order { IsTrue result → AreInOrder notes.new }
     ensures agrees { IsTrue result ↔ Agrees frontier.now.state notes.new.pages.items notes.new.rules.items }
 {
     let is_once = sort_and_ascend(&mut notes.pages);

@@ -6,12 +6,13 @@ ghost use Rattle.frontier_core.specs.Invariants.{IsComplete, IsOverfull};
 ghost use Rattle.frontier_core.specs.Plans.{policy};
 ghost use Rattle.frontier_core.specs.Routes.{HasTooMany};
 ghost use Rattle.frontier_core.specs.Tables.{IsOnce};
-ghost use Rattle.workers.specs.Concluded.{HasBody, IsConcluded, IsBorneOut, IsBare, IsBelied, IsUnexplained};
+ghost use Rattle.workers.specs.inner.Concluded.{HasBody, IsConcluded, IsBorneOut, IsBare, IsBelied, IsUnexplained};
 ghost use Rattle.workers.specs.OneWorker.{AreByCrew};
-ghost use Rattle.workers.specs.Noted.{page_of};
+ghost use Rattle.workers.specs.inner.Takers.{AreNotedBy};
+ghost use Rattle.workers.specs.inner.Noted.{page_of};
 
 use crate::comparison::agree;
-use crate::crew_trace::are_by_crew;
+use crate::crew_trace::{are_by_crew, are_noted_by};
 use crate::note::{Notes, PageNote};
 use crate::retrieval::{Halt, finish};
 use follow_filters::Plan;
@@ -48,6 +49,7 @@ fn keep_page(pages: &mut Vec<KeptPage>, note: PageNote) -> Result<(), AllocError
     ensures { OnOk result (pages.new.items ≡ pages.old.items ++ filter_map page_of (note ∷ [])) }
 {
     let PageNote {
+        worker: _,
         address,
         told: _,
         body,
@@ -82,6 +84,7 @@ fn kept_pages(
     ensures err { IfErr result (λ halt. halt.cause ≢ Cause.Mismatch → IsBare notes.pages.items notes.rules.items halt.cause halt.harvest) }
     ensures full { IfErr result (λ halt. halt.cause ≢ Cause.Full) }
     ensures numbered { OnOk result (AreByCrew workers frontier.now.trace) }
+    ensures own { OnOk result (AreNotedBy notes.pages.items notes.rules.items frontier.now.trace) }
     ensures mismatch { IfErr result (λ halt. halt.cause ≡ Cause.Mismatch → IsBelied plan.now workers frontier.now notes.pages.items notes.rules.items) }
 {
     if !frontier.plan().same(plan) {
@@ -91,6 +94,9 @@ fn kept_pages(
         return Err(Halt::mismatch(alloc));
     }
     if !agree(frontier, &mut notes) {
+        return Err(Halt::mismatch(alloc));
+    }
+    if !are_noted_by(frontier.trace(), &notes) {
         return Err(Halt::mismatch(alloc));
     }
     let Notes { pages, rules: _ } = notes;
@@ -114,6 +120,8 @@ pub fn conclude(
         ⊎ (IsConcluded plan.now frontier notes.pages.items notes.rules.items halt.harvest × (frontier.state.cause ≡ Some halt.cause))) }
     ensures full { IfErr result (λ halt. halt.cause ≡ Cause.Full → HasTooMany (policy frontier.plan) (answers frontier.state) × IsOverfull (policy frontier.plan) frontier.state) }
     ensures numbered { IfOk result (λ h. AreByCrew workers h.trace) × IfErr result (λ halt. halt.cause ≢ Cause.Mismatch → AreByCrew workers halt.harvest.trace) }
+    ensures own { IfOk result (λ h. AreNotedBy notes.pages.items notes.rules.items h.trace)
+        × IfErr result (λ halt. halt.cause ≢ Cause.Mismatch → AreNotedBy notes.pages.items notes.rules.items halt.harvest.trace) }
     ensures mismatch { IfErr result (λ halt. halt.cause ≡ Cause.Mismatch → IsBelied plan.now workers frontier notes.pages.items notes.rules.items ⊎ IsUnexplained frontier) }
 {
     let ended = end_of(&frontier);

@@ -5,10 +5,11 @@ ghost use Rattle.frontier_core.specs.Invariants.{IsOverfull};
 ghost use Rattle.frontier_core.specs.Plans.{policy};
 ghost use Rattle.frontier_core.specs.Routes.{Answers, HasTooMany};
 ghost use Rattle.workers.specs.Crews.{AreLater, all_gained, SomeSays, SomeRules, AllFit};
-ghost use Rattle.workers.specs.Answered.{IsBrought, IsLeftBy, IsAccount};
+ghost use Rattle.workers.specs.inner.Answered.{IsBrought, IsLeftBy, IsAccount, IsOwnAccount};
 ghost use Rattle.workers.specs.OneWorker.{AreByCrew};
 ghost use Rattle.workers.specs.Retrieval.{Brings, IsLeft};
 ghost use Rattle.workers.specs.Sites.{IsCompleteFor};
+ghost use Rattle.workers.specs.Takers.{AreOwn};
 
 use crate::conclusion::conclude;
 use crate::crew::run_crew;
@@ -74,6 +75,7 @@ fn ask_alone<F: Fetcher>(alloc: Global, plan: &Plan, fetchers: &mut [F]) -> Resu
     ensures err { IfErr result (λ halt. IsLeftBy F.site F.says F.rules F.log plan.now fetchers.old fetchers.new halt.cause halt.harvest) }
     ensures mismatch { IfErr result (λ halt. halt.cause ≢ Cause.Mismatch) }
     ensures numbered { IfOk result (λ h. AreByCrew 1 h.trace) × IfErr result (λ halt. halt.cause ≢ Cause.Mismatch → AreByCrew 1 halt.harvest.trace) }
+    ensures own { IfOk result (λ h. AreOwn F.log 0 fetchers.old fetchers.new h.trace) × IfErr result (λ halt. halt.cause ≢ Cause.Mismatch → AreOwn F.log 0 fetchers.old fetchers.new halt.harvest.trace) }
 {
     if let [fetcher] = fetchers {
         return retrieve_in_order(alloc, plan, fetcher);
@@ -92,6 +94,8 @@ fn retrieve_alone<F: Fetcher>(
     ensures err { IfErr result (λ s. IsLeftBy F.site F.says F.rules F.log plan.now fetchers.items s.fetchers.items s.cause s.harvest) }
     ensures mismatch { IfErr result (λ s. s.cause ≢ Cause.Mismatch) }
     ensures numbered { IfOk result (λ r. AreByCrew 1 r.harvest.trace) × IfErr result (λ s. s.cause ≢ Cause.Mismatch → AreByCrew 1 s.harvest.trace) }
+    ensures own { IfOk result (λ r. AreOwn F.log 0 fetchers.items r.fetchers.items r.harvest.trace)
+        × IfErr result (λ s. s.cause ≢ Cause.Mismatch → AreOwn F.log 0 fetchers.items s.fetchers.items s.harvest.trace) }
 {
     let concluded = ask_alone(alloc, plan, &mut fetchers);
     answer(concluded, fetchers)
@@ -156,6 +160,7 @@ fn work_all<F: Fetcher + Send, R: Threads + Wait + Sync>(
     requires room { (room.items ≡ []) × (vec_len fetchers ≤ vec_capacity room) }
     ensures later { AreLater F.site F.log fetchers.items result.fetchers.items }
     ensures noted { IsAccount F.site F.says F.rules F.log plan.now fetchers.items result.fetchers.items result.noted }
+    ensures own { IsOwnAccount F.log fetchers.items result.fetchers.items result.noted }
 {
     let seats = seat_all(alloc, fetchers, seats);
     let mut seats = run_crew(rt, alloc, lock, plan, seats);
@@ -195,6 +200,8 @@ fn retrieve_together<F: Fetcher + Send, R: Threads + Wait + Sync>(
     ensures ok { IfOk result (λ r. IsBrought F.site F.says F.rules F.log plan.now fetchers.items r.fetchers.items r.harvest) }
     ensures err { IfErr result (λ s. IsLeftBy F.site F.says F.rules F.log plan.now fetchers.items s.fetchers.items s.cause s.harvest) }
     ensures numbered { IfOk result (λ r. AreByCrew (vec_len fetchers) r.harvest.trace) × IfErr result (λ s. s.cause ≢ Cause.Mismatch → AreByCrew (vec_len fetchers) s.harvest.trace) }
+    ensures own { IfOk result (λ r. AreOwn F.log 0 fetchers.items r.fetchers.items r.harvest.trace)
+        × IfErr result (λ s. s.cause ≢ Cause.Mismatch → AreOwn F.log 0 fetchers.items s.fetchers.items s.harvest.trace) }
 {
     let workers = fetchers.len();
     let Ok(room) = Room::new(alloc, plan, workers) else {
@@ -233,6 +240,8 @@ fn retrieve_with<F: Fetcher + Send, R: Threads + Wait + Sync>(
     ensures err { IfErr result (λ s. IsLeftBy F.site F.says F.rules F.log plan.now fetchers.items s.fetchers.items s.cause s.harvest) }
     ensures one { vec_len fetchers ≡ 1 → IfErr result (λ s. s.cause ≢ Cause.Mismatch) }
     ensures numbered { IfOk result (λ r. AreByCrew (vec_len fetchers) r.harvest.trace) × IfErr result (λ s. s.cause ≢ Cause.Mismatch → AreByCrew (vec_len fetchers) s.harvest.trace) }
+    ensures own { IfOk result (λ r. AreOwn F.log 0 fetchers.items r.fetchers.items r.harvest.trace)
+        × IfErr result (λ s. s.cause ≢ Cause.Mismatch → AreOwn F.log 0 fetchers.items s.fetchers.items s.harvest.trace) }
 {
     if fetchers.len() == 1 {
         return retrieve_alone(alloc, plan, fetchers);
@@ -244,8 +253,9 @@ fn retrieve_with<F: Fetcher + Send, R: Threads + Wait + Sync>(
 /// order, and the site of each is what it was. What they were asked, all together, and what some of them said is what
 /// [`retrieve_in_order`] says of one.
 ///
-/// The lines of the trace name these workers alone, which are counted from 0. It stops as Mismatch where a check of what the workers noted fails; then nothing more is said, and with one fetcher that
-/// never comes.
+/// The lines of the trace name these workers alone, which are counted from 0, in the order of their fetchers, and each fetcher
+/// was asked for what its own worker took. It stops as Mismatch where a check of what the workers noted fails; then nothing more
+/// is said, and with one fetcher that never comes.
 pub fn retrieve<F: Fetcher + Send, R: Threads + Wait + Sync>(
     rt: &R,
     alloc: Global,
@@ -262,6 +272,8 @@ pub fn retrieve<F: Fetcher + Send, R: Threads + Wait + Sync>(
     ensures full { IfErr result (λ s. s.cause ≡ Cause.Full → HasTooMany (policy plan.now) (answers s.harvest.state) × IsOverfull (policy plan.now) s.harvest.state) }
     ensures one { vec_len fetchers ≡ 1 → IfErr result (λ s. s.cause ≢ Cause.Mismatch) }
     ensures numbered { IfOk result (λ r. AreByCrew (vec_len fetchers) r.harvest.trace) × IfErr result (λ s. s.cause ≢ Cause.Mismatch → AreByCrew (vec_len fetchers) s.harvest.trace) }
+    ensures own { IfOk result (λ r. AreOwn F.log 0 fetchers.items r.fetchers.items r.harvest.trace)
+        × IfErr result (λ s. s.cause ≢ Cause.Mismatch → AreOwn F.log 0 fetchers.items s.fetchers.items s.harvest.trace) }
 
     // What holds of fetchers whose sites give each address one outcome, and each origin one rule set, and the same.
     ensures whole_site { (whole : Answers) → AllFit F.site F.says F.rules fetchers.items whole → IfOk result (λ r. IsCompleteFor (policy plan.now) whole r.harvest.state) }

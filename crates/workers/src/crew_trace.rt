@@ -1,7 +1,13 @@
 //! The workers that the lines of a trace name.
-ghost use Rattle.std.specs.Prelude.{◌≡◌, ◌↔◌, ◌<◌, IsTrue, IfSome};
+ghost use Rattle.std.specs.Prelude.{◌≡◌, ◌↔◌, ◌<◌, All, IsTrue, IfSome};
+ghost use Rattle.address.specs.AddressOrder.{IsAscending};
+ghost use Rattle.workers.specs.inner.Apart.{AreInOrder};
+ghost use Rattle.workers.specs.inner.Notes.{addresses, origins};
 ghost use Rattle.workers.specs.OneWorker.{worker_of, AreByCrew};
+ghost use Rattle.workers.specs.inner.Takers.{IsNotedBy, AreNotedBy};
 
+use crate::note::{Notes, PageNote, RulesNote};
+use address::{Address, Origin};
 use frontier_core::Event;
 
 // The worker that a line names.
@@ -35,6 +41,60 @@ pub fn are_by_crew(trace: &[Event], workers: usize) -> bool
 {
     for event in trace {
         if !is_by_crew(event, workers) {
+            return false;
+        }
+    }
+    true
+}
+
+// Whether the page was noted by this worker, where it was noted, in notes that are in address order.
+fn is_page_by(notes: &[PageNote], worker: u32, address: &Address) -> bool
+    requires { IsAscending (addresses notes.now) }
+    ensures { IsTrue result ↔ All (λ note. note.address ≡ address.now → note.worker ≡ worker) notes.now }
+{
+    match notes.binary_search_by(|note| note.address.cmp(address)) {
+        Ok(k) => notes[k].worker == worker,
+        Err(_) => true,
+    }
+}
+
+// Whether the origin's rules were noted by this worker, where they were noted, in notes that are in origin order.
+fn are_rules_by(notes: &[RulesNote], worker: u32, origin: &Origin) -> bool
+    requires { IsAscending (origins notes.now) }
+    ensures { IsTrue result ↔ All (λ note. note.origin ≡ origin.now → note.worker ≡ worker) notes.now }
+{
+    match notes.binary_search_by(|note| note.origin.cmp(origin)) {
+        Ok(k) => notes[k].worker == worker,
+        Err(_) => true,
+    }
+}
+
+// Whether what a line says that a worker took was noted by that worker, where it was noted.
+fn is_noted_by(event: &Event, notes: &Notes) -> bool
+    requires { AreInOrder notes.now }
+    ensures { IsTrue result ↔ IsNotedBy notes.now.pages.items notes.now.rules.items event.now }
+{
+    match event {
+        Event::Page(worker, address) => is_page_by(&notes.pages, *worker, address),
+        Event::Rules(worker, origin) => are_rules_by(&notes.rules, *worker, origin),
+        Event::Opened(_)
+        | Event::Answer(_, _)
+        | Event::Ruled(_, _)
+        | Event::Spread(_, _, _)
+        | Event::Part(_, _, _)
+        | Event::Abandon(_, _)
+        | Event::AbandonRules(_, _)
+        | Event::Stop(_) => true,
+    }
+}
+
+/// Whether by the lines each noted it who took it, in notes that are in the order of addresses and origins. Takes no memory.
+pub fn are_noted_by(trace: &[Event], notes: &Notes) -> bool
+    requires { AreInOrder notes.now }
+    ensures { IsTrue result ↔ AreNotedBy notes.now.pages.items notes.now.rules.items trace.now }
+{
+    for event in trace {
+        if !is_noted_by(event, notes) {
             return false;
         }
     }

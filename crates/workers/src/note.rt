@@ -11,6 +11,8 @@ use std::alloc::Global;
 /// A page that was asked for.
 #[derive(Drop)]
 pub struct PageNote {
+    /// Who asked for it.
+    pub worker: u32,
     pub address: Address,
     /// What was answered, where the frontier took it.
     pub told: Option<Outcome>,
@@ -21,6 +23,8 @@ pub struct PageNote {
 /// Robots rules that were asked for.
 #[derive(Drop)]
 pub struct RulesNote {
+    /// Who asked for them.
+    pub worker: u32,
     pub origin: Origin,
     /// The rules, where the frontier took them.
     pub told: Option<RuleSet>,

@@ -3,10 +3,10 @@
 ghost use Rattle.std.specs.Prelude.{◌≡◌, IsTrue, All, IsPermutation};
 ghost use Rattle.std.specs.List.{AllZip};
 ghost use Rattle.frontier_core.specs.Tables.{IsOnce};
-ghost use Rattle.workers.specs.Apart.{AreInOrder, IsOrdered, AreApart};
-ghost use Rattle.workers.specs.Notes.{addresses, origins};
+ghost use Rattle.workers.specs.inner.Apart.{AreInOrder, IsOrdered, AreApart};
+ghost use Rattle.workers.specs.inner.Notes.{addresses, origins};
 ghost use Rattle.address.specs.AddressOrder.{IsAscending};
-ghost use Rattle.workers.specs.Seats.{page_notes, rules_notes};
+ghost use Rattle.workers.specs.inner.Seats.{page_notes, rules_notes};
 
 use crate::comparison::{is_noted, is_origin_noted, sort_and_ascend};
 use crate::note::{Notes, PageNote, RulesNote};

@@ -1,7 +1,7 @@
 //! One worker: it takes work from a shared frontier, asks with the lock free, and hands the answers over.
 ghost use Rattle.std.specs.Prelude.{◌≡◌, ◌<◌, ◌++◌, ◌∷◌, [], List, IfOk, OnOk, vec_len, vec_capacity};
-ghost use Rattle.workers.specs.Notes.{Goes, body_of};
-ghost use Rattle.workers.specs.Seats.{SeatGoes};
+ghost use Rattle.workers.specs.inner.Notes.{Goes, body_of};
+ghost use Rattle.workers.specs.inner.Seats.{SeatGoes};
 
 use crate::note::{Notes, PageNote, RulesNote};
 use address::{Address, Origin};
@@ -14,9 +14,10 @@ use harvest::{Spool, is_success};
 use std::alloc::{AllocError, Global};
 use std::sync::Wait;
 
-/// A worker's place: its fetcher, its notes, and the bodies that it keeps.
+/// A worker's place: its number, its fetcher, its notes, and the bodies that it keeps.
 #[derive(Drop)]
 pub struct Seat<F> {
+    pub number: u32,
     pub fetcher: F,
     pub notes: Notes,
     pub spool: Spool,
@@ -94,12 +95,13 @@ fn serve<F: Fetcher, R: Wait>(
     rt: &R,
     lock: &FrontierLock,
     plan: &Plan,
+    worker: u32,
     fetcher: &mut F,
     notes: &mut Notes,
     spool: &mut Spool,
     permit: Permit,
 )
-    ensures { Goes F.site F.says F.rules F.log plan.now fetcher.old notes.old fetcher.new notes.new }
+    ensures { Goes F.site F.says F.rules F.log plan.now worker fetcher.old notes.old fetcher.new notes.new }
 {
     let Ok(address) = make_page_room(notes, permit.address()) else {
         lock.halt(rt, Some(Held::Page(permit)), Cause::Memory);
@@ -112,6 +114,7 @@ fn serve<F: Fetcher, R: Wait>(
             return;
         }
         notes.pages.push_reserved(PageNote {
+            worker,
             address,
             told: None,
             body: None,
@@ -122,6 +125,7 @@ fn serve<F: Fetcher, R: Wait>(
     let Answer { outcome, body } = answer;
     let Ok(copy) = outcome.try_clone() else {
         notes.pages.push_reserved(PageNote {
+            worker,
             address,
             told: None,
             body: None,
@@ -131,6 +135,7 @@ fn serve<F: Fetcher, R: Wait>(
     };
     let Ok(body) = keep_body(spool, plan, &address, &outcome, body) else {
         notes.pages.push_reserved(PageNote {
+            worker,
             address,
             told: None,
             body: None,
@@ -140,6 +145,7 @@ fn serve<F: Fetcher, R: Wait>(
     };
     if !give(rt, lock, Done::Page(permit, copy)) {
         notes.pages.push_reserved(PageNote {
+            worker,
             address,
             told: None,
             body: None,
@@ -147,6 +153,7 @@ fn serve<F: Fetcher, R: Wait>(
         return;
     }
     notes.pages.push_reserved(PageNote {
+        worker,
         address,
         told: Some(outcome),
         body,
@@ -159,15 +166,16 @@ fn serve_page<F: Fetcher, R: Wait>(
     rt: &R,
     lock: &FrontierLock,
     plan: &Plan,
+    worker: u32,
     fetcher: &mut F,
     notes: &mut Notes,
     spool: &mut Spool,
     permit: Permit,
 )
-    ensures { Goes F.site F.says F.rules F.log plan.now fetcher.old notes.old fetcher.new notes.new }
+    ensures { Goes F.site F.says F.rules F.log plan.now worker fetcher.old notes.old fetcher.new notes.new }
 {
     fetcher.tell_waiting(lock.waiting());
-    serve(rt, lock, plan, fetcher, notes, spool, permit);
+    serve(rt, lock, plan, worker, fetcher, notes, spool, permit);
 }
 
 // Asks for the robots rules of a permit's origin with the lock free, and hands them over.
@@ -176,11 +184,12 @@ fn serve_rules<F: Fetcher, R: Wait>(
     alloc: Global,
     lock: &FrontierLock,
     plan: &Plan,
+    worker: u32,
     fetcher: &mut F,
     notes: &mut Notes,
     permit: OriginPermit,
 )
-    ensures { Goes F.site F.says F.rules F.log plan.now fetcher.old notes.old fetcher.new notes.new }
+    ensures { Goes F.site F.says F.rules F.log plan.now worker fetcher.old notes.old fetcher.new notes.new }
 {
     // The plan is named by the contract alone.
     let _ = plan;
@@ -194,20 +203,33 @@ fn serve_rules<F: Fetcher, R: Wait>(
             lock.halt(rt, Some(Held::Rules(permit)), Cause::Memory);
             return;
         }
-        notes.rules.push_reserved(RulesNote { origin, told: None });
+        notes.rules.push_reserved(RulesNote {
+            worker,
+            origin,
+            told: None,
+        });
         lock.halt(rt, Some(Held::Rules(permit)), Cause::Memory);
         return;
     };
     let Ok(copy) = rules.try_clone(alloc) else {
-        notes.rules.push_reserved(RulesNote { origin, told: None });
+        notes.rules.push_reserved(RulesNote {
+            worker,
+            origin,
+            told: None,
+        });
         lock.halt(rt, Some(Held::Rules(permit)), Cause::Memory);
         return;
     };
     if !give(rt, lock, Done::Rules(permit, copy)) {
-        notes.rules.push_reserved(RulesNote { origin, told: None });
+        notes.rules.push_reserved(RulesNote {
+            worker,
+            origin,
+            told: None,
+        });
         return;
     }
     notes.rules.push_reserved(RulesNote {
+        worker,
         origin,
         told: Some(rules),
     });
@@ -233,7 +255,7 @@ fn work<F: Fetcher, R: Wait>(
     notes: &mut Notes,
     spool: &mut Spool,
 )
-    ensures { Goes F.site F.says F.rules F.log plan.now fetcher.old notes.old fetcher.new notes.new }
+    ensures { Goes F.site F.says F.rules F.log plan.now worker fetcher.old notes.old fetcher.new notes.new }
 {
     for _ in rt.forever() {
         match lock.next_or_wait(rt, worker) {
@@ -244,20 +266,21 @@ fn work<F: Fetcher, R: Wait>(
             Ok(Work::Busy) => unreachable!(),
             Ok(Work::Spread) => spread(rt, lock),
             Ok(Work::Robots(permit)) => {
-                serve_rules(rt, alloc, lock, plan, fetcher, notes, permit)
+                serve_rules(rt, alloc, lock, plan, worker, fetcher, notes, permit)
             }
-            Ok(Work::Page(permit)) => serve_page(rt, lock, plan, fetcher, notes, spool, permit),
+            Ok(Work::Page(permit)) => {
+                serve_page(rt, lock, plan, worker, fetcher, notes, spool, permit)
+            }
         }
     }
 }
 
-/// Has the worker of a seat work.
+/// Has the worker of a seat work, under the seat's number.
 pub fn work_at<F: Fetcher, R: Wait>(
     rt: &R,
     alloc: Global,
     lock: &FrontierLock,
     plan: &Plan,
-    worker: u32,
     seat: &mut Seat<F>,
 )
     ensures { SeatGoes F.site F.says F.rules F.log plan.now seat.old seat.new }
@@ -267,7 +290,7 @@ pub fn work_at<F: Fetcher, R: Wait>(
         alloc,
         lock,
         plan,
-        worker,
+        seat.number,
         &mut seat.fetcher,
         &mut seat.notes,
         &mut seat.spool,

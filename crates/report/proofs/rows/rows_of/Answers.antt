@@ -4,7 +4,7 @@ use Rattle.std.proofs.lemmas.List.{map-append}
 use Rattle.std.specs.String.{string_bytes}
 use Rattle.report.specs.Entries.{line_at}
 use Rattle.report.specs.Report.{Line}
-use Rattle.report.specs.Rows.{line_of}
+use Rattle.report.specs.inner.Rows.{line_of}
 use Rattle.report.proofs.ListLaws.{given_none, given_some}
 use Rattle.report.proofs.rows.rows_of.Goals as goal
 

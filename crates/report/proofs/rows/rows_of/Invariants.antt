@@ -3,7 +3,7 @@ use Rattle.std.proofs.Common.{◌≡◌, map, take}
 use Rattle.std.specs.List.{filter_map}
 use Rattle.std.specs.String.{string_bytes}
 use Rattle.report.specs.Entries.{line_at}
-use Rattle.report.specs.Rows.{line_of}
+use Rattle.report.specs.inner.Rows.{line_of}
 use Rattle.report.proofs.rows.rows_of.Given as goal
 
 abbrev pub invariant-loop-entry : goal.invariant-loop-entry

@@ -3,9 +3,10 @@ use Rattle.std.proofs.Common.{◌≡◌, ℕ, Bool, true, false, cond, List, [],
 use Rattle.std.specs.List.{list_any}
 use Rattle.std.proofs.lemmas.Iterator.{YieldsList-from_slice}
 use Rattle.std.proofs.lemmas.Iterator.Search.{any_from_yields_List}
+use Rattle.fetcher.specs.Outcomes.{is_fault}
 use Rattle.fetcher.specs.declared.outcome.Outcome.{Outcome}
 use Rattle.frontier_core.specs.Readers.{Recorded}
-use Rattle.report.specs.ExitStatus.{is_network_fault, is_fault, exit_status}
+use Rattle.report.specs.ExitStatus.{is_network_fault, exit_status}
 use Rattle.report.specs.Report.{is_failed}
 use Rattle.report.proofs.status.exit_status.Goals as goal
 

@@ -2,7 +2,7 @@
 use Rattle.std.proofs.Common.{◌≡◌, ◌∙◌, List, ℕ, Bor, Option, Some, None, append_assoc, ap, codes, refl}
 use Rattle.std.specs.Prelude.{option_map, unwrap_or}
 use Rattle.report.specs.Report.{name_text}
-use Rattle.report.specs.Rows.{line_of}
+use Rattle.report.specs.inner.Rows.{line_of}
 use Rattle.report.proofs.text.push_line.Goals as goal
 
 named : (name : Option (Bor (List ℕ))) → (dash : Bor (List ℕ)) → dash.now ≡ codes "-" → (unwrap_or name dash).now ≡ name_text (option_map (λ said. said.now) name)

@@ -2,7 +2,7 @@
 use Rattle.std.proofs.Common.{◌≡◌, ◌++◌, map, string_bytes, take}
 use Rattle.std.specs.List.{flat_map}
 use Rattle.report.specs.Report.{line_text}
-use Rattle.report.specs.Rows.{line_of}
+use Rattle.report.specs.inner.Rows.{line_of}
 use Rattle.report.proofs.text.push_report.Given as goal
 
 abbrev pub invariant-loop-row : goal.invariant-loop-row

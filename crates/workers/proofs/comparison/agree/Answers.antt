@@ -1,8 +1,14 @@
 use Rattle.std.proofs.Common.{refl}
 use Rattle.std.proofs.lemmas.Bool.{false≢true}
-use Rattle.workers.specs.Notes.{addresses, origins}
+use Rattle.workers.specs.inner.Notes.{addresses, origins}
 use Rattle.workers.proofs.ComparisonLaws.{once_ascending}
 use Rattle.workers.proofs.comparison.agree.Goals as goal
+
+pub returns-clause-order : goal.returns-clause-order
+returns-clause-order c so = record {
+  pages = c.if-not-is_once.ensures.ascending refl;
+  rules = c.if-not-is_once_asked.ensures.ascending refl;
+}
 
 pub returns-clause-agrees : goal.returns-clause-agrees
 returns-clause-agrees c =

@@ -1,7 +1,7 @@
 use Rattle.std.proofs.Common.{length, List, ℕ}
 use Rattle.std.specs.Prelude.{Contains}
 use Rattle.harvest.specs.Entries.{ruled_origins}
-use Rattle.workers.specs.Notes.{origins}
+use Rattle.workers.specs.inner.Notes.{origins}
 use Rattle.workers.proofs.comparison.known_rules_are_noted.Given as goal
 
 -- where what is left was noted, all was; and what is left is some of it

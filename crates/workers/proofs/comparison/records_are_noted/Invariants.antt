@@ -1,7 +1,7 @@
 use Rattle.std.proofs.Common.{length, List, ℕ}
 use Rattle.std.specs.Prelude.{Contains}
 use Rattle.harvest.specs.Entries.{recorded_addresses}
-use Rattle.workers.specs.Notes.{addresses}
+use Rattle.workers.specs.inner.Notes.{addresses}
 use Rattle.workers.proofs.comparison.records_are_noted.Given as goal
 
 -- where what is left was noted, all was; and what is left is some of it

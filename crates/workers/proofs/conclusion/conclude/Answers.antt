@@ -12,12 +12,14 @@ use Rattle.follow_filters.specs.declared.plan.Plan.{Plan}
 use Rattle.workers.specs.declared.note.PageNote.{PageNote}
 use Rattle.workers.specs.declared.note.RulesNote.{RulesNote}
 use Rattle.harvest.specs.declared.page.KeptPage.{KeptPage}
-use Rattle.workers.specs.Concluded.{HasBody, IsConcluded, IsBare, IsBelied, IsUnexplained}
+use Rattle.workers.specs.inner.Concluded.{HasBody, IsConcluded, IsBare, IsBelied, IsUnexplained}
 use Rattle.workers.specs.OneWorker.{AreByCrew}
+use Rattle.workers.specs.inner.Takers.{AreNotedBy}
 use Rattle.harvest.specs.Gathered.{IsHarvestOf}
 use Rattle.harvest.specs.Harvests.{Harvested}
-use Rattle.workers.specs.Turns.{IsNothing}
+use Rattle.workers.specs.inner.Turns.{IsNothing}
 use Rattle.workers.proofs.ConclusionLaws.{once_permutation, kept_once, kept_is, if_ok, if_err, on_err, by_nobody}
+use Rattle.workers.proofs.TakerLaws.{noted_by_none}
 use Rattle.workers.proofs.conclusion.conclude.Goals as goal
 
 pub finish-requires-clause-once : goal.finish-requires-clause-once
@@ -103,3 +105,22 @@ returns-in-Err-clause-mismatch c is = inl (c.in-Err.ensures.mismatch is)
 
 pub returns-in-Err-clause-numbered : goal.returns-in-Err-clause-numbered
 returns-in-Err-clause-numbered c = (tt, λ other. by_nobody c.args.workers _ (c.in-Err.ensures.err other).nothing.trace)
+
+pub returns-in-Ok-clause-own : goal.returns-in-Ok-clause-own
+returns-in-Ok-clause-own c =
+    let notes = c.args.notes.pages.items in
+    let sets = c.args.notes.rules.items in
+    let noted_by : (h : Harvested) → IsHarvestOf c.args.frontier c.in-Ok.pages.items h → AreNotedBy notes sets h.trace =
+    λ h is. subst (λ trace. AreNotedBy notes sets trace) (sym is.trace) c.in-Ok.ensures.own in
+    let A : Halt → Type 0 = λ halt. IsNothing halt.cause halt.harvest ⊎ ((c.end_of-ended.result ≡ Err halt.cause) × IsHarvestOf c.args.frontier c.in-Ok.pages.items halt.harvest) in
+    let B : Halt → Type 0 = λ halt. halt.cause ≢ why.Mismatch → AreNotedBy notes sets halt.harvest.trace in
+    let turn : (halt : Halt) → A halt → B halt = λ halt either other. elim either [
+      | inl nothing ↦ noted_by_none notes sets halt.harvest.trace nothing.trace
+      | inr both ↦ noted_by halt.harvest both.1
+    ] in (
+      if_ok c.finish.result (λ h. IsOk c.end_of-ended.result × IsHarvestOf c.args.frontier c.in-Ok.pages.items h) (λ h. AreNotedBy notes sets h.trace) (λ h both. noted_by h both.1) c.finish.ensures.ok,
+      if_err c.finish.result A B turn c.finish.ensures.err,
+    )
+
+pub returns-in-Err-clause-own : goal.returns-in-Err-clause-own
+returns-in-Err-clause-own c = (tt, λ other. noted_by_none c.args.notes.pages.items c.args.notes.rules.items _ (c.in-Err.ensures.err other).nothing.trace)

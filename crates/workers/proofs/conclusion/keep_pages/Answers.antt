@@ -3,7 +3,7 @@ use Rattle.std.proofs.Common.{◌≡◌, [], ◌∷◌, sym, ap, ◌∙◌}
 use Rattle.std.specs.List.{filter_map}
 use Rattle.std.specs.Vec.Iter.{into_iter_items}
 use Rattle.std.proofs.lemmas.List.Elements.{filter_map-append}
-use Rattle.workers.specs.Noted.{page_of}
+use Rattle.workers.specs.inner.Noted.{page_of}
 use Rattle.workers.proofs.MoveLaws.{piece_moved, all_moved, none_left}
 use Rattle.workers.proofs.conclusion.keep_pages.Goals as goal
 

@@ -1,8 +1,10 @@
-use Rattle.std.proofs.Common.{◌≢◌}
+use Rattle.std.proofs.Common.{◌≢◌, slice_set}
 use Rattle.frontier_core.specs.declared.event.Cause.TheVariants as why
 use Rattle.workers.specs.OneWorker.{AreByOne, AreByCrew}
+use Rattle.workers.specs.Takers.{AreOwn}
 use Rattle.workers.proofs.ConclusionLaws.{if_ok, if_err, by_one}
 use Rattle.workers.proofs.CrewEnds.{alone_brought, alone_left}
+use Rattle.workers.proofs.TakerLaws.{alone_own}
 use Rattle.workers.proofs.crew_retrieval.ask_alone.Goals as goal
 
 pub returns-in-len1-clause-ok : goal.returns-in-len1-clause-ok
@@ -22,4 +24,15 @@ returns-in-len1-clause-numbered g c =
     let by = c.retrieve_in_order.ensures.by_one in (
       if_ok c.retrieve_in_order.result (λ h. AreByOne h.trace) (λ h. AreByCrew 1 h.trace) (λ h. by_one h.trace) by.0,
       if_err c.retrieve_in_order.result (λ halt. AreByOne halt.harvest.trace) (λ halt. halt.cause ≢ why.Mismatch → AreByCrew 1 halt.harvest.trace) (λ halt is other. by_one halt.harvest.trace is) by.1,
+    )
+
+pub returns-in-len1-clause-own : goal.returns-in-len1-clause-own
+returns-in-len1-clause-own g c =
+    let log = g.F.Fetcher.log in
+    let old = c.args.fetchers.now in
+    let new = slice_set old 0 c.retrieve_in_order.new.fetcher in
+    let by = c.retrieve_in_order.ensures.by_one in (
+      if_ok c.retrieve_in_order.result (λ h. AreByOne h.trace) (λ h. AreOwn log 0 old new h.trace) (λ h. alone_own log old c.retrieve_in_order.new.fetcher h.trace c.requires) by.0,
+      if_err c.retrieve_in_order.result (λ halt. AreByOne halt.harvest.trace) (λ halt. halt.cause ≢ why.Mismatch → AreOwn log 0 old new halt.harvest.trace)
+          (λ halt is other. alone_own log old c.retrieve_in_order.new.fetcher halt.harvest.trace c.requires is) by.1,
     )

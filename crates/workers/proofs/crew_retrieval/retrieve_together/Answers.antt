@@ -2,10 +2,13 @@ use Rattle.std.proofs.Common.{◌≡◌, ◌≢◌, ℕ, Err, rules, subst}
 use Rattle.std.specs.Prelude.{IfOk, IfErr}
 use Rattle.frontier_core.specs.declared.event.Cause.TheVariants as why
 use Rattle.workers.specs.OneWorker.{AreByCrew}
-use Rattle.workers.proofs.ConclusionLaws.{by_nobody}
-use Rattle.workers.specs.Answered.{IsBrought, IsLeftBy}
+use Rattle.workers.specs.Takers.{AreOwn}
+use Rattle.workers.specs.inner.Takers.{AreNotedBy}
+use Rattle.workers.proofs.ConclusionLaws.{by_nobody, if_ok, if_err}
+use Rattle.workers.proofs.TakerLaws.{own_none}
+use Rattle.workers.specs.inner.Answered.{IsBrought, IsLeftBy}
 use Rattle.workers.specs.Crews.{SomeSays}
-use Rattle.workers.proofs.CrewEnds.{ok_told, err_told, left_nothing, left_wrong, later_self, none_once, account_all, account_once, all_brought, all_left}
+use Rattle.workers.proofs.CrewEnds.{ok_told, err_told, left_nothing, left_wrong, later_self, none_once, account_all, account_once, account_own, all_brought, all_left}
 use Rattle.workers.proofs.ServingLaws.{all_has_body}
 use Rattle.workers.proofs.crew_retrieval.retrieve_together.Goals as goal
 
@@ -109,4 +112,44 @@ returns-in-Twice-clause-numbered g c =
     let workers = c.args.fetchers.len in (
       ok_told c.answer-in-Twice.result (Err c.mismatch.result) c.work_all-fetchers.result.fetchers.items (λ new h. AreByCrew workers h.trace) tt c.answer-in-Twice.ensures.ok,
       err_told c.answer-in-Twice.result (Err c.mismatch.result) c.work_all-fetchers.result.fetchers.items (λ new cause h. cause ≢ why.Mismatch → AreByCrew workers h.trace) (λ other. absurd (other c.mismatch.ensures)) c.answer-in-Twice.ensures.err,
+    )
+
+pub returns-in_default-clause-own : goal.returns-in_default-clause-own
+returns-in_default-clause-own g c =
+    let log = g.F.Fetcher.log in
+    let old = c.args.fetchers.items in (
+      ok_told c.answer.result (Err c.empty.result) old (λ new h. AreOwn log 0 old new h.trace) tt c.answer.ensures.ok,
+      err_told c.answer.result (Err c.empty.result) old (λ new cause h. cause ≢ why.Mismatch → AreOwn log 0 old new h.trace) (λ other. own_none log old old _ c.empty.ensures.trace) c.answer.ensures.err,
+    )
+
+pub returns-in-All-clause-own : goal.returns-in-All-clause-own
+returns-in-All-clause-own g c =
+    let log = g.F.Fetcher.log in
+    let old = c.args.fetchers.items in
+    let new = c.work_all-fetchers.result.fetchers.items in
+    let notes = c.in-All.notes in
+    let noted = account_own log old new c.work_all-fetchers.result.noted notes c.work_all-fetchers.ensures.own c.in-All.is in (
+      ok_told c.answer-in-All.result c.conclude.result new (λ fs h. AreOwn log 0 old fs h.trace)
+          (if_ok c.conclude.result (λ h. AreNotedBy notes.pages.items notes.rules.items h.trace) (λ h. AreOwn log 0 old new h.trace) (λ h is. noted h.trace is) c.conclude.ensures.own.0) c.answer-in-All.ensures.ok,
+      err_told c.answer-in-All.result c.conclude.result new (λ fs cause h. cause ≢ why.Mismatch → AreOwn log 0 old fs h.trace)
+          (if_err c.conclude.result (λ halt. halt.cause ≢ why.Mismatch → AreNotedBy notes.pages.items notes.rules.items halt.harvest.trace) (λ halt. halt.cause ≢ why.Mismatch → AreOwn log 0 old new halt.harvest.trace)
+          (λ halt is other. noted halt.harvest.trace (is other)) c.conclude.ensures.own.1) c.answer-in-All.ensures.err,
+    )
+
+pub returns-in-Once-clause-own : goal.returns-in-Once-clause-own
+returns-in-Once-clause-own g c =
+    let log = g.F.Fetcher.log in
+    let old = c.args.fetchers.items in
+    let new = c.work_all-fetchers.result.fetchers.items in (
+      ok_told c.answer-in-Once.result (Err c.empty-in-Once.result) new (λ fs h. AreOwn log 0 old fs h.trace) tt c.answer-in-Once.ensures.ok,
+      err_told c.answer-in-Once.result (Err c.empty-in-Once.result) new (λ fs cause h. cause ≢ why.Mismatch → AreOwn log 0 old fs h.trace) (λ other. own_none log old new _ c.empty-in-Once.ensures.trace) c.answer-in-Once.ensures.err,
+    )
+
+pub returns-in-Twice-clause-own : goal.returns-in-Twice-clause-own
+returns-in-Twice-clause-own g c =
+    let log = g.F.Fetcher.log in
+    let old = c.args.fetchers.items in
+    let new = c.work_all-fetchers.result.fetchers.items in (
+      ok_told c.answer-in-Twice.result (Err c.mismatch.result) new (λ fs h. AreOwn log 0 old fs h.trace) tt c.answer-in-Twice.ensures.ok,
+      err_told c.answer-in-Twice.result (Err c.mismatch.result) new (λ fs cause h. cause ≢ why.Mismatch → AreOwn log 0 old fs h.trace) (λ other. absurd (other c.mismatch.ensures)) c.answer-in-Twice.ensures.err,
     )

@@ -2,8 +2,8 @@ use Rattle.std.proofs.Common.{List, refl, sym, subst}
 use Rattle.workers.specs.declared.note.PageNote.{PageNote}
 use Rattle.workers.specs.declared.note.RulesNote.{RulesNote}
 use Rattle.address.specs.AddressOrder.{IsAscending}
-use Rattle.workers.specs.Apart.{AreApart}
-use Rattle.workers.specs.Notes.{addresses, origins}
+use Rattle.workers.specs.inner.Apart.{AreApart}
+use Rattle.workers.specs.inner.Notes.{addresses, origins}
 use Rattle.workers.proofs.ApartLaws.{first_order, pages_apart_first, rules_apart_first}
 use Rattle.workers.proofs.once.+is_apart.Goals as goal
 

@@ -1,7 +1,7 @@
 use Rattle.std.proofs.Common.{arith}
 use Rattle.std.specs.Prelude.{Contains}
 use Rattle.workers.specs.declared.note.PageNote.{PageNote}
-use Rattle.workers.specs.Notes.{addresses}
+use Rattle.workers.specs.inner.Notes.{addresses}
 use Rattle.workers.proofs.ApartLaws.{apart_each}
 use Rattle.workers.proofs.ComparisonLaws.{all_more}
 use Rattle.workers.proofs.once.are_pages_apart.Goals as goal

@@ -1,7 +1,7 @@
 -- Each turn moves what one seat has; at the end no seat is left.
 use Rattle.std.proofs.Common.{rules, ◌≡◌, [], ◌∷◌, length, sym, ap, ◌∙◌, arith}
 use Rattle.std.specs.Vec.Iter.{into_iter_items}
-use Rattle.workers.specs.Seats.{fetchers_of, page_notes, rules_notes}
+use Rattle.workers.specs.inner.Seats.{fetchers_of, page_notes, rules_notes}
 use Rattle.workers.proofs.MoveLaws.{piece_moved, piece_fits, all_moved, none_left}
 use Rattle.workers.proofs.seats.leave_all.Goals as goal
 

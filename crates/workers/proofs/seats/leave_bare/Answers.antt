@@ -1,7 +1,7 @@
 -- Each turn moves the fetcher of one seat; at the end no seat is left.
 use Rattle.std.proofs.Common.{rules, ◌≡◌, [], ◌∷◌, length, sym, ap, ◌∙◌, arith}
 use Rattle.std.specs.Vec.Iter.{into_iter_items}
-use Rattle.workers.specs.Seats.{fetchers_of}
+use Rattle.workers.specs.inner.Seats.{fetchers_of}
 use Rattle.workers.proofs.MoveLaws.{piece_moved, all_moved, none_left}
 use Rattle.workers.proofs.seats.leave_bare.Goals as goal
 

@@ -6,13 +6,13 @@ use Rattle.workers.proofs.worker.serve.Goals as goal
 pub returns-in_default : goal.returns-in_default
 returns-in_default g c =
     let F = g.F.Fetcher in
-    goes_idle F.site F.says F.rules F.log c.args.plan.now c.args.fetcher.now c.args.notes.now c.args.fetcher.now c.make_page_room.new.notes refl refl c.make_page_room.ensures.pages c.make_page_room.ensures.rules
+    goes_idle F.site F.says F.rules F.log c.args.plan.now c.args.worker c.args.fetcher.now c.args.notes.now c.args.fetcher.now c.make_page_room.new.notes refl refl c.make_page_room.ensures.pages c.make_page_room.ensures.rules
 
 pub returns-then-asks-before : goal.returns-then-asks-before
 returns-then-asks-before g c =
     let F = g.F.Fetcher in
     let same : length (F.log c.ask.new.self) ≡ length (F.log c.args.fetcher.now) = ap length (sym c.asks.ensures) ∙ (c.if-asks-before.true ∙ ap length c.asks-before.ensures) in
-    goes_idle F.site F.says F.rules F.log c.args.plan.now c.args.fetcher.now c.args.notes.now c.ask.new.self c.make_page_room.new.notes c.in_default-ask.ensures.site
+    goes_idle F.site F.says F.rules F.log c.args.plan.now c.args.worker c.args.fetcher.now c.args.notes.now c.ask.new.self c.make_page_room.new.notes c.in_default-ask.ensures.site
     (not_logged _ _ _ c.in_default-ask.ensures.refused same) c.make_page_room.ensures.pages c.make_page_room.ensures.rules
 
 pub returns-in_default-ask : goal.returns-in_default-ask
@@ -22,39 +22,39 @@ returns-in_default-ask g c =
     let logged : F.log c.ask.new.self ≡ F.log c.args.fetcher.now ++ ask.Page c.address-2.result.now ∷ [] =
     was_logged (F.log c.args.fetcher.now) (F.log c.ask.new.self) (ask.Page c.address-2.result.now) c.in_default-ask.ensures.refused
     (λ same. c.if-asks-before.false (ap length c.asks.ensures ∙ (same ∙ sym (ap length c.asks-before.ensures)))) in
-    goes_page F.site F.says F.rules F.log c.args.plan.now c.args.fetcher.now c.args.notes.now c.ask.new.self _ (record { address = c.in-Ok.address; told = None; body = None }) c.in_default-ask.ensures.site
+    goes_page F.site F.says F.rules F.log c.args.plan.now c.args.worker c.args.fetcher.now c.args.notes.now c.ask.new.self _ (record { worker = c.args.worker; address = c.in-Ok.address; told = None; body = None }) c.in_default-ask.ensures.site
     (subst (λ u. F.log c.ask.new.self ≡ F.log c.args.fetcher.now ++ ask.Page u ∷ []) name logged)
-    (noted_after _ _ _ _ c.push_reserved.ensures.items c.make_page_room.ensures.pages) c.make_page_room.ensures.rules refl
+    (noted_after _ _ _ _ c.push_reserved.ensures.items c.make_page_room.ensures.pages) c.make_page_room.ensures.rules refl refl
 
 pub returns-in_default-try_clone : goal.returns-in_default-try_clone
 returns-in_default-try_clone g c =
     let F = g.F.Fetcher in
     let name : c.address-2.result.now ≡ c.in-Ok.address = c.address-2.ensures ∙ sym (c.in-Ok.ensures.name ∙ c.address.ensures) in
-    goes_page F.site F.says F.rules F.log c.args.plan.now c.args.fetcher.now c.args.notes.now c.ask.new.self _ (record { address = c.in-Ok.address; told = None; body = None }) c.in-Ok-ask.ensures.site
+    goes_page F.site F.says F.rules F.log c.args.plan.now c.args.worker c.args.fetcher.now c.args.notes.now c.ask.new.self _ (record { worker = c.args.worker; address = c.in-Ok.address; told = None; body = None }) c.in-Ok-ask.ensures.site
     (subst (λ u. F.log c.ask.new.self ≡ F.log c.args.fetcher.now ++ ask.Page u ∷ []) name c.in-Ok-ask.ensures.asked)
-    (noted_after _ _ _ _ c.push_reserved-in_default-try_clone.ensures.items c.make_page_room.ensures.pages) c.make_page_room.ensures.rules refl
+    (noted_after _ _ _ _ c.push_reserved-in_default-try_clone.ensures.items c.make_page_room.ensures.pages) c.make_page_room.ensures.rules refl refl
 
 pub returns-in_default-keep_body : goal.returns-in_default-keep_body
 returns-in_default-keep_body g c =
     let F = g.F.Fetcher in
     let name : c.address-2.result.now ≡ c.in-Ok.address = c.address-2.ensures ∙ sym (c.in-Ok.ensures.name ∙ c.address.ensures) in
-    goes_page F.site F.says F.rules F.log c.args.plan.now c.args.fetcher.now c.args.notes.now c.ask.new.self _ (record { address = c.in-Ok.address; told = None; body = None }) c.in-Ok-ask.ensures.site
+    goes_page F.site F.says F.rules F.log c.args.plan.now c.args.worker c.args.fetcher.now c.args.notes.now c.ask.new.self _ (record { worker = c.args.worker; address = c.in-Ok.address; told = None; body = None }) c.in-Ok-ask.ensures.site
     (subst (λ u. F.log c.ask.new.self ≡ F.log c.args.fetcher.now ++ ask.Page u ∷ []) name c.in-Ok-ask.ensures.asked)
-    (noted_after _ _ _ _ c.push_reserved-in_default-keep_body.ensures.items c.make_page_room.ensures.pages) c.make_page_room.ensures.rules refl
+    (noted_after _ _ _ _ c.push_reserved-in_default-keep_body.ensures.items c.make_page_room.ensures.pages) c.make_page_room.ensures.rules refl refl
 
 pub returns-then-not-give : goal.returns-then-not-give
 returns-then-not-give g c =
     let F = g.F.Fetcher in
     let name : c.address-2.result.now ≡ c.in-Ok.address = c.address-2.ensures ∙ sym (c.in-Ok.ensures.name ∙ c.address.ensures) in
-    goes_page F.site F.says F.rules F.log c.args.plan.now c.args.fetcher.now c.args.notes.now c.ask.new.self _ (record { address = c.in-Ok.address; told = None; body = None }) c.in-Ok-ask.ensures.site
+    goes_page F.site F.says F.rules F.log c.args.plan.now c.args.worker c.args.fetcher.now c.args.notes.now c.ask.new.self _ (record { worker = c.args.worker; address = c.in-Ok.address; told = None; body = None }) c.in-Ok-ask.ensures.site
     (subst (λ u. F.log c.ask.new.self ≡ F.log c.args.fetcher.now ++ ask.Page u ∷ []) name c.in-Ok-ask.ensures.asked)
-    (noted_after _ _ _ _ c.push_reserved-then-not-give.ensures.items c.make_page_room.ensures.pages) c.make_page_room.ensures.rules refl
+    (noted_after _ _ _ _ c.push_reserved-then-not-give.ensures.items c.make_page_room.ensures.pages) c.make_page_room.ensures.rules refl refl
 
 pub returns : goal.returns
 returns g c =
     let F = g.F.Fetcher in
     let name : c.address-2.result.now ≡ c.in-Ok.address = c.address-2.ensures ∙ sym (c.in-Ok.ensures.name ∙ c.address.ensures) in
-    goes_page F.site F.says F.rules F.log c.args.plan.now c.args.fetcher.now c.args.notes.now c.ask.new.self _ (record { address = c.in-Ok.address; told = Some c.in-Ok-ask.answer.outcome; body = c.in-Ok-keep_body.body }) c.in-Ok-ask.ensures.site
+    goes_page F.site F.says F.rules F.log c.args.plan.now c.args.worker c.args.fetcher.now c.args.notes.now c.ask.new.self _ (record { worker = c.args.worker; address = c.in-Ok.address; told = Some c.in-Ok-ask.answer.outcome; body = c.in-Ok-keep_body.body }) c.in-Ok-ask.ensures.site
     (subst (λ u. F.log c.ask.new.self ≡ F.log c.args.fetcher.now ++ ask.Page u ∷ []) name c.in-Ok-ask.ensures.asked)
     (noted_after _ _ _ _ c.push_reserved-2.ensures.items c.make_page_room.ensures.pages) c.make_page_room.ensures.rules
-    (c.in-Ok-ask.answer.body, subst (λ u. F.says (F.site c.args.fetcher.now) u c.in-Ok-ask.answer.outcome c.in-Ok-ask.answer.body) name c.in-Ok-ask.ensures.told, c.in-Ok-keep_body.ensures)
+    (c.in-Ok-ask.answer.body, subst (λ u. F.says (F.site c.args.fetcher.now) u c.in-Ok-ask.answer.outcome c.in-Ok-ask.answer.body) name c.in-Ok-ask.ensures.told, c.in-Ok-keep_body.ensures) refl

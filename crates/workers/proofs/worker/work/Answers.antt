@@ -5,7 +5,7 @@ use Rattle.workers.proofs.worker.work.Goals as goal
 pub loop-init : goal.loop-init
 loop-init g c =
     let F = g.F.Fetcher in
-    goes_none F.site F.says F.rules F.log c.args.plan.now c.args.fetcher.now c.args.notes.now
+    goes_none F.site F.says F.rules F.log c.args.plan.now c.args.worker c.args.fetcher.now c.args.notes.now
 
 pub loop-preserved-in-Err : goal.loop-preserved-in-Err
 loop-preserved-in-Err g c = c.loop.invariant
@@ -16,12 +16,12 @@ loop-preserved-in-Ok-Spread g c = c.loop.invariant
 pub loop-preserved-in-Ok-Robots : goal.loop-preserved-in-Ok-Robots
 loop-preserved-in-Ok-Robots g c =
     let F = g.F.Fetcher in
-    goes_on F.site F.says F.rules F.log c.args.plan.now _ _ _ _ _ _ c.loop.invariant c.serve_rules.ensures
+    goes_on F.site F.says F.rules F.log c.args.plan.now c.args.worker _ _ _ _ _ _ c.loop.invariant c.serve_rules.ensures
 
 pub loop-preserved : goal.loop-preserved
 loop-preserved g c =
     let F = g.F.Fetcher in
-    goes_on F.site F.says F.rules F.log c.args.plan.now _ _ _ _ _ _ c.loop.invariant c.serve_page.ensures
+    goes_on F.site F.says F.rules F.log c.args.plan.now c.args.worker _ _ _ _ _ _ c.loop.invariant c.serve_page.ensures
 
 pub returns : goal.returns
 returns g c = c.loop.invariant

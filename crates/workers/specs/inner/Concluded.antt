@@ -16,12 +16,13 @@ use Rattle.workers.specs.declared.note.PageNote.{PageNote}
 use Rattle.workers.specs.declared.note.RulesNote.{RulesNote}
 use Rattle.harvest.specs.Harvests.{Harvested}
 use Rattle.harvest.specs.declared.page.KeptPage.{KeptPage}
-use Rattle.workers.specs.Noted.{Agrees, page_of}
-use Rattle.workers.specs.Notes.{addresses, origins}
+use Rattle.workers.specs.inner.Noted.{Agrees, page_of}
+use Rattle.workers.specs.inner.Notes.{addresses, origins}
 use Rattle.workers.specs.OneWorker.{AreByCrew}
+use Rattle.workers.specs.inner.Takers.{AreNotedBy}
 use Rattle.harvest.specs.Pages.{is_success}
 use Rattle.harvest.specs.Gathered.{IsHarvestOf}
-use Rattle.workers.specs.Turns.{IsNothing}
+use Rattle.workers.specs.inner.Turns.{IsNothing}
 
 -- a body is noted just where the page is kept
 abbrev pub HasBody : Plan → PageNote → Type 0
@@ -64,6 +65,7 @@ pub record IsUnexplained (frontier : Traced) : Type 0 where
   pub unborne : frontier.state.cause ≡ Some why.Full → ¬ IsOverfull (policy frontier.plan) frontier.state
 
 -- what a crew of so many workers left belies what it noted: the frontier went by another plan, its trace names a worker that isn't
--- one of them, or what was noted doesn't agree with its table
+-- one of them, what was noted doesn't agree with its table, or by its trace another than the worker who noted it took it
 abbrev pub IsBelied : Plan → ℕ → Traced → List PageNote → List RulesNote → Type 0
-IsBelied plan workers frontier notes sets = (frontier.plan ≢ plan) ⊎ ((¬ AreByCrew workers frontier.trace) ⊎ (¬ Agrees frontier.state notes sets))
+IsBelied plan workers frontier notes sets =
+    (frontier.plan ≢ plan) ⊎ ((¬ AreByCrew workers frontier.trace) ⊎ ((¬ Agrees frontier.state notes sets) ⊎ (¬ AreNotedBy notes sets frontier.trace)))

@@ -11,7 +11,7 @@ use Rattle.workers.specs.declared.note.PageNote.{PageNote}
 use Rattle.workers.specs.declared.note.RulesNote.{RulesNote}
 use Rattle.harvest.specs.declared.page.KeptPage.{KeptPage}
 use Rattle.workers.specs.Asks.{pages_asked, origins_asked}
-use Rattle.workers.specs.Notes.{IsToldPage, IsToldRules, addresses, origins}
+use Rattle.workers.specs.inner.Notes.{IsToldPage, IsToldRules, addresses, origins}
 
 -- each ask has its note, in whatever order, and what was noted of an answer is what may be said
 pub record AreNoted (may_say : Text → Outcome → List ℕ → Type 0) (may_rule : Text → RuleSetValue → Type 0) (plan : Plan) (asks : List Ask) (notes : List PageNote) (sets : List RulesNote) : Type 0 where

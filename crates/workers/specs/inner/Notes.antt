@@ -33,9 +33,9 @@ abbrev pub origins : List RulesNote → List Text
 origins notes = map (λ note. note.origin) notes
 
 -- What a worker does with its fetcher and its notes: the site stays what it is; each ask that the log gains has its note, in
--- order, and what was noted of an answer is what the site may give.
+-- order, under the worker's number, and what was noted of an answer is what the site may give.
 pub record Goes {F S : Type 0} (site : F → S) (says : S → Text → Outcome → List ℕ → Type 0) (rules : S → Text → RuleSetValue → Type 0) (log : F → List Ask)
-    (plan : Plan) (old : F) (notes : Notes) (new : F) (notes' : Notes) : Type 0 where
+    (plan : Plan) (worker : ℕ) (old : F) (notes : Notes) (new : F) (notes' : Notes) : Type 0 where
   pub asks : List Ask
   pub pages : List PageNote
   pub sets : List RulesNote
@@ -47,3 +47,5 @@ pub record Goes {F S : Type 0} (site : F → S) (says : S → Text → Outcome �
   pub rules_noted : origins_asked asks ≡ origins sets
   pub told : All (IsToldPage (says (site old)) plan) pages
   pub ruled : All (IsToldRules (rules (site old))) sets
+  pub own : All (λ note. note.worker ≡ worker) pages
+  pub own_sets : All (λ note. note.worker ≡ worker) sets

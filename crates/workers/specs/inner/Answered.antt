@@ -11,13 +11,16 @@ use Rattle.frontier_core.specs.Machine.{answers}
 use Rattle.frontier_core.specs.Invariants.{IsOverfull}
 use Rattle.frontier_core.specs.declared.event.Cause.{Cause}
 use Rattle.frontier_core.specs.declared.event.Cause.TheVariants as why
+use Rattle.frontier_core.specs.declared.event.Event.{Event}
 use Rattle.workers.specs.declared.crew_retrieval.Noted.{Noted}
 use Rattle.workers.specs.declared.crew_retrieval.Noted.TheVariants as known
 use Rattle.workers.specs.Asks.{AreOnce}
 use Rattle.workers.specs.Crews.{AreLater, all_gained, SomeSays, SomeRules}
 use Rattle.harvest.specs.Harvests.{Harvested}
-use Rattle.workers.specs.Noted.{AreNoted}
+use Rattle.workers.specs.inner.Noted.{AreNoted}
 use Rattle.workers.specs.Retrieval.{Brings, IsLeft}
+use Rattle.workers.specs.Takers.{AreOwn}
+use Rattle.workers.specs.inner.Takers.{AreNotedBy}
 
 module _ {F S : Type 0} (site : F → S) (says : S → Text → Outcome → List ℕ → Type 0) (rules : S → Text → RuleSetValue → Type 0) (log : F → List Ask) where
   -- the fetchers came back in their order, and the retrieval has found what is to be found
@@ -37,3 +40,10 @@ module _ {F S : Type 0} (site : F → S) (says : S → Text → Outcome → List
       AreNoted (SomeSays site says log old new) (SomeRules site rules log old new) plan (all_gained log old new) notes.pages.items notes.rules.items
   IsAccount plan old new known.Once = AreOnce (all_gained log old new)
   IsAccount plan old new known.Twice = Unit {0}
+
+module _ {F : Type 0} (log : F → List Ask) where
+  -- where the notes are known, and by some lines each noted it who took it, each fetcher was asked for what its own worker took
+  abbrev pub IsOwnAccount : List F → List F → Noted → Type 0
+  IsOwnAccount old new (known.All notes) = (trace : List Event) → AreNotedBy notes.pages.items notes.rules.items trace → AreOwn log 0 old new trace
+  IsOwnAccount old new known.Once = Unit {0}
+  IsOwnAccount old new known.Twice = Unit {0}

@@ -1,5 +1,5 @@
 -- What workers do at their seats.
-use Rattle.std.specs.Prelude.{ℕ, List, map}
+use Rattle.std.specs.Prelude.{◌≡◌, ◌<◌, ℕ, List, map, length, get_or}
 use Rattle.std.specs.List.{AllZip, flat_map}
 use Rattle.follow_filters.specs.declared.plan.Plan.{Plan}
 use Rattle.robots_rules.specs.Access.{RuleSetValue}
@@ -9,11 +9,11 @@ use Rattle.frontier_core.specs.Tables.{Text}
 use Rattle.workers.specs.declared.note.PageNote.{PageNote}
 use Rattle.workers.specs.declared.note.RulesNote.{RulesNote}
 use Rattle.workers.specs.declared.worker.Seat.{Seat}
-use Rattle.workers.specs.Notes.{Goes}
+use Rattle.workers.specs.inner.Notes.{Goes}
 
--- what a worker did at its seat
+-- what a worker did at its seat, under the seat's number
 abbrev pub SeatGoes : {F S : Type 0} → (F → S) → (S → Text → Outcome → List ℕ → Type 0) → (S → Text → RuleSetValue → Type 0) → (F → List Ask) → Plan → Seat F → Seat F → Type 0
-SeatGoes site says rules log plan old new = Goes site says rules log plan old.fetcher old.notes new.fetcher new.notes
+SeatGoes site says rules log plan old new = Goes site says rules log plan old.number old.fetcher old.notes new.fetcher new.notes
 
 -- what the workers did, each at its own seat
 abbrev pub AllGo : {F S : Type 0} → (F → S) → (S → Text → Outcome → List ℕ → Type 0) → (S → Text → RuleSetValue → Type 0) → (F → List Ask) → Plan → List (Seat F) → List (Seat F) → Type 0
@@ -22,6 +22,10 @@ AllGo site says rules log plan olds news = AllZip (SeatGoes site says rules log 
 -- who sits there, in order
 abbrev pub fetchers_of : {F : Type 0} → List (Seat F) → List F
 fetchers_of seats = map (λ seat. seat.fetcher) seats
+
+-- each seat has its place's number, from 0
+abbrev pub AreNumbered : {F : Type 0} → List (Seat F) → Type 0
+AreNumbered {F = F} seats = (k : ℕ) (d : Seat F) → k < length seats → (get_or seats k d).number ≡ k
 
 -- all notes, seat by seat
 abbrev pub page_notes : {F : Type 0} → List (Seat F) → List PageNote

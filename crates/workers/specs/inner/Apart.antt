@@ -3,7 +3,7 @@ use Rattle.std.specs.Prelude.{◌≡◌, List, Contains, IsPermutation}
 use Rattle.frontier_core.specs.Tables.{Text}
 use Rattle.workers.specs.declared.note.Notes.{Notes}
 use Rattle.workers.specs.declared.worker.Seat.{Seat}
-use Rattle.workers.specs.Notes.{addresses, origins}
+use Rattle.workers.specs.inner.Notes.{addresses, origins}
 use Rattle.address.specs.AddressOrder.{IsAscending}
 
 -- the notes are in the order of addresses and origins, and none stands twice
