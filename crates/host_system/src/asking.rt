@@ -1,44 +1,74 @@
 //! What asks the site for one worker.
+use crate::over_tcp::OverTcp;
+use crate::shared_failures::SharedFailures;
 use address::{Address, Origin};
+use answer_notes::{Noted, Recording};
 use fetcher::{Answer, Ask, Fetcher};
-use progress::Watched;
 use record_journal::{Journaled, Pen};
 use robots_rules::RuleSet;
-use site_answer::{HttpFetcher, Noted};
-use site_records::Recording;
+use run_failures::LossKind;
 use std::alloc::AllocError;
 use std::fs::Files;
 use std::net::Net;
 use std::sync::Wait;
 use std::time::Clock;
-use tcp_connect::TcpConnect;
 
-/// Asks over TCP, shows on the terminal what comes of it, and hands what is told to the journal of the run.
-// A type of its own, since a call at a type that names all these parts costs its proof more than the checker allows.
+/// Asks over TCP, shows on the terminal what comes of it, hands what is told to the journal of the run, and keeps why a
+/// connection was lost.
+// A type of its own, as what it asks, since a call at a type that names all these parts costs its proof more than the checker
+// allows.
 #[derive(Drop)]
 pub struct Asking<'a, R: Net + Wait + Files + Clock + Eprint> {
-    pub(crate) inner: Journaled<HttpFetcher<Watched<'a, TcpConnect<'a, R>, R>>, Pen<'a, R, R>>,
+    pub(crate) inner: Journaled<OverTcp<'a, R>, Pen<'a, R, R>>,
+    pub(crate) rt: &'a R,
+    pub(crate) failures: &'a SharedFailures,
+}
+
+impl<'a, R: Net + Wait + Files + Clock + Eprint> Asking<'a, R> {
+    // Why the last connection was lost, where it was.
+    fn loss(&self) -> Option<LossKind> {
+        self.inner.inner().loss()
+    }
+
+    // Keeps that the last connection was lost, which was to ask for this address.
+    fn note_page(&self, at: &Address) {
+        if let Some(kind) = self.loss() {
+            self.failures.lose(self.rt, kind, at.try_clone());
+        }
+    }
+
+    // Keeps that the last connection was lost, which was to ask for this origin's robots file.
+    fn note_robots(&self, of: &Origin) {
+        if let Some(kind) = self.loss() {
+            self.failures.lose(self.rt, kind, of.robots_file());
+        }
+    }
 }
 
 impl<'a, R: Net + Wait + Files + Clock + Eprint> Fetcher for Asking<'a, R> {
-    ghost use Rattle.std.specs.Prelude.{⊤};
+    ghost use Rattle.std.specs.Prelude.{Bool};
+    ghost use Rattle.http_fetcher.specs.Meanings.{MayAnswer, MayRule};
 
-    ghost Site = { Unit {0} };
+    ghost Site = { Bool };
 
-    ghost site = { λ _. tt };
+    ghost site = { λ f. f.inner.inner.inner.robots };
 
-    ghost says = { λ _ _ _ _. ⊤ };
+    ghost says = { MayAnswer };
 
-    ghost rules = { λ _ _ _. ⊤ };
+    ghost rules = { MayRule };
 
-    ghost log = { λ f. f.inner.inner.asks };
+    ghost log = { λ f. f.inner.inner.inner.asks };
 
     fn ask(&mut self, at: &Address) -> Result<Answer, AllocError> {
-        self.inner.ask(at)
+        let answer = self.inner.ask(at)?;
+        self.note_page(at);
+        Ok(answer)
     }
 
     fn ask_robots(&mut self, of: &Origin) -> Result<RuleSet, AllocError> {
-        self.inner.ask_robots(of)
+        let rules = self.inner.ask_robots(of)?;
+        self.note_robots(of);
+        Ok(rules)
     }
 
     fn asks(&self) -> &[Ask] {

@@ -1,18 +1,21 @@
-//! What is put on the disk: the pages' folder, and a record.
+//! What is put on the disk: the pages' folder, and a record. What can't be put there is kept for a person.
+use crate::shared_failures::SharedFailures;
 use local_tree::{Close, DiskFolder, Folder, FolderFault};
 use record_journal::SavedFile;
 use std::fs::Files;
 use std::io;
-use std::io::Write;
+use std::io::{ErrorKind, Write};
 use std::sync::Wait;
 
 /// The folder of a run's pages.
 #[derive(Drop)]
-pub struct Disk<'a, R: Files> {
+pub struct Disk<'a, R: Files + Wait> {
     pub(crate) inner: DiskFolder<'a, R>,
+    pub(crate) rt: &'a R,
+    pub(crate) failures: &'a SharedFailures,
 }
 
-impl<'a, R: Files> Folder for Disk<'a, R>
+impl<'a, R: Files + Wait> Folder for Disk<'a, R>
 where
     R::File: Close,
 {
@@ -23,7 +26,11 @@ where
     ghost failed = { λ d. d.inner.failed };
 
     fn put(&mut self, name: &str, bytes: &[u8]) -> Result<(), FolderFault> {
-        self.inner.put(name, bytes)
+        let put = self.inner.put(name, bytes);
+        if let (Err(_), Some(error)) = (&put, self.inner.error()) {
+            self.failures.fail(self.rt, name, error);
+        }
+        put
     }
 
     fn failures(&self) -> u64 {
@@ -35,6 +42,24 @@ where
 #[derive(Drop)]
 pub struct Saved<'a, R: Wait + Eprint + Files> {
     pub(crate) inner: SavedFile<'a, R, R>,
+    pub(crate) rt: &'a R,
+    pub(crate) failures: &'a SharedFailures,
+    pub(crate) path: String,
+    // Whether it is kept that it can't be put.
+    pub(crate) is_lost: bool,
+}
+
+impl<'a, R: Wait + Eprint + Files> Saved<'a, R> {
+    // Keeps why it can't be put, once. An interrupted call may be made again.
+    fn note<T>(&mut self, answer: &io::Result<T>) {
+        let Err(error) = answer else {
+            return;
+        };
+        if !self.is_lost && error.kind() != ErrorKind::Interrupted {
+            self.is_lost = true;
+            self.failures.fail(self.rt, self.path.as_str(), error);
+        }
+    }
 }
 
 impl<'a, R: Wait + Eprint + Files> Write for Saved<'a, R>
@@ -46,14 +71,20 @@ where
     ghost contents = { λ _. None };
 
     fn write(&mut self, bytes: &[u8]) -> io::Result<usize> {
-        self.inner.write(bytes)
+        let answer = self.inner.write(bytes);
+        self.note(&answer);
+        answer
     }
 
     fn write_all(&mut self, bytes: &[u8]) -> io::Result<()> {
-        self.inner.write_all(bytes)
+        let answer = self.inner.write_all(bytes);
+        self.note(&answer);
+        answer
     }
 
     fn flush(&mut self) -> io::Result<()> {
-        self.inner.flush()
+        let answer = self.inner.flush();
+        self.note(&answer);
+        answer
     }
 }

@@ -1,18 +1,20 @@
 //! What a live run has of the system: fetchers over TCP, and folders and records on the disk.
 use crate::asking::Asking;
 use crate::disk::{Disk, Saved};
+use crate::over_tcp::OverTcp;
+use crate::shared_failures::SharedFailures;
+use http_fetcher::HttpFetcher;
 use local_tree::{Close, DiskFolder};
 use progress::{Progress, Watched};
 use record_journal::{HoldFault as Held, Journaled, Lock, Pen, SavedFile, Saving};
 use retriever::{HoldFault, System};
-use site_answer::HttpFetcher;
 use std::alloc::{AllocError, Global};
 use std::fs::Files;
 use std::net::Net;
 use std::sync::Wait;
 use std::time::Clock;
 use streams::ReadFault;
-use tcp_connect::{Hosts, TcpConnect};
+use tcp_connect::{Hosts, Kept, TcpConnect};
 
 /// The network and the disk, by the program's handle.
 #[derive(Drop)]
@@ -20,29 +22,56 @@ pub struct Network<'a, R: Net + Wait + Files + Clock + Eprint> {
     rt: &'a R,
     alloc: Global,
     hosts: &'a Hosts,
+    kept: &'a Kept<R::Stream>,
     progress: &'a Progress<'a, R>,
     saving: &'a Saving<R>,
+    failures: &'a SharedFailures,
     process: u32,
 }
 
 impl<'a, R: Net + Wait + Files + Clock + Eprint> Network<'a, R> {
-    /// By this handle, with what the run knows of hosts, the line that counts its connections and where it saves, for the process
-    /// of this number. Takes no memory.
+    ghost use Rattle.std.specs.Prelude.{◌≡◌, is_some};
+
+    /// By this handle, with what the run knows of hosts and keeps of connections, the line that counts them, where it saves and what
+    /// keeps why something failed, for the process of this number. Takes no memory.
     pub fn new(
         rt: &'a R,
         alloc: Global,
         hosts: &'a Hosts,
+        kept: &'a Kept<R::Stream>,
         progress: &'a Progress<'a, R>,
         saving: &'a Saving<R>,
+        failures: &'a SharedFailures,
         process: u32,
     ) -> Network<'a, R> {
         Network {
             rt,
             alloc,
             hosts,
+            kept,
             progress,
             saving,
+            failures,
             process,
+        }
+    }
+
+    // What asks over TCP, and keeps connections where so many to a server may stand at a time.
+    fn http_fetcher(
+        &self,
+        robots: bool,
+        kept: Option<u32>,
+    ) -> HttpFetcher<Watched<'a, TcpConnect<'a, R>, R>>
+        ensures robots { result.robots ≡ robots }
+        ensures keeps { result.keeps ≡ is_some kept }
+    {
+        let connect = TcpConnect::new(self.rt, self.alloc, self.hosts);
+        match kept {
+            Some(most) => {
+                let connect = Watched::new(connect.keeping(self.kept, most), self.progress);
+                HttpFetcher::new(self.alloc, connect, robots).keeping()
+            }
+            None => HttpFetcher::new(self.alloc, Watched::new(connect, self.progress), robots),
         }
     }
 }
@@ -50,8 +79,9 @@ impl<'a, R: Net + Wait + Files + Clock + Eprint> Network<'a, R> {
 impl<'a, R: Net + Wait + Files + Clock + Eprint + Sync> System for Network<'a, R>
 where
     R::File: Close + Lock + Send + Sync,
+    R::Stream: Send,
 {
-    ghost use Rattle.std.specs.Prelude.{◌≡◌, ⊤};
+    ghost use Rattle.std.specs.Prelude.{◌≡◌, ⊤, is_some};
     ghost use Rattle.local_tree.specs.Folders.{opened_at};
 
     type Fetcher = Asking<'a, R>;
@@ -60,7 +90,7 @@ where
 
     type Record = Saved<'a, R>;
 
-    ghost makes = { λ network robots is_recording fetcher. (fetcher.inner.inner.robots ≡ robots) × (fetcher.inner.is_recording ≡ is_recording) };
+    ghost makes = { λ network robots is_recording kept fetcher. (fetcher.inner.inner.inner.robots ≡ robots) × (fetcher.inner.inner.inner.keeps ≡ is_some kept) × (fetcher.inner.is_recording ≡ is_recording) };
 
     ghost opens = { λ network path folder. folder.inner ≡ opened_at path };
 
@@ -68,19 +98,25 @@ where
 
     ghost names = { λ network path saved. ⊤ };
 
-    fn fetcher(&self, robots: bool, is_recording: bool) -> Asking<'a, R> {
-        let connect = TcpConnect::new(self.rt, self.alloc, self.hosts);
-        let connect = Watched::new(connect, self.progress);
-        let fetcher = HttpFetcher::new(self.alloc, connect, robots);
+    fn fetcher(&self, robots: bool, is_recording: bool, kept: Option<u32>) -> Asking<'a, R> {
+        let fetcher = OverTcp {
+            inner: self.http_fetcher(robots, kept),
+        };
         let pen = Pen::new(self.rt, self.saving);
         Asking {
             inner: Journaled::new(self.alloc, fetcher, pen, is_recording),
+            rt: self.rt,
+            failures: self.failures,
         }
     }
 
     fn folder(&self, path: &str) -> Result<Disk<'a, R>, AllocError> {
         match DiskFolder::new(self.rt, self.alloc, path, self.process) {
-            Ok(inner) => Ok(Disk { inner }),
+            Ok(inner) => Ok(Disk {
+                inner,
+                rt: self.rt,
+                failures: self.failures,
+            }),
             Err(_) => Err(AllocError),
         }
     }
@@ -103,6 +139,12 @@ where
     fn record(&self, path: &str) -> Result<Saved<'a, R>, AllocError> {
         let journal = self.saving.journal();
         let inner = SavedFile::new(self.rt, self.rt, self.alloc, path, journal)?;
-        Ok(Saved { inner })
+        Ok(Saved {
+            inner,
+            rt: self.rt,
+            failures: self.failures,
+            path: String::from_str(self.alloc, path)?,
+            is_lost: false,
+        })
     }
 }

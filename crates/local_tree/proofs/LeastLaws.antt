@@ -10,7 +10,7 @@ use Rattle.std.specs.declared.cmp.Ordering.{Ordering}
 use Rattle.std.specs.declared.cmp.Ordering.TheVariants.{Less, Equal, Greater}
 use denote.Ref.{Bor}
 use Rattle.local_tree.specs.Names.{numbered}
-use Rattle.local_tree.specs.Taken.{text_of, AreLeast, IsPast}
+use Rattle.local_tree.specs.inner.Taken.{text_of, AreLeast, IsPast}
 use Rattle.local_tree.proofs.NamingLaws.{IsBehind}
 use Rattle.local_tree.proofs.OrderLaws.{texts_equal, before_trans}
 

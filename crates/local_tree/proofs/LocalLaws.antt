@@ -4,7 +4,8 @@ use Rattle.std.proofs.lemmas.Bool.{both_ways, false_from_ne_true, or_cases}
 use Rattle.std.proofs.lemmas.List.Elements.{All-nil, All-cons, All-head, All-tail}
 use Rattle.std.proofs.lemmas.Slice.Eq.{bytes_eq-Decides}
 use Rattle.std.specs.List.{list_any}
-use Rattle.local_tree.specs.LocalNames.{is_outer, IsInner}
+use Rattle.local_tree.specs.LocalNames.{IsInner}
+use Rattle.local_tree.specs.inner.LocalNames.{is_outer}
 
 inner_from_test : (segment : List ℕ) → is_outer segment ≡ false → IsInner segment
 inner_from_test segment inside =

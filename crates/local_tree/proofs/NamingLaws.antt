@@ -10,7 +10,7 @@ use Rattle.std.specs.Fmt.{decimal, digits, digits_onto, digit_glyph}
 use Rattle.std.specs.Str.{bytes_eq}
 use Rattle.local_tree.specs.PlainNames.{slash}
 use Rattle.local_tree.specs.Names.{IsDirectoryOf, IsDirectory, numbered, IsFree, IsFirstFree, IsNaming, AreDistinct, AreApart}
-use Rattle.local_tree.specs.Taken.{remembered, HasSameNames}
+use Rattle.local_tree.specs.inner.Taken.{remembered, HasSameNames}
 
 -- ---- distinct
 

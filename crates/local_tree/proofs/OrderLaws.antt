@@ -16,7 +16,7 @@ use Rattle.std.specs.declared.cmp.Ordering.TheVariants.{Less, Equal, Greater}
 use denote.Ref.{Bor}
 use Rattle.local_tree.specs.PlainNames.{slash}
 use Rattle.local_tree.specs.Names.{IsDirectory, IsDirectoryOf}
-use Rattle.local_tree.specs.Taken.{text_of, text_cmp, below_order}
+use Rattle.local_tree.specs.inner.Taken.{text_of, text_cmp, below_order}
 
 -- ---- the order of texts, and of their first bytes
 

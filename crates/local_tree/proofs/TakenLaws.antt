@@ -19,7 +19,7 @@ use Rattle.std.specs.String.{string_bytes}
 use Rattle.std.specs.declared.string.String.{String}
 use Rattle.local_tree.specs.PlainNames.{slash, is_slash}
 use Rattle.local_tree.specs.Names.{IsDirectoryOf, numbered}
-use Rattle.local_tree.specs.Taken.{IsTaken}
+use Rattle.local_tree.specs.inner.Taken.{IsTaken}
 use Rattle.local_tree.proofs.NamingLaws.{NoSlash, NoSlash-decimal, numbered-suc, numbered-injective}
 
 -- the first n numbered names, the last first

@@ -1,5 +1,5 @@
 -- What keeps a name inside its folder, and a segment within what disks take.
-use Rattle.std.specs.Prelude.{◌≡◌, ◌≢◌, ℕ, ◌≤◌, Bool, ◌||◌, List, [], length, codes, All, bytes_eq}
+use Rattle.std.specs.Prelude.{◌≡◌, ◌≢◌, ℕ, ◌≤◌, List, [], length, codes, All}
 use Rattle.std.specs.List.{slice_split}
 use Rattle.local_tree.specs.PlainNames.{is_slash}
 use Rattle.local_tree.specs.Names.{numbered}
@@ -10,10 +10,6 @@ pub record IsInner (segment : List ℕ) : Type 0 where
   pub present : segment ≢ []
   pub not_here : segment ≢ codes "."
   pub not_above : segment ≢ codes ".."
-
--- the same as a test: it names nothing within its directory
-abbrev pub is_outer : List ℕ → Bool
-is_outer segment = bytes_eq segment [] || bytes_eq segment (codes ".") || bytes_eq segment (codes "..")
 
 -- no segment is empty, `.` or `..`: the name leads nowhere but below its folder
 abbrev pub StaysInside : List ℕ → Type 0

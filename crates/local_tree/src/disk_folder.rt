@@ -31,6 +31,8 @@ pub struct DiskFolder<'a, R: Files> {
     // The directory that was last found or made; empty at first, and after a put that failed.
     known: String,
     failed: u64,
+    // That of the last put that failed.
+    error: Option<Error>,
 }
 
 // Contracts see where the folder is, and how many puts answered an error.
@@ -167,7 +169,15 @@ where
             part,
             known: String::new(alloc),
             failed: 0,
+            error: None,
         })
+    }
+
+    /// Why the last put that failed did: the system's error, or, with none of its numbers, one of the folder's own (`NotADirectory`
+    /// and `AlreadyExists` where a link or something else stands in the place of a directory or a file, `InvalidInput` where the
+    /// name isn't local, `Other` where closing failed). None where no put failed.
+    pub fn error(&self) -> Option<&Error> {
+        self.error.as_ref()
     }
 
     // Writes the file and gives it its name.
@@ -212,9 +222,10 @@ where
     fn put(&mut self, name: &str, bytes: &[u8]) -> Result<(), FolderFault> {
         match self.write(name, bytes) {
             Ok(()) => Ok(()),
-            Err(_) => {
+            Err(error) => {
                 // The directory may have gone.
                 self.known.clear();
+                self.error = Some(error);
                 self.failed = self.failed.saturating_add(1);
                 Err(FolderFault::Device)
             }

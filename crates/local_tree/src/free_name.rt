@@ -7,7 +7,7 @@ ghost use Rattle.std.specs.declared.cmp.Ordering.TheVariants.{Less, Greater};
 ghost use Rattle.std.specs.List.Sorted.{IsSorted};
 ghost use Rattle.local_tree.specs.PlainNames.{slash};
 ghost use Rattle.local_tree.specs.Names.{IsDirectory, numbered};
-ghost use Rattle.local_tree.specs.Taken.{text_of, text_cmp, below_order, IsTaken};
+ghost use Rattle.local_tree.specs.inner.Taken.{text_of, text_cmp, below_order, IsTaken};
 
 use std::alloc::{AllocError, Global};
 use std::cmp::Ordering;

@@ -2,7 +2,8 @@
 ghost use Rattle.std.specs.Prelude.{◌≡◌, ◌↔◌, IsTrue};
 ghost use Rattle.std.specs.List.{slice_split, list_any};
 ghost use Rattle.local_tree.specs.PlainNames.{is_slash};
-ghost use Rattle.local_tree.specs.LocalNames.{is_outer, StaysInside};
+ghost use Rattle.local_tree.specs.LocalNames.{StaysInside};
+ghost use Rattle.local_tree.specs.inner.LocalNames.{is_outer};
 
 // Whether a segment names nothing within its directory.
 fn is_outer(segment: &[u8]) -> bool

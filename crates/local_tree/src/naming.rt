@@ -9,7 +9,7 @@ ghost use Rattle.address.specs.AddressOrder.{IsAscending};
 ghost use Rattle.local_tree.specs.PlainNames.{plain_name_of};
 ghost use Rattle.local_tree.specs.Names.{IsNaming, AreDistinct, AreApart};
 ghost use Rattle.local_tree.specs.LocalNames.{StaysInside, HasShortSegments, IsVisible};
-ghost use Rattle.local_tree.specs.Taken.{text_of, text_cmp, HasSameNames, AreLeast, IsNoted, remembered};
+ghost use Rattle.local_tree.specs.inner.Taken.{text_of, text_cmp, HasSameNames, AreLeast, IsNoted, remembered};
 
 use crate::free_name::first_free;
 use crate::plain_name::plain_name_of;

@@ -1,16 +1,16 @@
 //! Connections that are counted.
 ghost use Rattle.std.specs.Prelude.{◌≡◌};
 ghost use Rattle.response_reader.specs.Wire.{CountsFault, NotesLoss, counted};
-ghost use Rattle.site_answer.specs.Connects.{CountsRefusal};
+ghost use Rattle.http_fetcher.specs.Connects.{CountsRefusal};
 
 use crate::progress::Progress;
 use address::Origin;
+use http_fetcher::{Connect, ConnectFault};
 use response_reader::{Wire, WireFault};
-use site_answer::{Connect, ConnectFault};
 use std::marker::Model;
 use std::time::Clock;
 
-/// Makes the connections of another, and counts what becomes of them.
+/// Makes the connections of another, and counts the answers that come over them.
 #[derive(Drop)]
 pub struct Watched<'a, C: Connect, R: Clock + Eprint> {
     inner: C,
@@ -23,6 +23,8 @@ pub struct WatchedWire<W: Wire + Drop> {
     wire: W,
     bytes: u64,
     broke: bool,
+    // Whether it served before.
+    served: bool,
 }
 
 // Contracts see the other's connections alone.
@@ -45,6 +47,13 @@ impl<'a, C: Connect, R: Clock + Eprint> Watched<'a, C, R> {
     {
         Watched { inner, progress }
     }
+
+    /// What makes the connections.
+    pub fn inner(&self) -> &C
+        ensures { result.now ≡ self.now }
+    {
+        &self.inner
+    }
 }
 
 impl<'a, C: Connect, R: Clock + Eprint> Connect for Watched<'a, C, R> {
@@ -56,7 +65,13 @@ impl<'a, C: Connect, R: Clock + Eprint> Connect for Watched<'a, C, R> {
 
     ghost refused = { λ c. C.refused c };
 
+    ghost taken = { λ c. C.taken c };
+
     ghost gives = { λ c of wire. C.gives c of wire };
+
+    ghost stands = { λ c of wire. C.stands c of wire };
+
+    ghost again = { λ left wire. C.again left wire };
 
     fn connect(&mut self, of: &Origin) -> Result<WatchedWire<C::Wire>, ConnectFault> {
         match self.inner.connect(of) {
@@ -64,6 +79,7 @@ impl<'a, C: Connect, R: Clock + Eprint> Connect for Watched<'a, C, R> {
                 wire,
                 bytes: 0,
                 broke: false,
+                served: false,
             }),
             Err(fault) => {
                 self.progress.ended(true, 0);
@@ -72,10 +88,42 @@ impl<'a, C: Connect, R: Clock + Eprint> Connect for Watched<'a, C, R> {
         }
     }
 
-    fn close(&mut self, wire: WatchedWire<C::Wire>) {
-        let WatchedWire { wire, bytes, broke } = wire;
-        self.inner.close(wire);
+    // Each question that a kept connection serves is counted by itself.
+    fn take(&mut self, of: &Origin) -> Option<WatchedWire<C::Wire>> {
+        match self.inner.take(of) {
+            Some(wire) => Some(WatchedWire {
+                wire,
+                bytes: 0,
+                broke: false,
+                served: true,
+            }),
+            None => None,
+        }
+    }
+
+    fn give_back(&mut self, of: &Origin, wire: WatchedWire<C::Wire>) {
+        let WatchedWire {
+            wire,
+            bytes,
+            broke,
+            ..
+        } = wire;
+        self.inner.give_back(of, wire);
         self.progress.ended(broke, bytes);
+    }
+
+    // A connection that had died while it was kept is no answer: the question is asked once more.
+    fn close(&mut self, wire: WatchedWire<C::Wire>) {
+        let WatchedWire {
+            wire,
+            bytes,
+            broke,
+            served,
+        } = wire;
+        self.inner.close(wire);
+        if !served || bytes > 0 {
+            self.progress.ended(broke, bytes);
+        }
     }
 
     fn tell_waiting(&mut self, waiting: usize) {

@@ -5,11 +5,11 @@ use Rattle.streams.specs.Streams.{AppendsFront}
 use Rattle.address.specs.Address.{AddressText, OriginText}
 use Rattle.robots_rules.specs.Access.{RuleSetValue}
 use Rattle.fetcher.specs.declared.outcome.Outcome.{Outcome}
-use Rattle.site_answer.specs.Tellings.{outcome_told, body_told}
-use Rattle.site_answer.specs.HopChains.{HopValue, rules_of_hops}
-use Rattle.site_answer.specs.declared.told.Told.{Told}
-use Rattle.site_answer.specs.declared.noted.Noted.{Noted}
-use Rattle.site_answer.specs.declared.noted.Noted.TheVariants.{Page, Chain}
+use Rattle.answer_notes.specs.Tellings.{outcome_told, body_told}
+use Rattle.answer_notes.specs.HopChains.{HopValue, rules_of_hops}
+use Rattle.answer_notes.specs.declared.told.Told.{Told}
+use Rattle.answer_notes.specs.declared.noted.Noted.{Noted}
+use Rattle.answer_notes.specs.declared.noted.Noted.TheVariants.{Page, Chain}
 use Rattle.site_records.specs.WrittenEntries.{written_note}
 
 -- a fetcher with a journal, whether what it is told is to be saved, and the notes that the journal didn't take

@@ -1,2 +1,2 @@
 pub mod Handed
-pub mod Tails
+pub mod inner

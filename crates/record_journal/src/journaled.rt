@@ -9,10 +9,10 @@ ghost use Rattle.record_journal.specs.Handed.{HandsPage, HandsChain, IsHanded};
 
 use crate::journal::Journal;
 use address::{Address, Origin};
+use answer_notes::{Noted, Recording, Telling};
 use fetcher::{Answer, Ask, Fetcher};
 use robots_rules::RuleSet;
-use site_answer::{Noted, Telling};
-use site_records::{Recording, push_note};
+use site_records::push_note;
 use std::alloc::{AllocError, Global};
 use std::marker::Model;
 use streams::Pieces;

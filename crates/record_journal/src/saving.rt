@@ -3,7 +3,7 @@ use crate::disk_journal::DiskJournal;
 use crate::held_journal::{HeldJournal, look_for_file};
 use crate::journal_fault::JournalFault;
 use crate::lock::Lock;
-use site_maps::InputFault;
+use site_inputs::InputFault;
 use site_records::{RecordFault, RecordFront, RecordedSite, read_front, write_record};
 use std::alloc::{AllocError, Global};
 use std::fs::{File, Files};

@@ -1,6 +1,6 @@
 //! The end of a journal, where entries are added.
 ghost use Rattle.std.specs.Prelude.{◌≡◌, true, false};
-ghost use Rattle.record_journal.specs.Tails.{Adds};
+ghost use Rattle.record_journal.specs.inner.Tails.{Adds};
 
 use std::fs::OpenFile;
 use std::io::Write;

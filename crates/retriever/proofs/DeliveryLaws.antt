@@ -3,7 +3,8 @@ use Rattle.std.proofs.Common.{◌≡◌, ◌∙◌, ◌++◌, ℕ, List, Option,
 use Rattle.std.specs.Prelude.{Result, Ok, Err}
 use Rattle.std.specs.Io.KnownBytes.{Appends}
 use Rattle.std.proofs.KnownBytes.{Appends-trans}
-use Rattle.retriever.specs.Parts.{IsDelivered, IsToldAs, status_told}
+use Rattle.retriever.specs.Parts.{IsDelivered}
+use Rattle.retriever.specs.inner.Parts.{IsToldAs, status_told}
 use Rattle.streams.specs.Streams.{AppendsFront}
 
 -- a front of the first of two texts is one of both

@@ -22,7 +22,8 @@ use Rattle.site_records.specs.Records.{RecordedAnswers, GivesAnswer, GivesRules 
 use Rattle.harvest.specs.Gathered.{AreEntries, AreRecords, ArePages}
 use Rattle.harvest.specs.Harvests.{Harvested}
 use Rattle.harvest.specs.Pages.{IsKept}
-use Rattle.workers.specs.OneWorker.{AreByOne}
+use Rattle.workers.specs.OneWorker.{AreByOne, AreByCrew}
+use Rattle.workers.proofs.ConclusionLaws.{by_one as crew_of_one}
 use Rattle.workers.specs.Retrieval.{Brings, Leaves, IsLeft}
 use Rattle.workers.specs.Sites.{Fits, IsCompleteFor}
 use Rattle.local_tree.specs.Names.{IsNaming}
@@ -37,8 +38,9 @@ use Rattle.workers.proofs.ServingLaws.{crew_fits}
 use Rattle.workers.specs.declared.crew_retrieval.Retrieved.{Retrieved}
 use Rattle.workers.specs.declared.crew_retrieval.Stopped.{Stopped as StoppedCrew}
 use Rattle.workers.specs.declared.retrieval.Halt.{Halt}
-use Rattle.retriever.specs.Parts.{IsOutputOf, IsToldOf, IsRead, brought_by, is_borne_out, shown_of}
-use Rattle.retriever.specs.Retrieved.{IsPartOf, AreBy, AreEventsOf, AreShown, HasStopped, Reported, Stopped, Finishes}
+use Rattle.retriever.specs.Parts.{shown_of}
+use Rattle.retriever.specs.inner.Parts.{IsOutputOf, IsToldOf, IsRead, brought_by, is_borne_out}
+use Rattle.retriever.specs.Retrieved.{IsPartOf, AreEventsOf, AreShown, HasStopped, Reported, Stopped, Finishes}
 use Rattle.retriever.specs.declared.told.Output.{Output}
 use Rattle.std.specs.declared.alloc.AllocError.{AllocError}
 use Rattle.retriever.specs.Site.{AreNamed, whole_of, without_bodies}
@@ -82,7 +84,7 @@ are_named plan h names are records pages follows once naming =
     }
 
 pub reported : (order : Order) (may_say : Text → Outcome → List ℕ → Type 0) (may_rule : Text → RuleSetValue → Type 0) (whole : Answers) (asks : List Ask) (h : Harvested) (names : List (List ℕ))
-    → Fits may_say may_rule whole → Brings may_say may_rule order.plan asks h → IsRead h → IsCompleteFor (policy order.plan) whole h.state → AreBy order.workers h.trace → IsNaming (map plain_name_of h.kept) names
+    → Fits may_say may_rule whole → Brings may_say may_rule order.plan asks h → IsRead h → IsCompleteFor (policy order.plan) whole h.state → AreByCrew order.workers h.trace → IsNaming (map plain_name_of h.kept) names
     → Finishes order whole (shown_of order.trace h.trace) (Reported (lines_of h names))
 reported order may_say may_rule whole asks h names fits brings read complete by_one naming =
     let sound = subst (λ (o : Option Plan). IfSome o (λ plan. IsSound (policy plan) h.state)) brings.follows read.3 in (
@@ -99,23 +101,23 @@ status_of order h names read follows =
 -- ---- a stop
 
 stop_events : (order : Order) (may_say : Text → Outcome → List ℕ → Type 0) (may_rule : Text → RuleSetValue → Type 0) (whole : Answers) (asks : List Ask) (cause : Cause) (h : Harvested)
-    → Fits may_say may_rule whole → Leaves may_say may_rule order.plan asks cause h → AreBy order.workers h.trace
+    → Fits may_say may_rule whole → Leaves may_say may_rule order.plan asks cause h → AreByCrew order.workers h.trace
     → AreShown order.trace (AreEventsOf order.workers order.plan whole (HasStopped cause)) (shown_of order.trace h.trace)
 stop_events order may_say may_rule whole asks cause h fits left by_one =
     are_shown order.trace (AreEventsOf order.workers order.plan whole (HasStopped cause)) h.trace (by_one, h.state, left.replay, told_part may_say may_rule whole (answers h.state) fits left.told, left.stopped)
 
 pub stopped : (order : Order) (may_say : Text → Outcome → List ℕ → Type 0) (may_rule : Text → RuleSetValue → Type 0) (whole : Answers) (asks : List Ask) (cause : Cause) (h : Harvested)
     → Fits may_say may_rule whole → (cause ≢ why.Mismatch → IsLeft may_say may_rule order.plan asks cause h)
-    → (cause ≡ why.Full → HasTooMany (policy order.plan) whole) → (order.workers ≡ 1 → cause ≢ why.Mismatch) → AreBy order.workers h.trace
+    → (cause ≡ why.Full → HasTooMany (policy order.plan) whole) → (order.workers ≡ 1 → cause ≢ why.Mismatch) → (cause ≢ why.Mismatch → AreByCrew order.workers h.trace)
     → Finishes order whole (shown_of (is_borne_out cause && order.trace) h.trace) (Stopped cause)
 stopped order may_say may_rule whole asks why.Full h fits left many never by =
     elim (left (λ is. cc)) [
-      | inl leaves ↦ (many refl, stop_events order may_say may_rule whole asks why.Full h fits leaves by)
+      | inl leaves ↦ (many refl, stop_events order may_say may_rule whole asks why.Full h fits leaves (by (λ is. cc)))
       | inr empty ↦ (let same = empty.memory in cc)
     ]
 stopped order may_say may_rule whole asks why.Memory h fits left many never by =
     elim (left (λ is. cc)) [
-      | inl leaves ↦ inr (stop_events order may_say may_rule whole asks why.Memory h fits leaves by)
+      | inl leaves ↦ inr (stop_events order may_say may_rule whole asks why.Memory h fits leaves (by (λ is. cc)))
       | inr empty ↦ inl (none_shown order.trace h.trace empty.trace)
     ]
 stopped order may_say may_rule whole asks why.Mismatch h fits left many never by = ((λ one. never one refl), refl)
@@ -128,7 +130,7 @@ pub told_finishes : (order : Order) (may_say : Text → Outcome → List ℕ →
     → IfOk brought (λ h. IsCompleteFor (policy order.plan) whole h.state)
     → IfErr brought (λ halt. halt.cause ≢ why.Mismatch → IsLeft may_say may_rule order.plan asks halt.cause halt.harvest)
     → IfErr brought (λ halt. halt.cause ≡ why.Full → HasTooMany (policy order.plan) whole) → IfErr brought (λ halt. order.workers ≡ 1 → halt.cause ≢ why.Mismatch)
-    → IfOk brought (λ h. AreBy order.workers h.trace) × IfErr brought (λ halt. AreBy order.workers halt.harvest.trace) → IfOk brought IsRead
+    → IfOk brought (λ h. AreByCrew order.workers h.trace) × IfErr brought (λ halt. halt.cause ≢ why.Mismatch → AreByCrew order.workers halt.harvest.trace) → IfOk brought IsRead
     → IfOk result (λ output. IsToldOf order.trace brought (string_bytes output.text) output.status) → IfOk result (λ output. IsOutputOf order whole (string_bytes output.text) output.status)
 told_finishes order may_say may_rule whole asks (Ok h) (Ok output) fits brings complete left many never by read told =
     let (names, naming, text, status) = told in
@@ -151,16 +153,16 @@ told_finishes order may_say may_rule whole asks brought (Err e) fits brings comp
 
 -- what is told of one worker's retrieval
 pub alone_finishes : (order : Order) (may_say : Text → Outcome → List ℕ → Type 0) (may_rule : Text → RuleSetValue → Type 0) (whole : Answers) (asks : List Ask) (brought : Result Harvested Halt)
-    (result : Result Output AllocError) → Fits may_say may_rule whole → IfOk brought (λ h. Brings may_say may_rule order.plan asks h)
+    (result : Result Output AllocError) → order.workers ≡ 1 → Fits may_say may_rule whole → IfOk brought (λ h. Brings may_say may_rule order.plan asks h)
     → IfOk brought (λ h. IsCompleteFor (policy order.plan) whole h.state)
     → IfErr brought (λ halt. IsLeft may_say may_rule order.plan asks halt.cause halt.harvest)
     → IfErr brought (λ halt. halt.cause ≡ why.Full → HasTooMany (policy order.plan) whole) → IfErr brought (λ halt. halt.cause ≢ why.Mismatch)
     → IfOk brought (λ h. AreByOne h.trace) × IfErr brought (λ halt. AreByOne halt.harvest.trace) → IfOk brought IsRead
     → IfOk result (λ output. IsToldOf order.trace brought (string_bytes output.text) output.status) → IfOk result (λ output. IsOutputOf order whole (string_bytes output.text) output.status)
-alone_finishes order may_say may_rule whole asks (Ok h) result fits brings complete left many never by read told =
-    told_finishes order may_say may_rule whole asks (Ok h) result fits brings complete tt tt tt ((λ _. by.0), tt) read told
-alone_finishes order may_say may_rule whole asks (Err halt) result fits brings complete left many never by read told =
-    told_finishes order may_say may_rule whole asks (Err halt) result fits tt tt (λ _. left) many (λ _. never) (tt, (λ _. by.1)) tt told
+alone_finishes order may_say may_rule whole asks (Ok h) result one fits brings complete left many never by read told =
+    told_finishes order may_say may_rule whole asks (Ok h) result fits brings complete tt tt tt (subst (λ (n : ℕ). AreByCrew n h.trace) (sym one) (crew_of_one h.trace by.0), tt) read told
+alone_finishes order may_say may_rule whole asks (Err halt) result one fits brings complete left many never by read told =
+    told_finishes order may_say may_rule whole asks (Err halt) result fits tt tt (λ _. left) many (λ _. never) (tt, (λ other. subst (λ (n : ℕ). AreByCrew n halt.harvest.trace) (sym one) (crew_of_one halt.harvest.trace by.1))) tt told
 
 -- what is told of the retrieval by a crew, each with a copy of the site
 module _ {F S : Type 0} (site : F → S) (says : S → Text → Outcome → List ℕ → Type 0) (rules : S → Text → RuleSetValue → Type 0) (log : F → List Ask) where
@@ -175,14 +177,15 @@ module _ {F S : Type 0} (site : F → S) (says : S → Text → Outcome → List
       → IfOk crew (λ r. IsCompleteFor (policy order.plan) whole r.harvest.state)
       → IfErr crew (λ s. s.cause ≢ why.Mismatch → IsLeft (SomeSays site says log olds s.fetchers.items) (SomeRules site rules log olds s.fetchers.items) order.plan
       (all_gained log olds s.fetchers.items) s.cause s.harvest)
-      → IfErr crew (λ s. s.cause ≡ why.Full → HasTooMany (policy order.plan) whole) → IfOk brought IsRead
+      → IfErr crew (λ s. s.cause ≡ why.Full → HasTooMany (policy order.plan) whole)
+      → IfOk crew (λ r. AreByCrew order.workers r.harvest.trace) × IfErr crew (λ s. s.cause ≢ why.Mismatch → AreByCrew order.workers s.harvest.trace) → IfOk brought IsRead
       → IfOk result (λ output. IsToldOf order.trace brought (string_bytes output.text) output.status)
       → IfOk result (λ output. IsOutputOf order whole (string_bytes output.text) output.status)
-  crew_finishes order whole olds (Ok r) brought result several is fit brings complete left many read told =
+  crew_finishes order whole olds (Ok r) brought result several is fit brings complete left many by read told =
       told_finishes order _ _ whole _ (Ok r.harvest) result (crew_fits site says rules log olds r.fetchers.items whole fit) brings complete tt tt tt
-      ((λ one. absurd (several one)), tt) (subst (λ (b : Result Harvested Halt). IfOk b IsRead) is read)
+      (by.0, tt) (subst (λ (b : Result Harvested Halt). IfOk b IsRead) is read)
       (subst (λ (b : Result Harvested Halt). IfOk result (λ output. IsToldOf order.trace b (string_bytes output.text) output.status)) is told)
-  crew_finishes order whole olds (Err s) brought result several is fit brings complete left many read told =
+  crew_finishes order whole olds (Err s) brought result several is fit brings complete left many by read told =
       told_finishes order _ _ whole _ (Err (record { cause = s.cause; harvest = s.harvest })) result (crew_fits site says rules log olds s.fetchers.items whole fit) tt tt left many
-      (λ one. absurd (several one)) (tt, (λ one. absurd (several one))) tt
+      (λ one. absurd (several one)) (tt, by.1) tt
       (subst (λ (b : Result Harvested Halt). IfOk result (λ output. IsToldOf order.trace b (string_bytes output.text) output.status)) is told)

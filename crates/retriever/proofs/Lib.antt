@@ -2,6 +2,7 @@ pub mod StandardFacts
 pub mod FoundLaws
 pub mod EndLaws
 pub mod RunLaws
+pub mod SoleLaws
 pub mod DeliveryLaws
 pub mod ProgramLaws
 pub mod LiveLaws

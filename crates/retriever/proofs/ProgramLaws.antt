@@ -1,8 +1,7 @@
 -- What a person is told, and how a program ends that has no words.
-use Rattle.std.proofs.Common.{◌≡◌, ◌≢◌, ◌⊎◌, ◌∙◌, ◌++◌, ℕ, Bool, true, false, List, [], ◌∷◌, map, Option, None, refl, sym, ap, subst, inl, inr, append-nil}
+use Rattle.std.proofs.Common.{◌≡◌, ◌≢◌, ◌⊎◌, ◌∙◌, ◌++◌, ℕ, Bool, true, false, List, [], Option, refl, sym, ap, subst, inl, inr, append-nil}
 use Rattle.std.specs.Prelude.{Result, Ok, Err, OnOk, OnErr}
 use Rattle.std.specs.Io.KnownBytes.{Appends}
-use Rattle.std.specs.List.{flat_map}
 use Rattle.std.proofs.KnownBytes.{Appends-nil}
 use Rattle.options.specs.Order.{Ordered, order_of, said_by}
 use Rattle.options.specs.declared.fault.LineFault.{LineFault}
@@ -10,10 +9,11 @@ use Rattle.options.specs.declared.fault.LineFault.TheVariants as line
 use Rattle.options.specs.declared.order.Order.{Order}
 use Rattle.options.specs.declared.order.Source.{Source}
 use Rattle.options.specs.declared.order.Source.TheVariants as source
-use Rattle.retriever.specs.Advice.{told_on}
+use Rattle.retriever.specs.Advice.{said_of}
 use Rattle.retriever.specs.Order.{IsRefused}
 use Rattle.retriever.specs.Parts.{IsRefusal}
-use Rattle.retriever.specs.Program.{IsExplained, IsTold, Starts}
+use Rattle.retriever.specs.Program.{IsExplained, IsTold}
+use Rattle.retriever.specs.inner.Program.{Starts}
 use Rattle.retriever.specs.Run.{Failed, Runs}
 use Rattle.streams.specs.Streams.{AppendsFront}
 use Rattle.retriever.specs.declared.fault.Fault.{Fault}
@@ -115,7 +115,7 @@ module _ {R E : Type 0} (Lives : List (List ℕ) → Type 0) (remaining before a
   -- words that order nothing, or for which there is no memory
   pub starts_wrong : (reader : R) (errors_old errors_new : E) (told_before told_after : Option (List ℕ)) (words : List (List ℕ)) (wrong : LineFault) → IsRefused words (fault.Line wrong)
       → (IsRefusal before after fault.Memory status → Lives words) → IsExplained words (fault.Line wrong) before after errors_old errors_new told_before told_after status
-      → (told_on (fault.Line wrong) ≡ None → errors_new ≡ errors_old)
+      → (said_of words (fault.Line wrong) ≡ [] → errors_new ≡ errors_old)
       → Starts Lives remaining before after reader reader errors_old errors_new told_before told_after status words
   starts_wrong reader errors_old errors_new told_before told_after words wrong refused lives told quiet =
       let refusal = refusal_of words (fault.Line wrong) before after errors_old errors_new told_before told_after status told in record {
@@ -126,13 +126,7 @@ module _ {R E : Type 0} (Lives : List (List ℕ) → Type 0) (remaining before a
         unread = λ no. refl;
         told = λ no none. (fault.Line wrong, refused, told);
         quiet = λ either. elim either [
-          | inl input ↦ (let (order, ordered) = input in quiet (ap (λ (w : LineFault). told_on (fault.Line w)) (only_memory words (said_by order) wrong ordered.0 refused)))
-          | inr live ↦ (let (ordered, says, is) = live in quiet (ap (λ (w : LineFault). told_on (fault.Line w)) (only_memory words ordered wrong says refused)))
+          | inl input ↦ (let (order, ordered) = input in quiet (ap (λ (w : LineFault). said_of words (fault.Line w)) (only_memory words (said_by order) wrong ordered.0 refused)))
+          | inr live ↦ (let (ordered, says, is) = live in quiet (ap (λ (w : LineFault). said_of words (fault.Line w)) (only_memory words ordered wrong says refused)))
         ];
       }
-
--- ---- texts of words
-
-pub flat_map-map : {X : Type 0} (f : List ℕ → List ℕ) (now : X → List ℕ) (xs : List X) → flat_map (λ x. f (now x)) xs ≡ flat_map f (map now xs)
-flat_map-map f now [] = refl
-flat_map-map f now (x ∷ xs) = ap (λ rest. f (now x) ++ rest) (flat_map-map f now xs)

@@ -3,12 +3,13 @@ use Rattle.std.proofs.Common.{◌≡◌, ℕ, Bool, true, false, List, Option, S
 use Rattle.std.specs.Prelude.{Result, Ok, Err, IfOk, IfErr, is_some}
 use Rattle.std.specs.declared.alloc.AllocError.{AllocError}
 use Rattle.options.specs.declared.order.Order.{Order}
-use Rattle.site_maps.specs.declared.input_fault.InputFault.{InputFault}
-use Rattle.site_maps.specs.declared.input_fault.InputFault.TheVariants as input
+use Rattle.site_inputs.specs.declared.input_fault.InputFault.{InputFault}
+use Rattle.site_inputs.specs.declared.input_fault.InputFault.TheVariants as input
 use Rattle.site_records.specs.RecordSites.{RecordValue}
 use Rattle.site_records.specs.Records.{IsFault}
 use Rattle.streams.specs.declared.input.ReadFault.TheVariants as reading
-use Rattle.retriever.specs.Systems.{Means, IsNotRead, IsNotResumed, IsReadAs, IsResumed, LivesAgain, LivesBy, LivesPlainly, LivesSaving, LivesWith, is_plain}
+use Rattle.retriever.specs.Systems.{Means, IsNotRead, IsNotResumed, IsReadAs, IsResumed, LivesAgain, LivesBy, LivesPlainly, LivesSaving, LivesWith}
+use Rattle.retriever.specs.inner.Systems.{is_plain}
 use Rattle.retriever.specs.declared.resume_fault.ResumeFault.{ResumeFault}
 use Rattle.retriever.specs.declared.resume_fault.ResumeFault.TheVariants.{Read, Input, Refused}
 

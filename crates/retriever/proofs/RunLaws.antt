@@ -1,11 +1,11 @@
 -- The parts of a run come to its ending.
 use Rattle.std.proofs.Common.{◌≡◌, ℕ, inl, inr, List, [], Option, Some, None, refl}
 use Rattle.std.specs.Prelude.{IfOk, IfErr, Result, Ok, Err, string_bytes}
-use Rattle.site_maps.specs.declared.input_fault.InputFault.{InputFault}
+use Rattle.site_inputs.specs.declared.input_fault.InputFault.{InputFault}
 use Rattle.options.specs.declared.fault.LineFault.TheVariants as line
 use Rattle.options.specs.declared.order.Order.{Order}
 use Rattle.retriever.specs.Order.{IsOrdered, IsRefused}
-use Rattle.retriever.specs.Parts.{TellsFault, IsOutput}
+use Rattle.retriever.specs.inner.Parts.{TellsFault, IsOutput}
 use Rattle.retriever.specs.Run.{Comes, Ending, EndsFor, Failed, Ended, ending_text, ending_status}
 use Rattle.retriever.specs.Site.{IsToldBy, IsWrongBy}
 use Rattle.streams.specs.Streams.{IsInput}

@@ -1,116 +1,14 @@
 -- What a person is told of faults of the words.
-use Rattle.std.specs.Prelude.{ℕ, List, [], Option, Some, None, ◌++◌, codes, option_map}
-use Rattle.std.specs.List.{flat_map}
-use Rattle.std.specs.Option.{option_map_or}
-use Rattle.clap.specs.Values.{kind_text}
-use Rattle.clap.specs.declared.error.ErrorKind.{ErrorKind}
-use Rattle.clap.specs.declared.error.ErrorKind.TheVariants.{DisplayVersion}
-use Rattle.address.specs.declared.fault.AddressFault.{AddressFault}
-use Rattle.address.specs.declared.fault.AddressFault.TheVariants as refused
-use Rattle.options.specs.Help.{help_text}
-use Rattle.options.specs.declared.help.TheConstants.{VERSION}
-use Rattle.options.specs.declared.fault.LineFault.{LineFault}
-use Rattle.options.specs.declared.fault.LineFault.TheVariants as line
-use Rattle.retriever.specs.declared.advice.Advice.{Advice}
-use Rattle.retriever.specs.declared.advice.Advice.TheVariants as advice
+use Rattle.std.specs.Prelude.{ℕ, List, []}
+use Rattle.options.specs.Advice.{advice_text, no_text_advice}
 use Rattle.retriever.specs.declared.fault.Fault.{Fault}
 use Rattle.retriever.specs.declared.fault.Fault.TheVariants as fault
 
--- what a person is told: the help, name and version, or what is wrong and what is accepted in its place
-pub data Told : Type 0 where
-  Help : Told
-  Version : Told
-  Correction : List ℕ → List ℕ → Told
-
--- what an advice tells
-abbrev pub told_by : Advice → Told
-told_by advice.Help = Help
-told_by advice.Version = Version
-told_by (advice.Correction wrong accepted) = Correction wrong.now accepted.now
-
--- ---- what is accepted
-
--- as words
-abbrev pub accepted_words : List ℕ
-accepted_words = codes "wgetr --help says which words are accepted"
-
--- as a start
-abbrev pub accepted_start : List ℕ
-accepted_start =
-    codes "START is an address in full, as http://example.org/path?query, without user name and password, with at most 8192 bytes and a host of at most 255"
-
--- ---- what is told
-
--- what is wrong with a start that is no address; nothing where memory ran out
-abbrev pub wrong_start : AddressFault → Option (List ℕ)
-wrong_start refused.TooLong = Some (codes "START is too long")
-wrong_start refused.NotUrl = Some (codes "START is no URL (http:// may be missing)")
-wrong_start refused.NotHttp = Some (codes "START isn't an http address, and wgetr speaks neither https nor any other scheme")
-wrong_start refused.UserInfo = Some (codes "START has a user name or a password")
-wrong_start refused.Memory = None
-
--- of words that ask for something: for the version, or for help
-abbrev pub told_of_asked : ErrorKind → Told
-told_of_asked DisplayVersion = Version
-told_of_asked other = Help
-
--- of words for which the parser has this short text; it has none of words that ask for something
-abbrev pub told_of_text : ErrorKind → Option (List ℕ) → Told
-told_of_text why None = told_of_asked why
-told_of_text why (Some wrong) = Correction wrong accepted_words
-
--- of words that the parser refuses
-abbrev pub told_of_kind : ErrorKind → Told
-told_of_kind why = told_of_text why (kind_text why)
-
--- of words that are no order; nothing where memory ran out
-abbrev pub told_on_line : LineFault → Option Told
-told_on_line (line.Words why) = Some (told_of_kind why)
-told_on_line line.Depth =
-    Some (Correction (codes "the value of -l, --level is no level") (codes "a level is inf or decimal digits, at most 1000000"))
-told_on_line line.Pattern =
-    Some (Correction (codes "an element of -A, --accept or -R, --reject is no pattern")
-    (codes "an element is a suffix, or a pattern with *, ? and classes as [a-z], each closed"))
-told_on_line line.Directory =
-    Some (Correction (codes "an element of -I, --include-directories or -X, --exclude-directories is no directory")
-    (codes "an element begins with / and has none of *, ?, [ and ]"))
-told_on_line line.Domain =
-    Some (Correction (codes "an element of -D, --domains or --exclude-domains is no domain")
-    (codes "an element is letters, digits, -, _ and dots, as example.org"))
-told_on_line (line.Start why) = option_map (λ wrong. Correction wrong accepted_start) (wrong_start why)
-told_on_line line.StartIsRobots = Some (Correction (codes "START is a robots file") (codes "START is any other page"))
-told_on_line line.Memory = None
-
--- of a fault of the words; nothing of other faults
-abbrev pub told_on : Fault → Option Told
-told_on (fault.Line wrong) = told_on_line wrong
-told_on fault.NotText = Some (Correction (codes "a word isn't UTF-8") accepted_words)
-told_on fault.NoSite = None
-told_on (fault.Read wrong) = None
-told_on (fault.Input wrong) = None
-told_on fault.Memory = None
-
--- ---- the text
-
--- name and version
-abbrev pub version_text : List ℕ
-version_text = codes "wgetr " ++ VERSION.now ++ codes "\n"
-
--- a word behind a space
-abbrev pub word_text : List ℕ → List ℕ
-word_text word = codes " " ++ word
-
--- what is wrong, in these words, and what is accepted: two lines
-abbrev pub correction_text : List (List ℕ) → List ℕ → List ℕ → List ℕ
-correction_text words wrong accepted =
-    codes "wgetr: " ++ wrong ++ codes ", in:" ++ flat_map word_text words ++ codes "\n" ++ accepted ++ codes "\n"
-
--- the lines of what is told of these words
-abbrev pub said : List (List ℕ) → Told → List ℕ
-said words Help = help_text
-said words Version = version_text
-said words (Correction wrong accepted) = correction_text words wrong accepted
-
--- the lines on a fault of these words, none where nothing is told
+-- the lines on a fault of these words, none on other faults
 abbrev pub said_of : List (List ℕ) → Fault → List ℕ
-said_of words wrong = option_map_or (said words) (told_on wrong) []
+said_of words (fault.Line wrong) = advice_text words wrong
+said_of words fault.NotText = no_text_advice words
+said_of words fault.NoSite = []
+said_of words (fault.Read wrong) = []
+said_of words (fault.Input wrong) = []
+said_of words fault.Memory = []

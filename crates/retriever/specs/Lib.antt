@@ -1,13 +1,13 @@
 pub mod Order
-pub mod Trace
 pub mod Site
 pub mod Retrieved
 pub mod Run
 pub mod Parts
 pub mod Advice
 pub mod Program
+pub mod Found
 pub mod Live
-pub mod Puts
 pub mod Saving
 pub mod Resuming
 pub mod Systems
+pub mod inner

@@ -1,128 +1,74 @@
--- What a live retrieval writes, and what it leaves in its folder. Nothing is known of what a live site answers, so all is
--- said of what was recorded.
-use Rattle.std.specs.Prelude.{◌≡◌, ◌≢◌, ◌↔◌, ◌⊎◌, ℕ, List, [], ◌++◌, length, codes, Option, Some, Contains}
-use Rattle.std.specs.Fmt.{decimal}
-use Rattle.std.specs.List.{AllZip}
+-- How a live retrieval came to what it found: the events that led there, and what is shown of them.
+use Rattle.std.specs.Prelude.{◌≡◌, ◌≢◌, ◌⊎◌, ℕ, List, [], ◌++◌, length, Option, Some}
 use Rattle.follow_filters.specs.declared.plan.Plan.{Plan}
 use Rattle.options.specs.declared.order.Order.{Order}
 use Rattle.fetcher.specs.declared.fetcher.Ask.{Ask}
 use Rattle.fetcher.specs.declared.outcome.Outcome.{Outcome}
 use Rattle.robots_rules.specs.Access.{RuleSetValue}
 use Rattle.frontier_core.specs.Tables.{Text}
-use Rattle.frontier_core.specs.Routes.{HasTooMany, IsWanted, IsNeeded}
+use Rattle.frontier_core.specs.Routes.{HasTooMany}
 use Rattle.frontier_core.specs.Machine.{State, answers, IsQuiet}
 use Rattle.frontier_core.specs.Lines.{IsReplay}
 use Rattle.frontier_core.specs.Plans.{policy}
 use Rattle.frontier_core.specs.declared.event.Cause.{Cause}
 use Rattle.frontier_core.specs.declared.event.Cause.TheVariants as cause
 use Rattle.frontier_core.specs.declared.event.Event.{Event}
-use Rattle.harvest.specs.Pages.{IsBodyOf}
-use Rattle.workers.specs.Asks.{pages_asked, origins_asked, AreOnce, AreRecorded, AreRecordedOrLost, IsTold}
+use Rattle.workers.specs.Asks.{AreOnce, AreRecordedOrLost}
 use Rattle.workers.specs.Crews.{AreLater, all_gained, SomeSays, SomeRules}
-use Rattle.local_tree.specs.Folders.{Files}
-use Rattle.local_tree.specs.SiteFiles.{IsWhole, IsTorn}
-use Rattle.report.specs.ExitStatus.{exit_status, outcomes_in}
-use Rattle.report.specs.Named.{named_pages, names_in}
-use Rattle.report.specs.Report.{Line, report_text}
+use Rattle.workers.specs.OneWorker.{AreByCrew}
+use Rattle.workers.specs.Takers.{AreOwn}
+use Rattle.report.specs.Report.{Line}
+use Rattle.retriever.specs.Found.{IsFound, IsPartFound, Holding, LiveEnd, Whole, Torn, Halted, IsTornAt, IsWholeAt, live_text, live_status}
 use Rattle.retriever.specs.Parts.{IsDelivered, shown_of}
-use Rattle.retriever.specs.Retrieved.{Stopped}
-use Rattle.retriever.specs.Run.{finish_text}
-use Rattle.retriever.specs.Site.{AreLines, AreNamed}
-use Rattle.retriever.specs.Trace.{trace_text}
+use Rattle.report.specs.Trace.{trace_text}
 
 -- ---- what was retrieved
 
--- These asks were made, and these events happened, until nothing was left to do: each page that is wanted by what is
--- recorded was asked for, once, and no other, and so were the rules of the origins that need them. The lines are those of
--- the breadth-first retrieval of what is recorded, and the bodies are those of the pages with names. Each outcome, rule
--- set and body is one that the fetchers may have answered.
-pub record IsRetrieved (may_say : Text → Outcome → List ℕ → Type 0) (may_rule : Text → RuleSetValue → Type 0) (plan : Plan) (asks : List Ask) (events : List Event)
+-- the lines name the fetchers' workers, which are counted from 0 in the fetchers' order, and by them each fetcher was asked for
+-- what its own worker took
+abbrev pub AreOfCrew : {F : Type 0} → (F → List Ask) → List F → List F → List Event → Type 0
+AreOfCrew log fetchers left events = AreByCrew (length fetchers) events × AreOwn log 0 fetchers left events
+
+-- These asks were made, and these events of the fetchers' workers happened, until nothing was left to do, and this was found.
+pub record IsRetrieved (may_say : Text → Outcome → List ℕ → Type 0) (may_rule : Text → RuleSetValue → Type 0) (AreByThem : List Event → Type 0) (plan : Plan) (asks : List Ask) (events : List Event)
     (lines : List Line) (bodies : List (List ℕ)) : Type 0 where
   pub state : State
   pub replay : IsReplay (policy plan) events state
+  pub by : AreByThem events
   pub quiet : IsQuiet state
-  pub once : AreOnce asks
-  pub recorded : AreRecorded asks (answers state)
-  pub wanted : (u : Text) → Contains (pages_asked asks) u ↔ IsWanted (policy plan) (answers state) u
-  pub needed : (o : Text) → Contains (origins_asked asks) o ↔ IsNeeded (policy plan) (answers state) o
-  pub told : IsTold may_say may_rule (answers state)
-  pub reported : AreLines (policy plan) (answers state) lines
-  pub named : AreNamed plan lines
-  pub kept : AllZip (IsBodyOf may_say (answers state)) (named_pages lines) bodies
+  pub found : IsFound may_say may_rule plan asks (answers state) lines bodies
 
--- These asks were made, and these events happened, until the retrieval stopped for the cause: what was asked for, each
--- once, is wanted by what is recorded, and is recorded or was given up. The table is full only where what is recorded has
--- more candidates than the plan lets be held.
-pub record HasHalted (may_say : Text → Outcome → List ℕ → Type 0) (may_rule : Text → RuleSetValue → Type 0) (plan : Plan) (asks : List Ask) (why : Cause) (events : List Event) : Type 0 where
+-- These asks were made, and these events of the fetchers' workers happened, until the retrieval stopped for the cause: what was
+-- asked for is recorded or was given up. The table is full only where what is recorded has more candidates than the plan lets be
+-- held.
+pub record HasHalted (may_say : Text → Outcome → List ℕ → Type 0) (may_rule : Text → RuleSetValue → Type 0) (AreByThem : List Event → Type 0) (plan : Plan) (asks : List Ask) (why : Cause) (events : List Event) : Type 0 where
   pub state : State
   pub replay : IsReplay (policy plan) events state
+  pub by : AreByThem events
   pub stopped : state.cause ≡ Some why
-  pub once : AreOnce asks
   pub recorded : AreRecordedOrLost asks state
-  pub wanted : (u : Text) → Contains (pages_asked asks) u → IsWanted (policy plan) (answers state) u
-  pub needed : (o : Text) → Contains (origins_asked asks) o → IsNeeded (policy plan) (answers state) o
-  pub told : IsTold may_say may_rule (answers state)
+  pub found : IsPartFound may_say may_rule plan asks (answers state)
   pub full : why ≡ cause.Full → HasTooMany (policy plan) (answers state)
 
 -- ---- what it comes to
 
--- what a folder tells of itself: its files, and how many puts failed
-pub record Holding : Type 0 where
-  pub files : Option Files
-  pub failed : ℕ
-
--- what this folder tells
-abbrev pub holding : {D : Type 0} → (D → Option Files) → (D → ℕ) → D → Holding
-holding files failed folder = record { files = files folder; failed = failed folder }
-
--- the lines of a report whose files are all whole, or of which so many are whole since the next put failed; or the cause
--- for which there is no report
-pub data LiveEnd : Type 0 where
-  Whole : List Line → LiveEnd
-  Torn : List Line → ℕ → LiveEnd
-  Halted : Cause → LiveEnd
-
--- the line that says how many files are whole
-abbrev pub torn_line : ℕ → List ℕ
-torn_line whole = codes "files written " ++ decimal whole ++ codes "\n"
-
--- the text of an end
-abbrev pub live_text : LiveEnd → List ℕ
-live_text (Whole lines) = report_text lines
-live_text (Torn lines whole) = report_text lines ++ torn_line whole
-live_text (Halted why) = finish_text (Stopped why)
-
--- its status
-abbrev pub live_status : LiveEnd → ℕ
-live_status (Whole lines) = exit_status (outcomes_in lines)
-live_status (Torn lines whole) = 3
-live_status (Halted why) = 1
-
--- so many of the files of these lines are whole, the next may hold anything, and all else is as before
-abbrev pub IsTornAt : List Line → List (List ℕ) → Holding → Holding → ℕ → Type 0
-IsTornAt lines bodies old new whole = IsTorn (names_in lines) bodies old.files new.files old.failed new.failed whole
-
--- all files of these lines are whole, and all else is as before
-abbrev pub IsWholeAt : List Line → List (List ℕ) → Holding → Holding → Type 0
-IsWholeAt lines bodies old new = IsWhole (names_in lines) bodies old.files new.files × (new.failed ≡ old.failed)
-
 -- The retrieval that is ordered comes to this, with this shown of its trace. Before its end nothing is put into the
 -- folder. Memory may run out at any time, and may do so when a put has failed. A check of several workers may fail; then
 -- nothing more is said.
-abbrev pub EndsLive : (Text → Outcome → List ℕ → Type 0) → (Text → RuleSetValue → Type 0) → Order → ℕ → List Ask → Holding → Holding → List Event → LiveEnd → Type 0
-EndsLive may_say may_rule order workers asks old new shown (Whole lines) =
-    (events : List Event) × (bodies : List (List ℕ)) × IsRetrieved may_say may_rule order.plan asks events lines bodies × (shown ≡ shown_of order.trace events)
+abbrev pub EndsLive : (Text → Outcome → List ℕ → Type 0) → (Text → RuleSetValue → Type 0) → (List Event → Type 0) → Order → ℕ → List Ask → Holding → Holding → List Event → LiveEnd → Type 0
+EndsLive may_say may_rule AreByThem order workers asks old new shown (Whole lines) =
+    (events : List Event) × (bodies : List (List ℕ)) × IsRetrieved may_say may_rule AreByThem order.plan asks events lines bodies × (shown ≡ shown_of order.trace events)
     × IsWholeAt lines bodies old new
-EndsLive may_say may_rule order workers asks old new shown (Torn lines whole) =
-    (events : List Event) × (bodies : List (List ℕ)) × IsRetrieved may_say may_rule order.plan asks events lines bodies × (shown ≡ shown_of order.trace events)
+EndsLive may_say may_rule AreByThem order workers asks old new shown (Torn lines whole) =
+    (events : List Event) × (bodies : List (List ℕ)) × IsRetrieved may_say may_rule AreByThem order.plan asks events lines bodies × (shown ≡ shown_of order.trace events)
     × IsTornAt lines bodies old new whole
-EndsLive may_say may_rule order workers asks old new shown (Halted cause.Full) =
-    (events : List Event) × HasHalted may_say may_rule order.plan asks cause.Full events × (shown ≡ shown_of order.trace events) × (new ≡ old)
-EndsLive may_say may_rule order workers asks old new shown (Halted cause.Memory) =
-    AreOnce asks × ((shown ≡ []) ⊎ ((events : List Event) × HasHalted may_say may_rule order.plan asks cause.Memory events × (shown ≡ shown_of order.trace events)))
-    × ((new ≡ old) ⊎ ((events : List Event) × (lines : List Line) × (bodies : List (List ℕ)) × (whole : ℕ) × IsRetrieved may_say may_rule order.plan asks events lines bodies
+EndsLive may_say may_rule AreByThem order workers asks old new shown (Halted cause.Full) =
+    (events : List Event) × HasHalted may_say may_rule AreByThem order.plan asks cause.Full events × (shown ≡ shown_of order.trace events) × (new ≡ old)
+EndsLive may_say may_rule AreByThem order workers asks old new shown (Halted cause.Memory) =
+    AreOnce asks × ((shown ≡ []) ⊎ ((events : List Event) × HasHalted may_say may_rule AreByThem order.plan asks cause.Memory events × (shown ≡ shown_of order.trace events)))
+    × ((new ≡ old) ⊎ ((events : List Event) × (lines : List Line) × (bodies : List (List ℕ)) × (whole : ℕ) × IsRetrieved may_say may_rule AreByThem order.plan asks events lines bodies
     × IsTornAt lines bodies old new whole))
-EndsLive may_say may_rule order workers asks old new shown (Halted cause.Mismatch) = (workers ≢ 1) × (shown ≡ []) × (new ≡ old)
+EndsLive may_say may_rule AreByThem order workers asks old new shown (Halted cause.Mismatch) = (workers ≢ 1) × (shown ≡ []) × (new ≡ old)
 
 -- A live retrieval with these fetchers, one for each worker: it comes to an end, by what the fetchers were asked and may
 -- have answered until then. Either the writer gained that end's text, behind what is shown of the trace, and the status is
@@ -133,11 +79,5 @@ pub record Lives {F S : Type 0} (site : F → S) (says : S → Text → Outcome 
   pub later : AreLater site log fetchers left
   pub shown : List Event
   pub ending : LiveEnd
-  pub ends : EndsLive (SomeSays site says log fetchers left) (SomeRules site rules log fetchers left) order (length fetchers) (all_gained log fetchers left) old new shown ending
+  pub ends : EndsLive (SomeSays site says log fetchers left) (SomeRules site rules log fetchers left) (AreOfCrew log fetchers left) order (length fetchers) (all_gained log fetchers left) old new shown ending
   pub written : IsDelivered before after (trace_text shown ++ live_text ending) (live_status ending) status
-
--- ---- parts
-
--- a report's text is told behind a put that failed: with the line of it, or there is no memory for that
-abbrev pub IsTornTold : (List ℕ → ℕ → Type 0) → List ℕ → ℕ → Type 0
-IsTornTold IsTold text whole = IsTold (text ++ torn_line whole) 3 ⊎ IsTold (codes "stopped memory\n") 1

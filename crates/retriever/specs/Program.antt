@@ -4,9 +4,9 @@ use Rattle.std.specs.declared.io.ErrorKind.{ErrorKind}
 use Rattle.std.specs.declared.io.ErrorKind.TheVariants.{OutOfMemory}
 use Rattle.retriever.specs.Advice.{said_of}
 use Rattle.options.specs.declared.order.Order.{Order}
-use Rattle.retriever.specs.Order.{AreForInput, AreForLive, IsLiveOrder, IsRefused}
+use Rattle.retriever.specs.Order.{IsLiveOrder, IsRefused}
 use Rattle.retriever.specs.Parts.{IsDelivered, IsRefusal}
-use Rattle.retriever.specs.Run.{Runs, fault_words, fault_status}
+use Rattle.retriever.specs.Run.{fault_words, fault_status}
 use Rattle.retriever.specs.Systems.{Means, LivesIn}
 use Rattle.streams.specs.Streams.{AppendsFront}
 use Rattle.retriever.specs.declared.fault.Fault.{Fault}
@@ -39,15 +39,3 @@ IsTold words before after errors_old errors_new told_before told_after status =
 abbrev pub LivesFor : {S F D V : Type 0} → Means S F D V → Option (List ℕ) → Option (List ℕ) → ℕ → List (List ℕ) → Type 0
 LivesFor m before after status words =
     ((order : Order) × IsLiveOrder words order × LivesIn m order before after status) ⊎ IsRefusal before after fault.Memory status
-
--- ---- the program
-
--- What becomes of the words: those that order a site on the network are retrieved live, and others run. No byte of the
--- reader is read but of words for an input, and a person is told of words that order nothing.
-pub record Starts {R E : Type 0} (Lives : List (List ℕ) → Type 0) (remaining before after : Option (List ℕ)) (reader_old reader_new : R) (errors_old errors_new : E)
-    (told_before told_after : Option (List ℕ)) (status : ℕ) (words : List (List ℕ)) : Type 0 where
-  pub runs : ¬ AreForLive words → Runs words remaining before after status
-  pub lives : AreForLive words → Lives words
-  pub unread : ¬ AreForInput words → reader_new ≡ reader_old
-  pub told : ¬ AreForInput words → ¬ AreForLive words → IsTold words before after errors_old errors_new told_before told_after status
-  pub quiet : AreForInput words ⊎ AreForLive words → errors_new ≡ errors_old

@@ -1,7 +1,7 @@
 -- Why a record can't be resumed, and what is written of that.
 use Rattle.std.specs.Prelude.{◌⊎◌, ℕ, List, ◌++◌, codes, Option}
 use Rattle.std.specs.Fmt.{decimal}
-use Rattle.site_maps.specs.declared.input_fault.InputFault.TheVariants as input
+use Rattle.site_inputs.specs.declared.input_fault.InputFault.TheVariants as input
 use Rattle.streams.specs.declared.input.ReadFault.TheVariants as reading
 use Rattle.retriever.specs.Parts.{IsDelivered}
 use Rattle.retriever.specs.declared.resume_fault.ResumeFault.{ResumeFault}

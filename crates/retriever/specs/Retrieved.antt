@@ -12,7 +12,7 @@ use Rattle.frontier_core.specs.Plans.{policy}
 use Rattle.frontier_core.specs.declared.event.Cause.{Cause}
 use Rattle.frontier_core.specs.declared.event.Cause.TheVariants as cause
 use Rattle.frontier_core.specs.declared.event.Event.{Event}
-use Rattle.workers.specs.OneWorker.{AreByOne}
+use Rattle.workers.specs.OneWorker.{AreByCrew}
 use Rattle.report.specs.Report.{Line}
 use Rattle.retriever.specs.Site.{AreLines, AreNamed}
 
@@ -21,15 +21,11 @@ pub record IsPartOf (m whole : Answers) : Type 0 where
   pub outcomes : (u : Text) (x : Outcome) → m.outcome u ≡ Some x → whole.outcome u ≡ Some x
   pub rules : (o : Text) (rules : RuleSetValue) → m.rules o ≡ Some rules → whole.rules o ≡ Some rules
 
--- the events are of so many workers: where it is one, they name no other
-abbrev pub AreBy : ℕ → List Event → Type 0
-AreBy workers events = workers ≡ 1 → AreByOne events
-
 -- the events are those of a frontier that goes by the plan, is told what the site has, and is left in such a state; so many
--- workers drive it, of which several may come in any order
+-- workers drive it, which are counted from 0, and several may come in any order
 abbrev pub AreEventsOf : ℕ → Plan → Answers → (State → Type 0) → List Event → Type 0
 AreEventsOf workers plan whole IsSuch events =
-    AreBy workers events × (s : State) × IsReplay (policy plan) events s × IsPartOf (answers s) whole × IsSuch s
+    AreByCrew workers events × (s : State) × IsReplay (policy plan) events s × IsPartOf (answers s) whole × IsSuch s
 
 -- what is shown are such events, where they are to be shown, else none
 abbrev pub AreShown : Bool → (List Event → Type 0) → List Event → Type 0

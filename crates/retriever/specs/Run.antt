@@ -5,8 +5,8 @@ use Rattle.std.specs.Io.KnownBytes.{Appends}
 use Rattle.address.specs.declared.fault.AddressFault.{AddressFault}
 use Rattle.address.specs.declared.fault.AddressFault.TheVariants as refused
 use Rattle.fetcher.specs.Sites.{SiteAnswers}
-use Rattle.site_maps.specs.declared.input_fault.InputFault.{InputFault}
-use Rattle.site_maps.specs.declared.input_fault.InputFault.TheVariants as input
+use Rattle.site_inputs.specs.declared.input_fault.InputFault.{InputFault}
+use Rattle.site_inputs.specs.declared.input_fault.InputFault.TheVariants as input
 use Rattle.frontier_core.specs.declared.event.Event.{Event}
 use Rattle.options.specs.Order.{order_of, without_kind}
 use Rattle.options.specs.declared.fault.LineFault.{LineFault}
@@ -19,7 +19,7 @@ use Rattle.report.specs.Report.{report_text}
 use Rattle.retriever.specs.Retrieved.{Finish, Reported, Stopped, Finishes}
 use Rattle.retriever.specs.Site.{IsToldBy, IsWrongBy, whole_of}
 use Rattle.streams.specs.Streams.{IsInput, AppendsFront}
-use Rattle.retriever.specs.Trace.{cause_word, trace_text}
+use Rattle.report.specs.Trace.{cause_word, trace_text}
 use Rattle.retriever.specs.declared.fault.Fault.{Fault}
 use Rattle.retriever.specs.declared.fault.Fault.TheVariants as fault
 use Rattle.streams.specs.declared.input.ReadFault.{ReadFault}

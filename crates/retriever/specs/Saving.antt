@@ -7,7 +7,7 @@ use Rattle.fetcher.specs.declared.outcome.Outcome.{Outcome}
 use Rattle.robots_rules.specs.Access.{RuleSetValue}
 use Rattle.frontier_core.specs.Tables.{Text}
 use Rattle.frontier_core.specs.declared.event.Event.{Event}
-use Rattle.site_answer.specs.declared.noted.Noted.{Noted}
+use Rattle.answer_notes.specs.declared.noted.Noted.{Noted}
 use Rattle.site_records.specs.RecordSites.{RecordValue}
 use Rattle.site_records.specs.Resumption.{Resuming, resumption_of, SaysOr, RulesOr}
 use Rattle.site_records.specs.WrittenRecords.{record_text}
@@ -15,9 +15,10 @@ use Rattle.site_records.specs.declared.record_fault.RecordFault.{RecordFault}
 use Rattle.site_records.specs.declared.record_fault.RecordFault.TheVariants.{Device, Memory}
 use Rattle.streams.specs.Streams.{AppendsFront}
 use Rattle.workers.specs.Crews.{AreLater, all_gained, SomeSays, SomeRules}
-use Rattle.retriever.specs.Live.{Holding, LiveEnd, EndsLive, live_text, live_status}
+use Rattle.retriever.specs.Found.{Holding, LiveEnd, live_text, live_status}
+use Rattle.retriever.specs.Live.{AreOfCrew, EndsLive}
 use Rattle.retriever.specs.Parts.{IsDelivered}
-use Rattle.retriever.specs.Trace.{trace_text}
+use Rattle.report.specs.Trace.{trace_text}
 
 -- what is told behind all else of how the record was saved: nothing where it is whole
 abbrev pub save_text : Result (Unit {0}) RecordFault → List ℕ
@@ -49,7 +50,7 @@ pub record LivesSaved {F S : Type 0} (site : F → S) (says : S → Text → Out
   pub later : AreLater site log fetchers left
   pub shown : List Event
   pub ending : LiveEnd
-  pub ends : EndsLive (SomeSays site says log fetchers left) (SomeRules site rules log fetchers left) order (length fetchers) (all_gained log fetchers left) old new shown ending
+  pub ends : EndsLive (SomeSays site says log fetchers left) (SomeRules site rules log fetchers left) (AreOfCrew log fetchers left) order (length fetchers) (all_gained log fetchers left) old new shown ending
   pub saving : Result (Unit {0}) RecordFault
   pub saved : IsSaved saving record_before record_after (record_text (given ++ flat_map noted left))
   pub written : IsDelivered before after ((trace_text shown ++ live_text ending) ++ save_text saving) (save_status saving (live_status ending)) status

@@ -3,7 +3,7 @@ use Rattle.std.specs.Prelude.{◌≡◌, ◌≤◌, ℕ, Bool, false, List, Some
 use Rattle.fetcher.specs.Sites.{SiteAnswers}
 use Rattle.site_maps.specs.Lines.{Statement}
 use Rattle.site_maps.specs.Maps.{lines_of, IsMap, answers_of, rules_of, says_of, IsFault as IsFaultOfMap}
-use Rattle.site_maps.specs.declared.input_fault.InputFault.{InputFault}
+use Rattle.site_inputs.specs.declared.input_fault.InputFault.{InputFault}
 use Rattle.site_records.specs.Entries.{Entry}
 use Rattle.site_records.specs.Records.{RecordedAnswers, IsRecord, answers_of as recorded_answers, rules_of as recorded_rules, says_of as record_says, IsFault as IsFaultOfRecord}
 use Rattle.options.specs.declared.order.Source.{Source}

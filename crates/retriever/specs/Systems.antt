@@ -1,18 +1,20 @@
 -- What a live run makes of an order by what a system gives it.
-use Rattle.std.specs.Prelude.{◌≡◌, ◌⊎◌, ◌&&◌, ℕ, Bool, is_none, is_some, true, false, List, All, Option, Some, None, MatchOption, bytes_eq, codes, length, map}
+use Rattle.std.specs.Prelude.{◌≡◌, ◌⊎◌, ℕ, Bool, is_some, true, false, List, All, Option, Some, None, MatchOption, codes, length, map}
 use Rattle.std.specs.declared.io.Write.{Ghosts as Writers}
 use Rattle.options.specs.declared.order.Order.{Order}
+use Rattle.options.specs.Order.{kept_of}
 use Rattle.fetcher.specs.declared.fetcher.Fetcher.{Ghosts as Fetchers}
 use Rattle.local_tree.specs.declared.folder.Folder.{Ghosts as Folders}
-use Rattle.site_answer.specs.declared.noted.Noted.{Noted}
-use Rattle.site_maps.specs.declared.input_fault.InputFault.TheVariants as input
+use Rattle.answer_notes.specs.declared.noted.Noted.{Noted}
+use Rattle.site_inputs.specs.declared.input_fault.InputFault.TheVariants as input
 use Rattle.streams.specs.declared.input.ReadFault.TheVariants as reading
 use Rattle.site_records.specs.Entries.{Entry}
 use Rattle.site_records.specs.RecordNotes.{HasNotes}
 use Rattle.site_records.specs.RecordSites.{RecordValue}
 use Rattle.site_records.specs.Records.{IsRecord, IsFault, answers_of, rules_of}
 use Rattle.site_records.specs.Resumption.{resumption_of, SaysOr, RulesOr}
-use Rattle.retriever.specs.Live.{Lives, Holding, holding}
+use Rattle.retriever.specs.Found.{Holding, holding}
+use Rattle.retriever.specs.Live.{Lives}
 use Rattle.retriever.specs.Resuming.{IsUnresumed}
 use Rattle.retriever.specs.Saving.{LivesResumed, resuming_of}
 use Rattle.retriever.specs.declared.resume_fault.ResumeFault.{ResumeFault}
@@ -45,24 +47,15 @@ IsNotRead holds robots (Input input.Memory) = Unit {0}
 IsNotRead holds robots Refused = ⊥
 IsNotRead holds robots (Input wrong) = (bytes : List ℕ) × holds bytes × IsFault robots bytes wrong
 
--- an order that resumes this goes on from the file at the path
-abbrev pub goes_on_from : Option (List ℕ) → List ℕ → Bool
-goes_on_from None path = false
-goes_on_from (Some from) path = bytes_eq from path
-
--- an order with these neither resumes nor saves
-abbrev pub is_plain : Option (List ℕ) → Option (List ℕ) → Bool
-is_plain resume save = is_none resume && is_none save
-
 module _ {S F D V : Type 0} (m : Means S F D V) where
   -- what a folder of the system tells
   abbrev pub held : D → Holding
   held folder = holding m.folders.files m.folders.failed folder
 
-  -- fetchers that the system makes for the plan's robots setting, as many as there are to be workers, with notes or without, and a
+  -- fetchers that the system makes for the order's robots setting and its connections, as many as there are to be workers, with notes or without, and a
   -- folder that it opens at the order's prefix
   pub record AreGiven (order : Order) (is_recording : Bool) (fetchers : List F) (folder : D) : Type 0 where
-    pub made : All (m.gives.makes m.system order.plan.robots is_recording) fetchers
+    pub made : All (m.gives.makes m.system order.plan.robots is_recording (kept_of order)) fetchers
     pub count : length fetchers ≡ order.workers
     pub opened : m.gives.opens m.system order.prefix folder
 

@@ -4,7 +4,7 @@ ghost use Rattle.retriever.specs.Run.{start_words, line_words, reading_words, fa
 
 use address::AddressFault;
 use options::LineFault;
-use site_maps::InputFault;
+use site_inputs::InputFault;
 use std::alloc::{AllocError, Global};
 use streams::ReadFault;
 

@@ -6,7 +6,8 @@ ghost use Rattle.frontier_core.specs.Routes.{Answers};
 ghost use Rattle.workers.specs.Sites.{Fits};
 ghost use Rattle.retriever.specs.Order.{AreForInput};
 ghost use Rattle.retriever.specs.Site.{IsMapOf, IsRecordOf, IsToldBy, IsWrongBy, without_bodies};
-ghost use Rattle.retriever.specs.Parts.{TellsOf, TellsFault, IsOutput, IsOutputOf, IsDelivered, IsRefusal};
+ghost use Rattle.retriever.specs.Parts.{IsDelivered, IsRefusal};
+ghost use Rattle.retriever.specs.inner.Parts.{TellsOf, TellsFault, IsOutput, IsOutputOf};
 ghost use Rattle.retriever.specs.Run.{EndsFor, Ending, Failed, Runs, ending_text, ending_status};
 
 use crate::copies::{Copied, copies_of};
@@ -51,6 +52,7 @@ fn retrieve_alone<F: Fetcher>(
     order: &Order,
     mut site: F,
 ) -> Result<Output, AllocError>
+    requires { order.now.workers ≡ 1 }
     ensures { (whole : Answers) → Fits (F.says (F.site site)) (F.rules (F.site site)) whole → IfOk result (λ output. IsOutputOf order.now whole (string_bytes output.text) output.status) }
 {
     let brought = retrieve_in_order(alloc, &order.plan, &mut site);

@@ -9,7 +9,6 @@ pub use crate::program::run_program;
 pub use crate::saved_run::live_resumed;
 pub use crate::system::{HoldFault, System};
 
-mod advice;
 mod copies;
 mod fault;
 mod input_run;
@@ -21,4 +20,3 @@ mod resume_fault;
 mod saved_run;
 mod system;
 mod told;
-mod trace;

@@ -1,8 +1,10 @@
 //! A live order: what it names is taken from the system, a record is read and written where it says so, and its site is retrieved.
 ghost use Rattle.std.specs.Prelude.{◌≡◌, ◌≢◌, ◌⊎◌, ℕ, List, All, IfOk, IfErr, OnErr, codes, is_some, vec_len};
+ghost use Rattle.options.specs.Order.{kept_of};
 ghost use Rattle.site_records.specs.Records.{IsFault};
 ghost use Rattle.retriever.specs.Resuming.{IsUnresumed};
-ghost use Rattle.retriever.specs.Systems.{goes_on_from, IsNotRead, IsNotResumed, IsReadAs, IsResumed, LivesAgain, LivesBy, LivesIn, LivesPlainly, LivesSaving, LivesWith, is_plain, means};
+ghost use Rattle.retriever.specs.Systems.{IsNotRead, IsNotResumed, IsReadAs, IsResumed, LivesAgain, LivesBy, LivesIn, LivesPlainly, LivesSaving, LivesWith, means};
+ghost use Rattle.retriever.specs.inner.Systems.{goes_on_from, is_plain};
 
 use crate::input_run::{MAX_INPUT, deliver};
 use crate::live_run::live;
@@ -10,7 +12,7 @@ use crate::resume_fault::{ResumeFault, resume_status, resume_text};
 use crate::saved_run::{live_resumed, resuming};
 use crate::system::{HoldFault, System};
 use options::Order;
-use site_maps::InputFault;
+use site_inputs::InputFault;
 use site_records::RecordedSite;
 use std::alloc::{AllocError, Global};
 use std::io::Write;
@@ -21,20 +23,19 @@ use streams::ReadFault;
 /// A record without entries.
 const EMPTY: &[u8] = b"wgetr-record 2\n";
 
-// Fetchers for so many workers.
+// Fetchers for the order's workers.
 fn fetchers_of<S: System>(
     alloc: Global,
     system: &S,
-    robots: bool,
+    order: &Order,
     is_recording: bool,
-    count: u32,
 ) -> Result<Vec<S::Fetcher>, AllocError>
-    ensures count { IfOk result (λ fetchers. vec_len fetchers ≡ count) }
-    ensures made { IfOk result (λ fetchers. All (S.makes system.now robots is_recording) fetchers.items) }
+    ensures count { IfOk result (λ fetchers. vec_len fetchers ≡ order.now.workers) }
+    ensures made { IfOk result (λ fetchers. All (S.makes system.now order.now.plan.robots is_recording (kept_of order.now)) fetchers.items) }
 {
     let mut fetchers = Vec::new(alloc);
-    for _ in 0..count {
-        fetchers.push(system.fetcher(robots, is_recording))?;
+    for _ in 0..order.workers {
+        fetchers.push(system.fetcher(order.plan.robots, is_recording, order.kept()))?;
     }
     Ok(fetchers)
 }
@@ -50,7 +51,7 @@ fn live_plainly<H: Threads + Wait + Sync, S: System, W: Write>(
     ensures lives { IfOk result (LivesPlainly (means S.System system.now S.Fetcher.Fetcher S.Fetcher.noted S.Folder.Folder S.Record.Write) order.now (W.contents writer.old) (W.contents writer.new)) }
     ensures unwritten { OnErr result (writer.new ≡ writer.old) }
 {
-    let fetchers = fetchers_of(alloc, system, order.plan.robots, false, order.workers)?;
+    let fetchers = fetchers_of(alloc, system, order, false)?;
     let mut folder = system.folder(order.prefix.as_str())?;
     Ok(live(rt, alloc, order, fetchers, &mut folder, writer))
 }
@@ -68,7 +69,7 @@ fn live_again<H: Threads + Wait + Sync, S: System, W: Write>(
     ensures lives { IfOk result (LivesAgain (means S.System system.now S.Fetcher.Fetcher S.Fetcher.noted S.Folder.Folder S.Record.Write) order.now (W.contents writer.old) (W.contents writer.new)) }
     ensures unwritten { OnErr result (writer.new ≡ writer.old) }
 {
-    let fetchers = fetchers_of(alloc, system, order.plan.robots, false, order.workers)?;
+    let fetchers = fetchers_of(alloc, system, order, false)?;
     let resumed = resuming(alloc, recorded, fetchers)?;
     let mut folder = system.folder(order.prefix.as_str())?;
     Ok(live(rt, alloc, order, resumed, &mut folder, writer))
@@ -88,7 +89,7 @@ fn live_saving<H: Threads + Wait + Sync, S: System, W: Write>(
     ensures lives { IfOk result (LivesSaving (means S.System system.now S.Fetcher.Fetcher S.Fetcher.noted S.Folder.Folder S.Record.Write) order.now path.now (W.contents writer.old) (W.contents writer.new)) }
     ensures unwritten { OnErr result (writer.new ≡ writer.old) }
 {
-    let fetchers = fetchers_of(alloc, system, order.plan.robots, true, order.workers)?;
+    let fetchers = fetchers_of(alloc, system, order, true)?;
     let mut folder = system.folder(order.prefix.as_str())?;
     let mut saved = system.record(path)?;
     Ok(live_resumed(

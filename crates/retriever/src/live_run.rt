@@ -2,9 +2,11 @@
 ghost use Rattle.std.specs.Prelude.{◌≡◌, ◌<◌, ◌≤◌, ◌++◌, IfOk, Ok, length, map, string_bytes, vec_len};
 ghost use Rattle.report.specs.ExitStatus.{exit_status};
 ghost use Rattle.local_tree.specs.Names.{AreDistinct};
-ghost use Rattle.retriever.specs.Live.{IsTornTold, Lives, holding, torn_line};
-ghost use Rattle.retriever.specs.Parts.{IsRead, IsToldAs, status_told};
-ghost use Rattle.retriever.specs.Puts.{IsHaltTold, IsPutAndTold, IsPutOf, bare_cause, files_whole};
+ghost use Rattle.retriever.specs.Found.{Finds, holding, torn_line};
+ghost use Rattle.retriever.specs.Live.{Lives};
+ghost use Rattle.retriever.specs.inner.Live.{IsTornTold};
+ghost use Rattle.retriever.specs.inner.Parts.{IsRead, IsToldAs, status_told};
+ghost use Rattle.retriever.specs.inner.Puts.{IsHaltTold, IsPutAndTold, IsPutOf, bare_cause, files_whole};
 ghost use Rattle.retriever.specs.Retrieved.{Stopped};
 ghost use Rattle.retriever.specs.Run.{finish_text};
 
@@ -198,6 +200,10 @@ pub fn live<H: Threads + Wait + Sync, F: Fetcher + Send, D: Folder, W: Write>(
 ) -> u8
     requires some { 0 < vec_len fetchers }
     requires most { vec_len fetchers ≤ 64 }
+    // What was found and what came of it.
+    ensures finds { Finds F.site F.says F.rules F.log order.now fetchers.items (holding D.files D.failed folder.old) (holding D.files D.failed folder.new)
+        (W.contents writer.old) (W.contents writer.new) result }
+    // And which events led there.
     ensures lives { Lives F.site F.says F.rules F.log order.now fetchers.items (holding D.files D.failed folder.old) (holding D.files D.failed folder.new)
         (W.contents writer.old) (W.contents writer.new) result }
 {

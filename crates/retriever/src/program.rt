@@ -1,21 +1,21 @@
 //! The program on its words, its three streams and the system: what a person is told, and the run, or the live retrieval.
-ghost use Rattle.std.specs.Prelude.{◌≡◌, ◌≢◌, ◌⊎◌, ◌++◌, [], codes, IfOk, IfErr, Ok, None, drop, map, string_bytes};
+ghost use Rattle.std.specs.Prelude.{◌≡◌, ◌≢◌, ◌⊎◌, ◌++◌, [], codes, IfOk, IfErr, Ok, drop, map, string_bytes};
 ghost use Rattle.std.specs.IoError.{error_kind};
 ghost use Rattle.std.specs.Vec.Iter.{into_iter_items};
 ghost use Rattle.options.specs.Order.{order_of, said_by};
-ghost use Rattle.retriever.specs.Advice.{told_on, said_of};
+ghost use Rattle.retriever.specs.Advice.{said_of};
 ghost use Rattle.retriever.specs.Order.{AreForInput, AreForLive};
-ghost use Rattle.retriever.specs.Program.{IsExplained, IsTold, LivesFor, Starts, words_behind, words_fault};
+ghost use Rattle.retriever.specs.Program.{IsExplained, IsTold, LivesFor, words_behind, words_fault};
+ghost use Rattle.retriever.specs.inner.Program.{Starts};
 ghost use Rattle.retriever.specs.Run.{Runs, fault_words};
 ghost use Rattle.retriever.specs.Systems.{means};
 ghost use Rattle.streams.specs.Streams.{AppendsFront};
 
-use crate::advice::{advice_on, advice_text};
 use crate::fault::{Fault, fault_text};
 use crate::input_run::{deliver, refuse, run};
 use crate::live_order::live_order;
 use crate::system::System;
-use options::{Order, Source, read_order};
+use options::{Order, Source, advice_text, no_text_advice, read_order};
 use std::alloc::{AllocError, Global};
 use std::env::Args;
 use std::io;
@@ -71,9 +71,10 @@ struct Refusal {
 fn advice_for(alloc: Global, fault: Fault, words: &[&str]) -> Result<String, AllocError>
     ensures { IfOk result (λ text. string_bytes text ≡ said_of (map (λ word. word.now) words.now) fault) }
 {
-    match advice_on(fault) {
-        Some(advice) => advice_text(alloc, advice, words),
-        None => Ok(String::new(alloc)),
+    match fault {
+        Fault::Line(wrong) => advice_text(alloc, wrong, words),
+        Fault::NotText => no_text_advice(alloc, words),
+        Fault::NoSite | Fault::Read(_) | Fault::Input(_) | Fault::Memory => Ok(String::new(alloc)),
     }
 }
 
@@ -110,7 +111,7 @@ fn explain<W: Write, E: Write>(
 ) -> u8
     ensures explained { IsExplained (map (λ word. word.now) words.now) fault (W.contents writer.old) (W.contents writer.new) errors.old errors.new
         (E.contents errors.old) (E.contents errors.new) result }
-    ensures quiet { told_on fault ≡ None → errors.new ≡ errors.old }
+    ensures quiet { said_of (map (λ word. word.now) words.now) fault ≡ [] → errors.new ≡ errors.old }
 {
     match refusal_of(alloc, fault, words) {
         Ok(refusal) => {

@@ -2,7 +2,7 @@
 ghost use Rattle.std.specs.Prelude.{◌≡◌, ◌++◌, IfOk, codes, string_bytes};
 ghost use Rattle.retriever.specs.Resuming.{resume_status, resume_words};
 
-use site_maps::InputFault;
+use site_inputs::InputFault;
 use std::alloc::{AllocError, Global};
 use streams::ReadFault;
 

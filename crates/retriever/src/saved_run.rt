@@ -1,17 +1,18 @@
 //! A live retrieval that goes on from a record, and whose answers are saved as one.
 ghost use Rattle.std.specs.Prelude.{◌≡◌, ◌≢◌, ◌<◌, ◌≤◌, ◌++◌, ℕ, List, Option, IfOk, flat_map, map, vec_len};
 ghost use Rattle.site_records.specs.WrittenRecords.{all_noted, record_text};
-ghost use Rattle.retriever.specs.Live.{holding};
-ghost use Rattle.retriever.specs.Parts.{IsDelivered, IsToldAs};
+ghost use Rattle.retriever.specs.Found.{holding};
+ghost use Rattle.retriever.specs.Parts.{IsDelivered};
+ghost use Rattle.retriever.specs.inner.Parts.{IsToldAs};
 ghost use Rattle.retriever.specs.Saving.{IsSaved, LivesResumed, LivesSaved, resuming_of, save_status, save_text, unsaved_status};
 
 use crate::input_run::deliver;
 use crate::live_run::finish;
 use crate::told::parted;
+use answer_notes::{Noted, Recording};
 use local_tree::Folder;
 use options::Order;
-use site_answer::Noted;
-use site_records::{RecordFault, RecordedSite, Recording, Resumed, write_record};
+use site_records::{RecordFault, RecordedSite, Resumed, write_record};
 use std::alloc::{AllocError, Global};
 use std::io::Write;
 use std::sync::Wait;
@@ -122,8 +123,10 @@ fn live_saved<H: Threads + Wait + Sync, F: Recording + Send, D: Folder, W: Write
 }
 
 /// Retrieves as [`live`](crate::live) does, but that nothing is asked for that the record states, and saves the record's notes
-/// and behind them what the fetchers noted, whatever end the retrieval came to. This is done before anything is put or told. Where the saved record's writer fails, the line `record not written` stands behind all else, and the status is 3 where it would not be 1;
-/// where memory runs out for it, `stopped memory`, with status 1. Where there is no memory to begin with, nothing is saved.
+/// and behind them what the fetchers noted, whatever end the retrieval came to. This is done before anything is put or told.
+/// Where the saved record's writer fails, the line `record not written` stands behind all else, and the status is 3 where it
+/// would not be 1; where memory runs out for it, `stopped memory`, with status 1. Where there is no memory to begin with,
+/// nothing is saved.
 pub fn live_resumed<H: Threads + Wait + Sync, F: Recording + Send, D: Folder, W: Write, V: Write>(
     rt: &H,
     alloc: Global,

@@ -1,8 +1,8 @@
 //! What a live run has of the system.
-ghost use Rattle.std.specs.Prelude.{◌≡◌, ℕ, Bool, List, IfOk, Err, ⊤};
+ghost use Rattle.std.specs.Prelude.{◌≡◌, ℕ, Bool, List, Option, IfOk, Err, ⊤};
 
+use answer_notes::Recording;
 use local_tree::Folder;
-use site_records::Recording;
 use std::alloc::{AllocError, Global};
 use std::io::Write;
 use streams::ReadFault;
@@ -27,8 +27,9 @@ pub trait System {
     /// What the record of a run is written into.
     type Record: Write + Drop;
 
-    // The fetchers that may be given where robots are honoured, or aren't, and where answers are to be noted, or aren't.
-    ghost makes: { Self → Bool → Bool → Self.Fetcher → Type 0 };
+    // The fetchers that may be given where robots are honoured, or aren't, where answers are to be noted, or aren't, and where so
+    // many connections to a server may be kept, or none.
+    ghost makes: { Self → Bool → Bool → Option ℕ → Self.Fetcher → Type 0 };
 
     // The folders that may be given for a path.
     ghost opens: { Self → List ℕ → Self.Folder → Type 0 };
@@ -43,9 +44,10 @@ pub trait System {
     ghost names: { Self → List ℕ → Self.Record → Type 0 };
 
     /// A fetcher for one more worker. Where robots are honoured, a page that asks that its links aren't followed has none. Where
-    /// answers aren't to be noted, no memory is taken for notes.
-    fn fetcher(&self, robots: bool, is_recording: bool) -> Self::Fetcher
-        ensures { makes self.now robots is_recording result };
+    /// answers aren't to be noted, no memory is taken for notes. Connections are kept where it is said how many to a server may
+    /// stand at a time.
+    fn fetcher(&self, robots: bool, is_recording: bool, kept: Option<u32>) -> Self::Fetcher
+        ensures { makes self.now robots is_recording kept result };
 
     /// The folder at a path. Nothing is made there before the first put. The error is that memory is wanting.
     fn folder(&self, path: &str) -> Result<Self::Folder, AllocError>

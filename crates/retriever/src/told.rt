@@ -4,15 +4,15 @@ ghost use Rattle.local_tree.specs.Names.{AreDistinct, IsNaming};
 ghost use Rattle.local_tree.specs.PlainNames.{plain_name_of};
 ghost use Rattle.report.specs.Entries.{lines_of};
 ghost use Rattle.report.specs.Report.{report_text};
-ghost use Rattle.retriever.specs.Parts.{IsRead, IsToldOf, brought_by, crew_left, is_borne_out, shown_of};
+ghost use Rattle.retriever.specs.Parts.{shown_of};
+ghost use Rattle.retriever.specs.inner.Parts.{IsRead, IsToldOf, brought_by, crew_left, is_borne_out};
 ghost use Rattle.retriever.specs.Retrieved.{Stopped as StoppedFor};
 ghost use Rattle.retriever.specs.Run.{finish_text};
-ghost use Rattle.retriever.specs.Trace.{trace_text};
+ghost use Rattle.report.specs.Trace.{trace_text};
 
-use crate::trace::{cause_word, push_trace};
 use frontier_core::{Cause, Event};
 use local_tree::names;
-use report::{exit_status, report_text};
+use report::{cause_word, exit_status, push_trace, report_text};
 use std::alloc::{AllocError, Global};
 use workers::{Halt, Harvest, Retrieved, Stopped};
 

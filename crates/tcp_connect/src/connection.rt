@@ -2,25 +2,33 @@
 use std::io;
 use std::io::{ErrorKind, Read, Write};
 
-/// A connection of the system's, and whether a read or a write of it failed.
+/// A connection of the system's, whether a read or a write of it failed, and the number of its place among those that are kept,
+/// where it has one.
 #[derive(Drop)]
 pub struct Connection<S: Read + Write + Drop> {
     stream: S,
     failed: bool,
+    place: Option<u64>,
 }
 
 impl<S: Read + Write + Drop> Connection<S> {
     // None of its calls has failed yet.
-    pub(crate) fn new(stream: S) -> Connection<S> {
+    pub(crate) fn new(stream: S, place: Option<u64>) -> Connection<S> {
         Connection {
             stream,
             failed: false,
+            place,
         }
+    }
+
+    // The number of its place.
+    pub(crate) fn place(&self) -> Option<u64> {
+        self.place
     }
 
     // The connection again, where none of its calls failed.
     pub(crate) fn sound(self) -> Option<S> {
-        let Connection { stream, failed } = self;
+        let Connection { stream, failed, .. } = self;
         if failed { None } else { Some(stream) }
     }
 }

@@ -1,5 +1,6 @@
 //! What the system may lack for a connection, and how long it is waited for.
-use site_answer::ConnectFault;
+use http_fetcher::ConnectFault;
+use run_failures::LossKind;
 use std::alloc::{AllocError, Global};
 use std::io::{Error, ErrorKind};
 use std::net::Net;
@@ -59,6 +60,15 @@ impl Lack {
         }
     }
 
+    // What a connection is lost for that isn't made without it.
+    pub(crate) fn loss(self) -> LossKind {
+        match self {
+            Lack::Descriptor => LossKind::Descriptor,
+            Lack::Port | Lack::Address => LossKind::Port,
+            Lack::Resolver => LossKind::Resolver,
+        }
+    }
+
     // Whether connections of the run that end give it back.
     fn is_own(self) -> bool {
         matches!(self, Lack::Descriptor | Lack::Port)
@@ -69,7 +79,7 @@ impl Lack {
 #[derive(Clone, Copy)]
 pub(crate) enum OpenFault {
     // The host has no address, or nobody there took the connection.
-    Failed,
+    Failed(LossKind),
     // Memory is wanting.
     Memory,
     // The system lacks something: the host wasn't asked.
@@ -86,8 +96,17 @@ impl OpenFault {
     // What is told of it. A lack is waited for first.
     pub(crate) fn told(self) -> ConnectFault {
         match self {
-            OpenFault::Failed | OpenFault::Lacking(_) => ConnectFault::Failed,
+            OpenFault::Failed(_) | OpenFault::Lacking(_) => ConnectFault::Failed,
             OpenFault::Memory => ConnectFault::Memory,
+        }
+    }
+
+    // Why a connection is lost by it; want of memory loses none.
+    pub(crate) fn loss(self) -> Option<LossKind> {
+        match self {
+            OpenFault::Failed(kind) => Some(kind),
+            OpenFault::Lacking(lack) => Some(lack.loss()),
+            OpenFault::Memory => None,
         }
     }
 }
@@ -106,6 +125,19 @@ pub(crate) fn lack_of(e: &Error) -> Option<Lack> {
             Some(number) if is_want(number) => Some(Lack::Descriptor),
             _ => None,
         },
+    }
+}
+
+// Why a connection is lost where a call failed so.
+pub(crate) fn loss_of(e: &Error) -> LossKind {
+    match e.kind() {
+        ErrorKind::ConnectionRefused => LossKind::Refused,
+        ErrorKind::TimedOut => LossKind::TimedOut,
+        ErrorKind::HostUnreachable | ErrorKind::NetworkUnreachable | ErrorKind::NetworkDown => {
+            LossKind::Unreachable
+        }
+        ErrorKind::ConnectionReset | ErrorKind::ConnectionAborted => LossKind::Broken,
+        _ => LossKind::Other,
     }
 }
 

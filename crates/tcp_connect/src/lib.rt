@@ -1,13 +1,15 @@
 //! Connections over TCP (RFC 9293). This is the one crate below the program that asks the network for anything: hosts are
-//! looked up once for a run, each connection has a time limit on its reads and its writes, and what the system lacks for one
-//! is waited for. What a peer gives, no contract says.
+//! looked up once for a run, each connection has a time limit on its reads and its writes, what the system lacks for one
+//! is waited for, and those that serve again are kept. What a peer gives, no contract says.
 #![tactic(auto)]
 
 mod connection;
 mod hosts;
+mod kept;
 mod lacks;
 mod tcp_connect;
 
 pub use connection::Connection;
 pub use hosts::Hosts;
+pub use kept::Kept;
 pub use tcp_connect::TcpConnect;

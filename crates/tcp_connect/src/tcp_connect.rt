@@ -1,21 +1,23 @@
 //! Connections over TCP.
 ghost use Rattle.std.specs.Prelude.{◌≡◌, ⊤};
 ghost use Rattle.response_reader.specs.Wire.{CountsFault, counted};
-ghost use Rattle.site_answer.specs.Connects.{CountsRefusal, refused_by};
+ghost use Rattle.http_fetcher.specs.Connects.{CountsRefusal, refused_by};
 
 use crate::connection::Connection;
 use crate::hosts::{Host, Hosts, Known, has};
-use crate::lacks::{Lack, OpenFault, Patience, lack_of};
+use crate::kept::{Entered, Kept, MOST, Waiting, is_fresh, is_quiet};
+use crate::lacks::{Lack, OpenFault, Patience, lack_of, loss_of};
 use address::Origin;
+use http_fetcher::{Connect, ConnectFault};
 use response_reader::TcpWire;
-use site_answer::{Connect, ConnectFault};
-use std::alloc::Global;
+use run_failures::LossKind;
+use std::alloc::{AllocError, Global};
 use std::io;
 use std::io::{ErrorKind, Read, Write};
 use std::marker::Model;
 use std::net::{Net, OpenStream, SocketAddr};
 use std::sync::Wait;
-use std::time::{Clock, Duration};
+use std::time::{Clock, Duration, Instant};
 
 /// The most seconds that a read or a write may wait (GNU Wget manual, `--read-timeout`).
 const STREAM_TIMEOUT: u64 = 900;
@@ -27,7 +29,7 @@ const CLOSE_TIMEOUT: u64 = 100;
 /// that failed isn't made again; its addresses are tried from the one that took a connection last, and a server that didn't
 /// answer within the system's time limit isn't tried again. There is no limit on the time of a lookup, nor of a connection's
 /// making, but the system's. What the system itself lacks, as a descriptor or a port, says nothing of the host: it is waited
-/// for, and tried again.
+/// for, and tried again. Where connections are kept, one that waited is ended for it first.
 #[derive(Drop)]
 pub struct TcpConnect<'a, R: Net + Wait + Clock> {
     rt: &'a R,
@@ -35,40 +37,51 @@ pub struct TcpConnect<'a, R: Net + Wait + Clock> {
     hosts: &'a Hosts,
     // The servers that were late to close the last connection that this worker had to them.
     late: Vec<SocketAddr>,
+    // What is kept for the run, and how many connections may stand to a server.
+    kept: Option<&'a Kept<R::Stream>>,
+    most: usize,
     made: u64,
+    taken: u64,
     failed: u64,
     refused: u64,
+    // Why the last connection was lost; none where it was made, and didn't break.
+    loss: Option<LossKind>,
 }
 
-// Contracts see how many connections were asked for, how many calls answered an error, and how many of these `Failed`.
+// Contracts see how many connections were asked for, how many calls answered an error, how many of these `Failed`, and how many
+// connections that were kept were taken.
 impl<'a, R: Net + Wait + Clock> Model for TcpConnect<'a, R> {
     ghost use Rattle.std.specs.Prelude.{ℕ};
 
-    ghost Value = { ℕ × ℕ × ℕ };
+    ghost Value = { ℕ × ℕ × ℕ × ℕ };
 
-    ghost view = { λ c. (c.made, c.failed, c.refused) };
+    ghost view = { λ c. (c.made, c.failed, c.refused, c.taken) };
 }
 
-// A connection to the first of the addresses that takes one, and that address. A port that lacks is waited for where no address
-// gave an answer, or at the one that took a connection before.
+// A connection to the first of the addresses that takes one, and that address. Else it is lost for what the first of them
+// answered. A port that lacks is waited for where no address gave an answer, or at the one that took a connection before.
 fn stream_to<R: Net + Wait>(
     rt: &R,
     hosts: &Hosts,
     known: &Known,
     port: u16,
 ) -> Result<(R::Stream, SocketAddr), OpenFault> {
-    let mut fault = None;
+    let mut loss = None;
+    let mut fault = OpenFault::Failed(LossKind::Unknown);
     for address in &known.addresses {
         match stream_at(rt, hosts, *address, port) {
             Ok(stream) => return Ok((stream, *address)),
             Err(OpenFault::Lacking(Lack::Port)) if known.took != Some(*address) => {
-                fault = fault.or(Some(OpenFault::Lacking(Lack::Address)));
+                fault = OpenFault::Lacking(Lack::Address);
             }
-            Err(OpenFault::Failed) => fault = Some(OpenFault::Failed),
+            Err(OpenFault::Failed(kind)) => loss = loss.or(Some(kind)),
             Err(lacking) => return Err(lacking),
         }
     }
-    Err(fault.unwrap_or(OpenFault::Failed))
+    match loss {
+        Some(kind) => Err(OpenFault::Failed(kind)),
+        None => Err(fault),
+    }
 }
 
 // A connection to the server at an address, where it isn't known not to answer.
@@ -81,7 +94,7 @@ fn stream_at<R: Net + Wait>(
     let mut server = address;
     server.set_port(port);
     if hosts.is_silent(rt, server) {
-        return Err(OpenFault::Failed);
+        return Err(OpenFault::Failed(LossKind::TimedOut));
     }
     match rt.connect(server) {
         Ok(stream) => Ok(stream),
@@ -91,7 +104,7 @@ fn stream_at<R: Net + Wait>(
             }
             match lack_of(&e) {
                 Some(lack) => Err(OpenFault::Lacking(lack)),
-                None => Err(OpenFault::Failed),
+                None => Err(OpenFault::Failed(loss_of(&e))),
             }
         }
     }
@@ -109,10 +122,11 @@ fn prepare<S: OpenStream>(stream: &S) -> io::Result<()> {
 // The wire of a connection that is set so.
 fn wire_of<S: Read + Write + OpenStream + Drop>(
     stream: S,
+    place: Option<u64>,
 ) -> Result<TcpWire<Connection<S>>, OpenFault> {
     match prepare(&stream) {
-        Ok(()) => Ok(TcpWire::new(Connection::new(stream))),
-        Err(_) => Err(OpenFault::Failed),
+        Ok(()) => Ok(TcpWire::new(Connection::new(stream, place))),
+        Err(e) => Err(OpenFault::Failed(loss_of(&e))),
     }
 }
 
@@ -156,21 +170,116 @@ fn end<R: Net + Wait>(rt: &R, hosts: &Hosts, late: &mut Vec<SocketAddr>, mut str
 impl<'a, R: Net + Wait + Clock> TcpConnect<'a, R> {
     /// Makes connections by this handle, with what the run knows of hosts. Takes no memory.
     pub fn new(rt: &'a R, alloc: Global, hosts: &'a Hosts) -> TcpConnect<'a, R>
-        ensures { result ≡ (0, 0, 0) }
+        ensures { result ≡ (0, 0, 0, 0) }
     {
         TcpConnect {
             rt,
             alloc,
             hosts,
             late: Vec::new(alloc),
+            kept: None,
+            most: 0,
             made: 0,
+            taken: 0,
             failed: 0,
             refused: 0,
+            loss: None,
+        }
+    }
+
+    /// Why the connection that was last asked for or taken was lost: it wasn't made, or it broke by the time when it was ended. None
+    /// where neither is so, or memory was wanting.
+    pub fn loss(&self) -> Option<LossKind> {
+        self.loss
+    }
+
+    /// The same, which keeps connections among those of the run: so many to a server at most stand at any time.
+    pub fn keeping(self, kept: &'a Kept<R::Stream>, most: u32) -> TcpConnect<'a, R>
+        ensures { result ≡ self.entry }
+    {
+        TcpConnect {
+            kept: Some(kept),
+            most: most as usize,
+            ..self
+        }
+    }
+
+    // A place for a new connection to an origin, where connections are kept. One that waited may have to go for it.
+    fn enter(&self, of: &Origin) -> Result<Option<u64>, AllocError> {
+        let Some(kept) = self.kept else {
+            return Ok(None);
+        };
+        let Entered { place, ended } = kept.enter(self.rt, of.as_str(), self.most)?;
+        if ended.is_some() {
+            self.hosts.note_end();
+        }
+        drop(ended);
+        Ok(place)
+    }
+
+    // The connection of this place stands no longer.
+    fn leave(&self, place: Option<u64>) {
+        if let (Some(kept), Some(number)) = (self.kept, place) {
+            kept.leave(self.rt, number);
+        }
+    }
+
+    // A connection to an origin that waits, not too long, and from which nothing can be read. Others are ended.
+    fn next_kept(&self, kept: &Kept<R::Stream>, of: &Origin) -> Option<Connection<R::Stream>> {
+        for _ in 0..MOST {
+            let (number, Waiting { since, stream }) = kept.take(self.rt, of.as_str())?;
+            if is_fresh(self.rt, &since) && is_quiet(&stream) {
+                return Some(Connection::new(stream, Some(number)));
+            }
+            drop(stream);
+            kept.leave(self.rt, number);
+            self.hosts.note_end();
+        }
+        None
+    }
+
+    // Ends those that wait too long.
+    fn end_stale(&self, kept: &Kept<R::Stream>) {
+        for _ in 0..MOST {
+            match kept.take_stale(self.rt) {
+                Some(stale) => drop(stale),
+                None => return,
+            }
+            self.hosts.note_end();
+        }
+    }
+
+    // Ends the one that waits longest, and says whether there was one.
+    fn end_oldest(&self) -> bool {
+        let Some(kept) = self.kept else {
+            return false;
+        };
+        match kept.take_oldest(self.rt) {
+            Some(stream) => {
+                drop(stream);
+                self.hosts.note_end();
+                true
+            }
+            None => false,
+        }
+    }
+
+    // Keeps a connection from now on, and says whether it is kept; else it is ended.
+    fn keep(&self, kept: &Kept<R::Stream>, number: u64, stream: R::Stream) -> bool {
+        match Instant::now(self.rt) {
+            Ok(since) => kept
+                .put(self.rt, number, Waiting { since, stream })
+                .is_none(),
+            Err(_) => false,
         }
     }
 
     // A connection to an origin, as it can be had now.
-    fn open(&self, of: &Origin) -> Result<TcpWire<Connection<R::Stream>>, OpenFault> {
+    fn open(
+        &self,
+        of: &Origin,
+        place: Option<u64>,
+    ) -> Result<TcpWire<Connection<R::Stream>>, OpenFault> {
         let root = of.address()?;
         let host = self.hosts.host(self.rt, root.host())?;
         let known = host.known(self.rt, self.alloc, root.host())?;
@@ -178,24 +287,53 @@ impl<'a, R: Net + Wait + Clock> TcpConnect<'a, R> {
         if known.took != Some(took) {
             host.took(self.rt, took);
         }
-        wire_of(stream)
+        wire_of(stream, place)
     }
 
     // A connection to an origin. What the system lacks is waited for.
-    fn wait_for(&self, of: &Origin) -> Result<TcpWire<Connection<R::Stream>>, ConnectFault> {
+    fn wait_for(
+        &self,
+        of: &Origin,
+        place: Option<u64>,
+    ) -> Result<TcpWire<Connection<R::Stream>>, OpenFault> {
         let mut patience = Patience::new();
         for _ in self.rt.forever() {
-            match self.open(of) {
+            match self.open(of, place) {
                 Ok(wire) => return Ok(wire),
+                Err(OpenFault::Lacking(_)) if self.end_oldest() => {}
                 Err(OpenFault::Lacking(lack)) => {
                     if !patience.pause(self.rt, lack, self.hosts.ended()) {
-                        return Err(ConnectFault::Failed);
+                        return Err(OpenFault::Lacking(lack));
                     }
                 }
-                Err(fault) => return Err(fault.told()),
+                Err(fault) => return Err(fault),
             }
         }
         unreachable!()
+    }
+
+    // A connection to an origin, in a place of its own where connections are kept.
+    fn make(&self, of: &Origin) -> Result<TcpWire<Connection<R::Stream>>, OpenFault> {
+        let place = self.enter(of)?;
+        let made = self.wait_for(of, place);
+        if made.is_err() {
+            self.leave(place);
+        }
+        made
+    }
+
+    // Ends a connection. One that failed tells nothing of how the server ends it: it is ended at once.
+    fn end_wire(&mut self, wire: TcpWire<Connection<R::Stream>>)
+        ensures { self.new ≡ self.old }
+    {
+        let connection = wire.into_stream();
+        let place = connection.place();
+        match connection.sound() {
+            Some(stream) => end(self.rt, self.hosts, &mut self.late, stream),
+            None => self.loss = Some(LossKind::Broken),
+        }
+        self.leave(place);
+        self.hosts.note_end();
     }
 
     // Counts a fault.
@@ -203,6 +341,7 @@ impl<'a, R: Net + Wait + Clock> TcpConnect<'a, R> {
         ensures made { self.new.0 ≡ self.old.0 }
         ensures counted { self.new.1 ≡ counted self.old.1 1 }
         ensures refused { self.new.2 ≡ refused_by self.old.2 fault }
+        ensures taken { self.new.3 ≡ self.old.3 }
     {
         self.failed = self.failed.saturating_add(1);
         match fault {
@@ -218,29 +357,62 @@ impl<'a, R: Net + Wait + Clock> Connect for TcpConnect<'a, R> {
     // Of a connection of the system nothing is known.
     ghost gives = { λ _ _ _. ⊤ };
 
+    ghost stands = { λ _ _ _. ⊤ };
+
+    ghost again = { λ _ _. ⊤ };
+
     ghost made = { λ c. c.0 };
 
     ghost failed = { λ c. c.1 };
 
     ghost refused = { λ c. c.2 };
 
+    ghost taken = { λ c. c.3 };
+
     fn connect(&mut self, of: &Origin) -> Result<TcpWire<Connection<R::Stream>>, ConnectFault> {
         self.made = self.made.saturating_add(1);
-        match self.wait_for(of) {
+        self.loss = None;
+        match self.make(of) {
             Ok(wire) => Ok(wire),
-            Err(fault) => {
+            Err(unmade) => {
+                self.loss = unmade.loss();
+                let fault = unmade.told();
                 self.note(fault);
                 Err(fault)
             }
         }
     }
 
-    // A connection that failed tells nothing of how the server ends one: it is ended at once.
-    fn close(&mut self, wire: TcpWire<Connection<R::Stream>>) {
-        if let Some(stream) = wire.into_stream().sound() {
-            end(self.rt, self.hosts, &mut self.late, stream);
+    fn take(&mut self, of: &Origin) -> Option<TcpWire<Connection<R::Stream>>> {
+        let kept = self.kept?;
+        let connection = self.next_kept(kept, of)?;
+        self.taken = self.taken.saturating_add(1);
+        self.loss = None;
+        Some(TcpWire::new(connection))
+    }
+
+    // One that failed, or that has no place, isn't kept.
+    fn give_back(&mut self, _of: &Origin, wire: TcpWire<Connection<R::Stream>>) {
+        let connection = wire.into_stream();
+        let (Some(kept), Some(number)) = (self.kept, connection.place()) else {
+            return self.end_wire(TcpWire::new(connection));
+        };
+        self.end_stale(kept);
+        let is_kept = match connection.sound() {
+            Some(stream) => self.keep(kept, number, stream),
+            None => {
+                self.loss = Some(LossKind::Broken);
+                false
+            }
+        };
+        if !is_kept {
+            self.leave(Some(number));
+            self.hosts.note_end();
         }
-        self.hosts.note_end();
+    }
+
+    fn close(&mut self, wire: TcpWire<Connection<R::Stream>>) {
+        self.end_wire(wire);
     }
 
     fn failures(&self) -> u64 {

@@ -2,25 +2,29 @@
 //! its arguments and its streams is stated at `retriever::run_program`; `main` only names them, and what the system gives.
 #![tactic(auto)]
 
-use host_system::Network;
+use host_system::{Network, SharedFailures};
 use progress::{BehindLine, Progress};
 use record_journal::Saving;
 use retriever::run_program;
 use std::io::IsTerminal;
 use std::process::ExitCode;
 use std::{env, process};
-use tcp_connect::Hosts;
+use tcp_connect::{Hosts, Kept};
 
 fn main(rt: HostRuntime) -> ExitCode {
     let hosts = Hosts::new(rt.alloc());
+    let kept = Kept::new(rt.alloc());
     let progress = Progress::new(&rt, rt.stderr().is_terminal());
     let saving = Saving::new();
+    let failures = SharedFailures::new(rt.alloc());
     let network = Network::new(
         &rt,
         rt.alloc(),
         &hosts,
+        &kept,
         &progress,
         &saving,
+        &failures,
         process::id(rt.process()),
     );
     let status = run_program(
@@ -33,5 +37,6 @@ fn main(rt: HostRuntime) -> ExitCode {
         &mut rt.stderr(),
     );
     saving.end(&rt, &rt);
+    failures.tell(&rt, &mut rt.stderr());
     ExitCode::from(status)
 }

@@ -2,7 +2,7 @@ use Rattle.std.proofs.Common.{rules, ◌≡◌, map, IsTrue, inl, inr, subst, �
 use Rattle.std.proofs.lemmas.Bool.{cases_lt}
 use Rattle.std.proofs.lemmas.List.{length-map}
 use Rattle.local_tree.specs.Names.{numbered}
-use Rattle.local_tree.specs.Taken.{text_of, IsTaken}
+use Rattle.local_tree.specs.inner.Taken.{text_of, IsTaken}
 use Rattle.local_tree.proofs.TakenLaws.{taken_below}
 use Rattle.local_tree.proofs.free_name.first_free_from.Goals as goal
 

@@ -1,6 +1,6 @@
 use Rattle.std.proofs.Common.{ℕ, ◌<◌, map}
 use Rattle.local_tree.specs.Names.{numbered}
-use Rattle.local_tree.specs.Taken.{text_of, IsTaken}
+use Rattle.local_tree.specs.inner.Taken.{text_of, IsTaken}
 use Rattle.local_tree.proofs.free_name.first_free_from.Given as goal
 
 abbrev pub invariant-loop-number : goal.invariant-loop-number

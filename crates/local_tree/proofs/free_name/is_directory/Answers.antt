@@ -1,6 +1,6 @@
 use Rattle.std.proofs.Common.{rules}
 use Rattle.std.proofs.lemmas.Fn.{always_returns_same}
-use Rattle.local_tree.specs.Taken.{below_order}
+use Rattle.local_tree.specs.inner.Taken.{below_order}
 use Rattle.local_tree.proofs.OrderLaws.{directory_below}
 use Rattle.local_tree.proofs.free_name.is_directory.Goals as goal
 

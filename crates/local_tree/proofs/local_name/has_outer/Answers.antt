@@ -2,7 +2,7 @@ use Rattle.std.proofs.Common.{rules, tests}
 use Rattle.std.proofs.lemmas.Iterator.Search.{any_from_yields_List}
 use Rattle.std.proofs.lemmas.Iterator.Splits.{YieldsList-from_slice_split}
 use Rattle.local_tree.specs.PlainNames.{is_slash}
-use Rattle.local_tree.specs.LocalNames.{is_outer}
+use Rattle.local_tree.specs.inner.LocalNames.{is_outer}
 use Rattle.local_tree.proofs.local_name.has_outer.Goals as goal
 
 pub returns : goal.returns

@@ -1,7 +1,7 @@
 use Rattle.std.proofs.Common.{ap, ◌∙◌}
 use Rattle.std.specs.List.{slice_split, list_any}
 use Rattle.local_tree.specs.PlainNames.{is_slash}
-use Rattle.local_tree.specs.LocalNames.{is_outer}
+use Rattle.local_tree.specs.inner.LocalNames.{is_outer}
 use Rattle.local_tree.proofs.LocalLaws.{local_name}
 use Rattle.local_tree.proofs.local_name.is_local_name.Goals as goal
 

@@ -3,7 +3,7 @@ use Rattle.std.proofs.lemmas.List.{get_or-map, length-map, length_push}
 use Rattle.std.specs.BTreeMap.{get_by_text}
 use Rattle.std.specs.String.{string_bytes}
 use Rattle.local_tree.specs.Names.{IsDirectory, numbered}
-use Rattle.local_tree.specs.Taken.{text_of, remembered, HasSameNames, AreLeast, IsPast}
+use Rattle.local_tree.specs.inner.Taken.{text_of, remembered, HasSameNames, AreLeast, IsPast}
 use Rattle.local_tree.proofs.NamingLaws.{Assigned, IsBehind, Assigned-start, Assigned-step, IsNaming_from, same_directories, map_push}
 use Rattle.local_tree.proofs.LeastLaws.{behind_from_past}
 use Rattle.local_tree.proofs.naming.assign.Goals as goal

@@ -2,7 +2,7 @@ use Rattle.std.proofs.Common.{◌≡◌, map, Contains, sym, ap, ◌∙◌, subs
 use Rattle.std.proofs.lemmas.List.{take_all}
 use Rattle.std.proofs.lemmas.List.Sorted.{Contains-permutation, IsPermutation-map, IsPermutation-sym}
 use Rattle.std.specs.String.{string_bytes}
-use Rattle.local_tree.specs.Taken.{text_of}
+use Rattle.local_tree.specs.inner.Taken.{text_of}
 use Rattle.local_tree.proofs.naming.in_order.Goals as goal
 
 pub returns-clause-same : goal.returns-clause-same

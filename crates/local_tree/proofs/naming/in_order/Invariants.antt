@@ -1,6 +1,6 @@
 use Rattle.std.proofs.Common.{◌≡◌, map, take}
 use Rattle.std.specs.String.{string_bytes}
-use Rattle.local_tree.specs.Taken.{text_of}
+use Rattle.local_tree.specs.inner.Taken.{text_of}
 use Rattle.local_tree.proofs.naming.in_order.Given as goal
 
 abbrev pub invariant-loop-name : goal.invariant-loop-name

@@ -4,7 +4,7 @@ use Rattle.std.specs.Cmp.Lexicographic.{slice_cmp}
 use Rattle.std.specs.Ordering.{nat_cmp, is_lt}
 use Rattle.std.specs.String.{string_bytes}
 use denote.Ref.{Bor}
-use Rattle.local_tree.specs.Taken.{text_of}
+use Rattle.local_tree.specs.inner.Taken.{text_of}
 use Rattle.local_tree.proofs.LeastLaws.{LowSoFar, least_more}
 use Rattle.local_tree.proofs.NamingLaws.{map_push}
 use Rattle.local_tree.proofs.naming.least_names.Goals as goal

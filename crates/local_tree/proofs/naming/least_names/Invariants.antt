@@ -2,7 +2,7 @@ use Rattle.std.proofs.Common.{◌≡◌, ℕ, ◌<◌, ◌≤◌, ◌+◌, false
 use Rattle.std.specs.Cmp.Lexicographic.{slice_cmp}
 use Rattle.std.specs.Ordering.{nat_cmp, is_lt}
 use Rattle.std.specs.String.{string_bytes}
-use Rattle.local_tree.specs.Taken.{text_of}
+use Rattle.local_tree.specs.inner.Taken.{text_of}
 use Rattle.local_tree.proofs.naming.least_names.Given as goal
 
 abbrev pub invariant-loop-i : goal.invariant-loop-i

@@ -1,7 +1,8 @@
 -- The fetchers are the system's, each behind the record.
 use Rattle.std.proofs.Common.{◌∙◌, ℕ, List, sym, subst}
 use Rattle.site_records.specs.Resumption.{Resuming, resumption_of, SaysOr, RulesOr}
-use Rattle.retriever.specs.Live.{Lives, holding}
+use Rattle.retriever.specs.Found.{holding}
+use Rattle.retriever.specs.Live.{Lives}
 use Rattle.retriever.proofs.live_order.live_again.Goals as goal
 
 pub returns-clause-lives : goal.returns-clause-lives

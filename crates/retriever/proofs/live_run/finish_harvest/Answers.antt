@@ -1,9 +1,9 @@
 -- What is put has the names, and what is told the text, of the harvest.
 use Rattle.std.proofs.Common.{◌∙◌, ℕ, List, String, Global, inr, map, string_bytes, subst}
 use Rattle.report.specs.ExitStatus.{exit_status}
-use Rattle.retriever.specs.Live.{holding}
-use Rattle.retriever.specs.Parts.{IsToldAs}
-use Rattle.retriever.specs.Puts.{IsPutAndTold}
+use Rattle.retriever.specs.Found.{holding}
+use Rattle.retriever.specs.inner.Parts.{IsToldAs}
+use Rattle.retriever.specs.inner.Puts.{IsPutAndTold}
 use Rattle.retriever.proofs.live_run.finish_harvest.Goals as goal
 
 pub returns-in-Ok-clause-told : goal.returns-in-Ok-clause-told

@@ -4,7 +4,7 @@ use Rattle.local_tree.specs.Folders.{Files}
 use Rattle.local_tree.specs.SiteFiles.{IsTorn, IsTornBy}
 use Rattle.local_tree.specs.declared.site_files.WriteFault.{WriteFault}
 use Rattle.local_tree.specs.declared.site_files.WriteFault.TheVariants.{Device}
-use Rattle.retriever.specs.Puts.{files_whole}
+use Rattle.retriever.specs.inner.Puts.{files_whole}
 use Rattle.retriever.proofs.live_run.put_and_tell.Goals as goal
 
 torn_is : (names bodies : List (List ℕ)) (old new : Option Files) (failed_old failed_new : ℕ) (fault : WriteFault) (whole : ℕ) → whole ≡ files_whole fault

@@ -1,7 +1,7 @@
 -- The second text stands behind the first, or a front of the first was written.
 use Rattle.std.proofs.Common.{◌≡◌, ℕ, List, subst}
 use Rattle.std.specs.Io.KnownBytes.{Appends}
-use Rattle.retriever.specs.Parts.{IsToldAs}
+use Rattle.retriever.specs.inner.Parts.{IsToldAs}
 use Rattle.streams.specs.Streams.{AppendsFront}
 use Rattle.retriever.proofs.DeliveryLaws.{told_behind, front_of_first}
 use Rattle.retriever.proofs.live_run.tell_both.Goals as goal

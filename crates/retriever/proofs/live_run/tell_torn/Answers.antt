@@ -1,6 +1,6 @@
 -- The line stands behind the text.
 use Rattle.std.proofs.Common.{◌≡◌, ◌∙◌, ◌++◌, ℕ, List, inl, subst}
-use Rattle.retriever.specs.Parts.{IsToldAs}
+use Rattle.retriever.specs.inner.Parts.{IsToldAs}
 use Rattle.retriever.proofs.live_run.tell_torn.Goals as goal
 
 pub returns-in-Ok : goal.returns-in-Ok

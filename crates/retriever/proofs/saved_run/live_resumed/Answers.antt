@@ -1,8 +1,8 @@
 -- The fetchers that resume are those that the record makes of the given ones.
 use Rattle.std.proofs.Common.{List, inl, inr, refl, subst}
-use Rattle.site_answer.specs.declared.noted.Noted.{Noted}
+use Rattle.answer_notes.specs.declared.noted.Noted.{Noted}
 use Rattle.site_records.specs.Resumption.{Resuming, resumption_of, SaysOr, RulesOr}
-use Rattle.retriever.specs.Live.{holding}
+use Rattle.retriever.specs.Found.{holding}
 use Rattle.retriever.specs.Saving.{LivesSaved, noted_within}
 use Rattle.retriever.proofs.saved_run.live_resumed.Goals as goal
 

@@ -2,10 +2,10 @@
 use Rattle.std.proofs.Common.{◌≡◌, ◌∙◌, ◌++◌, List, ap, subst}
 use Rattle.std.specs.List.{flat_map}
 use Rattle.site_records.specs.WrittenRecords.{record_text}
-use Rattle.retriever.specs.Live.{holding}
-use Rattle.retriever.specs.Parts.{IsToldAs, crew_left}
+use Rattle.retriever.specs.Found.{holding}
+use Rattle.retriever.specs.inner.Parts.{IsToldAs, crew_left}
 use Rattle.retriever.specs.Saving.{IsSaved}
-use Rattle.retriever.proofs.LiveLaws.{crew_ends, crew_later}
+use Rattle.retriever.proofs.LiveLaws.{crew_ends, crew_later, of_crew}
 use Rattle.retriever.proofs.saved_run.live_saved.Goals as goal
 
 pub returns : goal.returns
@@ -15,10 +15,11 @@ returns g c =
     let noted = g.F.Recording.noted in
     let crew = c.retrieve.ensures in
     let olds = c.args.fetchers.items in
+    let by = of_crew F.site F.says F.rules F.log olds c.retrieve.result c.args.fetchers.len c.args.fetchers.ok.0 crew.numbered crew.own in
     let (shown, ending, ends, written) = crew_ends F.site F.says F.rules F.log c.args.order.now olds c.retrieve.result _
     (holding D.files D.failed c.args.folder.now) (holding D.files D.failed c.finish-told.new.folder)
     (IsToldAs (g.W.Write.contents c.args.writer.now) (g.W.Write.contents c.finish-told.new.writer) c.finish-told.result) c.parted-brought.ensures.brought
-    crew.ok crew.err crew.full (λ is. crew.one (c.args.fetchers.ok.0 ∙ is)) c.finish-told.ensures.read c.finish-told.ensures.told in
+    crew.ok crew.err crew.full (λ is. crew.one (c.args.fetchers.ok.0 ∙ is)) by c.finish-told.ensures.read c.finish-told.ensures.told in
     record {
       left = crew_left c.retrieve.result;
       later = crew_later F.site F.says F.rules F.log olds c.retrieve.result crew.fetchers;

@@ -1,0 +1,68 @@
+//! What failed in a run, which its workers share.
+use address::Address;
+use run_failures::{Failures, FileFault, LossKind};
+use std::alloc::{AllocError, Global};
+use std::io::{Error, Write};
+use std::sync::{Mutex, Wait};
+use streams::write_text;
+
+/// Why something failed in a run, for a person. All its workers share it.
+#[derive(Drop)]
+pub struct SharedFailures {
+    alloc: Global,
+    kept: Mutex<Failures>,
+}
+
+// What stands under the lock is lent to functions of its own: there no way out of them lets go of the lock.
+
+// Where there is no memory for it, nobody is told.
+fn fail(kept: &mut Failures, file: FileFault) {
+    let _ = kept.fail(file);
+}
+
+// Where there is no memory for it, it isn't counted.
+fn lose(kept: &mut Failures, kind: LossKind, at: Address) {
+    let _ = kept.lose(kind, at);
+}
+
+// The lines for a person.
+fn text_of(kept: &mut Failures) -> Result<String, AllocError> {
+    kept.text()
+}
+
+impl SharedFailures {
+    /// Nothing failed yet. Takes no memory.
+    pub fn new(alloc: Global) -> SharedFailures {
+        SharedFailures {
+            alloc,
+            kept: Mutex::new(Failures::new(alloc)),
+        }
+    }
+
+    // The file of this name couldn't be written.
+    pub(crate) fn fail<R: Wait>(&self, rt: &R, name: &str, error: &Error) {
+        let file = FileFault::new(self.alloc, name, error);
+        fail(&mut self.kept.lock(rt), file);
+    }
+
+    // A connection was lost, which was to ask for this address.
+    pub(crate) fn lose<R: Wait>(&self, rt: &R, kind: LossKind, at: Result<Address, AllocError>) {
+        if let Ok(at) = at {
+            lose(&mut self.kept.lock(rt), kind, at);
+        }
+    }
+
+    /// The lines that tell a person what failed, as [`Failures::text`] has them.
+    pub fn text<R: Wait>(&self, rt: &R) -> Result<String, AllocError> {
+        text_of(&mut self.kept.lock(rt))
+    }
+
+    /// Writes these lines. Where the writer fails, or there is no memory for them, a front of them may be written.
+    pub fn tell<R: Wait, W: Write>(&self, rt: &R, errors: &mut W) {
+        if let Ok(text) = self.text(rt) {
+            if !text.is_empty() {
+                let _ = write_text(errors, text.as_bytes());
+            }
+        }
+    }
+}

@@ -1,0 +1,6 @@
+-- Definitions that proofs alone need: no public clause cites them.
+pub mod Parts
+pub mod Program
+pub mod Live
+pub mod Puts
+pub mod Systems

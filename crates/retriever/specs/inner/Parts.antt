@@ -1,0 +1,99 @@
+-- What proofs alone need beside `Parts`.
+use Rattle.std.specs.Prelude.{◌≡◌, ◌≤◌, ◌<◌, ◌++◌, ◌&&◌, ℕ, Bool, true, false, List, length, map, Option, Result, Ok, Err, IfSome}
+use Rattle.std.specs.Io.KnownBytes.{Appends}
+use Rattle.options.specs.declared.order.Order.{Order}
+use Rattle.fetcher.specs.Sites.{SiteAnswers}
+use Rattle.site_inputs.specs.declared.input_fault.InputFault.{InputFault}
+use Rattle.frontier_core.specs.Invariants.{IsSound}
+use Rattle.frontier_core.specs.Plans.{policy}
+use Rattle.frontier_core.specs.Routes.{Answers}
+use Rattle.frontier_core.specs.declared.event.Cause.{Cause}
+use Rattle.frontier_core.specs.declared.event.Cause.TheVariants as cause
+use Rattle.frontier_core.specs.declared.event.Event.{Event}
+use Rattle.harvest.specs.Gathered.{AreEntries, AreRecords, ArePages}
+use Rattle.harvest.specs.Harvests.{Harvested}
+use Rattle.workers.specs.declared.crew_retrieval.Retrieved.{Retrieved}
+use Rattle.workers.specs.declared.crew_retrieval.Stopped.{Stopped as StoppedCrew}
+use Rattle.workers.specs.declared.retrieval.Halt.{Halt}
+use Rattle.local_tree.specs.Names.{IsNaming}
+use Rattle.local_tree.specs.PlainNames.{plain_name_of}
+use Rattle.report.specs.Entries.{lines_of as harvest_lines}
+use Rattle.report.specs.ExitStatus.{exit_status}
+use Rattle.report.specs.Report.{report_text}
+use Rattle.retriever.specs.declared.input_run.TheConstants.{MAX_INPUT}
+use Rattle.retriever.specs.Retrieved.{Finish, Stopped, Finishes}
+use Rattle.retriever.specs.Run.{finish_text, finish_status}
+use Rattle.retriever.specs.Site.{whole_of}
+use Rattle.streams.specs.Streams.{IsInput, AppendsFront}
+use Rattle.report.specs.Trace.{trace_text}
+use Rattle.retriever.specs.declared.fault.Fault.{Fault}
+use Rattle.retriever.specs.declared.fault.Fault.TheVariants as fault
+use Rattle.streams.specs.declared.input.ReadFault.TheVariants as reading
+use Rattle.retriever.specs.Parts.{shown_of}
+
+-- what the reader has left tells this site
+abbrev pub TellsOf : (List ℕ → SiteAnswers → Type 0) → Option (List ℕ) → SiteAnswers → Type 0
+TellsOf IsOf known site = (input : List ℕ) × IsInput known input × (length input ≤ MAX_INPUT) × IsOf input site
+
+-- what the reader has left comes to this fault
+abbrev pub TellsFault : (List ℕ → InputFault → Type 0) → Option (List ℕ) → Fault → Type 0
+TellsFault IsWrong known (fault.Line wrong) = ⊥
+TellsFault IsWrong known fault.NotText = ⊥
+TellsFault IsWrong known fault.NoSite = ⊥
+TellsFault IsWrong known (fault.Read reading.Long) = (input : List ℕ) × IsInput known input × (MAX_INPUT < length input)
+TellsFault IsWrong known (fault.Read reading.Failed) = Unit {0}
+TellsFault IsWrong known (fault.Read reading.Memory) = Unit {0}
+TellsFault IsWrong known (fault.Input wrong) = (input : List ℕ) × IsInput known input × (length input ≤ MAX_INPUT) × IsWrong input wrong
+TellsFault IsWrong known fault.Memory = Unit {0}
+
+-- the retrieval of a site comes to this text and this status
+pub record IsOutputOf (order : Order) (whole : Answers) (text : List ℕ) (status : ℕ) : Type 0 where
+  pub shown : List Event
+  pub finish : Finish
+  pub finishes : Finishes order whole shown finish
+  pub text_is : text ≡ trace_text shown ++ finish_text finish
+  pub status_is : status ≡ finish_status finish
+
+-- what the reader has left tells a site, and its retrieval comes to this text and this status
+abbrev pub IsOutput : (List ℕ → SiteAnswers → Type 0) → Order → Option (List ℕ) → List ℕ → ℕ → Type 0
+IsOutput IsOf order known text status = (site : SiteAnswers) × TellsOf IsOf known site × IsOutputOf order (whole_of site) text status
+
+-- the writer gained the text, behind which the run has this status unless more is told, or the writer failed
+abbrev pub IsToldAs : {E : Type 0} → Option (List ℕ) → Option (List ℕ) → Result ℕ E → List ℕ → ℕ → Type 0
+IsToldAs old new (Ok status) text wanted = (status ≡ wanted) × Appends old new text
+IsToldAs old new (Err failed) text wanted = AppendsFront old new text
+
+-- the status of a run that has nothing more to tell
+abbrev pub status_told : {E : Type 0} → Result ℕ E → ℕ
+status_told (Ok status) = status
+status_told (Err failed) = 1
+
+-- whether the checks of a retrieval that stopped for this cause bear out what it found
+abbrev pub is_borne_out : Cause → Bool
+is_borne_out cause.Full = true
+is_borne_out cause.Memory = true
+is_borne_out cause.Mismatch = false
+
+-- what a crew brings, without its fetchers
+abbrev pub brought_by : {F : Type 0} → Result (Retrieved F) (StoppedCrew F) → Result Harvested Halt
+brought_by (Ok r) = Ok r.harvest
+brought_by (Err s) = Err (record { cause = s.cause; harvest = s.harvest })
+
+-- the fetchers of a crew
+abbrev pub crew_left : {F : Type 0} → Result (Retrieved F) (StoppedCrew F) → List F
+crew_left (Ok r) = r.fetchers.items
+crew_left (Err s) = s.fetchers.items
+
+-- what is told of a retrieval: its report, in which the kept pages have their names, and the status of its records, or the
+-- cause for which it stopped; before either what is shown of its trace, which is nothing where a check failed
+abbrev pub IsToldOf : Bool → Result Harvested Halt → List ℕ → ℕ → Type 0
+IsToldOf is_shown (Ok h) text status =
+    (names : List (List ℕ)) × IsNaming (map plain_name_of h.kept) names × (text ≡ trace_text (shown_of is_shown h.trace) ++ report_text (harvest_lines h names))
+    × (status ≡ exit_status (map (λ recorded. recorded.1) h.records))
+IsToldOf is_shown (Err halt) text status =
+    (text ≡ trace_text (shown_of (is_borne_out halt.cause && is_shown) halt.harvest.trace) ++ finish_text (Stopped halt.cause)) × (status ≡ 1)
+
+-- what is said of a harvest beside its contents: the entries, the records and the kept pages say what its state holds,
+-- which is sound
+abbrev pub IsRead : Harvested → Type 0
+IsRead h = AreEntries h × AreRecords h × ArePages h × IfSome h.plan (λ plan. IsSound (policy plan) h.state)

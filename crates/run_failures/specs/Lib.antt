@@ -1,0 +1,2 @@
+pub mod Losses
+pub mod Files
