@@ -3,8 +3,8 @@ ghost use Rattle.std.specs.Prelude.{◌≤◌, IfOk};
 
 use crate::network::{LATE, Network};
 use address::{Address, Origin};
+use http_fetcher::{Connect, ConnectFault};
 use response_reader::{TcpWire, Wire, WireFault};
-use site_answer::{Connect, ConnectFault};
 use std::alloc::Global;
 use std::io::{ErrorKind, Read, Write};
 use std::net::SocketAddr;

@@ -1,13 +1,12 @@
 //! That as many workers are at work as are ordered, which no report shows.
 use crate::texts::{arguments_of, behind, status_of, text_of};
 use address::{Address, Origin};
+use answer_notes::{Noted, Recording};
 use fetcher::{Answer, Ask, Body, FaultKind, Fetcher, Outcome};
 use local_tree::MemoryFolder;
 use retriever::{System, run, run_program};
 use robots_rules::RuleSet;
-use site_answer::Noted;
 use site_maps::MapSite;
-use site_records::Recording;
 use std::alloc::{AllocError, Global};
 use std::process::Abort;
 use std::sync::Wait;
@@ -101,7 +100,7 @@ impl<'a> System for Meetings<'a> {
 
     type Record = Vec<u8>;
 
-    ghost makes = { λ meetings robots is_recording fetcher. ⊤ };
+    ghost makes = { λ meetings robots is_recording kept fetcher. ⊤ };
 
     ghost opens = { λ meetings path folder. ⊤ };
 
@@ -109,7 +108,7 @@ impl<'a> System for Meetings<'a> {
 
     ghost names = { λ meetings path saved. ⊤ };
 
-    fn fetcher(&self, _robots: bool, _is_recording: bool) -> Meeting<'a> {
+    fn fetcher(&self, _robots: bool, _is_recording: bool, _kept: Option<u32>) -> Meeting<'a> {
         Meeting {
             alloc: self.alloc,
             start: self.start,

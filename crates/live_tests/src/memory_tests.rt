@@ -1,30 +1,30 @@
 //! Live retrievals over connections in memory, each of which can be made to fail.
 //!
 //! A live run is a text as in `texts.rt`. Each of its lines behind `<` is an address and the bytes that answer it, and behind
-//! `!` stand the number of a connection and the place where that fails: `connect`, `write` or `read`. The first connection is
-//! the start's, the second its robots file's. A run is made once for each line that names a place, and else once.
+//! `!` stand the number of a connection and the place where that fails: `connect`, `write`, `read`, or `end`, the read behind the
+//! last byte. The first connection is the start's, the second its robots file's. A run is made once for each line that names a
+//! place, and else once.
 ghost use Rattle.std.specs.Prelude.{◌≡◌, vec_len};
 
 use crate::texts::{append, behind, status_of, text_of, words_of};
 use address::Address;
+use http_fetcher::{Connect, HttpFetcher};
 use local_tree::{Folder, MemoryFolder};
+use memory_connect::{FailingPlace, MemoryConnect, PlannedFailure, StoredAnswer};
 use options::read_order;
 use response_reader::{PlannedFault, WireFault};
 use retriever::live;
-use site_answer::{
-    Connect, FailingPlace, HttpFetcher, MemoryConnect, PlannedFailure, StoredAnswer,
-};
 use std::alloc::Global;
 use std::io::Write;
 use std::process::Abort;
 use std::sync::Wait;
 use std::thread::Threads;
 
-/// A start with two pages.
+/// A start with two pages. What has no length is read to the end of its connection.
 pub(crate) const SITE: &str =
-    "< http://h/ HTTP/1.1 200 OK|Content-Type: text/html|Content-Length: 20||<a href=a><a href=b>
+    "< http://h/ HTTP/1.1 200 OK|Content-Type: text/html||<a href=a><a href=b>
 < http://h/a HTTP/1.1 200 OK|Content-Length: 1||A
-< http://h/b HTTP/1.1 200 OK|Content-Length: 1||B";
+< http://h/b HTTP/1.1 200 OK||B";
 
 /// What is written of it, and its files.
 pub(crate) const WHOLE: &str =
@@ -197,6 +197,7 @@ const FAILING: &str = "$ -r http://h/
 $ -r http://h/
 ! 0 write
 ! 0 read
+! 0 end
 > 0 device http://h/ -
 > fetched 1 kept 0 refused 0 failed 1
 = 4
@@ -239,6 +240,7 @@ $ -r http://h/
 $ -r http://h/
 ! 3 write
 ! 3 read
+! 3 end
 > 0 200 http://h/ h/index.html
 > 1 200 http://h/a h/a
 > 1 device http://h/b -
@@ -259,6 +261,7 @@ pub(crate) fn failure(rt: &impl Abort, words: &str) -> PlannedFailure {
         "connect" => FailingPlace::Connect,
         "write" => failing_call(0),
         "read" => failing_call(1),
+        "end" => failing_call(2),
         _ => panic!(rt; "no place"),
     };
     PlannedFailure { connection, place }

@@ -2,9 +2,10 @@
 use crate::connect_tests::origin;
 use crate::network::Network;
 use address::Origin;
+use http_fetcher::{Connect, ConnectFault};
+use memory_connect::MemoryConnect;
 use progress::{BehindLine, Progress, Watched};
 use response_reader::Wire;
-use site_answer::{Connect, ConnectFault, MemoryConnect};
 use std::alloc::Global;
 use std::fmt::{Display, Write as WriteText};
 use std::io::Write;
@@ -180,16 +181,25 @@ fn what_is_written_behind_the_line_covers_it_once(rt: HostRuntime) {
     assert!(rt; *terminal.text.lock(&rt) == shown(&rt, alloc, "first, second, flushed"));
 }
 
+// Tells of an answer from a record at each of these times.
+fn tell_recorded<R: Abort + Wait, C: Connect>(
+    terminal: &Terminal<'_, R>,
+    inner: C,
+    progress: &Progress<'_, Terminal<'_, R>>,
+) {
+    let mut connect = Watched::new(inner, progress);
+    for at in [1100u64, 1200, 1300] {
+        terminal.now.store(at, Ordering::SeqCst);
+        connect.tell_recorded();
+    }
+}
+
 #[test]
 fn line_counts_the_answers_from_a_record(rt: HostRuntime) {
     let alloc = rt.alloc();
     let terminal = Terminal::new(&rt, alloc);
     let progress = Progress::new(&terminal, true);
-    let mut connect = Watched::new(MemoryConnect::new(alloc, &[], &[]), &progress);
-    for at in [1100u64, 1200, 1300] {
-        terminal.now.store(at, Ordering::SeqCst);
-        connect.tell_recorded();
-    }
+    tell_recorded(&terminal, MemoryConnect::new(alloc, &[], &[]), &progress);
     let line = "3 recorded, 0 answered, 0 waiting, 0 failed, 0 kB, 0 kB/s";
     let shown = format!(in alloc; "\r{:79}\r{line}", "").expect(&rt, "memory");
     assert!(rt; *terminal.text.lock(&rt) == shown);
@@ -236,9 +246,9 @@ impl Eprint for Meeting {
 const MEETINGS: u64 = 1000;
 
 /// Makes so many connections of a worker.
-fn work(rt: &impl Abort, alloc: Global, progress: &Progress<'_, Meeting>) {
+fn work<C: Connect>(rt: &impl Abort, alloc: Global, inner: C, progress: &Progress<'_, Meeting>) {
     let of = origin(rt, alloc, "http://h/");
-    let mut connect = Watched::new(MemoryConnect::new(alloc, &[], &[]), progress);
+    let mut connect = Watched::new(inner, progress);
     for _ in 0..MEETINGS {
         let Ok(wire) = connect.connect(&of) else {
             panic!(rt; "memory");
@@ -256,8 +266,22 @@ fn two_workers_do_not_write_one_line_twice(rt: HostRuntime) {
     let progress = Progress::new(&terminal, true);
     thread::join(
         &rt,
-        || work(&rt, rt.alloc(), &progress),
-        || work(&rt, rt.alloc(), &progress),
+        || {
+            work(
+                &rt,
+                rt.alloc(),
+                MemoryConnect::new(rt.alloc(), &[], &[]),
+                &progress,
+            )
+        },
+        || {
+            work(
+                &rt,
+                rt.alloc(),
+                MemoryConnect::new(rt.alloc(), &[], &[]),
+                &progress,
+            )
+        },
     );
     assert_eq!(rt; terminal.lines.load(Ordering::SeqCst), MEETINGS);
 }
@@ -279,6 +303,12 @@ impl<'a, C: Connect> Connect for Noting<'a, C> {
     ghost refused = { λ t. C.refused t.inner };
 
     ghost gives = { λ t of wire. C.gives t.inner of wire };
+
+    ghost taken = { λ t. C.taken t.inner };
+
+    ghost stands = { λ t of wire. C.stands t.inner of wire };
+
+    ghost again = { λ left wire. C.again left wire };
 
     fn connect(&mut self, of: &Origin) -> Result<C::Wire, ConnectFault> {
         self.inner.connect(of)

@@ -1,12 +1,16 @@
 //! Runs of the retriever on worked sites, told by maps and by records, and on wrong words and inputs; the program over three
 //! streams. The form of the texts is told in `texts.rt`.
 use crate::texts::{arguments_of, behind, status_of, text_of, words_of};
-use address::Address;
+use address::{Address, Origin};
+use answer_notes::{Noted, Recording};
+use fetcher::{Answer, Ask, Fetcher};
 use follow_filters::Plan;
+use http_fetcher::HttpFetcher;
 use local_tree::{Folder, MemoryFolder, WriteFault, names, write_site};
+use memory_connect::{MemoryConnect, StoredAnswer};
 use options::read_order;
 use retriever::{HoldFault, System, run, run_program};
-use site_answer::{HttpFetcher, MemoryConnect, StoredAnswer};
+use robots_rules::RuleSet;
 use site_records::RecordedSite;
 use std::alloc::{AllocError, Global};
 use std::env::Args;
@@ -723,7 +727,7 @@ fn any_number_of_workers_writes_the_same(rt: HostRuntime) {
 const CALLS: &str = "$ wgetr -l x https://h/
 > line depth
 ! wgetr: the value of -l, --level is no level, in: -l x https://h/
-! a level is inf or decimal digits, at most 1000000
+! a level is inf or decimal digits, at most 1000000 (see wgetr --help)
 = 2
 
 $ wgetr -r --workers 2 http://h/
@@ -734,37 +738,37 @@ $ wgetr -r --workers 2 http://h/
 
 $ wgetr -q
 > line words
-! wgetr: unexpected argument found, in: -q
+! wgetr: unexpected argument found: -q (an option of Wget that wgetr doesn't have), in: -q
 ! wgetr --help says which words are accepted
 = 2
 
 $ wgetr -A [a http://h/
 > line pattern
 ! wgetr: an element of -A, --accept or -R, --reject is no pattern, in: -A [a http://h/
-! an element is a suffix, or a pattern with *, ? and classes as [a-z], each closed
+! an element is a suffix, or a pattern with *, ? and classes as [a-z], each closed (see wgetr --help)
 = 2
 
 $ wgetr -X a http://h/
 > line directory
 ! wgetr: an element of -I, --include-directories or -X, --exclude-directories is no directory, in: -X a http://h/
-! an element begins with / and has none of *, ?, [ and ]
+! an element begins with / and has none of *, ?, [ and ] (see wgetr --help)
 = 2
 
 $ wgetr -D a*b http://h/
 > line domain
 ! wgetr: an element of -D, --domains or --exclude-domains is no domain, in: -D a*b http://h/
-! an element is letters, digits, -, _ and dots, as example.org
+! an element is letters, digits, -, _ and dots, as example.org (see wgetr --help)
 = 2
 
 $ wgetr example.org
 > line start not-url
-! wgetr: START is no URL (http:// may be missing), in: example.org
+! wgetr: START is no URL (did you mean http://example.org/?), in: example.org
 ? START is an address in full, as http://example.org/path?query, without user name
 = 2
 
 $ wgetr https://h/
 > line start not-http
-! wgetr: START isn't an http address, and wgetr speaks neither https nor any other scheme, in: https://h/
+! wgetr: START isn't an http address, and http alone is spoken: there is no TLS here, which https needs, in: https://h/
 ? START is an address in full
 = 2
 
@@ -777,7 +781,7 @@ $ wgetr http://a@h/
 $ wgetr http://h/robots.txt
 > line start-robots
 ! wgetr: START is a robots file, in: http://h/robots.txt
-! START is any other page
+! START is any other page (see wgetr --help)
 = 2
 
 $ wgetr --resume none http://h/
@@ -842,6 +846,47 @@ $ wgetr -r -l 1 -e robots=off --workers 1 --per-host 1 --map http://h/
 > fetched 2 kept 1 refused 0 failed 1
 = 8";
 
+/// Asks the site that is in memory. A type of its own, since one that names its parts isn't read as that of a system.
+#[derive(Drop)]
+struct Asked<'a> {
+    inner: HttpFetcher<MemoryConnect<'a>>,
+}
+
+impl<'a> Fetcher for Asked<'a> {
+    ghost use Rattle.std.specs.Prelude.{Bool};
+    ghost use Rattle.http_fetcher.specs.Meanings.{MayAnswer, MayRule};
+
+    ghost Site = { Bool };
+
+    ghost site = { λ f. f.inner.robots };
+
+    ghost says = { MayAnswer };
+
+    ghost rules = { MayRule };
+
+    ghost log = { λ f. f.inner.asks };
+
+    fn ask(&mut self, at: &Address) -> Result<Answer, AllocError> {
+        self.inner.ask(at)
+    }
+
+    fn ask_robots(&mut self, of: &Origin) -> Result<RuleSet, AllocError> {
+        self.inner.ask_robots(of)
+    }
+
+    fn asks(&self) -> &[Ask] {
+        self.inner.asks()
+    }
+}
+
+impl<'a> Recording for Asked<'a> {
+    ghost noted = { λ f. f.inner.notes };
+
+    fn notes(&self) -> &[Noted] {
+        self.inner.notes()
+    }
+}
+
 /// A site on the network that is in memory: its start alone is stored. Its folder is let go with its files, and no record can be
 /// saved.
 #[derive(Drop)]
@@ -853,13 +898,13 @@ struct Stored<'a> {
 impl<'a> System for Stored<'a> {
     ghost use Rattle.std.specs.Prelude.{◌≡◌, ⊤};
 
-    type Fetcher = HttpFetcher<MemoryConnect<'a>>;
+    type Fetcher = Asked<'a>;
 
     type Folder = MemoryFolder;
 
     type Record = Shut;
 
-    ghost makes = { λ stored robots is_recording fetcher. fetcher.robots ≡ robots };
+    ghost makes = { λ stored robots is_recording kept fetcher. fetcher.inner.robots ≡ robots };
 
     ghost opens = { λ stored path folder. ⊤ };
 
@@ -867,9 +912,11 @@ impl<'a> System for Stored<'a> {
 
     ghost names = { λ stored path saved. ⊤ };
 
-    fn fetcher(&self, robots: bool, _is_recording: bool) -> HttpFetcher<MemoryConnect<'a>> {
+    fn fetcher(&self, robots: bool, _is_recording: bool, _kept: Option<u32>) -> Asked<'a> {
         let connect = MemoryConnect::new(self.alloc, self.answers, &[]);
-        HttpFetcher::new(self.alloc, connect, robots)
+        Asked {
+            inner: HttpFetcher::new(self.alloc, connect, robots),
+        }
     }
 
     fn folder(&self, _path: &str) -> Result<MemoryFolder, AllocError> {

@@ -1,10 +1,11 @@
 //! A site of ten thousand addresses, by one worker and by four: more links, attributes, bytes and lines at once than in any other
 //! test.
 use crate::memory_tests::stored;
+use http_fetcher::HttpFetcher;
 use local_tree::MemoryFolder;
+use memory_connect::{MemoryConnect, StoredAnswer};
 use options::read_order;
 use retriever::{live, run};
-use site_answer::{HttpFetcher, MemoryConnect, StoredAnswer};
 use std::alloc::Global;
 use std::process::Abort;
 use std::sync::Wait;

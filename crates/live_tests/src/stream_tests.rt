@@ -1,8 +1,8 @@
 //! Runs over readers and writers that are interrupted, or fail at one of their calls and would work afterwards.
 use crate::memory_tests::{SITE, WHOLE, has_front, live_alone, stored};
 use local_tree::MemoryFolder;
+use memory_connect::StoredAnswer;
 use retriever::run;
-use site_answer::StoredAnswer;
 use std::alloc::Global;
 use std::io;
 use std::io::{Error, ErrorKind, Read, Write};
@@ -204,7 +204,21 @@ fn tells<R: Abort + Threads + Wait + Sync>(
     has_told(&writer, call, text, ended, 3) && has_front(&folder, 2)
 }
 
-// The report takes eleven writes and a flush, and the line behind it two and one.
+/// Whether a run over such a writer does.
+fn tells_of_a_map<R: Abort + Threads + Wait + Sync>(
+    rt: &R,
+    alloc: Global,
+    call: u32,
+    trouble: Trouble,
+) -> bool {
+    let text = "0 404 http://h/ -\nfetched 1 kept 0 refused 0 failed 1\n";
+    let mut writer = writer_with(alloc, 10, trouble);
+    let words = ["--map", "http://h/"];
+    let ended = run(rt, alloc, &words, &mut b"".as_slice(), &mut writer);
+    has_told(&writer, call, text, ended, 8)
+}
+
+// The live report takes eleven writes and a flush, and the line behind it two and one; the other six and one.
 #[test]
 fn a_writer_that_failed_holds_a_front_and_is_not_written_again(rt: HostRuntime) {
     let answers = stored(&rt, rt.alloc(), SITE);
@@ -212,7 +226,8 @@ fn a_writer_that_failed_holds_a_front_and_is_not_written_again(rt: HostRuntime) 
     for call in 0..16u32 {
         for trouble in [Trouble::Fails(call), Trouble::TakesNothing(call)] {
             assert!(rt;
-                tells(&rt, rt.alloc(), &answers, text.as_str(), call, trouble),
+                tells(&rt, rt.alloc(), &answers, text.as_str(), call, trouble)
+                    && tells_of_a_map(&rt, rt.alloc(), call, trouble),
                 "{trouble:?}"
             );
         }

@@ -2,10 +2,10 @@
 ghost use Rattle.std.specs.Prelude.{◌≡◌, vec_len};
 
 use crate::server::{Answered, serve};
+use http_fetcher::HttpFetcher;
 use local_tree::MemoryFolder;
 use options::{Order, read_order};
 use retriever::live;
-use site_answer::HttpFetcher;
 use std::alloc::Global;
 use std::net::{Net, TcpListener, TcpStream};
 use std::process::Abort;

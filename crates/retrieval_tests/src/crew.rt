@@ -153,7 +153,15 @@ pub(crate) fn crew<R: Abort + Threads + Wait + Sync>(
     retrieved(rt, alloc, &plan, fetchers(rt, alloc, row, workers, seed))
 }
 
-/// Whether a retrieval ended as its row says, with its report, or as many entries as it says.
+/// Whether as many workers took pages by the trace as a row says, where it says so.
+fn has_workers(row: &str, seen: &Seen) -> bool {
+    match behind(row, "workers ").parse::<usize>() {
+        Ok(workers) => seen.workers == Some(workers),
+        Err(_) => true,
+    }
+}
+
+/// Whether a retrieval ended as its row says, with its report, or as many entries as it says, and by as many workers as it says.
 fn is_as_told(rt: &impl Abort, alloc: Global, row: &str, seen: &Seen) -> bool {
     let end = match behind(row, "= ") {
         "" => "whole",
@@ -161,6 +169,7 @@ fn is_as_told(rt: &impl Abort, alloc: Global, row: &str, seen: &Seen) -> bool {
     };
     let report = text_of(rt, alloc, row, "> ");
     seen.end == end
+        && has_workers(row, seen)
         && match behind(row, "entries ").parse::<usize>() {
             Ok(entries) => seen.entries == entries,
             Err(_) => seen.report.as_str() == report.as_str(),

@@ -285,7 +285,7 @@ fn meeting(rt: &impl Abort, alloc: Global, count: u8) -> String {
     write!(row, "hops 1\nmost 100\nrobots on\nhost {per_host}\n").expect(rt, "memory");
     write!(
         row,
-        "meet {count}\nrules {hosts}\nentries {entries}\n< page 200 http://h/\n"
+        "meet {count}\nrules {hosts}\nworkers {count}\nentries {entries}\n< page 200 http://h/\n"
     )
     .expect(rt, "memory");
     for link in 0..count {

@@ -247,6 +247,31 @@ fn a_directory_that_went_is_made_again(rt: HostRuntime) {
     assert!(rt; holds(&rt, "./gone/a/y", b"gone/a/y"));
 }
 
+// Why each of these can't be put below a folder with `h/a/b` and `h/c`: the kind of the error.
+const REASONS: &str = "h/a AlreadyExists
+h/c/d NotADirectory
+../x InvalidInput";
+
+#[test]
+fn a_folder_says_why_a_put_failed(rt: HostRuntime) {
+    let mut whole = folder(&rt, rt.alloc(), "reasons");
+    assert!(rt; puts_all(&mut whole, "h/a/b h/c"));
+    assert!(rt; whole.error().is_none());
+    for line in REASONS.lines() {
+        let (name, wanted) = line.split_once(' ').expect(&rt, "a row");
+        assert!(rt; puts_none(&mut whole, name), "{line}");
+        let error = whole.error().expect(&rt, "an error");
+        assert!(rt; error.raw_os_error().is_none(), "{line}");
+        let kind = format!(in rt.alloc(); "{:?}", error.kind()).expect(&rt, "memory");
+        assert!(rt; kind.as_str() == wanted, "{line}");
+    }
+    // What the system says has its number (errno(3), Linux: not a directory).
+    let mut below = folder(&rt, rt.alloc(), "reasons/h/c/d");
+    assert!(rt; puts_none(&mut below, "h/x"));
+    let error = below.error().expect(&rt, "an error");
+    assert!(rt; error.raw_os_error() == Some(20));
+}
+
 // A name of 50 directories, each of 100 letters.
 fn long_name(rt: &impl Abort, alloc: Global) -> String {
     let mut name = String::from_str(alloc, "h").expect(rt, "memory");

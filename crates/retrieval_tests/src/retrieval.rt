@@ -1,7 +1,7 @@
 //! A retrieval by several workers, or in order by one, and what the tests look at of what it brings. For tests.
 use fetcher::{Ask, Fetcher, Outcome};
 use follow_filters::Plan;
-use frontier_core::Cause;
+use frontier_core::{Cause, Event};
 use std::alloc::Global;
 use std::process::Abort;
 use std::sync::Wait;
@@ -25,6 +25,8 @@ pub(crate) struct Seen {
     pub(crate) faults: usize,
     /// Of how many origins the robots rules are known.
     pub(crate) rules: usize,
+    /// How many workers took pages by the trace, where none has a number above 63.
+    pub(crate) workers: Option<usize>,
 }
 
 /// The word of an entry: that it is refused, its fault, that it isn't there, or `-`.
@@ -73,6 +75,17 @@ fn faults(harvest: &Harvest) -> usize {
     faults
 }
 
+/// How many workers took pages by the trace, where none has a number above 63.
+fn workers_in(trace: &[Event]) -> Option<usize> {
+    let mut took = [false; 64];
+    for event in trace {
+        if let Event::Page(worker, _) = event {
+            *took.get_mut(*worker as usize)? = true;
+        }
+    }
+    Some(took.iter().filter(|mark| **mark).count())
+}
+
 /// What is seen of a harvest.
 fn see(rt: &impl Abort, alloc: Global, end: &'static str, harvest: &Harvest) -> Seen {
     Seen {
@@ -83,6 +96,7 @@ fn see(rt: &impl Abort, alloc: Global, end: &'static str, harvest: &Harvest) -> 
         pages: harvest.records().len(),
         faults: faults(harvest),
         rules: harvest.rules().len(),
+        workers: workers_in(harvest.trace()),
     }
 }
 

@@ -3,9 +3,9 @@
 //! Rows stand in a text with an empty line between two. The first line of a row may say what it shows; the others begin with a
 //! word: `hops`, how many hops are followed; `most`, how many addresses may be held; `robots`, whether robots rules are honoured;
 //! `host`, how many pages of a host are asked for at a time; `<`, a line of the site's map; `=`, how the retrieval ends, where
-//! it doesn't find all; `>`, a line of the report, or `entries`, how many lines it has. What the site's fetchers do besides: by
-//! `memory short` they find memory for the start alone; by `meet` they answer a page without links, and by `rules` for the rules
-//! of another host than `h`, only once so many of them were asked for.
+//! it doesn't find all; `>`, a line of the report, or `entries`, how many lines it has; `workers`, how many take pages. What the
+//! site's fetchers do besides: by `memory short` they find memory for the start alone; by `meet` they answer a page without links,
+//! and by `rules` for the rules of another host than `h`, only once so many of them were asked for.
 use address::Address;
 use follow_filters::{Limit, Plan};
 use std::alloc::Global;

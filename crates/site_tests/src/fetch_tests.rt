@@ -101,6 +101,12 @@ impl<C: Connect> Connect for Ended<C> {
 
     ghost gives = { λ e of wire. C.gives e.inner of wire };
 
+    ghost taken = { λ e. C.taken e.inner };
+
+    ghost stands = { λ e of wire. C.stands e.inner of wire };
+
+    ghost again = { λ left wire. C.again left wire };
+
     fn connect(&mut self, of: &Origin) -> Result<C::Wire, ConnectFault> {
         self.inner.connect(of)
     }

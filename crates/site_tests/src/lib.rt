@@ -15,6 +15,8 @@ mod fetch_tests;
 #[cfg(test)]
 mod filter_tests;
 #[cfg(test)]
+mod kept_tests;
+#[cfg(test)]
 mod link_tests;
 #[cfg(test)]
 mod map_tests;

@@ -2,7 +2,8 @@
 use crate::common::{address, bytes_of, demand, rules, says};
 use address::{Address, Origin};
 use fetcher::{Fetcher, SteadyFetcher};
-use site_maps::{InputFault, MapSite};
+use site_inputs::InputFault;
+use site_maps::MapSite;
 use std::alloc::Global;
 use std::process::Abort;
 

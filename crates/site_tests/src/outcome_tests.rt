@@ -1,6 +1,8 @@
 //! Outcomes and their parts, each call once.
 use crate::common::address;
-use fetcher::{Ask, Body, Edge, EdgeKind, Edges, FaultKind, Outcome};
+use fetcher::{
+    Ask, Body, Edge, EdgeKind, Edges, FaultClass, FaultKind, Outcome, is_redirect, is_successful,
+};
 use std::alloc::Global;
 use std::process::Abort;
 
@@ -64,4 +66,7 @@ fn parts_come_back_as_they_were(rt: HostRuntime) {
     let ask = Ask::Page(address(&rt, alloc, "http://h/"));
     assert!(rt; asks_for(&rt, &ask, "http://h/"));
     assert!(rt; FaultKind::HeadLong.word() == "head-long");
+    assert!(rt; FaultKind::Ended.class() == FaultClass::Network);
+    assert!(rt; is_redirect(308) && !is_redirect(304));
+    assert!(rt; is_successful(299) && !is_successful(300));
 }

@@ -2,7 +2,7 @@
 use crate::common::{address, bytes_of, demand, rules, says};
 use crate::map_tests::told;
 use fetcher::{Ask, Fetcher};
-use site_maps::InputFault;
+use site_inputs::InputFault;
 use site_records::RecordedSite;
 use std::alloc::Global;
 use std::process::Abort;

@@ -2,9 +2,11 @@
 //! record that is asked before a fetcher.
 use crate::common::{address, bytes_of, demand, origin, rules, says};
 use crate::fetch_tests::site_of;
+use answer_notes::{Hops, Noted, Told};
 use fetcher::Fetcher;
+use http_fetcher::{Connect, HttpFetcher};
+use memory_connect::MemoryConnect;
 use response_reader::{MemoryWire, Response, push_head, read_response};
-use site_answer::{Connect, Hops, HttpFetcher, MemoryConnect, Noted, Told};
 use site_records::{RecordedSite, Resumed};
 use std::alloc::Global;
 use std::process::Abort;

@@ -75,7 +75,7 @@ fn gathered(rt: &impl Abort, alloc: Global, bytes: &[u8], pieces: &[usize]) -> S
     let mut wire = wire_of(rt, alloc, bytes, pieces, Vec::new(alloc));
     let mut gather = Gather::new(alloc);
     match read_into(alloc, &mut wire, &mut gather) {
-        Ok(()) => told(rt, alloc, Ok(gather.into_parts().1)),
+        Ok(_) => told(rt, alloc, Ok(gather.into_parts().1)),
         Err(fault) => told(rt, alloc, Err(fault)),
     }
 }

@@ -3,7 +3,7 @@ use crate::common::{demand, repeated};
 use address::AddressFault;
 use clap::error::ErrorKind;
 use follow_filters::{Limit, Plan};
-use options::{LineFault, Order, Source, help_text, read_order};
+use options::{LineFault, Order, Source, advice_text, help_text, no_text_advice, read_order};
 use std::alloc::Global;
 use std::process::Abort;
 
@@ -133,6 +133,7 @@ fn is_usual(plan: &Plan) -> bool {
 // Whether what is behind the plan is so, too.
 fn has_defaults(order: &Order) -> bool {
     order.workers == 4
+        && order.kept() == Some(2)
         && order.source == Source::Live
         && !order.trace
         && order.prefix.as_str() == "."
@@ -175,13 +176,14 @@ fn is_ordered(plan: &Plan) -> bool {
 // Whether what is behind the plan is so, too.
 fn has_values(order: &Order) -> bool {
     order.workers == 8
+        && order.kept().is_none()
         && order.source == Source::Map
         && order.trace
         && order.prefix.as_str() == "out"
 }
 
 const OPTIONS: &str =
-    "-r -l 007 -np -H -D.foo.edu -A ,gif, -X /x/ -e robots=off -P out --workers=8 --map --record --trace http://h/";
+    "-r -l 007 -np -H -D.foo.edu -A ,gif, -X /x/ -e robots=off -P out --workers=8 --no-http-keep-alive --map --record --trace http://h/";
 
 #[test]
 fn options_are_read_into_the_order(rt: HostRuntime) {
@@ -247,6 +249,7 @@ How it is asked for:
   -e,  --execute=COMMAND           robots=off: no robots files (robots=on)
        --workers=N                 N workers, 1 to 64 (4)
        --per-host=N                N requests at a time to a server, 1 to 16 (2)
+       --no-http-keep-alive        a connection of its own for each request
        --max-urls=N                at most N addresses, 1 to 1000000 (100000)
 
 Where the site is:
@@ -270,4 +273,65 @@ START is an http address. A LIST has commas between its elements.
 fn the_help_has_a_line_for_each_option(rt: HostRuntime) {
     let text = help_text(rt.alloc()).expect(&rt, "memory");
     assert!(rt; text.as_str() == HELP);
+}
+
+// Rows: words, behind `=>` what is said to be wrong with them and what was likely meant, and behind `|` the second line.
+const ADVICE: &str = "\
+--levl 1 http://h/ => unexpected argument found: --levl (did you mean --level?)|wgetr --help says which words are accepted
+-r --recusrive http://h/ => unexpected argument found: --recusrive (did you mean --recursive?)|wgetr --help says which words are accepted
+--recurs http://h/ => unexpected argument found: --recurs (did you mean --recursive?)|wgetr --help says which words are accepted
+--worker=8 http://h/ => unexpected argument found: --worker (did you mean --workers?)|wgetr --help says which words are accepted
+--nothing-near http://h/ => unexpected argument found: --nothing-near|wgetr --help says which words are accepted
+--mirror http://h/ => unexpected argument found: --mirror (an option of Wget that wgetr doesn't have)|wgetr --help says which words are accepted
+-r --user-agent=a http://h/ => unexpected argument found: --user-agent (an option of Wget that wgetr doesn't have)|wgetr --help says which words are accepted
+-mkp http://h/ => unexpected argument found: -mkp (an option of Wget that wgetr doesn't have)|wgetr --help says which words are accepted
+-nc http://h/ => one of the values isn't valid for an argument: -nc (an option of Wget that wgetr doesn't have)|wgetr --help says which words are accepted
+-e robots=of http://h/ => one of the values isn't valid for an argument|wgetr --help says which words are accepted
+http://h/ http://k/ => unexpected argument found|wgetr --help says which words are accepted
+example.org => START is no URL (did you mean http://example.org/?)|START is an address in full, as http://example.org/path?query, without user name and password, with at most 8192 bytes and a host of at most 255 (see wgetr --help)
+-r example.org:80/a => START isn't an http address, and http alone is spoken: there is no TLS here, which https needs (did you mean http://example.org/a?)|START is an address in full, as http://example.org/path?query, without user name and password, with at most 8192 bytes and a host of at most 255 (see wgetr --help)
+https://h/ => START isn't an http address, and http alone is spoken: there is no TLS here, which https needs|START is an address in full, as http://example.org/path?query, without user name and password, with at most 8192 bytes and a host of at most 255 (see wgetr --help)
+a:b => START isn't an http address, and http alone is spoken: there is no TLS here, which https needs|START is an address in full, as http://example.org/path?query, without user name and password, with at most 8192 bytes and a host of at most 255 (see wgetr --help)
+http://a@h/ => START has a user name or a password|START is an address in full, as http://example.org/path?query, without user name and password, with at most 8192 bytes and a host of at most 255 (see wgetr --help)
+http://h/robots.txt => START is a robots file|START is any other page (see wgetr --help)
+-l x http://h/ => the value of -l, --level is no level|a level is inf or decimal digits, at most 1000000 (see wgetr --help)
+-A [a http://h/ => an element of -A, --accept or -R, --reject is no pattern|an element is a suffix, or a pattern with *, ? and classes as [a-z], each closed (see wgetr --help)
+-X a http://h/ => an element of -I, --include-directories or -X, --exclude-directories is no directory|an element begins with / and has none of *, ?, [ and ] (see wgetr --help)
+-D a*b http://h/ => an element of -D, --domains or --exclude-domains is no domain|an element is letters, digits, -, _ and dots, as example.org (see wgetr --help)
+";
+
+// What a person is told of these words; nothing of words that are taken.
+fn told(rt: &impl Abort, alloc: Global, words: &[&str]) -> String {
+    let Some(fault) = read_order(alloc, words).err() else {
+        return String::new(alloc);
+    };
+    advice_text(alloc, fault, words).expect(rt, "memory")
+}
+
+// Whether just what a row says is told of its words.
+fn is_told(rt: &impl Abort, alloc: Global, row: &str) -> bool {
+    let (words, expected) = row.split_once(" => ").unwrap_or((row, ""));
+    let (wrong, accepted) = expected.split_once('|').unwrap_or((expected, ""));
+    let lines = format!(in alloc; "wgetr: {wrong}, in: {words}\n{accepted}\n");
+    told(rt, alloc, &words_of(rt, alloc, words)).as_str() == lines.expect(rt, "memory").as_str()
+}
+
+#[test]
+fn what_was_meant_is_told(rt: HostRuntime) {
+    for row in ADVICE.lines() {
+        demand(&rt, is_told(&rt, rt.alloc(), row), row);
+    }
+}
+
+#[test]
+fn help_and_version_are_told_to_who_asks(rt: HostRuntime) {
+    let alloc = rt.alloc();
+    assert!(rt; told(&rt, alloc, &["--help"]).as_str() == HELP);
+    assert!(rt; told(&rt, alloc, &["-r", "-h"]).as_str() == HELP);
+    assert!(rt; told(&rt, alloc, &["-V"]).as_str() == "wgetr 1.0\n");
+    let text = no_text_advice(alloc, &[]).expect(&rt, "memory");
+    assert!(rt;
+        text.as_str()
+            == "wgetr: a word isn't UTF-8, in:\nwgetr --help says which words are accepted\n"
+    );
 }

@@ -2,9 +2,11 @@
 use crate::common::{address, bytes_of, demand, repeated};
 use crate::fetch_tests::site_of;
 use crate::resumption_tests::{SITE, ask_all};
+use answer_notes::Noted;
 use fetcher::Fetcher;
-use site_answer::{Connect, HttpFetcher, MemoryConnect, Noted};
-use site_maps::InputFault;
+use http_fetcher::{Connect, HttpFetcher};
+use memory_connect::MemoryConnect;
+use site_inputs::InputFault;
 use site_records::{RecordFault, RecordedSite, read_front, write_record};
 use std::alloc::Global;
 use std::process::Abort;

@@ -1,6 +1,6 @@
 -- A digester that took the head of a response has one.
 use Rattle.std.proofs.Common.{inl}
-use Rattle.site_answer.proofs.DigestLemmas.{stage_has_head}
+use Rattle.response_answer.proofs.DigestLemmas.{stage_has_head}
 use Rattle.site_tests.proofs.digest_tests.in_pieces.Goals as goal
 
 pub finish-requires : goal.finish-requires
