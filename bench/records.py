@@ -3,11 +3,13 @@ knows what is left of one that was cut, as a journal is whose run was killed."""
 import collections
 import re
 
+import faults
+
 # One answer: the first word of its line, its address, where it begins and ends in the record, and its faults, which are those
 # of its line or of its hops.
 Entry = collections.namedtuple("Entry", "kind address start end faults")
 FIRST_LINES = {b"wgetr-record 1": 1, b"wgetr-record 2": 2}
-WORDS = b"connect device ended head head-long length coding chunk body-long".split()
+WORDS = [word.encode() for word in faults.WORDS]
 
 
 class Cut(Exception):

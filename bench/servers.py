@@ -49,7 +49,10 @@ http {{
   types {{ text/html html htm; text/css css; text/plain txt; image/png png; image/svg+xml svg; application/javascript js; }}
   default_type application/octet-stream;
   log_format paths "$request_uri";
+  log_format numbers "$connection_requests";
   access_log {log} paths;
+  access_log {log}.numbers numbers;
+  keepalive_requests 1000000;
   client_body_temp_path {folder}/body; proxy_temp_path {folder}/proxy; fastcgi_temp_path {folder}/fcgi;
   uwsgi_temp_path {folder}/uwsgi; scgi_temp_path {folder}/scgi;
   server {{ listen 127.0.0.1:{port}; root {root}; absolute_redirect on; port_in_redirect on; }}
@@ -59,7 +62,8 @@ http {{
 
 @contextlib.contextmanager
 def nginx(folder, root, log):
-    """nginx over the files below root; gives its port. Each request's path becomes a line of the log."""
+    """nginx over the files below root; gives its port. Each request's path becomes a line of the log, and which request it is of its
+    connection one of LOG.numbers."""
     port = free_port()
     configuration = os.path.join(folder, f"nginx-{port}.conf")
     with open(configuration, "w") as out:
@@ -76,17 +80,21 @@ def nginx(folder, root, log):
         server.wait()
 
 
-async def answer_slowly(pages, delay, early, log, reader, writer):
-    """Answers the requests of a connection, each that long after it came, and so much earlier as this server is late."""
+async def answer_slowly(pages, delay, fresh, early, log, numbers, reader, writer):
+    """Answers the requests of a connection, each that long after it came, the first later still, and so much earlier as this server
+    is late."""
+    number = 0
     with contextlib.suppress(ConnectionError, asyncio.IncompleteReadError):
         while True:
             head = await reader.readuntil(b"\r\n\r\n")
             path = head.split(b" ", 2)[1].decode()
-            await asyncio.sleep(max(0, delay - early[0]))
+            number += 1
+            await asyncio.sleep(max(0, delay + (fresh if number == 1 else 0) - early[0]))
             body = pages.get(path)
             ends = b"connection: close" in head.lower()
             status, body = ("404 Not Found", b"") if body is None else ("200 OK", body)
             log.write(path + "\n")
+            numbers.write(f"{number}\n")
             writer.write(f"HTTP/1.1 {status}\r\nContent-Type: text/html\r\nContent-Length: {len(body)}\r\n"
                          f"{'Connection: close' + chr(13) + chr(10) if ends else ''}\r\n".encode() + body)
             await writer.drain()
@@ -95,7 +103,7 @@ async def answer_slowly(pages, delay, early, log, reader, writer):
     writer.close()
 
 
-def serve_slowly(root, delay, early, port, log_path):
+def serve_slowly(root, delay, fresh, early, port, log_path):
     """Serves the files below root, which it holds in memory, until it is ended."""
     pages = {}
     for folder, _, names in os.walk(root):
@@ -106,9 +114,9 @@ def serve_slowly(root, delay, early, port, log_path):
     pages["/"] = pages["/index.html"]
 
     async def run():
-        with open(log_path, "a", buffering=1) as log:
-            server = await asyncio.start_server(lambda r, w: answer_slowly(pages, delay, early, log, r, w), "127.0.0.1",
-                                                port, backlog=1024, reuse_port=True)
+        with open(log_path, "a", buffering=1) as log, open(log_path + ".numbers", "a", buffering=1) as numbers:
+            server = await asyncio.start_server(lambda r, w: answer_slowly(pages, delay, fresh, early, log, numbers, r, w),
+                                                "127.0.0.1", port, backlog=1024, reuse_port=True)
             await server.serve_forever()
 
     # The selector that asyncio would take wakes up to a millisecond late, which is a twentieth of the delay.
@@ -129,8 +137,9 @@ def lateness(port, delay):
 
 
 @contextlib.contextmanager
-def slow(root, delay, log):
-    """A server whose answer a client that asks alone has that many seconds after it asked; gives its port."""
+def slow(root, delay, log, fresh=0):
+    """A server whose answer a client that asks alone has that many seconds after it asked, and over a new connection so many more;
+    gives its port. It logs as nginx does."""
     port = free_port()
     # What all processes of the server see.
     early = memoryview(mmap.mmap(-1, 8)).cast("d")
@@ -138,14 +147,14 @@ def slow(root, delay, log):
     for _ in range(PROCESSES):
         child = os.fork()
         if child == 0:
-            serve_slowly(root, delay, early, port, log)
+            serve_slowly(root, delay, fresh, early, port, log)
         children.append(child)
     try:
         wait_for(port)
         # The other processes listen a moment later at most.
         time.sleep(1)
-        early[0] = max(0, lateness(port, delay))
-        late = lateness(port, delay)
+        early[0] = max(0, lateness(port, delay + fresh))
+        late = fresh + lateness(port, delay + fresh)
         print(f"  (one client has an answer after {(delay + late) * 1000:.1f} ms, where {early[0] * 1000:.1f} ms are the server's own)", flush=True)
         yield port
     finally:

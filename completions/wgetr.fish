@@ -14,6 +14,7 @@ complete -c wgetr -s R -l reject -x -d 'no names with these suffixes or patterns
 complete -c wgetr -s e -l execute -x -d 'robots=off: no robots files (robots=on)'
 complete -c wgetr -l workers -x -d 'N workers, 1 to 64 (4)'
 complete -c wgetr -l per-host -x -d 'N requests at a time to a server, 1 to 16 (2)'
+complete -c wgetr -l no-http-keep-alive -d 'a connection of its own for each request'
 complete -c wgetr -l max-urls -x -d 'at most N addresses, 1 to 1000000 (100000)'
 complete -c wgetr -l map -d 'the site is a map on standard input'
 complete -c wgetr -l record -d 'the site is a record on standard input'
