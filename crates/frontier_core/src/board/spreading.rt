@@ -87,8 +87,6 @@ impl Board {
         };
         let share = progress.share();
         self.entries.add(address, depth, progress);
-        // The table's length fits, and so does what is counted in it.
-        let _len = self.entries.len();
         self.counters.exchange(Share::NONE, share);
         Ok(())
     }
