@@ -1,5 +1,5 @@
 //! The table of labels: addresses with the least depth offered, numbered in order of discovery.
-ghost use Rattle.std.specs.Prelude.{◌≡◌, ◌↔◌, ◌<◌, ◌≤◌, ℕ, false, [], ◌∷◌, ◌++◌, Some, None, length, slice_get, position, map, bytes_eq, IfOk, OnOk, OnErr, IsOk, IsSome, IsTrue};
+ghost use Rattle.std.specs.Prelude.{◌≡◌, ◌↔◌, ◌<◌, ◌≤◌, ◌^◌, ℕ, false, [], ◌∷◌, ◌++◌, Some, None, length, slice_get, position, map, bytes_eq, IfOk, OnOk, OnErr, IsOk, IsSome, IsTrue};
 ghost use Rattle.depth_labels.specs.Depths.{Text, depth_at, after_offer, lowered_at, lesser};
 ghost use Rattle.depth_labels.specs.Offers.{offer_of};
 
@@ -130,6 +130,7 @@ impl Labels {
         requires room { 0 < self.old.room }
         ensures depths { self.new.depths ≡ self.old.depths ++ (address, depth) ∷ [] }
         ensures most { self.new.most ≡ self.old.most }
+        ensures small { length self.new.depths < 2 ^ 32 }
     {
         let Ok(_) = self.table.insert(address, depth) else {
             unreachable!()

@@ -13,16 +13,16 @@ use crate::page::KeptPage;
 use address::{Address, Origin};
 use bytes::Bytes;
 use fetcher::Outcome;
-use frontier_core::{Condition, Frontier};
+use frontier_core::{Condition, Entries, Frontier, Records, Rules};
 use robots_rules::RuleSet;
 use std::alloc::{AllocError, Global};
 
-// The records of a frontier in order of discovery.
-fn copy_records(alloc: Global, frontier: &Frontier) -> Result<Vec<(Address, Outcome)>, AllocError>
-    ensures { IfOk result (λ records. records.items ≡ filter_map record_of frontier.now.state.entries) }
+// Copies of records, in their order.
+fn copy_records(alloc: Global, records: Records<'_>) -> Result<Vec<(Address, Outcome)>, AllocError>
+    ensures { IfOk result (λ copies. copies.items ≡ records.entry) }
 {
     let mut copies = Vec::new(alloc);
-    let mut records = frontier.records();
+    let mut records = records;
     'records: while let Some((address, outcome)) = records.next() {
         copies.push((address.try_clone()?, outcome.try_clone()?))?;
     }
@@ -37,19 +37,17 @@ pub fn gather_records(
     ensures ascending { IfOk result (λ records. IsAscending (recorded_addresses records.items)) }
     ensures same { IfOk result (λ records. IsPermutation (filter_map record_of frontier.now.state.entries) records.items) }
 {
-    // No address is held twice.
-    let _trace = frontier.trace();
-    let mut records = copy_records(alloc, frontier)?;
+    let mut records = copy_records(alloc, frontier.records())?;
     sort_by_name(&mut records)?;
     Ok(records)
 }
 
-// The origins whose rules a frontier knows, in the order in which they were asked for.
-fn copy_rules(alloc: Global, frontier: &Frontier) -> Result<Vec<(Origin, RuleSet)>, AllocError>
-    ensures { IfOk result (λ rules. rules.items ≡ filter_map ruled_of frontier.now.state.origins) }
+// Copies of origins and their rules, in their order.
+fn copy_rules(alloc: Global, rules: Rules<'_>) -> Result<Vec<(Origin, RuleSet)>, AllocError>
+    ensures { IfOk result (λ copies. copies.items ≡ rules.entry) }
 {
     let mut copies = Vec::new(alloc);
-    let mut rules = frontier.rules();
+    let mut rules = rules;
     'rules: while let Some((origin, set)) = rules.next() {
         copies.push((origin.try_clone()?, set.try_clone(alloc)?))?;
     }
@@ -64,9 +62,7 @@ pub fn gather_rules(
     ensures ascending { IfOk result (λ rules. IsAscending (ruled_origins rules.items)) }
     ensures same { IfOk result (λ rules. IsPermutation (filter_map ruled_of frontier.now.state.origins) rules.items) }
 {
-    // No origin is asked for twice.
-    let _trace = frontier.trace();
-    let mut rules = copy_rules(alloc, frontier)?;
+    let mut rules = copy_rules(alloc, frontier.rules())?;
     sort_by_name(&mut rules)?;
     Ok(rules)
 }
@@ -119,15 +115,15 @@ fn entry_of(
     })
 }
 
-// What a frontier holds, in order of discovery.
+// What is held, as a list in the same order.
 fn list_held<'a>(
     alloc: Global,
-    frontier: &'a Frontier,
+    entries: Entries<'a>,
 ) -> Result<Vec<(&'a Address, u32, Condition)>, AllocError>
-    ensures { IfOk result (λ held. map item_entry held.items ≡ map entry_of frontier.now.state.entries) }
+    ensures { IfOk result (λ held. map item_entry held.items ≡ entries.entry) }
 {
     let mut held = Vec::new(alloc);
-    let mut entries = frontier.entries();
+    let mut entries = entries;
     'entries: while let Some(entry) = entries.next() {
         held.push(entry)?;
     }
@@ -168,9 +164,7 @@ pub fn gather_entries(
     ensures same { IfOk result (λ entries. IsPermutation (seen_in frontier.now.state) (map said_by entries.items)) }
     ensures places { IfOk result (λ entries. All (λ entry. IsPlaceOf records.now entry.address entry.answer) entries.items) }
 {
-    // No address is held twice.
-    let _trace = frontier.trace();
-    let mut held = list_held(alloc, frontier)?;
+    let mut held = list_held(alloc, frontier.entries())?;
     sort_by_name(&mut held)?;
     entries_of(alloc, held.as_slice(), records)
 }

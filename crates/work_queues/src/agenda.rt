@@ -1,10 +1,14 @@
 //! The agenda: what is left to do for each number, found without going through them.
-ghost use Rattle.std.specs.Prelude.{◌≡◌, ◌<◌, ℕ, true, [], ◌∷◌, ◌++◌, Some, length, slice_get, slice_set, OnOk, OnErr, IfOk, IfSome, IfNone, Contains};
+ghost use Rattle.std.specs.Prelude.{◌≡◌, ◌<◌, ◌+◌, ◌^◌, ℕ, true, [], ◌∷◌, ◌++◌, Some, length, slice_get, slice_set, OnOk, OnErr, IfOk, IfSome, IfNone, Contains};
 ghost use Rattle.work_queues.specs.Tasks.{Item, is_waiting, is_parked, is_due, out_count};
+ghost use Rattle.work_queues.specs.inner.Lists.{one};
 
-use crate::lists::Lists;
+use crate::lists::{Job, Lists};
+use crate::pool::Pool;
+use crate::queues::Queues;
 use crate::task::Task;
 use address::Origin;
+use indexmap::IndexMap;
 use std::alloc::{AllocError, Global};
 use std::marker::Model;
 
@@ -34,16 +38,25 @@ impl Agenda {
     pub fn new(alloc: Global) -> Result<Self, AllocError>
         ensures { IfOk result (λ agenda. agenda.items ≡ []) }
     {
-        Ok(Agenda {
-            lists: Lists::new(alloc)?,
-        })
+        let mut due = Queues::new(alloc);
+        due.open(alloc)?;
+        let waiting = Pool::new(alloc)?;
+        let parked = Pool::new(alloc)?;
+        let lists = Lists {
+            hosts: IndexMap::new(alloc),
+            jobs: Vec::new(alloc),
+            waiting,
+            parked,
+            due,
+        };
+        Ok(Agenda { lists })
     }
 
     /// How many numbers there are.
     pub fn len(&self) -> usize
         ensures { result ≡ length self.now.items }
     {
-        self.lists.len()
+        self.lists.jobs.len()
     }
 
     /// One number more, of this origin: the number of how many there were. The error is want of memory, and leaves the items as they were.
@@ -57,7 +70,12 @@ impl Agenda {
         ensures ok { OnOk result (self.new.items ≡ self.old.items ++ record { origin = origin; task = task } ∷ []) }
         ensures err { OnErr result (self.new.items ≡ self.old.items) }
     {
-        self.lists.add(alloc, origin, task, label)
+        let number = self.lists.jobs.len();
+        let host = self.lists.host_of(alloc, origin)?;
+        self.lists.reserve(host)?;
+        self.lists.append(host);
+        self.set(number, task, label);
+        Ok(())
     }
 
     /// This is left to do for the number from now on, at this label. Takes no memory.
@@ -65,7 +83,14 @@ impl Agenda {
         requires { number < length self.old.items }
         ensures { (item : Item) → slice_get self.old.items number ≡ Some item → self.new.items ≡ slice_set self.old.items number (record item { task = task }) }
     {
-        self.lists.set(number, task, label);
+        let Job { host, task: was } = self.lists.jobs[number];
+        self.lists.jobs[number] = Job { host, task };
+        self.lists.hosts[host] = recount(self.lists.hosts[host], was.is_out(), task.is_out());
+        self.lists
+            .waiting
+            .put(number, host, task.is_waiting(), label);
+        self.lists.parked.put(number, host, task.is_parked(), label);
+        self.lists.due.put(number, task.is_due(), label);
     }
 
     /// A number that is due, if there is one.
@@ -73,7 +98,7 @@ impl Agenda {
         ensures some { IfSome result (λ number. (item : Item) × (slice_get self.now.items number ≡ Some item) × (is_due item.task ≡ true)) }
         ensures none { IfNone result ((number : ℕ) (item : Item) → slice_get self.now.items number ≡ Some item → is_due item.task ≡ true → ⊥) }
     {
-        self.lists.first_due()
+        self.lists.due.first(0)
     }
 
     /// How many permits are out of the origin of this number.
@@ -81,7 +106,7 @@ impl Agenda {
         requires { number < length self.now.items }
         ensures { (item : Item) × (slice_get self.now.items number ≡ Some item) × (result ≡ out_count self.now.items item.origin) }
     {
-        self.lists.out(number)
+        self.lists.hosts[self.lists.jobs[number].host]
     }
 
     /// The origin of this number.
@@ -89,7 +114,10 @@ impl Agenda {
         requires { number < length self.now.items }
         ensures { (item : Item) × (slice_get self.now.items number ≡ Some item) × (result.now ≡ item.origin) }
     {
-        self.lists.origin(number)
+        match self.lists.hosts.get_index(self.lists.jobs[number].host) {
+            Some((origin, _)) => origin,
+            None => unreachable!(),
+        }
     }
 
     /// A parked number of this origin, if one is parked.
@@ -97,7 +125,10 @@ impl Agenda {
         ensures some { IfSome result (λ number. (item : Item) × (slice_get self.now.items number ≡ Some item) × (is_parked item.task ≡ true) × (item.origin ≡ origin.now)) }
         ensures none { IfNone result ((number : ℕ) (item : Item) → slice_get self.now.items number ≡ Some item → is_parked item.task ≡ true → item.origin ≡ origin.now → ⊥) }
     {
-        self.lists.first_parked(origin)
+        match self.lists.hosts.get_index_of(origin) {
+            Some(host) => self.lists.parked.numbers.first(host),
+            None => None,
+        }
     }
 
     /// How many origins have a waiting number.
@@ -105,7 +136,7 @@ impl Agenda {
         ensures len { result ≡ length self.now.waiting }
         ensures all { (number : ℕ) (item : Item) → slice_get self.now.items number ≡ Some item → is_waiting item.task ≡ true → Contains self.now.waiting item.origin }
     {
-        self.lists.waiting_len()
+        self.lists.waiting.len()
     }
 
     /// A waiting number of the origin at this place.
@@ -113,7 +144,7 @@ impl Agenda {
         requires { place < length self.now.waiting }
         ensures { (item : Item) × (slice_get self.now.items result ≡ Some item) × (is_waiting item.task ≡ true) × (slice_get self.now.waiting place ≡ Some item.origin) }
     {
-        self.lists.waiting_at(place)
+        self.lists.waiting.first_at(place)
     }
 
     /// How many origins have a parked number.
@@ -121,7 +152,7 @@ impl Agenda {
         ensures len { result ≡ length self.now.parked }
         ensures all { (number : ℕ) (item : Item) → slice_get self.now.items number ≡ Some item → is_parked item.task ≡ true → Contains self.now.parked item.origin }
     {
-        self.lists.parked_len()
+        self.lists.parked.len()
     }
 
     /// A parked number of the origin at this place.
@@ -129,6 +160,19 @@ impl Agenda {
         requires { place < length self.now.parked }
         ensures { (item : Item) × (slice_get self.now.items result ≡ Some item) × (is_parked item.task ≡ true) × (slice_get self.now.parked place ≡ Some item.origin) }
     {
-        self.lists.parked_at(place)
+        self.lists.parked.first_at(place)
+    }
+}
+
+// A count after one that was counted, or not, is counted, or not.
+fn recount(count: usize, was: bool, is: bool) -> usize
+    requires some { was ≡ true → 0 < count }
+    requires room { count + 1 < 2 ^ 64 }
+    ensures { result + one was ≡ count + one is }
+{
+    match (was, is) {
+        (true, false) => count - 1,
+        (false, true) => count + 1,
+        _ => count,
     }
 }

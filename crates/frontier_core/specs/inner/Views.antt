@@ -1,7 +1,6 @@
 -- What proofs alone need beside `Views`.
 use Rattle.std.specs.Prelude.{ℕ, Bool, true, false, Option, Some, None}
 use Rattle.frontier_core.specs.Machine.{Progress, Parked, Waiting, Out, Answered, Refused, Holder, Worker, Nobody, Offering, Due, Offered, OriginRules, Asked, Known}
-use Rattle.frontier_core.specs.declared.condition.Condition.TheVariants as condition
 use Rattle.frontier_core.specs.declared.progress.ProgressKind.{ProgressKind}
 use Rattle.frontier_core.specs.declared.progress.ProgressKind.TheVariants as progress
 use Rattle.frontier_core.specs.declared.robots.Kept.{Kept}
