@@ -11,7 +11,7 @@ use Rattle.fetcher.specs.declared.fault_kind.FaultKind.{FaultKind}
 use Rattle.fetcher.specs.declared.fault_kind.FaultKind.TheVariants.{Connect, Device, Ended, Head, HeadLong, Length, Coding, Chunk, BodyLong}
 use Rattle.fetcher.specs.declared.fault_kind.Row.{Row}
 use Rattle.fetcher.specs.declared.fault_kind.TheConstants.{TABLE}
-use Rattle.fetcher.specs.FaultWords.{place_of, words, word_of, class_of}
+use Rattle.fetcher.specs.FaultWords.{place_of, kinds, words, word_of, class_of}
 
 -- what the table says
 rows : map {B = FaultKind × List ℕ × FaultClass} (λ row. (row.kind, row.word.now, row.class)) TABLE
@@ -25,7 +25,7 @@ pub has_row : (kind : FaultKind) → place_of kind < length words
 has_row kind = search rules
 
 -- each row stands in its fault's place
-own_places : map word_of (map (λ row. row.kind) TABLE) ≡ words
+own_places : map word_of kinds ≡ words
 unfolding word_of
 own_places = refl
 
@@ -71,14 +71,14 @@ unfolding word_of
 no_word w none kind same = none (place_of kind) [] (has_row kind) same
 
 -- the word in a fault's row is that of the fault
-own_word : (w : List ℕ) (kind : FaultKind) (k : ℕ) → slice_get words k ≡ Some w → slice_get (map (λ row. row.kind) TABLE) k ≡ Some kind → w ≡ word_of kind
+own_word : (w : List ℕ) (kind : FaultKind) (k : ℕ) → slice_get words k ≡ Some w → slice_get kinds k ≡ Some kind → w ≡ word_of kind
 own_word w kind k word at =
-    let same : slice_get (map word_of (map (λ row. row.kind) TABLE)) k ≡ slice_get words k = ap (λ texts. slice_get texts k) own_places in
-    ap (λ found. unwrap_or found []) (sym word ∙ sym same ∙ slice_get-map word_of (map (λ row. row.kind) TABLE) k ∙ ap (option_map word_of) at)
+    let same : slice_get (map word_of kinds) k ≡ slice_get words k = ap (λ texts. slice_get texts k) own_places in
+    ap (λ found. unwrap_or found []) (sym word ∙ sym same ∙ slice_get-map word_of kinds k ∙ ap (option_map word_of) at)
 
 -- a row that has the word tells its fault, and where none has it is that of no fault
 pub found : (w : List ℕ) (r : Option FaultKind)
-    → MatchOption r (All (λ text. w ≢ text) words) (λ kind. (k : ℕ) × (slice_get words k ≡ Some w) × (slice_get (map (λ row. row.kind) TABLE) k ≡ Some kind))
+    → MatchOption r (All (λ text. w ≢ text) words) (λ kind. (k : ℕ) × (slice_get words k ≡ Some w) × (slice_get kinds k ≡ Some kind))
     → MatchOption r ((kind : FaultKind) → w ≢ word_of kind) (λ kind. w ≡ word_of kind)
 found w None h = no_word w h
 found w (Some kind) (k, word, at) = own_word w kind k word at
@@ -91,11 +91,4 @@ kind_of word = option_map (λ row. row.kind) (find (λ row. bytes_eq word row.wo
 pub kind_of-word_of : (kind : FaultKind) → kind_of (word_of kind) ≡ Some kind
 unfolding kind_of word_of
 kind_of-word_of Connect = refl
-kind_of-word_of Device = refl
-kind_of-word_of Ended = refl
-kind_of-word_of Head = refl
-kind_of-word_of HeadLong = refl
-kind_of-word_of Length = refl
-kind_of-word_of Coding = refl
-kind_of-word_of Chunk = refl
-kind_of-word_of BodyLong = refl
+kind_of-word_of kind = refl

@@ -11,6 +11,10 @@ use denote.Enum.Declared.{tag_of}
 abbrev pub place_of : FaultKind → ℕ
 place_of kind = tag_of the_type kind
 
+-- the faults, each in its own place
+abbrev pub kinds : List FaultKind
+kinds = map (λ row. row.kind) TABLE
+
 -- the words, each in its fault's place
 abbrev pub words : List (List ℕ)
 words = map (λ row. row.word.now) TABLE

@@ -1,2 +1,3 @@
 pub mod DigestLemmas
 pub mod LinkLemmas
+pub mod KindLaws

@@ -1,18 +1,11 @@
 -- Faults of responses that weren't read, as answers name them (RFC 9112, section 8).
-use Rattle.std.specs.Prelude.{Option, Some, None}
+use Rattle.std.specs.Prelude.{◌+◌, Option, slice_get}
 use Rattle.response_reader.specs.declared.fault.ReadFault.{ReadFault}
-use Rattle.response_reader.specs.declared.fault.ReadFault.TheVariants as read
+use Rattle.response_reader.specs.Words.{place_of}
 use Rattle.fetcher.specs.declared.fault_kind.FaultKind.{FaultKind}
-use Rattle.fetcher.specs.declared.fault_kind.FaultKind.TheVariants as kind
+use Rattle.fetcher.specs.FaultWords.{kinds}
 
--- the fault of an answer whose response wasn't read; none for want of memory
+-- the fault of an answer whose response wasn't read. Answers have the reader's faults in its order, behind Connect, which no
+-- reader has; none for want of memory, which is its last
 abbrev pub kind_of_fault : ReadFault → Option FaultKind
-kind_of_fault read.Device = Some kind.Device
-kind_of_fault read.Ended = Some kind.Ended
-kind_of_fault read.Head = Some kind.Head
-kind_of_fault read.HeadLong = Some kind.HeadLong
-kind_of_fault read.Length = Some kind.Length
-kind_of_fault read.Coding = Some kind.Coding
-kind_of_fault read.Chunk = Some kind.Chunk
-kind_of_fault read.BodyLong = Some kind.BodyLong
-kind_of_fault read.Memory = None
+kind_of_fault fault = slice_get kinds (place_of fault + 1)

@@ -10,15 +10,5 @@ use response_reader::ReadFault;
 pub fn kind_of_fault(fault: ReadFault) -> Option<FaultKind>
     ensures { result ≡ kind_of_fault fault }
 {
-    match fault {
-        ReadFault::Device => Some(FaultKind::Device),
-        ReadFault::Ended => Some(FaultKind::Ended),
-        ReadFault::Head => Some(FaultKind::Head),
-        ReadFault::HeadLong => Some(FaultKind::HeadLong),
-        ReadFault::Length => Some(FaultKind::Length),
-        ReadFault::Coding => Some(FaultKind::Coding),
-        ReadFault::Chunk => Some(FaultKind::Chunk),
-        ReadFault::BodyLong => Some(FaultKind::BodyLong),
-        ReadFault::Memory => None,
-    }
+    FaultKind::of_word(fault.word())
 }

@@ -5,8 +5,9 @@ use Rattle.std.specs.Io.KnownBytes.{Consumes, IsAtEnd, prepend_known}
 use Rattle.response_reader.specs.declared.fields.Framing.{Framing}
 use Rattle.response_reader.specs.declared.fields.Framing.TheVariants.{NoBody, Sized, Chunked, UntilClose}
 use Rattle.response_reader.specs.Fields.{HeadParts}
-use Rattle.response_reader.specs.Heads.{fields_of, max_heads_len}
-use Rattle.response_reader.specs.Bodies.{ReadsSize, joined, max_body_len, max_response_len}
+use Rattle.response_reader.specs.declared.limits.TheConstants.{MAX_BODY, MAX_HEADS, MAX_RESPONSE}
+use Rattle.response_reader.specs.Heads.{fields_of}
+use Rattle.response_reader.specs.Bodies.{ReadsSize, joined}
 use Rattle.response_reader.specs.inner.ChunkStage.{TookLine, TookTrailers, PassedChunks}
 use Rattle.response_reader.specs.inner.HeadsStage.{FramesAhead}
 use Rattle.response_reader.specs.inner.Passes.{Passed, PassedAll, TookBody}
@@ -20,11 +21,11 @@ use Rattle.response_reader.specs.inner.Wire.{Tally, GivesUp}
 use Rattle.response_reader.proofs.ReadLemmas.{nothing_unread}
 use Rattle.response_reader.proofs.WireLemmas.{consumes_trans, consumes_same, fills_ahead, told_before}
 
-pub took_none : (a : Option (List ℕ)) (used : ℕ) → used ≤ max_heads_len → TookBody a a used NoBody
+pub took_none : (a : Option (List ℕ)) (used : ℕ) → used ≤ MAX_HEADS → TookBody a a used NoBody
 took_none a used short =
     record { body = []; text = []; bytes = consumes_same a; reads = λ tail end. (refl, refl); few = omega arith; len = omega arith }
 
-pub took_sized : (a b : Option (List ℕ)) (used : ℕ) (P : List ℕ → Type 0) (n : ℕ) → used ≤ max_heads_len → n ≤ max_body_len → Passed a b P n
+pub took_sized : (a b : Option (List ℕ)) (used : ℕ) (P : List ℕ → Type 0) (n : ℕ) → used ≤ MAX_HEADS → n ≤ MAX_BODY → Passed a b P n
     → TookBody a b used (Sized n)
 took_sized a b used P n short few x = record {
   body = x.piece;
@@ -35,7 +36,7 @@ took_sized a b used P n short few x = record {
   len = omega (arith, x.count_is);
 }
 
-pub took_open : (a b : Option (List ℕ)) (used : ℕ) (P : List ℕ → Type 0) → used ≤ max_heads_len → PassedAll a b P max_body_len → TookBody a b used UntilClose
+pub took_open : (a b : Option (List ℕ)) (used : ℕ) (P : List ℕ → Type 0) → used ≤ MAX_HEADS → PassedAll a b P MAX_BODY → TookBody a b used UntilClose
 took_open a b used P short x = record {
   body = x.passed.piece;
   text = x.passed.piece;
@@ -45,8 +46,8 @@ took_open a b used P short x = record {
   len = omega (arith, x.passed.count_is, x.few);
 }
 
-pub took_chunked : (a b c d : Option (List ℕ)) (P : List ℕ → Type 0) (used room response body len size : ℕ) → room + used ≡ max_response_len
-    → PassedChunks a b P room response max_body_len body → TookLine b c len size → size ≡ 0 → len ≤ response → TookTrailers c d (response - len)
+pub took_chunked : (a b c d : Option (List ℕ)) (P : List ℕ → Type 0) (used room response body len size : ℕ) → room + used ≡ MAX_RESPONSE
+    → PassedChunks a b P room response MAX_BODY body → TookLine b c len size → size ≡ 0 → len ≤ response → TookTrailers c d (response - len)
     → TookBody a d used Chunked
 took_chunked a b c d P used room response body len size whole p l none fits t =
     let taken = p.taken in

@@ -6,7 +6,7 @@ ghost use Rattle.response_reader.specs.inner.Request.{WritesGiveUp};
 ghost use Rattle.response_reader.specs.Wire.{HasRisen, counted};
 ghost use Rattle.response_reader.specs.inner.Wire.{tally, GoesOn};
 
-use crate::retry::MAX_INTERRUPTED;
+use crate::limits::MAX_INTERRUPTED;
 use crate::wire::{Wire, WireFault};
 use address::Address;
 use arrayvec::ArrayVec;
@@ -28,8 +28,8 @@ pub fn write_request<W: Wire>(wire: &mut W, address: &Address) -> Result<(), Req
     ensures written { OnOk result (Appends (W.outgoing wire.old) (W.outgoing wire.new) (request_text address.now)) }
     ensures part { OnErr result (AppendsFront (W.outgoing wire.old) (W.outgoing wire.new) (request_text address.now)) }
     ensures device { OnErr result (HasRisen (W.failed wire.old) (W.failed wire.new)) }
-    ensures interrupted { OnErr result (IsTrue (W.writes_never_fail wire.old) → W.failed wire.new ≡ counted (W.failed wire.old) 1000) }
-    ensures few { OnOk result (W.failed wire.new < W.failed wire.old + 1000) }
+    ensures interrupted { OnErr result (IsTrue (W.writes_never_fail wire.old) → W.failed wire.new ≡ counted (W.failed wire.old) MAX_INTERRUPTED) }
+    ensures few { OnOk result (W.failed wire.new < W.failed wire.old + MAX_INTERRUPTED) }
     ensures lost { OnOk result (W.lost wire.new ≡ W.lost wire.old) }
     ensures read { Keeps (W.incoming wire.old) (W.incoming wire.new) }
     ensures steady { IsTrue (W.writes_never_fail wire.old) → IsTrue (W.writes_never_fail wire.new) }
@@ -45,8 +45,8 @@ pub fn write_kept_request<W: Wire>(wire: &mut W, address: &Address) -> Result<()
     ensures written { OnOk result (Appends (W.outgoing wire.old) (W.outgoing wire.new) (kept_request_text address.now)) }
     ensures part { OnErr result (AppendsFront (W.outgoing wire.old) (W.outgoing wire.new) (kept_request_text address.now)) }
     ensures device { OnErr result (HasRisen (W.failed wire.old) (W.failed wire.new)) }
-    ensures interrupted { OnErr result (IsTrue (W.writes_never_fail wire.old) → W.failed wire.new ≡ counted (W.failed wire.old) 1000) }
-    ensures few { OnOk result (W.failed wire.new < W.failed wire.old + 1000) }
+    ensures interrupted { OnErr result (IsTrue (W.writes_never_fail wire.old) → W.failed wire.new ≡ counted (W.failed wire.old) MAX_INTERRUPTED) }
+    ensures few { OnOk result (W.failed wire.new < W.failed wire.old + MAX_INTERRUPTED) }
     ensures lost { OnOk result (W.lost wire.new ≡ W.lost wire.old) }
     ensures read { Keeps (W.incoming wire.old) (W.incoming wire.new) }
     ensures steady { IsTrue (W.writes_never_fail wire.old) → IsTrue (W.writes_never_fail wire.new) }
@@ -62,8 +62,8 @@ fn write_with<W: Wire>(wire: &mut W, address: &Address, closing: &[u8]) -> Resul
     ensures written { OnOk result (Appends (W.outgoing wire.old) (W.outgoing wire.new) (request_with address.now closing.now)) }
     ensures part { OnErr result (AppendsFront (W.outgoing wire.old) (W.outgoing wire.new) (request_with address.now closing.now)) }
     ensures device { OnErr result (HasRisen (W.failed wire.old) (W.failed wire.new)) }
-    ensures interrupted { OnErr result (IsTrue (W.writes_never_fail wire.old) → W.failed wire.new ≡ counted (W.failed wire.old) 1000) }
-    ensures few { OnOk result (W.failed wire.new < W.failed wire.old + 1000) }
+    ensures interrupted { OnErr result (IsTrue (W.writes_never_fail wire.old) → W.failed wire.new ≡ counted (W.failed wire.old) MAX_INTERRUPTED) }
+    ensures few { OnOk result (W.failed wire.new < W.failed wire.old + MAX_INTERRUPTED) }
     ensures lost { OnOk result (W.lost wire.new ≡ W.lost wire.old) }
     ensures read { Keeps (W.incoming wire.old) (W.incoming wire.new) }
     ensures steady { IsTrue (W.writes_never_fail wire.old) → IsTrue (W.writes_never_fail wire.new) }

@@ -11,7 +11,7 @@ use Rattle.std.proofs.lemmas.Fmt.{decimal_is_IsNumeral}
 use Rattle.std.proofs.Math.Seq.{take-append_seam}
 use Rattle.address.specs.Address.{AddressText, OriginText, IsAddress, IsOrigin}
 use Rattle.fetcher.specs.FaultWords.{word_of}
-use Rattle.response_reader.specs.Heads.{max_heads_len}
+use Rattle.response_reader.specs.declared.limits.TheConstants.{MAX_HEADS}
 use Rattle.response_reader.specs.Response.{ResponseParts, CanBeGiven}
 use Rattle.response_reader.specs.Written.{head_text, response_text}
 use Rattle.answer_notes.specs.RobotsAnswers.{max_redirects}
@@ -76,7 +76,7 @@ line_cut torn more line tail plain e =
 
 -- ---- an entry that is cut
 
-page_torn : (at : AddressText) (r : ResponseParts) (torn more : List ℕ) → IsAddress at → CanBeGiven r → length (head_text r) ≤ max_heads_len
+page_torn : (at : AddressText) (r : ResponseParts) (torn more : List ℕ) → IsAddress at → CanBeGiven r → length (head_text r) ≤ MAX_HEADS
     → torn ++ more ≡ counted_entry (codes "page") at (response_text r) → more ≢ [] → IsTorn Second torn
 page_torn at r torn more is given short e some =
     let bytes = response_text r in

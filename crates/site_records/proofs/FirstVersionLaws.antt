@@ -12,7 +12,7 @@ use Rattle.answer_notes.specs.RobotsAnswers.{rules_by_status, all_allowed}
 use Rattle.answer_notes.specs.Tellings.{rules_told}
 use Rattle.answer_notes.specs.declared.told.Told.TheVariants.{Whole}
 use Rattle.response_reader.specs.Fields.{framing_of, parts_of}
-use Rattle.response_reader.specs.Bodies.{max_body_len}
+use Rattle.response_reader.specs.declared.limits.TheConstants.{MAX_BODY}
 use Rattle.response_reader.specs.Response.{ResponseParts, CanBeGiven}
 use Rattle.robots_rules.specs.Lines.{is_line_end, used, without_mark, lines_in, line_of}
 use Rattle.robots_rules.specs.Groups.{rules_in, stated_in, rule_of, rules_for_us, groups_of, with_rule}
@@ -38,7 +38,7 @@ unfolding print_response
 short_print a b c = omega arith
 
 -- a file
-pub file_can_be_given : (body : List ℕ) → length body ≤ max_body_len → CanBeGiven (bare 200 body)
+pub file_can_be_given : (body : List ℕ) → length body ≤ MAX_BODY → CanBeGiven (bare 200 body)
 unfolding parts_of framing_of
 file_can_be_given body few =
     let head = head_of 50 48 48 in
@@ -65,7 +65,7 @@ file_can_be_given body few =
     )
 
 -- and that there is none
-pub missing_can_be_given : (body : List ℕ) → length body ≤ max_body_len → CanBeGiven (bare 404 body)
+pub missing_can_be_given : (body : List ℕ) → length body ≤ MAX_BODY → CanBeGiven (bare 404 body)
 unfolding parts_of framing_of
 missing_can_be_given body few =
     let head = head_of 52 48 52 in

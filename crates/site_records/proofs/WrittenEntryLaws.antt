@@ -18,7 +18,7 @@ use Rattle.std.proofs.lemmas.Fmt.{decimal_is_IsNumeral, decimal_digit, first_dec
 use Rattle.std.proofs.Math.Seq.{take-append_seam, drop-append-add, get_or-append_seam}
 use Rattle.address.specs.Address.{AddressText, OriginText, IsAddress, IsAddressByte, IsOrigin, origin_of, path_query_of}
 use Rattle.fetcher.specs.declared.answer.Answer.{Answer}
-use Rattle.response_reader.specs.Heads.{max_heads_len}
+use Rattle.response_reader.specs.declared.limits.TheConstants.{MAX_HEADS}
 use Rattle.response_reader.specs.Response.{ResponseParts, CanBeGiven}
 use Rattle.response_reader.specs.Written.{head_text, response_text}
 use Rattle.response_reader.proofs.WrittenLemmas.{written_reads_back}
@@ -171,7 +171,7 @@ abbrev pub answer_of : Bool → AddressText → ResponseParts → Answer
 answer_of robots at r = record { outcome = digest_of robots at r; body = kept_body r.head.status r.body }
 
 -- what is written of a page is an entry, which states the answer of its response, whatever stands behind it
-pub page_is_entry : (version : Version) (robots : Bool) (at : AddressText) (r : ResponseParts) (after : List ℕ) → IsAddress at → CanBeGiven r → length (head_text r) ≤ max_heads_len
+pub page_is_entry : (version : Version) (robots : Bool) (at : AddressText) (r : ResponseParts) (after : List ℕ) → IsAddress at → CanBeGiven r → length (head_text r) ≤ MAX_HEADS
     → length (response_text r) < 2 ^ 64 - 1
     → IsEntry version robots (counted_entry (codes "page") at (response_text r) ++ after) (answered at (answer_of robots at r)) after
 page_is_entry version robots at r after is given short small =
@@ -244,15 +244,15 @@ fault_is_entry version robots at kind after is =
 -- ---- a hop of a chain
 
 -- the text of a response that can be given is shorter than what counts as the greatest length
-pub small_response : (r : ResponseParts) → CanBeGiven r → length (head_text r) ≤ max_heads_len → length (response_text r) < 2 ^ 64 - 1
+pub small_response : (r : ResponseParts) → CanBeGiven r → length (head_text r) ≤ MAX_HEADS → length (response_text r) < 2 ^ 64 - 1
 unfolding response_text
 small_response r given short =
     let body = given.1.1.body_len in
     let long = length-append (head_text r) r.body in
     omega (arith, long, body, short)
 
-pub short_head : (told : Told) → is_short told ≡ true → length (told_head told) ≤ max_heads_len
-short_head told h = leb-true (length (told_head told)) max_heads_len h
+pub short_head : (told : Told) → is_short told ≡ true → length (told_head told) ≤ MAX_HEADS
+short_head told h = leb-true (length (told_head told)) MAX_HEADS h
 
 -- what is written of a hop is one, whatever stands behind it
 told_is_hop : (at : AddressText) (told : Told) (after : List ℕ) → IsToldOf at told → is_short told ≡ true → IsHop (hop_entry (at, told) ++ after) (at, told) after

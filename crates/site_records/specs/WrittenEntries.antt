@@ -4,7 +4,7 @@ use Rattle.std.specs.List.{list_all}
 use Rattle.address.specs.Address.{AddressText, OriginText, IsAddress, IsOrigin}
 use Rattle.fetcher.specs.declared.fault_kind.FaultKind.{FaultKind}
 use Rattle.fetcher.specs.FaultWords.{word_of}
-use Rattle.response_reader.specs.Heads.{max_heads_len}
+use Rattle.response_reader.specs.declared.limits.TheConstants.{MAX_HEADS}
 use Rattle.response_reader.specs.Response.{CanBeGiven}
 use Rattle.response_reader.specs.Written.{head_text, response_text}
 use Rattle.answer_notes.specs.Tellings.{outcome_told, body_told}
@@ -40,7 +40,7 @@ told_head (Fault kind) = []
 
 -- it can be read again: its head is as short as heads may be
 abbrev pub is_short : Told → Bool
-is_short told = nat_le (length (told_head told)) max_heads_len
+is_short told = nat_le (length (told_head told)) MAX_HEADS
 
 -- its text, under the word of a response or that of a fault
 abbrev pub told_text : List ℕ → List ℕ → AddressText → Told → List ℕ

@@ -1,7 +1,6 @@
 //! The chains that stand in notes for what version 1 says of an origin's robots file: one hop each, with the same rules.
 ghost use Rattle.std.specs.Prelude.{◌≡◌, ◌≤◌, ◌||◌, ◌==◌, ◌++◌, [], false, length, None, IfOk, take};
 ghost use Rattle.robots_rules.specs.Groups.{rules_in};
-ghost use Rattle.response_reader.specs.Bodies.{max_body_len};
 ghost use Rattle.response_reader.specs.Response.{CanBeGiven};
 ghost use Rattle.answer_notes.specs.RobotsAnswers.{none_allowed, all_allowed};
 ghost use Rattle.answer_notes.specs.HopChains.{rules_of_hops, robots_file};
@@ -9,7 +8,7 @@ ghost use Rattle.answer_notes.specs.Tellings.{target_told, rules_told};
 
 use address::Origin;
 use answer_notes::{Given, Hops, Told};
-use fetcher::FaultKind;
+use fetcher::{FaultKind, NOT_FOUND};
 use response_reader::Response;
 use std::alloc::{AllocError, Global};
 
@@ -51,7 +50,7 @@ pub(crate) fn free_chain(alloc: Global, of: &Origin) -> Result<Hops, AllocError>
     ensures rules { IfOk result (λ hops. rules_of_hops hops.hops ≡ all_allowed) }
 {
     let response = Response {
-        status: 404,
+        status: NOT_FOUND,
         content_type: None,
         coded: false,
         location: None,

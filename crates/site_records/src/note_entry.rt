@@ -1,7 +1,7 @@
 //! The entry that is written of a note, in version 2 of records.
 ghost use Rattle.std.specs.Prelude.{◌≡◌, ◌≤◌, ◌++◌, ◌∷◌, [], true, false, All, IfOk, MatchOption, OnOk, flat_map, if◌then◌else◌, length};
 ghost use Rattle.std.specs.List.{list_all};
-ghost use Rattle.response_reader.specs.Heads.{max_heads_len};
+ghost use Rattle.response_reader.specs.declared.limits.TheConstants.{MAX_HEADS};
 ghost use Rattle.response_reader.specs.Response.{CanBeGiven};
 ghost use Rattle.response_reader.specs.Written.{head_text, response_text};
 ghost use Rattle.answer_notes.specs.HopChains.{HopValue};
@@ -10,12 +10,9 @@ ghost use Rattle.site_records.specs.WrittenEntries.{line_of_three, counted_entry
 
 use address::Address;
 use answer_notes::{Given, Hops, Noted, Told};
-use response_reader::push_head;
+use response_reader::{MAX_HEADS, push_head};
 use std::alloc::{AllocError, Global};
 use streams::Pieces;
-
-/// How many bytes the head of a response may have that can be read again.
-const MAX_HEAD: usize = 65_536;
 
 // A line of three fields.
 fn line_of_three(
@@ -43,7 +40,7 @@ fn short_head(alloc: Global, told: &Told) -> Result<Option<Vec<u8>>, AllocError>
     if let Told::Whole(given) = told {
         push_head(&mut head, given.response())?;
     }
-    if head.len() > MAX_HEAD {
+    if head.len() > MAX_HEADS {
         return Ok(None);
     }
     Ok(Some(head))
@@ -59,7 +56,7 @@ fn push_whole<'a>(
     head: &[u8],
 ) -> Result<(), AllocError>
     requires head { head.now ≡ head_text given.now }
-    requires short { length head.now ≤ max_heads_len }
+    requires short { length head.now ≤ MAX_HEADS }
     ensures text { OnOk result (pieces.new ≡ pieces.old ++ counted_entry word.now at.now (response_text given.now)) }
     ensures given { OnOk result (CanBeGiven given.now) }
 {

@@ -5,7 +5,8 @@ use Rattle.response_reader.specs.declared.fault.ReadFault.{ReadFault}
 use Rattle.response_reader.specs.declared.fault.ReadFault.TheVariants.{Device, Memory, Ended, BodyLong}
 use Rattle.response_reader.specs.declared.fields.Framing.{Framing}
 use Rattle.response_reader.specs.declared.fields.Framing.TheVariants.{UntilClose}
-use Rattle.response_reader.specs.Bodies.{ReadsBody, max_body_len, max_response_len}
+use Rattle.response_reader.specs.declared.limits.TheConstants.{MAX_BODY, MAX_RESPONSE}
+use Rattle.response_reader.specs.Bodies.{ReadsBody}
 use Rattle.response_reader.specs.Response.{ReadsFront}
 
 -- count bytes of what was ahead were handed on
@@ -48,8 +49,8 @@ pub record TakesBody (used : ℕ) (framing : Framing) (P : List ℕ → Type 0) 
   pub body : List ℕ
   pub rest : List ℕ
   pub reads : ReadsBody framing bytes body rest
-  pub few : length body ≤ max_body_len
-  pub len : used + length bytes ≤ length rest + max_response_len
+  pub few : length body ≤ MAX_BODY
+  pub len : used + length bytes ≤ length rest + MAX_RESPONSE
   pub adds : P body
 
 -- after heads of used bytes a body that is framed so was used, all its bytes and none behind it. What follows is free,
@@ -59,8 +60,8 @@ pub record TookBody (before after : Option (List ℕ)) (used : ℕ) (framing : F
   pub text : List ℕ
   pub bytes : Consumes before after text
   pub reads : (tail : List ℕ) → (framing ≡ UntilClose → tail ≡ []) → ReadsBody framing (text ++ tail) body tail
-  pub few : length body ≤ max_body_len
-  pub len : used + length text ≤ max_response_len
+  pub few : length body ≤ MAX_BODY
+  pub len : used + length text ≤ MAX_RESPONSE
 
 -- the bytes begin with a front of a body that is framed so, and it was handed on
 abbrev pub TakesFront : Framing → (List ℕ → Type 0) → List ℕ → Type 0

@@ -2,12 +2,13 @@
 use Rattle.std.specs.Prelude.{◌≡◌, ℕ, IsTrue}
 use Rattle.std.specs.Io.KnownBytes.{Keeps}
 use Rattle.response_reader.specs.Wire.{HasRisen, counted}
-use Rattle.response_reader.specs.inner.Wire.{IsAllInterrupted, Tally, max_interrupted}
+use Rattle.response_reader.specs.declared.limits.TheConstants.{MAX_INTERRUPTED}
+use Rattle.response_reader.specs.inner.Wire.{IsAllInterrupted, Tally}
 
 -- writes that gave up: a call failed, without `Failed` there were as many interruptions as may be, and nothing was read
 pub record WritesGiveUp (old new : Tally) : Type 0 where
   pub risen : (base : ℕ) → IsAllInterrupted base old → HasRisen base new.failed
-  pub only : IsTrue old.unfailing → (base : ℕ) → IsAllInterrupted base old → new.failed ≡ counted base max_interrupted
+  pub only : IsTrue old.unfailing → (base : ℕ) → IsAllInterrupted base old → new.failed ≡ counted base MAX_INTERRUPTED
   pub unfailing : IsTrue old.unfailing → IsTrue new.unfailing
   pub unerring : IsTrue old.unerring → IsTrue new.unerring
   pub kept : Keeps old.kept new.kept

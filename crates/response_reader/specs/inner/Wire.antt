@@ -1,6 +1,7 @@
 -- What proofs alone need beside `Wire`.
 use Rattle.std.specs.Prelude.{Bool, IsTrue, ◌≡◌, ℕ, ◌-◌, ◌<◌, List, Option}
 use Rattle.std.specs.Io.KnownBytes.{Keeps}
+use Rattle.response_reader.specs.declared.limits.TheConstants.{MAX_INTERRUPTED}
 use Rattle.response_reader.specs.declared.wire.WireFault.TheVariants.{Failed}
 use Rattle.response_reader.specs.Wire.{counted, HasRisen}
 
@@ -20,10 +21,6 @@ abbrev pub tally : ℕ → Bool → Bool → Option (List ℕ) → Bool → ℕ 
 tally failed unfailing unerring kept lost interrupted =
     record { failed = failed; interrupted = interrupted; unfailing = unfailing; unerring = unerring; kept = kept; lost = lost }
 
--- how many interrupted reads a response may meet, which is one too many
-abbrev pub max_interrupted : ℕ
-max_interrupted = 1000
-
 -- of the calls that failed, all were interrupted reads, where base had failed before the response
 abbrev pub IsAllInterrupted : ℕ → Tally → Type 0
 IsAllInterrupted base t = t.failed ≡ counted base t.interrupted
@@ -35,11 +32,11 @@ pub record GoesOn (old new : Tally) : Type 0 where
   pub unerring : IsTrue old.unerring → IsTrue new.unerring
   pub kept : Keeps old.kept new.kept
   pub lost : new.lost ≡ old.lost
-  pub few : old.interrupted < max_interrupted → new.interrupted < max_interrupted
+  pub few : old.interrupted < MAX_INTERRUPTED → new.interrupted < MAX_INTERRUPTED
 
 -- reads that gave up: a call failed, and without `Failed` there were as many interruptions as may be
 pub record GivesUp (old new : Tally) : Type 0 where
   pub risen : (base : ℕ) → IsAllInterrupted base old → HasRisen base new.failed
-  pub only : IsTrue old.unfailing → (base : ℕ) → IsAllInterrupted base old → new.failed ≡ counted base max_interrupted
+  pub only : IsTrue old.unfailing → (base : ℕ) → IsAllInterrupted base old → new.failed ≡ counted base MAX_INTERRUPTED
   pub erred : IsTrue old.unerring → ⊥
   pub kept : Keeps old.kept new.kept

@@ -4,14 +4,14 @@ use Rattle.std.specs.Io.KnownBytes.{prepend_known}
 use Rattle.response_reader.specs.declared.fault.ReadFault.TheVariants.{Device}
 use Rattle.response_reader.specs.inner.Wire.{tally}
 use Rattle.response_reader.proofs.CountLemmas.{fault_counts_after}
-use Rattle.response_reader.proofs.TakesLemmas.{told_quiet}
+use Rattle.response_reader.proofs.ReadLemmas.{told_memory}
 use Rattle.response_reader.proofs.ReusableLemmas.{ahead_first, reusable_first, none_counted, risen_of}
 use Rattle.response_reader.proofs.response.read_if_any.Goals as goal
 
 pub returns-in_err-incoming-clause-fault : goal.returns-in_err-incoming-clause-fault
 returns-in_err-incoming-clause-fault g c =
     let p = err_from_is_err_and c.from_residual.result c.from_residual.ensures.1 in
-    rw (p.1, p.2) (told_quiet (g.W.Wire.incoming c.args.wire.now) _ (λ bytes. tt))
+    rw (p.1, p.2) (told_memory (g.W.Wire.incoming c.args.wire.now))
 
 pub returns-in_err-reusable-in-Ok-true-clause-device : goal.returns-in_err-reusable-in-Ok-true-clause-device
 returns-in_err-reusable-in-Ok-true-clause-device g c is =
