@@ -1,12 +1,15 @@
 //! The connections of a run that are kept to be used again (RFC 9112, section 9.3), and how many stand.
+ghost use Rattle.std.specs.Prelude.{◌≡◌, Some, MatchOption};
+ghost use Rattle.tcp_connect.specs.Standing.{waits, NonePasses, EndsFirst};
+ghost use Rattle.tcp_connect.specs.declared.kept.Waiting.{Waiting};
+
+use crate::standing::Standing;
+pub(crate) use crate::standing::{Entered, MOST};
 use std::alloc::{AllocError, Global};
 use std::io::ErrorKind;
 use std::net::OpenStream;
 use std::sync::{Mutex, Wait};
 use std::time::{Clock, Instant};
-
-/// The most connections of a run that stand at one time.
-pub(crate) const MOST: usize = 64;
 
 /// The most seconds that one waits.
 const IDLE_SECONDS: u64 = 5;
@@ -18,34 +21,12 @@ pub(crate) struct Waiting<S: Drop> {
     pub(crate) stream: S,
 }
 
-// A connection that stands: its number, the text of the origin that it was made for, and the connection while it waits.
-#[derive(Drop)]
-struct Place<S: Drop> {
-    number: u64,
-    of: String,
-    waiting: Option<Waiting<S>>,
-}
-
-// Those that stand. One that is put down to wait goes to the end, so those that wait stand in the order of their waits.
-#[derive(Drop)]
-struct Standing<S: Drop> {
-    places: Vec<Place<S>>,
-    entered: u64,
-}
-
-// What came of a request for a place: the place's number, where there is room for it, and one that waited, which has to go.
-#[derive(Drop)]
-pub(crate) struct Entered<S: Drop> {
-    pub(crate) place: Option<u64>,
-    pub(crate) ended: Option<S>,
-}
-
 /// The connections of a run that are kept, shared by all its workers. Those in use are counted with those that wait. The lock is
 /// held while one is looked for, counted or put down, and never while one is made, used, looked at or closed.
 #[derive(Drop)]
 pub struct Kept<S: Drop> {
     alloc: Global,
-    standing: Mutex<Standing<S>>,
+    standing: Mutex<Standing<Waiting<S>>>,
 }
 
 impl<S: Drop> Kept<S> {
@@ -53,10 +34,7 @@ impl<S: Drop> Kept<S> {
     pub fn new(alloc: Global) -> Kept<S> {
         Kept {
             alloc,
-            standing: Mutex::new(Standing {
-                places: Vec::new(alloc),
-                entered: 0,
-            }),
+            standing: Mutex::new(Standing::new(alloc)),
         }
     }
 
@@ -71,7 +49,7 @@ impl<S: Drop> Kept<S> {
         rt: &R,
         of: &str,
         most: usize,
-    ) -> Result<Entered<S>, AllocError> {
+    ) -> Result<Entered<Waiting<S>>, AllocError> {
         let of = String::from_str(self.alloc, of)?;
         self.standing.lock(rt).enter(of, most)
     }
@@ -83,118 +61,49 @@ impl<S: Drop> Kept<S> {
 
     // Puts one down to wait. It comes back where there is no place for it.
     pub(crate) fn put<R: Wait>(&self, rt: &R, number: u64, waiting: Waiting<S>) -> Option<S> {
-        self.standing.lock(rt).put(number, waiting)
+        put_among(&mut self.standing.lock(rt), number, waiting)
     }
 
     // The one that waits longest, where it waits too long.
     pub(crate) fn take_stale<R: Wait + Clock>(&self, rt: &R) -> Option<S> {
-        self.standing.lock(rt).take_stale(rt)
+        stale_among(&mut self.standing.lock(rt), rt)
     }
 
     // The one that waits longest.
     pub(crate) fn take_oldest<R: Wait>(&self, rt: &R) -> Option<S> {
-        self.standing.lock(rt).take_oldest()
+        oldest_among(&mut self.standing.lock(rt))
     }
 }
 
-// What stands under the lock is used by functions of its own: there no way out of them lets go of the lock.
-impl<S: Drop> Standing<S> {
-    fn take(&mut self, of: &str) -> Option<(u64, Waiting<S>)> {
-        let at = self.places.iter().rposition(|it| waits_for(it, of))?;
-        let place = self.places.get_mut(at)?;
-        let waiting = place.waiting.take()?;
-        Some((place.number, waiting))
-    }
+// What stands under the lock is lent to functions of its own: there no way out of them lets go of the lock.
 
-    fn enter(&mut self, of: String, most: usize) -> Result<Entered<S>, AllocError> {
-        let ended = self.make_room(of.as_str(), most);
-        if self.places.len() >= MOST || count(&self.places, of.as_str()) >= most {
-            return Ok(Entered { place: None, ended });
-        }
-        let number = self.entered;
-        let place = Place {
-            number,
-            of,
-            waiting: None,
-        };
-        let Ok(()) = self.places.push(place) else {
-            return Err(AllocError);
-        };
-        self.entered = number.wrapping_add(1);
-        Ok(Entered {
-            place: Some(number),
-            ended,
-        })
+// The one that waits longest, where it waits too long.
+fn stale_among<S: Drop, R: Clock>(standing: &mut Standing<Waiting<S>>, rt: &R) -> Option<S>
+    ensures { MatchOption result (standing.new ≡ standing.old) (λ stream. (waiting : Waiting S) × (waiting.stream ≡ stream) × EndsFirst waits standing.old (Some waiting) standing.new) }
+{
+    let oldest = standing.oldest()?;
+    if is_fresh(rt, &oldest.since) {
+        return None;
     }
-
-    // Takes one away that waits, where there is no room for one more to this origin, or for one more at all.
-    fn make_room(&mut self, of: &str, most: usize) -> Option<S> {
-        if count(&self.places, of) >= most {
-            let at = self.places.iter().position(|it| waits_for(it, of))?;
-            return self.remove(at);
-        }
-        if self.places.len() >= MOST {
-            return self.take_oldest();
-        }
-        None
-    }
-
-    fn leave(&mut self, number: u64) {
-        if let Some(at) = self.places.iter().position(|it| it.number == number) {
-            drop(self.places.remove(at));
-        }
-    }
-
-    fn put(&mut self, number: u64, waiting: Waiting<S>) -> Option<S> {
-        let Some(at) = self.places.iter().position(|it| it.number == number) else {
-            let Waiting { stream, .. } = waiting;
-            return Some(stream);
-        };
-        let mut place = self.places.remove(at);
-        place.waiting = Some(waiting);
-        // There is room for the one that was removed.
-        let _ = self.places.push(place);
-        None
-    }
-
-    fn take_stale<R: Clock>(&mut self, rt: &R) -> Option<S> {
-        let at = self.places.iter().position(waits)?;
-        let place = self.places.get(at)?;
-        let waiting = place.waiting.as_ref()?;
-        if is_fresh(rt, &waiting.since) {
-            return None;
-        }
-        self.remove(at)
-    }
-
-    fn take_oldest(&mut self) -> Option<S> {
-        let at = self.places.iter().position(waits)?;
-        self.remove(at)
-    }
-
-    fn remove(&mut self, at: usize) -> Option<S> {
-        if at >= self.places.len() {
-            return None;
-        }
-        let Place { waiting, .. } = self.places.remove(at);
-        let Waiting { stream, .. } = waiting?;
-        Some(stream)
-    }
+    oldest_among(standing)
 }
 
-// Whether a connection waits.
-fn waits<S: Drop>(place: &Place<S>) -> bool {
-    place.waiting.is_some()
+// The one that waits longest.
+fn oldest_among<S: Drop>(standing: &mut Standing<Waiting<S>>) -> Option<S>
+    ensures { MatchOption result (NonePasses waits standing.old.stands × (standing.new ≡ standing.old)) (λ stream. (waiting : Waiting S) × (waiting.stream ≡ stream) × EndsFirst waits standing.old (Some waiting) standing.new) }
+{
+    let Waiting { stream, .. } = standing.take_oldest()?;
+    Some(stream)
 }
 
-// Whether a connection to this origin waits there.
-fn waits_for<S: Drop>(place: &Place<S>, of: &str) -> bool {
-    place.waiting.is_some() && place.of.as_str() == of
-}
-
-// How many of these are connections to an origin.
-fn count<S: Drop>(places: &[Place<S>], of: &str) -> usize {
-    places.iter().filter(|it| it.of.as_str() == of).count()
+// Puts one down to wait. It comes back where there is no place for it.
+fn put_among<S: Drop>(
+    standing: &mut Standing<Waiting<S>>,
+    number: u64,
+    waiting: Waiting<S>,
+) -> Option<S> {
+    let Waiting { stream, .. } = standing.put(number, waiting)?;
+    Some(stream)
 }
 
 // Whether a connection that waits since then may be used. It may not where the clock can't be read.

@@ -7,6 +7,7 @@ mod connection;
 mod hosts;
 mod kept;
 mod lacks;
+mod standing;
 mod tcp_connect;
 
 pub use connection::Connection;

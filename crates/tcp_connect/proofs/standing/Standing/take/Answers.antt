@@ -1,0 +1,22 @@
+use Rattle.std.proofs.Common.{ap, ◌∙◌, ◌≡◌, None, Some, get_or, slice_set}
+use Rattle.std.proofs.lemmas.Option.{get_or_from_slice_get}
+use Rattle.tcp_connect.specs.Standing.{Stand, Pool}
+use Rattle.tcp_connect.proofs.standing.Standing.take.Goals as goal
+
+pub returns : goal.returns
+returns g c =
+    let stand = c.in_ok-at.ensures.0 in
+    let last = c.in_ok-at.ensures.1 in
+    let at = c.in_ok-at.at in
+    let taken = c.index_mut-place.result.now in
+    let now = c.args.self.now in
+    let opened : c.self.inside.places.items ≡ now.stands = ap (λ p. p.stands) c.self.view_is in
+    let lent : now.stands ≡ c.deref.result.now = cc in
+    let read : get_or c.deref.result.now at taken ≡ stand = get_or_from_slice_get c.deref.result.now at stand taken last.there in
+    let same : taken ≡ stand = cc c.index_mut-place.ensures.value in
+    let number : stand.number ≡ c.number-number.result = cc (ap (λ s. s.number) same, c.number-number.ensures) in
+    let waiting : stand.waiting ≡ Some c.in_ok-waiting.waiting = cc (ap (λ s. s.waiting) same, c.take.ensures.value, c.in_ok-waiting.was) in
+    let idle : Stand g.row.W.Denot → Stand g.row.W.Denot = λ s. record s { waiting = None } in
+    let left : c.take.new.self ≡ idle stand = c.take.ensures.after ∙ ap idle same in
+    let set_at : Stand g.row.W.Denot → Pool g.row.W.Denot → Pool g.row.W.Denot = λ s p. record { stands = slice_set p.stands at s; entered = p.entered } in
+    (at, stand, rw lent last, number, waiting, ap (set_at c.take.new.self) c.self.view_is ∙ ap (λ s. set_at s now) left)

@@ -1,0 +1,106 @@
+-- Connections that stand: how many, which waits longest, and which goes for a new one.
+use Rattle.std.specs.Prelude.{◌≡◌, ◌⊎◌, ◌<◌, ◌≤◌, ◌==◌, ◌+◌, ◌^◌, ℕ, Bool, true, false, ◌&&◌, List, [], ◌∷◌, ◌++◌, Option, Some, None, MatchOption, All, length, count_by, slice_get, slice_set, remove, bytes_eq, is_some}
+use Rattle.tcp_connect.specs.declared.standing.TheConstants.{MOST}
+
+-- a connection that stands: its number, the bytes of the origin that it was made for, and what waits there, where it isn't in use
+pub record Stand (W : Type 0) : Type 0 where
+  pub number : ℕ
+  pub of : List ℕ
+  pub waiting : Option W
+
+-- those that stand, in the order in which they were entered or last put down, and how many were entered
+pub record Pool (W : Type 0) : Type 0 where
+  pub stands : List (Stand W)
+  pub entered : ℕ
+
+-- no more stand than may, each with one of the numbers that were given
+pub record IsPool {W : Type 0} (pool : Pool W) : Type 0 where
+  pub few : length pool.stands ≤ MOST
+  pub given : All (λ stand. stand.number < pool.entered) pool.stands
+
+-- it isn't in use
+abbrev pub waits : {W : Type 0} → Stand W → Bool
+waits stand = is_some stand.waiting
+
+-- it was made for this origin
+abbrev pub is_to : {W : Type 0} → List ℕ → Stand W → Bool
+is_to of stand = bytes_eq stand.of of
+
+-- it was made for this origin, and isn't in use
+abbrev pub waits_for : {W : Type 0} → List ℕ → Stand W → Bool
+waits_for of stand = waits stand && is_to of stand
+
+-- it has this number
+abbrev pub has_number : {W : Type 0} → ℕ → Stand W → Bool
+has_number number stand = stand.number == number
+
+-- how many stand to an origin
+abbrev pub count_to : {W : Type 0} → List (Stand W) → List ℕ → ℕ
+count_to stands of = count_by (is_to of) stands
+
+-- none of these passes
+abbrev pub NonePasses : {W : Type 0} → (Stand W → Bool) → List (Stand W) → Type 0
+NonePasses {W} test stands = (k : ℕ) (stand : Stand W) → slice_get stands k ≡ Some stand → test stand ≡ false
+
+-- the one there is the first of those that pass
+pub record IsFirst {W : Type 0} (test : Stand W → Bool) (stands : List (Stand W)) (at : ℕ) (stand : Stand W) : Type 0 where
+  pub there : slice_get stands at ≡ Some stand
+  pub passes : test stand ≡ true
+  pub first : (k : ℕ) (other : Stand W) → k < at → slice_get stands k ≡ Some other → test other ≡ false
+
+-- the one there is the last of those that pass
+pub record IsLast {W : Type 0} (test : Stand W → Bool) (stands : List (Stand W)) (at : ℕ) (stand : Stand W) : Type 0 where
+  pub there : slice_get stands at ≡ Some stand
+  pub passes : test stand ≡ true
+  pub last : (k : ℕ) (other : Stand W) → at < k → slice_get stands k ≡ Some other → test other ≡ false
+
+-- the one there stands no longer, and this is what waited there
+abbrev pub Removes : {W : Type 0} → ℕ → Pool W → Option W → Pool W → Type 0
+Removes {W} at old waited new =
+    (stand : Stand W) × (slice_get old.stands at ≡ Some stand) × (waited ≡ stand.waiting) × (new ≡ record old { stands = remove old.stands at })
+
+-- the first of those that pass stands no longer, and this is what waited there; none where none passes, and all stand on
+abbrev pub EndsFirst : {W : Type 0} → (Stand W → Bool) → Pool W → Option W → Pool W → Type 0
+EndsFirst {W} test old ended new =
+    MatchOption ended (NonePasses test old.stands × (new ≡ old))
+    (λ waited. (at : ℕ) × (stand : Stand W) × IsFirst test old.stands at stand × (stand.waiting ≡ Some waited) × (new ≡ record old { stands = remove old.stands at }))
+
+-- the last of those that wait for this origin is in use from now on, by its number; none where none waits for it
+abbrev pub Takes : {W : Type 0} → List ℕ → Pool W → Option (ℕ × W) → Pool W → Type 0
+Takes {W} of old taken new =
+    MatchOption taken (NonePasses (waits_for of) old.stands × (new ≡ old))
+    (λ one. (at : ℕ) × (stand : Stand W) × IsLast (waits_for of) old.stands at stand × (stand.number ≡ one.0) × (stand.waiting ≡ Some one.1)
+    × (new ≡ record old { stands = slice_set old.stands at (record stand { waiting = None }) }))
+
+-- where a new one to this origin finds no room, of which so many may stand, one that waits goes for it: to this origin where that is full, else any
+pub record MakesRoom {W : Type 0} (of : List ℕ) (most : ℕ) (old : Pool W) (ended : Option W) (new : Pool W) : Type 0 where
+  pub full : most ≤ count_to old.stands of → EndsFirst (waits_for of) old ended new
+  pub whole : count_to old.stands of < most → MOST ≤ length old.stands → EndsFirst waits old ended new
+  pub room : count_to old.stands of < most → length old.stands < MOST → (ended ≡ None) × (new ≡ old)
+
+-- one more to this origin may stand, of which so many may, and there is a number for it
+pub record HasRoom {W : Type 0} (of : List ℕ) (most : ℕ) (pool : Pool W) : Type 0 where
+  pub origin : count_to pool.stands of < most
+  pub whole : length pool.stands < MOST
+  pub number : pool.entered + 1 < 2 ^ 64
+
+-- where there is room, one more stands, in use, by the next number, which no other has; else nothing changed
+abbrev pub Adds : {W : Type 0} → List ℕ → ℕ → Pool W → Option ℕ → Pool W → Type 0
+Adds {W} of most old place new =
+    MatchOption place (¬ HasRoom of most old × (new ≡ old))
+    (λ number. HasRoom of most old × (number ≡ old.entered) × NonePasses (has_number number) old.stands
+    × (new ≡ record { stands = old.stands ++ record { number = number; of = of; waiting = None } ∷ []; entered = old.entered + 1 }))
+
+-- the one of this number waits from now on, and is the last to have been put down; where none has it, what was to wait comes back
+abbrev pub PutsDown : {W : Type 0} → ℕ → W → Pool W → Option W → Pool W → Type 0
+PutsDown {W} number waiting old back new =
+    MatchOption back
+    ((at : ℕ) × (stand : Stand W) × IsFirst (has_number number) old.stands at stand
+    × (new ≡ record old { stands = remove old.stands at ++ record stand { waiting = Some waiting } ∷ [] }))
+    (λ given. (given ≡ waiting) × NonePasses (has_number number) old.stands × (new ≡ old))
+
+-- the one of this number stands no longer, where one has it, and all others stand on
+abbrev pub Leaves : {W : Type 0} → ℕ → Pool W → Pool W → Type 0
+Leaves {W} number old new =
+    (NonePasses (has_number number) old.stands × (new ≡ old))
+    ⊎ ((at : ℕ) × (stand : Stand W) × IsFirst (has_number number) old.stands at stand × (new ≡ record old { stands = remove old.stands at }))
