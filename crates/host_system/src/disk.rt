@@ -5,17 +5,20 @@ use record_journal::SavedFile;
 use std::fs::Files;
 use std::io;
 use std::io::{ErrorKind, Write};
+use std::net::Net;
 use std::sync::Wait;
+use tcp_connect::Kept;
 
-/// The folder of a run's pages.
+/// The folder of a run's pages. Before one is put the connections that wait are ended, since a file needs a descriptor too.
 #[derive(Drop)]
-pub struct Disk<'a, R: Files + Wait> {
+pub struct Disk<'a, R: Net + Files + Wait> {
     pub(crate) inner: DiskFolder<'a, R>,
     pub(crate) rt: &'a R,
+    pub(crate) kept: &'a Kept<R::Stream>,
     pub(crate) failures: &'a SharedFailures,
 }
 
-impl<'a, R: Files + Wait> Folder for Disk<'a, R>
+impl<'a, R: Net + Files + Wait> Folder for Disk<'a, R>
 where
     R::File: Close,
 {
@@ -26,6 +29,7 @@ where
     ghost failed = { λ d. d.inner.failed };
 
     fn put(&mut self, name: &str, bytes: &[u8]) -> Result<(), FolderFault> {
+        self.kept.end_waiting(self.rt);
         let put = self.inner.put(name, bytes);
         if let (Err(_), Some(error)) = (&put, self.inner.error()) {
             self.failures.fail(self.rt, name, error);
@@ -38,18 +42,19 @@ where
     }
 }
 
-/// The record of a run.
+/// The record of a run. Before it is written the connections that wait are ended, too.
 #[derive(Drop)]
-pub struct Saved<'a, R: Wait + Eprint + Files> {
+pub struct Saved<'a, R: Net + Wait + Eprint + Files> {
     pub(crate) inner: SavedFile<'a, R, R>,
     pub(crate) rt: &'a R,
+    pub(crate) kept: &'a Kept<R::Stream>,
     pub(crate) failures: &'a SharedFailures,
     pub(crate) path: String,
     // Whether it is kept that it can't be put.
     pub(crate) is_lost: bool,
 }
 
-impl<'a, R: Wait + Eprint + Files> Saved<'a, R> {
+impl<'a, R: Net + Wait + Eprint + Files> Saved<'a, R> {
     // Keeps why it can't be put, once. An interrupted call may be made again.
     fn note<T>(&mut self, answer: &io::Result<T>) {
         let Err(error) = answer else {
@@ -62,7 +67,7 @@ impl<'a, R: Wait + Eprint + Files> Saved<'a, R> {
     }
 }
 
-impl<'a, R: Wait + Eprint + Files> Write for Saved<'a, R>
+impl<'a, R: Net + Wait + Eprint + Files> Write for Saved<'a, R>
 where
     R::File: Close,
 {
@@ -71,12 +76,14 @@ where
     ghost contents = { λ _. None };
 
     fn write(&mut self, bytes: &[u8]) -> io::Result<usize> {
+        self.kept.end_waiting(self.rt);
         let answer = self.inner.write(bytes);
         self.note(&answer);
         answer
     }
 
     fn write_all(&mut self, bytes: &[u8]) -> io::Result<()> {
+        self.kept.end_waiting(self.rt);
         let answer = self.inner.write_all(bytes);
         self.note(&answer);
         answer

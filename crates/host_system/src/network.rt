@@ -115,6 +115,7 @@ where
             Ok(inner) => Ok(Disk {
                 inner,
                 rt: self.rt,
+                kept: self.kept,
                 failures: self.failures,
             }),
             Err(_) => Err(AllocError),
@@ -142,6 +143,7 @@ where
         Ok(Saved {
             inner,
             rt: self.rt,
+            kept: self.kept,
             failures: self.failures,
             path: String::from_str(self.alloc, path)?,
             is_lost: false,

@@ -38,6 +38,16 @@ impl<S: Drop> Kept<S> {
         }
     }
 
+    /// Ends those that wait. Each holds a descriptor, which files need too once a run has asked for all.
+    pub fn end_waiting<R: Wait>(&self, rt: &R) {
+        for _ in 0..MOST {
+            match self.take_oldest(rt) {
+                Some(stream) => drop(stream),
+                None => return,
+            }
+        }
+    }
+
     // The one to this origin that was put down last, which is in use from now on.
     pub(crate) fn take<R: Wait>(&self, rt: &R, of: &str) -> Option<(u64, Waiting<S>)> {
         self.standing.lock(rt).take(of)
