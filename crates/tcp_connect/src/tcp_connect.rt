@@ -280,10 +280,9 @@ impl<'a, R: Net + Wait + Clock> TcpConnect<'a, R> {
         of: &Origin,
         place: Option<u64>,
     ) -> Result<TcpWire<Connection<R::Stream>>, OpenFault> {
-        let root = of.address()?;
-        let host = self.hosts.host(self.rt, root.host())?;
-        let known = host.known(self.rt, self.alloc, root.host())?;
-        let (stream, took) = stream_to(self.rt, self.hosts, &known, root.port())?;
+        let host = self.hosts.host(self.rt, of.host())?;
+        let known = host.known(self.rt, self.alloc, of.host())?;
+        let (stream, took) = stream_to(self.rt, self.hosts, &known, of.port())?;
         if known.took != Some(took) {
             host.took(self.rt, took);
         }
