@@ -262,7 +262,10 @@ fn a_location_that_is_no_text_leads_nowhere(rt: HostRuntime) {
 #[test]
 fn a_response_that_was_not_read_is_a_fault(rt: HostRuntime) {
     assert_eq!(rt; kind_of_fault(ReadFault::Ended), Some(FaultKind::Ended));
-    assert_eq!(rt; kind_of_fault(ReadFault::HeadLong), Some(FaultKind::HeadLong));
+    assert_eq!(rt;
+        kind_of_fault(ReadFault::HeadLong),
+        Some(FaultKind::HeadLong)
+    );
     assert_eq!(rt; kind_of_fault(ReadFault::Memory), None);
     assert!(rt; ReadFault::Memory.word() == "memory");
 }
