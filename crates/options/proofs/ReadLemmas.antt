@@ -16,7 +16,7 @@ use Rattle.options.specs.Line.{rows, refusals}
 use Rattle.follow_filters.specs.declared.limit.Limit.{Limit}
 use Rattle.options.specs.Given.{level_of}
 use Rattle.options.specs.Order.{Counts, start_of, started_at, are_good, counts_of, patterns_of, directories_of, domains_of, order_of_rows, order_of, are_taken, words_refused, Answers, without_kind, ordered}
-use Rattle.options.specs.inner.Order.{StartsAt, FailsToStart, fault_of_kind}
+use Rattle.options.specs.inner.Order.{Both, StartsAt, FailsToStart, FailsToFilter, fault_of_kind}
 
 pub starts-at : (found : List Row) (start : List ℕ) → start_of found ≡ Ok start → is_robots_file start ≡ false → StartsAt found start
 starts-at found start is page next =
@@ -28,6 +28,17 @@ fails-robots found start is robots =
 
 pub fails-why : (found : List Row) (why : AddressFault) → start_of found ≡ Err why → FailsToStart found (fault.Start why)
 fails-why found why is = (refl, λ next. ap (λ r. started_at r next) is)
+
+-- ---- the lists
+
+pub fails-patterns : (found : List Row) → patterns_of found ≡ None → FailsToFilter found fault.Pattern
+fails-patterns found none = (refl, λ next. rw none refl)
+
+pub fails-directories : (found : List Row) (p : Both) → patterns_of found ≡ Some p → directories_of found ≡ None → FailsToFilter found fault.Directory
+fails-directories found p patterns none = (refl, λ next. rw (patterns, none) refl)
+
+pub fails-domains : (found : List Row) (p d : Both) → patterns_of found ≡ Some p → directories_of found ≡ Some d → domains_of found ≡ None → FailsToFilter found fault.Domain
+fails-domains found p d patterns directories none = (refl, λ next. rw (patterns, directories, none) refl)
 
 -- ---- the stages of an order
 
@@ -43,17 +54,9 @@ pub bad-level : (found : List Row) (n : Counts) → are_good found ≡ true → 
 unfolding order_of_rows
 bad-level found n words counts level = rw (words, counts, level) refl
 
-pub bad-patterns : (found : List Row) (n : Counts) (l : Limit) → are_good found ≡ true → counts_of found ≡ Some n → level_of found ≡ Some l → patterns_of found ≡ None → order_of_rows found ≡ Err fault.Pattern
+pub bad-filters : (found : List Row) (n : Counts) (l : Limit) (why : LineFault) → are_good found ≡ true → counts_of found ≡ Some n → level_of found ≡ Some l → FailsToFilter found why → order_of_rows found ≡ Err why
 unfolding order_of_rows
-bad-patterns found n l words counts level patterns = rw (words, counts, level, patterns) refl
-
-pub bad-directories : (found : List Row) (n : Counts) (l : Limit) (p : List (List ℕ) × List (List ℕ)) → are_good found ≡ true → counts_of found ≡ Some n → level_of found ≡ Some l → patterns_of found ≡ Some p → directories_of found ≡ None → order_of_rows found ≡ Err fault.Directory
-unfolding order_of_rows
-bad-directories found n l p words counts level patterns directories = rw (words, counts, level, patterns, directories) refl
-
-pub bad-domains : (found : List Row) (n : Counts) (l : Limit) (p d : List (List ℕ) × List (List ℕ)) → are_good found ≡ true → counts_of found ≡ Some n → level_of found ≡ Some l → patterns_of found ≡ Some p → directories_of found ≡ Some d → domains_of found ≡ None → order_of_rows found ≡ Err fault.Domain
-unfolding order_of_rows
-bad-domains found n l p d words counts level patterns directories domains = rw (words, counts, level, patterns, directories, domains) refl
+bad-filters found n l why words counts level fails = rw (words, counts, level) (fails.1 _)
 
 pub bad-start : (found : List Row) (n : Counts) (l : Limit) (p d h : List (List ℕ) × List (List ℕ)) (why : LineFault) → are_good found ≡ true → counts_of found ≡ Some n → level_of found ≡ Some l → patterns_of found ≡ Some p → directories_of found ≡ Some d → domains_of found ≡ Some h → FailsToStart found why → order_of_rows found ≡ Err why
 unfolding order_of_rows

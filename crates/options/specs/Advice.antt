@@ -11,7 +11,6 @@ use Rattle.options.specs.Help.{help_text}
 use Rattle.options.specs.declared.help.TheConstants.{VERSION}
 use Rattle.options.specs.declared.fault.LineFault.{LineFault}
 use Rattle.options.specs.declared.fault.LineFault.TheVariants as line
-use Rattle.options.specs.declared.advice.Advice.TheVariants as advice
 use Rattle.options.specs.Hints.{hint_on}
 
 -- what a person is told: the help, name and version, or what is wrong and what is accepted in its place

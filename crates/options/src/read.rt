@@ -11,8 +11,8 @@ ghost use Rattle.follow_filters.specs.declared.plan.TheConstants.{MAX_PER_HOST, 
 ghost use Rattle.options.specs.declared.order.TheConstants.{MAX_WORKERS};
 ghost use Rattle.follow_filters.specs.declared.limit.Limit.TheVariants.{AtMost};
 ghost use Rattle.options.specs.Given.{level_of, list_of};
-ghost use Rattle.options.specs.Order.{Answers, order_of, order_of_rows, are_good, is_parent_value, is_robots_value, both, counts_of, start_of, source_of, has_no_parent, has_robots_off, honours_robots, limit_within, ordered, said_by, folder_of, prefix_of};
-ghost use Rattle.options.specs.inner.Order.{StartsAt, FailsToStart, fault_of_kind};
+ghost use Rattle.options.specs.Order.{Answers, order_of, order_of_rows, are_good, is_parent_value, is_robots_value, both, counts_of, patterns_of, directories_of, domains_of, start_of, source_of, has_no_parent, has_robots_off, honours_robots, limit_within, ordered, said_by, folder_of, prefix_of};
+ghost use Rattle.options.specs.inner.Order.{StartsAt, FailsToStart, FailsToFilter, fault_of_kind};
 
 use crate::fault::LineFault;
 use crate::given::{given, is_set, level, list, number};
@@ -57,6 +57,14 @@ struct Paths {
 struct Lists<T> {
     given: Elements<T>,
     excluded: Elements<T>,
+}
+
+// The lists of names, directories and hosts.
+#[derive(Drop)]
+struct Filters {
+    names: Lists<Pattern>,
+    places: Lists<Directory>,
+    hosts: Lists<Domain>,
 }
 
 // Whether the value of `-n` is one that it may have.
@@ -144,6 +152,83 @@ fn read_lists<T: Element>(
     Ok(Lists { given, excluded })
 }
 
+// The patterns of names.
+#[tactic(auto, unfolding(crate::specs::Order::patterns_of))]
+fn patterns(alloc: Global, matches: &ArgMatches) -> Result<Lists<Pattern>, LineFault>
+    ensures { MatchResult result
+        (λ l. patterns_of (rows_of (found_of matches.now)) ≡ Some (l.given, l.excluded))
+        (λ f. ((f ≡ fault.Pattern) × (patterns_of (rows_of (found_of matches.now)) ≡ None)) ⊎ (f ≡ fault.Memory)) }
+{
+    read_lists(alloc, matches, "accept", "reject", LineFault::Pattern)
+}
+
+// The directories that are included and excluded.
+#[tactic(auto, unfolding(crate::specs::Order::directories_of))]
+fn directories(alloc: Global, matches: &ArgMatches) -> Result<Lists<Directory>, LineFault>
+    ensures { MatchResult result
+        (λ l. directories_of (rows_of (found_of matches.now)) ≡ Some (l.given, l.excluded))
+        (λ f. ((f ≡ fault.Directory) × (directories_of (rows_of (found_of matches.now)) ≡ None)) ⊎ (f ≡ fault.Memory)) }
+{
+    read_lists(
+        alloc,
+        matches,
+        "include-directories",
+        "exclude-directories",
+        LineFault::Directory,
+    )
+}
+
+// The domains that are followed and excluded.
+#[tactic(auto, unfolding(crate::specs::Order::domains_of))]
+fn domains(alloc: Global, matches: &ArgMatches) -> Result<Lists<Domain>, LineFault>
+    ensures { MatchResult result
+        (λ l. domains_of (rows_of (found_of matches.now)) ≡ Some (l.given, l.excluded))
+        (λ f. ((f ≡ fault.Domain) × (domains_of (rows_of (found_of matches.now)) ≡ None)) ⊎ (f ≡ fault.Memory)) }
+{
+    read_lists(
+        alloc,
+        matches,
+        "domains",
+        "exclude-domains",
+        LineFault::Domain,
+    )
+}
+
+// The lists, or the fault of the first that is bad. Here and in `order_of_matches` an exit lets go of what was read by calls, since
+// what it lets go itself is proved anew at each exit.
+fn read_filters(alloc: Global, matches: &ArgMatches) -> Result<Filters, LineFault>
+    ensures { MatchResult result
+        (λ l. (patterns_of (rows_of (found_of matches.now)) ≡ Some (l.names.given, l.names.excluded))
+        × (directories_of (rows_of (found_of matches.now)) ≡ Some (l.places.given, l.places.excluded))
+        × (domains_of (rows_of (found_of matches.now)) ≡ Some (l.hosts.given, l.hosts.excluded)))
+        (λ f. FailsToFilter (rows_of (found_of matches.now)) f ⊎ (f ≡ fault.Memory)) }
+{
+    let names = match patterns(alloc, matches) {
+        Ok(names) => names,
+        Err(fault) => return Err(fault),
+    };
+    let places = match directories(alloc, matches) {
+        Ok(places) => places,
+        Err(fault) => {
+            drop(names);
+            return Err(fault);
+        }
+    };
+    let hosts = match domains(alloc, matches) {
+        Ok(hosts) => hosts,
+        Err(fault) => {
+            drop(names);
+            drop(places);
+            return Err(fault);
+        }
+    };
+    Ok(Filters {
+        names,
+        places,
+        hosts,
+    })
+}
+
 // The start, which is an address and no robots file.
 fn start(alloc: Global, matches: &ArgMatches) -> Result<Address, LineFault>
     ensures { MatchResult result
@@ -212,8 +297,7 @@ fn fault_of(error: &Error) -> LineFault
     }
 }
 
-// The order of what is found for each option, or the lowest fault. An exit lets go of what was read by
-// calls, since what it lets go itself is proved anew at each exit.
+// The order of what is found for each option, or the lowest fault.
 fn order_of_matches(alloc: Global, matches: &ArgMatches) -> Result<Order, LineFault>
     ensures { Answers result (order_of_rows (rows_of (found_of matches.now))) }
 {
@@ -226,60 +310,23 @@ fn order_of_matches(alloc: Global, matches: &ArgMatches) -> Result<Order, LineFa
     let Some(level) = level(matches) else {
         return Err(LineFault::Depth);
     };
-    let names: Lists<Pattern> = match read_lists(
-        alloc,
-        matches,
-        "accept",
-        "reject",
-        LineFault::Pattern,
-    ) {
-        Ok(names) => names,
+    let filters = match read_filters(alloc, matches) {
+        Ok(filters) => filters,
         Err(fault) => return Err(fault),
-    };
-    let places: Lists<Directory> = match read_lists(
-        alloc,
-        matches,
-        "include-directories",
-        "exclude-directories",
-        LineFault::Directory,
-    ) {
-        Ok(places) => places,
-        Err(fault) => {
-            drop(names);
-            return Err(fault);
-        }
-    };
-    let hosts: Lists<Domain> = match read_lists(
-        alloc,
-        matches,
-        "domains",
-        "exclude-domains",
-        LineFault::Domain,
-    ) {
-        Ok(hosts) => hosts,
-        Err(fault) => {
-            drop(names);
-            drop(places);
-            return Err(fault);
-        }
     };
     let page = match start(alloc, matches) {
         Ok(page) => page,
         Err(fault) => {
-            drop(names);
-            drop(places);
-            drop(hosts);
+            drop(filters);
             return Err(fault);
         }
     };
     let Ok(paths) = read_paths(alloc, matches) else {
-        drop(names);
-        drop(places);
-        drop(hosts);
+        drop(filters);
         drop(page);
         return Err(LineFault::Memory);
     };
-    Ok(filled(matches, counts, level, names, places, hosts, page, paths))
+    Ok(filled(matches, counts, level, filters, page, paths))
 }
 
 // The order of what was read and of the other options.
@@ -287,9 +334,7 @@ fn filled(
     matches: &ArgMatches,
     counts: Counts,
     level: Limit,
-    names: Lists<Pattern>,
-    places: Lists<Directory>,
-    hosts: Lists<Domain>,
+    filters: Filters,
     start: Address,
     paths: Paths,
 ) -> Order
@@ -299,8 +344,13 @@ fn filled(
     requires resume { paths.resume ≡ first_of (codes "resume") (rows_of (found_of matches.now)) }
     requires save { paths.save ≡ first_of (codes "save") (rows_of (found_of matches.now)) }
     ensures { said_by result ≡ ordered (rows_of (found_of matches.now)) (record { workers = counts.workers; per_host = counts.per_host; max_urls = counts.max_urls })
-        level (names.given, names.excluded) (places.given, places.excluded) (hosts.given, hosts.excluded) start }
+        level (filters.names.given, filters.names.excluded) (filters.places.given, filters.places.excluded) (filters.hosts.given, filters.hosts.excluded) start }
 {
+    let Filters {
+        names,
+        places,
+        hosts,
+    } = filters;
     Order {
         plan: Plan {
             start,

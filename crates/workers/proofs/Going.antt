@@ -1,8 +1,9 @@
 -- What a worker does, step by step.
 use Rattle.std.proofs.Common.{◌≡◌, ℕ, List, [], ◌∷◌, ◌++◌, length, length-append, map, refl, sym, ap, ◌∙◌, subst, append_assoc, inl, inr, arith}
-use Rattle.std.specs.Prelude.{All}
+use Rattle.std.specs.Prelude.{All, Option, Some, None, IfSome, MatchOption}
 use Rattle.std.specs.List.{filter_map}
 use Rattle.std.proofs.lemmas.List.{map-append, append-nil}
+use Rattle.std.proofs.lemmas.Option.{IfSome_then}
 use Rattle.std.proofs.lemmas.List.Elements.{All-append, All-nil, All-cons, filter_map-append}
 use Rattle.follow_filters.specs.declared.plan.Plan.{Plan}
 use Rattle.robots_rules.specs.Access.{RuleSetValue}
@@ -15,7 +16,7 @@ use Rattle.workers.specs.declared.note.PageNote.{PageNote}
 use Rattle.workers.specs.declared.note.RulesNote.{RulesNote}
 use Rattle.workers.specs.declared.note.Notes.{Notes}
 use Rattle.workers.specs.Asks.{page_asked, origin_asked}
-use Rattle.workers.specs.inner.Notes.{Goes, IsToldPage, IsToldRules}
+use Rattle.workers.specs.inner.Notes.{Goes, body_of, IsToldPage, IsToldRules}
 
 -- an ask that found no memory was logged or not, as the log's length says
 pub not_logged : (old new : List Ask) (a : Ask) → GainedAtMost old new a → length new ≡ length old → new ≡ old
@@ -29,6 +30,20 @@ was_logged old new a (inr is) other = is
 -- one more at the end of a list that had stayed as it was
 pub noted_after : {X : Type 0} (old mid new : List X) (x : X) → new ≡ mid ++ x ∷ [] → mid ≡ old → new ≡ old ++ x ∷ []
 noted_after {X = X} old mid new x more same = more ∙ ap (λ (xs : List X). xs ++ x ∷ []) same
+
+-- what a note of a page has, where it has an outcome, was told
+told_cases : (says : Text → Outcome → List ℕ → Type 0) (plan : Plan) (u : Text) (told : Option Outcome) (kept : Option (List ℕ)) (x : Outcome) (body : List ℕ) → says u x body
+    → MatchOption told (kept ≡ None) (λ y. (y ≡ x) × (kept ≡ body_of plan u y body)) → MatchOption told (kept ≡ None) (λ y. (b : List ℕ) × says u y b × (kept ≡ body_of plan u y b))
+told_cases says plan u None kept x body said is = is
+told_cases says plan u (Some y) kept x body said is = (body, subst (λ z. says u z body) (sym is.0) said, is.1)
+
+pub told_page : (says : Text → Outcome → List ℕ → Type 0) (plan : Plan) (note : PageNote) (x : Outcome) (body : List ℕ) → says note.address x body
+    → MatchOption note.told (note.body ≡ None) (λ y. (y ≡ x) × (note.body ≡ body_of plan note.address y body)) → IsToldPage says plan note
+told_page says plan note x body said is = told_cases says plan note.address note.told note.body x body said is
+
+-- and so it is with the rules of an origin
+pub told_rules : (may_rule : Text → RuleSetValue → Type 0) (note : RulesNote) (rules : RuleSetValue) → may_rule note.origin rules → IfSome note.told (λ told. told ≡ rules) → IsToldRules may_rule note
+told_rules may_rule note rules may is = IfSome_then note.told is (λ told same. subst (λ (r : RuleSetValue). may_rule note.origin r) (sym same) may)
 
 module _ {F S : Type 0} (site : F → S) (says : S → Text → Outcome → List ℕ → Type 0) (rules : S → Text → RuleSetValue → Type 0) (log : F → List Ask) (plan : Plan) (worker : ℕ) where
   -- nothing was done

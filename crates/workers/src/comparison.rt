@@ -110,8 +110,6 @@ fn records_are_noted(frontier: &Frontier, notes: &[PageNote]) -> bool
     ensures noted { IsTrue result → (u : Text) → IsSome ((answers frontier.now.state).outcome u) → Contains (addresses notes.now) u }
     ensures missing { IsAscending (addresses notes.now) → ((u : Text) → IsSome ((answers frontier.now.state).outcome u) → Contains (addresses notes.now) u) → IsTrue result }
 {
-    // No address is held twice.
-    let _trace = frontier.trace();
     let mut records = frontier.records();
     'records: while let Some((address, _outcome)) = records.next() {
         if !is_noted(notes, address) {
@@ -126,8 +124,6 @@ fn known_rules_are_noted(frontier: &Frontier, notes: &[RulesNote]) -> bool
     ensures noted { IsTrue result → (o : Text) → IsSome ((answers frontier.now.state).rules o) → Contains (origins notes.now) o }
     ensures missing { IsAscending (origins notes.now) → ((o : Text) → IsSome ((answers frontier.now.state).rules o) → Contains (origins notes.now) o) → IsTrue result }
 {
-    // No origin is held twice.
-    let _trace = frontier.trace();
     let mut rules = frontier.rules();
     'rules: while let Some((origin, _set)) = rules.next() {
         if !is_origin_noted(notes, origin) {

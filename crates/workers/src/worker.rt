@@ -1,5 +1,6 @@
 //! One worker: it takes work from a shared frontier, asks with the lock free, and hands the answers over.
-ghost use Rattle.std.specs.Prelude.{◌≡◌, ◌<◌, ◌++◌, ◌∷◌, [], List, IfOk, OnOk, vec_len, vec_capacity};
+ghost use Rattle.std.specs.Prelude.{◌≡◌, ◌<◌, ◌++◌, ◌∷◌, [], List, None, IfOk, IfSome, OnOk, MatchOption, vec_len, vec_capacity};
+ghost use Rattle.follow_filters.specs.declared.plan.Plan.{Plan};
 ghost use Rattle.workers.specs.inner.Notes.{Goes, body_of};
 ghost use Rattle.workers.specs.inner.Seats.{SeatGoes};
 
@@ -11,6 +12,7 @@ use follow_filters::Plan;
 use frontier_core::{AnswerFault, Cause, OriginPermit, Permit, SpreadFault, Work};
 use frontier_lock::{Done, FrontierLock, Held, Refused};
 use harvest::{Spool, is_success};
+use robots_rules::RuleSet;
 use std::alloc::{AllocError, Global};
 use std::sync::Wait;
 
@@ -90,7 +92,82 @@ fn give<R: Wait>(rt: &R, lock: &FrontierLock, done: Done) -> bool {
     }
 }
 
-// Asks for the page of a permit with the lock free, and hands the outcome over.
+// What was told of a page: the outcome, a copy for the frontier, and the body where the page is kept.
+#[derive(Drop)]
+struct ToldPage {
+    outcome: Outcome,
+    copy: Outcome,
+    body: Option<Bytes>,
+}
+
+// What an answer tells of a page. Its body goes to the spool where the page is kept.
+fn told_of(
+    spool: &mut Spool,
+    plan: &Plan,
+    address: &Address,
+    answer: Answer,
+) -> Result<ToldPage, AllocError>
+    ensures outcome { IfOk result (λ told. told.outcome ≡ answer.outcome) }
+    ensures body { IfOk result (λ told. told.body ≡ body_of plan.now address.now answer.outcome answer.body) }
+{
+    let Answer { outcome, body } = answer;
+    let copy = outcome.try_clone()?;
+    let body = keep_body(spool, plan, address, &outcome, body)?;
+    Ok(ToldPage {
+        outcome,
+        copy,
+        body,
+    })
+}
+
+// The note of a page that was asked for, where nothing of it was handed over.
+fn untold_page(worker: u32, address: Address) -> PageNote
+    ensures { result ≡ record { worker = worker; address = address; told = None; body = None } }
+{
+    PageNote {
+        worker,
+        address,
+        told: None,
+        body: None,
+    }
+}
+
+// Hands the answer of a page over, and gives the note of it.
+fn hand_over<R: Wait>(
+    rt: &R,
+    lock: &FrontierLock,
+    plan: &Plan,
+    worker: u32,
+    spool: &mut Spool,
+    address: Address,
+    permit: Permit,
+    answer: Answer,
+) -> PageNote
+    ensures worker { result.worker ≡ worker }
+    ensures address { result.address ≡ address }
+    ensures told { MatchOption result.told (result.body ≡ None) (λ x. (x ≡ answer.outcome) × (result.body ≡ body_of plan.now result.address x answer.body)) }
+{
+    let Ok(told) = told_of(spool, plan, &address, answer) else {
+        lock.halt(rt, Some(Held::Page(permit)), Cause::Memory);
+        return untold_page(worker, address);
+    };
+    let ToldPage {
+        outcome,
+        copy,
+        body,
+    } = told;
+    if !give(rt, lock, Done::Page(permit, copy)) {
+        return untold_page(worker, address);
+    }
+    PageNote {
+        worker,
+        address,
+        told: Some(outcome),
+        body,
+    }
+}
+
+// Asks for the page of a permit with the lock free, hands the outcome over, and notes what was asked for.
 fn serve<F: Fetcher, R: Wait>(
     rt: &R,
     lock: &FrontierLock,
@@ -109,55 +186,15 @@ fn serve<F: Fetcher, R: Wait>(
     };
     let before = fetcher.asks().len();
     let Ok(answer) = fetcher.ask(permit.address()) else {
+        lock.halt(rt, Some(Held::Page(permit)), Cause::Memory);
         if fetcher.asks().len() == before {
-            lock.halt(rt, Some(Held::Page(permit)), Cause::Memory);
             return;
         }
-        notes.pages.push_reserved(PageNote {
-            worker,
-            address,
-            told: None,
-            body: None,
-        });
-        lock.halt(rt, Some(Held::Page(permit)), Cause::Memory);
+        notes.pages.push_reserved(untold_page(worker, address));
         return;
     };
-    let Answer { outcome, body } = answer;
-    let Ok(copy) = outcome.try_clone() else {
-        notes.pages.push_reserved(PageNote {
-            worker,
-            address,
-            told: None,
-            body: None,
-        });
-        lock.halt(rt, Some(Held::Page(permit)), Cause::Memory);
-        return;
-    };
-    let Ok(body) = keep_body(spool, plan, &address, &outcome, body) else {
-        notes.pages.push_reserved(PageNote {
-            worker,
-            address,
-            told: None,
-            body: None,
-        });
-        lock.halt(rt, Some(Held::Page(permit)), Cause::Memory);
-        return;
-    };
-    if !give(rt, lock, Done::Page(permit, copy)) {
-        notes.pages.push_reserved(PageNote {
-            worker,
-            address,
-            told: None,
-            body: None,
-        });
-        return;
-    }
-    notes.pages.push_reserved(PageNote {
-        worker,
-        address,
-        told: Some(outcome),
-        body,
-    });
+    let note = hand_over(rt, lock, plan, worker, spool, address, permit, answer);
+    notes.pages.push_reserved(note);
 }
 
 // Tells the fetcher how many addresses wait, and asks for the page of a permit.
@@ -178,61 +215,73 @@ fn serve_page<F: Fetcher, R: Wait>(
     serve(rt, lock, plan, worker, fetcher, notes, spool, permit);
 }
 
-// Asks for the robots rules of a permit's origin with the lock free, and hands them over.
+// The note of an origin's rules that were asked for, where none were handed over.
+fn untold_rules(worker: u32, origin: Origin) -> RulesNote
+    ensures { result ≡ record { worker = worker; origin = origin; told = None } }
+{
+    RulesNote {
+        worker,
+        origin,
+        told: None,
+    }
+}
+
+// Hands an origin's rules over, and gives the note of them.
+fn hand_rules_over<R: Wait>(
+    rt: &R,
+    alloc: Global,
+    lock: &FrontierLock,
+    worker: u32,
+    origin: Origin,
+    permit: OriginPermit,
+    rules: RuleSet,
+) -> RulesNote
+    ensures worker { result.worker ≡ worker }
+    ensures origin { result.origin ≡ origin }
+    ensures told { IfSome result.told (λ told. told ≡ rules) }
+{
+    let Ok(copy) = rules.try_clone(alloc) else {
+        lock.halt(rt, Some(Held::Rules(permit)), Cause::Memory);
+        return untold_rules(worker, origin);
+    };
+    if !give(rt, lock, Done::Rules(permit, copy)) {
+        return untold_rules(worker, origin);
+    }
+    RulesNote {
+        worker,
+        origin,
+        told: Some(rules),
+    }
+}
+
+// Asks for the robots rules of a permit's origin with the lock free, hands them over, and notes what was asked for. Whatever
+// the plan is.
 fn serve_rules<F: Fetcher, R: Wait>(
     rt: &R,
     alloc: Global,
     lock: &FrontierLock,
-    plan: &Plan,
     worker: u32,
     fetcher: &mut F,
     notes: &mut Notes,
     permit: OriginPermit,
 )
-    ensures { Goes F.site F.says F.rules F.log plan.now worker fetcher.old notes.old fetcher.new notes.new }
+    ensures { (plan : Plan) → Goes F.site F.says F.rules F.log plan worker fetcher.old notes.old fetcher.new notes.new }
 {
-    // The plan is named by the contract alone.
-    let _ = plan;
     let Ok(origin) = make_rules_room(notes, permit.origin()) else {
         lock.halt(rt, Some(Held::Rules(permit)), Cause::Memory);
         return;
     };
     let before = fetcher.asks().len();
     let Ok(rules) = fetcher.ask_robots(permit.origin()) else {
+        lock.halt(rt, Some(Held::Rules(permit)), Cause::Memory);
         if fetcher.asks().len() == before {
-            lock.halt(rt, Some(Held::Rules(permit)), Cause::Memory);
             return;
         }
-        notes.rules.push_reserved(RulesNote {
-            worker,
-            origin,
-            told: None,
-        });
-        lock.halt(rt, Some(Held::Rules(permit)), Cause::Memory);
+        notes.rules.push_reserved(untold_rules(worker, origin));
         return;
     };
-    let Ok(copy) = rules.try_clone(alloc) else {
-        notes.rules.push_reserved(RulesNote {
-            worker,
-            origin,
-            told: None,
-        });
-        lock.halt(rt, Some(Held::Rules(permit)), Cause::Memory);
-        return;
-    };
-    if !give(rt, lock, Done::Rules(permit, copy)) {
-        notes.rules.push_reserved(RulesNote {
-            worker,
-            origin,
-            told: None,
-        });
-        return;
-    }
-    notes.rules.push_reserved(RulesNote {
-        worker,
-        origin,
-        told: Some(rules),
-    });
+    let note = hand_rules_over(rt, alloc, lock, worker, origin, permit, rules);
+    notes.rules.push_reserved(note);
 }
 
 // Offers the edges of one due address. Where they are refused the frontier stops.
@@ -266,7 +315,7 @@ fn work<F: Fetcher, R: Wait>(
             Ok(Work::Busy) => unreachable!(),
             Ok(Work::Spread) => spread(rt, lock),
             Ok(Work::Robots(permit)) => {
-                serve_rules(rt, alloc, lock, plan, worker, fetcher, notes, permit)
+                serve_rules(rt, alloc, lock, worker, fetcher, notes, permit)
             }
             Ok(Work::Page(permit)) => {
                 serve_page(rt, lock, plan, worker, fetcher, notes, spool, permit)

@@ -1,6 +1,4 @@
 -- What proofs alone need beside `Advice`.
-use Rattle.address.specs.declared.fault.AddressFault.TheVariants as refused
-use Rattle.options.specs.declared.fault.LineFault.TheVariants as line
 use Rattle.options.specs.declared.advice.Advice.{Advice}
 use Rattle.options.specs.declared.advice.Advice.TheVariants as advice
 use Rattle.options.specs.Advice.{Told, Help, Version, Correction}

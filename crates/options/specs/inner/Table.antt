@@ -2,7 +2,6 @@
 use Rattle.std.specs.Borrow.{Bor}
 use Rattle.clap.specs.Walk.{Text}
 use Rattle.options.specs.declared.table.Kind.{Kind}
-use Rattle.options.specs.declared.table.Kind.TheVariants as kind
 use Rattle.options.specs.declared.table.Row.{Row}
 use Rattle.options.specs.Table.{kind_by, row_by}
 

@@ -1,6 +1,6 @@
-use Rattle.std.proofs.Common.{◌≡◌, [], ◌∷◌, ◌++◌, length, refl, sym, ap, ◌∙◌, subst, None, Some}
+use Rattle.std.proofs.Common.{◌≡◌, [], ◌∷◌, ◌++◌, length, refl, sym, ap, ◌∙◌, subst, None}
 use Rattle.fetcher.specs.declared.fetcher.Ask.TheVariants as ask
-use Rattle.workers.proofs.Going.{goes_idle, goes_page, not_logged, was_logged, noted_after}
+use Rattle.workers.proofs.Going.{goes_idle, goes_page, not_logged, was_logged, noted_after, told_page}
 use Rattle.workers.proofs.worker.serve.Goals as goal
 
 pub returns-in_default : goal.returns-in_default
@@ -24,37 +24,16 @@ returns-in_default-ask g c =
     (λ same. c.if-asks-before.false (ap length c.asks.ensures ∙ (same ∙ sym (ap length c.asks-before.ensures)))) in
     goes_page F.site F.says F.rules F.log c.args.plan.now c.args.worker c.args.fetcher.now c.args.notes.now c.ask.new.self _ (record { worker = c.args.worker; address = c.in-Ok.address; told = None; body = None }) c.in_default-ask.ensures.site
     (subst (λ u. F.log c.ask.new.self ≡ F.log c.args.fetcher.now ++ ask.Page u ∷ []) name logged)
-    (noted_after _ _ _ _ c.push_reserved.ensures.items c.make_page_room.ensures.pages) c.make_page_room.ensures.rules refl refl
-
-pub returns-in_default-try_clone : goal.returns-in_default-try_clone
-returns-in_default-try_clone g c =
-    let F = g.F.Fetcher in
-    let name : c.address-2.result.now ≡ c.in-Ok.address = c.address-2.ensures ∙ sym (c.in-Ok.ensures.name ∙ c.address.ensures) in
-    goes_page F.site F.says F.rules F.log c.args.plan.now c.args.worker c.args.fetcher.now c.args.notes.now c.ask.new.self _ (record { worker = c.args.worker; address = c.in-Ok.address; told = None; body = None }) c.in-Ok-ask.ensures.site
-    (subst (λ u. F.log c.ask.new.self ≡ F.log c.args.fetcher.now ++ ask.Page u ∷ []) name c.in-Ok-ask.ensures.asked)
-    (noted_after _ _ _ _ c.push_reserved-in_default-try_clone.ensures.items c.make_page_room.ensures.pages) c.make_page_room.ensures.rules refl refl
-
-pub returns-in_default-keep_body : goal.returns-in_default-keep_body
-returns-in_default-keep_body g c =
-    let F = g.F.Fetcher in
-    let name : c.address-2.result.now ≡ c.in-Ok.address = c.address-2.ensures ∙ sym (c.in-Ok.ensures.name ∙ c.address.ensures) in
-    goes_page F.site F.says F.rules F.log c.args.plan.now c.args.worker c.args.fetcher.now c.args.notes.now c.ask.new.self _ (record { worker = c.args.worker; address = c.in-Ok.address; told = None; body = None }) c.in-Ok-ask.ensures.site
-    (subst (λ u. F.log c.ask.new.self ≡ F.log c.args.fetcher.now ++ ask.Page u ∷ []) name c.in-Ok-ask.ensures.asked)
-    (noted_after _ _ _ _ c.push_reserved-in_default-keep_body.ensures.items c.make_page_room.ensures.pages) c.make_page_room.ensures.rules refl refl
-
-pub returns-then-not-give : goal.returns-then-not-give
-returns-then-not-give g c =
-    let F = g.F.Fetcher in
-    let name : c.address-2.result.now ≡ c.in-Ok.address = c.address-2.ensures ∙ sym (c.in-Ok.ensures.name ∙ c.address.ensures) in
-    goes_page F.site F.says F.rules F.log c.args.plan.now c.args.worker c.args.fetcher.now c.args.notes.now c.ask.new.self _ (record { worker = c.args.worker; address = c.in-Ok.address; told = None; body = None }) c.in-Ok-ask.ensures.site
-    (subst (λ u. F.log c.ask.new.self ≡ F.log c.args.fetcher.now ++ ask.Page u ∷ []) name c.in-Ok-ask.ensures.asked)
-    (noted_after _ _ _ _ c.push_reserved-then-not-give.ensures.items c.make_page_room.ensures.pages) c.make_page_room.ensures.rules refl refl
+    (noted_after _ _ _ _ (c.push_reserved.ensures.items ∙ ap (λ n. c.make_page_room.new.notes.pages.items ++ n ∷ []) c.untold_page.ensures) c.make_page_room.ensures.pages) c.make_page_room.ensures.rules refl refl
 
 pub returns : goal.returns
 returns g c =
     let F = g.F.Fetcher in
-    let name : c.address-2.result.now ≡ c.in-Ok.address = c.address-2.ensures ∙ sym (c.in-Ok.ensures.name ∙ c.address.ensures) in
-    goes_page F.site F.says F.rules F.log c.args.plan.now c.args.worker c.args.fetcher.now c.args.notes.now c.ask.new.self _ (record { worker = c.args.worker; address = c.in-Ok.address; told = Some c.in-Ok-ask.answer.outcome; body = c.in-Ok-keep_body.body }) c.in-Ok-ask.ensures.site
+    let note = c.hand_over-note.result in
+    let name : c.address-2.result.now ≡ note.address = c.address-2.ensures ∙ sym (c.hand_over-note.ensures.address ∙ (c.in-Ok.ensures.name ∙ c.address.ensures)) in
+    goes_page F.site F.says F.rules F.log c.args.plan.now c.args.worker c.args.fetcher.now c.args.notes.now c.ask.new.self _ note c.in-Ok-ask.ensures.site
     (subst (λ u. F.log c.ask.new.self ≡ F.log c.args.fetcher.now ++ ask.Page u ∷ []) name c.in-Ok-ask.ensures.asked)
     (noted_after _ _ _ _ c.push_reserved-2.ensures.items c.make_page_room.ensures.pages) c.make_page_room.ensures.rules
-    (c.in-Ok-ask.answer.body, subst (λ u. F.says (F.site c.args.fetcher.now) u c.in-Ok-ask.answer.outcome c.in-Ok-ask.answer.body) name c.in-Ok-ask.ensures.told, c.in-Ok-keep_body.ensures) refl
+    (told_page (F.says (F.site c.args.fetcher.now)) c.args.plan.now note c.in-Ok-ask.answer.outcome c.in-Ok-ask.answer.body
+    (subst (λ u. F.says (F.site c.args.fetcher.now) u c.in-Ok-ask.answer.outcome c.in-Ok-ask.answer.body) name c.in-Ok-ask.ensures.told) c.hand_over-note.ensures.told)
+    c.hand_over-note.ensures.worker

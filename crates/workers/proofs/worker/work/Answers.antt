@@ -16,7 +16,7 @@ loop-preserved-in-Ok-Spread g c = c.loop.invariant
 pub loop-preserved-in-Ok-Robots : goal.loop-preserved-in-Ok-Robots
 loop-preserved-in-Ok-Robots g c =
     let F = g.F.Fetcher in
-    goes_on F.site F.says F.rules F.log c.args.plan.now c.args.worker _ _ _ _ _ _ c.loop.invariant c.serve_rules.ensures
+    goes_on F.site F.says F.rules F.log c.args.plan.now c.args.worker _ _ _ _ _ _ c.loop.invariant (c.serve_rules.ensures c.args.plan.now)
 
 pub loop-preserved : goal.loop-preserved
 loop-preserved g c =

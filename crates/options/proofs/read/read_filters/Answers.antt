@@ -1,0 +1,29 @@
+use Rattle.std.proofs.Common.{inl, inr, ⊎_elim, sym, subst}
+use Rattle.clap.specs.Words.{found_of, rows_of}
+use Rattle.options.specs.inner.Order.{FailsToFilter}
+use Rattle.options.proofs.ReadLemmas.{fails-patterns, fails-directories, fails-domains}
+use Rattle.options.proofs.read.read_filters.Goals as goal
+
+pub returns-in-Err : goal.returns-in-Err
+returns-in-Err c =
+    let found = rows_of (found_of c.args.matches.now) in
+    ⊎_elim
+    (λ bad. inl (subst (FailsToFilter found) (sym bad.0) (fails-patterns found bad.1)))
+    (λ memory. inr memory)
+    c.in-Err.ensures
+
+pub returns-in-Err-directories : goal.returns-in-Err-directories
+returns-in-Err-directories c =
+    let found = rows_of (found_of c.args.matches.now) in
+    ⊎_elim
+    (λ bad. inl (subst (FailsToFilter found) (sym bad.0) (fails-directories found (c.in-Ok.names.given, c.in-Ok.names.excluded) c.in-Ok.ensures bad.1)))
+    (λ memory. inr memory)
+    c.in-Err-directories.ensures
+
+pub returns-in-Err-domains : goal.returns-in-Err-domains
+returns-in-Err-domains c =
+    let found = rows_of (found_of c.args.matches.now) in
+    ⊎_elim
+    (λ bad. inl (subst (FailsToFilter found) (sym bad.0) (fails-domains found (c.in-Ok.names.given, c.in-Ok.names.excluded) (c.in-Ok-directories.places.given, c.in-Ok-directories.places.excluded) c.in-Ok.ensures c.in-Ok-directories.ensures bad.1)))
+    (λ memory. inr memory)
+    c.in-Err-domains.ensures
