@@ -35,6 +35,11 @@ def read(path):
         return text.read()
 
 
+@functools.cache
+def read_lines(path):
+    return read(path).split("\n")
+
+
 def crates():
     """The crates from which others are built, without those that have tests alone."""
     return sorted(it for it in os.listdir("crates") if not it.endswith("_tests"))
@@ -55,10 +60,14 @@ def first_sentence(text, mark):
 class Node:
     """A definition, a type, a constant or a function: the lines that a reader has to read of it, and what these name."""
 
-    def __init__(self, path, name, lines, names):
+    def __init__(self, path, name, lines, names, text=None):
         self.path, self.name, self.lines = path, name, frozenset(lines)
         # a function from nothing to what is named: nodes, and words of the kit as pairs of module and name
         self.names = functools.cache(names)
+        # the definition of which this is a part, where some fields of a record are left out
+        self.whole = self
+        # what it says, where that isn't its lines
+        self.text = text
 
     def __repr__(self):
         return f"{self.path}:{self.name}"
@@ -269,7 +278,7 @@ class Spec:
         for path_, items, alias in LOCAL_USE.findall(self.text):
             self.names.use(path_, items or None, alias)
         self.own = f"Rattle.{crate}.specs." + path[len(f"crates/{crate}/specs/") : -len(".antt")].replace("/", ".")
-        self.nodes, self.owner = {}, {}
+        self.nodes, self.owner, self.records = {}, {}, {}
         for block in self.blocks():
             self.define(block)
         for name in self.owner:
@@ -305,14 +314,37 @@ class Spec:
                     self.owner[one] = block.name
                     CONSTRUCTORS.update({(self.own, one), (f"{self.own}.{block.name}", one)})
         self.nodes[block.name] = Node(self.path, block.name, lines, lambda: self.named_by(block))
+        if block.kind == "record":
+            self.records[block.name] = block
 
-    def named_by(self, block):
-        """What a definition names, in its section's parameters, its signature and its equations, fields or constructors."""
+    @functools.cache
+    def with_fields(self, name, fields):
+        """The node of a record with these fields alone."""
+        block, whole = self.records[name], self.nodes[name]
+        parts, at, left = self.parts(block), block.first, set()
+        for part in parts:
+            if part is not parts[0] and not self.is_of(part, fields):
+                left.update(range(at, at + len(part)))
+            at += len(part)
+        node = Node(self.path, name, whole.lines - left, lambda: self.named_by(block, fields))
+        node.whole = whole
+        return node
+
+    def is_of(self, part, fields):
+        """Whether a field's lines begin with one of these names."""
+        tokens = tokens_of("\n".join(part))
+        return ":" not in tokens or not fields.isdisjoint(tokens[: tokens.index(":")])
+
+    def named_by(self, block, fields=None):
+        """What a definition names, in its section's parameters, its signature and its equations, constructors or fields; of
+        these those alone that are given."""
         found = []
         walk, bound = Walk(self.names, found), set()
         if block.section:
             walk.parameters(tokens_of(block.section)[2:-1], bound)
-        head, *parts = (tokens_of("\n".join(part)) for part in self.parts(block))
+        head, *parts = self.parts(block)
+        parts = [tokens_of("\n".join(part)) for part in parts if fields is None or self.is_of(part, fields)]
+        head = tokens_of("\n".join(head))
         if block.kind is None:
             helpers = (re.match(r"\s+([^\s(){}]+) :", line) for line in self.lines[block.first + 1 : block.end])
             bound |= {at[1] for at in helpers if at}
@@ -503,6 +535,7 @@ class Statements:
                     self.specs[spec.own] = spec
             for path in sorted(glob.glob(f"crates/{crate}/src/**/*.rt", recursive=True)):
                 self.sources[path] = Source(crate, path)
+        self.values = self.records_seen()
 
     # -- names of antt
 
@@ -745,18 +778,51 @@ class Statements:
         roots = [self.head(it) for it in source.functions if it.block is block and (it.is_public or block.trait)]
         if block.trait is not None and (with_views or block.trait != "Model"):
             for text in self.ghosts(source, block):
-                roots.append(Node(source.path, block.name, (), lambda text=text: self.in_clause(source, block, text, set())))
+                roots.append(Node(source.path, block.name, (), lambda text=text: self.in_clause(source, block, text, set()), text))
         return roots
 
     def head(self, function, clauses=None):
         """The node of a function's head."""
-        return Node(function.source.path, function.name, (), lambda: self.function_names(function, clauses))
+        text = "\n".join(text for kind, name, text in function.clauses if kind != "ensures" or clauses is None or name in clauses)
+        return Node(function.source.path, function.name, (), lambda: self.function_names(function, clauses), text)
 
     def reach(self, roots, without=()):
-        """All nodes that the roots lead to, in the order in which a reader meets them last, and the words of the kit."""
+        """All nodes that the roots lead to, in the order in which a reader meets them last, and the words of the kit. Of a record
+        as which a type is seen, the fields that none of them names are left out."""
+        fields, more = frozenset(), frozenset()
+        while True:
+            order, words = self.reach_by(roots, without, fields)
+            more = fields.union(*(self.projections(it) for it in order))
+            if more == fields:
+                return order, words
+            fields = more
+
+    @functools.cache
+    def projections(self, node):
+        """The names that stand behind a dot in a node's lines, or in the clauses of a function."""
+        text = node.text if node.text is not None else "\n".join(read_lines(node.path)[i] for i in node.lines)
+        return frozenset(re.findall(r"\.([a-z]\w*)", text))
+
+    def records_seen(self):
+        """The records as which types are seen."""
+        found = {}
+        for source in self.sources.values():
+            for block in source.blocks:
+                if block.kind == "impl" and block.trait == "Model":
+                    value = re.compile(r"ghost Value = \{\s*(\w+)\s*\}").search(source.text, block.body, block.end)
+                    for node in (self.resolve(it) for it in self.in_clause(source, block, value[1], set())) if value else ():
+                        spec = next((it for it in self.specs.values() if isinstance(node, Node) and it.path == node.path), None)
+                        if spec and node.name in spec.records:
+                            found[node] = spec
+        return found
+
+    def reach_by(self, roots, without, fields):
+        """The same, where these fields are named."""
         order, words, seen = [], {}, set()
 
         def visit(node):
+            if node in self.values:
+                node = self.values[node].with_fields(node.name, fields)
             if node in seen or node.name in without or node.path in without:
                 return
             seen.add(node)

@@ -38,4 +38,5 @@ pub record IsHarvestOf (frontier : Traced) (pages : List KeptPage) (h : Harveste
   pub plan : h.plan ≡ Some frontier.plan
   pub state : h.state ≡ frontier.state
   pub trace : h.trace ≡ frontier.trace
+  pub entries : AreEntries h
   pub sorted : (sorted : List KeptPage) × IsPermutation pages sorted × (h.kept ≡ map (λ page. page.address) sorted) × (h.bodies ≡ map (λ page. page.body) sorted)

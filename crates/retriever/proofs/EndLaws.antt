@@ -22,8 +22,7 @@ use Rattle.site_records.specs.Records.{RecordedAnswers, GivesAnswer, GivesRules 
 use Rattle.harvest.specs.Gathered.{AreEntries, AreRecords, ArePages}
 use Rattle.harvest.specs.Harvests.{Harvested}
 use Rattle.harvest.specs.Pages.{IsKept}
-use Rattle.workers.specs.OneWorker.{AreByOne, AreByCrew}
-use Rattle.workers.proofs.ConclusionLaws.{by_one as crew_of_one}
+use Rattle.workers.specs.OneWorker.{AreByCrew}
 use Rattle.workers.specs.Retrieval.{Brings, Leaves, IsLeft}
 use Rattle.workers.specs.Sites.{Fits, IsCompleteFor}
 use Rattle.local_tree.specs.Names.{IsNaming}
@@ -151,19 +150,6 @@ told_finishes order may_say may_rule whole asks (Err halt) (Ok output) fits brin
     }
 told_finishes order may_say may_rule whole asks brought (Err e) fits brings complete left many never by read told = told
 
--- what is told of one worker's retrieval
-pub alone_finishes : (order : Order) (may_say : Text → Outcome → List ℕ → Type 0) (may_rule : Text → RuleSetValue → Type 0) (whole : Answers) (asks : List Ask) (brought : Result Harvested Halt)
-    (result : Result Output AllocError) → order.workers ≡ 1 → Fits may_say may_rule whole → IfOk brought (λ h. Brings may_say may_rule order.plan asks h)
-    → IfOk brought (λ h. IsCompleteFor (policy order.plan) whole h.state)
-    → IfErr brought (λ halt. IsLeft may_say may_rule order.plan asks halt.cause halt.harvest)
-    → IfErr brought (λ halt. halt.cause ≡ why.Full → HasTooMany (policy order.plan) whole) → IfErr brought (λ halt. halt.cause ≢ why.Mismatch)
-    → IfOk brought (λ h. AreByOne h.trace) × IfErr brought (λ halt. AreByOne halt.harvest.trace) → IfOk brought IsRead
-    → IfOk result (λ output. IsToldOf order.trace brought (string_bytes output.text) output.status) → IfOk result (λ output. IsOutputOf order whole (string_bytes output.text) output.status)
-alone_finishes order may_say may_rule whole asks (Ok h) result one fits brings complete left many never by read told =
-    told_finishes order may_say may_rule whole asks (Ok h) result fits brings complete tt tt tt (subst (λ (n : ℕ). AreByCrew n h.trace) (sym one) (crew_of_one h.trace by.0), tt) read told
-alone_finishes order may_say may_rule whole asks (Err halt) result one fits brings complete left many never by read told =
-    told_finishes order may_say may_rule whole asks (Err halt) result fits tt tt (λ _. left) many (λ _. never) (tt, (λ other. subst (λ (n : ℕ). AreByCrew n halt.harvest.trace) (sym one) (crew_of_one halt.harvest.trace by.1))) tt told
-
 -- what is told of the retrieval by a crew, each with a copy of the site
 module _ {F S : Type 0} (site : F → S) (says : S → Text → Outcome → List ℕ → Type 0) (rules : S → Text → RuleSetValue → Type 0) (log : F → List Ask) where
   -- copies fit where the site does
@@ -172,20 +158,20 @@ module _ {F S : Type 0} (site : F → S) (says : S → Text → Outcome → List
       subst (λ (fs : List F). AllFit site says rules fs whole) (sym are) (All-replicate (λ (copy : F). Fits (says (site copy)) (rules (site copy)) whole) count one fits)
 
   pub crew_finishes : (order : Order) (whole : Answers) (olds : List F) (crew : Result (Retrieved F) (StoppedCrew F)) (brought : Result Harvested Halt) (result : Result Output AllocError)
-      → (order.workers ≢ 1) → brought ≡ brought_by crew → AllFit site says rules olds whole
+      → brought ≡ brought_by crew → AllFit site says rules olds whole
       → IfOk crew (λ r. Brings (SomeSays site says log olds r.fetchers.items) (SomeRules site rules log olds r.fetchers.items) order.plan (all_gained log olds r.fetchers.items) r.harvest)
       → IfOk crew (λ r. IsCompleteFor (policy order.plan) whole r.harvest.state)
       → IfErr crew (λ s. s.cause ≢ why.Mismatch → IsLeft (SomeSays site says log olds s.fetchers.items) (SomeRules site rules log olds s.fetchers.items) order.plan
       (all_gained log olds s.fetchers.items) s.cause s.harvest)
-      → IfErr crew (λ s. s.cause ≡ why.Full → HasTooMany (policy order.plan) whole)
+      → IfErr crew (λ s. s.cause ≡ why.Full → HasTooMany (policy order.plan) whole) → (order.workers ≡ 1 → IfErr crew (λ s. s.cause ≢ why.Mismatch))
       → IfOk crew (λ r. AreByCrew order.workers r.harvest.trace) × IfErr crew (λ s. s.cause ≢ why.Mismatch → AreByCrew order.workers s.harvest.trace) → IfOk brought IsRead
       → IfOk result (λ output. IsToldOf order.trace brought (string_bytes output.text) output.status)
       → IfOk result (λ output. IsOutputOf order whole (string_bytes output.text) output.status)
-  crew_finishes order whole olds (Ok r) brought result several is fit brings complete left many by read told =
+  crew_finishes order whole olds (Ok r) brought result is fit brings complete left many never by read told =
       told_finishes order _ _ whole _ (Ok r.harvest) result (crew_fits site says rules log olds r.fetchers.items whole fit) brings complete tt tt tt
       (by.0, tt) (subst (λ (b : Result Harvested Halt). IfOk b IsRead) is read)
       (subst (λ (b : Result Harvested Halt). IfOk result (λ output. IsToldOf order.trace b (string_bytes output.text) output.status)) is told)
-  crew_finishes order whole olds (Err s) brought result several is fit brings complete left many by read told =
+  crew_finishes order whole olds (Err s) brought result is fit brings complete left many never by read told =
       told_finishes order _ _ whole _ (Err (record { cause = s.cause; harvest = s.harvest })) result (crew_fits site says rules log olds s.fetchers.items whole fit) tt tt left many
-      (λ one. absurd (several one)) (tt, by.1) tt
+      never (tt, by.1) tt
       (subst (λ (b : Result Harvested Halt). IfOk result (λ output. IsToldOf order.trace b (string_bytes output.text) output.status)) is told)

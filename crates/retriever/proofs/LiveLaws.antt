@@ -1,5 +1,5 @@
 -- What is put and told of what a crew brought is the end of a live retrieval.
-use Rattle.std.proofs.Common.{◌≡◌, ◌≢◌, ◌⊎◌, ◌∙◌, ◌++◌, ℕ, inl, inr, Bool, false, codes, List, [], ◌∷◌, length, map, Option, Some, refl, sym, ap, subst, append_assoc}
+use Rattle.std.proofs.Common.{◌≡◌, ◌≢◌, ◌⊎◌, ◌∙◌, ◌++◌, ℕ, inl, inr, Bool, false, List, [], length, map, Option, refl, sym, ap, subst, append_assoc}
 use Rattle.std.specs.Prelude.{IfSome, IfOk, IfErr, Result, Ok, Err}
 use Rattle.std.specs.List.{AllZip}
 use Rattle.std.proofs.lemmas.List.{length-map}
@@ -18,7 +18,7 @@ use Rattle.frontier_core.specs.declared.event.Cause.TheVariants as why
 use Rattle.frontier_core.specs.declared.event.Event.{Event}
 use Rattle.harvest.specs.Harvests.{Harvested}
 use Rattle.harvest.specs.Pages.{IsBodyOf}
-use Rattle.workers.specs.Asks.{AreOnce}
+use Rattle.workers.proofs.FoundLaws.{page_among, rules_among, made_once, are_asked, left_once}
 use Rattle.workers.specs.Crews.{AreLater, SomeSays, SomeRules, all_gained}
 use Rattle.workers.specs.OneWorker.{AreByCrew}
 use Rattle.workers.specs.Takers.{AreOwn}
@@ -68,11 +68,7 @@ retrieved may_say may_rule AreByThem plan asks h names brings read naming by =
       by = by;
       quiet = brings.quiet;
       found = record {
-        once = brings.once;
-        recorded = brings.recorded;
-        wanted = λ u. ((λ asked. (brings.complete.wanted u).0 ((brings.recorded.pages u).0 asked)), (λ wanted. (brings.recorded.pages u).1 ((brings.complete.wanted u).1 wanted)));
-        needed = λ o. ((λ asked. (brings.complete.needed o).0 ((brings.recorded.origins o).0 asked)), (λ needed. (brings.recorded.origins o).1 ((brings.complete.needed o).1 needed)));
-        told = brings.told;
+        asked = are_asked may_say may_rule plan asks h.state brings.once brings.recorded brings.complete brings.told;
         reported = are_lines (policy plan) (answers h.state) h names read.0 read.1 sound.addresses sound.few (complete_for (policy plan) h.state brings.complete) brings.quiet;
         named = are_named plan h names read.0 read.1 read.2 brings.follows sound.addresses naming;
         kept = subst (λ (pages : List Text). AllZip (IsBodyOf may_say (answers h.state)) pages h.bodies) (sym (pages_of_lines h names read.0 read.1 read.2 long)) brings.bodies;
@@ -92,18 +88,13 @@ halted may_say may_rule AreByThem plan asks cause h leaves many by = record {
   stopped = leaves.stopped;
   recorded = leaves.recorded;
   found = record {
-    once = leaves.once;
-    wanted = leaves.wanted;
-    needed = leaves.needed;
+    once = made_once asks leaves.once;
+    wanted = λ u among. leaves.wanted u (page_among asks u among);
+    needed = λ o among. leaves.needed o (rules_among asks o among);
     told = leaves.told;
   };
   full = many;
 }
-
--- each ask was made once, whether or not there was memory for a harvest
-once_left : (may_say : Text → Outcome → List ℕ → Type 0) (may_rule : Text → RuleSetValue → Type 0) (plan : Plan) (asks : List Ask) (cause : Cause) (h : Harvested) → IsLeft may_say may_rule plan asks cause h → AreOnce asks
-once_left may_say may_rule plan asks cause h (inl leaves) = leaves.once
-once_left may_say may_rule plan asks cause h (inr empty) = empty.once
 
 -- ---- an end
 
@@ -116,7 +107,7 @@ module _ (may_say : Text → Outcome → List ℕ → Type 0) (may_rule : Text �
       × IsTold (trace_text shown ++ live_text ending) (live_status ending)
 
   ended : (h : Harvested) → Brings may_say may_rule order.plan asks h → AreByThem h.trace → IsRead h → IsPutOf IsTold order.trace (Ok h) old new → Finished
-  ended h brings by read (inl (same, told)) = ([], Halted why.Memory, (brings.once, inl refl, inl same), told)
+  ended h brings by read (inl (same, told)) = ([], Halted why.Memory, (made_once asks brings.once, inl refl, inl same), told)
   ended h brings by read (inr (names, naming, inl (whole, quiet, told))) =
       let lines = lines_of h names in (
         shown_of order.trace h.trace,
@@ -147,7 +138,7 @@ module _ (may_say : Text → Outcome → List ℕ → Type 0) (may_rule : Text �
     [],
     Halted why.Memory,
     (
-      brings.once,
+      made_once asks brings.once,
       inl refl,
       inr (
         h.trace,
@@ -175,15 +166,15 @@ module _ (may_say : Text → Outcome → List ℕ → Type 0) (may_rule : Text �
         | inr empty ↦ (let memory = empty.memory in cc)
       ]
   stopped why.Full h left many one by same (inr told) =
-      ([], Halted why.Memory, (once_left may_say may_rule order.plan asks why.Full h (left (λ is. cc)), inl refl, inl same), told)
+      ([], Halted why.Memory, (left_once may_say may_rule order.plan asks why.Full h (left (λ is. cc)), inl refl, inl same), told)
   stopped why.Memory h left many one by same (inl told) = (
     shown_of order.trace h.trace,
     Halted why.Memory,
-    (once_left may_say may_rule order.plan asks why.Memory h (left (λ is. cc)), left_halted why.Memory h (left (λ is. cc)) many (by (λ is. cc)), inl same),
+    (left_once may_say may_rule order.plan asks why.Memory h (left (λ is. cc)), left_halted why.Memory h (left (λ is. cc)) many (by (λ is. cc)), inl same),
     told,
   )
   stopped why.Memory h left many one by same (inr told) =
-      ([], Halted why.Memory, (once_left may_say may_rule order.plan asks why.Memory h (left (λ is. cc)), inl refl, inl same), told)
+      ([], Halted why.Memory, (left_once may_say may_rule order.plan asks why.Memory h (left (λ is. cc)), inl refl, inl same), told)
   stopped why.Mismatch h left many one by same (inl told) = ([], Halted why.Mismatch, ((λ is. one is refl), refl, same), told)
   stopped why.Mismatch h left many one by same (inr told) = ([], Halted why.Mismatch, ((λ is. one is refl), refl, same), told)
 

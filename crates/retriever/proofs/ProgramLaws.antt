@@ -1,5 +1,5 @@
 -- What a person is told, and how a program ends that has no words.
-use Rattle.std.proofs.Common.{◌≡◌, ◌≢◌, ◌⊎◌, ◌∙◌, ◌++◌, ℕ, Bool, true, false, List, [], Option, refl, sym, ap, subst, inl, inr, append-nil}
+use Rattle.std.proofs.Common.{◌≡◌, ◌≢◌, ◌∙◌, ℕ, Bool, true, false, List, [], Option, refl, sym, ap, subst, inl, inr, append-nil}
 use Rattle.std.specs.Prelude.{Result, Ok, Err, OnOk, OnErr}
 use Rattle.std.specs.Io.KnownBytes.{Appends}
 use Rattle.std.proofs.KnownBytes.{Appends-nil}
@@ -14,11 +14,11 @@ use Rattle.retriever.specs.Order.{IsRefused}
 use Rattle.retriever.specs.Parts.{IsRefusal}
 use Rattle.retriever.specs.Program.{IsExplained, IsTold}
 use Rattle.retriever.specs.inner.Program.{Starts}
-use Rattle.retriever.specs.Run.{Failed, Runs}
+use Rattle.retriever.specs.Run.{Runs}
 use Rattle.streams.specs.Streams.{AppendsFront}
 use Rattle.retriever.specs.declared.fault.Fault.{Fault}
 use Rattle.retriever.specs.declared.fault.Fault.TheVariants as fault
-use Rattle.retriever.proofs.RunLaws.{ends_memory, ends_refused}
+use Rattle.retriever.proofs.RunLaws.{ends_memory, ends_refused, runs_refused}
 
 -- nothing is a front of each text
 pub nothing_of : (contents : Option (List ℕ)) (text : List ℕ) → AppendsFront contents contents text
@@ -57,18 +57,12 @@ is_live source.Recorded never = absurd (never record_is_not_live)
 -- ---- want of memory before a run
 
 pub runs_memory : (words : List (List ℕ)) (known old new : Option (List ℕ)) (status : ℕ) → IsRefusal old new fault.Memory status → Runs words known old new status
-runs_memory words known old new status (inl told) = record { ending = Failed fault.Memory; ends = ends_memory words known; written = told }
-runs_memory words known old new status (inr told) = record { ending = Failed fault.Memory; ends = ends_memory words known; written = told }
+runs_memory words known old new status refusal = runs_refused words known old new fault.Memory status (ends_memory words known) refusal
 
 pub told_memory : {E : Type 0} (words : List (List ℕ)) (before after : Option (List ℕ)) (errors : E) (told : Option (List ℕ)) (status : ℕ) → IsRefusal before after fault.Memory status
     → IsTold words before after errors errors told told status
 told_memory words before after errors told status (inl delivered) = (fault.Line line.Memory, inr refl, inr (delivered, refl))
 told_memory words before after errors told status (inr delivered) = (fault.Line line.Memory, inr refl, inr (delivered, refl))
-
--- the line of a fault of the words is a run's
-runs_refused : (words : List (List ℕ)) (known old new : Option (List ℕ)) (status : ℕ) (wrong : Fault) → IsRefused words wrong → IsRefusal old new wrong status → Runs words known old new status
-runs_refused words known old new status wrong refused (inl told) = record { ending = Failed wrong; ends = ends_refused words known wrong refused; written = told }
-runs_refused words known old new status wrong refused (inr told) = runs_memory words known old new status (inr told)
 
 -- words whose fault is explained are refused
 refusal_of : {E : Type 0} (words : List (List ℕ)) (wrong : Fault) (before after : Option (List ℕ)) (errors_old errors_new : E) (told_before told_after : Option (List ℕ)) (status : ℕ)
@@ -119,7 +113,7 @@ module _ {R E : Type 0} (Lives : List (List ℕ) → Type 0) (remaining before a
       → Starts Lives remaining before after reader reader errors_old errors_new told_before told_after status words
   starts_wrong reader errors_old errors_new told_before told_after words wrong refused lives told quiet =
       let refusal = refusal_of words (fault.Line wrong) before after errors_old errors_new told_before told_after status told in record {
-        runs = λ not. runs_refused words remaining before after status (fault.Line wrong) refused refusal;
+        runs = λ not. runs_refused words remaining before after (fault.Line wrong) status (ends_refused words remaining (fault.Line wrong) refused) refusal;
         lives = λ live.
             let (ordered, says, is) = live in
             lives (subst (λ (w : LineFault). IsRefusal before after (fault.Line w) status) (only_memory words ordered wrong says refused) refusal);

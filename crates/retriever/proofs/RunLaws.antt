@@ -1,18 +1,29 @@
 -- The parts of a run come to its ending.
-use Rattle.std.proofs.Common.{◌≡◌, ℕ, inl, inr, List, [], Option, Some, None, refl}
-use Rattle.std.specs.Prelude.{IfOk, IfErr, Result, Ok, Err, string_bytes}
+use Rattle.std.proofs.Common.{◌≡◌, ◌≢◌, ℕ, inl, inr, Bool, true, false, List, [], Option, Some, None, refl, sym, ap, subst, ◌∙◌}
+use Rattle.std.specs.Prelude.{Ok}
+use Rattle.fetcher.specs.Sites.{SiteAnswers}
 use Rattle.site_inputs.specs.declared.input_fault.InputFault.{InputFault}
+use Rattle.frontier_core.specs.Machine.{IsQuiet}
+use Rattle.frontier_core.specs.Routes.{Answers}
+use Rattle.frontier_core.specs.declared.event.Cause.TheVariants as cause
+use Rattle.frontier_core.specs.declared.event.Event.{Event}
+use Rattle.options.specs.Order.{order_of, said_by}
 use Rattle.options.specs.declared.fault.LineFault.TheVariants as line
 use Rattle.options.specs.declared.order.Order.{Order}
+use Rattle.options.specs.declared.order.Source.{Source}
+use Rattle.options.specs.declared.order.Source.TheVariants as source
+use Rattle.report.specs.Trace.{trace_text}
+use Rattle.retriever.specs.InputFound.{TellsFault, IsFoundOf, FindsIn}
 use Rattle.retriever.specs.Order.{IsOrdered, IsRefused}
-use Rattle.retriever.specs.inner.Parts.{TellsFault, IsOutput}
-use Rattle.retriever.specs.Run.{Comes, Ending, EndsFor, Failed, Ended, ending_text, ending_status}
-use Rattle.retriever.specs.Site.{IsToldBy, IsWrongBy}
+use Rattle.retriever.specs.Parts.{IsDelivered, IsRefusal}
+use Rattle.retriever.specs.inner.Parts.{IsOutput, IsUnfit}
+use Rattle.retriever.specs.Retrieved.{Finish, Reported, Stopped, Finishes, AreShown, AreEventsOf, HasStopped}
+use Rattle.retriever.specs.Run.{Comes, Ending, EndsFor, Failed, Ended, Runs, ending_text, ending_status}
+use Rattle.retriever.specs.Site.{IsToldBy, IsWrongBy, whole_of}
 use Rattle.streams.specs.Streams.{IsInput}
 use Rattle.retriever.specs.declared.fault.Fault.{Fault}
 use Rattle.retriever.specs.declared.fault.Fault.TheVariants as fault
 use Rattle.streams.specs.declared.input.ReadFault.TheVariants as reading
-use Rattle.retriever.specs.declared.told.Output.{Output}
 
 -- some bytes are what the reader has left
 some_input : (known : Option (List ℕ)) → (input : List ℕ) × IsInput known input
@@ -62,22 +73,96 @@ ends_input words known order (fault.Read reading.Memory) ordered told = let (inp
 ends_input words known order (fault.Input w) ordered (input, is, within, bad) = (input, is, (order, ordered, within, bad))
 ends_input words known order fault.Memory ordered told = ends_memory words known
 
--- a fault of the input is the run's
-pub ends_fault : (words : List (List ℕ)) (known : Option (List ℕ)) (order : Order) (result : Result Output Fault) → IsOrdered words order
-    → IfErr result (TellsFault (IsWrongBy order.source order.plan.robots) known) → IfErr result (λ wrong. EndsFor words known (Failed wrong))
-ends_fault words known order (Ok output) ordered told = told
-ends_fault words known order (Err wrong) ordered told = ends_input words known order wrong ordered told
+-- what an order and the reader come to instead of a retrieval is the run's
+pub ends_unfit : (words : List (List ℕ)) (known : Option (List ℕ)) (order : Order) (wrong : Fault) → order_of words ≡ Ok (said_by order) → IsUnfit order known wrong → EndsFor words known (Failed wrong)
+ends_unfit words known order wrong says (inl (live, is)) = let (input, among) = some_input known in (input, among, subst (λ (w : Fault). Comes words input w) (sym is) (said_by order, says, live))
+ends_unfit words known order wrong says (inr (not, told)) = ends_input words known order wrong (says, not) told
 
 -- ---- the retrieval
 
+-- an input tells no site on the network
+told_not_live : (order : Order) (known : Option (List ℕ)) (text : List ℕ) (status : ℕ) → IsOutput (IsToldBy order.source order.plan.robots) order known text status → order.source ≢ source.Live
+told_not_live order known text status (site, (input, is, within, told), output) = λ live. subst (λ (s : Source). IsToldBy s order.plan.robots input site) live told
+
 -- what is told of the retrieval is the text of its ending
-pub ends_output : (words : List (List ℕ)) (known : Option (List ℕ)) (order : Order) (result : Result Output Fault) → IsOrdered words order
-    → IfOk result (λ output. IsOutput (IsToldBy order.source order.plan.robots) order known (string_bytes output.text) output.status)
-    → IfOk result (λ output. (ending : Ending) × EndsFor words known ending × (string_bytes output.text ≡ ending_text ending) × (output.status ≡ ending_status ending))
-ends_output words known order (Ok output) ordered (site, (input, is, within, told), output_of) = (
-  Ended output_of.shown output_of.finish,
-  (input, is, (order, ordered, (within, site, told, output_of.finishes))),
-  output_of.text_is,
-  output_of.status_is,
+pub ends_output : (words : List (List ℕ)) (known : Option (List ℕ)) (order : Order) (text : List ℕ) (status : ℕ) → order_of words ≡ Ok (said_by order)
+    → IsOutput (IsToldBy order.source order.plan.robots) order known text status
+    → (ending : Ending) × EndsFor words known ending × (text ≡ ending_text ending) × (status ≡ ending_status ending)
+ends_output words known order text status says (site, (input, is, within, told), output) = (
+  Ended (trace_text output.shown) output.finish,
+  (input, is, (order, (says, told_not_live order known text status (site, (input, is, within, told), output)), output.shown, refl, (within, site, told, output.finishes))),
+  output.text_is,
+  output.status_is,
 )
-ends_output words known order (Err wrong) ordered told = told
+
+-- what is delivered of an ending's text is the ending's
+delivered : (before after : Option (List ℕ)) (text : List ℕ) (wanted status : ℕ) (ending : Ending) → text ≡ ending_text ending → wanted ≡ ending_status ending → IsDelivered before after text wanted status
+    → IsDelivered before after (ending_text ending) (ending_status ending) status
+delivered before after text wanted status ending is is_status told =
+    subst (λ (n : ℕ). IsDelivered before after (ending_text ending) n status) is_status (subst (λ (t : List ℕ). IsDelivered before after t wanted status) is told)
+
+pub runs_output : (words : List (List ℕ)) (known before after : Option (List ℕ)) (order : Order) (text : List ℕ) (wanted status : ℕ) → order_of words ≡ Ok (said_by order)
+    → IsOutput (IsToldBy order.source order.plan.robots) order known text wanted → IsDelivered before after text wanted status → Runs words known before after status
+runs_output words known before after order text wanted status says output told =
+    let (ending, ends, is, is_status) = ends_output words known order text wanted says output in
+    record { ending = ending; ends = ends; written = delivered before after text wanted status ending is is_status told }
+
+-- the line of a fault is a run's that comes to it
+pub runs_refused : (words : List (List ℕ)) (known before after : Option (List ℕ)) (wrong : Fault) (status : ℕ) → EndsFor words known (Failed wrong) → IsRefusal before after wrong status
+    → Runs words known before after status
+runs_refused words known before after wrong status ends (inl told) = record { ending = Failed wrong; ends = ends; written = told }
+runs_refused words known before after wrong status ends (inr told) = record { ending = Failed fault.Memory; ends = ends_memory words known; written = told }
+
+-- ---- by the order
+
+-- what is found of a site, without the events
+found_of : (order : Order) (whole : Answers) (shown : List Event) (finish : Finish) → Finishes order whole shown finish → IsFoundOf order whole finish
+found_of order whole shown (Reported lines) (are, named, events) = (are, named)
+found_of order whole shown (Stopped cause.Full) (many, events) = many
+found_of order whole shown (Stopped cause.Memory) finishes = tt
+found_of order whole shown (Stopped cause.Mismatch) (several, none) = several
+
+-- no events are shown that aren't ordered
+unshown : (b : Bool) (AreSuch : List Event → Type 0) (shown : List Event) → AreShown b AreSuch shown → b ≡ false → shown ≡ []
+unshown true AreSuch shown are is = (let other : true ≡ false = is in cc)
+unshown false AreSuch shown are is = are
+
+none_unordered : (order : Order) (whole : Answers) (shown : List Event) (finish : Finish) → Finishes order whole shown finish → order.trace ≡ false → shown ≡ []
+none_unordered order whole shown (Reported lines) (are, named, events) = unshown order.trace (AreEventsOf order.workers order.plan whole IsQuiet) shown events
+none_unordered order whole shown (Stopped cause.Full) (many, events) = unshown order.trace (AreEventsOf order.workers order.plan whole (HasStopped cause.Full)) shown events
+none_unordered order whole shown (Stopped cause.Memory) (inl none) = λ is. none
+none_unordered order whole shown (Stopped cause.Memory) (inr events) = unshown order.trace (AreEventsOf order.workers order.plan whole (HasStopped cause.Memory)) shown events
+none_unordered order whole shown (Stopped cause.Mismatch) (several, none) = λ is. none
+
+module _ (IsOf : List ℕ → SiteAnswers → Type 0) (IsWrong : List ℕ → InputFault → Type 0) (order : Order) (known before after : Option (List ℕ)) where
+  finds_output : (text : List ℕ) (wanted status : ℕ) → IsOutput IsOf order known text wanted → IsDelivered before after text wanted status
+      → FindsIn IsOf IsWrong order known before after status
+  finds_output text wanted status (site, tells, output) told = record {
+    ending = Ended (trace_text output.shown) output.finish;
+    ends = (
+      (λ off. ap (λ (events : List Event). trace_text events) (none_unordered order (whole_of site) output.shown output.finish output.finishes off)),
+      site,
+      tells,
+      found_of order (whole_of site) output.shown output.finish output.finishes,
+    );
+    written = delivered before after text wanted status (Ended (trace_text output.shown) output.finish) output.text_is output.status_is told;
+  }
+
+  finds_fault : (wrong : Fault) (status : ℕ) → TellsFault IsWrong known wrong → IsRefusal before after wrong status → FindsIn IsOf IsWrong order known before after status
+  finds_fault wrong status tells (inl told) = record { ending = Failed wrong; ends = tells; written = told }
+  finds_fault wrong status tells (inr told) = record { ending = Failed fault.Memory; ends = tt; written = told }
+
+-- the same by the order's source
+pub finds_told : (s : Source) (order : Order) (known before after : Option (List ℕ)) (text : List ℕ) (wanted status : ℕ) → order.source ≡ s
+    → IsOutput (IsToldBy order.source order.plan.robots) order known text wanted → IsDelivered before after text wanted status
+    → FindsIn (IsToldBy s order.plan.robots) (IsWrongBy s order.plan.robots) order known before after status
+finds_told s order known before after text wanted status is output told =
+    finds_output (IsToldBy s order.plan.robots) (IsWrongBy s order.plan.robots) order known before after text wanted status
+    (subst (λ (x : Source). IsOutput (IsToldBy x order.plan.robots) order known text wanted) is output) told
+
+pub finds_unfit : (s : Source) (order : Order) (known before after : Option (List ℕ)) (wrong : Fault) (status : ℕ) → order.source ≡ s → (s ≢ source.Live) → IsUnfit order known wrong
+    → IsRefusal before after wrong status → FindsIn (IsToldBy s order.plan.robots) (IsWrongBy s order.plan.robots) order known before after status
+finds_unfit s order known before after wrong status is other (inl (live, none)) told = absurd (other (sym is ∙ live))
+finds_unfit s order known before after wrong status is other (inr (not, tells)) told =
+    finds_fault (IsToldBy s order.plan.robots) (IsWrongBy s order.plan.robots) order known before after wrong status
+    (subst (λ (x : Source). TellsFault (IsWrongBy x order.plan.robots) known wrong) is tells) told

@@ -1,13 +1,13 @@
 -- The report of a retrieval is determined by its plan and the whole site: by whatever words, by however many workers, it is the
 -- same text, byte for byte.
-use Rattle.std.proofs.Common.{◌≡◌, ◌≤◌, ℕ, List, Some, length, get_or, map, refl, sym, ap, ◌∙◌, subst, arith, rules}
-use Rattle.std.specs.Prelude.{Contains, IsTrue, ◌&&◌, is_some}
+use Rattle.std.proofs.Common.{◌≡◌, ℕ, List, Some, map, refl, sym, ap, ◌∙◌, subst, arith}
+use Rattle.std.specs.Prelude.{◌&&◌, is_some}
 use Rattle.follow_filters.specs.Rules.{keeps_of}
 use Rattle.std.specs.List.{AllZip}
 use Rattle.std.proofs.lemmas.Bool.{false≢true}
 use Rattle.follow_filters.specs.declared.plan.Plan.{Plan}
 use Rattle.frontier_core.specs.Plans.{policy}
-use Rattle.frontier_core.specs.Routes.{Policy, Answers, IsCandidate, IsDepth, is_open}
+use Rattle.frontier_core.specs.Routes.{Policy, Answers, IsDepth}
 use Rattle.frontier_core.specs.Tables.{Text}
 use Rattle.frontier_core.specs.declared.event.Event.{Event}
 use Rattle.local_tree.specs.Names.{IsNaming}

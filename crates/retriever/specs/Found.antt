@@ -1,11 +1,12 @@
 -- What a live retrieval found, what it writes of that and what it leaves in its folder, with no word of how it came there: which
 -- events led to it says `Live`. What a live site answers isn't known beforehand, so all is said of what was recorded.
-use Rattle.std.specs.Prelude.{◌≡◌, ◌≢◌, ◌↔◌, ◌⊎◌, ℕ, List, [], ◌++◌, length, codes, Option, Contains, false}
+use Rattle.std.specs.Prelude.{◌≡◌, ◌≢◌, ◌⊎◌, ℕ, List, [], ◌++◌, length, codes, Option, Contains, false}
 use Rattle.std.specs.Fmt.{decimal}
 use Rattle.std.specs.List.{AllZip}
 use Rattle.follow_filters.specs.declared.plan.Plan.{Plan}
 use Rattle.options.specs.declared.order.Order.{Order}
 use Rattle.fetcher.specs.declared.fetcher.Ask.{Ask}
+use Rattle.fetcher.specs.declared.fetcher.Ask.TheVariants as ask
 use Rattle.fetcher.specs.declared.outcome.Outcome.{Outcome}
 use Rattle.robots_rules.specs.Access.{RuleSetValue}
 use Rattle.frontier_core.specs.Tables.{Text}
@@ -14,8 +15,9 @@ use Rattle.frontier_core.specs.Plans.{policy}
 use Rattle.frontier_core.specs.declared.event.Cause.{Cause}
 use Rattle.frontier_core.specs.declared.event.Cause.TheVariants as cause
 use Rattle.harvest.specs.Pages.{IsBodyOf}
-use Rattle.workers.specs.Asks.{pages_asked, origins_asked, AreOnce, AreRecorded, IsTold}
+use Rattle.workers.specs.Asks.{IsTold}
 use Rattle.workers.specs.Crews.{AreLater, all_gained, SomeSays, SomeRules}
+use Rattle.workers.specs.Found.{AreMadeOnce, AreAsked}
 use Rattle.local_tree.specs.Folders.{Files}
 use Rattle.local_tree.specs.SiteFiles.{IsWhole, IsTorn}
 use Rattle.report.specs.ExitStatus.{exit_status, outcomes_in}
@@ -28,16 +30,11 @@ use Rattle.retriever.specs.Site.{AreLines, AreNamed}
 
 -- ---- what was found
 
--- These asks were made, and this is recorded: each page that is wanted by what is recorded was asked for, once, and no other,
--- and so were the rules of the origins that need them. The lines are those of the breadth-first retrieval of what is recorded,
--- and the bodies are those of the pages with names. Each outcome, rule set and body is one that the fetchers may have answered.
+-- Just these asks were made, each once, and this is recorded of them. The lines are those of the breadth-first retrieval of what is
+-- recorded, and the bodies those of the pages with names, each one that the fetchers may have answered.
 pub record IsFound (may_say : Text → Outcome → List ℕ → Type 0) (may_rule : Text → RuleSetValue → Type 0) (plan : Plan) (asks : List Ask) (recorded_as : Answers)
     (lines : List Line) (bodies : List (List ℕ)) : Type 0 where
-  pub once : AreOnce asks
-  pub recorded : AreRecorded asks recorded_as
-  pub wanted : (u : Text) → Contains (pages_asked asks) u ↔ IsWanted (policy plan) recorded_as u
-  pub needed : (o : Text) → Contains (origins_asked asks) o ↔ IsNeeded (policy plan) recorded_as o
-  pub told : IsTold may_say may_rule recorded_as
+  pub asked : AreAsked may_say may_rule plan asks recorded_as
   pub reported : AreLines (policy plan) recorded_as lines
   pub named : AreNamed plan lines
   pub kept : AllZip (IsBodyOf may_say recorded_as) (named_pages lines) bodies
@@ -45,9 +42,9 @@ pub record IsFound (may_say : Text → Outcome → List ℕ → Type 0) (may_rul
 -- These asks were made before the retrieval stopped, and this is recorded: what was asked for, each once, is wanted by what is
 -- recorded. Each outcome and rule set is one that the fetchers may have answered.
 pub record IsPartFound (may_say : Text → Outcome → List ℕ → Type 0) (may_rule : Text → RuleSetValue → Type 0) (plan : Plan) (asks : List Ask) (recorded_as : Answers) : Type 0 where
-  pub once : AreOnce asks
-  pub wanted : (u : Text) → Contains (pages_asked asks) u → IsWanted (policy plan) recorded_as u
-  pub needed : (o : Text) → Contains (origins_asked asks) o → IsNeeded (policy plan) recorded_as o
+  pub once : AreMadeOnce asks
+  pub wanted : (u : Text) → Contains asks (ask.Page u) → IsWanted (policy plan) recorded_as u
+  pub needed : (o : Text) → Contains asks (ask.Rules o) → IsNeeded (policy plan) recorded_as o
   pub told : IsTold may_say may_rule recorded_as
 
 -- ---- what it comes to
@@ -103,7 +100,7 @@ EndsFound may_say may_rule order workers asks old new (Torn lines whole) =
 EndsFound may_say may_rule order workers asks old new (Halted cause.Full) =
     (m : Answers) × IsPartFound may_say may_rule order.plan asks m × HasTooMany (policy order.plan) m × (new ≡ old)
 EndsFound may_say may_rule order workers asks old new (Halted cause.Memory) =
-    AreOnce asks
+    AreMadeOnce asks
     × ((new ≡ old) ⊎ ((m : Answers) × (lines : List Line) × (bodies : List (List ℕ)) × (whole : ℕ) × IsFound may_say may_rule order.plan asks m lines bodies
     × IsTornAt lines bodies old new whole))
 EndsFound may_say may_rule order workers asks old new (Halted cause.Mismatch) = (workers ≢ 1) × (new ≡ old)

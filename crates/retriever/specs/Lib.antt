@@ -3,6 +3,7 @@ pub mod Site
 pub mod Retrieved
 pub mod Run
 pub mod Parts
+pub mod InputFound
 pub mod Advice
 pub mod Program
 pub mod Found

@@ -13,8 +13,9 @@ use Rattle.frontier_core.specs.Plans.{policy}
 use Rattle.frontier_core.specs.declared.event.Cause.{Cause}
 use Rattle.frontier_core.specs.declared.event.Cause.TheVariants as cause
 use Rattle.frontier_core.specs.declared.event.Event.{Event}
-use Rattle.workers.specs.Asks.{AreOnce, AreRecordedOrLost}
+use Rattle.workers.specs.Asks.{AreRecordedOrLost}
 use Rattle.workers.specs.Crews.{AreLater, all_gained, SomeSays, SomeRules}
+use Rattle.workers.specs.Found.{AreMadeOnce}
 use Rattle.workers.specs.OneWorker.{AreByCrew}
 use Rattle.workers.specs.Takers.{AreOwn}
 use Rattle.report.specs.Report.{Line}
@@ -65,7 +66,7 @@ EndsLive may_say may_rule AreByThem order workers asks old new shown (Torn lines
 EndsLive may_say may_rule AreByThem order workers asks old new shown (Halted cause.Full) =
     (events : List Event) × HasHalted may_say may_rule AreByThem order.plan asks cause.Full events × (shown ≡ shown_of order.trace events) × (new ≡ old)
 EndsLive may_say may_rule AreByThem order workers asks old new shown (Halted cause.Memory) =
-    AreOnce asks × ((shown ≡ []) ⊎ ((events : List Event) × HasHalted may_say may_rule AreByThem order.plan asks cause.Memory events × (shown ≡ shown_of order.trace events)))
+    AreMadeOnce asks × ((shown ≡ []) ⊎ ((events : List Event) × HasHalted may_say may_rule AreByThem order.plan asks cause.Memory events × (shown ≡ shown_of order.trace events)))
     × ((new ≡ old) ⊎ ((events : List Event) × (lines : List Line) × (bodies : List (List ℕ)) × (whole : ℕ) × IsRetrieved may_say may_rule AreByThem order.plan asks events lines bodies
     × IsTornAt lines bodies old new whole))
 EndsLive may_say may_rule AreByThem order workers asks old new shown (Halted cause.Mismatch) = (workers ≢ 1) × (shown ≡ []) × (new ≡ old)

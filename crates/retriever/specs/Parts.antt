@@ -1,13 +1,10 @@
 -- What the parts of a run come to.
 use Rattle.std.specs.Prelude.{◌≡◌, ◌⊎◌, ◌++◌, ℕ, Bool, true, false, List, [], codes, Option}
 use Rattle.std.specs.Io.KnownBytes.{Appends}
-use Rattle.frontier_core.specs.declared.event.Cause.TheVariants as cause
 use Rattle.frontier_core.specs.declared.event.Event.{Event}
 use Rattle.retriever.specs.Run.{fault_words, fault_status}
 use Rattle.streams.specs.Streams.{AppendsFront}
 use Rattle.retriever.specs.declared.fault.Fault.{Fault}
-use Rattle.retriever.specs.declared.fault.Fault.TheVariants as fault
-use Rattle.streams.specs.declared.input.ReadFault.TheVariants as reading
 
 -- the writer gained the text and the status is this one, or the writer failed and the status is 1
 abbrev pub IsDelivered : Option (List ℕ) → Option (List ℕ) → List ℕ → ℕ → ℕ → Type 0

@@ -109,20 +109,20 @@ finish_status (Stopped why) = 1
 
 -- ---- a run
 
--- what a run comes to: a fault, or what a retrieval comes to, behind what is shown of its trace
+-- what a run comes to: a fault, or what a retrieval comes to, behind the text of what is shown of its trace
 pub data Ending : Type 0 where
   Failed : Fault → Ending
-  Ended : List Event → Finish → Ending
+  Ended : List ℕ → Finish → Ending
 
 -- the text of an ending
 abbrev pub ending_text : Ending → List ℕ
 ending_text (Failed wrong) = fault_words wrong ++ codes "\n"
-ending_text (Ended shown finish) = trace_text shown ++ finish_text finish
+ending_text (Ended trace finish) = trace ++ finish_text finish
 
 -- the status of an ending
 abbrev pub ending_status : Ending → ℕ
 ending_status (Failed wrong) = fault_status wrong
-ending_status (Ended shown finish) = finish_status finish
+ending_status (Ended trace finish) = finish_status finish
 
 -- the input tells a site of which the retrieval that is ordered comes to this
 abbrev pub FinishesOn : Order → List ℕ → List Event → Finish → Type 0
@@ -132,7 +132,7 @@ FinishesOn order input shown finish =
 -- the words and the input come to this ending
 abbrev pub Ends : List (List ℕ) → List ℕ → Ending → Type 0
 Ends words input (Failed wrong) = Comes words input wrong
-Ends words input (Ended shown finish) = (order : Order) × IsOrdered words order × FinishesOn order input shown finish
+Ends words input (Ended trace finish) = (order : Order) × IsOrdered words order × (shown : List Event) × (trace ≡ trace_text shown) × FinishesOn order input shown finish
 
 -- the words and what the reader has left come to this ending
 abbrev pub EndsFor : List (List ℕ) → Option (List ℕ) → Ending → Type 0

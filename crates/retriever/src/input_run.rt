@@ -1,21 +1,21 @@
 //! A run: from the words and the input to what is written.
-ghost use Rattle.std.specs.Prelude.{◌≡◌, ◌≢◌, IfOk, IfErr, map, string_bytes};
+ghost use Rattle.std.specs.Prelude.{◌≡◌, ℕ, List, Ok, IfOk, IfErr, map, string_bytes};
 ghost use Rattle.site_maps.specs.Maps.{says_of, IsFault as IsFaultOfMap};
 ghost use Rattle.site_records.specs.Records.{says_of as record_says, IsFault as IsFaultOfRecord};
 ghost use Rattle.frontier_core.specs.Routes.{Answers};
 ghost use Rattle.workers.specs.Sites.{Fits};
+ghost use Rattle.options.specs.Order.{order_of, said_by};
 ghost use Rattle.retriever.specs.Order.{AreForInput};
-ghost use Rattle.retriever.specs.Site.{IsMapOf, IsRecordOf, IsToldBy, IsWrongBy, without_bodies};
+ghost use Rattle.retriever.specs.InputFound.{TellsOf, TellsFault, FindsIn};
+ghost use Rattle.retriever.specs.Site.{IsMapOf, IsRecordOf, IsToldBy, without_bodies};
 ghost use Rattle.retriever.specs.Parts.{IsDelivered, IsRefusal};
-ghost use Rattle.retriever.specs.inner.Parts.{TellsOf, TellsFault, IsOutput, IsOutputOf};
-ghost use Rattle.retriever.specs.Run.{EndsFor, Ending, Failed, Runs, ending_text, ending_status};
+ghost use Rattle.retriever.specs.inner.Parts.{IsOutput, IsOutputOf, IsUnfit};
+ghost use Rattle.retriever.specs.Run.{Runs};
 
 use crate::copies::{Copied, copies_of};
 use crate::fault::{Fault, fault_text};
-use crate::order::input_order;
 use crate::told::{Output, brought_by, told_of};
-use fetcher::Fetcher;
-use options::{Order, Source};
+use options::{Order, Source, read_order};
 use site_maps::MapSite;
 use site_records::RecordedSite;
 use std::alloc::{AllocError, Global};
@@ -23,7 +23,6 @@ use std::io::{Read, Write};
 use std::sync::Wait;
 use std::thread::Threads;
 use streams::{read_input, write_text};
-use workers::retrieve_in_order;
 
 /// The most bytes of an input.
 pub(crate) const MAX_INPUT: usize = 1_073_741_824;
@@ -46,47 +45,18 @@ fn record_of<R: Read>(alloc: Global, reader: &mut R, robots: bool) -> Result<Rec
     Ok(RecordedSite::read(alloc, input.as_slice(), robots)?)
 }
 
-// What is told of the retrieval by one worker.
-fn retrieve_alone<F: Fetcher>(
-    alloc: Global,
-    order: &Order,
-    mut site: F,
-) -> Result<Output, AllocError>
-    requires { order.now.workers ≡ 1 }
-    ensures { (whole : Answers) → Fits (F.says (F.site site)) (F.rules (F.site site)) whole → IfOk result (λ output. IsOutputOf order.now whole (string_bytes output.text) output.status) }
-{
-    let brought = retrieve_in_order(alloc, &order.plan, &mut site);
-    told_of(alloc, order.trace, &brought)
-}
-
-// What is told of the retrieval by several workers, each with a copy of the site.
-fn retrieve_together<H: Threads + Wait + Sync, F: Copied>(
+// What is told of the retrieval of a site that gives each address one outcome, and each origin one rule set; each worker has a copy.
+fn retrieve<H: Threads + Wait + Sync, F: Copied>(
     rt: &H,
     alloc: Global,
     order: &Order,
     site: &F,
 ) -> Result<Output, AllocError>
-    requires { order.now.workers ≢ 1 }
     ensures { (whole : Answers) → Fits (F.says (F.site site.now)) (F.rules (F.site site.now)) whole → IfOk result (λ output. IsOutputOf order.now whole (string_bytes output.text) output.status) }
 {
     let copies = copies_of(alloc, site, order.workers)?;
     let brought = brought_by(workers::retrieve(rt, alloc, &order.plan, copies));
     told_of(alloc, order.trace, &brought)
-}
-
-// What is told of the retrieval of a site that gives each address one outcome, and each origin one rule set.
-fn retrieve<H: Threads + Wait + Sync, F: Copied>(
-    rt: &H,
-    alloc: Global,
-    order: &Order,
-    site: F,
-) -> Result<Output, AllocError>
-    ensures { (whole : Answers) → Fits (F.says (F.site site)) (F.rules (F.site site)) whole → IfOk result (λ output. IsOutputOf order.now whole (string_bytes output.text) output.status) }
-{
-    if order.workers == 1 {
-        return retrieve_alone(alloc, order, site);
-    }
-    retrieve_together(rt, alloc, order, &site)
 }
 
 // What is told of the retrieval of the map that is the input.
@@ -100,7 +70,7 @@ fn output_of_map<H: Threads + Wait + Sync, R: Read>(
     ensures err { IfErr result (TellsFault IsFaultOfMap (R.remaining reader.old)) }
 {
     let site = map_of(alloc, reader)?;
-    Ok(retrieve(rt, alloc, order, site)?)
+    Ok(retrieve(rt, alloc, order, &site)?)
 }
 
 // What is told of the retrieval of the record that is the input.
@@ -114,42 +84,25 @@ fn output_of_record<H: Threads + Wait + Sync, R: Read>(
     ensures err { IfErr result (TellsFault (IsFaultOfRecord order.now.plan.robots) (R.remaining reader.old)) }
 {
     let site = record_of(alloc, reader, order.plan.robots)?;
-    Ok(retrieve(rt, alloc, order, site)?)
+    Ok(retrieve(rt, alloc, order, &site)?)
 }
 
-// What is told of the retrieval of the input, which is what the order's source says.
-fn output_of_input<H: Threads + Wait + Sync, R: Read>(
+// What is told of the retrieval of the input, which is what the order's source says. No byte is read for a site on the network.
+fn output_of<H: Threads + Wait + Sync, R: Read>(
     rt: &H,
     alloc: Global,
     order: &Order,
     reader: &mut R,
 ) -> Result<Output, Fault>
-    requires input { order.now.source ≢ Source.Live }
     ensures ok { IfOk result (λ output. IsOutput (IsToldBy order.now.source order.now.plan.robots) order.now (R.remaining reader.old) (string_bytes output.text) output.status) }
-    ensures err { IfErr result (TellsFault (IsWrongBy order.now.source order.now.plan.robots) (R.remaining reader.old)) }
+    ensures err { IfErr result (IsUnfit order.now (R.remaining reader.old)) }
+    ensures unread { order.now.source ≡ Source.Live → reader.new ≡ reader.old }
 {
     match order.source {
         Source::Map => output_of_map(rt, alloc, order, reader),
         Source::Recorded => output_of_record(rt, alloc, order, reader),
-        Source::Live => unreachable!(),
+        Source::Live => Err(Fault::NoSite),
     }
-}
-
-// What is told of the retrieval that the words order of the input.
-// No byte is read where the words order no site of an input.
-fn output_of<H: Threads + Wait + Sync, R: Read>(
-    rt: &H,
-    alloc: Global,
-    words: &[&str],
-    reader: &mut R,
-) -> Result<Output, Fault>
-    ensures ok { IfOk result (λ output. (ending : Ending) × EndsFor (map (λ word. word.now) words.now) (R.remaining reader.old) ending
-        × (string_bytes output.text ≡ ending_text ending) × (output.status ≡ ending_status ending)) }
-    ensures err { IfErr result (λ fault. EndsFor (map (λ word. word.now) words.now) (R.remaining reader.old) (Failed fault)) }
-    ensures unread { ¬ AreForInput (map (λ word. word.now) words.now) → reader.new ≡ reader.old }
-{
-    let order = input_order(alloc, words)?;
-    output_of_input(rt, alloc, &order, reader)
 }
 
 /// Writes a text, and gives the status of the run: this one, or 1 where the writer fails.
@@ -172,13 +125,38 @@ pub(crate) fn refuse<W: Write>(alloc: Global, fault: Fault, writer: &mut W) -> u
     }
 }
 
-/// Runs the program: reads its words as an order, then the whole input as a map, or as a record where the order says so,
-/// retrieves what the order's plan says with as many workers as the order has, and writes the report or one line of words; the
-/// first fault ends it. The report is the same for each number of workers. Where the order
-/// asks for the trace, its lines stand before the report, or before the line of a retrieval that stopped. Answers the status:
-/// that of [`exit_status`] for a report, 2 where the words or the input are wrong or the site is on the network, 1 where the reader or the writer
-/// fails, more addresses are found than may be held, memory runs out, or a check of several workers fails. Where the writer fails a front of the text may be
-/// written. Words that order no site of an input end the run before the first byte is read.
+/// Runs by an order: reads the whole input as a map, or as a record where the order says so, retrieves what the order's plan says
+/// with as many workers as the order has, and writes the report or one line of words; the first fault ends it. The report is the
+/// same for each number of workers. Where the order asks for the trace, its lines stand before the report, or before the line of a
+/// retrieval that stopped. Answers the status: that of [`exit_status`] for a report, 2 where the input is wrong or the site is on
+/// the network, 1 where the reader or the writer fails, more addresses are found than may be held, memory runs out, or a check of
+/// several workers fails. Where the writer fails a front of the text may be written. No byte is read for a site on the network.
+pub fn run_of_order<H: Threads + Wait + Sync, R: Read, W: Write>(
+    rt: &H,
+    alloc: Global,
+    order: &Order,
+    reader: &mut R,
+    writer: &mut W,
+) -> u8
+    // What is found and what comes of it, by the order.
+    ensures of_map { order.now.source ≡ Source.Map
+        → FindsIn IsMapOf IsFaultOfMap order.now (R.remaining reader.old) (W.contents writer.old) (W.contents writer.new) result }
+    ensures of_record { order.now.source ≡ Source.Recorded → FindsIn (IsRecordOf order.now.plan.robots) (IsFaultOfRecord order.now.plan.robots) order.now
+        (R.remaining reader.old) (W.contents writer.old) (W.contents writer.new) result }
+
+    // By the words that order it, with the events that led there.
+    ensures runs { (words : List (List ℕ)) → order_of words ≡ Ok (said_by order.now)
+        → Runs words (R.remaining reader.old) (W.contents writer.old) (W.contents writer.new) result }
+    ensures unread { order.now.source ≡ Source.Live → reader.new ≡ reader.old }
+{
+    match output_of(rt, alloc, order, reader) {
+        Ok(output) => deliver(writer, output.text.as_bytes(), output.status),
+        Err(fault) => refuse(alloc, fault, writer),
+    }
+}
+
+/// Runs on words: reads them as an order, and runs by that. Of several faults of the words the lowest is named, but that memory may
+/// run out before any. Words that order no site of an input end the run before the first byte is read.
 pub fn run<H: Threads + Wait + Sync, R: Read, W: Write>(
     rt: &H,
     alloc: Global,
@@ -189,8 +167,8 @@ pub fn run<H: Threads + Wait + Sync, R: Read, W: Write>(
     ensures runs { Runs (map (λ word. word.now) words.now) (R.remaining reader.old) (W.contents writer.old) (W.contents writer.new) result }
     ensures unread { ¬ AreForInput (map (λ word. word.now) words.now) → reader.new ≡ reader.old }
 {
-    match output_of(rt, alloc, words, reader) {
-        Ok(output) => deliver(writer, output.text.as_bytes(), output.status),
-        Err(fault) => refuse(alloc, fault, writer),
+    match read_order(alloc, words) {
+        Ok(order) => run_of_order(rt, alloc, &order, reader, writer),
+        Err(wrong) => refuse(alloc, Fault::Line(wrong), writer),
     }
 }

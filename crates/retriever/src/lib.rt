@@ -1,9 +1,10 @@
 //! The retriever: from the words and the input to what is written. Its one idea: a run is glue over the crates below, and what
-//! it writes for its words and its input is one definition. It holds no rule of following. What a run comes to stands in
-//! `specs/Run.antt`, what is made of the program's arguments and told to a person in `specs/Program.antt`.
+//! it writes for its words and its input is one definition. It holds no rule of following. What a run finds by its order
+//! stands in `specs/InputFound.antt`, what it comes to by its words in `specs/Run.antt`, what is made of the program's arguments
+//! and told to a person in `specs/Program.antt`.
 #![tactic(auto)]
 
-pub use crate::input_run::run;
+pub use crate::input_run::{run, run_of_order};
 pub use crate::live_run::live;
 pub use crate::program::run_program;
 pub use crate::saved_run::live_resumed;
@@ -14,7 +15,6 @@ mod fault;
 mod input_run;
 mod live_order;
 mod live_run;
-mod order;
 mod program;
 mod resume_fault;
 mod saved_run;

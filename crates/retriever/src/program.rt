@@ -1,5 +1,5 @@
 //! The program on its words, its three streams and the system: what a person is told, and the run, or the live retrieval.
-ghost use Rattle.std.specs.Prelude.{◌≡◌, ◌≢◌, ◌⊎◌, ◌++◌, [], codes, IfOk, IfErr, Ok, drop, map, string_bytes};
+ghost use Rattle.std.specs.Prelude.{◌≡◌, ◌≢◌, ◌⊎◌, ◌++◌, ℕ, List, [], codes, IfOk, IfErr, Ok, drop, map, string_bytes};
 ghost use Rattle.std.specs.IoError.{error_kind};
 ghost use Rattle.std.specs.Vec.Iter.{into_iter_items};
 ghost use Rattle.options.specs.Order.{order_of, said_by};
@@ -12,7 +12,7 @@ ghost use Rattle.retriever.specs.Systems.{means};
 ghost use Rattle.streams.specs.Streams.{AppendsFront};
 
 use crate::fault::{Fault, fault_text};
-use crate::input_run::{deliver, refuse, run};
+use crate::input_run::{deliver, refuse, run_of_order};
 use crate::live_order::live_order;
 use crate::system::System;
 use options::{Order, Source, advice_text, no_text_advice, read_order};
@@ -127,21 +127,20 @@ fn run_order<H: Threads + Wait + Sync, S: System, R: Read, W: Write>(
     rt: &H,
     alloc: Global,
     system: &S,
-    words: &[&str],
     order: &Order,
     reader: &mut R,
     writer: &mut W,
 ) -> u8
-    requires said { order_of (map (λ word. word.now) words.now) ≡ Ok (said_by order.now) }
-    ensures runs { order.now.source ≢ Source.Live → Runs (map (λ word. word.now) words.now) (R.remaining reader.old) (W.contents writer.old) (W.contents writer.new) result }
-    ensures lives { order.now.source ≡ Source.Live
-        → LivesFor (means S.System system.now S.Fetcher.Fetcher S.Fetcher.noted S.Folder.Folder S.Record.Write) (W.contents writer.old) (W.contents writer.new) result (map (λ word. word.now) words.now) }
+    ensures runs { order.now.source ≢ Source.Live → (words : List (List ℕ)) → order_of words ≡ Ok (said_by order.now)
+        → Runs words (R.remaining reader.old) (W.contents writer.old) (W.contents writer.new) result }
+    ensures lives { order.now.source ≡ Source.Live → (words : List (List ℕ)) → order_of words ≡ Ok (said_by order.now)
+        → LivesFor (means S.System system.now S.Fetcher.Fetcher S.Fetcher.noted S.Folder.Folder S.Record.Write) (W.contents writer.old) (W.contents writer.new) result words }
     ensures unread { order.now.source ≡ Source.Live → reader.new ≡ reader.old }
 {
     match order.source {
         Source::Live => live_order(rt, alloc, system, order, writer),
-        Source::Map => run(rt, alloc, words, reader, writer),
-        Source::Recorded => run(rt, alloc, words, reader, writer),
+        Source::Map => run_of_order(rt, alloc, order, reader, writer),
+        Source::Recorded => run_of_order(rt, alloc, order, reader, writer),
     }
 }
 
@@ -160,7 +159,7 @@ fn run_texts<H: Threads + Wait + Sync, S: System, R: Read, W: Write, E: Write>(
         (map (λ word. word.now) words.now) }
 {
     match read_order(alloc, words) {
-        Ok(order) => run_order(rt, alloc, system, words, &order, reader, writer),
+        Ok(order) => run_order(rt, alloc, system, &order, reader, writer),
         Err(wrong) => explain(alloc, Fault::Line(wrong), words, writer, errors),
     }
 }

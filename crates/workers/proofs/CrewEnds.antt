@@ -32,7 +32,9 @@ use Rattle.workers.specs.inner.Apart.{IsOrdered}
 use Rattle.workers.specs.Asks.{gained, pages_asked, origins_asked, AreOnce}
 use Rattle.workers.specs.inner.Concluded.{IsConcluded, IsBare}
 use Rattle.workers.specs.Crews.{AreLater, all_gained, SomeSays, SomeRules, AllFit}
+use Rattle.harvest.specs.Gathered.{AreEntries}
 use Rattle.harvest.specs.Harvests.{Harvested}
+use Rattle.workers.specs.Found.{AreMadeOnce, AreAsked, AreFound}
 use Rattle.workers.specs.inner.Noted.{AreNoted}
 use Rattle.workers.specs.inner.Notes.{addresses, origins}
 use Rattle.workers.specs.Retrieval.{Brings, Leaves, IsLeft}
@@ -43,6 +45,7 @@ use Rattle.workers.specs.inner.Takers.{AreNotedBy}
 use Rattle.workers.specs.inner.Turns.{IsNothing}
 use Rattle.workers.proofs.ApartLaws.{same_fetchers}
 use Rattle.workers.proofs.CrewLaws.{crew_later, pages_are_noted, rules_are_noted}
+use Rattle.workers.proofs.FoundLaws.{page_in, rules_in, brings_found, left_once}
 use Rattle.workers.proofs.RetrievalLaws.{gained_is, log_is}
 use Rattle.workers.proofs.ServingLaws.{crew_brings, crew_leaves, crew_bare, crew_fits, brings_more, leaves_more}
 use Rattle.workers.proofs.SiteLaws.{fits_extend, complete_for, too_many_up, not_too_many}
@@ -80,6 +83,7 @@ module _ {F S : Type 0} (site : F → S) (says : S → Text → Outcome → List
   brought old new t notes sets h later noted all = record {
     later = later;
     brings = crew_brings (SomeSays site says log old new) (SomeRules site rules log old new) plan t (all_gained log old new) notes sets h noted all.0 all.1 all.2;
+    entries = all.0.harvest.entries;
   }
 
   full_of : (t : Traced) (notes : List PageNote) (sets : List RulesNote) (h : Harvested) → IsConcluded plan t notes sets h → IsFull t.plan t.state → IsFull plan h.state
@@ -146,17 +150,18 @@ module _ {F S : Type 0} (site : F → S) (says : S → Text → Outcome → List
   one_gained f g = append-nil (gained (log f) (log g))
 
   one_says : (f g : F) (u : Text) (x : Outcome) (body : List ℕ) → Contains (pages_asked (gained (log f) (log g))) u → says (site f) u x body → SomeSays site says log (f ∷ []) (g ∷ []) u x body
-  one_says f g u x body among said = inl (among, said)
+  one_says f g u x body among said = inl (page_in (gained (log f) (log g)) u among, said)
 
   one_rules : (f g : F) (o : Text) (r : RuleSetValue) → Contains (origins_asked (gained (log f) (log g))) o → rules (site f) o r → SomeRules site rules log (f ∷ []) (g ∷ []) o r
-  one_rules f g o r among said = inl (among, said)
+  one_rules f g o r among said = inl (rules_in (gained (log f) (log g)) o among, said)
 
   pub one_brought : (f g : F) (h : Harvested) → site g ≡ site f → log g ≡ log f ++ gained (log f) (log g)
-      → Brings (says (site f)) (rules (site f)) plan (gained (log f) (log g)) h → IsBrought site says rules log plan (f ∷ []) (g ∷ []) h
-  one_brought f g h site_is log_is brings = record {
+      → Brings (says (site f)) (rules (site f)) plan (gained (log f) (log g)) h → AreEntries h → IsBrought site says rules log plan (f ∷ []) (g ∷ []) h
+  one_brought f g h site_is log_is brings entries = record {
     later = one_later f g site_is log_is;
     brings = subst (λ (asks : List Ask). Brings (SomeSays site says log (f ∷ []) (g ∷ [])) (SomeRules site rules log (f ∷ []) (g ∷ [])) plan asks h) (sym (one_gained f g))
         (brings_more (says (site f)) (SomeSays site says log (f ∷ []) (g ∷ [])) (rules (site f)) (SomeRules site rules log (f ∷ []) (g ∷ [])) (gained (log f) (log g)) (one_says f g) (one_rules f g) plan h brings);
+    entries = entries;
   }
 
   pub one_left : (f g : F) (cause : Cause) (h : Harvested) → site g ≡ site f → log g ≡ log f ++ gained (log f) (log g)
@@ -172,11 +177,12 @@ module _ {F S : Type 0} (site : F → S) (says : S → Text → Outcome → List
   }
 
   pub alone_brought : (fs : List F) (d g : F) (r : Result Harvested Halt) → length fs ≡ 1 → site g ≡ site (get_or fs 0 d) → log g ≡ log (get_or fs 0 d) ++ gained (log (get_or fs 0 d)) (log g)
-      → IfOk r (Brings (says (site (get_or fs 0 d))) (rules (site (get_or fs 0 d))) plan (gained (log (get_or fs 0 d)) (log g))) → IfOk r (λ h. IsBrought site says rules log plan fs (slice_set fs 0 g) h)
-  alone_brought [] d g r one site_is log_is ok = absurd (omega arith)
-  alone_brought (f ∷ []) d g (Ok h) one site_is log_is ok = one_brought f g h site_is log_is ok
-  alone_brought (f ∷ []) d g (Err halt) one site_is log_is ok = tt
-  alone_brought (f ∷ e ∷ fs) d g r one site_is log_is ok = absurd (omega arith)
+      → IfOk r (Brings (says (site (get_or fs 0 d))) (rules (site (get_or fs 0 d))) plan (gained (log (get_or fs 0 d)) (log g))) → IfOk r AreEntries
+      → IfOk r (λ h. IsBrought site says rules log plan fs (slice_set fs 0 g) h)
+  alone_brought [] d g r one site_is log_is ok entries = absurd (omega arith)
+  alone_brought (f ∷ []) d g (Ok h) one site_is log_is ok entries = one_brought f g h site_is log_is ok entries
+  alone_brought (f ∷ []) d g (Err halt) one site_is log_is ok entries = tt
+  alone_brought (f ∷ e ∷ fs) d g r one site_is log_is ok entries = absurd (omega arith)
 
   pub alone_left : (fs : List F) (d g : F) (r : Result Harvested Halt) → length fs ≡ 1 → site g ≡ site (get_or fs 0 d) → log g ≡ log (get_or fs 0 d) ++ gained (log (get_or fs 0 d)) (log g)
       → IfErr r (λ halt. IsLeft (says (site (get_or fs 0 d))) (rules (site (get_or fs 0 d))) plan (gained (log (get_or fs 0 d)) (log g)) halt.cause halt.harvest)
@@ -268,6 +274,18 @@ module _ {F S : Type 0} (site : F → S) (says : S → Text → Outcome → List
       → IfErr result (λ s. s.cause ≢ why.Mismatch → IsLeft (SomeSays site says log old s.fetchers.items) (SomeRules site rules log old s.fetchers.items) plan (all_gained log old s.fetchers.items) s.cause s.harvest)
   left_told (Ok r) err = tt
   left_told (Err s) err = err.left
+
+  pub found_told : (result : Result (Retrieved F) (Stopped F)) → BringsIn result
+      → IfOk result (λ r. (m : Answers) × AreAsked (SomeSays site says log old r.fetchers.items) (SomeRules site rules log old r.fetchers.items) plan (all_gained log old r.fetchers.items) m
+      × AreFound plan m r.harvest.entries)
+  found_told (Ok r) ok =
+      brings_found (SomeSays site says log old r.fetchers.items) (SomeRules site rules log old r.fetchers.items) plan (all_gained log old r.fetchers.items) r.harvest ok.entries ok.brings
+  found_told (Err s) ok = tt
+
+  pub once_told : (result : Result (Retrieved F) (Stopped F)) → LeavesBehind result → IfErr result (λ s. s.cause ≢ why.Mismatch → AreMadeOnce (all_gained log old s.fetchers.items))
+  once_told (Ok r) err = tt
+  once_told (Err s) err = λ other.
+      left_once (SomeSays site says log old s.fetchers.items) (SomeRules site rules log old s.fetchers.items) plan (all_gained log old s.fetchers.items) s.cause s.harvest (err.left other)
 
   pub full_told : (result : Result (Retrieved F) (Stopped F)) → LeavesBehind result → IfErr result (λ s. s.cause ≡ why.Full → IsFull plan s.harvest.state)
   full_told (Ok r) err = tt

@@ -22,6 +22,7 @@ use Rattle.workers.specs.inner.Seats.{SeatGoes, AllGo, fetchers_of, page_notes, 
 use Rattle.workers.specs.Takers.{IsOwn, AreOwn}
 use Rattle.workers.specs.inner.Takers.{IsNotedBy, AreNotedBy}
 use Rattle.workers.proofs.TakerLaws.{worker_is, noted_left, noted_right}
+use Rattle.workers.proofs.FoundLaws.{page_in, rules_in}
 use Rattle.workers.proofs.RetrievalLaws.{gained_is, log_is}
 
 nil_left : {X : Type 0} (xs ys : List X) → xs ++ ys ≡ [] → xs ≡ []
@@ -112,7 +113,7 @@ module _ {F S : Type 0} (site : F → S) (says : S → Text → Outcome → List
       subst (λ (us : List Text). All (λ (note : PageNote). Contains us note.address) t.notes.pages.items) (sym asked) (named_all (λ (note : PageNote). note.address) t.notes.pages.items) in
       All-append (IsToldPage may plan) t.notes.pages.items (page_notes ts)
       (all_both (λ (note : PageNote). Contains (pages_asked (gained (log s.fetcher) (log t.fetcher))) note.address) (IsToldPage (says (site s.fetcher)) plan) (IsToldPage may plan) t.notes.pages.items
-      (λ note c h. told_more (says (site s.fetcher)) may plan note (λ x body said. inl (c, said)) h) among told)
+      (λ note c h. told_more (says (site s.fetcher)) may plan note (λ x body said. inl (page_in (gained (log s.fetcher) (log t.fetcher)) note.address c, said)) h) among told)
       (All-weaker (IsToldPage (SomeSays site says log (fetchers_of ss) (fetchers_of ts)) plan) (IsToldPage may plan)
       (λ note h. told_more (SomeSays site says log (fetchers_of ss) (fetchers_of ts)) may plan note (λ x body said. inr said) h) (page_notes ts)
       (all_told ss ts go.1 (nil_right s.notes.pages.items (page_notes ss) none)))
@@ -131,7 +132,7 @@ module _ {F S : Type 0} (site : F → S) (says : S → Text → Outcome → List
       subst (λ (us : List Text). All (λ (note : RulesNote). Contains us note.origin) t.notes.rules.items) (sym asked) (named_all (λ (note : RulesNote). note.origin) t.notes.rules.items) in
       All-append (IsToldRules may) t.notes.rules.items (rules_notes ts)
       (all_both (λ (note : RulesNote). Contains (origins_asked (gained (log s.fetcher) (log t.fetcher))) note.origin) (IsToldRules (rules (site s.fetcher))) (IsToldRules may) t.notes.rules.items
-      (λ note c h. ruled_more (rules (site s.fetcher)) may note (λ r said. inl (c, said)) h) among told)
+      (λ note c h. ruled_more (rules (site s.fetcher)) may note (λ r said. inl (rules_in (gained (log s.fetcher) (log t.fetcher)) note.origin c, said)) h) among told)
       (All-weaker (IsToldRules (SomeRules site rules log (fetchers_of ss) (fetchers_of ts))) (IsToldRules may)
       (λ note h. ruled_more (SomeRules site rules log (fetchers_of ss) (fetchers_of ts)) may note (λ r said. inr said) h) (rules_notes ts)
       (all_ruled ss ts go.1 (nil_right s.notes.rules.items (rules_notes ss) none)))

@@ -12,6 +12,7 @@ pub mod TakerLaws
 pub mod ConclusionLaws
 pub mod ApartLaws
 pub mod ServingLaws
+pub mod FoundLaws
 pub mod CrewLaws
 pub mod CrewEnds
 pub mod MoveLaws

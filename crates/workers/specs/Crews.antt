@@ -3,10 +3,11 @@ use Rattle.std.specs.Prelude.{◌≡◌, ◌⊎◌, ℕ, List, [], ◌∷◌, �
 use Rattle.std.specs.List.{AllZip}
 use Rattle.robots_rules.specs.Access.{RuleSetValue}
 use Rattle.fetcher.specs.declared.fetcher.Ask.{Ask}
+use Rattle.fetcher.specs.declared.fetcher.Ask.TheVariants as ask
 use Rattle.fetcher.specs.declared.outcome.Outcome.{Outcome}
 use Rattle.frontier_core.specs.Tables.{Text}
 use Rattle.frontier_core.specs.Routes.{Answers}
-use Rattle.workers.specs.Asks.{gained, pages_asked, origins_asked}
+use Rattle.workers.specs.Asks.{gained}
 use Rattle.workers.specs.Sites.{Fits}
 
 module _ {F S : Type 0} (site : F → S) (log : F → List Ask) where
@@ -32,7 +33,7 @@ module _ {F S : Type 0} (site : F → S) (says : S → Text → Outcome → List
   SomeSays [] news u x body = ⊥
   SomeSays (old ∷ olds) [] u x body = ⊥
   SomeSays (old ∷ olds) (new ∷ news) u x body =
-      (Contains (pages_asked (gained (log old) (log new))) u × says (site old) u x body) ⊎ SomeSays olds news u x body
+      (Contains (gained (log old) (log new)) (ask.Page u) × says (site old) u x body) ⊎ SomeSays olds news u x body
 
 module _ {F S : Type 0} (site : F → S) (rules : S → Text → RuleSetValue → Type 0) (log : F → List Ask) where
   -- some fetcher that was asked for the origin's rules may say that they are these
@@ -40,7 +41,7 @@ module _ {F S : Type 0} (site : F → S) (rules : S → Text → RuleSetValue �
   SomeRules [] news o set = ⊥
   SomeRules (old ∷ olds) [] o set = ⊥
   SomeRules (old ∷ olds) (new ∷ news) o set =
-      (Contains (origins_asked (gained (log old) (log new))) o × rules (site old) o set) ⊎ SomeRules olds news o set
+      (Contains (gained (log old) (log new)) (ask.Rules o) × rules (site old) o set) ⊎ SomeRules olds news o set
 
 module _ {F S : Type 0} (site : F → S) (says : S → Text → Outcome → List ℕ → Type 0) (rules : S → Text → RuleSetValue → Type 0) where
   -- whatever the site of any of the fetchers may give is what these answers name

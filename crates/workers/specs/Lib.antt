@@ -4,4 +4,5 @@ pub mod Retrieval
 pub mod OneWorker
 pub mod Crews
 pub mod Takers
+pub mod Found
 pub mod inner

@@ -5,6 +5,7 @@ ghost use Rattle.frontier_core.specs.Invariants.{IsOverfull};
 ghost use Rattle.frontier_core.specs.Plans.{policy};
 ghost use Rattle.frontier_core.specs.Routes.{Answers, HasTooMany};
 ghost use Rattle.workers.specs.Crews.{AreLater, all_gained, SomeSays, SomeRules, AllFit};
+ghost use Rattle.workers.specs.Found.{AreMadeOnce, AreAsked, AreFound};
 ghost use Rattle.workers.specs.inner.Answered.{IsBrought, IsLeftBy, IsAccount, IsOwnAccount};
 ghost use Rattle.workers.specs.OneWorker.{AreByCrew};
 ghost use Rattle.workers.specs.Retrieval.{Brings, IsLeft};
@@ -269,6 +270,11 @@ pub fn retrieve<F: Fetcher + Send, R: Threads + Wait + Sync>(
         plan.now (all_gained F.log fetchers.items r.fetchers.items) r.harvest) }
     ensures err { IfErr result (λ s. s.cause ≢ Cause.Mismatch → IsLeft (SomeSays F.site F.says F.log fetchers.items s.fetchers.items)
         (SomeRules F.site F.rules F.log fetchers.items s.fetchers.items) plan.now (all_gained F.log fetchers.items s.fetchers.items) s.cause s.harvest) }
+
+    // What was found, by the answers alone.
+    ensures finds { IfOk result (λ r. (m : Answers) × AreAsked (SomeSays F.site F.says F.log fetchers.items r.fetchers.items) (SomeRules F.site F.rules F.log fetchers.items r.fetchers.items)
+        plan.now (all_gained F.log fetchers.items r.fetchers.items) m × AreFound plan.now m r.harvest.entries) }
+    ensures once { IfErr result (λ s. s.cause ≢ Cause.Mismatch → AreMadeOnce (all_gained F.log fetchers.items s.fetchers.items)) }
     ensures full { IfErr result (λ s. s.cause ≡ Cause.Full → HasTooMany (policy plan.now) (answers s.harvest.state) × IsOverfull (policy plan.now) s.harvest.state) }
     ensures one { vec_len fetchers ≡ 1 → IfErr result (λ s. s.cause ≢ Cause.Mismatch) }
     ensures numbered { IfOk result (λ r. AreByCrew (vec_len fetchers) r.harvest.trace) × IfErr result (λ s. s.cause ≢ Cause.Mismatch → AreByCrew (vec_len fetchers) s.harvest.trace) }

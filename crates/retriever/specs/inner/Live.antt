@@ -1,6 +1,5 @@
 -- What proofs alone need beside `Live`.
 use Rattle.std.specs.Prelude.{◌⊎◌, ℕ, List, ◌++◌, codes}
-use Rattle.frontier_core.specs.declared.event.Cause.TheVariants as cause
 use Rattle.workers.specs.Asks.{IsTold}
 use Rattle.retriever.specs.Found.{torn_line}
 

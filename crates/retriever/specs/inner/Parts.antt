@@ -1,9 +1,9 @@
 -- What proofs alone need beside `Parts`.
-use Rattle.std.specs.Prelude.{◌≡◌, ◌≤◌, ◌<◌, ◌++◌, ◌&&◌, ℕ, Bool, true, false, List, length, map, Option, Result, Ok, Err, IfSome}
+use Rattle.std.specs.Prelude.{◌≡◌, ◌≢◌, ◌⊎◌, ◌++◌, ◌&&◌, ℕ, Bool, true, false, List, map, Option, Result, Ok, Err, IfSome}
 use Rattle.std.specs.Io.KnownBytes.{Appends}
 use Rattle.options.specs.declared.order.Order.{Order}
+use Rattle.options.specs.declared.order.Source.TheVariants as source
 use Rattle.fetcher.specs.Sites.{SiteAnswers}
-use Rattle.site_inputs.specs.declared.input_fault.InputFault.{InputFault}
 use Rattle.frontier_core.specs.Invariants.{IsSound}
 use Rattle.frontier_core.specs.Plans.{policy}
 use Rattle.frontier_core.specs.Routes.{Answers}
@@ -20,31 +20,15 @@ use Rattle.local_tree.specs.PlainNames.{plain_name_of}
 use Rattle.report.specs.Entries.{lines_of as harvest_lines}
 use Rattle.report.specs.ExitStatus.{exit_status}
 use Rattle.report.specs.Report.{report_text}
-use Rattle.retriever.specs.declared.input_run.TheConstants.{MAX_INPUT}
+use Rattle.retriever.specs.InputFound.{TellsOf, TellsFault}
 use Rattle.retriever.specs.Retrieved.{Finish, Stopped, Finishes}
 use Rattle.retriever.specs.Run.{finish_text, finish_status}
-use Rattle.retriever.specs.Site.{whole_of}
-use Rattle.streams.specs.Streams.{IsInput, AppendsFront}
+use Rattle.retriever.specs.Site.{IsWrongBy, whole_of}
+use Rattle.streams.specs.Streams.{AppendsFront}
 use Rattle.report.specs.Trace.{trace_text}
 use Rattle.retriever.specs.declared.fault.Fault.{Fault}
 use Rattle.retriever.specs.declared.fault.Fault.TheVariants as fault
-use Rattle.streams.specs.declared.input.ReadFault.TheVariants as reading
 use Rattle.retriever.specs.Parts.{shown_of}
-
--- what the reader has left tells this site
-abbrev pub TellsOf : (List ℕ → SiteAnswers → Type 0) → Option (List ℕ) → SiteAnswers → Type 0
-TellsOf IsOf known site = (input : List ℕ) × IsInput known input × (length input ≤ MAX_INPUT) × IsOf input site
-
--- what the reader has left comes to this fault
-abbrev pub TellsFault : (List ℕ → InputFault → Type 0) → Option (List ℕ) → Fault → Type 0
-TellsFault IsWrong known (fault.Line wrong) = ⊥
-TellsFault IsWrong known fault.NotText = ⊥
-TellsFault IsWrong known fault.NoSite = ⊥
-TellsFault IsWrong known (fault.Read reading.Long) = (input : List ℕ) × IsInput known input × (MAX_INPUT < length input)
-TellsFault IsWrong known (fault.Read reading.Failed) = Unit {0}
-TellsFault IsWrong known (fault.Read reading.Memory) = Unit {0}
-TellsFault IsWrong known (fault.Input wrong) = (input : List ℕ) × IsInput known input × (length input ≤ MAX_INPUT) × IsWrong input wrong
-TellsFault IsWrong known fault.Memory = Unit {0}
 
 -- the retrieval of a site comes to this text and this status
 pub record IsOutputOf (order : Order) (whole : Answers) (text : List ℕ) (status : ℕ) : Type 0 where
@@ -57,6 +41,11 @@ pub record IsOutputOf (order : Order) (whole : Answers) (text : List ℕ) (statu
 -- what the reader has left tells a site, and its retrieval comes to this text and this status
 abbrev pub IsOutput : (List ℕ → SiteAnswers → Type 0) → Order → Option (List ℕ) → List ℕ → ℕ → Type 0
 IsOutput IsOf order known text status = (site : SiteAnswers) × TellsOf IsOf known site × IsOutputOf order (whole_of site) text status
+
+-- what the order and the reader come to instead of a retrieval: a site on the network isn't one that an input tells
+abbrev pub IsUnfit : Order → Option (List ℕ) → Fault → Type 0
+IsUnfit order known wrong =
+    ((order.source ≡ source.Live) × (wrong ≡ fault.NoSite)) ⊎ ((order.source ≢ source.Live) × TellsFault (IsWrongBy order.source order.plan.robots) known wrong)
 
 -- the writer gained the text, behind which the run has this status unless more is told, or the writer failed
 abbrev pub IsToldAs : {E : Type 0} → Option (List ℕ) → Option (List ℕ) → Result ℕ E → List ℕ → ℕ → Type 0

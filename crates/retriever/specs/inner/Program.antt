@@ -2,7 +2,6 @@
 use Rattle.std.specs.Prelude.{◌≡◌, ◌⊎◌, ℕ, List, Option}
 use Rattle.retriever.specs.Order.{AreForInput, AreForLive}
 use Rattle.retriever.specs.Run.{Runs}
-use Rattle.retriever.specs.declared.fault.Fault.TheVariants as fault
 use Rattle.retriever.specs.Program.{IsTold}
 
 -- What becomes of the words: those that order a site on the network are retrieved live, and others run. No byte of the

@@ -1,6 +1,6 @@
 -- What is put into a folder and told of what a retrieval brought, before it is said what that is. How a text is told, with the
 -- status that belongs to it, is left to who says it.
-use Rattle.std.specs.Prelude.{◌≡◌, ◌⊎◌, ◌&&◌, ℕ, Bool, List, ◌++◌, map, codes, Option, Result, Ok, Err}
+use Rattle.std.specs.Prelude.{◌≡◌, ◌⊎◌, ◌&&◌, ℕ, Bool, List, ◌++◌, map, codes, Result, Ok, Err}
 use Rattle.frontier_core.specs.declared.event.Cause.{Cause}
 use Rattle.frontier_core.specs.declared.event.Cause.TheVariants as cause
 use Rattle.harvest.specs.Harvests.{Harvested}
@@ -15,7 +15,7 @@ use Rattle.report.specs.ExitStatus.{exit_status}
 use Rattle.report.specs.Report.{report_text}
 use Rattle.retriever.specs.Found.{Holding}
 use Rattle.retriever.specs.inner.Live.{IsTornTold}
-use Rattle.retriever.specs.Parts.{IsDelivered, shown_of}
+use Rattle.retriever.specs.Parts.{shown_of}
 use Rattle.retriever.specs.inner.Parts.{is_borne_out}
 use Rattle.retriever.specs.Retrieved.{Stopped}
 use Rattle.retriever.specs.Run.{finish_text}

@@ -1,8 +1,5 @@
 -- What proofs alone need beside `Systems`.
 use Rattle.std.specs.Prelude.{◌&&◌, ℕ, Bool, is_none, false, List, Option, Some, None, bytes_eq}
-use Rattle.site_inputs.specs.declared.input_fault.InputFault.TheVariants as input
-use Rattle.streams.specs.declared.input.ReadFault.TheVariants as reading
-use Rattle.retriever.specs.declared.system.System.{Ghosts as Systems}
 
 -- an order that resumes this goes on from the file at the path
 abbrev pub goes_on_from : Option (List ℕ) → List ℕ → Bool

@@ -16,6 +16,7 @@ use Rattle.workers.specs.declared.crew_retrieval.Noted.{Noted}
 use Rattle.workers.specs.declared.crew_retrieval.Noted.TheVariants as known
 use Rattle.workers.specs.Asks.{AreOnce}
 use Rattle.workers.specs.Crews.{AreLater, all_gained, SomeSays, SomeRules}
+use Rattle.harvest.specs.Gathered.{AreEntries}
 use Rattle.harvest.specs.Harvests.{Harvested}
 use Rattle.workers.specs.inner.Noted.{AreNoted}
 use Rattle.workers.specs.Retrieval.{Brings, IsLeft}
@@ -23,10 +24,11 @@ use Rattle.workers.specs.Takers.{AreOwn}
 use Rattle.workers.specs.inner.Takers.{AreNotedBy}
 
 module _ {F S : Type 0} (site : F → S) (says : S → Text → Outcome → List ℕ → Type 0) (rules : S → Text → RuleSetValue → Type 0) (log : F → List Ask) where
-  -- the fetchers came back in their order, and the retrieval has found what is to be found
+  -- the fetchers came back in their order, and the retrieval has found what is to be found; its entries say what its state holds
   pub record IsBrought (plan : Plan) (old new : List F) (h : Harvested) : Type 0 where
     pub later : AreLater site log old new
     pub brings : Brings (SomeSays site says log old new) (SomeRules site rules log old new) plan (all_gained log old new) h
+    pub entries : AreEntries h
 
   -- the fetchers came back in their order; where no check failed, what was found is left, or there was no memory for it
   pub record IsLeftBy (plan : Plan) (old new : List F) (cause : Cause) (h : Harvested) : Type 0 where

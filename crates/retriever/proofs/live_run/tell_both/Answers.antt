@@ -1,5 +1,5 @@
 -- The second text stands behind the first, or a front of the first was written.
-use Rattle.std.proofs.Common.{◌≡◌, ℕ, List, subst}
+use Rattle.std.proofs.Common.{ℕ, List, subst}
 use Rattle.std.specs.Io.KnownBytes.{Appends}
 use Rattle.retriever.specs.inner.Parts.{IsToldAs}
 use Rattle.streams.specs.Streams.{AppendsFront}

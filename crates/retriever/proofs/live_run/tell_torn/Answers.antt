@@ -1,5 +1,5 @@
 -- The line stands behind the text.
-use Rattle.std.proofs.Common.{◌≡◌, ◌∙◌, ◌++◌, ℕ, List, inl, subst}
+use Rattle.std.proofs.Common.{◌∙◌, ◌++◌, ℕ, List, inl, subst}
 use Rattle.retriever.specs.inner.Parts.{IsToldAs}
 use Rattle.retriever.proofs.live_run.tell_torn.Goals as goal
 

@@ -1,5 +1,5 @@
 -- Nothing was to be written, or the text was, or a front of it.
-use Rattle.std.proofs.Common.{◌≡◌, ◌∙◌, ◌==◌, ℕ, List, [], Bool, true, false, length, refl, sym, ap, subst}
+use Rattle.std.proofs.Common.{◌≡◌, ◌∙◌, ◌==◌, ℕ, List, true, false, length, refl, sym, ap, subst}
 use Rattle.streams.specs.Streams.{AppendsFront}
 use Rattle.retriever.proofs.ProgramLaws.{nothing_of, wrote}
 use Rattle.retriever.proofs.program.tell.Goals as goal

@@ -1,5 +1,5 @@
 -- What the crew brought is put and told, and what its fetchers noted is saved.
-use Rattle.std.proofs.Common.{◌≡◌, ◌∙◌, ◌++◌, List, ap, subst}
+use Rattle.std.proofs.Common.{◌∙◌, ◌++◌, List, subst}
 use Rattle.std.specs.List.{flat_map}
 use Rattle.site_records.specs.WrittenRecords.{record_text}
 use Rattle.retriever.specs.Found.{holding}

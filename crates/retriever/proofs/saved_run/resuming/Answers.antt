@@ -1,8 +1,6 @@
 -- Each turn puts one fetcher behind the record; at the end none is left.
-use Rattle.std.proofs.Common.{rules, ◌≡◌, ◌∙◌, ◌++◌, [], ◌∷◌, List, length, map, vec_len, sym, ap, subst, arith}
+use Rattle.std.proofs.Common.{rules, ◌≡◌, ◌∙◌, ◌++◌, [], ◌∷◌, map, sym, ap, subst}
 use Rattle.std.specs.Vec.Iter.{into_iter_items}
-use Rattle.std.proofs.lemmas.List.{length-map}
-use Rattle.site_records.specs.Resumption.{Resuming}
 use Rattle.workers.proofs.MoveLaws.{piece_moved, all_moved, none_left}
 use Rattle.retriever.specs.Saving.{resuming_of}
 use Rattle.retriever.proofs.SavingLaws.{resuming_is}

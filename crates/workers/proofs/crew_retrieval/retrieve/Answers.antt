@@ -1,4 +1,4 @@
-use Rattle.workers.proofs.CrewEnds.{all_later_told, brings_told, left_told, full_told, whole_told, full_site_told, crowded_told}
+use Rattle.workers.proofs.CrewEnds.{all_later_told, brings_told, left_told, found_told, once_told, full_told, whole_told, full_site_told, crowded_told}
 use Rattle.workers.proofs.crew_retrieval.retrieve.Goals as goal
 
 pub returns-clause-fetchers : goal.returns-clause-fetchers
@@ -15,6 +15,16 @@ pub returns-clause-err : goal.returns-clause-err
 returns-clause-err g c =
     let F = g.F.Fetcher in
     left_told F.site F.says F.rules F.log c.args.plan.now c.args.fetchers.items c.retrieve_with.result c.retrieve_with.ensures.err
+
+pub returns-clause-finds : goal.returns-clause-finds
+returns-clause-finds g c =
+    let F = g.F.Fetcher in
+    found_told F.site F.says F.rules F.log c.args.plan.now c.args.fetchers.items c.retrieve_with.result c.retrieve_with.ensures.ok
+
+pub returns-clause-once : goal.returns-clause-once
+returns-clause-once g c =
+    let F = g.F.Fetcher in
+    once_told F.site F.says F.rules F.log c.args.plan.now c.args.fetchers.items c.retrieve_with.result c.retrieve_with.ensures.err
 
 pub returns-clause-full : goal.returns-clause-full
 returns-clause-full g c =

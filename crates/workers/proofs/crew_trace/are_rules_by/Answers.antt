@@ -1,5 +1,5 @@
 -- What is found is the only note of its name; where nothing is found there is none.
-use Rattle.std.proofs.Common.{◌≡◌, ℕ, Result, Ok, Err, rules, true, None, ap, sym, ◌∙◌, subst, refl}
+use Rattle.std.proofs.Common.{ℕ, Result, rules, None, ap, subst, refl}
 use Rattle.std.specs.Cmp.Lexicographic.{slice_cmp}
 use Rattle.std.specs.List.Sorted.{IsBinarySearchResult}
 use Rattle.std.specs.Ordering.{nat_cmp}

@@ -1,0 +1,53 @@
+-- What a run by an order found of the site that its input tells, and what it writes of that, with no word of the events that led
+-- there nor of the words that order it: these says `Run`.
+use Rattle.std.specs.Prelude.{◌≡◌, ◌≢◌, ◌≤◌, ◌<◌, ℕ, false, List, [], length, Option}
+use Rattle.fetcher.specs.Sites.{SiteAnswers}
+use Rattle.frontier_core.specs.Plans.{policy}
+use Rattle.frontier_core.specs.Routes.{Answers, HasTooMany}
+use Rattle.frontier_core.specs.declared.event.Cause.TheVariants as cause
+use Rattle.options.specs.declared.order.Order.{Order}
+use Rattle.site_inputs.specs.declared.input_fault.InputFault.{InputFault}
+use Rattle.streams.specs.Streams.{IsInput}
+use Rattle.streams.specs.declared.input.ReadFault.TheVariants as reading
+use Rattle.retriever.specs.declared.fault.Fault.{Fault}
+use Rattle.retriever.specs.declared.fault.Fault.TheVariants as fault
+use Rattle.retriever.specs.declared.input_run.TheConstants.{MAX_INPUT}
+use Rattle.retriever.specs.Parts.{IsDelivered}
+use Rattle.retriever.specs.Retrieved.{Finish, Reported, Stopped}
+use Rattle.retriever.specs.Run.{Ending, Failed, Ended, ending_text, ending_status}
+use Rattle.retriever.specs.Site.{AreLines, AreNamed, whole_of}
+
+-- what the reader has left tells this site
+abbrev pub TellsOf : (List ℕ → SiteAnswers → Type 0) → Option (List ℕ) → SiteAnswers → Type 0
+TellsOf IsOf known site = (input : List ℕ) × IsInput known input × (length input ≤ MAX_INPUT) × IsOf input site
+
+-- what the reader has left comes to this fault
+abbrev pub TellsFault : (List ℕ → InputFault → Type 0) → Option (List ℕ) → Fault → Type 0
+TellsFault IsWrong known (fault.Line wrong) = ⊥
+TellsFault IsWrong known fault.NotText = ⊥
+TellsFault IsWrong known fault.NoSite = ⊥
+TellsFault IsWrong known (fault.Read reading.Long) = (input : List ℕ) × IsInput known input × (MAX_INPUT < length input)
+TellsFault IsWrong known (fault.Read reading.Failed) = Unit {0}
+TellsFault IsWrong known (fault.Read reading.Memory) = Unit {0}
+TellsFault IsWrong known (fault.Input wrong) = (input : List ℕ) × IsInput known input × (length input ≤ MAX_INPUT) × IsWrong input wrong
+TellsFault IsWrong known fault.Memory = Unit {0}
+
+-- This is found of a whole site: the lines of its report, or more addresses than the plan lets be held. Memory may run out at any
+-- time, and a check of several workers may fail.
+abbrev pub IsFoundOf : Order → Answers → Finish → Type 0
+IsFoundOf order whole (Reported lines) = AreLines (policy order.plan) whole lines × AreNamed order.plan lines
+IsFoundOf order whole (Stopped cause.Full) = HasTooMany (policy order.plan) whole
+IsFoundOf order whole (Stopped cause.Memory) = Unit {0}
+IsFoundOf order whole (Stopped cause.Mismatch) = order.workers ≢ 1
+
+-- what the reader has left comes to this ending
+abbrev pub EndsOn : (List ℕ → SiteAnswers → Type 0) → (List ℕ → InputFault → Type 0) → Order → Option (List ℕ) → Ending → Type 0
+EndsOn IsOf IsWrong order known (Failed wrong) = TellsFault IsWrong known wrong
+EndsOn IsOf IsWrong order known (Ended trace finish) =
+    (order.trace ≡ false → trace ≡ []) × (site : SiteAnswers) × TellsOf IsOf known site × IsFoundOf order (whole_of site) finish
+
+-- A run by an order, of an input of a form: it comes to an ending, whose text the writer gained, or a front of it where it failed.
+pub record FindsIn (IsOf : List ℕ → SiteAnswers → Type 0) (IsWrong : List ℕ → InputFault → Type 0) (order : Order) (known old new : Option (List ℕ)) (status : ℕ) : Type 0 where
+  pub ending : Ending
+  pub ends : EndsOn IsOf IsWrong order known ending
+  pub written : IsDelivered old new (ending_text ending) (ending_status ending) status
