@@ -1,4 +1,4 @@
-//! Questions over connections: where one is refused memory, the connection that it was given is ended all the same.
+//! Questions over connections: where one is refused memory, the connection that it was given is ended or kept all the same.
 use crate::common::address;
 use address::{Address, Origin};
 use fetcher::Fetcher;
@@ -15,12 +15,22 @@ http://h/cut HTTP/1.1 2
 http://h/robots.txt HTTP/1.1 302 |Location: /r|Content-Length: 0||
 http://h/r HTTP/1.1 200 ||User-agent: *|Disallow: /a";
 
-// Counts the connections that another gave, and those that were ended.
+// Counts the connections that another gave, new or kept, and those that were ended or given back.
 #[derive(Drop)]
 struct Counted<C: Connect> {
     inner: C,
     given: u32,
     ended: u32,
+}
+
+impl<C: Connect> Counted<C> {
+    fn new(inner: C) -> Counted<C> {
+        Counted {
+            inner,
+            given: 0,
+            ended: 0,
+        }
+    }
 }
 
 impl<C: Connect> Connect for Counted<C> {
@@ -44,6 +54,17 @@ impl<C: Connect> Connect for Counted<C> {
         let wire = self.inner.connect(of)?;
         self.given = self.given.saturating_add(1);
         Ok(wire)
+    }
+
+    fn take(&mut self, of: &Origin) -> Option<C::Wire> {
+        let wire = self.inner.take(of)?;
+        self.given = self.given.saturating_add(1);
+        Some(wire)
+    }
+
+    fn give_back(&mut self, of: &Origin, wire: C::Wire) {
+        self.inner.give_back(of, wire);
+        self.ended = self.ended.saturating_add(1);
     }
 
     fn close(&mut self, wire: C::Wire) {
@@ -105,27 +126,43 @@ fn ask_all<C: Connect>(fetcher: &mut HttpFetcher<C>, all: &[Address], of: &Origi
     fetcher.ask_robots(of).is_ok() || fetcher.ask_robots(of).is_ok()
 }
 
-/// Whether each connection that was given was ended, whatever was refused.
+/// What a fetcher does besides asking.
+#[derive(Clone, Copy, PartialEq, Eq)]
+enum Besides {
+    Nothing,
+    Records,
+    Keeps,
+}
+
+/// A fetcher over these connections.
+fn fetcher_of<C: Connect>(
+    alloc: Global,
+    counted: Counted<C>,
+    besides: Besides,
+) -> HttpFetcher<Counted<C>> {
+    match besides {
+        Besides::Nothing => HttpFetcher::new(alloc, counted, true),
+        Besides::Records => HttpFetcher::recording(alloc, counted, true),
+        Besides::Keeps => HttpFetcher::new(alloc, counted, true).keeping(),
+    }
+}
+
+/// Demands that each connection that was given was ended or given back, whatever was refused. Gives whether there was one for each
+/// question and for the robots file's redirect: a connection that finds no memory for a request fails, and then no redirect is
+/// followed.
 fn are_all_ended<C: Connect>(
+    rt: &impl Abort,
     alloc: Global,
     inner: C,
-    is_recording: bool,
+    besides: Besides,
     all: &[Address],
     of: &Origin,
 ) -> bool {
-    let counted = Counted {
-        inner,
-        given: 0,
-        ended: 0,
-    };
-    let mut fetcher = if is_recording {
-        HttpFetcher::recording(alloc, counted, true)
-    } else {
-        HttpFetcher::new(alloc, counted, true)
-    };
+    let mut fetcher = fetcher_of(alloc, Counted::new(inner), besides);
     let is_done = ask_all(&mut fetcher, all, of);
     let counted = fetcher.connect();
-    is_done && counted.given >= 6 && counted.ended == counted.given
+    assert!(rt; is_done && counted.ended == counted.given);
+    counted.given >= 6
 }
 
 fn try_addresses(rt: &impl Abort, alloc: Global) -> Result<Vec<Address>, AllocError> {
@@ -144,21 +181,29 @@ fn addresses(rt: &impl Abort, alloc: Global) -> Vec<Address> {
     }
 }
 
-/// Whether it is so over connections in memory.
-fn are_ended(rt: &impl Abort, alloc: Global, is_recording: bool) -> bool {
+/// Demands it over connections in memory, and gives whether there was one for each.
+fn are_ended(rt: &impl Abort, alloc: Global, besides: Besides) -> bool {
     let answers = site(rt, alloc);
     let all = addresses(rt, alloc);
     let of = try_origin(rt, alloc);
     let connect = MemoryConnect::new(alloc, answers.as_slice(), &[]);
-    are_all_ended(alloc, connect, is_recording, all.as_slice(), &of)
+    are_all_ended(rt, alloc, connect, besides, all.as_slice(), &of)
 }
 
 #[test]
 fn each_connection_is_ended_where_memory_is_refused(rt: HostRuntime) {
-    assert!(rt; are_ended(&rt, rt.alloc(), false));
+    let besides = Besides::Nothing;
+    assert!(rt; are_ended(&rt, rt.alloc(), besides) || are_ended(&rt, rt.alloc(), besides));
 }
 
 #[test]
 fn each_connection_of_a_recording_fetcher_is_ended_too(rt: HostRuntime) {
-    assert!(rt; are_ended(&rt, rt.alloc(), true));
+    let besides = Besides::Records;
+    assert!(rt; are_ended(&rt, rt.alloc(), besides) || are_ended(&rt, rt.alloc(), besides));
+}
+
+#[test]
+fn each_connection_of_a_keeping_fetcher_is_ended_or_kept(rt: HostRuntime) {
+    let besides = Besides::Keeps;
+    assert!(rt; are_ended(&rt, rt.alloc(), besides) || are_ended(&rt, rt.alloc(), besides));
 }

@@ -1,31 +1,31 @@
 //! Texts of responses, and what is read of each, however its bytes are cut.
-use crate::common::demand;
+use crate::common::{bytes_of, demand};
 use crate::reader_tests::{repeated_bytes, wire_of};
-use response_reader::{Gather, ReadFault, SliceWire, read_into, read_response};
+use response_reader::{Gather, ReadFault, read_into, read_response};
 use std::alloc::Global;
 use std::process::Abort;
 
 /// Each line has words that tabs part: what to do, a text, and for `many` a middle, how often it stands behind that text, and an
-/// end; behind the arrow the body that is read, or the fault. CR LF is written `|`. A `text` is read whole, cut at each place
-/// and byte by byte, and `many` whole, by both calls; each front of a `front` but the whole has ended.
+/// end; behind the arrow the body that is read, or the fault. CR LF is written `|`. A text is read whole, cut in two at each place
+/// and byte by byte, and `many` whole, by both calls. Then its fronts are read: of a `front` each has ended, and of `head` and
+/// `open` each that ends in the head; a longer one of `head` has the whole's fault, and of `open` what it has of the body.
 const TEXTS: &str =
-    "text\tHTTP/1.1 200 OK|Content-Length: 10||123456789 => the input ended before the response was whole
-text\tHTTP/1.1 200 OK|Transfer-Encoding: chunked||3|abc| => the input ended before the response was whole
-text\tHTTP/1.1 200 OK|Content-Length: 9|Transfer-Encoding: chunked||3|abc|0|| => read `abc`
-text\tHTTP/1.1 200 OK||xyz => read `xyz`
-text\tHTTP/1.1 204 No Content|Content-Length: 5|| => read ``
+    "front\tHTTP/1.1 200 OK|Content-Length: 10||123456789 => the input ended before the response was whole
+front\tHTTP/1.1 200 OK|Transfer-Encoding: chunked||3|abc| => the input ended before the response was whole
+open\tHTTP/1.1 200 OK||xyz => read `xyz`
+front\tHTTP/1.1 204 No Content|Content-Length: 5|| => read ``
 text\tHTTP/1.1 304 |Transfer-Encoding: gzip|| => read ``
-text\tHTTP/1.1 200 OK|Content-Length: 5, 5||hello => read `hello`
-text\tHTTP/1.1 200 OK|Content-Length: 5|Content-Length: 6||hello => the Content-Length fields give no length
+front\tHTTP/1.1 200 OK|Content-Length: 5, 5||hello => read `hello`
+head\tHTTP/1.1 200 OK|Content-Length: 5|Content-Length: 6||hello => the Content-Length fields give no length
 text\tHTTP/1.1 200 OK|Content-Length: 5,||hello => the Content-Length fields give no length
 text\tHTTP/1.1 200 OK|Content-Length: +5||hello => the Content-Length fields give no length
-text\tHTTP/1.1 200 OK|Transfer-Encoding: gzip, chunked||0|| => the transfer coding is another than chunked
-text\tHTTP/1.1 101 Switching|| => there is no response head, or its status is refused
+head\tHTTP/1.1 200 OK|Transfer-Encoding: gzip, chunked||0|| => the transfer coding is another than chunked
+front\tHTTP/1.1 101 Switching|| => there is no response head, or its status is refused
 text\tHTTP/1.1 099 Low|| => there is no response head, or its status is refused
 text\tHTTP/2 200 OK|| => there is no response head, or its status is refused
-text\tHTTP/1.1 200 OK|Content-Length: 16777217|| => the body is above 16,777,216 bytes, or the response above 67,108,864
+front\tHTTP/1.1 200 OK|Content-Length: 16777217|| => the body is above 16,777,216 bytes, or the response above 67,108,864
 text\tHTTP/1.1 200 OK|Transfer-Encoding: chunked||1000001| => the body is above 16,777,216 bytes, or the response above 67,108,864
-text\tHTTP/1.1 200 OK|Content-Type: text/html||<a href=b> => read `<a href=b>`
+open\tHTTP/1.1 200 OK|Content-Type: text/html||<a href=b> => read `<a href=b>`
 text\tHTTP/1.1 100 Continue||HTTP/1.1 103 |Link: a||HTTP/1.0 404 |content-length:2||no => read `no`
 text\tHTTP/1.1 200 OK|Transfer-Encoding: CHUNKED||2;x=\"y\"|ab|01|c|00|T: u||rest => read `abc`
 text\tHTTP/1.1 200 OK|Transfer-Encoding: chunked||3|abcd|0|| => the chunks or the trailers are ill formed
@@ -49,6 +49,9 @@ many\tHTTP/1.1 200 OK|Transfer-Encoding: chunked||0|\ta: b|\t101\t| => the heads
 many\tHTTP/1.1 200 OK|Transfer-Encoding: chunked||0|a: \tx\t65529\t|| => read ``
 many\tHTTP/1.1 200 OK|Transfer-Encoding: chunked||0|a: \tx\t65530\t|| => the heads or the trailers are above 65,536 bytes or 100 fields
 many\tHTTP/1.1 200 OK|Transfer-Encoding: chunked||0|\t\t0\t => the input ended before the response was whole";
+
+/// What is told of a text that is cut.
+const ENDED: &str = "the input ended before the response was whole";
 
 /// What was read: the body, or why there is none.
 fn told(rt: &impl Abort, alloc: Global, read: Result<Vec<u8>, ReadFault>) -> String {
@@ -97,11 +100,34 @@ fn gives_cut(rt: &impl Abort, alloc: Global, bytes: &[u8], wanted: &str) -> bool
     gives(rt, alloc, bytes, &ones, wanted)
 }
 
-/// Whether each front but the whole has ended.
-fn fronts_end(alloc: Global, bytes: &[u8]) -> bool {
+/// How many bytes the head of a text has.
+fn head_len(rt: &impl Abort, alloc: Global, text: &str) -> usize {
+    let (head, _) = text.split_once("||").unwrap_or((text, ""));
+    bytes_of(rt, alloc, head).len().saturating_add(4)
+}
+
+/// Whether each front but the whole is read as the task says.
+fn fronts_are_read(
+    rt: &impl Abort,
+    alloc: Global,
+    task: &str,
+    bytes: &[u8],
+    head: usize,
+    wanted: &str,
+) -> bool {
     for cut in 0..bytes.len() {
-        let read = read_response(alloc, &mut SliceWire::new(&bytes[..cut]));
-        if !matches!(read, Err(ReadFault::Ended)) {
+        let (front, _) = bytes.split_at(cut);
+        let read = kept(rt, alloc, front, &[]);
+        let is_right = if cut < head || task == "front" {
+            read.as_str() == ENDED
+        } else if task == "head" {
+            read.as_str() == wanted
+        } else {
+            let (_, body) = front.split_at(head);
+            let body = Vec::from_slice(alloc, body).expect(rt, "memory");
+            read.as_str() == told(rt, alloc, Ok(body)).as_str()
+        };
+        if !is_right {
             return false;
         }
     }
@@ -117,12 +143,13 @@ fn is_read(rt: &impl Abort, alloc: Global, line: &str, wanted: &str) -> bool {
     let times = words.next().and_then(|times| times.parse::<usize>().ok());
     let end = words.next().unwrap_or("");
     let bytes = repeated_bytes(rt, alloc, front, middle, times.unwrap_or(0), end);
+    if task == "many" {
+        return gives(rt, alloc, &bytes, &[], wanted);
+    }
+    let head = head_len(rt, alloc, front);
     gives(rt, alloc, &bytes, &[], wanted)
-        && match task {
-            "text" => gives_cut(rt, alloc, &bytes, wanted),
-            "front" => fronts_end(alloc, &bytes),
-            _ => true,
-        }
+        && gives_cut(rt, alloc, &bytes, wanted)
+        && (task == "text" || fronts_are_read(rt, alloc, task, &bytes, head, wanted))
 }
 
 #[test]
