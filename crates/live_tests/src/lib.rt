@@ -1,9 +1,9 @@
 //! Runs of the retriever: tests alone, of `retriever::run` and `retriever::run_program` on worked sites, of `retriever::live`
 //! over connections in memory that fail where they are told to, and over TCP to a server in a thread of the test; of
-//! `retriever::live_resumed` in sessions; and that as
-//! many workers retrieve as are ordered, live and from a map. And of connections over a network that isn't there: how hosts are
-//! looked up, which addresses are tried, how a connection ends and why it is lost, what a fault of a stream is to a wire, and what
-//! a person sees of it on a terminal and is told at the end. They stand above the program's crates, so that the program isn't proved once more with them.
+//! `retriever::live_resumed` in sessions; and that as many workers retrieve as are ordered, live and from a map. Of connections
+//! over a network that isn't there: how hosts are looked up, which addresses are tried, how a connection ends and why it is lost,
+//! what a fault of a stream is to a wire, and what a person sees of it on a terminal and is told at the end. And of connections
+//! over TCP that are kept. They stand above the program's crates, so that the program isn't proved once more with them.
 #![tactic(auto)]
 
 #[cfg(test)]
@@ -18,6 +18,8 @@ mod loss_tests;
 mod memory_tests;
 #[cfg(test)]
 mod network;
+#[cfg(test)]
+mod pool_tests;
 #[cfg(test)]
 mod progress_tests;
 #[cfg(test)]

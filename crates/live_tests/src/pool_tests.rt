@@ -1,0 +1,339 @@
+//! Connections that are kept, over TCP on loopback: how many stand, which are used again, and what is asked once more.
+use crate::connect_tests::origin;
+use crate::server::follow;
+use address::{Address, Origin};
+use fetcher::{Answer, Fetcher, Outcome};
+use http_fetcher::{Connect, HttpFetcher};
+use response_reader::Wire;
+use std::alloc::Global;
+use std::fmt::Write as WriteText;
+use std::io;
+use std::io::{Read, Write};
+use std::net::{Net, Shutdown, SocketAddr, TcpListener, TcpStream};
+use std::process::Abort;
+use std::sync::Wait;
+use std::sync::atomic::{AtomicU64, Ordering};
+use std::thread::join;
+use std::time::{Clock, Duration};
+use tcp_connect::{Hosts, Kept, TcpConnect};
+
+/// The system's network, with a clock that goes only where the test says so.
+#[derive(Drop)]
+struct Still<'a, R: Net> {
+    rt: &'a R,
+    seconds: AtomicU64,
+}
+
+impl<'a, R: Net> Still<'a, R> {
+    fn new(rt: &'a R) -> Still<'a, R> {
+        Still {
+            rt,
+            seconds: AtomicU64::new(0),
+        }
+    }
+}
+
+impl<R: Net + Wait> Wait for Still<'_, R> {}
+
+impl<R: Net> Clock for Still<'_, R> {
+    fn monotonic(&self) -> io::Result<Duration> {
+        Ok(Duration::from_secs(self.seconds.load(Ordering::SeqCst)))
+    }
+
+    fn since_1970(&self) -> io::Result<Duration> {
+        self.monotonic()
+    }
+}
+
+impl<R: Net> Net for Still<'_, R> {
+    type Stream = R::Stream;
+
+    type Listener = R::Listener;
+
+    fn bind(&self, addr: SocketAddr) -> io::Result<R::Listener> {
+        self.rt.bind(addr)
+    }
+
+    fn connect(&self, addr: SocketAddr) -> io::Result<R::Stream> {
+        self.rt.connect(addr)
+    }
+}
+
+/// What befalls connections of which two to an origin may stand. The origins are 127.0.0.1 and so on, all of one server, and a
+/// connection has the number in which it was made. `make`, `take` and `give` are a worker's calls for an origin, `none` one that
+/// takes none; `sends` and `shuts` are what the server does with a connection, the worker's last, of which it reads a byte or the
+/// end; `ended` is one whose end the server reads, `waits` a number of seconds, `fills` so many origins of which one connection
+/// waits each, and `files` the moment at which those that wait are ended.
+const STEPS: &str = "make 1
+none 1
+give 1
+none 2
+take 1
+make 1
+give 1
+give 1
+make 1
+ended 1
+make 1
+ended 0
+make 1
+give 1
+ended 4
+give 1
+give 1
+waits 5
+none 1
+ended 2
+ended 3
+make 1
+give 1
+waits 4
+take 1
+sends 5
+give 1
+none 1
+ended 5
+make 1
+shuts 6
+give 1
+none 1
+ended 6
+fills 64
+make 1
+ended 7
+files 0
+ended 8
+ended 70
+give 1
+take 1
+give 1";
+
+/// The server, and its ends of the connections in the order in which they were made.
+#[derive(Drop)]
+struct Server<'a> {
+    listener: &'a TcpListener,
+    port: u16,
+    ends: Vec<TcpStream>,
+}
+
+impl Server<'_> {
+    // Whether it took one more.
+    fn accepts(&mut self) -> bool {
+        match self.listener.accept() {
+            Ok((end, _)) => self.ends.push(end).is_ok(),
+            Err(_) => false,
+        }
+    }
+}
+
+/// Makes a worker's call. Whether it came as the word says.
+fn works<C: Connect>(connect: &mut C, wires: &mut Vec<C::Wire>, of: &Origin, word: &str) -> bool {
+    if word == "none" {
+        return connect.take(of).is_none();
+    }
+    if word == "give" {
+        let Some(wire) = wires.pop() else {
+            return false;
+        };
+        connect.give_back(of, wire);
+        return true;
+    }
+    let wire = if word == "take" {
+        connect.take(of)
+    } else {
+        connect.connect(of).ok()
+    };
+    match wire {
+        Some(wire) => wires.push(wire).is_ok(),
+        None => false,
+    }
+}
+
+/// The same for an origin, of which the server takes the connection that is made.
+fn goes<C: Connect>(
+    rt: &impl Abort,
+    alloc: Global,
+    connect: &mut C,
+    wires: &mut Vec<C::Wire>,
+    server: &mut Server<'_>,
+    word: &str,
+    host: usize,
+) -> bool {
+    let port = server.port;
+    let text = format!(in alloc; "http://127.0.0.{host}:{port}/").expect(rt, "memory");
+    let of = origin(rt, alloc, text.as_str());
+    works(connect, wires, &of, word) && (word != "make" || server.accepts())
+}
+
+/// Makes a connection to each of so many origins, and gives it back.
+fn fills<C: Connect>(
+    rt: &impl Abort,
+    alloc: Global,
+    connect: &mut C,
+    wires: &mut Vec<C::Wire>,
+    server: &mut Server<'_>,
+    count: usize,
+) -> bool {
+    for k in 0..count {
+        let host = k.saturating_add(3);
+        for word in ["make", "give"] {
+            if !goes(rt, alloc, connect, wires, server, word, host) {
+                return false;
+            }
+        }
+    }
+    true
+}
+
+/// Whether a connection ends, with nothing before its end.
+fn is_ended<S: Read>(end: &mut S) -> bool {
+    !matches!(end.read(&mut [0u8; 1]), Ok(n) if n > 0)
+}
+
+/// How many bytes a worker reads of its last connection, one at most.
+fn reads<W: Wire>(wires: &mut [W]) -> Option<usize> {
+    let wire = wires.last_mut()?;
+    wire.read(&mut [0u8; 1]).ok()
+}
+
+/// Does what a step says of the server's end of a connection. Whether it came as it says.
+fn serves<W: Wire>(end: &mut TcpStream, wires: &mut [W], word: &str) -> bool {
+    if word == "ended" {
+        return is_ended(end);
+    }
+    if word == "sends" {
+        // Both bytes have come where the first has.
+        return end.write_all(b"xy").is_ok() && reads(wires) == Some(1);
+    }
+    end.shutdown(Shutdown::Write).is_ok() && reads(wires) == Some(0)
+}
+
+/// Takes a step of a worker or of the server. Whether it came as it says.
+fn steps<C: Connect>(
+    rt: &impl Abort,
+    alloc: Global,
+    connect: &mut C,
+    wires: &mut Vec<C::Wire>,
+    server: &mut Server<'_>,
+    word: &str,
+    number: usize,
+) -> bool {
+    if word == "fills" {
+        return fills(rt, alloc, connect, wires, server, number);
+    }
+    if word == "ended" || word == "sends" || word == "shuts" {
+        return match server.ends.get_mut(number) {
+            Some(end) => serves(end, wires, word),
+            None => false,
+        };
+    }
+    goes(rt, alloc, connect, wires, server, word, number)
+}
+
+/// Takes the steps of a run.
+fn run<R: Net + Wait + Abort>(rt: &R, alloc: Global, server: &mut Server<'_>) {
+    let still = Still::new(rt);
+    let hosts = Hosts::new(alloc);
+    let kept = Kept::new(alloc);
+    let mut connect = TcpConnect::new(&still, alloc, &hosts).keeping(&kept, 2);
+    let mut wires = Vec::new(alloc);
+    for line in STEPS.lines() {
+        let Some((word, number)) = line.split_once(' ') else {
+            panic!(rt; "no step");
+        };
+        let number: usize = number.parse().expect(rt, "a number");
+        if word == "waits" {
+            still.seconds.fetch_add(number as u64, Ordering::SeqCst);
+        } else if word == "files" {
+            kept.end_waiting(&still);
+        } else {
+            let came = steps(rt, alloc, &mut connect, &mut wires, server, word, number);
+            assert!(rt; came, "{line}");
+        }
+    }
+}
+
+#[test]
+fn connections_that_wait_are_counted_and_those_that_died_are_dropped(rt: HostRuntime) {
+    let alloc = rt.alloc();
+    let listener = TcpListener::bind(&rt, "0.0.0.0:0").expect(&rt, "a port");
+    let mut server = Server {
+        listener: &listener,
+        port: listener.local_addr().expect(&rt, "its address").port(),
+        ends: Vec::new(alloc),
+    };
+    run(&rt, alloc, &mut server);
+    // Behind a run no connection stands.
+    for end in server.ends.iter_mut() {
+        assert!(rt; is_ended(end));
+    }
+}
+
+/// What a server does by a script, the requests that it sees then, each as the number of its connection and what it asks for, and
+/// what one worker is told to its questions 1, 2 and so on. What was answered to `b` has a second answer behind it, `h` is answered
+/// by a byte alone and `-` by none.
+const EXCHANGES: &str = "aaa: 0/1 0/2 0/3: 1 2 3
+a,aa: 0/1 1/2 1/3: 1 2 3
+b,aa: 0/1 1/2 1/3: 1 2 3
+a-,aa: 0/1 0/2 1/2 1/3: 1 2 3
+a-,-,a: 0/1 0/2 1/2 2/3: 1 ended 3
+ah,a: 0/1 0/2 1/3: 1 ended 3
+-,a: 0/1 1/2: ended 2";
+
+/// The body that came, or the word of the fault.
+fn word_of(answer: &Answer) -> &str {
+    match &answer.outcome {
+        Outcome::Fault(kind) => kind.word(),
+        _ => str::from_utf8(answer.body.as_slice()).unwrap_or(""),
+    }
+}
+
+/// What a worker over these connections is told to so many questions, with a blank before each.
+fn told<C: Connect>(rt: &impl Abort, alloc: Global, connect: C, port: u16, count: usize) -> String {
+    let mut fetcher = HttpFetcher::new(alloc, connect, false).keeping();
+    let mut words = String::new(alloc);
+    for k in 0..count {
+        let number = k.saturating_add(1);
+        let text = format!(in alloc; "http://127.0.0.1:{port}/{number}").expect(rt, "memory");
+        let at = Address::read(alloc, text.as_str()).expect(rt, "an address");
+        let answer = fetcher.ask(&at).expect(rt, "memory");
+        write!(words, " {}", word_of(&answer)).expect(rt, "memory");
+    }
+    words
+}
+
+/// The same over TCP, with connections that are kept.
+fn told_over_tcp<R: Net + Wait + Abort>(rt: &R, alloc: Global, port: u16, count: usize) -> String {
+    let still = Still::new(rt);
+    let hosts = Hosts::new(alloc);
+    let kept = Kept::new(alloc);
+    let connect = TcpConnect::new(&still, alloc, &hosts).keeping(&kept, 1);
+    told(rt, alloc, connect, port, count)
+}
+
+#[test]
+fn what_a_kept_connection_does_not_answer_is_asked_once_more(rt: HostRuntime) {
+    let alloc = rt.alloc();
+    for row in EXCHANGES.lines() {
+        let mut fields = row.split(':');
+        let (Some(script), Some(seen), Some(words)) = (fields.next(), fields.next(), fields.next())
+        else {
+            panic!(rt; "no row");
+        };
+        let listener = TcpListener::bind(&rt, "127.0.0.1:0").expect(&rt, "a port");
+        let here = listener.local_addr().expect(&rt, "its address");
+        let count = words.split_whitespace().count();
+        let (log, answers) = join(
+            &rt,
+            || follow(alloc, &listener, script),
+            || {
+                let answers = told_over_tcp(&rt, alloc, here.port(), count);
+                // A connection without a request ends the server.
+                let _ = TcpStream::connect(&rt, here);
+                answers
+            },
+        );
+        assert!(rt; log.expect(&rt, "memory").as_str() == seen, "{row}");
+        assert!(rt; answers.as_str() == words, "{row}");
+    }
+}
