@@ -3,6 +3,7 @@
 //!
 //! The frontier stands on it: `frontier_core` holds and lowers the labels of its addresses here, and keeps beside each, by the same number, how far the
 //! work on its address has come. For a table that grows beside this one, `reserve` makes room first, and `add` then can't be refused.
+//! Its tests stand in `retrieval_tests`.
 #![tactic(auto)]
 
 mod labels;

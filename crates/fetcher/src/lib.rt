@@ -1,6 +1,7 @@
 //! Asking and answering: what may become of an address that is asked for, and who is asked. Its one idea: a fetcher's
 //! answers are those that its site may give, and each ask stands in its log. What that means stands in `specs/`:
 //! `Outcomes` where an outcome leads, `Statuses` which are successes and redirects, `FaultWords` the table of faults, `Logs` what a log gains, `Sites` the sites that give each address one outcome.
+//! Its tests stand in `site_tests`.
 #![tactic(auto)]
 
 mod answer;

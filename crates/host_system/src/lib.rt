@@ -1,4 +1,5 @@
 //! What a live run takes of the network and the disk, by a handle of the system. No clause speaks of what these do.
+//! Its tests stand in `live_tests`.
 #![tactic(auto)]
 
 mod asking;

@@ -9,6 +9,8 @@
 //! ```
 //! let names = names(alloc, &pages)?; // http://h/a and http://h/a/b: h/a.1 and h/a/b
 //! ```
+//!
+//! Its tests stand in `retrieval_tests`.
 #![tactic(auto)]
 
 pub use crate::close::Close;

@@ -1,5 +1,5 @@
 //! The command line of the retriever: words in, an order or the lowest fault out, and what a person is told of it. What an order
-//! is stands in `specs/Order.antt`, what is told in `specs/Advice.antt` and `specs/Hints.antt`.
+//! is stands in `specs/Order.antt`, what is told in `specs/Advice.antt` and `specs/Hints.antt`. Its tests stand in `site_tests`.
 #![tactic(auto)]
 
 mod advice;

@@ -4,7 +4,7 @@
 //!
 //! Beside `FILE`, which is always a whole record, stands `FILE.journal`: a record of version 2 that grows by one write for each
 //! answer, under a lock that no ask holds. A journal that was cut at any byte still begins with the whole entries of the first
-//! answers. What the disk holds isn't proved; the tests show it.
+//! answers. What the disk holds isn't proved; the tests show it. Its tests stand in `retrieval_tests`.
 #![tactic(auto)]
 
 mod disk_journal;

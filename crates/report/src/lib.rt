@@ -3,6 +3,7 @@
 //!
 //! A report has a line for each address that was found, and the counts. What it says stands in
 //! `specs/Report.antt`, the exit status in `specs/ExitStatus.antt`, a trace's lines in `specs/Trace.antt`.
+//! Its tests stand in `retrieval_tests`.
 #![tactic(auto)]
 
 pub use crate::status::exit_status;

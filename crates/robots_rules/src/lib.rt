@@ -1,5 +1,6 @@
 //! Robots rules (RFC 9309): this crate knows which paths of an origin this agent may ask for. Its one idea is that a path and a rule's pattern meet in one normal
 //! form, octet by octet, and that the longest pattern that matches decides. The meaning is in `specs/`: `Lines`, `Groups`, `Octets`, `Patterns`, `Access`.
+//! Its tests stand in `site_tests`.
 #![tactic(auto)]
 
 mod groups;

@@ -4,6 +4,8 @@
 //! ```
 //! failures.lose(LossKind::Refused, address)?; // 1 connection refused, first http://h/x
 //! ```
+//!
+//! Its tests stand in `live_tests`.
 #![tactic(auto)]
 
 mod failures;

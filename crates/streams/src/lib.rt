@@ -1,6 +1,6 @@
 //! Reading an input to its end, and writing a text whole. Its one idea: a call that was interrupted is made again, up to a
 //! number that is counted over the whole input or text, so that no stream holds a program for ever. It knows no format. What
-//! a reader gives and a writer holds stands in `specs/Streams.antt`.
+//! a reader gives and a writer holds stands in `specs/Streams.antt`. Its tests stand in `live_tests`.
 #![tactic(auto)]
 
 mod input;

@@ -1,1 +1,2 @@
+pub mod StandardFacts
 pub mod StandingLaws

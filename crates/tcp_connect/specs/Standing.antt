@@ -1,5 +1,5 @@
 -- Connections that stand: how many, which waits longest, and which goes for a new one.
-use Rattle.std.specs.Prelude.{◌≡◌, ◌⊎◌, ◌<◌, ◌≤◌, ◌==◌, ◌+◌, ◌^◌, ℕ, Bool, true, false, ◌&&◌, List, [], ◌∷◌, ◌++◌, Option, Some, None, MatchOption, All, length, count_by, slice_get, slice_set, remove, bytes_eq, is_some}
+use Rattle.std.specs.Prelude.{◌≡◌, ◌≢◌, ◌⊎◌, ◌<◌, ◌≤◌, ◌==◌, ◌+◌, ◌^◌, ℕ, Bool, true, false, ◌&&◌, List, [], ◌∷◌, ◌++◌, Option, Some, None, MatchOption, All, AllPairs, length, count_by, slice_get, slice_set, remove, bytes_eq, is_some}
 use Rattle.tcp_connect.specs.declared.standing.TheConstants.{MOST}
 
 -- a connection that stands: its number, the bytes of the origin that it was made for, and what waits there, where it isn't in use
@@ -13,10 +13,11 @@ pub record Pool (W : Type 0) : Type 0 where
   pub stands : List (Stand W)
   pub entered : ℕ
 
--- no more stand than may, each with one of the numbers that were given
+-- no more stand than may, each by a number that was given, and that no other has
 pub record IsPool {W : Type 0} (pool : Pool W) : Type 0 where
   pub few : length pool.stands ≤ MOST
   pub given : All (λ stand. stand.number < pool.entered) pool.stands
+  pub distinct : AllPairs (λ one other. one.number ≢ other.number) pool.stands
 
 -- it isn't in use
 abbrev pub waits : {W : Type 0} → Stand W → Bool

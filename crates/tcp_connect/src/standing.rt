@@ -138,7 +138,8 @@ pub(crate) struct Standing<W> {
     entered: u64,
 }
 
-// Contracts see what stands, and how many were entered. At most so many stand at one time.
+// Contracts see what stands, and how many were entered. Of every value it holds that no more stand than may, each by a number of
+// its own.
 impl<W> Model for Standing<W> {
     ghost use Rattle.tcp_connect.specs.Standing.{Pool, IsPool};
 
@@ -150,6 +151,7 @@ impl<W> Model for Standing<W> {
 }
 
 impl<W> Standing<W> {
+    // None stands. Takes no memory.
     pub(crate) fn new(alloc: Global) -> Standing<W>
         ensures { result ≡ record { stands = []; entered = 0 } }
     {

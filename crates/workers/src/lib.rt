@@ -4,7 +4,7 @@
 //! outcome, `Crews` several fetchers together. What is brought in is `harvest`'s.
 //!
 //! `retrieve_in_order` is one thread's retrieval. `retrieve` has a worker for each fetcher, in threads: each notes what it was
-//! told, and once all are done the notes are compared with the frontier that they left.
+//! told, and once all are done the notes are compared with the frontier that they left. Its tests stand in `retrieval_tests`.
 #![tactic(auto)]
 
 pub use crate::crew_retrieval::{Retrieved, Stopped, retrieve};

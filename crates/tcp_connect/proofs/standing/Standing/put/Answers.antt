@@ -1,8 +1,24 @@
-use Rattle.std.proofs.Common.{◌≡◌, ◌∙◌, List, [], ◌∷◌, ◌++◌, Some, ap, cond, get_or, arith, IsOk}
+use Rattle.std.proofs.Common.{◌≡◌, ◌∙◌, List, [], ◌∷◌, ◌++◌, Some, ap, cond, get_or, slice_get, arith, IsOk}
 use Rattle.std.specs.Prelude.{remove}
 use Rattle.std.proofs.lemmas.Option.{get_or_from_slice_get}
 use Rattle.tcp_connect.specs.Standing.{Stand, Pool}
+use Rattle.tcp_connect.proofs.StandingLaws.{IsPool-move}
 use Rattle.tcp_connect.proofs.standing.Standing.put.Goals as goal
+
+pub invariant_of-self : goal.invariant_of-self
+invariant_of-self g c =
+    let stand = c.in-Some.ensures.0 in
+    let first = c.in-Some.ensures.1 in
+    let at = c.in-Some.at in
+    let removed = c.remove-place.result in
+    let there : slice_get c.self.inside.places.items at ≡ Some stand = cc first.there in
+    let read : get_or c.self.inside.places.items at removed ≡ stand = get_or_from_slice_get c.self.inside.places.items at stand removed there in
+    let same : removed ≡ stand = cc c.remove-place.ensures.value in
+    let fits : IsOk c.push.result = c.push.ensures.succeeds (omega (arith, c.self.inside.places.ok.1)) in
+    let pushed : c.push.new.self.items ≡ c.remove-place.new.self.items ++ c.put.new.self ∷ [] =
+    c.push.ensures.items ∙ ap (λ b. cond b (c.remove-place.new.self.items ++ c.put.new.self ∷ []) c.remove-place.new.self.items) fits in
+    rw (pushed, c.remove-place.ensures.items)
+    (IsPool-move c.self.inside.places.items c.self.inside.entered at stand c.put.new.self c.self.invariant there (ap (λ s. s.number) c.put.ensures ∙ ap (λ s. s.number) same))
 
 pub returns : goal.returns
 returns g c =
