@@ -3,7 +3,7 @@ use Rattle.std.proofs.Common.{◌≡◌, ◌∙◌, ℕ, zero, suc, ◌+◌, ◌
 use Rattle.std.specs.Prelude.{get_or}
 use Rattle.address.specs.Address.{AddressText}
 use Rattle.answer_notes.specs.Tellings.{target_told, rules_told}
-use Rattle.answer_notes.specs.HopChains.{HopValue, AreHops, Ends, rules_of_hops}
+use Rattle.answer_notes.specs.HopChains.{HopValue, AreHops, EndsChain, rules_of_hops}
 use Rattle.answer_notes.specs.declared.told.Told.{Told}
 
 first_at : (left : ℕ) (at : AddressText) (hop : HopValue) (more : List HopValue) → AreHops left at (hop ∷ more) → hop.0 ≡ at
@@ -22,7 +22,7 @@ hop_goes_on (suc n) m at next told (hop ∷ more) is less h =
     (refl, is ∙ ap Some (sym begins), subst (λ k. AreHops k hop.0 (hop ∷ more)) same (subst (λ a. AreHops m a (hop ∷ more)) (sym begins) h))
 
 -- a hop that ends the chain
-pub hop_ends : (n : ℕ) (at : AddressText) (told : Told) → Ends n (target_told at told) → AreHops n at ((at, told) ∷ [])
+pub hop_ends : (n : ℕ) (at : AddressText) (told : Told) → EndsChain n (target_told at told) → AreHops n at ((at, told) ∷ [])
 hop_ends n at told ends = (refl, ends)
 
 -- the rules are those of the last hops

@@ -11,15 +11,15 @@ abbrev pub HopValue : Type 0
 HopValue = AddressText × Told
 
 -- a hop ends the chain where so many more redirects may be followed: it redirects nowhere, or none may be
-abbrev pub Ends : ℕ → Option AddressText → Type 0
-Ends zero target = ⊤
-Ends (suc left) target = target ≡ None
+abbrev pub EndsChain : ℕ → Option AddressText → Type 0
+EndsChain zero target = ⊤
+EndsChain (suc left) target = target ≡ None
 
 -- The hops begin at this address, of which so many more redirects may be followed: each further one is where the one before it
 -- redirects, and the last ends the chain.
 abbrev pub AreHops : ℕ → AddressText → List HopValue → Type 0
 AreHops left at [] = ⊥
-AreHops left at (hop ∷ []) = (hop.0 ≡ at) × Ends left (target_told at hop.1)
+AreHops left at (hop ∷ []) = (hop.0 ≡ at) × EndsChain left (target_told at hop.1)
 AreHops zero at (hop ∷ next ∷ more) = ⊥
 AreHops (suc left) at (hop ∷ next ∷ more) = (hop.0 ≡ at) × (target_told at hop.1 ≡ Some next.0) × AreHops left next.0 (next ∷ more)
 

@@ -8,6 +8,6 @@ abbrev pub IsFaultOf : {X : Type 0} → Option X → ElementFault → Type 0
 IsFaultOf expected fault = ((fault ≡ Bad) × (expected ≡ None)) ⊎ (fault ≡ Memory)
 
 -- the result is the expected element, or Bad where none is expected, unless memory ran out
-abbrev pub Reads : {X : Type 0} → Result X ElementFault → Option X → Type 0
-Reads result expected =
+abbrev pub ReadsElement : {X : Type 0} → Result X ElementFault → Option X → Type 0
+ReadsElement result expected =
     MatchResult result (λ element. expected ≡ Some element) (IsFaultOf expected)

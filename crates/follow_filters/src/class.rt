@@ -42,12 +42,12 @@ impl Range {
 
 impl Class {
     ghost use Rattle.follow_filters.specs.Classes.{class_names, class_takes, class_of};
-    ghost use Rattle.follow_filters.specs.Elements.{Reads};
+    ghost use Rattle.follow_filters.specs.Elements.{ReadsElement};
 
     /// Reads what stands between the brackets of a class: a `!` where one comes first, and one or
     /// more items; `Bad` where there is none, or where one has its greater byte first.
     pub(crate) fn read(alloc: Global, inner: &[u8]) -> Result<Class, ElementFault>
-        ensures { Reads result (class_of inner.now) }
+        ensures { ReadsElement result (class_of inner.now) }
     {
         let (is_negated, items) = split_negation(inner);
         let ranges = read_ranges(alloc, items)?;

@@ -24,13 +24,13 @@ impl Model for Directory {
 }
 
 impl Directory {
-    ghost use Rattle.follow_filters.specs.Elements.{Reads};
+    ghost use Rattle.follow_filters.specs.Elements.{ReadsElement};
     ghost use Rattle.follow_filters.specs.Directories.{read_directory};
 
     /// Reads a directory. It begins with a slash and has none of `*`, `?`, `[` and `]`, else `Bad`
     /// and nothing else; the slashes at its end are taken off.
     pub fn read(alloc: Global, text: &str) -> Result<Directory, ElementFault>
-        ensures reads { Reads result (read_directory text.now) }
+        ensures reads { ReadsElement result (read_directory text.now) }
         ensures refuses { read_directory text.now ≡ None → result ≡ Err ElementFault.Bad }
     {
         if !is_directory(text.as_bytes()) {

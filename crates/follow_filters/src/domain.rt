@@ -25,13 +25,13 @@ impl Model for Domain {
 }
 
 impl Domain {
-    ghost use Rattle.follow_filters.specs.Elements.{Reads};
+    ghost use Rattle.follow_filters.specs.Elements.{ReadsElement};
     ghost use Rattle.follow_filters.specs.Domains.{read_domain};
 
     /// Reads a domain. One leading dot is taken off, and what remains is one or more letters and
     /// digits of ASCII, `-`, `_` and `.`; else `Bad`, and nothing else.
     pub fn read(alloc: Global, text: &str) -> Result<Domain, ElementFault>
-        ensures reads { Reads result (read_domain text.now) }
+        ensures reads { ReadsElement result (read_domain text.now) }
         ensures refuses { read_domain text.now ≡ None → result ≡ Err ElementFault.Bad }
     {
         let bare = without_dot(text);

@@ -1,7 +1,7 @@
 //! Lists of elements, which stand between commas (GNU Wget manual, chapter Following Links).
 ghost use Rattle.std.specs.Prelude.{◌≡◌, ◌<◌, ◌∷◌, [], length, MatchOption};
 ghost use Rattle.std.specs.List.{slice_split};
-ghost use Rattle.follow_filters.specs.Elements.{Reads};
+ghost use Rattle.follow_filters.specs.Elements.{ReadsElement};
 ghost use Rattle.follow_filters.specs.Lists.{is_comma, read_list};
 
 use crate::directory::Directory;
@@ -13,13 +13,13 @@ use std::alloc::Global;
 /// An element that a list may have.
 pub trait Element: Sized + Drop {
     ghost use Rattle.std.specs.Prelude.{List, ℕ, Option};
-    ghost use Rattle.follow_filters.specs.Elements.{Reads};
+    ghost use Rattle.follow_filters.specs.Elements.{ReadsElement};
 
     ghost read_of: { List ℕ → Option Self };
 
     /// Reads an element; `Bad` where the text breaks the grammar of its kind.
     fn read(alloc: Global, text: &str) -> Result<Self, ElementFault>
-        ensures { Reads result (read_of text.now) };
+        ensures { ReadsElement result (read_of text.now) };
 }
 
 impl Element for Pattern {
@@ -67,7 +67,7 @@ impl<T: Element> Elements<T> {
     /// Reads a list, as `a,b`: its elements stand between commas, and empty ones are dropped; `Bad`
     /// where one breaks the grammar of its kind.
     pub fn read(alloc: Global, list: &str) -> Result<Elements<T>, ElementFault>
-        ensures { Reads result (read_list T.read_of list.now) }
+        ensures { ReadsElement result (read_list T.read_of list.now) }
     {
         let mut items = Vec::new(alloc);
         let mut rest = list;

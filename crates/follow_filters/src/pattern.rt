@@ -64,14 +64,14 @@ impl Model for Pattern {
 
 impl Pattern {
     ghost use Rattle.std.specs.Prelude.{◌≡◌, IfOk};
-    ghost use Rattle.follow_filters.specs.Elements.{Reads};
+    ghost use Rattle.follow_filters.specs.Elements.{ReadsElement};
     ghost use Rattle.follow_filters.specs.Patterns.{is_file_match, read_element};
 
     /// Reads a pattern of whole file names, or a suffix of them where the text has none of `*`, `?`,
     /// `[` and `]`. A class that is empty, unclosed, or has a range with its greater byte first is
     /// `Bad`.
     pub fn read(alloc: Global, text: &str) -> Result<Pattern, ElementFault>
-        ensures { Reads result (read_element text.now) }
+        ensures { ReadsElement result (read_element text.now) }
     {
         let parts = read_parts(alloc, text.as_bytes())?;
         Ok(Pattern {

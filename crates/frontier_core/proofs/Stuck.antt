@@ -7,7 +7,7 @@ use Rattle.fetcher.specs.declared.edge.Edge.{Edge}
 use Rattle.frontier_core.specs.Tables.{Text, lookup}
 use Rattle.frontier_core.specs.Routes.{Policy, admits, weight}
 use Rattle.frontier_core.specs.Machine.{State, Slot, Progress, Parked, Waiting, Out, Answered, Refused, slot, slot_outcome, outcome_in}
-use Rattle.frontier_core.specs.inner.TableCalls.{edges_at, outcome_edges, key_at}
+use Rattle.frontier_core.specs.inner.TableCalls.{edges_at, outcome_edges, key_numbered}
 use Rattle.frontier_core.specs.Invariants.{IsStuck, IsOverfull}
 use Rattle.frontier_core.proofs.FindLaws.{placed}
 
@@ -47,7 +47,7 @@ overfull_at p s u full d k (x, offering, edge, at, here, adm, none) =
     (full, u, d, x, offering, edge, at, (k, slice_get_within (edges x) k edge here, get_or_from_slice_get (edges x) k edge edge here), adm, none)
 
 -- an overfull table has such an edge at an address that stands at a place
-pub stuck_of : (p : Policy) (s : State) → IsOverfull p s → (i : ℕ) × (i < length s.entries) × (d : ℕ) × (k : ℕ) × IsStuck p s d (key_at s.entries i) k
+pub stuck_of : (p : Policy) (s : State) → IsOverfull p s → (i : ℕ) × (i < length s.entries) × (d : ℕ) × (k : ℕ) × IsStuck p s d (key_numbered s.entries i) k
 stuck_of p s (full, u, d, x, offering, edge, held, (k, lt, is), adm, none) =
     let there = placed s.entries u (slot d (Answered x offering)) held in (
       there.0,

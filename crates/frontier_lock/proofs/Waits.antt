@@ -3,8 +3,8 @@ use Rattle.std.proofs.Common.{◌≡◌, ◌⊎◌, ℕ, Bool, true, false, inl,
 use Rattle.std.specs.Prelude.{Result, IsTrue, OnErr, OnOk, IfOk}
 use Rattle.frontier_core.specs.Plans.{policy}
 use Rattle.frontier_core.specs.Machine.{Action, IsRunning}
-use Rattle.frontier_core.specs.Traced.{Traced, Makes, Stops, Spreads, RefusesEdge, HasDue, HasRules, HasPage}
-use Rattle.frontier_core.specs.Taken.{Takes}
+use Rattle.frontier_core.specs.Traced.{Traced, Makes, Stops, Spreads, RefusesEdge, HasDue, HasRules, HasWaitingPage}
+use Rattle.frontier_core.specs.Taken.{TakesWork}
 use Rattle.frontier_core.specs.Waits.{ends_waits}
 use Rattle.frontier_core.specs.declared.event.Cause.{Cause}
 use Rattle.frontier_core.specs.declared.work.Work.{Work}
@@ -36,7 +36,7 @@ stop_one old new cause (inr (stopped, is)) = same_one old new is
 pub abandon_one : {IsOut : Type 0} (old new : Traced) (action : Action) (cause : Cause) → (IsOut → Makes old action new) → (¬ IsOut → Stops old cause new) → MakesAtMostOne old new
 abandon_one old new action cause out stray = record { same = λ none. (stop_one old new cause (stray (λ it. none action (out it)))).same none }
 
-take_one_of : (old new : Traced) (worker : ℕ) (work : Work) → Takes old worker work new → MakesAtMostOne old new
+take_one_of : (old new : Traced) (worker : ℕ) (work : Work) → TakesWork old worker work new → MakesAtMostOne old new
 take_one_of old new worker (Stopped cause) (stopped, is) = same_one old new is
 take_one_of old new worker Spread (running, due, is) = same_one old new is
 take_one_of old new worker (Robots permit) (undue, for, made, asked) = makes_one old new _ made
@@ -46,9 +46,9 @@ take_one_of old new worker Busy (running, undue, unruled, unpaged, left, is) = s
 
 -- what no memory for a permit leaves
 abbrev Unmet : Traced → Traced → Type 0
-Unmet old new = (new ≡ old) × IsRunning old.state × (¬ HasDue old.state) × (HasRules (policy old.plan) old.state ⊎ HasPage (policy old.plan) old.state)
+Unmet old new = (new ≡ old) × IsRunning old.state × (¬ HasDue old.state) × (HasRules (policy old.plan) old.state ⊎ HasWaitingPage (policy old.plan) old.state)
 
-pub take_one : {E : Type 0} (old new : Traced) (worker : ℕ) (answer : Result Work E) → IfOk answer (λ work. Takes old worker work new) → OnErr answer (Unmet old new) → MakesAtMostOne old new
+pub take_one : {E : Type 0} (old new : Traced) (worker : ℕ) (answer : Result Work E) → IfOk answer (λ work. TakesWork old worker work new) → OnErr answer (Unmet old new) → MakesAtMostOne old new
 take_one old new worker (Ok work) takes err = take_one_of old new worker work takes
 take_one old new worker (Err wanting) takes err = same_one old new err.0
 
@@ -60,7 +60,7 @@ spread_one old new (Err fault) ok (inr is) = same_one old new is
 
 -- ---- no step where somebody may be asleep
 
-take_still_of : (old new : Traced) (worker : ℕ) (work : Work) → Takes old worker work new → IsSleptAt old → new ≡ old
+take_still_of : (old new : Traced) (worker : ℕ) (work : Work) → TakesWork old worker work new → IsSleptAt old → new ≡ old
 take_still_of old new worker (Stopped cause) (stopped, is) slept = is
 take_still_of old new worker Spread (running, due, is) slept = is
 take_still_of old new worker (Robots permit) (undue, for, made, asked) slept = let wrong : false ≡ true = ends old new _ slept made in cc
@@ -68,7 +68,7 @@ take_still_of old new worker (Page permit) (undue, unruled, for, made, out) slep
 take_still_of old new worker Quiet (quiet, is) slept = is
 take_still_of old new worker Busy (running, undue, unruled, unpaged, left, is) slept = is
 
-pub take_still : {E : Type 0} (old new : Traced) (worker : ℕ) (answer : Result Work E) → IfOk answer (λ work. Takes old worker work new) → OnErr answer (Unmet old new) → IsSleptAt old → new ≡ old
+pub take_still : {E : Type 0} (old new : Traced) (worker : ℕ) (answer : Result Work E) → IfOk answer (λ work. TakesWork old worker work new) → OnErr answer (Unmet old new) → IsSleptAt old → new ≡ old
 take_still old new worker (Ok work) takes err slept = take_still_of old new worker work takes slept
 take_still old new worker (Err wanting) takes err slept = err.0
 

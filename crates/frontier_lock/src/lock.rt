@@ -4,7 +4,7 @@ ghost use Rattle.frontier_core.specs.Machine.{Action};
 ghost use Rattle.frontier_core.specs.Traced.{Traced, Makes};
 ghost use Rattle.frontier_core.specs.Waits.{ends_waits};
 ghost use Rattle.frontier_lock.specs.Permits.{IsFor};
-ghost use Rattle.frontier_lock.specs.inner.Steps.{Records, GivesUp};
+ghost use Rattle.frontier_lock.specs.inner.Steps.{Records, GivesPermitUp};
 ghost use Rattle.frontier_lock.specs.inner.Waits.{IsSleptAt, MakesAtMostOne, IsMadeBy, IsOneStep};
 
 use fetcher::Outcome;
@@ -111,7 +111,7 @@ fn hand_over(core: &mut Frontier, done: Done) -> Result<(), Refused>
 // Gives a permit up where there is one, and stops.
 fn give_up(core: &mut Frontier, held: Option<Held>, cause: Cause)
     ensures one { MakesAtMostOne core.old core.new }
-    ensures given { GivesUp core.old held cause core.new }
+    ensures given { GivesPermitUp core.old held cause core.new }
 {
     match held {
         None => core.stop(cause),

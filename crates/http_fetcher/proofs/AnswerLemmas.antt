@@ -3,7 +3,7 @@ use Rattle.std.proofs.Common.{◌≡◌, ℕ, Bool, true, List, [], Option, Some
 use Rattle.address.specs.Address.{AddressText}
 use Rattle.response_reader.specs.Fields.{HeadParts}
 use Rattle.response_reader.specs.Response.{HandsOn}
-use Rattle.response_reader.specs.ReadFaults.{IsFault}
+use Rattle.response_reader.specs.ReadFaults.{IsReadFault}
 use Rattle.response_reader.specs.Wire.{HasRisen, OfBytes}
 use Rattle.response_reader.specs.declared.fault.ReadFault.{ReadFault}
 use Rattle.response_reader.specs.declared.fault.ReadFault.TheVariants as read
@@ -46,7 +46,7 @@ answers_of_response before after purpose known d taken x kept is_for fresh (byte
 
 -- what a fault says is what the bytes say
 pub answers_of_fault : (robots : Bool) (at : AddressText) (before after : ℕ) (known : Option (List ℕ)) (f : ReadFault) (kind : FaultKind) (x : Outcome) (kept : List ℕ)
-    → OfBytes known (IsFault f) → (f ≡ read.Device → HasRisen before after) → kind_of_fault f ≡ Some kind → x ≡ Fault kind → kept ≡ []
+    → OfBytes known (IsReadFault f) → (f ≡ read.Device → HasRisen before after) → kind_of_fault f ≡ Some kind → x ≡ Fault kind → kept ≡ []
     → OfBytes known (AnswersBytes robots at before after x kept)
 answers_of_fault robots at before after known f kind x kept (bytes, tells, fault) risen is outcome body =
     (bytes, tells, inr (f, kind, is, fault, risen, outcome, body))

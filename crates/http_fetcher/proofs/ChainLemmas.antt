@@ -9,16 +9,16 @@ use Rattle.answer_notes.specs.HopChains.{HopValue}
 use Rattle.http_fetcher.specs.declared.chain.Hop.{Hop}
 use Rattle.http_fetcher.specs.declared.chain.Hop.TheVariants.{Next, Last}
 use Rattle.http_fetcher.specs.Chains.{IsChain, SaysHop}
-use Rattle.http_fetcher.specs.Fetching.{IsGiven, IsTold, Tries}
+use Rattle.http_fetcher.specs.Fetching.{IsGiven, IsToldByTries, Tries}
 
 -- what was told over a connection is given, by what honours robots rules and keeps connections as before
 pub given_by : {C W : Type 0} (stands gives : C → OriginText → W → Type 0) (tries : C → Tries) (incoming outgoing : W → Option (List ℕ)) (failed : W → ℕ)
     (robots same keeps kept : Bool) (at : AddressText) (x : Outcome) (body : List ℕ) (by after : C) → robots ≡ same → keeps ≡ kept
-    → IsTold (stands by) (gives by) incoming outgoing failed (tries by) (tries after) robots keeps at x body
+    → IsToldByTries (stands by) (gives by) incoming outgoing failed (tries by) (tries after) robots keeps at x body
     → IsGiven stands gives tries incoming outgoing failed same kept at x body
 given_by stands gives tries incoming outgoing failed robots same keeps kept at x body by after is holds told =
-    let first = subst (λ b. IsTold (stands by) (gives by) incoming outgoing failed (tries by) (tries after) b keeps at x body) is told in
-    (by, after, subst (λ b. IsTold (stands by) (gives by) incoming outgoing failed (tries by) (tries after) same b at x body) holds first)
+    let first = subst (λ b. IsToldByTries (stands by) (gives by) incoming outgoing failed (tries by) (tries after) b keeps at x body) is told in
+    (by, after, subst (λ b. IsToldByTries (stands by) (gives by) incoming outgoing failed (tries by) (tries after) same b at x body) holds first)
 
 -- what an answer says of the hop that it was read as
 pub says_of : (x : Outcome) (body : List ℕ) (n : ℕ) (hop read : Hop) → hop ≡ read → SaysHop x body n hop → SaysHop x body n read

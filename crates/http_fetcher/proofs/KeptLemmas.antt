@@ -5,7 +5,7 @@ use Rattle.response_reader.specs.Wire.{counted}
 use Rattle.address.specs.Address.{AddressText, OriginText, origin_of}
 use Rattle.fetcher.specs.declared.outcome.Outcome.{Outcome}
 use Rattle.http_fetcher.specs.Connects.{Stays}
-use Rattle.http_fetcher.specs.Fetching.{ComesOver, IsLeftBy, IsToldBy, IsUnmade, IsTold, IsSilent, LeavesUsable, StandsBy, StandsBehind, Tries}
+use Rattle.http_fetcher.specs.Fetching.{ComesOver, IsLeftBy, IsToldByWire, IsUnmade, IsToldByTries, IsSilent, LeavesUsable, StandsBy, StandsBehind, Tries}
 
 pub if_ok_some_map : {T E : Type 0} (r : Result (Option T) E) (P Q : T → Type 0) → IfOk r (λ o. IfSome o P) → ((a : T) → P a → Q a) → IfOk r (λ o. IfSome o Q)
 if_ok_some_map (Ok None) P Q p step = tt
@@ -15,7 +15,7 @@ if_ok_some_map (Err e) P Q p step = tt
 -- an answer over a wire that was kept
 pub told_over_kept : {W : Type 0} (stands : OriginText → W → Type 0) (incoming outgoing : W → Option (List ℕ)) (failed : W → ℕ) (robots keeps : Bool)
     (at : AddressText) (of : OriginText) (given : W) (x : Outcome) (body : List ℕ) → of ≡ origin_of at → keeps ≡ true → stands of given
-    → ComesOver incoming outgoing failed robots keeps at given x body → IsToldBy stands incoming outgoing failed robots true at x body
+    → ComesOver incoming outgoing failed robots keeps at given x body → IsToldByWire stands incoming outgoing failed robots true at x body
 told_over_kept stands incoming outgoing failed robots keeps at of given x body is holds there told =
     (given, subst (λ o. stands o given) is there, subst (λ b. ComesOver incoming outgoing failed robots b at given x body) holds told)
 
@@ -42,8 +42,8 @@ pub told_second : {W : Type 0} (stands gives mid : OriginText → W → Type 0) 
     → made ≡ old.made → refused ≡ old.refused → robots-mid ≡ robots → keeps-mid ≡ keeps → Stays gives mid
     → (taken ≡ old.taken) ⊎ ((taken ≡ counted old.taken 1) × (keeps ≡ true) × IsSilent stands incoming outgoing failed at)
     → new.taken ≡ taken → new.made ≡ counted made 1
-    → IsUnmade refused new.refused x body ⊎ IsToldBy mid incoming outgoing failed robots-mid keeps-mid at x body
-    → IsTold stands gives incoming outgoing failed old new robots keeps at x body
+    → IsUnmade refused new.refused x body ⊎ IsToldByWire mid incoming outgoing failed robots-mid keeps-mid at x body
+    → IsToldByTries stands gives incoming outgoing failed old new robots keeps at x body
 told_second {W} stands gives mid incoming outgoing failed old new made refused taken robots robots-mid keeps keeps-mid at x body
     made-is refused-is robots-is keeps-is stays silent taken-is one told =
     inr (subst (λ n. new.made ≡ counted n 1) made-is one, before silent, by told)
@@ -53,8 +53,8 @@ told_second {W} stands gives mid incoming outgoing failed old new made refused t
     before (inl none) = inl (taken-is ∙ none)
     before (inr s) = inr (taken-is ∙ s.0, s.1, s.2)
 
-    by : IsUnmade refused new.refused x body ⊎ IsToldBy mid incoming outgoing failed robots-mid keeps-mid at x body
-        → IsUnmade old.refused new.refused x body ⊎ IsToldBy gives incoming outgoing failed robots keeps at x body
+    by : IsUnmade refused new.refused x body ⊎ IsToldByWire mid incoming outgoing failed robots-mid keeps-mid at x body
+        → IsUnmade old.refused new.refused x body ⊎ IsToldByWire gives incoming outgoing failed robots keeps at x body
     by (inl unmade) = inl (subst (λ n. IsUnmade n new.refused x body) refused-is unmade)
     by (inr t) =
         let first = subst (λ b. ComesOver incoming outgoing failed b keeps-mid at t.0 x body) robots-is t.2 in
@@ -63,7 +63,7 @@ told_second {W} stands gives mid incoming outgoing failed old new made refused t
 -- where no connections are kept a new one was asked for, once
 pub one_of_told : {W : Type 0} (stands gives : OriginText → W → Type 0) (incoming outgoing : W → Option (List ℕ)) (failed : W → ℕ) (old new : Tries)
     (robots keeps : Bool) (at : AddressText) (x : Outcome) (body : List ℕ) → keeps ≡ false
-    → IsTold stands gives incoming outgoing failed old new robots keeps at x body → new.made ≡ counted old.made 1
+    → IsToldByTries stands gives incoming outgoing failed old new robots keeps at x body → new.made ≡ counted old.made 1
 one_of_told stands gives incoming outgoing failed old new robots keeps at x body none (inl kept) = let holds = kept.2 in absurd cc
 one_of_told stands gives incoming outgoing failed old new robots keeps at x body none (inr anew) = anew.0
 

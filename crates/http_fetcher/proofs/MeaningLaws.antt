@@ -4,7 +4,7 @@ use Rattle.address.specs.Address.{AddressText, OriginText}
 use Rattle.robots_rules.specs.Access.{RuleSetValue}
 use Rattle.fetcher.specs.declared.outcome.Outcome.{Outcome}
 use Rattle.http_fetcher.specs.Chains.{IsChain}
-use Rattle.http_fetcher.specs.Fetching.{AnswersBytes, ComesOver, IsGiven, IsTold, IsToldBy, IsUnmade, Tries}
+use Rattle.http_fetcher.specs.Fetching.{AnswersBytes, ComesOver, IsGiven, IsToldByTries, IsToldByWire, IsUnmade, Tries}
 use Rattle.http_fetcher.specs.Meanings.{MayAnswer}
 
 -- what bytes say may be answered
@@ -23,7 +23,7 @@ may_answer_over incoming outgoing failed robots keeps at given x body (asked, le
 -- what was told over a connection, or that none was made, may be answered
 may_answer_anew : {W : Type 0} (before after : ℕ) (gives : OriginText → W → Type 0) (incoming outgoing : W → Option (List ℕ)) (failed : W → ℕ)
     (robots keeps : Bool) (at : AddressText) (x : Outcome) (body : List ℕ)
-    → (IsUnmade before after x body ⊎ IsToldBy gives incoming outgoing failed robots keeps at x body) → MayAnswer robots at x body
+    → (IsUnmade before after x body ⊎ IsToldByWire gives incoming outgoing failed robots keeps at x body) → MayAnswer robots at x body
 may_answer_anew before after gives incoming outgoing failed robots keeps at x body (inl unmade) = inr (inr (inl (unmade.1, unmade.2)))
 may_answer_anew before after gives incoming outgoing failed robots keeps at x body (inr (given, gave, over)) =
     may_answer_over incoming outgoing failed robots keeps at given x body over
@@ -31,7 +31,7 @@ may_answer_anew before after gives incoming outgoing failed robots keeps at x bo
 -- what was told, over a connection that was kept or a new one, may be answered
 pub may_answer : {W : Type 0} (stands gives : OriginText → W → Type 0) (incoming outgoing : W → Option (List ℕ)) (failed : W → ℕ) (old new : Tries)
     (robots keeps : Bool) (at : AddressText) (x : Outcome) (body : List ℕ)
-    → IsTold stands gives incoming outgoing failed old new robots keeps at x body → MayAnswer robots at x body
+    → IsToldByTries stands gives incoming outgoing failed old new robots keeps at x body → MayAnswer robots at x body
 may_answer stands gives incoming outgoing failed old new robots keeps at x body (inl (made, taken, holds, (given, gave, over))) =
     may_answer_over incoming outgoing failed robots true at given x body over
 may_answer stands gives incoming outgoing failed old new robots keeps at x body (inr (made, before, told)) =

@@ -15,7 +15,7 @@ use Rattle.http_fetcher.specs.declared.chain.Hop.{Hop}
 use Rattle.http_fetcher.specs.declared.chain.Hop.TheVariants.{Next, Last}
 use Rattle.http_fetcher.specs.Chains.{SaysHop}
 use Rattle.http_fetcher.specs.inner.Chains.{TellsHop}
-use Rattle.http_fetcher.specs.Fetching.{Fetching, IsTold, Tries}
+use Rattle.http_fetcher.specs.Fetching.{Fetching, IsToldByTries, Tries}
 
 or_split : (x y : Bool) → (x || y) ≡ true → (x ≡ true) ⊎ (y ≡ true)
 or_split true y h = inl refl
@@ -92,7 +92,7 @@ tells_of at told left hop read is tells = subst (λ h. TellsHop at told left h) 
 pub told_by_answer : {C W : Type 0} (stands gives : C → OriginText → W → Type 0) (tries : C → Tries) (incoming outgoing : W → Option (List ℕ)) (failed : W → ℕ)
     (old : C) (now new : Fetching C) (robots keeps : Bool) (at : AddressText) (told : Told) (x : Outcome) (body : List ℕ)
     → now ≡ new → new.robots ≡ robots → x ≡ outcome_told now.robots at told → body ≡ body_told told
-    → IsTold (stands old) (gives old) incoming outgoing failed (tries old) (tries new.connect) robots keeps at (outcome_told robots at told) (body_told told)
-    → IsTold (stands old) (gives old) incoming outgoing failed (tries old) (tries now.connect) robots keeps at x body
+    → IsToldByTries (stands old) (gives old) incoming outgoing failed (tries old) (tries new.connect) robots keeps at (outcome_told robots at told) (body_told told)
+    → IsToldByTries (stands old) (gives old) incoming outgoing failed (tries old) (tries now.connect) robots keeps at x body
 told_by_answer stands gives tries incoming outgoing failed old now new robots keeps at told x body same is outcome_is body_is h =
     rw (outcome_is, body_is, same, is) h

@@ -5,8 +5,8 @@ use Rattle.address.specs.Address.{AddressText, OriginText, origin_of}
 use Rattle.response_reader.specs.Wire.{HasRisen, OfBytes, counted}
 use Rattle.response_reader.specs.Request.{request_text, kept_request_text}
 use Rattle.response_reader.specs.Reusable.{Reusable}
-use Rattle.response_reader.specs.Response.{ResponseParts, BeginsWith}
-use Rattle.response_reader.specs.ReadFaults.{IsFault}
+use Rattle.response_reader.specs.Response.{ResponseParts, BeginsWithResponse}
+use Rattle.response_reader.specs.ReadFaults.{IsReadFault}
 use Rattle.response_reader.specs.declared.fault.ReadFault.{ReadFault}
 use Rattle.response_reader.specs.declared.fault.ReadFault.TheVariants as read
 use Rattle.fetcher.specs.declared.fault_kind.FaultKind.{FaultKind}
@@ -30,17 +30,17 @@ pub record Fetching (C : Type 0) : Type 0 where
 -- the answer is the digest of the response that begins the bytes
 abbrev pub IsDigestOf : Bool → AddressText → Outcome → List ℕ → List ℕ → Type 0
 IsDigestOf robots at x body bytes =
-    (r : ResponseParts) × BeginsWith r bytes × (x ≡ digest_of robots at r) × (body ≡ kept_body r.head.status r.body)
+    (r : ResponseParts) × BeginsWithResponse r bytes × (x ≡ digest_of robots at r) × (body ≡ kept_body r.head.status r.body)
 
 -- the answer is a fault of the bytes, in which no response was read; a lost connection is one only where the count of failed calls rose
-abbrev pub IsFaultOf : ℕ → ℕ → Outcome → List ℕ → List ℕ → Type 0
-IsFaultOf before after x body bytes =
-    (fault : ReadFault) × (kind : FaultKind) × (kind_of_fault fault ≡ Some kind) × IsFault fault bytes
+abbrev pub IsFaultOfBytes : ℕ → ℕ → Outcome → List ℕ → List ℕ → Type 0
+IsFaultOfBytes before after x body bytes =
+    (fault : ReadFault) × (kind : FaultKind) × (kind_of_fault fault ≡ Some kind) × IsReadFault fault bytes
     × (fault ≡ read.Device → HasRisen before after) × (x ≡ Fault kind) × (body ≡ [])
 
 -- the answer is what the bytes say
 abbrev pub AnswersBytes : Bool → AddressText → ℕ → ℕ → Outcome → List ℕ → List ℕ → Type 0
-AnswersBytes robots at before after x body bytes = IsDigestOf robots at x body bytes ⊎ IsFaultOf before after x body bytes
+AnswersBytes robots at before after x body bytes = IsDigestOf robots at x body bytes ⊎ IsFaultOfBytes before after x body bytes
 
 -- no connection was made
 abbrev pub IsUnmade : ℕ → ℕ → Outcome → List ℕ → Type 0
@@ -64,9 +64,9 @@ ComesOver {W} incoming outgoing failed robots keeps at given x body =
     × OfBytes (incoming asked) (AnswersBytes robots at (failed asked) (failed left) x body)))
 
 -- the same over a wire that was given for the address's origin
-abbrev pub IsToldBy : {W : Type 0} → (OriginText → W → Type 0) → (W → Option (List ℕ)) → (W → Option (List ℕ)) → (W → ℕ)
+abbrev pub IsToldByWire : {W : Type 0} → (OriginText → W → Type 0) → (W → Option (List ℕ)) → (W → Option (List ℕ)) → (W → ℕ)
     → Bool → Bool → AddressText → Outcome → List ℕ → Type 0
-IsToldBy {W} gives incoming outgoing failed robots keeps at x body =
+IsToldByWire {W} gives incoming outgoing failed robots keeps at x body =
     (given : W) × gives (origin_of at) given × ComesOver incoming outgoing failed robots keeps at given x body
 
 -- over a wire the request for an address went out, or couldn't be written, and no byte came back: it had ended, or failed
@@ -114,13 +114,13 @@ pub record Tries : Type 0 where
 
 -- an answer comes over a connection that was kept, and no other is asked for; or one more is asked for, once, and before it
 -- none was taken, or one over which no byte came
-abbrev pub IsTold : {W : Type 0} → (OriginText → W → Type 0) → (OriginText → W → Type 0) → (W → Option (List ℕ)) → (W → Option (List ℕ)) → (W → ℕ)
+abbrev pub IsToldByTries : {W : Type 0} → (OriginText → W → Type 0) → (OriginText → W → Type 0) → (W → Option (List ℕ)) → (W → Option (List ℕ)) → (W → ℕ)
     → Tries → Tries → Bool → Bool → AddressText → Outcome → List ℕ → Type 0
-IsTold stands gives incoming outgoing failed old new robots keeps at x body =
-    ((new.made ≡ old.made) × (new.taken ≡ counted old.taken 1) × (keeps ≡ true) × IsToldBy stands incoming outgoing failed robots true at x body)
+IsToldByTries stands gives incoming outgoing failed old new robots keeps at x body =
+    ((new.made ≡ old.made) × (new.taken ≡ counted old.taken 1) × (keeps ≡ true) × IsToldByWire stands incoming outgoing failed robots true at x body)
     ⊎ ((new.made ≡ counted old.made 1)
     × ((new.taken ≡ old.taken) ⊎ ((new.taken ≡ counted old.taken 1) × (keeps ≡ true) × IsSilent stands incoming outgoing failed at))
-    × (IsUnmade old.refused new.refused x body ⊎ IsToldBy gives incoming outgoing failed robots keeps at x body))
+    × (IsUnmade old.refused new.refused x body ⊎ IsToldByWire gives incoming outgoing failed robots keeps at x body))
 
 -- how often what makes connections was asked
 abbrev pub tries_by : {C : Type 0} → (C → ℕ) → (C → ℕ) → (C → ℕ) → C → Tries
@@ -130,4 +130,4 @@ tries_by made refused taken c = record { made = made c; refused = refused c; tak
 abbrev pub IsGiven : {C W : Type 0} → (C → OriginText → W → Type 0) → (C → OriginText → W → Type 0) → (C → Tries) → (W → Option (List ℕ)) → (W → Option (List ℕ)) → (W → ℕ)
     → Bool → Bool → AddressText → Outcome → List ℕ → Type 0
 IsGiven {C} {W} stands gives tries incoming outgoing failed robots keeps at x body =
-    (by : C) × (after : C) × IsTold (stands by) (gives by) incoming outgoing failed (tries by) (tries after) robots keeps at x body
+    (by : C) × (after : C) × IsToldByTries (stands by) (gives by) incoming outgoing failed (tries by) (tries after) robots keeps at x body

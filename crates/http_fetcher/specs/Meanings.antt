@@ -2,7 +2,7 @@
 use Rattle.std.specs.Prelude.{◌≡◌, ◌⊎◌, ℕ, Bool, List, [], ◌++◌, Some, codes}
 use Rattle.address.specs.Address.{AddressText, OriginText}
 use Rattle.robots_rules.specs.Access.{RuleSetValue}
-use Rattle.response_reader.specs.ReadFaults.{IsFault}
+use Rattle.response_reader.specs.ReadFaults.{IsReadFault}
 use Rattle.response_reader.specs.declared.fault.ReadFault.{ReadFault}
 use Rattle.fetcher.specs.declared.fault_kind.FaultKind.{FaultKind}
 use Rattle.fetcher.specs.declared.fault_kind.FaultKind.TheVariants as kind
@@ -20,7 +20,7 @@ IsNoResponse kind x body = (x ≡ Fault kind) × (body ≡ [])
 -- the answer is the fault for which no response was read of these bytes
 abbrev pub IsUnread : Outcome → List ℕ → List ℕ → Type 0
 IsUnread x body bytes =
-    (fault : ReadFault) × (kind : FaultKind) × (kind_of_fault fault ≡ Some kind) × IsFault fault bytes × IsNoResponse kind x body
+    (fault : ReadFault) × (kind : FaultKind) × (kind_of_fault fault ≡ Some kind) × IsReadFault fault bytes × IsNoResponse kind x body
 
 -- what a site may answer for an address, where robots rules are honoured or not: what the response that begins some bytes answers,
 -- or the fault of such bytes; or no connection was made, or the request wasn't written

@@ -14,7 +14,7 @@ ghost use Rattle.answer_notes.specs.HopChains.{rules_of_hops};
 ghost use Rattle.answer_notes.specs.declared.told.Told.TheVariants as told;
 ghost use Rattle.http_fetcher.specs.Chains.{CountsHops, IsChain};
 ghost use Rattle.http_fetcher.specs.Connects.{Stays};
-ghost use Rattle.http_fetcher.specs.Fetching.{AnswersBytes, ComesOver, IsGiven, IsSilent, IsSilentOn, IsTold, IsToldBy, IsUnmade, LeavesUsable, StandsBehind, StandsBy, request_by, tries_by};
+ghost use Rattle.http_fetcher.specs.Fetching.{AnswersBytes, ComesOver, IsGiven, IsSilent, IsSilentOn, IsToldByTries, IsToldByWire, IsUnmade, LeavesUsable, StandsBehind, StandsBy, request_by, tries_by};
 ghost use Rattle.http_fetcher.specs.Notes.{NotesPage, NotesChain};
 ghost use Rattle.http_fetcher.specs.Meanings.{MayAnswer, MayRule};
 
@@ -282,7 +282,7 @@ impl<C: Connect> HttpFetcher<C> {
         ensures taken { C.taken self.new.connect ≡ C.taken self.old.connect }
         ensures told { IfOk result (λ t.
             IsUnmade (C.refused self.old.connect) (C.refused self.new.connect) (outcome_told self.old.robots at.now t) (body_told t)
-            ⊎ IsToldBy (C.gives self.old.connect) C.Wire.incoming C.Wire.outgoing C.Wire.failed self.old.robots self.old.keeps at.now
+            ⊎ IsToldByWire (C.gives self.old.connect) C.Wire.incoming C.Wire.outgoing C.Wire.failed self.old.robots self.old.keeps at.now
             (outcome_told self.old.robots at.now t) (body_told t)) }
         ensures stands { StandsBy (C.stands self.old.connect) (C.stands self.new.connect) C.again C.Wire.incoming C.Wire.outgoing self.old.keeps at.now }
     {
@@ -317,7 +317,7 @@ impl<C: Connect> HttpFetcher<C> {
             ⊎ ((C.taken self.new.connect ≡ counted (C.taken self.old.connect) 1)
             × (self.old.keeps ≡ true) × IsSilent (C.stands self.old.connect) C.Wire.incoming C.Wire.outgoing C.Wire.failed at.now))) }
         ensures told { IfOk result (λ o. IfSome o (λ t. (C.taken self.new.connect ≡ counted (C.taken self.old.connect) 1)
-            × (self.old.keeps ≡ true) × IsToldBy (C.stands self.old.connect) C.Wire.incoming C.Wire.outgoing C.Wire.failed self.old.robots true at.now
+            × (self.old.keeps ≡ true) × IsToldByWire (C.stands self.old.connect) C.Wire.incoming C.Wire.outgoing C.Wire.failed self.old.robots true at.now
             (outcome_told self.old.robots at.now t) (body_told t))) }
         ensures stands { StandsBy (C.stands self.old.connect) (C.stands self.new.connect) C.again C.Wire.incoming C.Wire.outgoing self.old.keeps at.now }
     {
@@ -352,7 +352,7 @@ impl<C: Connect> HttpFetcher<C> {
         ensures notes { self.new.notes ≡ self.old.notes }
         ensures one { self.old.keeps ≡ false → OnOk result (C.made self.new.connect ≡ counted (C.made self.old.connect) 1) }
         ensures most { C.made self.new.connect ≤ C.made self.old.connect + 1 }
-        ensures told { IfOk result (λ t. IsTold (C.stands self.old.connect) (C.gives self.old.connect) C.Wire.incoming C.Wire.outgoing C.Wire.failed
+        ensures told { IfOk result (λ t. IsToldByTries (C.stands self.old.connect) (C.gives self.old.connect) C.Wire.incoming C.Wire.outgoing C.Wire.failed
             (tries_by C.made C.refused C.taken self.old.connect) (tries_by C.made C.refused C.taken self.new.connect)
             self.old.robots self.old.keeps at.now (outcome_told self.old.robots at.now t) (body_told t)) }
         ensures stands { StandsBy (C.stands self.old.connect) (C.stands self.new.connect) C.again C.Wire.incoming C.Wire.outgoing self.old.keeps at.now }
@@ -373,7 +373,7 @@ impl<C: Connect> HttpFetcher<C> {
         ensures notes { self.new.notes ≡ self.old.notes }
         ensures one { self.old.keeps ≡ false → OnOk result (C.made self.new.connect ≡ counted (C.made self.old.connect) 1) }
         ensures most { C.made self.new.connect ≤ C.made self.old.connect + 1 }
-        ensures told { IfOk result (λ a. IsTold (C.stands self.old.connect) (C.gives self.old.connect) C.Wire.incoming C.Wire.outgoing C.Wire.failed
+        ensures told { IfOk result (λ a. IsToldByTries (C.stands self.old.connect) (C.gives self.old.connect) C.Wire.incoming C.Wire.outgoing C.Wire.failed
             (tries_by C.made C.refused C.taken self.old.connect) (tries_by C.made C.refused C.taken self.new.connect)
             self.old.robots self.old.keeps at.now a.outcome a.body) }
         ensures stands { StandsBy (C.stands self.old.connect) (C.stands self.new.connect) C.again C.Wire.incoming C.Wire.outgoing self.old.keeps at.now }
@@ -391,7 +391,7 @@ impl<C: Connect> HttpFetcher<C> {
         ensures is_recording { self.new.is_recording ≡ self.old.is_recording }
         ensures one { self.old.keeps ≡ false → OnOk result (C.made self.new.connect ≡ counted (C.made self.old.connect) 1) }
         ensures most { C.made self.new.connect ≤ C.made self.old.connect + 1 }
-        ensures told { IfOk result (λ a. IsTold (C.stands self.old.connect) (C.gives self.old.connect) C.Wire.incoming C.Wire.outgoing C.Wire.failed
+        ensures told { IfOk result (λ a. IsToldByTries (C.stands self.old.connect) (C.gives self.old.connect) C.Wire.incoming C.Wire.outgoing C.Wire.failed
             (tries_by C.made C.refused C.taken self.old.connect) (tries_by C.made C.refused C.taken self.new.connect)
             self.old.robots self.old.keeps at.now a.outcome a.body) }
         ensures stands { StandsBy (C.stands self.old.connect) (C.stands self.new.connect) C.again C.Wire.incoming C.Wire.outgoing self.old.keeps at.now }
@@ -491,7 +491,7 @@ impl<C: Connect> Fetcher for HttpFetcher<C> {
         // The answer is what came over one connection behind its own request. Where none are kept, one is asked for.
         ensures one { self.old.keeps ≡ false → OnOk result (C.made self.new.connect ≡ counted (C.made self.old.connect) 1) }
         ensures most { C.made self.new.connect ≤ C.made self.old.connect + 1 }
-        ensures told { IfOk result (λ a. IsTold (C.stands self.old.connect) (C.gives self.old.connect) C.Wire.incoming C.Wire.outgoing C.Wire.failed
+        ensures told { IfOk result (λ a. IsToldByTries (C.stands self.old.connect) (C.gives self.old.connect) C.Wire.incoming C.Wire.outgoing C.Wire.failed
             (tries_by C.made C.refused C.taken self.old.connect) (tries_by C.made C.refused C.taken self.new.connect)
             self.old.robots self.old.keeps at.now a.outcome a.body) }
         ensures stands { StandsBy (C.stands self.old.connect) (C.stands self.new.connect) C.again C.Wire.incoming C.Wire.outgoing self.old.keeps at.now }
@@ -577,7 +577,7 @@ impl<C: Connect> Telling for HttpFetcher<C> {
         // What is told came over one connection behind its own request. Where none are kept, one is asked for. Nothing is noted.
         ensures one { self.old.keeps ≡ false → OnOk result (C.made self.new.connect ≡ counted (C.made self.old.connect) 1) }
         ensures most { C.made self.new.connect ≤ C.made self.old.connect + 1 }
-        ensures told { IfOk result (λ t. IsTold (C.stands self.old.connect) (C.gives self.old.connect) C.Wire.incoming C.Wire.outgoing C.Wire.failed
+        ensures told { IfOk result (λ t. IsToldByTries (C.stands self.old.connect) (C.gives self.old.connect) C.Wire.incoming C.Wire.outgoing C.Wire.failed
             (tries_by C.made C.refused C.taken self.old.connect) (tries_by C.made C.refused C.taken self.new.connect)
             self.old.robots self.old.keeps at.now (outcome_told self.old.robots at.now t) (body_told t)) }
         ensures stands { StandsBy (C.stands self.old.connect) (C.stands self.new.connect) C.again C.Wire.incoming C.Wire.outgoing self.old.keeps at.now }

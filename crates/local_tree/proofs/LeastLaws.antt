@@ -10,7 +10,7 @@ use Rattle.std.specs.declared.cmp.Ordering.{Ordering}
 use Rattle.std.specs.declared.cmp.Ordering.TheVariants.{Less, Equal, Greater}
 use denote.Ref.{Bor}
 use Rattle.local_tree.specs.Names.{numbered}
-use Rattle.local_tree.specs.inner.Taken.{text_of, AreLeast, IsPast}
+use Rattle.local_tree.specs.inner.Taken.{lent_text, AreLeast, IsPast}
 use Rattle.local_tree.proofs.NamingLaws.{IsBehind}
 use Rattle.local_tree.proofs.OrderLaws.{texts_equal, before_trans}
 
@@ -62,14 +62,14 @@ least_more names least i name low count inside place own others so m j below rea
     ]
 
 -- what a test of the least name behind a place says
-pub past_of : (least : List (Bor (List ℕ))) (i : ℕ) (name : List ℕ) → (i + 1 < length least → (d : Bor (List ℕ)) → is_lt (slice_cmp nat_cmp name (get_or least (length least - (i + 2)) d).now) ≡ true) → IsPast (map text_of least) i name
+pub past_of : (least : List (Bor (List ℕ))) (i : ℕ) (name : List ℕ) → (i + 1 < length least → (d : Bor (List ℕ)) → is_lt (slice_cmp nat_cmp name (get_or least (length least - (i + 2)) d).now) ≡ true) → IsPast (map lent_text least) i name
 past_of least i name tested more =
-    let long = length-map least text_of in
+    let long = length-map least lent_text in
     let d : Bor (List ℕ) = record { ref_ptr = (0, 0); now = [] } in
     let k = length least - (i + 2) in
     let this = tested (omega (arith, long, more)) d in
-    let read : get_or (map text_of least) k [] ≡ (get_or least k d).now = get_or-map text_of least k d [] (omega (arith, long, more)) in
-    subst (λ n. is_lt (slice_cmp nat_cmp name (get_or (map text_of least) (n - (i + 2)) [])) ≡ true) (sym long) (subst (λ x. is_lt (slice_cmp nat_cmp name x) ≡ true) (sym read) this)
+    let read : get_or (map lent_text least) k [] ≡ (get_or least k d).now = get_or-map lent_text least k d [] (omega (arith, long, more)) in
+    subst (λ n. is_lt (slice_cmp nat_cmp name (get_or (map lent_text least) (n - (i + 2)) [])) ≡ true) (sym long) (subst (λ x. is_lt (slice_cmp nat_cmp name x) ≡ true) (sym read) this)
 
 -- no page behind asks for a name that is past
 pub behind_from_past : (plain least : List (List ℕ)) (i : ℕ) (name : List ℕ) → AreLeast plain least → IsPast least i name → IsBehind plain (i + 1) name

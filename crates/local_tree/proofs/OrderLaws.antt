@@ -16,7 +16,7 @@ use Rattle.std.specs.declared.cmp.Ordering.TheVariants.{Less, Equal, Greater}
 use denote.Ref.{Bor}
 use Rattle.local_tree.specs.PlainNames.{slash}
 use Rattle.local_tree.specs.Names.{IsDirectory, IsDirectoryOf}
-use Rattle.local_tree.specs.inner.Taken.{text_of, text_cmp, below_order}
+use Rattle.local_tree.specs.inner.Taken.{lent_text, text_cmp, below_order}
 
 -- ---- the order of texts, and of their first bytes
 
@@ -69,13 +69,13 @@ front_of_directory other name front is (rest, e) =
     ap (take (length front)) (e ∙ sym (append_assoc name (slash ∷ []) rest) ∙ ap (λ x. x ++ rest) (sym is)) ∙ take-append_seam front rest
 
 -- where a search by the first bytes ends, it found a name that begins so, or there is none
-pub directory_found : (sorted : List (Bor (List ℕ))) (name front : List ℕ) (r : Result ℕ ℕ) → front ≡ name ++ slash ∷ [] → IsSorted text_cmp sorted → IsSearchInRange r (length sorted) → IsBinarySearchResult (front_order front) sorted r → IsTrue (is_ok r) ↔ IsDirectory (map text_of sorted) name
+pub directory_found : (sorted : List (Bor (List ℕ))) (name front : List ℕ) (r : Result ℕ ℕ) → front ≡ name ++ slash ∷ [] → IsSorted text_cmp sorted → IsSearchInRange r (length sorted) → IsBinarySearchResult (front_order front) sorted r → IsTrue (is_ok r) ↔ IsDirectory (map lent_text sorted) name
 directory_found sorted name front (Ok i) is up range found =
     let d : Bor (List ℕ) = record { ref_ptr = (0, 0); now = [] } in
     let other = get_or sorted i d in
     let begun : IsDirectoryOf other.now name = begins other.now name front is (texts_equal (take (length front) other.now) front (found d)) in
-    let long = length-map sorted text_of in
-    let place : get_or (map text_of sorted) i other.now ≡ other.now = get_or-map text_of sorted i d other.now range in
+    let long = length-map sorted lent_text in
+    let place : get_or (map lent_text sorted) i other.now ≡ other.now = get_or-map lent_text sorted i d other.now range in
     (λ _. (other.now, (i, omega arith, place), begun), λ _. refl)
 directory_found sorted name front (Err i) is up range found =
     let key : Bor (List ℕ) → List ℕ = λ other. take (length front) other.now in
@@ -85,23 +85,23 @@ directory_found sorted name front (Err i) is up range found =
       λ e. cc,
       λ (other, (j, below, here), inside).
           let d : Bor (List ℕ) = record { ref_ptr = (0, 0); now = [] } in
-          let long = length-map sorted text_of in
+          let long = length-map sorted lent_text in
           let within : j < length sorted = omega arith in
-          let at : (get_or sorted j d).now ≡ other = sym (get_or-map text_of sorted j d other within) ∙ here in
+          let at : (get_or sorted j d).now ≡ other = sym (get_or-map lent_text sorted j d other within) ∙ here in
           let equal : front_order front (get_or sorted j d) ≡ Equal =
           equal_texts (take (length front) (get_or sorted j d).now) front (ap (take (length front)) at ∙ front_of_directory other name front is inside) in
           elim (cases_lt j i) [ inl before ↦ cc (parts.0 j d (omega arith) before) | inr behind ↦ cc (parts.1 j d (omega arith) within) ],
     )
 
 -- the same of a search by that order
-pub directory_below : (sorted : List (Bor (List ℕ))) (name : List ℕ) (r : Result ℕ ℕ) → IsSorted text_cmp sorted → IsSearchInRange r (length sorted) → IsBinarySearchResult (below_order name) sorted r → IsTrue (is_ok r) ↔ IsDirectory (map text_of sorted) name
+pub directory_below : (sorted : List (Bor (List ℕ))) (name : List ℕ) (r : Result ℕ ℕ) → IsSorted text_cmp sorted → IsSearchInRange r (length sorted) → IsBinarySearchResult (below_order name) sorted r → IsTrue (is_ok r) ↔ IsDirectory (map lent_text sorted) name
 directory_below sorted name r up range found =
     let front = name ++ slash ∷ [] in
     let long : length front ≡ length name + 1 = length-append name (slash ∷ []) in
     directory_found sorted name front r refl up range (subst (λ n. IsBinarySearchResult (λ (other : Bor (List ℕ)). slice_cmp nat_cmp (take n other.now) front) sorted r) (sym long) found)
 
 -- names of which the one before a place stands before all of a directory, and the one there behind all
-pub none_between : (sorted : List (Bor (List ℕ))) (name : List ℕ) (i : ℕ) → IsSorted text_cmp sorted → i ≤ length sorted → ((d : Bor (List ℕ)) → 0 < i → below_order name (get_or sorted (i - 1) d) ≡ Less) → ((d : Bor (List ℕ)) → i < length sorted → below_order name (get_or sorted i d) ≡ Greater) → ¬ IsDirectory (map text_of sorted) name
+pub none_between : (sorted : List (Bor (List ℕ))) (name : List ℕ) (i : ℕ) → IsSorted text_cmp sorted → i ≤ length sorted → ((d : Bor (List ℕ)) → 0 < i → below_order name (get_or sorted (i - 1) d) ≡ Less) → ((d : Bor (List ℕ)) → i < length sorted → below_order name (get_or sorted i d) ≡ Greater) → ¬ IsDirectory (map lent_text sorted) name
 none_between sorted name i up range before behind inside =
     let n = length name + 1 in
     let key : Bor (List ℕ) → List ℕ = λ other. take n other.now in

@@ -6,7 +6,7 @@ use Rattle.std.proofs.lemmas.List.Elements.{Contains-append_left, Contains-push}
 use Rattle.std.proofs.lemmas.Slice.Eq.{bytes_eq-Decides}
 use Rattle.std.specs.Str.{bytes_eq}
 use Rattle.local_tree.specs.Names.{AreDistinct}
-use Rattle.local_tree.specs.Folders.{Files, Puts, KeepsOthers, HasRisen}
+use Rattle.local_tree.specs.Folders.{Files, Puts, KeepsOthers, HasMoreRefused}
 use Rattle.local_tree.specs.SiteFiles.{AreWritten, OfFiles}
 
 pub none_written : (names bodies : List (List ℕ)) (files : Option Files) → OfFiles files files (AreWritten 0 0 names bodies)
@@ -58,7 +58,7 @@ put_torn names bodies k name None None (Some new) apart below is so kept = absur
 put_torn names bodies k name (Some old) (Some mid) None apart below is so kept = absurd kept
 
 -- a call that failed and was counted has raised the count
-pub risen : (old new : ℕ) → new ≡ max old (min (old + 1) (2 ^ 64 - 1)) → HasRisen old new
+pub risen : (old new : ℕ) → new ≡ max old (min (old + 1) (2 ^ 64 - 1)) → HasMoreRefused old new
 risen old new = go (2 ^ 64 - 1)
   where
     go : (most : ℕ) → new ≡ max old (min (old + 1) most) → (old < new) ⊎ (most ≤ new)

@@ -19,7 +19,7 @@ use Rattle.std.specs.String.{string_bytes}
 use Rattle.std.specs.declared.string.String.{String}
 use Rattle.local_tree.specs.PlainNames.{slash, is_slash}
 use Rattle.local_tree.specs.Names.{IsDirectoryOf, numbered}
-use Rattle.local_tree.specs.inner.Taken.{IsTaken}
+use Rattle.local_tree.specs.inner.Taken.{IsNameTaken}
 use Rattle.local_tree.proofs.NamingLaws.{NoSlash, NoSlash-decimal, numbered-suc, numbered-injective}
 
 -- the first n numbered names, the last first
@@ -143,7 +143,7 @@ nearest_contained own q (p ∷ plain) x (suc k, below, is) e =
     let later = nearest_contained own q plain x (k, omega arith, is) e in (suc later.0, omega (arith, later.1), later.2)
 
 -- numbers to 2 ^ 64 - 1 whose names are all taken can't be
-pub taken_below : {Y : Type 0} (plain : List (List ℕ)) (next : BTreeMap (String Y) ℕ) (own : List ℕ) (n : ℕ) → n < 2 ^ 64 → ((k : ℕ) → k < n → IsTaken plain next (numbered own k)) → n ≤ btree_map_len next + length plain
+pub taken_below : {Y : Type 0} (plain : List (List ℕ)) (next : BTreeMap (String Y) ℕ) (own : List ℕ) (n : ℕ) → n < 2 ^ 64 → ((k : ℕ) → k < n → IsNameTaken plain next (numbered own k)) → n ≤ btree_map_len next + length plain
 taken_below plain next own n small all =
     let keys = map string_bytes (keys_of next.entries) in
     let near = map (nearest own) plain in

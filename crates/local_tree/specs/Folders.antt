@@ -22,17 +22,17 @@ KeepsOthers None None name = ⊤
 KeepsOthers _ _ name = ⊥
 
 -- the count after one more failed call: it stays at 2 ^ 64 - 1, and never falls
-abbrev pub counted : ℕ → ℕ
-counted failures = max failures (min (failures + 1) (2 ^ 64 - 1))
+abbrev pub one_more_refused : ℕ → ℕ
+one_more_refused failures = max failures (min (failures + 1) (2 ^ 64 - 1))
 
--- a call that answered an error is counted
-abbrev pub CountsFault : {A E : Type 0} → ℕ → ℕ → Result A E → Type 0
-CountsFault old new (Ok a) = new ≡ old
-CountsFault old new (Err e) = new ≡ counted old
+-- a call that answered an error is one_more_refused
+abbrev pub CountsRefusedPut : {A E : Type 0} → ℕ → ℕ → Result A E → Type 0
+CountsRefusedPut old new (Ok a) = new ≡ old
+CountsRefusedPut old new (Err e) = new ≡ one_more_refused old
 
 -- the count has risen, or stands where it can't rise
-abbrev pub HasRisen : ℕ → ℕ → Type 0
-HasRisen old new = (old < new) ⊎ (2 ^ 64 - 1 ≤ new)
+abbrev pub HasMoreRefused : ℕ → ℕ → Type 0
+HasMoreRefused old new = (old < new) ⊎ (2 ^ 64 - 1 ≤ new)
 
 -- a folder on a disk: its path, and how many puts answered an error
 pub record DiskValue : Type 0 where

@@ -1,6 +1,6 @@
 -- What writing the files of a site leaves in a folder.
 use Rattle.std.specs.Prelude.{◌≡◌, ℕ, ◌<◌, ◌+◌, List, [], Option, Some, None, Contains, ⊤, take, length, slice_index_or}
-use Rattle.local_tree.specs.Folders.{Files, HasRisen}
+use Rattle.local_tree.specs.Folders.{Files, HasMoreRefused}
 use Rattle.local_tree.specs.declared.site_files.WriteFault.{WriteFault}
 use Rattle.local_tree.specs.declared.site_files.WriteFault.TheVariants.{Device}
 
@@ -23,7 +23,7 @@ IsWhole names bodies old new = OfFiles old new (AreWritten (length names) (lengt
 pub record IsTorn (names bodies : List (List ℕ)) (old new : Option Files) (failed_old failed_new k : ℕ) : Type 0 where
   pub place : k < length names
   pub files : OfFiles old new (AreWritten k (k + 1) names bodies)
-  pub risen : HasRisen failed_old failed_new
+  pub risen : HasMoreRefused failed_old failed_new
 
 -- how a write ended that didn't end well
 abbrev pub IsTornBy : List (List ℕ) → List (List ℕ) → Option Files → Option Files → ℕ → ℕ → WriteFault → Type 0

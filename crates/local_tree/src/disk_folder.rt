@@ -1,7 +1,7 @@
 //! A folder on a disk. Nothing of what a disk holds is proved; the tests show it.
 ghost use Rattle.std.specs.Prelude.{◌≡◌, None, IfOk, IfErr};
 ghost use Rattle.std.specs.IoError.{error_kind};
-ghost use Rattle.local_tree.specs.Folders.{CountsFault, opened_at};
+ghost use Rattle.local_tree.specs.Folders.{CountsRefusedPut, opened_at};
 
 use crate::close::Close;
 use crate::folder::{Folder, FolderFault};

@@ -1,6 +1,6 @@
 //! What a folder is asked for.
 ghost use Rattle.std.specs.Prelude.{◌≡◌, ℕ, Option, OnOk, OnErr};
-ghost use Rattle.local_tree.specs.Folders.{Files, Puts, KeepsOthers, CountsFault};
+ghost use Rattle.local_tree.specs.Folders.{Files, Puts, KeepsOthers, CountsRefusedPut};
 
 use thiserror::Error;
 
@@ -27,7 +27,7 @@ pub trait Folder {
     fn put(&mut self, name: &str, bytes: &[u8]) -> Result<(), FolderFault>
         ensures put { OnOk result (Puts (files self.old) (files self.new) name.now bytes.now) }
         ensures torn { OnErr result (KeepsOthers (files self.old) (files self.new) name.now) }
-        ensures counted { CountsFault (failed self.old) (failed self.new) result };
+        ensures counted { CountsRefusedPut (failed self.old) (failed self.new) result };
 
     /// How many puts answered an error; at the largest number it stays.
     fn failures(&self) -> u64

@@ -7,7 +7,7 @@ ghost use Rattle.std.specs.declared.cmp.Ordering.TheVariants.{Less, Greater};
 ghost use Rattle.std.specs.List.Sorted.{IsSorted};
 ghost use Rattle.local_tree.specs.PlainNames.{slash};
 ghost use Rattle.local_tree.specs.Names.{IsDirectory, numbered};
-ghost use Rattle.local_tree.specs.inner.Taken.{text_of, text_cmp, below_order, IsTaken};
+ghost use Rattle.local_tree.specs.inner.Taken.{lent_text, text_cmp, below_order, IsNameTaken};
 
 use std::alloc::{AllocError, Global};
 use std::cmp::Ordering;
@@ -65,7 +65,7 @@ fn begins_behind(sorted: &[&str], place: usize, directory: &str) -> bool
 // directory would stand, and the others behind it.
 fn parts_at(sorted: &[&str], place: usize, directory: &str) -> bool
     requires { IsSorted text_cmp sorted.now }
-    ensures { IsTrue result → ¬ IsDirectory (map text_of sorted.now) directory.now }
+    ensures { IsTrue result → ¬ IsDirectory (map lent_text sorted.now) directory.now }
 {
     if place > sorted.len() {
         return false;
@@ -77,7 +77,7 @@ fn parts_at(sorted: &[&str], place: usize, directory: &str) -> bool
 // a `/` stand together. They are looked for near this place first, and then by halves.
 fn is_directory(sorted: &[&str], name: &str, near: usize) -> bool
     requires { IsSorted text_cmp sorted.now }
-    ensures { IsTrue result ↔ IsDirectory (map text_of sorted.now) name.now }
+    ensures { IsTrue result ↔ IsDirectory (map lent_text sorted.now) name.now }
 {
     if parts_at(sorted, near, name) {
         return false;
@@ -93,7 +93,7 @@ fn is_directory(sorted: &[&str], name: &str, near: usize) -> bool
 // Whether the name has an entry, or is a directory of one of the sorted names.
 fn is_taken(sorted: &[&str], next: &BTreeMap<String, u64>, name: &str, near: usize) -> bool
     requires { IsSorted text_cmp sorted.now }
-    ensures { IsTrue result ↔ IsTaken (map text_of sorted.now) next.now name.now }
+    ensures { IsTrue result ↔ IsNameTaken (map lent_text sorted.now) next.now name.now }
 {
     if next.contains_key(name) {
         return true;
@@ -112,11 +112,11 @@ fn first_free_from(
 ) -> Result<(String, u64), AllocError>
     requires sorted { IsSorted text_cmp sorted.now }
     requires few { length sorted.now < 2 ^ 63 }
-    requires start { (k : ℕ) → k < start → IsTaken (map text_of sorted.now) next.now (numbered plain.now k) }
+    requires start { (k : ℕ) → k < start → IsNameTaken (map lent_text sorted.now) next.now (numbered plain.now k) }
     ensures small { IfOk result (λ found. found.1 < 2 ^ 64 - 1) }
     ensures name { IfOk result (λ found. string_bytes found.0 ≡ numbered plain.now found.1) }
-    ensures free { IfOk result (λ found. ¬ IsTaken (map text_of sorted.now) next.now (string_bytes found.0)) }
-    ensures before { IfOk result (λ found. (k : ℕ) → k < found.1 → IsTaken (map text_of sorted.now) next.now (numbered plain.now k)) }
+    ensures free { IfOk result (λ found. ¬ IsNameTaken (map lent_text sorted.now) next.now (string_bytes found.0)) }
+    ensures before { IfOk result (λ found. (k : ℕ) → k < found.1 → IsNameTaken (map lent_text sorted.now) next.now (numbered plain.now k)) }
 {
     // The table has fewer names than there are numbers.
     let _names = next.len();
@@ -143,11 +143,11 @@ pub(crate) fn first_free(
 ) -> Result<(String, u64), AllocError>
     requires sorted { IsSorted text_cmp sorted.now }
     requires few { length sorted.now < 2 ^ 63 }
-    requires passed { (v k : ℕ) → get_by_text next.now plain.now ≡ Some v → k < v → IsTaken (map text_of sorted.now) next.now (numbered plain.now k) }
+    requires passed { (v k : ℕ) → get_by_text next.now plain.now ≡ Some v → k < v → IsNameTaken (map lent_text sorted.now) next.now (numbered plain.now k) }
     ensures small { IfOk result (λ found. found.1 < 2 ^ 64 - 1) }
     ensures name { IfOk result (λ found. string_bytes found.0 ≡ numbered plain.now found.1) }
-    ensures free { IfOk result (λ found. ¬ IsTaken (map text_of sorted.now) next.now (string_bytes found.0)) }
-    ensures before { IfOk result (λ found. (k : ℕ) → k < found.1 → IsTaken (map text_of sorted.now) next.now (numbered plain.now k)) }
+    ensures free { IfOk result (λ found. ¬ IsNameTaken (map lent_text sorted.now) next.now (string_bytes found.0)) }
+    ensures before { IfOk result (λ found. (k : ℕ) → k < found.1 → IsNameTaken (map lent_text sorted.now) next.now (numbered plain.now k)) }
 {
     if let Some(number) = next.get(plain) {
         return first_free_from(alloc, sorted, next, plain, near, *number);

@@ -1,6 +1,6 @@
 //! A folder that is kept in memory.
 ghost use Rattle.std.specs.Prelude.{◌≡◌, ◌+◌, ◌-◌, ◌^◌, ℕ, List, [], Some, None, IsErr, OnOk, OnErr, min, option_map};
-ghost use Rattle.local_tree.specs.Folders.{Puts, KeepsOthers, CountsFault, with_file};
+ghost use Rattle.local_tree.specs.Folders.{Puts, KeepsOthers, CountsRefusedPut, with_file};
 ghost use Rattle.local_tree.specs.MemoryFolders.{file_in};
 
 use crate::folder::{Folder, FolderFault};
@@ -102,7 +102,7 @@ impl Folder for MemoryFolder {
     fn put(&mut self, name: &str, bytes: &[u8]) -> Result<(), FolderFault>
         ensures put { OnOk result (Puts (Some (file_in self.old.files)) (Some (file_in self.new.files)) name.now bytes.now) }
         ensures torn { OnErr result (KeepsOthers (Some (file_in self.old.files)) (Some (file_in self.new.files)) name.now) }
-        ensures counted { CountsFault self.old.failed self.new.failed result }
+        ensures counted { CountsRefusedPut self.old.failed self.new.failed result }
 
         // It fails where it was to, and then, as where memory is wanting, changes nothing.
         ensures same { OnErr result (self.new.files ≡ self.old.files) }

@@ -9,7 +9,7 @@ ghost use Rattle.address.specs.AddressOrder.{IsAscending};
 ghost use Rattle.local_tree.specs.PlainNames.{plain_name_of};
 ghost use Rattle.local_tree.specs.Names.{IsNaming, AreDistinct, AreApart};
 ghost use Rattle.local_tree.specs.LocalNames.{StaysInside, HasShortSegments, IsVisible};
-ghost use Rattle.local_tree.specs.inner.Taken.{text_of, text_cmp, HasSameNames, AreLeast, IsNoted, remembered};
+ghost use Rattle.local_tree.specs.inner.Taken.{lent_text, text_cmp, HasSameNames, AreLeast, IsNoted, remembered};
 
 use crate::free_name::first_free;
 use crate::plain_name::plain_name_of;
@@ -44,7 +44,7 @@ fn plain_names(alloc: Global, pages: &[Address]) -> Result<Vec<String>, AllocErr
 // These names in order.
 fn in_order(alloc: Global, names: &[String]) -> Result<Vec<&str>, AllocError>
     ensures sorted { IfOk result (λ sorted. IsSorted text_cmp sorted.items) }
-    ensures same { IfOk result (λ sorted. HasSameNames (map string_bytes names.now) (map text_of sorted.items)) }
+    ensures same { IfOk result (λ sorted. HasSameNames (map string_bytes names.now) (map lent_text sorted.items)) }
 {
     let mut sorted = Vec::new(alloc);
     for name in names {
@@ -68,7 +68,7 @@ fn least_with<'a>(least: &[&'a str], name: &'a str) -> &'a str
 
 // The least of these names from each place to their end, that of the last place first.
 fn least_names(alloc: Global, names: &[String]) -> Result<Vec<&str>, AllocError>
-    ensures { IfOk result (λ least. AreLeast (map string_bytes names.now) (map text_of least.items)) }
+    ensures { IfOk result (λ least. AreLeast (map string_bytes names.now) (map lent_text least.items)) }
 {
     let mut least: Vec<&str> = Vec::new(alloc);
     for i in 0..names.len() {
@@ -118,7 +118,7 @@ fn note(
 ) -> Result<(), AllocError>
     requires place { i < length least.now }
     requires small { number < 2 ^ 64 - 1 }
-    ensures { OnOk result (IsNoted (map text_of least.now) i (get_by_text next.old) (get_by_text next.new) own.now name.now number) }
+    ensures { OnOk result (IsNoted (map lent_text least.now) i (get_by_text next.old) (get_by_text next.new) own.now name.now number) }
 {
     if is_past(least, i, name) {
         return Ok(());

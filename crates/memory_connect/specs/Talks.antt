@@ -16,8 +16,8 @@ abbrev pub is_whole : List ℕ → Bool
 is_whole request = ends_with nat_eq request (codes "\r\n\r\n")
 
 -- the answer to a request that nothing is stored for
-abbrev pub not_found : List ℕ
-not_found = codes "HTTP/1.1 404 \r\nContent-Length: 0\r\n\r\n"
+abbrev pub not_found_bytes : List ℕ
+not_found_bytes = codes "HTTP/1.1 404 \r\nContent-Length: 0\r\n\r\n"
 
 -- the bytes are a request for the address, of a connection that closes or of one that is kept
 abbrev pub asks_for : List ℕ → List ℕ → Bool
@@ -25,7 +25,7 @@ asks_for at request = bytes_eq (request_text at) request || bytes_eq (kept_reque
 
 -- the bytes that are stored for the first address that the request asks for, or the answer that nothing is
 unfoldable pub answer_to : List StoredAnswer → List ℕ → List ℕ
-answer_to [] request = not_found
+answer_to [] request = not_found_bytes
 answer_to (stored ∷ more) request = if asks_for stored.at request then stored.bytes.items else answer_to more request
 
 -- ---- which calls fail
@@ -51,18 +51,18 @@ is_call call Connect = false
 is_call call (Call fault) = fault.call == call
 is_call call Idle = false
 
-abbrev pub fault_at : FailingPlace → Option WireFault
-fault_at Connect = None
-fault_at (Call fault) = Some fault.fault
-fault_at Idle = None
+abbrev pub planned_fault_at : FailingPlace → Option WireFault
+planned_fault_at Connect = None
+planned_fault_at (Call fault) = Some fault.fault
+planned_fault_at Idle = None
 
-abbrev pub fault_of : Option FailingPlace → Option WireFault
-fault_of None = None
-fault_of (Some place) = fault_at place
+abbrev pub planned_fault_of : Option FailingPlace → Option WireFault
+planned_fault_of None = None
+planned_fault_of (Some place) = planned_fault_at place
 
 -- the connection of this number isn't made
-abbrev pub is_refused : List PlannedFailure → ℕ → Bool
-is_refused failures connection = list_any (λ (p : PlannedFailure). p.connection == connection && is_connect p.place) failures
+abbrev pub is_connection_refused : List PlannedFailure → ℕ → Bool
+is_connection_refused failures connection = list_any (λ (p : PlannedFailure). p.connection == connection && is_connect p.place) failures
 
 -- the first place that is planned for a call on a connection
 abbrev pub planned_place : List PlannedFailure → ℕ → ℕ → Option FailingPlace
@@ -71,7 +71,7 @@ planned_place failures connection call =
 
 -- the fault that is planned for it
 abbrev pub planned_for : List PlannedFailure → ℕ → ℕ → Option WireFault
-planned_for failures connection call = fault_of (planned_place failures connection call)
+planned_for failures connection call = planned_fault_of (planned_place failures connection call)
 
 -- ---- what contracts see
 
@@ -115,12 +115,12 @@ fresh s = record {
 }
 
 -- one more call
-abbrev pub called : Talk → Talk
-called t = record t { calls = min (t.calls + 1) (2 ^ 64 - 1) }
+abbrev pub talk_called : Talk → Talk
+talk_called t = record t { calls = min (t.calls + 1) (2 ^ 64 - 1) }
 
 -- one more error
-abbrev pub erred : Talk → WireFault → Talk
-erred t f = record t { failed = counted t.failed 1; lost = lost_by t.lost f }
+abbrev pub talk_erred : Talk → WireFault → Talk
+talk_erred t f = record t { failed = counted t.failed 1; lost = lost_by t.lost f }
 
 -- what is still to be told after a request: an answer that is fixed stays, and one is fixed where the request became whole
 abbrev pub rest_after : Option (List ℕ) → List StoredAnswer → List ℕ → Option (List ℕ)
@@ -128,17 +128,17 @@ rest_after (Some rest) answers request = Some rest
 rest_after None answers request = if is_whole request then Some (answer_to answers request) else None
 
 -- the answer is fixed where what was written is a whole request
-abbrev pub settled : Talk → Talk
-settled t = record t { rest = rest_after t.rest t.answers t.request }
+abbrev pub talk_settled : Talk → Talk
+talk_settled t = record t { rest = rest_after t.rest t.answers t.request }
 
 -- more was written
 abbrev pub grown : Talk → List ℕ → Talk
-grown t bytes = settled (record t { request = t.request ++ bytes })
+grown t bytes = talk_settled (record t { request = t.request ++ bytes })
 
 -- after a write of these bytes that answered so
-abbrev pub after_write : Talk → List ℕ → Result ℕ WireFault → Talk
-after_write t bytes (Ok n) = grown (called t) bytes
-after_write t bytes (Err f) = erred (called t) f
+abbrev pub talk_after_write : Talk → List ℕ → Result ℕ WireFault → Talk
+talk_after_write t bytes (Ok n) = grown (talk_called t) bytes
+talk_after_write t bytes (Err f) = talk_erred (talk_called t) f
 
 -- how many bytes a read into so much room gives
 abbrev pub given_of : Option (List ℕ) → ℕ → ℕ
@@ -151,6 +151,6 @@ told None n = None
 told (Some rest) n = Some (drop n rest)
 
 -- after a read that answered so
-abbrev pub after_read : Talk → Result ℕ WireFault → Talk
-after_read t (Ok n) = record (called t) { rest = told t.rest n }
-after_read t (Err f) = erred (called t) f
+abbrev pub talk_after_read : Talk → Result ℕ WireFault → Talk
+talk_after_read t (Ok n) = record (talk_called t) { rest = told t.rest n }
+talk_after_read t (Err f) = talk_erred (talk_called t) f

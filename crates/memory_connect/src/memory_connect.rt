@@ -5,7 +5,7 @@ ghost use Rattle.std.specs.Io.KnownBytes.{IsAtEnd, ReadConsumes, WriteAppends, K
 ghost use Rattle.response_reader.specs.Request.{request_text, kept_request_text};
 ghost use Rattle.response_reader.specs.Wire.{CountsFault, NotesLoss, counted};
 ghost use Rattle.http_fetcher.specs.Connects.{CountsRefusal, Stays, StaysWith};
-ghost use Rattle.memory_connect.specs.Talks.{after_read, after_write, answer_to, asks_for, called, dies, is_death, rested, erred, fault_at, fresh, given_of, grown, is_call, is_connect, is_refused, planned_for, planned_place, settled};
+ghost use Rattle.memory_connect.specs.Talks.{talk_after_read, talk_after_write, answer_to, asks_for, talk_called, dies, is_death, rested, talk_erred, planned_fault_at, fresh, given_of, grown, is_call, is_connect, is_connection_refused, planned_for, planned_place, talk_settled};
 ghost use Rattle.response_reader.specs.declared.wire.WireFault.TheVariants as wire_fault;
 ghost use Rattle.http_fetcher.specs.declared.connect.ConnectFault.TheVariants as connect_fault;
 
@@ -103,7 +103,7 @@ impl<'a> MemoryConnect<'a> {
 
 // Whether the connection of this number isn't to be made.
 fn is_refused(failures: &[PlannedFailure], connection: u64) -> bool
-    ensures { result ≡ is_refused failures.now connection }
+    ensures { result ≡ is_connection_refused failures.now connection }
 {
     failures.iter().any(|planned| planned.connection == connection && is_connect(&planned.place))
 }
@@ -152,7 +152,7 @@ impl<'a> Connect for MemoryConnect<'a> {
         ensures taken { self.new.taken ≡ self.old.taken }
         ensures stands { Stays (λ of wire. self.old.kept ≡ Some (of, wire)) (λ of wire. self.new.kept ≡ Some (of, wire)) }
         // A connection fails just where that is planned.
-        ensures planned { MatchBool (is_refused self.old.failures self.old.made) (result ≡ Err connect_fault.Failed) (IsOk result) }
+        ensures planned { MatchBool (is_connection_refused self.old.failures self.old.made) (result ≡ Err connect_fault.Failed) (IsOk result) }
         ensures after { self.new ≡ record self.old { made = counted self.old.made 1; refused = self.new.refused } }
     {
         let connection = self.made;
@@ -294,7 +294,7 @@ impl<'a> StoredWire<'a> {
     // Counts a call, and gives the fault that is planned for it.
     fn next_fault(&mut self) -> Option<WireFault>
         ensures fault { result ≡ planned_for self.old.failures self.old.connection self.old.calls }
-        ensures after { self.new ≡ called self.old }
+        ensures after { self.new ≡ talk_called self.old }
     {
         let fault = planned_for(self.failures, self.connection, self.calls);
         self.calls = self.calls.saturating_add(1);
@@ -303,7 +303,7 @@ impl<'a> StoredWire<'a> {
 
     // Counts an error, and keeps whether one lost the connection.
     fn note(&mut self, fault: WireFault)
-        ensures { self.new ≡ erred self.old fault }
+        ensures { self.new ≡ talk_erred self.old fault }
     {
         self.failed = self.failed.saturating_add(1);
         match fault {
@@ -314,7 +314,7 @@ impl<'a> StoredWire<'a> {
 
     // Fixes the answer to what was written, where this is a whole request and has none yet.
     fn settle(&mut self) -> Result<(), AllocError>
-        ensures settled { OnOk result (self.new ≡ settled self.old) }
+        ensures settled { OnOk result (self.new ≡ talk_settled self.old) }
         ensures kept { OnErr result (self.new ≡ self.old) }
     {
         if self.rest.is_none() && self.request.ends_with(EMPTY_LINE) {
@@ -371,7 +371,7 @@ fn is_call(place: &FailingPlace, call: u64) -> bool
 }
 
 fn fault_at(place: &FailingPlace) -> Option<WireFault>
-    ensures { result ≡ fault_at place.now }
+    ensures { result ≡ planned_fault_at place.now }
 {
     match place {
         FailingPlace::Connect => None,
@@ -464,7 +464,7 @@ impl<'a> Wire for StoredWire<'a> {
         // A planned fault comes, and without one as much as there is room for, or all.
         ensures planned { MatchOption (planned_for self.old.failures self.old.connection self.old.calls)
             (result ≡ Ok (given_of self.old.rest (length room.old))) (λ f. result ≡ Err f) }
-        ensures after { self.new ≡ after_read self.old result }
+        ensures after { self.new ≡ talk_after_read self.old result }
     {
         if let Some(fault) = self.next_fault() {
             self.note(fault);
@@ -492,7 +492,7 @@ impl<'a> Wire for StoredWire<'a> {
         // A planned fault comes, and without one all is taken or memory ran out.
         ensures planned { MatchOption (planned_for self.old.failures self.old.connection self.old.calls)
             (MatchResult result (λ n. n ≡ length bytes.now) (λ f. f ≡ wire_fault.Failed)) (λ f. result ≡ Err f) }
-        ensures after { self.new ≡ after_write self.old bytes.now result }
+        ensures after { self.new ≡ talk_after_write self.old bytes.now result }
     {
         if let Some(fault) = self.next_fault() {
             self.note(fault);

@@ -1,7 +1,7 @@
 //! What is found for an option: flags, levels, numbers and lists.
 ghost use Rattle.std.specs.Prelude.{◌≡◌, true, ◌<◌, ◌≤◌, option_map, Some, None, IfSome, MatchResult};
 ghost use Rattle.clap.specs.Words.{found_of, rows_of, first_of};
-ghost use Rattle.follow_filters.specs.Elements.{Reads};
+ghost use Rattle.follow_filters.specs.Elements.{ReadsElement};
 ghost use Rattle.follow_filters.specs.Levels.{number_in};
 ghost use Rattle.follow_filters.specs.Limits.{is_in_range};
 ghost use Rattle.options.specs.Given.{is_set, within, number_of, level_of, list_of};
@@ -73,7 +73,7 @@ pub(crate) fn list<T: Element>(
     matches: &ArgMatches,
     id: &str,
 ) -> Result<Elements<T>, ElementFault>
-    ensures { Reads result (list_of T.read_of id.now (rows_of (found_of matches.now))) }
+    ensures { ReadsElement result (list_of T.read_of id.now (rows_of (found_of matches.now))) }
 {
     Elements::read(alloc, given(matches, id).unwrap_or(""))
 }

@@ -1,6 +1,6 @@
 //! The end of a journal, where entries are added.
 ghost use Rattle.std.specs.Prelude.{◌≡◌, true, false};
-ghost use Rattle.record_journal.specs.inner.Tails.{Adds};
+ghost use Rattle.record_journal.specs.inner.Tails.{AddsToTail};
 
 use std::fs::OpenFile;
 use std::io::Write;
@@ -29,7 +29,7 @@ pub(crate) struct Tail<F: Write + OpenFile + Drop> {
 impl<F: Write + OpenFile + Drop> Tail<F> {
     /// Adds an entry. Where the file takes only a front of it, the file is cut to what is whole, and nothing is added any more.
     pub(crate) fn append(&mut self, entry: &[u8]) -> Added
-        ensures { Adds F.contents self.old entry.now result self.new }
+        ensures { AddsToTail F.contents self.old entry.now result self.new }
     {
         if !self.is_open {
             return Added::Closed;

@@ -1,7 +1,7 @@
 //! Rows of a report: what is said of each address of a harvest.
 ghost use Rattle.std.specs.Prelude.{◌≡◌, ◌<◌, List, [], IsTrue, length, IfOk, map, option_map, slice_index_or, string_bytes};
 ghost use Rattle.address.specs.AddressOrder.{IsAscending};
-ghost use Rattle.report.specs.inner.Rows.{line_of, fate_of};
+ghost use Rattle.report.specs.inner.Rows.{line_of_row, fate_of};
 ghost use Rattle.report.specs.Entries.{name_among, fate_at, line_at, lines_of};
 
 use address::Address;
@@ -75,7 +75,7 @@ fn row_of<'a>(
     near: usize,
 ) -> Option<Row<'a>>
     requires { length names.now ≡ length harvest.now.kept }
-    ensures { option_map line_of result ≡ line_at harvest.now (map string_bytes names.now) entry.now }
+    ensures { option_map line_of_row result ≡ line_at harvest.now (map string_bytes names.now) entry.now }
 {
     Some(Row {
         address: entry.address.as_str(),
@@ -92,7 +92,7 @@ pub(crate) fn rows_of<'a>(
     names: &'a [String],
 ) -> Result<Vec<Row<'a>>, AllocError>
     requires { length names.now ≡ length harvest.now.kept }
-    ensures { IfOk result (λ rows. map line_of rows.items ≡ lines_of harvest.now (map string_bytes names.now)) }
+    ensures { IfOk result (λ rows. map line_of_row rows.items ≡ lines_of harvest.now (map string_bytes names.now)) }
 {
     let mut rows = Vec::new(alloc);
     // Entries ascend as kept pages do, so the next page that is kept stands behind as many.

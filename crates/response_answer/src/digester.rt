@@ -1,7 +1,7 @@
 //! A sink that digests a response while its body arrives (RFC 9110, section 15).
 ghost use Rattle.std.specs.Prelude.{◌≡◌, ◌⊎◌, ℕ, List, [], ◌++◌, Option, Some, None, true, false, IfOk, OnOk};
 ghost use Rattle.response_reader.specs.Fields.{HeadParts};
-ghost use Rattle.response_reader.specs.Passes.{head_parts, Adds};
+ghost use Rattle.response_reader.specs.Passes.{head_parts, AddsPiece};
 ghost use Rattle.response_reader.specs.Refusals.{NotesRefusal};
 ghost use Rattle.response_answer.specs.Digests.{digest_of, kept_body};
 ghost use Rattle.response_answer.specs.Digesting.{HasTaken, IsStageOf, Purpose, has_head, purpose_of};
@@ -140,7 +140,7 @@ impl Sink for Digester {
     }
 
     fn piece(&mut self, bytes: &[u8]) -> Result<(), AllocError>
-        ensures took { OnOk result (Adds (HasTaken self.old) (HasTaken self.new) bytes.now) }
+        ensures took { OnOk result (AddsPiece (HasTaken self.old) (HasTaken self.new) bytes.now) }
         ensures purpose { purpose_of self.new ≡ purpose_of self.old }
         ensures refused { NotesRefusal self.old.failed self.new.failed result }
         ensures failed { self.old.failed ≡ true → IfOk result (λ _. ⊥) }

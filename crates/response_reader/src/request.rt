@@ -1,7 +1,7 @@
 //! The request for one address (RFC 9112, sections 3 and 9.6).
 ghost use Rattle.std.specs.Prelude.{◌≡◌, ℕ, List, [], codes, ◌++◌, ◌+◌, ◌<◌, ◌≤◌, length, drop, IsTrue, IfOk, OnOk, OnErr};
 ghost use Rattle.std.specs.Io.KnownBytes.{Appends, Keeps};
-ghost use Rattle.response_reader.specs.Request.{request_with, request_text, kept_request_text, AppendsFront};
+ghost use Rattle.response_reader.specs.Request.{request_with, request_text, kept_request_text, SendsFront};
 ghost use Rattle.response_reader.specs.inner.Request.{WritesGiveUp};
 ghost use Rattle.response_reader.specs.Wire.{HasRisen, counted};
 ghost use Rattle.response_reader.specs.inner.Wire.{tally, GoesOn};
@@ -26,7 +26,7 @@ pub enum RequestFault {
 /// it was written, and the wire isn't to be used again.
 pub fn write_request<W: Wire>(wire: &mut W, address: &Address) -> Result<(), RequestFault>
     ensures written { OnOk result (Appends (W.outgoing wire.old) (W.outgoing wire.new) (request_text address.now)) }
-    ensures part { OnErr result (AppendsFront (W.outgoing wire.old) (W.outgoing wire.new) (request_text address.now)) }
+    ensures part { OnErr result (SendsFront (W.outgoing wire.old) (W.outgoing wire.new) (request_text address.now)) }
     ensures device { OnErr result (HasRisen (W.failed wire.old) (W.failed wire.new)) }
     ensures interrupted { OnErr result (IsTrue (W.writes_never_fail wire.old) → W.failed wire.new ≡ counted (W.failed wire.old) MAX_INTERRUPTED) }
     ensures few { OnOk result (W.failed wire.new < W.failed wire.old + MAX_INTERRUPTED) }
@@ -43,7 +43,7 @@ pub fn write_request<W: Wire>(wire: &mut W, address: &Address) -> Result<(), Req
 /// same text, but that it doesn't ask to close it (RFC 9112, section 9.3).
 pub fn write_kept_request<W: Wire>(wire: &mut W, address: &Address) -> Result<(), RequestFault>
     ensures written { OnOk result (Appends (W.outgoing wire.old) (W.outgoing wire.new) (kept_request_text address.now)) }
-    ensures part { OnErr result (AppendsFront (W.outgoing wire.old) (W.outgoing wire.new) (kept_request_text address.now)) }
+    ensures part { OnErr result (SendsFront (W.outgoing wire.old) (W.outgoing wire.new) (kept_request_text address.now)) }
     ensures device { OnErr result (HasRisen (W.failed wire.old) (W.failed wire.new)) }
     ensures interrupted { OnErr result (IsTrue (W.writes_never_fail wire.old) → W.failed wire.new ≡ counted (W.failed wire.old) MAX_INTERRUPTED) }
     ensures few { OnOk result (W.failed wire.new < W.failed wire.old + MAX_INTERRUPTED) }
@@ -60,7 +60,7 @@ pub fn write_kept_request<W: Wire>(wire: &mut W, address: &Address) -> Result<()
 fn write_with<W: Wire>(wire: &mut W, address: &Address, closing: &[u8]) -> Result<(), RequestFault>
     requires { length closing.now ≤ 32 }
     ensures written { OnOk result (Appends (W.outgoing wire.old) (W.outgoing wire.new) (request_with address.now closing.now)) }
-    ensures part { OnErr result (AppendsFront (W.outgoing wire.old) (W.outgoing wire.new) (request_with address.now closing.now)) }
+    ensures part { OnErr result (SendsFront (W.outgoing wire.old) (W.outgoing wire.new) (request_with address.now closing.now)) }
     ensures device { OnErr result (HasRisen (W.failed wire.old) (W.failed wire.new)) }
     ensures interrupted { OnErr result (IsTrue (W.writes_never_fail wire.old) → W.failed wire.new ≡ counted (W.failed wire.old) MAX_INTERRUPTED) }
     ensures few { OnOk result (W.failed wire.new < W.failed wire.old + MAX_INTERRUPTED) }
@@ -115,7 +115,7 @@ fn put_request(text: &mut RequestText, address: &Address, closing: &[u8])
 fn write_all<W: Wire>(wire: &mut W, bytes: &[u8], interrupted: u32) -> Result<u32, RequestFault>
     requires { interrupted < MAX_INTERRUPTED }
     ensures written { OnOk result (Appends (W.outgoing wire.old) (W.outgoing wire.new) bytes.now) }
-    ensures part { OnErr result (AppendsFront (W.outgoing wire.old) (W.outgoing wire.new) bytes.now) }
+    ensures part { OnErr result (SendsFront (W.outgoing wire.old) (W.outgoing wire.new) bytes.now) }
     ensures few { IfOk result (λ n. n < MAX_INTERRUPTED) }
     ensures counts { IfOk result (λ n. GoesOn
         (tally (W.failed wire.old) (W.writes_never_fail wire.old) (W.never_errs wire.old) (W.incoming wire.old) (W.lost wire.old) interrupted)

@@ -8,7 +8,7 @@ use Rattle.site_inputs.specs.declared.input_fault.InputFault.TheVariants as inpu
 use Rattle.site_records.specs.RecordSites.{RecordValue}
 use Rattle.site_records.specs.Records.{IsFault}
 use Rattle.streams.specs.declared.input.ReadFault.TheVariants as reading
-use Rattle.retriever.specs.Systems.{Means, IsNotRead, IsNotResumed, IsReadAs, IsResumed, LivesAgain, LivesBy, LivesPlainly, LivesSaving, LivesWith}
+use Rattle.retriever.specs.Systems.{Means, IsNotRead, IsNotResumed, IsRecordRead, IsResumed, LivesAgain, LivesBy, LivesPlainly, LivesSaving, LivesWith}
 use Rattle.retriever.specs.inner.Systems.{is_plain}
 use Rattle.retriever.specs.declared.resume_fault.ResumeFault.{ResumeFault}
 use Rattle.retriever.specs.declared.resume_fault.ResumeFault.TheVariants.{Read, Input, Refused}
@@ -22,7 +22,7 @@ fault_not_read holds robots bytes (input.Address n) held bad = (bytes, held, bad
 module _ {S F D V : Type 0} (m : Means S F D V) (order : Order) where
   -- what is read of the file that the order names is resumed
   pub read_resumed : (path given : List ℕ) (r : Result RecordValue ResumeFault) → order.resume ≡ Some path → given ≡ path
-      → IfOk r (λ x. (bytes : List ℕ) × m.gives.holds m.system given bytes × IsReadAs (is_some order.save) order.plan.robots bytes x) → IfOk r (λ x. IsResumed m order x)
+      → IfOk r (λ x. (bytes : List ℕ) × m.gives.holds m.system given bytes × IsRecordRead (is_some order.save) order.plan.robots bytes x) → IfOk r (λ x. IsResumed m order x)
   read_resumed path given (Ok x) is same (bytes, held, read) = rw is (bytes, subst (λ (p : List ℕ). m.gives.holds m.system p bytes) same held, read)
   read_resumed path given (Err wrong) is same read = read
 

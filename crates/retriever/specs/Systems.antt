@@ -36,8 +36,8 @@ means gives system fetchers noted folders records =
     record { gives = gives; system = system; fetchers = fetchers; noted = noted; folders = folders; records = records }
 
 -- the bytes are a record, which says this; where it is saved again its notes say the same
-abbrev pub IsReadAs : Bool → Bool → List ℕ → RecordValue → Type 0
-IsReadAs is_saving robots bytes recorded =
+abbrev pub IsRecordRead : Bool → Bool → List ℕ → RecordValue → Type 0
+IsRecordRead is_saving robots bytes recorded =
     (said : List Entry) × IsRecord robots bytes said × (recorded.answers ≡ answers_of said) × (recorded.rules ≡ rules_of said) × HasNotes is_saving robots recorded.notes said
 
 -- why no record is read of bytes that a file may hold: they can't be had, or have this fault
@@ -70,8 +70,8 @@ module _ {S F D V : Type 0} (m : Means S F D V) where
   -- this is recorded in the file that the order resumes, or in a record without entries where it resumes none
   abbrev pub IsResumed : Order → RecordValue → Type 0
   IsResumed order recorded =
-      MatchOption order.resume (IsReadAs (is_some order.save) order.plan.robots (codes "wgetr-record 2\n") recorded)
-      (λ path. (bytes : List ℕ) × m.gives.holds m.system path bytes × IsReadAs (is_some order.save) order.plan.robots bytes recorded)
+      MatchOption order.resume (IsRecordRead (is_some order.save) order.plan.robots (codes "wgetr-record 2\n") recorded)
+      (λ path. (bytes : List ℕ) × m.gives.holds m.system path bytes × IsRecordRead (is_some order.save) order.plan.robots bytes recorded)
 
   -- the same by fetchers that ask such ones for what is recorded in the file that the order resumes
   pub record LivesAgain (order : Order) (before after : Option (List ℕ)) (status : ℕ) : Type 0 where

@@ -3,7 +3,7 @@ ghost use Rattle.std.specs.Prelude.{◌≡◌, ◌≢◌, ◌⊎◌, ℕ, List, 
 ghost use Rattle.options.specs.Order.{kept_of};
 ghost use Rattle.site_records.specs.Records.{IsFault};
 ghost use Rattle.retriever.specs.Resuming.{IsUnresumed};
-ghost use Rattle.retriever.specs.Systems.{IsNotRead, IsNotResumed, IsReadAs, IsResumed, LivesAgain, LivesBy, LivesIn, LivesPlainly, LivesSaving, LivesWith, means};
+ghost use Rattle.retriever.specs.Systems.{IsNotRead, IsNotResumed, IsRecordRead, IsResumed, LivesAgain, LivesBy, LivesIn, LivesPlainly, LivesSaving, LivesWith, means};
 ghost use Rattle.retriever.specs.inner.Systems.{goes_on_from, is_plain};
 
 use crate::input_run::{MAX_INPUT, deliver};
@@ -106,7 +106,7 @@ fn live_saving<H: Threads + Wait + Sync, S: System, W: Write>(
 
 // Reads a record, with notes of what it states where the order saves.
 fn read_bytes(alloc: Global, bytes: &[u8], order: &Order) -> Result<RecordedSite, InputFault>
-    ensures ok { IfOk result (λ r. IsReadAs (is_some order.now.save) order.now.plan.robots bytes.now r) }
+    ensures ok { IfOk result (λ r. IsRecordRead (is_some order.now.save) order.now.plan.robots bytes.now r) }
     ensures err { IfErr result (IsFault order.now.plan.robots bytes.now) }
 {
     if order.save.is_some() {
@@ -122,7 +122,7 @@ fn read_record<S: System>(
     path: &str,
     order: &Order,
 ) -> Result<RecordedSite, ResumeFault>
-    ensures ok { IfOk result (λ r. (bytes : List ℕ) × S.holds system.now path.now bytes × IsReadAs (is_some order.now.save) order.now.plan.robots bytes r) }
+    ensures ok { IfOk result (λ r. (bytes : List ℕ) × S.holds system.now path.now bytes × IsRecordRead (is_some order.now.save) order.now.plan.robots bytes r) }
     ensures err { IfErr result (IsNotRead (S.holds system.now path.now) order.now.plan.robots) }
 {
     let bytes = system.read_file(alloc, path, MAX_INPUT)?;
@@ -131,7 +131,7 @@ fn read_record<S: System>(
 
 // A record without entries.
 fn read_nothing(alloc: Global, order: &Order) -> Result<RecordedSite, AllocError>
-    ensures { IfOk result (λ r. IsReadAs (is_some order.now.save) order.now.plan.robots (codes "wgetr-record 2\n") r) }
+    ensures { IfOk result (λ r. IsRecordRead (is_some order.now.save) order.now.plan.robots (codes "wgetr-record 2\n") r) }
 {
     match read_bytes(alloc, EMPTY, order) {
         Ok(recorded) => Ok(recorded),

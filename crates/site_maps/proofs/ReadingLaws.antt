@@ -27,7 +27,7 @@ use Rattle.site_maps.specs.RuleLines.{file_head, file_line}
 use Rattle.site_maps.specs.Lines.{Statement, skipped, page, edge, moved, leaf, fault, robots, closed, rule}
 use Rattle.site_inputs.specs.Names.{named, IsNamed}
 use Rattle.site_maps.specs.Maps.{edges_below, answers_of, file_below, rules_of, is_between, is_ruling, HasAbove, HasRobots, IsPage, IsRobots, IsInPlace, IsAtRoot, IsRepeated, IsGood, texts_of}
-use Rattle.site_maps.specs.inner.Readings.{opened, opened_rules, answers_in, all_rules, IsFresh, TellsAnswers, TellsRules, Tells, IsWrong, IsTaken, Closes, Adds, Takes}
+use Rattle.site_maps.specs.inner.Readings.{opened, opened_rules, answers_in, all_rules, IsFresh, TellsAnswers, TellsRules, TellsAbove, IsWrong, IsTaken, Closes, Adds, Takes}
 use Rattle.site_inputs.proofs.NameLaws.{names}
 use Rattle.site_maps.proofs.MapLaws.{snoc_same, edges_below-go, answers_of-append, answers_of-skipped, answers_of-open, file_below-go, file_below-skipped, rules_of-append, rules_of-skipped, rules_of-open, head_above, still_above, was_above, ends_above, page_apart, robots_apart}
 
@@ -324,13 +324,13 @@ skipped_rules r above t = record {
 }
 
 -- a skipped line
-pub took_skipped : (r : Reading) (above : List Statement) → Tells r above → Tells r (above ++ skipped ∷ [])
+pub took_skipped : (r : Reading) (above : List Statement) → TellsAbove r above → TellsAbove r (above ++ skipped ∷ [])
 took_skipped r above t = record { answers = skipped_answers r above t.answers; rules = skipped_rules r above t.rules }
 
 -- ---- what is wrong
 
 -- what is kept for the open page or origin is fresh
-pub fresh_of : (r : Reading) (above : List Statement) → Tells r above → IsFresh r
+pub fresh_of : (r : Reading) (above : List Statement) → TellsAbove r above → IsFresh r
 fresh_of r above t = record { page = t.answers.fresh; origin = t.rules.fresh }
 
 -- an address of the line is refused, or memory ran out
@@ -424,10 +424,10 @@ takes_fault old new r kind text address reads h =
 -- ---- page and edge lines
 
 -- a page line that is taken is good, and what is kept stands for it
-pub takes_page : (old shut new : Reading) (above : List Statement) (status : ℕ) (text : List ℕ) (p : OpenPage) → Tells old above → Closes old shut
+pub takes_page : (old shut new : Reading) (above : List Statement) (status : ℕ) (text : List ℕ) (p : OpenPage) → TellsAbove old above → Closes old shut
     → read_address text ≡ Ok p.address → lookup (bytes_eq p.address) (answers_in old) ≡ None → p.status ≡ status → p.edges.items ≡ []
     → new.open ≡ Some (Page p) → new.answers.entries ≡ shut.answers.entries → new.rules.entries ≡ shut.rules.entries
-    → IsGood above (page status text) × Tells new (above ++ page status text ∷ [])
+    → IsGood above (page status text) × TellsAbove new (above ++ page status text ∷ [])
 takes_page old shut new above status text p t closes reads none same bare is answers rules =
     let a = names text p.address reads in
     let shape : answers_of (page status text ∷ []) ≡ (p.address, outcome.Page status []) ∷ [] = (let x = a.1 in cc) in
@@ -447,7 +447,7 @@ takes_page old shut new above status text p t closes reads none same bare is ans
     )
 
 -- a page line whose address has an answer
-pub page_claimed : (r : Reading) (above : List Statement) (status : ℕ) (text address : List ℕ) (f : InputLineFault) → Tells r above → read_address text ≡ Ok address
+pub page_claimed : (r : Reading) (above : List Statement) (status : ℕ) (text address : List ℕ) (f : InputLineFault) → TellsAbove r above → read_address text ≡ Ok address
     → IsTaken (answers_in r) address f → IsWrong above (page status text) f
 page_claimed r above status text address f t reads h =
     let a = names text address reads in
@@ -456,9 +456,9 @@ page_claimed r above status text address f t reads h =
 
 -- an edge line below its page is good, and what is kept stands for it
 pub takes_edge : (old new : Reading) (above : List Statement) (kind : EdgeKind) (text target : List ℕ) (p q : OpenPage)
-    → Tells old above → read_address text ≡ Ok target → old.open ≡ Some (Page p) → new.open ≡ Some (Page q) → q.address ≡ p.address → q.status ≡ p.status
+    → TellsAbove old above → read_address text ≡ Ok target → old.open ≡ Some (Page p) → new.open ≡ Some (Page q) → q.address ≡ p.address → q.status ≡ p.status
     → q.edges.items ≡ p.edges.items ++ record { target = target; kind = kind } ∷ [] → new.answers.entries ≡ old.answers.entries → new.rules.entries ≡ old.rules.entries
-    → IsGood above (edge kind text) × Tells new (above ++ edge kind text ∷ [])
+    → IsGood above (edge kind text) × TellsAbove new (above ++ edge kind text ∷ [])
 takes_edge old new above kind text target p q t reads was is address status edges answers rules = (
   record {
     in_place = t.answers.above_open (p, was);
@@ -497,7 +497,7 @@ good_origin above s text origin r a named none = record {
 }
 
 -- a robots line whose origin has rules
-pub origin_claimed : (old : Reading) (above : List Statement) (s : Statement) (text origin : List ℕ) (r : RuleSetValue) (f : InputLineFault) → Tells old above → StatesRules s text origin r
+pub origin_claimed : (old : Reading) (above : List Statement) (s : Statement) (text origin : List ℕ) (r : RuleSetValue) (f : InputLineFault) → TellsAbove old above → StatesRules s text origin r
     → IsNamed text → IsTaken (all_rules old) origin f → IsWrong above s f
 origin_claimed old above s text origin r f t a named h =
     claimed_origin above s origin r f (a.place above) (rw a.texts (All-cons IsNamed text [] named (All-nil IsNamed))) a.rules (rw t.rules.stated h)
@@ -527,10 +527,10 @@ states_closed text origin root is = record {
 }
 
 -- a robots line with rules below is good, and what is kept stands for it
-pub takes_robots : (old shut new : Reading) (above : List Statement) (text : List ℕ) (r : OpenRobots) → Tells old above → Closes old shut → IsNamed text
+pub takes_robots : (old shut new : Reading) (above : List Statement) (text : List ℕ) (r : OpenRobots) → TellsAbove old above → Closes old shut → IsNamed text
     → path_query_of (named text) ≡ codes "/" → origin_of (named text) ≡ r.origin → lookup (bytes_eq r.origin) (all_rules old) ≡ None → string_bytes r.file ≡ file_head
     → new.open ≡ Some (Robots r) → new.answers.entries ≡ shut.answers.entries → new.rules.entries ≡ shut.rules.entries
-    → IsGood above (robots text) × Tells new (above ++ robots text ∷ [])
+    → IsGood above (robots text) × TellsAbove new (above ++ robots text ∷ [])
 takes_robots old shut new above text r t closes named root names none bare is answers rules =
     let a = states_robots text r.origin root names in (
       good_origin above (robots text) text r.origin (rules_in (file_head ++ [])) a named (rw t.rules.stated none),
@@ -543,10 +543,10 @@ takes_robots old shut new above text r t closes named root names none bare is an
     )
 
 -- a robots line without rules below is good, and what is kept stands for it
-pub takes_closed : (old new : Reading) (above : List Statement) (text origin : List ℕ) → Tells old above → IsNamed text
+pub takes_closed : (old new : Reading) (above : List Statement) (text origin : List ℕ) → TellsAbove old above → IsNamed text
     → path_query_of (named text) ≡ codes "/" → origin_of (named text) ≡ origin → lookup (bytes_eq origin) (all_rules old) ≡ None
     → new.open ≡ None → new.answers.entries ≡ answers_in old → new.rules.entries ≡ all_rules old ++ (origin, record { closed = true; rules = [] }) ∷ []
-    → IsGood above (closed text) × Tells new (above ++ closed text ∷ [])
+    → IsGood above (closed text) × TellsAbove new (above ++ closed text ∷ [])
 takes_closed old new above text origin t named root names none is answers rules =
     let a = states_closed text origin root names in (
       good_origin above (closed text) text origin (record { closed = true; rules = [] }) a named (rw t.rules.stated none),
@@ -559,14 +559,14 @@ takes_closed old new above text origin t named root names none is answers rules 
     )
 
 -- an origin that is open stands above
-pub below_origin : (old : Reading) (above : List Statement) (r : OpenRobots) → Tells old above → old.open ≡ Some (Robots r) → HasRobots above
+pub below_origin : (old : Reading) (above : List Statement) (r : OpenRobots) → TellsAbove old above → old.open ≡ Some (Robots r) → HasRobots above
 below_origin old above r t was = let h = t.rules.above_open r was in (h.higher, robots h.text, h.between, h.lines, (h.text, refl), h.ruling)
 
 -- a rule line below its origin is good, and what is kept stands for it
 pub takes_rule : (old new : Reading) (above : List Statement) (kind : RuleKind) (rest : List ℕ) (r q : OpenRobots)
-    → Tells old above → old.open ≡ Some (Robots r) → new.open ≡ Some (Robots q) → q.origin ≡ r.origin
+    → TellsAbove old above → old.open ≡ Some (Robots r) → new.open ≡ Some (Robots q) → q.origin ≡ r.origin
     → string_bytes q.file ≡ string_bytes r.file ++ file_line kind rest → new.answers.entries ≡ old.answers.entries → new.rules.entries ≡ old.rules.entries
-    → IsGood above (rule kind rest) × Tells new (above ++ rule kind rest ∷ [])
+    → IsGood above (rule kind rest) × TellsAbove new (above ++ rule kind rest ∷ [])
 takes_rule old new above kind rest r q t was is origin file answers rules = (
   record {
     in_place = below_origin old above r t was;
@@ -594,7 +594,7 @@ none_above IsHead passes ([], head, between, e, is, all) = cc
 none_above IsHead passes (s ∷ above, head, between, e, is, all) = cc
 
 -- nothing is kept, and it stands for no line
-pub tells_nothing : (r : Reading) → r.open ≡ None → r.answers.entries ≡ [] → r.rules.entries ≡ [] → Tells r []
+pub tells_nothing : (r : Reading) → r.open ≡ None → r.answers.entries ≡ [] → r.rules.entries ≡ [] → TellsAbove r []
 tells_nothing r none bare empty = record {
   answers = record {
     stated = sym (ap (λ l. l ++ opened r.open) bare ∙ ap opened none);

@@ -2,7 +2,7 @@
 ghost use Rattle.std.specs.Prelude.{[], OnOk};
 ghost use Rattle.site_maps.specs.Lines.{page, edge, moved, leaf, fault, robots, closed, rule};
 ghost use Rattle.site_maps.specs.inner.Said.{said};
-ghost use Rattle.site_maps.specs.inner.Readings.{IsFresh, Tells, Closes, Claims, ClaimsOrigin, Adds, Takes, Reads};
+ghost use Rattle.site_maps.specs.inner.Readings.{IsFresh, TellsAbove, Closes, Claims, ClaimsOrigin, Adds, Takes, Reads};
 ghost use Rattle.site_inputs.specs.inner.Tables.{IsVacant};
 
 use crate::known::KnownAddresses;
@@ -46,7 +46,7 @@ pub(crate) struct Reading {
 impl Reading {
     // Before the first line.
     pub(crate) fn new(alloc: Global) -> Self
-        ensures { Tells result [] }
+        ensures { TellsAbove result [] }
     {
         Reading {
             alloc,

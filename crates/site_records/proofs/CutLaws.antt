@@ -23,7 +23,7 @@ use Rattle.site_records.specs.declared.version.Version.TheVariants.{Second}
 use Rattle.site_records.specs.EntryLines.{page, chain, hop, hopfault}
 use Rattle.site_records.specs.Entries.{IsLine, HasBytes}
 use Rattle.site_records.specs.Records.{IsFront, none}
-use Rattle.site_records.specs.Fronts.{HasNoLine, IsTornRow, IsTorn, IsFrontOfFirst, IsReadCut}
+use Rattle.site_records.specs.Fronts.{HasNoLine, IsTornRow, IsTornEntry, IsFrontOfFirst, IsReadCut}
 use Rattle.site_records.specs.WrittenEntries.{line_of_three, counted_entry, chain_line, is_short, hop_entry, note_text, has_short_heads, IsToldOf, IsNote}
 use Rattle.site_records.proofs.FormLaws.{and_parts}
 use Rattle.site_records.proofs.WrittenEntryLaws.{IsPlain, plain_line, three_fields, ascii_line, line_is, has_bytes, length_is, small_response, short_head, all_visible, word_visible, address_visible, digits_visible, entry_text, hop_count}
@@ -77,7 +77,7 @@ line_cut torn more line tail plain e =
 -- ---- an entry that is cut
 
 page_torn : (at : AddressText) (r : ResponseParts) (torn more : List ℕ) → IsAddress at → CanBeGiven r → length (head_text r) ≤ MAX_HEADS
-    → torn ++ more ≡ counted_entry (codes "page") at (response_text r) → more ≢ [] → IsTorn Second torn
+    → torn ++ more ≡ counted_entry (codes "page") at (response_text r) → more ≢ [] → IsTornEntry Second torn
 page_torn at r torn more is given short e some =
     let bytes = response_text r in
     let n = length bytes in
@@ -178,7 +178,7 @@ hops_torn ((at, told.Fault kind) ∷ hops) torn more are short e some =
     ]
 
 chain_torn : (of : OriginText) (hops : List HopValue) (torn more : List ℕ) → IsOrigin of → IsAdmitted of hops → All (λ (h : HopValue). IsToldOf h.0 h.1) hops
-    → list_all (λ (h : HopValue). is_short h.1) hops ≡ true → torn ++ more ≡ chain_line of (length hops) ++ flat_map hop_entry hops → more ≢ [] → IsTorn Second torn
+    → list_all (λ (h : HopValue). is_short h.1) hops ≡ true → torn ++ more ≡ chain_line of (length hops) ++ flat_map hop_entry hops → more ≢ [] → IsTornEntry Second torn
 chain_torn of hops torn more is admitted told short e some =
     let n = length hops in
     let root = of ++ codes "/" in
@@ -204,7 +204,7 @@ chain_torn of hops torn more is admitted told short e some =
     ]
 
 -- a proper front of what is written of a note ends within an entry
-pub note_torn : (note : Noted) (torn more : List ℕ) → IsNote note → has_short_heads note ≡ true → torn ++ more ≡ note_text note → more ≢ [] → IsTorn Second torn
+pub note_torn : (note : Noted) (torn more : List ℕ) → IsNote note → has_short_heads note ≡ true → torn ++ more ≡ note_text note → more ≢ [] → IsTornEntry Second torn
 note_torn (noted.Page at (told.Whole r)) torn more is short e some = page_torn at r torn more is.0 is.1 (short_head (told.Whole r) short) e some
 note_torn (noted.Page at (told.Fault kind)) torn more is short e some =
     inl (fault_torn (line_of_three (codes "fault") (word_of kind) at) torn more (plain_line (codes "fault") (word_of kind) at (all_visible (codes "fault") refl) (word_visible kind) (address_visible at is)) e some)
@@ -241,7 +241,7 @@ first_fresh above [] (suc k) fresh = tt
 first_fresh above (note ∷ notes) (suc k) fresh = (fresh.0, first_fresh (above ++ note ∷ []) notes k fresh.1)
 
 -- what is a front of the next note's entry ends within it
-ends_within : (torn : List ℕ) (notes : List Noted) → All IsNote notes → AreShort notes → IsFrontOfFirst torn notes → IsTorn Second torn
+ends_within : (torn : List ℕ) (notes : List Noted) → All IsNote notes → AreShort notes → IsFrontOfFirst torn notes → IsTornEntry Second torn
 ends_within torn [] are short front = inl (subst HasNoLine (sym front) (plain_no_line [] (All-nil IsPlain)))
 ends_within torn (note ∷ notes) are short (more, is, some) =
     note_torn note torn more (All-head IsNote note notes are) (All-head (λ n. has_short_heads n ≡ true) note notes short) is some

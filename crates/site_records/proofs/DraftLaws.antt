@@ -9,7 +9,7 @@ use Rattle.site_records.specs.declared.version.Version.TheVariants.{Second}
 use Rattle.site_records.specs.Records.{version_line}
 use Rattle.site_records.specs.WrittenEntries.{note_text, written_note, has_short_heads, IsNote}
 use Rattle.site_records.specs.WrittenRecords.{is_repeated, firsts_behind, written_notes, record_text}
-use Rattle.site_records.specs.inner.RecordDrafts.{AreNamed, IsDraft}
+use Rattle.site_records.specs.inner.RecordDrafts.{AreDraftsNamed, IsDraft}
 
 filter_push : (ns more : List Noted) → filter has_short_heads (ns ++ more) ≡ filter has_short_heads ns ++ filter has_short_heads more
 filter_push [] more = refl
@@ -40,7 +40,7 @@ text_push notes n =
     ∙ sym (append_assoc (version_line Second) (flat_map note_text (written_notes notes)) (flat_map note_text more))
 
 -- a note is added, unless it is repeated
-pub draft_grows : (is_new : Bool) (text more : List ℕ) (old new : Named) (notes : List Noted) (n : Noted) → IsDraft text old notes → AreNamed new (notes ++ n ∷ [])
+pub draft_grows : (is_new : Bool) (text more : List ℕ) (old new : Named) (notes : List Noted) (n : Noted) → IsDraft text old notes → AreDraftsNamed new (notes ++ n ∷ [])
     → is_new ≡ not (is_repeated notes n) → (is_new ≡ true → (more ≡ text ++ written_note n) × (has_short_heads n ≡ true → IsNote n)) → (is_new ≡ false → more ≡ text)
     → IsDraft more new (notes ++ n ∷ [])
 draft_grows is_new text more old new notes n draft named is first again = by (is_repeated notes n) refl

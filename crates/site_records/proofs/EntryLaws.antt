@@ -17,7 +17,7 @@ use Rattle.site_inputs.specs.Names.{named, IsNamed}
 use Rattle.site_inputs.proofs.NameLaws.{names}
 use Rattle.site_records.specs.declared.reading.Reading.{Reading}
 use Rattle.site_records.specs.EntryLines.{Statement, page, fault, file, free, closed, chain, IsForm, HasForm, text_of, HopStatement, hop, hopfault}
-use Rattle.site_records.specs.Entries.{Entry, answered, ruled, chained, lines_of, no_response, HasBytes, IsLine, IsReadAs, States, IsAtRoot, Begins, IsRepeated, HasItsBytes, AreHopsOf, no_hops, more_hops, IsHop, Tells, IsBadRow, IsBadBehind, LeadsOn}
+use Rattle.site_records.specs.Entries.{Entry, answered, ruled, chained, lines_of, no_response, HasBytes, IsLine, IsReadAs, States, IsAtRoot, Begins, IsRepeated, HasItsBytes, AreHopsOf, no_hops, more_hops, IsHop, TellsHop, IsBadRow, IsBadBehind, LeadsOn}
 use Rattle.site_records.specs.inner.RecordNotes.{AddsNote}
 use Rattle.site_records.specs.inner.Readings.{Adds, AddsLines, IsWrong, IsWrongAt, IsWrongChain, IsBadHop, Takes, TakesEntry, IsAlone, IsBad, Reads, lines_to, IsCounted}
 use Rattle.address.specs.Address.{AddressText}
@@ -119,7 +119,7 @@ shorter_line text line behind is =
     let within = (position-Some (λ b. b == 10) text is.place 0 is.first).0 in
     rw (is.behind_is, length-drop) (omega (arith, within))
 
-shorter_told : (s : HopStatement) (behind : List ℕ) (told : Told) (after : List ℕ) → Tells s behind told after → length after ≤ length behind
+shorter_told : (s : HopStatement) (behind : List ℕ) (told : Told) (after : List ℕ) → TellsHop s behind told after → length after ≤ length behind
 shorter_told (hop text n) behind told after h = let (bytes, has, _) = h in shorter_bytes behind bytes after n has
 shorter_told (hopfault kind text) behind told after h = rw h.0 (omega arith)
 

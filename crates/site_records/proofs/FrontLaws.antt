@@ -10,19 +10,19 @@ use Rattle.site_records.specs.declared.version.Version.{Version}
 use Rattle.site_records.specs.declared.reading.Reading.{Reading}
 use Rattle.site_records.specs.Entries.{IsBadLine, IsBadAddress}
 use Rattle.site_records.specs.inner.Readings.{IsBad, fault_at}
-use Rattle.site_records.specs.Fronts.{HasNoLine, IsTorn, IsBadWhole, IsFrontFault, HasFront}
+use Rattle.site_records.specs.Fronts.{HasNoLine, IsTornEntry, IsBadWhole, IsFrontFault, HasFront}
 use Rattle.site_records.proofs.ReadLaws.{IsReadTo, first_bad_at}
 
 nothing_is_torn : (rest : List ℕ) → rest ≡ [] → HasNoLine rest
 nothing_is_torn [] e line behind is = let first = is.first in absurd cc
 nothing_is_torn (x ∷ xs) e line behind is = absurd cc
 
-some_left : (version : Version) (rest : List ℕ) → ¬ IsTorn version rest → rest ≢ []
+some_left : (version : Version) (rest : List ℕ) → ¬ IsTornEntry version rest → rest ≢ []
 some_left version rest whole e = whole (inl (nothing_is_torn rest e))
 
 -- a bad entry within which the bytes don't end is the first
 pub first_bad_whole : (robots : Bool) (bytes : List ℕ) (old : Reading) (number : ℕ) (rest : List ℕ) (f : EntryFault) → IsReadTo robots bytes old number rest
-    → ¬ IsTorn old.version rest → IsBad old rest f → IsFrontFault robots bytes (fault_at f (number + 1))
+    → ¬ IsTornEntry old.version rest → IsBad old rest f → IsFrontFault robots bytes (fault_at f (number + 1))
 first_bad_whole robots bytes old number rest (Own Line) s whole bad =
     inr (first_bad_at robots bytes old number rest (IsBadWhole IsBadLine) None (number + 1) s (some_left old.version rest whole) (omega arith) (bad, whole))
 first_bad_whole robots bytes old number rest (Own Address) s whole bad =
@@ -35,7 +35,7 @@ first_bad_whole robots bytes old number rest (Hop k Address) s whole bad =
 first_bad_whole robots bytes old number rest (Hop k Memory) s whole bad = tt
 
 -- what is read before an entry within which the bytes end is a front
-pub front_read : (robots : Bool) (bytes : List ℕ) (reading : Reading) (number : ℕ) (rest : List ℕ) → (s : IsReadTo robots bytes reading number rest) → IsTorn reading.version rest → HasFront robots bytes s.above rest
+pub front_read : (robots : Bool) (bytes : List ℕ) (reading : Reading) (number : ℕ) (rest : List ℕ) → (s : IsReadTo robots bytes reading number rest) → IsTornEntry reading.version rest → HasFront robots bytes s.above rest
 front_read robots bytes reading number rest s torn = record { version = reading.version; text = s.text; begins = s.begins; front = s.front; torn = torn }
 
 -- a text that begins with a line is this and a rest

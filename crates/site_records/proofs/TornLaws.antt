@@ -11,7 +11,7 @@ use Rattle.fetcher.proofs.FaultLaws.{kind_of, kind_of-word_of}
 use Rattle.site_records.specs.declared.version.Version.{Version}
 use Rattle.site_records.specs.EntryLines.{Statement, page, fault, file, free, closed, chain, IsForm, HasForm, length_of, HopStatement, hop, hopfault, IsHopForm, HasHopForm}
 use Rattle.site_records.specs.Entries.{IsLine, HasBytes, Begins, BeginsHop}
-use Rattle.site_records.specs.Fronts.{RunsOutIn, IsTornRow, RunsOut, IsTorn}
+use Rattle.site_records.specs.Fronts.{RunsOutIn, IsTornRow, RunsOut, IsTornEntry}
 use Rattle.site_records.proofs.EntryLaws.{same_line}
 
 -- ---- a line has one form
@@ -68,20 +68,20 @@ begins_hop_once text line behind s t after is form b =
 -- ---- an entry within which a text ends
 
 -- a text with a line that isn't UTF-8, or has no form, doesn't end within an entry
-pub without_form : (version : Version) (text line behind : List ℕ) → IsLine text line behind → ((s : Statement) → ¬ HasForm version line s) → ¬ IsTorn version text
+pub without_form : (version : Version) (text line behind : List ℕ) → IsLine text line behind → ((s : Statement) → ¬ HasForm version line s) → ¬ IsTornEntry version text
 without_form version text line behind is none (inl no_line) = no_line line behind is
 without_form version text line behind is none (inr (s, after, b, runs)) =
     let (lines, rests) = same_line text b.line line after behind b.is_line is in
     none s (subst (λ l. HasForm version l s) lines b.form)
 
 -- one whose line has a form does where what the line counts runs out
-pub with_form : (version : Version) (text line behind : List ℕ) (s : Statement) (P : Type 0) → IsLine text line behind → HasForm version line s → P ↔ RunsOut s behind → P ↔ IsTorn version text
+pub with_form : (version : Version) (text line behind : List ℕ) (s : Statement) (P : Type 0) → IsLine text line behind → HasForm version line s → P ↔ RunsOut s behind → P ↔ IsTornEntry version text
 with_form version text line behind s P is form iff = (
   (λ p. inr (s, behind, record { line = line; is_line = is; form = form }, iff.0 p)),
   back,
 )
   where
-    back : IsTorn version text → P
+    back : IsTornEntry version text → P
     back (inl no_line) = absurd (no_line line behind is)
     back (inr (t, after, b, runs)) =
         let (same, rests) = begins_once version text line behind s t after is form b in

@@ -6,8 +6,8 @@ use Rattle.std.specs.Str.{bytes_eq}
 use Rattle.address.specs.Address.{AddressText, OriginText, origin_of, path_query_of}
 use Rattle.robots_rules.specs.Access.{RuleSetValue}
 use Rattle.robots_rules.specs.Groups.{rules_in}
-use Rattle.response_reader.specs.Response.{ResponseParts, BeginsWith}
-use Rattle.response_reader.specs.ReadFaults.{IsFault, IsTextFault}
+use Rattle.response_reader.specs.Response.{ResponseParts, BeginsWithResponse}
+use Rattle.response_reader.specs.ReadFaults.{IsReadFault, IsTextFault}
 use Rattle.response_reader.specs.declared.fault.ReadFault.{ReadFault}
 use Rattle.fetcher.specs.declared.answer.Answer.{Answer}
 use Rattle.fetcher.specs.declared.fault_kind.FaultKind.{FaultKind}
@@ -47,7 +47,7 @@ no_response kind = record { outcome = Fault kind; body = [] }
 -- the bytes begin with a response, and the answer is its digest
 pub record IsDigest (robots : Bool) (at : AddressText) (bytes : List ℕ) (a : Answer) : Type 0 where
   pub response : ResponseParts
-  pub begins : BeginsWith response bytes
+  pub begins : BeginsWithResponse response bytes
   pub outcome : a.outcome ≡ digest_of robots at response
   pub body : a.body ≡ kept_body response.head.status response.body
 
@@ -56,7 +56,7 @@ pub record IsRefusal (bytes : List ℕ) (a : Answer) : Type 0 where
   pub fault : ReadFault
   pub kind : FaultKind
   pub text : IsTextFault fault
-  pub of_bytes : IsFault fault bytes
+  pub of_bytes : IsReadFault fault bytes
   pub kind_is : kind_of_fault fault ≡ Some kind
   pub answer : a ≡ no_response kind
 
@@ -83,13 +83,13 @@ pub record HasBytes (text : List ℕ) (n : ℕ) (bytes after : List ℕ) : Type 
 
 -- what bytes tell as the response for a hop: a response that they begin with, or the fault for which none is read of them
 abbrev pub IsToldIn : List ℕ → Told → Type 0
-IsToldIn bytes (told.Whole response) = BeginsWith response bytes
-IsToldIn bytes (told.Fault kind) = (f : ReadFault) × IsTextFault f × IsFault f bytes × (kind_of_fault f ≡ Some kind)
+IsToldIn bytes (told.Whole response) = BeginsWithResponse response bytes
+IsToldIn bytes (told.Fault kind) = (f : ReadFault) × IsTextFault f × IsReadFault f bytes × (kind_of_fault f ≡ Some kind)
 
 -- a line that says this of a hop and what is behind it tell this, and after follows
-abbrev pub Tells : HopStatement → List ℕ → Told → List ℕ → Type 0
-Tells (hop text n) behind said after = (bytes : List ℕ) × HasBytes behind n bytes after × IsToldIn bytes said
-Tells (hopfault kind text) behind said after = (after ≡ behind) × (said ≡ told.Fault kind)
+abbrev pub TellsHop : HopStatement → List ℕ → Told → List ℕ → Type 0
+TellsHop (hop text n) behind said after = (bytes : List ℕ) × HasBytes behind n bytes after × IsToldIn bytes said
+TellsHop (hopfault kind text) behind said after = (after ≡ behind) × (said ≡ told.Fault kind)
 
 -- the text begins with this hop, and after follows
 pub record IsHop (text : List ℕ) (h : HopValue) (after : List ℕ) : Type 0 where
@@ -100,7 +100,7 @@ pub record IsHop (text : List ℕ) (h : HopValue) (after : List ℕ) : Type 0 wh
   pub form : HasHopForm line says
   pub is_named : IsNamed (hop_text says)
   pub at : h.0 ≡ named (hop_text says)
-  pub tells : Tells says behind h.1 after
+  pub tells : TellsHop says behind h.1 after
 
 -- the text is these hops, and then a rest
 pub data AreHopsOf (text : List ℕ) : List HopValue → List ℕ → Type 0 where

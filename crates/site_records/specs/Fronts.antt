@@ -36,8 +36,8 @@ RunsOut (chain text n) behind = IsTornRow n behind
 RunsOut s behind = ⊥
 
 -- by what its lines count, the text ends within the entry of this version that it begins with
-abbrev pub IsTorn : Version → List ℕ → Type 0
-IsTorn version text = HasNoLine text ⊎ ((s : Statement) × (behind : List ℕ) × Begins version text s behind × RunsOut s behind)
+abbrev pub IsTornEntry : Version → List ℕ → Type 0
+IsTornEntry version text = HasNoLine text ⊎ ((s : Statement) × (behind : List ℕ) × Begins version text s behind × RunsOut s behind)
 
 -- the bytes are the first line of a version, these entries, each about an address or an origin that those before it don't name, and a rest within which the next one is torn
 pub record HasFront (robots : Bool) (bytes : List ℕ) (said : List Entry) (rest : List ℕ) : Type 0 where
@@ -45,7 +45,7 @@ pub record HasFront (robots : Bool) (bytes : List ℕ) (said : List Entry) (rest
   pub text : List ℕ
   pub begins : bytes ≡ version_line version ++ text
   pub front : IsFront version robots text said rest
-  pub torn : IsTorn version rest
+  pub torn : IsTornEntry version rest
 
 -- the bytes end within the first line of version 2
 abbrev pub IsTornFirst : List ℕ → Type 0
@@ -61,7 +61,7 @@ IsFrontRead robots bytes site len =
 -- the entry is bad so, and the text doesn't end within it
 abbrev pub IsBadWhole : (Version → List (AddressText × Answer) → List (OriginText × RuleSetValue) → Option ℕ → List ℕ → Type 0)
     → Version → List (AddressText × Answer) → List (OriginText × RuleSetValue) → Option ℕ → List ℕ → Type 0
-IsBadWhole IsBad version answers rules place rest = IsBad version answers rules place rest × ¬ IsTorn version rest
+IsBadWhole IsBad version answers rules place rest = IsBad version answers rules place rest × ¬ IsTornEntry version rest
 
 -- what a fault says of the bytes: the first line, unless it is torn, or a line of the first entry that is bad and not torn; of Memory nothing
 abbrev pub IsFrontFault : Bool → List ℕ → InputFault → Type 0

@@ -54,8 +54,8 @@ abbrev pub GivesAnswer : RecordedAnswers → AddressText → Outcome → List �
 GivesAnswer site at x body = (x ≡ (site.answer at).outcome) × (body ≡ (site.answer at).body)
 
 -- such a site gives an origin its rule set
-abbrev pub GivesRules : RecordedAnswers → OriginText → RuleSetValue → Type 0
-GivesRules site of r = r ≡ site.rules of
+abbrev pub RecordGivesRules : RecordedAnswers → OriginText → RuleSetValue → Type 0
+RecordGivesRules site of r = r ≡ site.rules of
 
 -- ---- which bytes are a record
 

@@ -204,7 +204,7 @@ impl Fetcher for RecordedSite {
     ghost use Rattle.fetcher.specs.declared.outcome.Outcome.{Outcome};
     ghost use Rattle.fetcher.specs.declared.fetcher.Ask.TheVariants.{Page, Rules};
     ghost use Rattle.fetcher.specs.Logs.{GainedAtMost};
-    ghost use Rattle.site_records.specs.Records.{RecordedAnswers, GivesAnswer, GivesRules, says_of};
+    ghost use Rattle.site_records.specs.Records.{RecordedAnswers, GivesAnswer, RecordGivesRules, says_of};
 
     ghost Site = { RecordedAnswers };
 
@@ -212,7 +212,7 @@ impl Fetcher for RecordedSite {
 
     ghost says = { GivesAnswer };
 
-    ghost rules = { GivesRules };
+    ghost rules = { RecordGivesRules };
 
     ghost log = { λ m. m.asks };
 

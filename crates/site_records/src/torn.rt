@@ -1,6 +1,6 @@
 //! Entries within which a text ends, as one does that was cut.
 ghost use Rattle.std.specs.Prelude.{◌↔◌, IsTrue};
-ghost use Rattle.site_records.specs.Fronts.{IsTorn, IsTornRow, RunsOut, RunsOutIn};
+ghost use Rattle.site_records.specs.Fronts.{IsTornEntry, IsTornRow, RunsOut, RunsOutIn};
 ghost use Rattle.site_records.specs.inner.Said.{said, said_hop};
 
 use crate::entry_line::EntryLine;
@@ -10,7 +10,7 @@ use crate::version::Version;
 
 /// Whether a text ends, by what its lines count, within the entry that it begins with. Takes no memory.
 pub(crate) fn is_torn(version: Version, text: &[u8]) -> bool
-    ensures { IsTrue result ↔ IsTorn version text.now }
+    ensures { IsTrue result ↔ IsTornEntry version text.now }
 {
     let Some((line, behind)) = first_text_line(text) else {
         return first_line(text).is_none();

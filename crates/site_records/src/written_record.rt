@@ -6,7 +6,7 @@ ghost use Rattle.answer_notes.specs.declared.noted.Noted.{Noted};
 ghost use Rattle.site_records.specs.Records.{IsRecord};
 ghost use Rattle.site_records.specs.WrittenRecords.{is_repeated, written_notes, record_text, record_entries, all_noted};
 ghost use Rattle.site_records.specs.Fronts.{IsReadCut};
-ghost use Rattle.site_records.specs.inner.RecordDrafts.{AreNamed, IsDraft};
+ghost use Rattle.site_records.specs.inner.RecordDrafts.{AreDraftsNamed, IsDraft};
 
 use crate::note_entry::push_note;
 use crate::record_fault::RecordFault;
@@ -27,7 +27,7 @@ struct Named<'a> {
 impl<'a> Named<'a> {
     // Those of no notes. Takes no memory.
     fn new(alloc: Global) -> Named<'a>
-        ensures { AreNamed result [] }
+        ensures { AreDraftsNamed result [] }
     {
         Named {
             addresses: IndexSet::new(alloc),
@@ -37,8 +37,8 @@ impl<'a> Named<'a> {
 
     // Adds that of one more note, and tells whether none of the notes so far has it. The error is want of memory.
     fn add(&mut self, note: &'a Noted) -> Result<bool, AllocError>
-        ensures { IfOk result (λ is_new. (notes : List Noted) → AreNamed self.old notes
-            → AreNamed self.new (notes ++ note.now ∷ []) × (is_new ≡ not (is_repeated notes note.now))) }
+        ensures { IfOk result (λ is_new. (notes : List Noted) → AreDraftsNamed self.old notes
+            → AreDraftsNamed self.new (notes ++ note.now ∷ []) × (is_new ≡ not (is_repeated notes note.now))) }
     {
         match note {
             Noted::Page(at, _) => Ok(self.addresses.insert(at.as_str())?),

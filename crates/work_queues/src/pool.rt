@@ -1,7 +1,7 @@
 //! Numbers by host: which of them are in, and which hosts have one that is.
 ghost use Rattle.std.specs.Prelude.{◌≡◌, ◌<◌, ◌+◌, ℕ, Bool, false, [], ◌∷◌, ◌++◌, Some, true, length, slice_get, slice_set, vec_len, OnOk, OnErr, IfOk};
 ghost use Rattle.work_queues.specs.Queues.{Seat, IsPlaced, seats, queued_of, numbers_of};
-ghost use Rattle.work_queues.specs.inner.Queues.{HasRoom};
+ghost use Rattle.work_queues.specs.inner.Queues.{HostHasRoom};
 ghost use Rattle.work_queues.specs.Pools.{IsPool};
 
 use crate::queues::Queues;
@@ -50,7 +50,7 @@ impl Pool {
         ensures pool { IsPool self.new }
         ensures seats { seats self.new.numbers ≡ seats self.old.numbers }
         ensures hosts { vec_len self.new.numbers.queues ≡ vec_len self.old.numbers.queues }
-        ensures room { OnOk result (HasRoom self.new.numbers host) }
+        ensures room { OnOk result (HostHasRoom self.new.numbers host) }
     {
         self.numbers.reserve(host)
     }
@@ -58,7 +58,7 @@ impl Pool {
     /// One number more, which belongs to this host and isn't in. Takes no memory.
     pub(crate) fn add(&mut self, host: usize)
         requires pool { IsPool self.old }
-        requires room { HasRoom self.old.numbers host }
+        requires room { HostHasRoom self.old.numbers host }
         ensures pool { IsPool self.new }
         ensures seats { seats self.new.numbers ≡ seats self.old.numbers ++ record { queue = host; is_queued = false } ∷ [] }
         ensures hosts { vec_len self.new.numbers.queues ≡ vec_len self.old.numbers.queues }

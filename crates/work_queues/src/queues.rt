@@ -1,7 +1,7 @@
 //! Queues of numbers: each number belongs to one queue, and is in it or not. A queue gives the number of the least label first, and of equal labels the least number.
 ghost use Rattle.std.specs.Prelude.{◌≡◌, ◌≢◌, ◌<◌, ◌≤◌, ◌+◌, ◌-◌, ℕ, true, false, [], ◌∷◌, ◌++◌, Some, length, slice_get, slice_set, nat_lt, vec_len, OnOk, OnErr, IfSome, IfNone};
 ghost use Rattle.work_queues.specs.Queues.{Seat, numbers_of, queued_of, seats, IsPlaced};
-ghost use Rattle.work_queues.specs.inner.Queues.{IsRearranged, HasRoom};
+ghost use Rattle.work_queues.specs.inner.Queues.{IsRearranged, HostHasRoom};
 
 use std::alloc::{AllocError, Global};
 
@@ -119,7 +119,7 @@ impl Queues {
         requires placed { IsPlaced self.old }
         requires queue { queue < vec_len self.old.queues }
         ensures same { IsRearranged self.old self.new }
-        ensures room { OnOk result (HasRoom self.new queue) }
+        ensures room { OnOk result (HostHasRoom self.new queue) }
     {
         self.queues[queue].members.reserve(1)?;
         self.places.reserve(1)?;
@@ -129,7 +129,7 @@ impl Queues {
     /// One number more, which belongs to this queue and isn't in it. Takes no memory.
     pub(crate) fn add(&mut self, queue: usize)
         requires placed { IsPlaced self.old }
-        requires room { HasRoom self.old queue }
+        requires room { HostHasRoom self.old queue }
         ensures placed { IsPlaced self.new }
         ensures seats { seats self.new ≡ seats self.old ++ record { queue = queue; is_queued = false } ∷ [] }
         ensures queues { vec_len self.new.queues ≡ vec_len self.old.queues }

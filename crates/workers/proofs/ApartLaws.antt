@@ -14,7 +14,7 @@ use Rattle.std.specs.List.Sorted.{IsSortedBy, IsBinarySearchResult}
 use Rattle.std.specs.Ordering.{nat_cmp, is_lt, ordering_reverse}
 use Rattle.frontier_core.specs.Tables.{Text, IsOnce}
 use Rattle.frontier_core.proofs.RouteLaws.{contains_tail, contains_cases}
-use Rattle.workers.specs.inner.Apart.{AreInOrder, IsOrdered, AreApart}
+use Rattle.workers.specs.inner.Apart.{AreInOrder, IsOrdered, AreNotedApart}
 use Rattle.workers.specs.declared.note.PageNote.{PageNote}
 use Rattle.workers.specs.declared.note.RulesNote.{RulesNote}
 use Rattle.workers.specs.declared.worker.Seat.{Seat}
@@ -73,15 +73,15 @@ module _ {X : Type 0} (key : X → Text) where
   ]
 
   -- what holds of each thing holds of what is named among them
-  pub apart_each : (xs : List X) (names : List Text) → ((k : ℕ) (d : X) → k < length xs → ¬ Contains names (key (get_or xs k d))) → AreApart (map key xs) names
+  pub apart_each : (xs : List X) (names : List Text) → ((k : ℕ) (d : X) → k < length xs → ¬ Contains names (key (get_or xs k d))) → AreNotedApart (map key xs) names
   apart_each xs names all = record { apart = each_named xs names all }
 
 -- ---- names of several lists
 
-pub apart_none : (names : List Text) → AreApart names []
+pub apart_none : (names : List Text) → AreNotedApart names []
 apart_none names = record { apart = λ u here among. (let (k, lt, is) = among in absurd (omega arith)) }
 
-pub apart_both : (names us vs : List Text) → AreApart names us → AreApart names vs → AreApart names (us ++ vs)
+pub apart_both : (names us vs : List Text) → AreNotedApart names us → AreNotedApart names vs → AreNotedApart names (us ++ vs)
 apart_both names us vs first second = record {
   apart = λ u here among. elim (Contains-append_cases us vs u among) [
     | inl left ↦ first.apart u here left
@@ -89,7 +89,7 @@ apart_both names us vs first second = record {
   ];
 }
 
-pub once_both : (us vs : List Text) → IsOnce us → IsOnce vs → AreApart us vs → IsOnce (us ++ vs)
+pub once_both : (us vs : List Text) → IsOnce us → IsOnce vs → AreNotedApart us vs → IsOnce (us ++ vs)
 once_both [] vs first second apart = second
 once_both (u ∷ us) vs first second apart = (
   (λ among. elim (Contains-append_cases us vs u among) [
@@ -110,35 +110,35 @@ module _ {F : Type 0} where
   pub order_first : (seat : Seat F) (seats : List (Seat F)) → AreInOrder seat.notes → All (λ (s : Seat F). AreInOrder s.notes) seats → All (λ (s : Seat F). AreInOrder s.notes) (seat ∷ seats)
   order_first seat seats first rest = All-cons (λ (s : Seat F). AreInOrder s.notes) seat seats first rest
 
-  pub pages_apart : (names : List Text) (seat : Seat F) (seats : List (Seat F)) → AreApart names (addresses seat.notes.pages.items) → AreApart names (addresses (page_notes seats))
-      → AreApart names (addresses (page_notes (seat ∷ seats)))
-  pages_apart names seat seats first second = subst (λ (us : List Text). AreApart names us) (sym (map-append (λ (note : PageNote). note.address) seat.notes.pages.items (page_notes seats)))
+  pub pages_apart : (names : List Text) (seat : Seat F) (seats : List (Seat F)) → AreNotedApart names (addresses seat.notes.pages.items) → AreNotedApart names (addresses (page_notes seats))
+      → AreNotedApart names (addresses (page_notes (seat ∷ seats)))
+  pages_apart names seat seats first second = subst (λ (us : List Text). AreNotedApart names us) (sym (map-append (λ (note : PageNote). note.address) seat.notes.pages.items (page_notes seats)))
       (apart_both names (addresses seat.notes.pages.items) (addresses (page_notes seats)) first second)
 
-  pub rules_apart : (names : List Text) (seat : Seat F) (seats : List (Seat F)) → AreApart names (origins seat.notes.rules.items) → AreApart names (origins (rules_notes seats))
-      → AreApart names (origins (rules_notes (seat ∷ seats)))
-  rules_apart names seat seats first second = subst (λ (us : List Text). AreApart names us) (sym (map-append (λ (note : RulesNote). note.origin) seat.notes.rules.items (rules_notes seats)))
+  pub rules_apart : (names : List Text) (seat : Seat F) (seats : List (Seat F)) → AreNotedApart names (origins seat.notes.rules.items) → AreNotedApart names (origins (rules_notes seats))
+      → AreNotedApart names (origins (rules_notes (seat ∷ seats)))
+  rules_apart names seat seats first second = subst (λ (us : List Text). AreNotedApart names us) (sym (map-append (λ (note : RulesNote). note.origin) seat.notes.rules.items (rules_notes seats)))
       (apart_both names (origins seat.notes.rules.items) (origins (rules_notes seats)) first second)
 
-  pub pages_once : (seat : Seat F) (seats : List (Seat F)) → AreInOrder seat.notes → IsOnce (addresses (page_notes seats)) → AreApart (addresses seat.notes.pages.items) (addresses (page_notes seats))
+  pub pages_once : (seat : Seat F) (seats : List (Seat F)) → AreInOrder seat.notes → IsOnce (addresses (page_notes seats)) → AreNotedApart (addresses seat.notes.pages.items) (addresses (page_notes seats))
       → IsOnce (addresses (page_notes (seat ∷ seats)))
   pages_once seat seats order once apart = subst IsOnce (sym (map-append (λ (note : PageNote). note.address) seat.notes.pages.items (page_notes seats)))
       (once_both (addresses seat.notes.pages.items) (addresses (page_notes seats)) (once_ascending (addresses seat.notes.pages.items) order.pages) once apart)
 
-  pub rules_once : (seat : Seat F) (seats : List (Seat F)) → AreInOrder seat.notes → IsOnce (origins (rules_notes seats)) → AreApart (origins seat.notes.rules.items) (origins (rules_notes seats))
+  pub rules_once : (seat : Seat F) (seats : List (Seat F)) → AreInOrder seat.notes → IsOnce (origins (rules_notes seats)) → AreNotedApart (origins seat.notes.rules.items) (origins (rules_notes seats))
       → IsOnce (origins (rules_notes (seat ∷ seats)))
   rules_once seat seats order once apart = subst IsOnce (sym (map-append (λ (note : RulesNote). note.origin) seat.notes.rules.items (rules_notes seats)))
       (once_both (origins seat.notes.rules.items) (origins (rules_notes seats)) (once_ascending (origins seat.notes.rules.items) order.rules) once apart)
 
-  pub pages_apart_first : (names : List Text) (seats : List (Seat F)) (seat : Seat F) → 1 ≤ length seats → seat ≡ get_or seats 0 seat → AreApart names (addresses seat.notes.pages.items)
-      → AreApart names (addresses (page_notes (take (length seats - 1) (drop 1 seats)))) → AreApart names (addresses (page_notes seats))
+  pub pages_apart_first : (names : List Text) (seats : List (Seat F)) (seat : Seat F) → 1 ≤ length seats → seat ≡ get_or seats 0 seat → AreNotedApart names (addresses seat.notes.pages.items)
+      → AreNotedApart names (addresses (page_notes (take (length seats - 1) (drop 1 seats)))) → AreNotedApart names (addresses (page_notes seats))
   pages_apart_first names seats seat some is first rest =
-      subst (λ (ss : List (Seat F)). AreApart names (addresses (page_notes ss))) (sym (by_first seats seat some is)) (pages_apart names seat (take (length seats - 1) (drop 1 seats)) first rest)
+      subst (λ (ss : List (Seat F)). AreNotedApart names (addresses (page_notes ss))) (sym (by_first seats seat some is)) (pages_apart names seat (take (length seats - 1) (drop 1 seats)) first rest)
 
-  pub rules_apart_first : (names : List Text) (seats : List (Seat F)) (seat : Seat F) → 1 ≤ length seats → seat ≡ get_or seats 0 seat → AreApart names (origins seat.notes.rules.items)
-      → AreApart names (origins (rules_notes (take (length seats - 1) (drop 1 seats)))) → AreApart names (origins (rules_notes seats))
+  pub rules_apart_first : (names : List Text) (seats : List (Seat F)) (seat : Seat F) → 1 ≤ length seats → seat ≡ get_or seats 0 seat → AreNotedApart names (origins seat.notes.rules.items)
+      → AreNotedApart names (origins (rules_notes (take (length seats - 1) (drop 1 seats)))) → AreNotedApart names (origins (rules_notes seats))
   rules_apart_first names seats seat some is first rest =
-      subst (λ (ss : List (Seat F)). AreApart names (origins (rules_notes ss))) (sym (by_first seats seat some is)) (rules_apart names seat (take (length seats - 1) (drop 1 seats)) first rest)
+      subst (λ (ss : List (Seat F)). AreNotedApart names (origins (rules_notes ss))) (sym (by_first seats seat some is)) (rules_apart names seat (take (length seats - 1) (drop 1 seats)) first rest)
 
   pub first_order : (seats : List (Seat F)) (seat : Seat F) → 1 ≤ length seats → seat ≡ get_or seats 0 seat → All (λ (s : Seat F). AreInOrder s.notes) seats → AreInOrder seat.notes
   first_order seats seat some is order = subst (λ (s : Seat F). AreInOrder s.notes) (sym is) (order 0 seat (omega arith))
@@ -149,12 +149,12 @@ module _ {F : Type 0} where
       All-take (λ (s : Seat F). AreInOrder s.notes) n (drop 1 seats) (All-drop (λ (s : Seat F). AreInOrder s.notes) 1 seats order)
 
   pub pages_once_first : (seats : List (Seat F)) (seat : Seat F) → 1 ≤ length seats → seat ≡ get_or seats 0 seat → All (λ (s : Seat F). AreInOrder s.notes) seats
-      → IsOnce (addresses (page_notes (take (length seats - 1) (drop 1 seats)))) → AreApart (addresses seat.notes.pages.items) (addresses (page_notes (take (length seats - 1) (drop 1 seats)))) → IsOnce (addresses (page_notes seats))
+      → IsOnce (addresses (page_notes (take (length seats - 1) (drop 1 seats)))) → AreNotedApart (addresses seat.notes.pages.items) (addresses (page_notes (take (length seats - 1) (drop 1 seats)))) → IsOnce (addresses (page_notes seats))
   pages_once_first seats seat some is order once apart =
       subst (λ (ss : List (Seat F)). IsOnce (addresses (page_notes ss))) (sym (by_first seats seat some is)) (pages_once seat (take (length seats - 1) (drop 1 seats)) (first_order seats seat some is order) once apart)
 
   pub rules_once_first : (seats : List (Seat F)) (seat : Seat F) → 1 ≤ length seats → seat ≡ get_or seats 0 seat → All (λ (s : Seat F). AreInOrder s.notes) seats
-      → IsOnce (origins (rules_notes (take (length seats - 1) (drop 1 seats)))) → AreApart (origins seat.notes.rules.items) (origins (rules_notes (take (length seats - 1) (drop 1 seats)))) → IsOnce (origins (rules_notes seats))
+      → IsOnce (origins (rules_notes (take (length seats - 1) (drop 1 seats)))) → AreNotedApart (origins seat.notes.rules.items) (origins (rules_notes (take (length seats - 1) (drop 1 seats)))) → IsOnce (origins (rules_notes seats))
   rules_once_first seats seat some is order once apart =
       subst (λ (ss : List (Seat F)). IsOnce (origins (rules_notes ss))) (sym (by_first seats seat some is)) (rules_once seat (take (length seats - 1) (drop 1 seats)) (first_order seats seat some is order) once apart)
 

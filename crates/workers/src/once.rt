@@ -3,7 +3,7 @@
 ghost use Rattle.std.specs.Prelude.{◌≡◌, IsTrue, All, IsPermutation};
 ghost use Rattle.std.specs.List.{AllZip};
 ghost use Rattle.frontier_core.specs.Tables.{IsOnce};
-ghost use Rattle.workers.specs.inner.Apart.{AreInOrder, IsOrdered, AreApart};
+ghost use Rattle.workers.specs.inner.Apart.{AreInOrder, IsOrdered, AreNotedApart};
 ghost use Rattle.workers.specs.inner.Notes.{addresses, origins};
 ghost use Rattle.address.specs.AddressOrder.{IsAscending};
 ghost use Rattle.workers.specs.inner.Seats.{page_notes, rules_notes};
@@ -53,7 +53,7 @@ fn sort_all<F>(seats: &mut [Seat<F>]) -> bool
 // Whether none of these pages was noted among the others, which are in order.
 fn are_pages_apart(notes: &[PageNote], others: &[PageNote]) -> bool
     requires { IsAscending (addresses others.now) }
-    ensures { IsTrue result → AreApart (addresses notes.now) (addresses others.now) }
+    ensures { IsTrue result → AreNotedApart (addresses notes.now) (addresses others.now) }
 {
     for note in notes {
         if is_noted(others, &note.address) {
@@ -66,7 +66,7 @@ fn are_pages_apart(notes: &[PageNote], others: &[PageNote]) -> bool
 // Whether none of these origins was noted among the others, which are in order.
 fn are_rules_apart(notes: &[RulesNote], others: &[RulesNote]) -> bool
     requires { IsAscending (origins others.now) }
-    ensures { IsTrue result → AreApart (origins notes.now) (origins others.now) }
+    ensures { IsTrue result → AreNotedApart (origins notes.now) (origins others.now) }
 {
     for note in notes {
         if is_origin_noted(others, &note.origin) {
@@ -80,8 +80,8 @@ fn are_rules_apart(notes: &[RulesNote], others: &[RulesNote]) -> bool
 #[tactic(auto, using(crate::proofs::ApartLaws::apart_none))]
 fn is_apart<F>(notes: &Notes, seats: &[Seat<F>]) -> bool
     requires { All (λ seat. AreInOrder seat.notes) seats.now }
-    ensures pages { IsTrue result → AreApart (addresses notes.now.pages.items) (addresses (page_notes seats.now)) }
-    ensures rules { IsTrue result → AreApart (origins notes.now.rules.items) (origins (rules_notes seats.now)) }
+    ensures pages { IsTrue result → AreNotedApart (addresses notes.now.pages.items) (addresses (page_notes seats.now)) }
+    ensures rules { IsTrue result → AreNotedApart (origins notes.now.rules.items) (origins (rules_notes seats.now)) }
 {
     let [seat, others @ ..] = seats else {
         return true;

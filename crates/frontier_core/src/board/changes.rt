@@ -3,7 +3,7 @@ ghost use Rattle.std.specs.Prelude.{◌≡◌, ◌<◌, length, map, slice_get, 
 ghost use Rattle.fetcher.specs.Outcomes.{edges};
 ghost use Rattle.frontier_core.specs.Tables.{lookup};
 ghost use Rattle.frontier_core.specs.Machine.{Slot as Held, Out, Worker, Nobody, Answered, Asked, Known, halted, with_entry, with_origin, slot, again, offering_of, unparked, ruled};
-ghost use Rattle.frontier_core.specs.inner.TableCalls.{key_at, settled_all, spread_over};
+ghost use Rattle.frontier_core.specs.inner.TableCalls.{key_numbered, settled_all, spread_over};
 ghost use Rattle.frontier_core.specs.inner.Agendas.{task_of};
 ghost use Rattle.frontier_core.specs.inner.Counters.{share_of, HasShare, Recounts};
 ghost use Rattle.frontier_core.specs.Plans.{policy};
@@ -26,8 +26,8 @@ impl Board {
     /// The work on the address of that number has come so far.
     fn advance(&mut self, i: usize, progress: Progress)
         requires { i < length self.old.entries }
-        ensures { (old : Held) × (lookup self.old.entries (key_at self.old.entries i) ≡ Some old)
-            × (self.new ≡ with_entry self.old (key_at self.old.entries i) (slot old.depth progress)) }
+        ensures { (old : Held) × (lookup self.old.entries (key_numbered self.old.entries i) ≡ Some old)
+            × (self.new ≡ with_entry self.old (key_numbered self.old.entries i) (slot old.depth progress)) }
     {
         let share = self.entries.progress(i).share();
         self.entries.set_progress(i, progress);
@@ -43,8 +43,8 @@ impl Board {
     /// The address of that number is asked for by the worker.
     pub fn give_out(&mut self, i: usize, worker: u32)
         requires { i < length self.old.entries }
-        ensures { (old : Held) × (lookup self.old.entries (key_at self.old.entries i) ≡ Some old)
-            × (self.new ≡ with_entry self.old (key_at self.old.entries i) (slot old.depth (Out (Worker worker)))) }
+        ensures { (old : Held) × (lookup self.old.entries (key_numbered self.old.entries i) ≡ Some old)
+            × (self.new ≡ with_entry self.old (key_numbered self.old.entries i) (slot old.depth (Out (Worker worker)))) }
     {
         self.advance(i, Progress::out(worker));
     }
@@ -52,8 +52,8 @@ impl Board {
     /// The address of that number is given up, and the work stops where it hasn't yet.
     pub fn abandon(&mut self, i: usize, cause: Cause)
         requires { i < length self.old.entries }
-        ensures { (old : Held) × (lookup self.old.entries (key_at self.old.entries i) ≡ Some old)
-            × (self.new ≡ with_entry (halted self.old cause) (key_at self.old.entries i) (slot old.depth (Out Nobody))) }
+        ensures { (old : Held) × (lookup self.old.entries (key_numbered self.old.entries i) ≡ Some old)
+            × (self.new ≡ with_entry (halted self.old cause) (key_numbered self.old.entries i) (slot old.depth (Out Nobody))) }
     {
         self.give_up(i);
         self.halt(cause);
@@ -62,8 +62,8 @@ impl Board {
     /// The address of that number is asked for by nobody any more.
     fn give_up(&mut self, i: usize)
         requires { i < length self.old.entries }
-        ensures { (old : Held) × (lookup self.old.entries (key_at self.old.entries i) ≡ Some old)
-            × (self.new ≡ with_entry self.old (key_at self.old.entries i) (slot old.depth (Out Nobody))) }
+        ensures { (old : Held) × (lookup self.old.entries (key_numbered self.old.entries i) ≡ Some old)
+            × (self.new ≡ with_entry self.old (key_numbered self.old.entries i) (slot old.depth (Out Nobody))) }
     {
         self.advance(i, Progress::given_up());
     }
@@ -78,8 +78,8 @@ impl Board {
     /// The address of that number is answered.
     pub fn record(&mut self, i: usize, outcome: Outcome)
         requires { i < length self.old.entries }
-        ensures { (old : Held) × (lookup self.old.entries (key_at self.old.entries i) ≡ Some old)
-            × (self.new ≡ with_entry self.old (key_at self.old.entries i) (slot old.depth (Answered outcome (offering_of (edges outcome))))) }
+        ensures { (old : Held) × (lookup self.old.entries (key_numbered self.old.entries i) ≡ Some old)
+            × (self.new ≡ with_entry self.old (key_numbered self.old.entries i) (slot old.depth (Answered outcome (offering_of (edges outcome))))) }
     {
         self.advance(i, Progress::answered(outcome));
     }
@@ -114,7 +114,7 @@ impl Board {
     /// The robots rules of the origin at that place are asked for by nobody any more.
     fn give_up_rules(&mut self, i: usize)
         requires { i < length self.old.origins }
-        ensures { self.new ≡ with_origin self.old (key_at self.old.origins i) (Asked Nobody) }
+        ensures { self.new ≡ with_origin self.old (key_numbered self.old.origins i) (Asked Nobody) }
     {
         self.origins[i].give_up(&mut self.counters);
     }
@@ -133,7 +133,7 @@ impl Board {
     /// The robots rules of the origin at that place are these.
     fn know(&mut self, i: usize, rules: RuleSet)
         requires { i < length self.old.origins }
-        ensures { self.new ≡ with_origin self.old (key_at self.old.origins i) (Known rules) }
+        ensures { self.new ≡ with_origin self.old (key_numbered self.old.origins i) (Known rules) }
     {
         self.origins[i].know(rules, &mut self.counters);
     }
@@ -150,8 +150,8 @@ impl Board {
     /// The address of that number, where it is parked and of the origin, waits from now on, or is refused.
     fn settle(&mut self, plan: &Plan, origin: &Origin, rules: &RuleSet, i: usize)
         requires { i < length self.old.entries }
-        ensures { (old : Held) × (lookup self.old.entries (key_at self.old.entries i) ≡ Some old)
-            × (self.new ≡ with_entry self.old (key_at self.old.entries i) (slot old.depth (unparked (policy plan.now) origin.now rules.now (key_at self.old.entries i) old.progress))) }
+        ensures { (old : Held) × (lookup self.old.entries (key_numbered self.old.entries i) ≡ Some old)
+            × (self.new ≡ with_entry self.old (key_numbered self.old.entries i) (slot old.depth (unparked (policy plan.now) origin.now rules.now (key_numbered self.old.entries i) old.progress))) }
     {
         // The plan is named by the contract alone.
         let _ = plan;
@@ -165,8 +165,8 @@ impl Board {
     /// All edges of the address of that number have been offered.
     pub(super) fn mark_spread(&mut self, i: usize)
         requires { i < length self.old.entries }
-        ensures { (old : Held) × (lookup self.old.entries (key_at self.old.entries i) ≡ Some old)
-            × (self.new ≡ with_entry self.old (key_at self.old.entries i) (slot old.depth (spread_over old.progress))) }
+        ensures { (old : Held) × (lookup self.old.entries (key_numbered self.old.entries i) ≡ Some old)
+            × (self.new ≡ with_entry self.old (key_numbered self.old.entries i) (slot old.depth (spread_over old.progress))) }
     {
         let share = self.entries.progress(i).share();
         self.entries.mark_spread(i);
@@ -182,9 +182,9 @@ impl Board {
     /// The label of the address of that number falls to this depth.
     pub(super) fn lower(&mut self, i: usize, depth: u32)
         requires place { i < length self.old.entries }
-        requires less { (old : Held) → lookup self.old.entries (key_at self.old.entries i) ≡ Some old → depth < old.depth }
-        ensures { (old : Held) × (lookup self.old.entries (key_at self.old.entries i) ≡ Some old)
-            × (self.new ≡ with_entry self.old (key_at self.old.entries i) (slot depth (again old.progress))) }
+        requires less { (old : Held) → lookup self.old.entries (key_numbered self.old.entries i) ≡ Some old → depth < old.depth }
+        ensures { (old : Held) × (lookup self.old.entries (key_numbered self.old.entries i) ≡ Some old)
+            × (self.new ≡ with_entry self.old (key_numbered self.old.entries i) (slot depth (again old.progress))) }
     {
         let share = self.entries.progress(i).share();
         self.entries.lower(i, depth);

@@ -6,10 +6,10 @@ ghost use Rattle.address.specs.Address.{origin_of};
 ghost use Rattle.frontier_core.specs.Machine.{Slot as Held, slot_outcome, Parked, Waiting, slot, arrival, rules_in, asked_count, IsDue, IsQuiet, HasRoom};
 ghost use Rattle.frontier_core.specs.Invariants.{IsOverfull, IsStuck, IsGivenUp, AreRulesGivenUp};
 ghost use Rattle.frontier_core.specs.Owed.{owed, out_to_workers, asked_by_workers};
-ghost use Rattle.frontier_core.specs.inner.TableCalls.{key_at};
+ghost use Rattle.frontier_core.specs.inner.TableCalls.{key_numbered};
 ghost use Rattle.frontier_core.specs.Counters.{left_of};
 ghost use Rattle.frontier_core.specs.Plans.{policy};
-ghost use Rattle.frontier_core.specs.Traced.{HasPage, HasRules, IsOutTo, IsAskedBy};
+ghost use Rattle.frontier_core.specs.Traced.{HasWaitingPage, HasRules, IsOutTo, IsAskedBy};
 
 use crate::board::Board;
 use crate::following::{admits, weight};
@@ -23,7 +23,7 @@ use robots_rules::RuleSet;
 impl Board {
     /// The number of an address.
     pub(super) fn find(&self, address: &Address) -> Option<usize>
-        ensures held { IfSome result (λ i. (i < length self.now.entries) × (key_at self.now.entries i ≡ address.now)) }
+        ensures held { IfSome result (λ i. (i < length self.now.entries) × (key_numbered self.now.entries i ≡ address.now)) }
         ensures absent { IfNone result (lookup self.now.entries address.now ≡ None) }
     {
         self.entries.find(address)
@@ -31,7 +31,7 @@ impl Board {
 
     /// The number of an address that is due.
     pub fn find_due(&self) -> Option<usize>
-        ensures found { IfSome result (λ i. (i < length self.now.entries) × ((d : ℕ) × IsDue self.now (key_at self.now.entries i) d)) }
+        ensures found { IfSome result (λ i. (i < length self.now.entries) × ((d : ℕ) × IsDue self.now (key_numbered self.now.entries i) d)) }
         ensures none { IfNone result ((u : Text) (d : ℕ) → IsDue self.now u d → ⊥) }
     {
         self.agenda.first_due()
@@ -39,7 +39,7 @@ impl Board {
 
     /// The place of an origin in the order of asking.
     pub(super) fn find_origin(&self, origin: &Origin) -> Option<usize>
-        ensures held { IfSome result (λ i. (i < length self.now.origins) × (key_at self.now.origins i ≡ origin.now)) }
+        ensures held { IfSome result (λ i. (i < length self.now.origins) × (key_numbered self.now.origins i ≡ origin.now)) }
         ensures absent { IfNone result (lookup self.now.origins origin.now ≡ None) }
     {
         self.origins.get_index_of(origin)
@@ -99,7 +99,7 @@ impl Board {
     fn is_stuck(&self, plan: &Plan, at: usize) -> bool
         requires place { at < length self.now.entries }
         requires sum { (u : Text) (held : Held) → lookup self.now.entries u ≡ Some held → held.depth + 1 < 2 ^ 32 }
-        ensures { IsTrue result ↔ ((d : ℕ) × (k : ℕ) × IsStuck (policy plan.now) self.now d (key_at self.now.entries at) k) }
+        ensures { IsTrue result ↔ ((d : ℕ) × (k : ℕ) × IsStuck (policy plan.now) self.now d (key_numbered self.now.entries at) k) }
     {
         let depth = self.depth_at(at);
         for k in 0..self.edge_count(at) {
@@ -140,7 +140,7 @@ impl Board {
     /// Whether one more permit may be given of the origin of the address of that number.
     fn has_room(&self, plan: &Plan, i: usize) -> bool
         requires { i < length self.now.entries }
-        ensures { IsTrue result ↔ HasRoom (policy plan.now) self.now (origin_of (key_at self.now.entries i)) }
+        ensures { IsTrue result ↔ HasRoom (policy plan.now) self.now (origin_of (key_numbered self.now.entries i)) }
     {
         let most = plan.per_host as usize;
         let pages = self.agenda.out(i);
@@ -151,9 +151,9 @@ impl Board {
     /// has room for a permit.
     pub fn find_rules(&self, plan: &Plan) -> Option<usize>
         ensures found { IfSome result (λ i. (i < length self.now.entries)
-            × ((d : ℕ) × (lookup self.now.entries (key_at self.now.entries i) ≡ Some (slot d Parked)))
-            × (lookup self.now.origins (origin_of (key_at self.now.entries i)) ≡ None)
-            × HasRoom (policy plan.now) self.now (origin_of (key_at self.now.entries i))) }
+            × ((d : ℕ) × (lookup self.now.entries (key_numbered self.now.entries i) ≡ Some (slot d Parked)))
+            × (lookup self.now.origins (origin_of (key_numbered self.now.entries i)) ≡ None)
+            × HasRoom (policy plan.now) self.now (origin_of (key_numbered self.now.entries i))) }
         ensures none { IfNone result (HasRules (policy plan.now) self.now → ⊥) }
     {
         let agenda = &self.agenda;
@@ -170,9 +170,9 @@ impl Board {
     /// The number of a waiting address whose origin has room for a permit.
     pub fn find_page(&self, plan: &Plan) -> Option<usize>
         ensures found { IfSome result (λ i. (i < length self.now.entries)
-            × ((d : ℕ) × (lookup self.now.entries (key_at self.now.entries i) ≡ Some (slot d Waiting)))
-            × HasRoom (policy plan.now) self.now (origin_of (key_at self.now.entries i))) }
-        ensures none { IfNone result (HasPage (policy plan.now) self.now → ⊥) }
+            × ((d : ℕ) × (lookup self.now.entries (key_numbered self.now.entries i) ≡ Some (slot d Waiting)))
+            × HasRoom (policy plan.now) self.now (origin_of (key_numbered self.now.entries i))) }
+        ensures none { IfNone result (HasWaitingPage (policy plan.now) self.now → ⊥) }
     {
         let agenda = &self.agenda;
         for k in 0..agenda.waiting_len() {

@@ -5,7 +5,7 @@ ghost use Rattle.frontier_core.specs.Tables.{lookup};
 ghost use Rattle.frontier_core.specs.Routes.{admits, weight as weight_of};
 ghost use Rattle.frontier_core.specs.Machine.{with_entry, slot, arrival, follow, follow_all, IsDue, IsRunning, Spread, Part, Step};
 ghost use Rattle.frontier_core.specs.Invariants.{IsOverfull, IsStuck};
-ghost use Rattle.frontier_core.specs.inner.TableCalls.{key_at, edges_at};
+ghost use Rattle.frontier_core.specs.inner.TableCalls.{key_numbered, edges_at};
 ghost use Rattle.frontier_core.specs.Plans.{policy};
 
 use crate::board::{Board, Followed, SpreadFault};
@@ -25,18 +25,18 @@ impl Board {
         k: usize,
     ) -> Result<(), SpreadFault>
         requires place { at < length self.old.entries }
-        requires edge { k < length (edges_at self.old (key_at self.old.entries at)) }
+        requires edge { k < length (edges_at self.old (key_numbered self.old.entries at)) }
         requires sum { depth + 1 < 2 ^ 32 }
         requires few { length self.old.entries ≤ plan.now.max_urls }
-        ensures ok { OnOk result ((edge : Edge) × (slice_get (edges_at self.old (key_at self.old.entries at)) k ≡ Some edge)
+        ensures ok { OnOk result ((edge : Edge) × (slice_get (edges_at self.old (key_numbered self.old.entries at)) k ≡ Some edge)
             × (self.new ≡ follow (policy plan.now) depth self.old edge)) }
         ensures few { length self.new.entries ≤ plan.now.max_urls }
         ensures err { OnErr result (self.new ≡ self.old) }
         ensures space { result ≡ Err SpreadFault.Memory → length self.old.entries < plan.now.max_urls }
-        ensures stuck { OnErr result ((edge : Edge) × (slice_get (edges_at self.old (key_at self.old.entries at)) k ≡ Some edge)
+        ensures stuck { OnErr result ((edge : Edge) × (slice_get (edges_at self.old (key_numbered self.old.entries at)) k ≡ Some edge)
             × IsTrue (admits (policy plan.now) edge (depth + weight_of edge.kind)) × (lookup self.old.entries edge.target ≡ None)) }
         ensures full { result ≡ Err SpreadFault.Full → (plan.now.max_urls ≤ length self.old.entries)
-            × (edge : Edge) × (slice_get (edges_at self.old (key_at self.old.entries at)) k ≡ Some edge)
+            × (edge : Edge) × (slice_get (edges_at self.old (key_numbered self.old.entries at)) k ≡ Some edge)
             × IsTrue (admits (policy plan.now) edge (depth + weight_of edge.kind)) × (lookup self.old.entries edge.target ≡ None) }
     {
         let (target, kind) = self.edge_at(at, k);
@@ -59,10 +59,10 @@ impl Board {
     /// first, in the labels before all: where as many are held as the plan allows, they answer `Full`.
     fn discover(&mut self, plan: &Plan, at: usize, k: usize, depth: u32) -> Result<(), SpreadFault>
         requires place { at < length self.old.entries }
-        requires edge { k < length (edges_at self.old (key_at self.old.entries at)) }
+        requires edge { k < length (edges_at self.old (key_numbered self.old.entries at)) }
         requires few { length self.old.entries ≤ plan.now.max_urls }
-        requires absent { (edge : Edge) → slice_get (edges_at self.old (key_at self.old.entries at)) k ≡ Some edge → lookup self.old.entries edge.target ≡ None }
-        ensures ok { OnOk result ((edge : Edge) × (slice_get (edges_at self.old (key_at self.old.entries at)) k ≡ Some edge)
+        requires absent { (edge : Edge) → slice_get (edges_at self.old (key_numbered self.old.entries at)) k ≡ Some edge → lookup self.old.entries edge.target ≡ None }
+        ensures ok { OnOk result ((edge : Edge) × (slice_get (edges_at self.old (key_numbered self.old.entries at)) k ≡ Some edge)
             × (self.new ≡ with_entry self.old edge.target (slot depth (arrival (policy plan.now) self.old edge.target)))) }
         ensures few { length self.new.entries ≤ plan.now.max_urls }
         ensures err { OnErr result (self.new ≡ self.old) }
@@ -94,18 +94,18 @@ impl Board {
     /// Follows the edges of the page at place `at` in order, up to the first that is refused.
     fn follow_edges(&mut self, plan: &Plan, at: usize, depth: u32) -> Followed
         requires place { at < length self.old.entries }
-        requires due { IsDue self.old (key_at self.old.entries at) depth }
+        requires due { IsDue self.old (key_numbered self.old.entries at) depth }
         requires sum { depth + 1 < 2 ^ 32 }
         requires few { length self.old.entries ≤ plan.now.max_urls }
-        ensures state { self.new ≡ follow_all (policy plan.now) depth self.old (take result.edges (edges_at self.old (key_at self.old.entries at))) }
-        ensures whole { IfNone result.fault (result.edges ≡ length (edges_at self.old (key_at self.old.entries at))) }
-        ensures part { IfSome result.fault (λ fault. result.edges < length (edges_at self.old (key_at self.old.entries at))) }
+        ensures state { self.new ≡ follow_all (policy plan.now) depth self.old (take result.edges (edges_at self.old (key_numbered self.old.entries at))) }
+        ensures whole { IfNone result.fault (result.edges ≡ length (edges_at self.old (key_numbered self.old.entries at))) }
+        ensures part { IfSome result.fault (λ fault. result.edges < length (edges_at self.old (key_numbered self.old.entries at))) }
         ensures full { result.fault ≡ Some SpreadFault.Full → IsOverfull (policy plan.now) self.new }
         ensures space { result.fault ≡ Some SpreadFault.Memory → length self.new.entries < plan.now.max_urls }
-        ensures stuck { IfSome result.fault (λ fault. IsStuck (policy plan.now) self.new depth (key_at self.old.entries at) result.edges) }
+        ensures stuck { IfSome result.fault (λ fault. IsStuck (policy plan.now) self.new depth (key_numbered self.old.entries at) result.edges) }
         ensures few { length self.new.entries ≤ plan.now.max_urls }
-        ensures place { (key_at self.new.entries at ≡ key_at self.old.entries at) × (at < length self.new.entries) }
-        ensures slot { lookup self.new.entries (key_at self.old.entries at) ≡ lookup self.old.entries (key_at self.old.entries at) }
+        ensures place { (key_numbered self.new.entries at ≡ key_numbered self.old.entries at) × (at < length self.new.entries) }
+        ensures slot { lookup self.new.entries (key_numbered self.old.entries at) ≡ lookup self.old.entries (key_numbered self.old.entries at) }
     {
         let count = self.edge_count(at);
         for k in 0..count {
@@ -125,15 +125,15 @@ impl Board {
     /// Spreads the address at place `at`, whole or in part: one step of the machine.
     pub fn spread_at(&mut self, plan: &Plan, at: usize, depth: u32) -> Followed
         requires place { at < length self.old.entries }
-        requires due { IsDue self.old (key_at self.old.entries at) depth }
+        requires due { IsDue self.old (key_numbered self.old.entries at) depth }
         requires sum { depth + 1 < 2 ^ 32 }
         requires few { length self.old.entries ≤ plan.now.max_urls }
         requires running { IsRunning self.old }
-        ensures whole { IfNone result.fault (Step (policy plan.now) self.old (Spread depth (key_at self.old.entries at) result.edges) self.new) }
-        ensures part { IfSome result.fault (λ fault. Step (policy plan.now) self.old (Part depth (key_at self.old.entries at) result.edges) self.new) }
+        ensures whole { IfNone result.fault (Step (policy plan.now) self.old (Spread depth (key_numbered self.old.entries at) result.edges) self.new) }
+        ensures part { IfSome result.fault (λ fault. Step (policy plan.now) self.old (Part depth (key_numbered self.old.entries at) result.edges) self.new) }
         ensures full { result.fault ≡ Some SpreadFault.Full → IsOverfull (policy plan.now) self.new }
         ensures space { result.fault ≡ Some SpreadFault.Memory → length self.new.entries < plan.now.max_urls }
-        ensures stuck { IfSome result.fault (λ fault. IsStuck (policy plan.now) self.new depth (key_at self.old.entries at) result.edges) }
+        ensures stuck { IfSome result.fault (λ fault. IsStuck (policy plan.now) self.new depth (key_numbered self.old.entries at) result.edges) }
     {
         let followed = self.follow_edges(plan, at, depth);
         if followed.fault.is_none() {

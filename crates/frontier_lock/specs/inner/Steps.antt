@@ -14,11 +14,11 @@ Records old (done.Page permit outcome) new = Makes old (Answer permit.worker per
 Records old (done.Rules permit rules) new = Makes old (Rule permit.worker permit.origin rules) new
 
 -- the permit is out no more and the frontier stops; where there is none, or a stray one, it only stops
-abbrev pub GivesUp : Traced → Option Held → Cause → Traced → Type 0
-GivesUp old None cause new = Stops old cause new
-GivesUp old (Some (held.Page permit)) cause new =
+abbrev pub GivesPermitUp : Traced → Option Held → Cause → Traced → Type 0
+GivesPermitUp old None cause new = Stops old cause new
+GivesPermitUp old (Some (held.Page permit)) cause new =
     (IsOutTo old.state permit.number permit.worker permit.address → Makes old (Abandon permit.worker permit.address cause) new)
     × (¬ IsOutTo old.state permit.number permit.worker permit.address → Stops old cause new)
-GivesUp old (Some (held.Rules permit)) cause new =
+GivesPermitUp old (Some (held.Rules permit)) cause new =
     (IsAskedBy old.state permit.worker permit.origin → Makes old (AbandonRules permit.worker permit.origin cause) new)
     × (¬ IsAskedBy old.state permit.worker permit.origin → Stops old cause new)

@@ -4,12 +4,12 @@ use Rattle.std.specs.Borrow.{MutBor}
 use Rattle.std.specs.Fn.{Once}
 use Rattle.frontier_core.specs.Machine.{Action}
 use Rattle.frontier_core.specs.Traced.{Traced, Makes}
-use Rattle.frontier_core.specs.Taken.{Takes}
+use Rattle.frontier_core.specs.Taken.{TakesWork}
 use Rattle.frontier_core.specs.declared.work.Work.TheVariants.{Busy}
 
 -- a worker that asked would be told that others are at work, upon which it sleeps
 abbrev pub IsSleptAt : Traced → Type 0
-IsSleptAt frontier = (worker : ℕ) × Takes frontier worker Busy frontier
+IsSleptAt frontier = (worker : ℕ) × TakesWork frontier worker Busy frontier
 
 -- where no step of the frontier was made, nothing changed
 pub record MakesAtMostOne (old new : Traced) : Type 0 where

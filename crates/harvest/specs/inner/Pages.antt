@@ -9,8 +9,8 @@ use Rattle.harvest.specs.declared.page.KeptPage.{KeptPage}
 use Rattle.harvest.specs.Pages.{is_success, IsKept, IsBodyOf}
 
 -- the pages of which a response is kept: this one, or none
-abbrev pub kept_of : Plan → Text → Outcome → List ℕ → List KeptPage
-kept_of plan u x body = if keeps_of plan u && is_success x then record { address = u; body = body } ∷ [] else []
+abbrev pub kept_pages_of : Plan → Text → Outcome → List ℕ → List KeptPage
+kept_pages_of plan u x body = if keeps_of plan u && is_success x then record { address = u; body = body } ∷ [] else []
 
 -- the pages are those that are kept, each once, with bodies that the site may give
 pub record AreKept (may_say : Text → Outcome → List ℕ → Type 0) (plan : Plan) (m : Answers) (pages : List KeptPage) : Type 0 where

@@ -18,9 +18,9 @@ abbrev pub tag_ended : Bool → Lexer → List Tag
 tag_ended ends l = given ends l.name.items l.attributes.items
 
 -- A step over a byte: what comes of the byte and the rest is the tag that it ended and what comes of the rest.
-abbrev pub Gives : (List ℕ → List Tag) → ℕ → Bool → Lexer → Type 0
-Gives before byte ends new = (rest : List ℕ) → before (byte ∷ rest) ≡ tag_ended ends new ++ remaining new rest
+abbrev pub GivesTag : (List ℕ → List Tag) → ℕ → Bool → Lexer → Type 0
+GivesTag before byte ends new = (rest : List ℕ) → before (byte ∷ rest) ≡ tag_ended ends new ++ remaining new rest
 
 -- A run over the front of a text that ends no tag: what comes of the text and the rest is what comes of what is left of it and the rest.
-abbrev pub Leaves : (List ℕ → List Tag) → List ℕ → List ℕ → Lexer → Type 0
-Leaves before text left new = (rest : List ℕ) → before (text ++ rest) ≡ remaining new (left ++ rest)
+abbrev pub LeavesTag : (List ℕ → List Tag) → List ℕ → List ℕ → Lexer → Type 0
+LeavesTag before text left new = (rest : List ℕ) → before (text ++ rest) ≡ remaining new (left ++ rest)

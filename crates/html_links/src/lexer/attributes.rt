@@ -14,10 +14,10 @@ use std::mem;
 impl Lexer {
     ghost use Rattle.html_links.specs.Markup.{Value, attributes, value_behind, with_attribute};
     ghost use Rattle.html_links.specs.Lexing.{with_named, tags_with, kept_with, before_attribute, in_attribute_name, after_attribute_name, before_value, in_quoted_value, in_bare_value};
-    ghost use Rattle.html_links.specs.inner.Lexing.{HasRead, Gives, Leaves};
+    ghost use Rattle.html_links.specs.inner.Lexing.{HasRead, GivesTag, LeavesTag};
 
     pub(crate) fn before_attribute(&mut self, byte: u8) -> Result<bool, AllocError>
-        ensures { IfOk result (λ ends. Gives (before_attribute self.old) byte ends self.new) }
+        ensures { IfOk result (λ ends. GivesTag (before_attribute self.old) byte ends self.new) }
     {
         if byte == b'>' {
             return Ok(self.end_tag());
@@ -33,7 +33,7 @@ impl Lexer {
     }
 
     pub(crate) fn attribute_name(&mut self, byte: u8) -> Result<bool, AllocError>
-        ensures { IfOk result (λ ends. Gives (in_attribute_name self.old) byte ends self.new) }
+        ensures { IfOk result (λ ends. GivesTag (in_attribute_name self.old) byte ends self.new) }
     {
         if ends_attribute_name(byte) {
             self.settle_attribute();
@@ -74,7 +74,7 @@ impl Lexer {
     }
 
     pub(crate) fn attribute_name_run<'a>(&mut self, text: &'a [u8]) -> Result<&'a [u8], AllocError>
-        ensures gives { IfOk result (λ left. Leaves (in_attribute_name self.old) text.now left.now self.new) }
+        ensures gives { IfOk result (λ left. LeavesTag (in_attribute_name self.old) text.now left.now self.new) }
         ensures shorter { IfOk result (λ left. length left.now ≤ length text.now) }
     {
         let (name, left) = Span::AttributeName.split(text);
@@ -84,7 +84,7 @@ impl Lexer {
     }
 
     pub(crate) fn after_attribute_name(&mut self, byte: u8) -> Result<bool, AllocError>
-        ensures { IfOk result (λ ends. Gives (after_attribute_name self.old) byte ends self.new) }
+        ensures { IfOk result (λ ends. GivesTag (after_attribute_name self.old) byte ends self.new) }
     {
         if is_white(byte) {
             self.mode = Mode::AfterAttributeName;
@@ -100,7 +100,7 @@ impl Lexer {
     }
 
     pub(crate) fn before_value(&mut self, byte: u8) -> Result<bool, AllocError>
-        ensures { IfOk result (λ ends. Gives (before_value self.old) byte ends self.new) }
+        ensures { IfOk result (λ ends. GivesTag (before_value self.old) byte ends self.new) }
     {
         if is_white(byte) {
             self.mode = Mode::BeforeValue;
@@ -115,7 +115,7 @@ impl Lexer {
     }
 
     pub(crate) fn quoted_value(&mut self, quote: u8, byte: u8) -> Result<bool, AllocError>
-        ensures { IfOk result (λ ends. Gives (in_quoted_value quote self.old) byte ends self.new) }
+        ensures { IfOk result (λ ends. GivesTag (in_quoted_value quote self.old) byte ends self.new) }
     {
         if byte == quote {
             self.end_attribute()?;
@@ -132,7 +132,7 @@ impl Lexer {
         quote: u8,
         text: &'a [u8],
     ) -> Result<&'a [u8], AllocError>
-        ensures gives { IfOk result (λ left. Leaves (in_quoted_value quote self.old) text.now left.now self.new) }
+        ensures gives { IfOk result (λ left. LeavesTag (in_quoted_value quote self.old) text.now left.now self.new) }
         ensures shorter { IfOk result (λ left. length left.now ≤ length text.now) }
     {
         let (value, left) = split_at_byte(quote, text);
@@ -142,7 +142,7 @@ impl Lexer {
     }
 
     pub(crate) fn bare_value(&mut self, byte: u8) -> Result<bool, AllocError>
-        ensures { IfOk result (λ ends. Gives (in_bare_value self.old) byte ends self.new) }
+        ensures { IfOk result (λ ends. GivesTag (in_bare_value self.old) byte ends self.new) }
     {
         if ends_bare_value(byte) {
             self.end_attribute()?;
@@ -154,7 +154,7 @@ impl Lexer {
     }
 
     pub(crate) fn bare_value_run<'a>(&mut self, text: &'a [u8]) -> Result<&'a [u8], AllocError>
-        ensures gives { IfOk result (λ left. Leaves (in_bare_value self.old) text.now left.now self.new) }
+        ensures gives { IfOk result (λ left. LeavesTag (in_bare_value self.old) text.now left.now self.new) }
         ensures shorter { IfOk result (λ left. length left.now ≤ length text.now) }
     {
         let (value, left) = Span::BareValue.split(text);

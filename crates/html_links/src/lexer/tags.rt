@@ -22,10 +22,10 @@ pub(crate) fn push_lower(name: &mut Vec<u8>, text: &[u8]) -> Result<(), AllocErr
 impl Lexer {
     ghost use Rattle.html_links.specs.Markup.{start_tag, end_tag, attributes};
     ghost use Rattle.html_links.specs.Lexing.{remaining, content, tags_after, in_tag_name, in_end_tag_name, before_attribute};
-    ghost use Rattle.html_links.specs.inner.Lexing.{Gives, Leaves};
+    ghost use Rattle.html_links.specs.inner.Lexing.{GivesTag, LeavesTag};
 
     pub(crate) fn tag_name(&mut self, byte: u8) -> Result<bool, AllocError>
-        ensures { IfOk result (λ ends. Gives (in_tag_name self.old) byte ends self.new) }
+        ensures { IfOk result (λ ends. GivesTag (in_tag_name self.old) byte ends self.new) }
     {
         if ends_tag_name(byte) {
             self.begin_attributes();
@@ -46,7 +46,7 @@ impl Lexer {
     }
 
     pub(crate) fn tag_name_run<'a>(&mut self, text: &'a [u8]) -> Result<&'a [u8], AllocError>
-        ensures gives { IfOk result (λ left. Leaves (in_tag_name self.old) text.now left.now self.new) }
+        ensures gives { IfOk result (λ left. LeavesTag (in_tag_name self.old) text.now left.now self.new) }
         ensures shorter { IfOk result (λ left. length left.now ≤ length text.now) }
     {
         let (name, left) = Span::TagName.split(text);
@@ -56,7 +56,7 @@ impl Lexer {
     }
 
     pub(crate) fn end_tag_name(&mut self, byte: u8) -> Result<bool, AllocError>
-        ensures { IfOk result (λ ends. Gives in_end_tag_name byte ends self.new) }
+        ensures { IfOk result (λ ends. GivesTag in_end_tag_name byte ends self.new) }
     {
         if ends_tag_name(byte) {
             return self.end_tag_named(byte);
@@ -67,7 +67,7 @@ impl Lexer {
 
     /// Goes on behind the name of an end tag, of which nothing is kept.
     pub(crate) fn end_tag_named(&mut self, byte: u8) -> Result<bool, AllocError>
-        ensures { IfOk result (λ ends. Gives (λ rest. asked_tags (end_tag (attributes rest)).rest) byte ends self.new) }
+        ensures { IfOk result (λ ends. GivesTag (λ rest. asked_tags (end_tag (attributes rest)).rest) byte ends self.new) }
     {
         self.asked = false;
         self.raw = None;
@@ -75,7 +75,7 @@ impl Lexer {
     }
 
     pub(crate) fn end_tag_name_run<'a>(&mut self, text: &'a [u8]) -> &'a [u8]
-        ensures gives { Leaves in_end_tag_name text.now result.now self.new }
+        ensures gives { LeavesTag in_end_tag_name text.now result.now self.new }
         ensures shorter { length result.now ≤ length text.now }
     {
         self.mode = Mode::EndTagName;
@@ -84,7 +84,7 @@ impl Lexer {
 
     /// Ends the tag at its `>`.
     pub(crate) fn end_tag(&mut self) -> bool
-        ensures { Gives (before_attribute self.old) 62 result self.new }
+        ensures { GivesTag (before_attribute self.old) 62 result self.new }
     {
         self.begin_content();
         self.asked

@@ -2,7 +2,7 @@
 use Rattle.std.specs.Prelude.{◌≡◌, ◌<◌, ℕ, Some}
 use Rattle.address.specs.Address.{AddressText}
 use Rattle.answer_notes.specs.Tellings.{target_told, rules_told}
-use Rattle.answer_notes.specs.HopChains.{Ends}
+use Rattle.answer_notes.specs.HopChains.{EndsChain}
 use Rattle.answer_notes.specs.declared.told.Told.{Told}
 use Rattle.http_fetcher.specs.declared.chain.Hop.{Hop}
 use Rattle.http_fetcher.specs.declared.chain.Hop.TheVariants.{Next, Last}
@@ -10,4 +10,4 @@ use Rattle.http_fetcher.specs.declared.chain.Hop.TheVariants.{Next, Last}
 -- what was told of an address says this where so many more redirects may be followed: where to go on, or these rules
 abbrev pub TellsHop : AddressText → Told → ℕ → Hop → Type 0
 TellsHop at told left (Next next) = (0 < left) × (target_told at told ≡ Some next)
-TellsHop at told left (Last rules) = Ends left (target_told at told) × (rules ≡ rules_told told)
+TellsHop at told left (Last rules) = EndsChain left (target_told at told) × (rules ≡ rules_told told)

@@ -10,8 +10,8 @@ use Rattle.local_tree.specs.PlainNames.{slash}
 use Rattle.local_tree.specs.Names.{IsDirectory}
 
 -- the text that is lent
-abbrev pub text_of : Bor (List ℕ) → List ℕ
-text_of text = text.now
+abbrev pub lent_text : Bor (List ℕ) → List ℕ
+lent_text text = text.now
 
 -- the order of texts, by their bytes
 abbrev pub text_cmp : Bor (List ℕ) → Bor (List ℕ) → Ordering
@@ -26,8 +26,8 @@ abbrev pub HasSameNames : List (List ℕ) → List (List ℕ) → Type 0
 HasSameNames names others = (name : List ℕ) → Contains names name ↔ Contains others name
 
 -- the name is a directory of a plain name, or has an entry
-abbrev pub IsTaken : {Y : Type 0} → List (List ℕ) → BTreeMap (String Y) ℕ → List ℕ → Type 0
-IsTaken plain next name = IsDirectory plain name ⊎ IsSome (get_by_text next name)
+abbrev pub IsNameTaken : {Y : Type 0} → List (List ℕ) → BTreeMap (String Y) ℕ → List ℕ → Type 0
+IsNameTaken plain next name = IsDirectory plain name ⊎ IsSome (get_by_text next name)
 
 -- the entries after a page was given a name with this number
 abbrev pub remembered : (List ℕ → Option ℕ) → List ℕ → List ℕ → ℕ → List ℕ → Option ℕ

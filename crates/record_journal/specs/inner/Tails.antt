@@ -7,9 +7,9 @@ use Rattle.record_journal.specs.declared.tail.Added.TheVariants.{Whole, Failed, 
 use Rattle.record_journal.specs.declared.tail.Tail.{Tail}
 
 -- An open end takes the entry whole, and its bytes are counted; or a front of it, and is closed. A closed one stays as it is.
-abbrev pub Adds : {F : Type 0} → (F → Option (List ℕ)) → Tail F → List ℕ → Added → Tail F → Type 0
-Adds contents old entry Whole new =
+abbrev pub AddsToTail : {F : Type 0} → (F → Option (List ℕ)) → Tail F → List ℕ → Added → Tail F → Type 0
+AddsToTail contents old entry Whole new =
     (old.is_open ≡ true) × (new.is_open ≡ true) × Appends (contents old.file) (contents new.file) entry × (new.whole ≡ old.whole + length entry)
-Adds contents old entry Failed new =
+AddsToTail contents old entry Failed new =
     (old.is_open ≡ true) × (new.is_open ≡ false) × AppendsFront (contents old.file) (contents new.file) entry × (new.whole ≡ old.whole)
-Adds contents old entry Closed new = (old.is_open ≡ false) × (new ≡ old)
+AddsToTail contents old entry Closed new = (old.is_open ≡ false) × (new ≡ old)

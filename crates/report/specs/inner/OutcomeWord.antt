@@ -6,7 +6,7 @@ use Rattle.report.specs.declared.text.Word.{Word}
 use Rattle.report.specs.declared.text.Word.TheVariants.{Status, Fault, Robots}
 
 -- a status in digits, the word of a fault, or that of robots rules
-abbrev pub word_text : Word → List ℕ
-word_text (Status status) = decimal status
-word_text (Fault kind) = word_of kind
-word_text Robots = codes "rob"
+abbrev pub word_bytes : Word → List ℕ
+word_bytes (Status status) = decimal status
+word_bytes (Fault kind) = word_of kind
+word_bytes Robots = codes "rob"

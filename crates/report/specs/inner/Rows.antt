@@ -11,6 +11,6 @@ fate_of (fate.Asked outcome) = Asked outcome.now
 fate_of fate.Refused = Refused
 
 -- the line of a row
-abbrev pub line_of : Row → Line
-line_of row =
+abbrev pub line_of_row : Row → Line
+line_of_row row =
     record { address = row.address.now; depth = row.depth; fate = fate_of row.fate; name = option_map (λ name. name.now) row.name }

@@ -1,4 +1,4 @@
--- What proofs alone need beside `Passes`.
+-- What proofs alone need beside `PassesBody`.
 use Rattle.std.specs.Prelude.{◌+◌, ◌⊎◌, ◌≡◌, ℕ, ◌≤◌, List, [], ◌++◌, length, Option}
 use Rattle.std.specs.Io.KnownBytes.{Consumes, IsAtEnd}
 use Rattle.response_reader.specs.declared.fault.ReadFault.{ReadFault}
@@ -17,7 +17,7 @@ pub record Passed (before after : Option (List ℕ)) (P : List ℕ → Type 0) (
   pub adds : P piece
 
 -- count bytes were handed on in one step; none only at the end
-pub record Passes (before after : Option (List ℕ)) (P : List ℕ → Type 0) (count : ℕ) : Type 0 where
+pub record PassesBody (before after : Option (List ℕ)) (P : List ℕ → Type 0) (count : ℕ) : Type 0 where
   pub passed : Passed before after P count
   pub end : count ≡ 0 → IsAtEnd after
 

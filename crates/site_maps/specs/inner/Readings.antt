@@ -87,7 +87,7 @@ pub record TellsRules (r : Reading) (above : List Statement) : Type 0 where
   pub fresh : IsFreshOrigin r
 
 -- what is kept stands for these lines
-pub record Tells (r : Reading) (above : List Statement) : Type 0 where
+pub record TellsAbove (r : Reading) (above : List Statement) : Type 0 where
   pub answers : TellsAnswers r above
   pub rules : TellsRules r above
 
@@ -137,8 +137,8 @@ Adds old at x result new =
 -- the line is taken below the lines so far, or is refused for what is wrong with it
 abbrev pub Takes : {U : Type 0} → Reading → Statement → Result U InputLineFault → Reading → Type 0
 Takes old s result new =
-    (above : List Statement) → Tells old above
-    → MatchResult result (λ _. IsGood above s × Tells new (above ++ s ∷ [])) (λ f. IsWrong above s f)
+    (above : List Statement) → TellsAbove old above
+    → MatchResult result (λ _. IsGood above s × TellsAbove new (above ++ s ∷ [])) (λ f. IsWrong above s f)
 
 -- ---- one line more, as bytes
 
@@ -151,5 +151,5 @@ IsBad above line Memory = IsPlaced above line
 -- the bytes are a line that is taken below the lines so far, or are refused for what is wrong with them
 abbrev pub Reads : {U : Type 0} → Reading → List ℕ → Result U InputLineFault → Reading → Type 0
 Reads old line result new =
-    (above : List Statement) → Tells old above
-    → MatchResult result (λ _. (s : Statement) × HasForm line s × IsGood above s × Tells new (above ++ s ∷ [])) (λ f. IsBad above line f)
+    (above : List Statement) → TellsAbove old above
+    → MatchResult result (λ _. (s : Statement) × HasForm line s × IsGood above s × TellsAbove new (above ++ s ∷ [])) (λ f. IsBad above line f)

@@ -1,6 +1,6 @@
 -- What proofs alone need beside `Lists`.
 use Rattle.std.specs.Prelude.{◌<◌, ℕ, Bool, cond, vec_len, vec_capacity}
-use Rattle.work_queues.specs.inner.Queues.{HasRoom}
+use Rattle.work_queues.specs.inner.Queues.{HostHasRoom}
 use Rattle.work_queues.specs.declared.lists.Lists.{Lists}
 
 -- one where it is so
@@ -10,6 +10,6 @@ one b = cond b 1 0
 -- a number more of this host takes no memory
 pub record HasSpace (lists : Lists) (host : ℕ) : Type 0 where
   pub jobs : vec_len lists.jobs < vec_capacity lists.jobs
-  pub waiting : HasRoom lists.waiting.numbers host
-  pub parked : HasRoom lists.parked.numbers host
-  pub due : HasRoom lists.due 0
+  pub waiting : HostHasRoom lists.waiting.numbers host
+  pub parked : HostHasRoom lists.parked.numbers host
+  pub due : HostHasRoom lists.due 0

@@ -18,5 +18,5 @@ pub record IsOrdered {F : Type 0} (old new : Seat F) : Type 0 where
   pub rules : IsPermutation old.notes.rules.items new.notes.rules.items
 
 -- no name stands in both lists
-pub record AreApart (names others : List Text) : Type 0 where
+pub record AreNotedApart (names others : List Text) : Type 0 where
   pub apart : (u : Text) → Contains names u → ¬ Contains others u

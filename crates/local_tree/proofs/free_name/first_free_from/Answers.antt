@@ -2,24 +2,24 @@ use Rattle.std.proofs.Common.{rules, ◌≡◌, map, IsTrue, inl, inr, subst, �
 use Rattle.std.proofs.lemmas.Bool.{cases_lt}
 use Rattle.std.proofs.lemmas.List.{length-map}
 use Rattle.local_tree.specs.Names.{numbered}
-use Rattle.local_tree.specs.inner.Taken.{text_of, IsTaken}
+use Rattle.local_tree.specs.inner.Taken.{lent_text, IsNameTaken}
 use Rattle.local_tree.proofs.TakenLaws.{taken_below}
 use Rattle.local_tree.proofs.free_name.first_free_from.Goals as goal
 
 pub loop-number-preserved : goal.loop-number-preserved
 loop-number-preserved c =
     let found : IsTrue c.is_taken.result = search rules in
-    let this : IsTaken (map text_of c.args.sorted.now) c.args.next.now (numbered c.args.plain.now c.loop-number.number) =
-    subst (IsTaken (map text_of c.args.sorted.now) c.args.next.now) (c.as_str.ensures.value ∙ c.in_ok-name.ensures) (c.is_taken.ensures.0 found) in
+    let this : IsNameTaken (map lent_text c.args.sorted.now) c.args.next.now (numbered c.args.plain.now c.loop-number.number) =
+    subst (IsNameTaken (map lent_text c.args.sorted.now) c.args.next.now) (c.as_str.ensures.value ∙ c.in_ok-name.ensures) (c.is_taken.ensures.0 found) in
     λ k below. elim (cases_lt k c.loop-number.number) [
       | inl less ↦ c.loop-number.invariant k less
-      | inr last ↦ (let at : c.loop-number.number ≡ k = omega (arith, last, below) in subst (λ j. IsTaken (map text_of c.args.sorted.now) c.args.next.now (numbered c.args.plain.now j)) at this)
+      | inr last ↦ (let at : c.loop-number.number ≡ k = omega (arith, last, below) in subst (λ j. IsNameTaken (map lent_text c.args.sorted.now) c.args.next.now (numbered c.args.plain.now j)) at this)
     ]
 
 pub unreachable-requires : goal.unreachable-requires
 unreachable-requires c =
-    let most = taken_below (map text_of c.args.sorted.now) c.args.next.now c.args.plain.now 18446744073709551615 (omega arith) (λ k below. c.loop-number.invariant k (omega arith)) in
-    let long = length-map c.args.sorted.now text_of in
+    let most = taken_below (map lent_text c.args.sorted.now) c.args.next.now c.args.plain.now 18446744073709551615 (omega arith) (λ k below. c.loop-number.invariant k (omega arith)) in
+    let long = length-map c.args.sorted.now lent_text in
     let size = c.len-names.ensures.len in
     let bound = c.len-names.ensures.small in
     let few = c.requires.few in

@@ -3,7 +3,7 @@ use Rattle.std.proofs.lemmas.List.{get_or-map, length-map, length_push}
 use Rattle.std.specs.BTreeMap.{get_by_text}
 use Rattle.std.specs.String.{string_bytes}
 use Rattle.local_tree.specs.Names.{IsDirectory, numbered}
-use Rattle.local_tree.specs.inner.Taken.{text_of, remembered, HasSameNames, AreLeast, IsPast}
+use Rattle.local_tree.specs.inner.Taken.{lent_text, remembered, HasSameNames, AreLeast, IsPast}
 use Rattle.local_tree.proofs.NamingLaws.{Assigned, IsBehind, Assigned-start, Assigned-step, IsNaming_from, same_directories, map_push}
 use Rattle.local_tree.proofs.LeastLaws.{behind_from_past}
 use Rattle.local_tree.proofs.naming.assign.Goals as goal
@@ -21,9 +21,9 @@ first_free-requires-clause-passed c =
     ∙ ap string_bytes c.index-plain-i.is
     ∙ sym (get_or-map string_bytes c.args.plain.now c.loop-i.i c.index-plain-i.result [] (omega arith))
     ∙ ap (λ i. get_or plain i []) (sym long) in
-    let same : HasSameNames plain (map text_of c.deref.result.now) = subst (λ xs. HasSameNames plain (map text_of xs)) (sym c.deref.ensures.value) c.in_ok-sorted.ensures.same in
+    let same : HasSameNames plain (map lent_text c.deref.result.now) = subst (λ xs. HasSameNames plain (map lent_text xs)) (sym c.deref.ensures.value) c.in_ok-sorted.ensures.same in
     λ v k held below. elim (Assigned-start plain names next c.loop-i.invariant.assigned own place (omega (arith, long, all)) v (sym (ap (λ o. unwrap_or o 0) held)) k below) [
-      | inl inside ↦ inl ((same_directories plain (map text_of c.deref.result.now) same (numbered own k)).0 inside)
+      | inl inside ↦ inl ((same_directories plain (map lent_text c.deref.result.now) same (numbered own k)).0 inside)
       | inr has ↦ inr has
     ]
 
@@ -42,23 +42,23 @@ loop-i-preserved c =
     ∙ ap string_bytes c.index-plain-i.is
     ∙ sym (get_or-map string_bytes c.args.plain.now c.loop-i.i c.index-plain-i.result [] (omega arith))
     ∙ ap (λ i. get_or plain i []) (sym long) in
-    let same : HasSameNames plain (map text_of c.deref.result.now) = subst (λ xs. HasSameNames plain (map text_of xs)) (sym c.deref.ensures.value) c.in_ok-sorted.ensures.same in
+    let same : HasSameNames plain (map lent_text c.deref.result.now) = subst (λ xs. HasSameNames plain (map lent_text xs)) (sym c.deref.ensures.value) c.in_ok-sorted.ensures.same in
     let free : ¬ (IsDirectory plain name ⊎ IsSome (next name)) = λ taken. c.in_ok-name.ensures.free (elim taken [
-      | inl inside ↦ inl ((same_directories plain (map text_of c.deref.result.now) same name).0 inside)
+      | inl inside ↦ inl ((same_directories plain (map lent_text c.deref.result.now) same name).0 inside)
       | inr has ↦ inr has
     ]) in
     let before : (k : ℕ) → k < number → IsDirectory plain (numbered own k) ⊎ IsSome (next (numbered own k)) = λ k less. elim (c.in_ok-name.ensures.before k less) [
-      | inl inside ↦ inl ((same_directories plain (map text_of c.deref.result.now) same (numbered own k)).1 inside)
+      | inl inside ↦ inl ((same_directories plain (map lent_text c.deref.result.now) same (numbered own k)).1 inside)
       | inr has ↦ inr has
     ] in
     let least = c.deref-in-loop-i.result.now in
-    let are : AreLeast plain (map text_of least) = subst (λ xs. AreLeast plain (map text_of xs)) (sym c.deref-in-loop-i.ensures.value) c.in_ok-least.ensures in
+    let are : AreLeast plain (map lent_text least) = subst (λ xs. AreLeast plain (map lent_text xs)) (sym c.deref-in-loop-i.ensures.value) c.in_ok-least.ensures in
     let all = length-map c.args.plain.now string_bytes in
     let called = c.as_str.ensures.value in
     let new : ((q : List ℕ) → get_by_text c.note.new.next q ≡ remembered next own name number q) ⊎ (IsBehind plain (length names + 1) name × ((q : List ℕ) → get_by_text c.note.new.next q ≡ next q)) =
     elim c.in_ok-note.ensures [
       | inl put ↦ inl (λ q. put q ∙ ap (λ n. remembered next own n number q) called)
-      | inr (past, kept) ↦ inr (subst (λ n. IsBehind plain (n + 1) name) (sym long) (behind_from_past plain (map text_of least) c.loop-i.i name are (subst (IsPast (map text_of least) c.loop-i.i) called past)), kept)
+      | inr (past, kept) ↦ inr (subst (λ n. IsBehind plain (n + 1) name) (sym long) (behind_from_past plain (map lent_text least) c.loop-i.i name are (subst (IsPast (map lent_text least) c.loop-i.i) called past)), kept)
     ] in
     let step = Assigned-step plain names next (get_by_text c.note.new.next) own name number inv.assigned place (omega (arith, long, all)) c.in_ok-name.ensures.name free before new in
     let pushed : map string_bytes c.push.new.self.items ≡ names ++ name ∷ [] = ap (map string_bytes) c.in_ok-push.ensures.items ∙ map_push string_bytes c.loop-i.names.items c.in_ok-name.name in

@@ -2,7 +2,7 @@ use Rattle.std.proofs.Common.{◌≡◌, ℕ, ◌<◌, ◌≤◌, ◌+◌, false
 use Rattle.std.specs.Cmp.Lexicographic.{slice_cmp}
 use Rattle.std.specs.Ordering.{nat_cmp, is_lt}
 use Rattle.std.specs.String.{string_bytes}
-use Rattle.local_tree.specs.inner.Taken.{text_of}
+use Rattle.local_tree.specs.inner.Taken.{lent_text}
 use Rattle.local_tree.proofs.naming.least_names.Given as goal
 
 abbrev pub invariant-loop-i : goal.invariant-loop-i
@@ -10,5 +10,5 @@ invariant-loop-i l =
     record {
       count : length l.least.items ≡ l.i;
       low : (m j : ℕ) → m < l.i → length (map string_bytes l.names) ≤ m + 1 + j → j < length (map string_bytes l.names)
-          → is_lt (slice_cmp nat_cmp (get_or (map string_bytes l.names) j []) (get_or (map text_of l.least.items) m [])) ≡ false;
+          → is_lt (slice_cmp nat_cmp (get_or (map string_bytes l.names) j []) (get_or (map lent_text l.least.items) m [])) ≡ false;
     }

@@ -5,7 +5,7 @@ use Rattle.std.specs.String.{string_bytes}
 use Rattle.std.proofs.lemmas.Bool.{false≢true}
 use Rattle.std.proofs.lemmas.List.{length-map, get_or-map}
 use Rattle.std.proofs.lemmas.Option.{get_or_from_slice_get}
-use Rattle.local_tree.specs.Folders.{CountsFault, counted}
+use Rattle.local_tree.specs.Folders.{CountsRefusedPut, one_more_refused}
 use Rattle.local_tree.proofs.SiteFilesLaws.{put_written, put_torn, risen}
 use Rattle.local_tree.proofs.site_files.write_site.Goals as goal
 
@@ -17,11 +17,11 @@ failed : {A E : Type 0} (r : Result A E) (P : Type 0) → is_err r ≡ true → 
 failed (Ok a) P is held = absurd (false≢true is)
 failed (Err e) P is held = held
 
-same_count : {A E : Type 0} (r : Result A E) (old new : ℕ) → is_err r ≡ false → CountsFault old new r → new ≡ old
+same_count : {A E : Type 0} (r : Result A E) (old new : ℕ) → is_err r ≡ false → CountsRefusedPut old new r → new ≡ old
 same_count (Ok a) old new is counts = counts
 same_count (Err e) old new is counts = absurd (false≢true (sym is))
 
-one_more : {A E : Type 0} (r : Result A E) (old new : ℕ) → is_err r ≡ true → CountsFault old new r → new ≡ counted old
+one_more : {A E : Type 0} (r : Result A E) (old new : ℕ) → is_err r ≡ true → CountsRefusedPut old new r → new ≡ one_more_refused old
 one_more (Ok a) old new is counts = absurd (false≢true is)
 one_more (Err e) old new is counts = counts
 
@@ -53,5 +53,5 @@ returns-then-is_err-clause-torn g c =
       files = put_torn names bodies c.loop-i.i c.as_str.result.now (g.D.Folder.files c.args.folder.now) (g.D.Folder.files c.loop-i.folder) (g.D.Folder.files c.put.new.self)
           c.requires.distinct (omega (arith, below, long)) name c.loop-i.invariant.files (failed c.put.result _ ended c.put.ensures.torn);
       risen = risen (g.D.Folder.failed c.args.folder.now) (g.D.Folder.failed c.put.new.self)
-          (one_more c.put.result (g.D.Folder.failed c.loop-i.folder) (g.D.Folder.failed c.put.new.self) ended c.put.ensures.counted ∙ ap counted c.loop-i.invariant.quiet);
+          (one_more c.put.result (g.D.Folder.failed c.loop-i.folder) (g.D.Folder.failed c.put.new.self) ended c.put.ensures.counted ∙ ap one_more_refused c.loop-i.invariant.quiet);
     }

@@ -2,7 +2,7 @@
 use Rattle.std.proofs.Common.{◌≡◌, ◌++◌, ◌∙◌, [], sym, subst, inl, arith, rules}
 use Rattle.site_records.specs.Records.{version_line}
 use Rattle.site_records.specs.RecordNotes.{HasNotes}
-use Rattle.site_records.specs.Fronts.{IsTorn}
+use Rattle.site_records.specs.Fronts.{IsTornEntry}
 use Rattle.site_records.proofs.ReadLaws.{starts, goes_on}
 use Rattle.site_records.proofs.FrontLaws.{first_bad_whole, front_read, not_so}
 use Rattle.site_records.proofs.front.read_front.Goals as goal
@@ -29,7 +29,7 @@ entries-preserved c = record {
 pub returns-in-Err-clause-fault : goal.returns-in-Err-clause-fault
 returns-in-Err-clause-fault c =
     rw c.at.ensures (first_bad_whole _ _ _ _ _ c.in-Err.fault c.entries.invariant.read
-    (not_so c.is_torn.result (IsTorn c.entries.reading.version c.entries.rest.now) (λ torn. c.is_torn.ensures.1 torn) c.entries-test.true) c.in-Err.ensures.read)
+    (not_so c.is_torn.result (IsTornEntry c.entries.reading.version c.entries.rest.now) (λ torn. c.is_torn.ensures.1 torn) c.entries-test.true) c.in-Err.ensures.read)
 
 pub returns-clause-front : goal.returns-clause-front
 returns-clause-front c =

@@ -1,7 +1,7 @@
 use Rattle.std.proofs.Common.{sym, refl, ◌∙◌, true≢false, below_more, arith}
 use Rattle.std.proofs.lemmas.Bool.{false≢true}
 use Rattle.frontier_core.specs.Plans.{policy}
-use Rattle.frontier_core.specs.inner.TableCalls.{key_at}
+use Rattle.frontier_core.specs.inner.TableCalls.{key_numbered}
 use Rattle.frontier_core.proofs.Stuck.{overfull_at, stuck_of}
 use Rattle.frontier_core.proofs.board.Board.is_overfull.Goals as goal
 
@@ -11,7 +11,7 @@ returns-then-is_stuck c =
     let (d, k, stuck) = c.is_stuck.ensures.0 c.if-is_stuck.true in
     let full = c.if-len-plan.false in
     let len = c.len.ensures.value in
-    ((λ so. overfull_at (policy c.args.plan.now) s (key_at s.entries c.loop-at.at) (omega (arith, full, len)) d k stuck), λ so. refl)
+    ((λ so. overfull_at (policy c.args.plan.now) s (key_numbered s.entries c.loop-at.at) (omega (arith, full, len)) d k stuck), λ so. refl)
 
 pub loop-at-preserved : goal.loop-at-preserved
 loop-at-preserved c =

@@ -1,7 +1,7 @@
 use Rattle.std.proofs.Common.{◌≡◌, ◌+◌, sym, refl, ◌∙◌, true, true≢false, below_more, arith}
 use Rattle.std.proofs.lemmas.Bool.{false≢true}
 use Rattle.frontier_core.specs.Plans.{policy}
-use Rattle.frontier_core.specs.inner.TableCalls.{key_at}
+use Rattle.frontier_core.specs.inner.TableCalls.{key_numbered}
 use Rattle.frontier_core.specs.Routes.{admits, weight as weight_of}
 use Rattle.fetcher.specs.declared.edge.Edge.{Edge}
 use Rattle.frontier_core.proofs.Stuck.{stuck_at, unstuck, stuck_within}
@@ -15,7 +15,7 @@ returns-then-leads_out c =
     let sum = c.weight.ensures in
     let out = c.leads_out.ensures.0 c.if-leads_out.true in
     let followed : admits (policy c.args.plan.now) edge (held.depth + weight_of edge.kind) ≡ true = rw (← depth, ← sum) out.0 in
-    ((λ so. (held.depth, c.loop-k.k, stuck_at (policy c.args.plan.now) s (key_at s.entries c.args.at) held c.loop-k.k edge found c.edge_at-kind.ensures followed out.1)), λ so. refl)
+    ((λ so. (held.depth, c.loop-k.k, stuck_at (policy c.args.plan.now) s (key_numbered s.entries c.args.at) held c.loop-k.k edge found c.edge_at-kind.ensures followed out.1)), λ so. refl)
 
 pub loop-k-preserved : goal.loop-k-preserved
 loop-k-preserved c =
@@ -24,7 +24,7 @@ loop-k-preserved c =
     let edge : Edge = record { target = c.edge_at-kind.result.0.now; kind = c.edge_at-kind.result.1 } in
     let sum = c.weight.ensures in
     below_more _ _ c.loop-k.invariant
-    (unstuck (policy c.args.plan.now) s (key_at s.entries c.args.at) held c.loop-k.k edge found c.edge_at-kind.ensures
+    (unstuck (policy c.args.plan.now) s (key_numbered s.entries c.args.at) held c.loop-k.k edge found c.edge_at-kind.ensures
     (λ followed none. (let out : admits (policy c.args.plan.now) edge (c.depth_at-depth.result + c.weight.result) ≡ true = rw (depth, sum) followed in
     true≢false (sym (c.leads_out.ensures.1 (out, none)) ∙ c.if-leads_out.false))))
 
@@ -33,7 +33,7 @@ returns c =
     let s = c.args.self.now in (
       (λ so. absurd (false≢true so)),
       λ some. (
-          let within = stuck_within (policy c.args.plan.now) s (key_at s.entries c.args.at) some.0 some.1 some.2 in
+          let within = stuck_within (policy c.args.plan.now) s (key_numbered s.entries c.args.at) some.0 some.1 some.2 in
           let count = c.edge_count-k-end.ensures in
           let end = c.loop-k-test.false in
           absurd (c.loop-k.invariant some.1 (omega (arith, within, count, end)) some.0 some.2)),

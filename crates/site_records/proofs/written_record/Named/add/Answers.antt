@@ -4,7 +4,7 @@ use Rattle.std.specs.Prelude.{not}
 use Rattle.std.specs.List.{list_any}
 use Rattle.answer_notes.specs.declared.noted.Noted.{Noted}
 use Rattle.site_records.specs.WrittenRecords.{is_repeated, is_page_of, is_chain_of}
-use Rattle.site_records.specs.inner.RecordDrafts.{AreNamed}
+use Rattle.site_records.specs.inner.RecordDrafts.{AreDraftsNamed}
 use Rattle.site_records.proofs.NamedLaws.{page_added, chain_added, pages_stay, chains_stay}
 use Rattle.site_records.proofs.written_record.Named.add.Goals as goal
 
@@ -14,7 +14,7 @@ returns-in_ok-insert-in-Page c = λ notes h.
     let value = c.as_str.result in
     let at = c.in-Page.at in
     let is = c.as_str.ensures.value in
-    let P : Noted → Type 0 = λ n. AreNamed (record { addresses = c.insert.new.self; origins = c.args.self.now.origins }) (notes ++ n ∷ []) × (c.in_ok-insert-in-Page.field-0 ≡ not (is_repeated notes n)) in
+    let P : Noted → Type 0 = λ n. AreDraftsNamed (record { addresses = c.insert.new.self; origins = c.args.self.now.origins }) (notes ++ n ∷ []) × (c.in_ok-insert-in-Page.field-0 ≡ not (is_repeated notes n)) in
     subst P (sym c.in-Page.is) (
       record {
         pages = page_added c.args.self.now.addresses.keys c.insert.new.self.keys value at c.in-Page.field-1 notes is told.updates.0 h.pages;
@@ -29,7 +29,7 @@ returns-in_ok-insert-in-Chain c = λ notes h.
     let value = c.as_str-in-Chain.result in
     let chain = c.in-Chain.chain in
     let is = c.as_str-in-Chain.ensures.value ∙ c.of.ensures in
-    let P : Noted → Type 0 = λ n. AreNamed (record { addresses = c.args.self.now.addresses; origins = c.insert-in-Chain.new.self }) (notes ++ n ∷ []) × (c.in_ok-insert-in-Chain.field-0 ≡ not (is_repeated notes n)) in
+    let P : Noted → Type 0 = λ n. AreDraftsNamed (record { addresses = c.args.self.now.addresses; origins = c.insert-in-Chain.new.self }) (notes ++ n ∷ []) × (c.in_ok-insert-in-Chain.field-0 ≡ not (is_repeated notes n)) in
     subst P (sym c.in-Chain.is) (
       record {
         pages = λ q. h.pages q ∙ pages_stay notes chain q.now;
