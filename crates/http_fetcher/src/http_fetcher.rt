@@ -3,7 +3,7 @@ ghost use Rattle.std.specs.Prelude.{◌≡◌, ◌⊎◌, ◌≤◌, ◌+◌, �
 ghost use Rattle.std.specs.Io.KnownBytes.{Appends, IsAtEnd, Keeps};
 ghost use Rattle.response_reader.specs.Wire.{counted, HasRisen, OfBytes};
 ghost use Rattle.response_reader.specs.Reusable.{Reusable};
-ghost use Rattle.address.specs.Address.{origin_of};
+ghost use Rattle.address.specs.Address.{AddressText, origin_of};
 ghost use Rattle.response_answer.specs.KindsOfFaults.{kind_of_fault};
 ghost use Rattle.fetcher.specs.declared.fault_kind.FaultKind.{FaultKind};
 ghost use Rattle.fetcher.specs.declared.fetcher.Ask.TheVariants as ask;
@@ -25,7 +25,7 @@ use answer_notes::{Given, Hops, Noted, Recording, Telling, Told};
 use fetcher::{Answer, Ask, FaultKind, Fetcher};
 use response_answer::kind_of_fault;
 use response_reader::{
-    ReadFault, Reply, RequestFault, read_reply, read_reply_if_any, write_kept_request,
+    ReadFault, Reply, RequestFault, Room, read_reply, read_reply_if_any, write_kept_request,
     write_request,
 };
 use robots_rules::RuleSet;
@@ -47,6 +47,8 @@ pub struct HttpFetcher<C: Connect> {
     asks: Vec<Ask>,
     is_recording: bool,
     notes: Vec<Noted>,
+    // Responses are read by way of it, one after another.
+    room: Room,
 }
 
 impl<C: Connect> Model for HttpFetcher<C> {
@@ -83,6 +85,7 @@ impl<C: Connect> HttpFetcher<C> {
             asks: Vec::new(alloc),
             is_recording: false,
             notes: Vec::new(alloc),
+            room: Room::new(),
         }
     }
 
@@ -103,6 +106,7 @@ impl<C: Connect> HttpFetcher<C> {
             asks: Vec::new(alloc),
             is_recording: true,
             notes: Vec::new(alloc),
+            room: Room::new(),
         }
     }
 
@@ -123,6 +127,7 @@ impl<C: Connect> HttpFetcher<C> {
             asks,
             is_recording,
             notes,
+            room,
             ..
         } = self;
         HttpFetcher {
@@ -133,6 +138,7 @@ impl<C: Connect> HttpFetcher<C> {
             asks,
             is_recording,
             notes,
+            room,
         }
     }
 
@@ -150,16 +156,15 @@ impl<C: Connect> HttpFetcher<C> {
         &self.connect
     }
 
-    // What a wire tells, once the request was written. The error is want of memory.
-    fn read_told(&self, wire: &mut C::Wire, at: &Address) -> Result<Heard, AllocError>
-        ensures told { IfOk result (λ h. OfBytes (C.Wire.incoming wire.old)
-            (AnswersBytes self.now.robots at.now (C.Wire.failed wire.old) (C.Wire.failed wire.new) (outcome_told self.now.robots at.now h.told) (body_told h.told))) }
+    // What a wire tells, once the request was written, whatever it was for. The error is want of memory.
+    fn read_told(&mut self, wire: &mut C::Wire) -> Result<Heard, AllocError>
+        ensures same { self.new ≡ self.old }
+        ensures told { (at : AddressText) → IfOk result (λ h. OfBytes (C.Wire.incoming wire.old)
+            (AnswersBytes self.old.robots at (C.Wire.failed wire.old) (C.Wire.failed wire.new) (outcome_told self.old.robots at h.told) (body_told h.told))) }
         ensures serves { IfOk result (λ h. IsTrue h.serves → Reusable (C.Wire.incoming wire.old) (C.Wire.incoming wire.new) true) }
         ensures written { Keeps (C.Wire.outgoing wire.old) (C.Wire.outgoing wire.new) }
     {
-        // The address is named by the contract alone.
-        let _ = at;
-        match read_reply(self.alloc, wire) {
+        match read_reply(&mut self.room, self.alloc, wire) {
             Ok(Reply { response, reusable }) => Ok(Heard {
                 told: Told::Whole(Given::new(response)),
                 serves: reusable,
@@ -183,16 +188,16 @@ impl<C: Connect> HttpFetcher<C> {
     }
 
     // What a wire tells that served before: none where no byte came. The error is want of memory.
-    fn read_again(&self, wire: &mut C::Wire, at: &Address) -> Result<Option<Heard>, AllocError>
+    fn read_again(&mut self, wire: &mut C::Wire) -> Result<Option<Heard>, AllocError>
+        ensures same { self.new ≡ self.old }
         ensures silent { IfOk result (λ o. IfNone o (Keeps (C.Wire.incoming wire.old) (C.Wire.incoming wire.new)
             × (IsAtEnd (C.Wire.incoming wire.old) ⊎ HasRisen (C.Wire.failed wire.old) (C.Wire.failed wire.new)))) }
-        ensures told { IfOk result (λ o. IfSome o (λ h. OfBytes (C.Wire.incoming wire.old)
-            (AnswersBytes self.now.robots at.now (C.Wire.failed wire.old) (C.Wire.failed wire.new) (outcome_told self.now.robots at.now h.told) (body_told h.told)))) }
+        ensures told { (at : AddressText) → IfOk result (λ o. IfSome o (λ h. OfBytes (C.Wire.incoming wire.old)
+            (AnswersBytes self.old.robots at (C.Wire.failed wire.old) (C.Wire.failed wire.new) (outcome_told self.old.robots at h.told) (body_told h.told)))) }
         ensures serves { IfOk result (λ o. IfSome o (λ h. IsTrue h.serves → Reusable (C.Wire.incoming wire.old) (C.Wire.incoming wire.new) true)) }
         ensures written { Keeps (C.Wire.outgoing wire.old) (C.Wire.outgoing wire.new) }
     {
-        let _ = at;
-        match read_reply_if_any(self.alloc, wire) {
+        match read_reply_if_any(&mut self.room, self.alloc, wire) {
             Ok(Some(Reply { response, reusable })) => Ok(Some(Heard {
                 told: Told::Whole(Given::new(response)),
                 serves: reusable,
@@ -219,16 +224,17 @@ impl<C: Connect> HttpFetcher<C> {
     }
 
     // What is told over a new wire. The error is want of memory.
-    fn told_over(&self, wire: &mut C::Wire, at: &Address) -> Result<Heard, AllocError>
-        ensures told { IfOk result (λ h. ComesOver C.Wire.incoming C.Wire.outgoing C.Wire.failed self.now.robots self.now.keeps at.now wire.old
-            (outcome_told self.now.robots at.now h.told) (body_told h.told)) }
-        ensures serves { IfOk result (λ h. IsTrue h.serves → LeavesUsable C.Wire.incoming C.Wire.outgoing self.now.keeps at.now wire.old wire.new) }
+    fn told_over(&mut self, wire: &mut C::Wire, at: &Address) -> Result<Heard, AllocError>
+        ensures same { self.new ≡ self.old }
+        ensures told { IfOk result (λ h. ComesOver C.Wire.incoming C.Wire.outgoing C.Wire.failed self.old.robots self.old.keeps at.now wire.old
+            (outcome_told self.old.robots at.now h.told) (body_told h.told)) }
+        ensures serves { IfOk result (λ h. IsTrue h.serves → LeavesUsable C.Wire.incoming C.Wire.outgoing self.old.keeps at.now wire.old wire.new) }
         // Nothing is written behind the request.
-        ensures sent { Appends (C.Wire.outgoing wire.old) (C.Wire.outgoing wire.new) (request_by self.now.keeps at.now)
+        ensures sent { Appends (C.Wire.outgoing wire.old) (C.Wire.outgoing wire.new) (request_by self.old.keeps at.now)
             ⊎ HasRisen (C.Wire.failed wire.old) (C.Wire.failed wire.new) }
     {
         match self.write(wire, at) {
-            Ok(()) => self.read_told(wire, at),
+            Ok(()) => self.read_told(wire),
             Err(_) => Ok(Heard {
                 told: Told::Fault(FaultKind::Device),
                 serves: false,
@@ -237,14 +243,15 @@ impl<C: Connect> HttpFetcher<C> {
     }
 
     // What is told over a wire that served before: none where no byte came. The error is want of memory.
-    fn told_again(&self, wire: &mut C::Wire, at: &Address) -> Result<Option<Heard>, AllocError>
-        ensures silent { IfOk result (λ o. IfNone o (IsSilentOn C.Wire.incoming C.Wire.outgoing C.Wire.failed self.now.keeps at.now wire.old)) }
-        ensures told { IfOk result (λ o. IfSome o (λ h. ComesOver C.Wire.incoming C.Wire.outgoing C.Wire.failed self.now.robots self.now.keeps at.now wire.old
-            (outcome_told self.now.robots at.now h.told) (body_told h.told))) }
-        ensures serves { IfOk result (λ o. IfSome o (λ h. IsTrue h.serves → LeavesUsable C.Wire.incoming C.Wire.outgoing self.now.keeps at.now wire.old wire.new)) }
+    fn told_again(&mut self, wire: &mut C::Wire, at: &Address) -> Result<Option<Heard>, AllocError>
+        ensures same { self.new ≡ self.old }
+        ensures silent { IfOk result (λ o. IfNone o (IsSilentOn C.Wire.incoming C.Wire.outgoing C.Wire.failed self.old.keeps at.now wire.old)) }
+        ensures told { IfOk result (λ o. IfSome o (λ h. ComesOver C.Wire.incoming C.Wire.outgoing C.Wire.failed self.old.robots self.old.keeps at.now wire.old
+            (outcome_told self.old.robots at.now h.told) (body_told h.told))) }
+        ensures serves { IfOk result (λ o. IfSome o (λ h. IsTrue h.serves → LeavesUsable C.Wire.incoming C.Wire.outgoing self.old.keeps at.now wire.old wire.new)) }
     {
         match self.write(wire, at) {
-            Ok(()) => self.read_again(wire, at),
+            Ok(()) => self.read_again(wire),
             Err(_) => Ok(None),
         }
     }

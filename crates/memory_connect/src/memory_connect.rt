@@ -204,7 +204,7 @@ impl<'a> Connect for MemoryConnect<'a> {
         ensures refused { self.new.refused ≡ self.old.refused }
         ensures taken { self.new.taken ≡ self.old.taken }
         ensures stands { StaysWith (λ of wire. self.old.kept ≡ Some (of, wire)) (λ of wire. self.new.kept ≡ Some (of, wire)) of.now (λ w. w ≡ rested wire.entry) }
-        ensures kept { (self.new ≡ record self.old { kept = Some (of.now, rested wire.entry) }) ⊎ (self.new ≡ self.old) }
+        ensures kept { (IsAtEnd wire.entry.rest × (self.new ≡ record self.old { kept = Some (of.now, rested wire.entry) })) ⊎ (self.new ≡ self.old) }
     {
         if !wire.is_at_end() {
             return;

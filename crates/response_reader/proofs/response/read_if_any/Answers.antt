@@ -23,13 +23,13 @@ returns-in_err-reusable-in-Ok-true-clause-device g c is =
     c.in_err-reusable-in-Ok-true.field-0.0 (none_counted _ _ c.in_ok-incoming.ensures.uninterrupted)
     (fault_counts_after c.in_err-reusable-in-Ok-true.field-0.0 _ _ _ c.in-Ok-true.ensures.counts c.in_err-reusable-in-Ok-true.ensures.counts) device
 
-pub returns-in-Ok-true-clause-reusable : goal.returns-in-Ok-true-clause-reusable
-returns-in-Ok-true-clause-reusable g c =
+pub returns-in_ok-reusable-in-Ok-true-clause-reusable : goal.returns-in_ok-reusable-in-Ok-true-clause-reusable
+returns-in_ok-reusable-in-Ok-true-clause-reusable g c =
     reusable_first _ (prepend_known c.fill.new.self.unread (g.W.Wire.incoming c.fill.new.wire)) _ _
     (ahead_first _ _ _ _ _ _ c.in_ok-incoming.ensures.none c.in-Ok-true.ensures.fills) c.in_ok-reusable-in-Ok-true.ensures.reusable
 
-pub returns-clause-ends : goal.returns-clause-ends
-returns-clause-ends g c =
+pub returns-in-Err-clause-ends : goal.returns-in-Err-clause-ends
+returns-in-Err-clause-ends g c =
     inr (risen_of (g.W.Wire.failed c.args.wire.now)
     (tally (g.W.Wire.failed c.args.wire.now) (g.W.Wire.reads_never_fail c.args.wire.now) (g.W.Wire.never_errs c.args.wire.now) (g.W.Wire.outgoing c.args.wire.now) (g.W.Wire.lost c.args.wire.now) c.in_ok-incoming.incoming.interrupted)
     (tally (g.W.Wire.failed c.fill.new.wire) (g.W.Wire.reads_never_fail c.fill.new.wire) (g.W.Wire.never_errs c.fill.new.wire) (g.W.Wire.outgoing c.fill.new.wire) (g.W.Wire.lost c.fill.new.wire) c.fill.new.self.interrupted)
