@@ -12,4 +12,3 @@ pub mod Rules
 pub mod Plans
 pub mod Levels
 pub mod Lists
-pub mod inner

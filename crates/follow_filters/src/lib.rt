@@ -22,7 +22,6 @@ mod limit;
 mod lists;
 mod pattern;
 mod plan;
-mod plan_copies;
 mod rule;
 mod spelling;
 mod wildcards;

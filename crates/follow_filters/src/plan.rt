@@ -1,6 +1,6 @@
 //! The plan of a retrieval: where it starts, how far it goes and what it may follow
 //! (GNU Wget manual, chapters Recursive Download and Following Links).
-ghost use Rattle.std.specs.Prelude.{◌≡◌, ◌≤◌, true, false};
+ghost use Rattle.std.specs.Prelude.{◌≡◌, ◌≤◌, ◌↔◌, true, false, IsTrue, IfOk};
 ghost use Rattle.address.specs.Address.{is_robots_file};
 ghost use Rattle.follow_filters.specs.declared.plan.TheConstants.{MAX_URLS, MAX_PER_HOST};
 ghost use Rattle.follow_filters.specs.Limits.{is_in_range};
@@ -11,6 +11,7 @@ use crate::elements::Elements;
 use crate::limit::Limit;
 use crate::pattern::Pattern;
 use address::Address;
+use std::alloc::{AllocError, Global};
 
 /// The most addresses that a retrieval may hold.
 pub const MAX_URLS: u32 = 1_000_000;
@@ -19,7 +20,7 @@ pub const MAX_URLS: u32 = 1_000_000;
 pub const MAX_PER_HOST: u32 = 16;
 
 /// What to retrieve. A list of elements that is empty counts as not given.
-#[derive(Drop)]
+#[derive(PartialEq, Drop)]
 pub struct Plan {
     /// Where the retrieval starts. It isn't a robots file.
     pub start: Address,
@@ -55,4 +56,67 @@ pub struct Plan {
     pub ghost max_urls_in_range: { max_urls ≤ MAX_URLS },
     pub ghost some_per_host: { 1 ≤ per_host },
     pub ghost per_host_in_range: { per_host ≤ MAX_PER_HOST },
+}
+
+impl Plan {
+    ghost use Rattle.follow_filters.specs.Plans.{IsUnfiltered};
+
+    /// A plan without filters: the start's host is followed but for its robots file, robots files
+    /// aren't honoured, nothing lies beyond the limit, and two requests may be out to an origin. Takes no memory.
+    pub fn unfiltered(alloc: Global, start: Address, limit: Limit, max_urls: u32) -> Plan
+        requires page { is_robots_file start ≡ false }
+        requires limit { is_in_range limit ≡ true }
+        requires some_urls { 1 ≤ max_urls }
+        requires max_urls { max_urls ≤ MAX_URLS }
+        ensures start { result.start ≡ start }
+        ensures limit { result.limit ≡ limit }
+        ensures max_urls { result.max_urls ≡ max_urls }
+        ensures filters { IsUnfiltered result }
+    {
+        Plan {
+            start,
+            limit,
+            span_hosts: false,
+            no_parent: false,
+            domains: Elements::none(alloc),
+            exclude_domains: Elements::none(alloc),
+            include_dirs: Elements::none(alloc),
+            exclude_dirs: Elements::none(alloc),
+            accept: Elements::none(alloc),
+            reject: Elements::none(alloc),
+            robots: false,
+            page_requisites: false,
+            max_urls,
+            per_host: 2,
+        }
+    }
+
+    /// An equal plan.
+    pub fn try_clone(&self) -> Result<Plan, AllocError>
+        ensures { IfOk result (λ copy. copy ≡ self.now) }
+    {
+        Ok(Plan {
+            start: self.start.try_clone()?,
+            limit: self.limit,
+            span_hosts: self.span_hosts,
+            no_parent: self.no_parent,
+            domains: self.domains.clone()?,
+            exclude_domains: self.exclude_domains.clone()?,
+            include_dirs: self.include_dirs.clone()?,
+            exclude_dirs: self.exclude_dirs.clone()?,
+            accept: self.accept.clone()?,
+            reject: self.reject.clone()?,
+            robots: self.robots,
+            page_requisites: self.page_requisites,
+            max_urls: self.max_urls,
+            per_host: self.per_host,
+        })
+    }
+
+    /// Whether the plans are equal. Takes no memory.
+    pub fn same(&self, other: &Plan) -> bool
+        ensures { IsTrue result ↔ (self.now ≡ other.now) }
+    {
+        self == other
+    }
 }

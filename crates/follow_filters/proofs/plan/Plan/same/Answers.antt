@@ -5,4 +5,4 @@ use Rattle.follow_filters.proofs.plan.Plan.same.Goals as goal
 pub returns : goal.returns
 returns c =
     let same = same_plans c.args.self.now c.args.other.now in
-    (λ yes. same.0 (sym c.is_same.ensures ∙ yes), λ equal. c.is_same.ensures ∙ same.1 equal)
+    (λ yes. same.0 (sym c.eq.ensures ∙ yes), λ equal. c.eq.ensures ∙ same.1 equal)
