@@ -6,6 +6,7 @@ mod asking;
 mod disk;
 mod network;
 mod over_tcp;
+mod part_threads;
 mod shared_failures;
 
 pub use crate::asking::Asking;

@@ -12,6 +12,7 @@ use std::alloc::{AllocError, Global};
 use std::fs::Files;
 use std::net::Net;
 use std::sync::Wait;
+use std::thread::Threads;
 use std::time::Clock;
 use streams::ReadFault;
 use tcp_connect::{Hosts, Kept, TcpConnect};
@@ -76,7 +77,7 @@ impl<'a, R: Net + Wait + Files + Clock + Eprint> Network<'a, R> {
     }
 }
 
-impl<'a, R: Net + Wait + Files + Clock + Eprint + Sync> System for Network<'a, R>
+impl<'a, R: Net + Wait + Files + Clock + Eprint + Threads + Sync> System for Network<'a, R>
 where
     R::File: Close + Lock + Send + Sync,
     R::Stream: Send,
