@@ -19,6 +19,7 @@ pub struct Disk<'a, R: Net + Files + Wait> {
     pub(crate) inner: DiskFolder<'a, R>,
     pub(crate) rt: &'a R,
     pub(crate) kept: &'a Kept<R::Stream>,
+    pub(crate) crew: &'a PartThreads<'a, R>,
     pub(crate) failures: &'a SharedFailures,
 }
 
@@ -34,7 +35,7 @@ where
     }
 }
 
-impl<'a, R: Net + Files + Wait + Threads + Sync> Folder for Disk<'a, R>
+impl<'a, R: Net + Files + Wait + Threads> Folder for Disk<'a, R>
 where
     R::File: Close,
 {
@@ -55,8 +56,7 @@ where
 
     fn put_site(&mut self, names: &[String], harvest: &Harvest) -> Result<(), WriteFault> {
         self.kept.end_waiting(self.rt);
-        let crew = PartThreads { rt: self.rt };
-        let put = self.inner.put_site_by(&crew, names, harvest);
+        let put = self.inner.put_site_by(self.crew, names, harvest);
         if let Err(WriteFault::Device(place)) = put {
             if let Some(name) = names.get(place) {
                 self.note(name.as_str());

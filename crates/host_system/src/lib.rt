@@ -13,4 +13,5 @@ pub use crate::asking::Asking;
 pub use crate::disk::{Disk, Saved};
 pub use crate::network::Network;
 pub use crate::over_tcp::OverTcp;
+pub use crate::part_threads::PartThreads;
 pub use crate::shared_failures::SharedFailures;

@@ -2,6 +2,7 @@
 use crate::asking::Asking;
 use crate::disk::{Disk, Saved};
 use crate::over_tcp::OverTcp;
+use crate::part_threads::PartThreads;
 use crate::shared_failures::SharedFailures;
 use http_fetcher::HttpFetcher;
 use local_tree::{Close, DiskFolder};
@@ -26,6 +27,7 @@ pub struct Network<'a, R: Net + Wait + Files + Clock + Eprint> {
     kept: &'a Kept<R::Stream>,
     progress: &'a Progress<'a, R>,
     saving: &'a Saving<R>,
+    crew: &'a PartThreads<'a, R>,
     failures: &'a SharedFailures,
     process: u32,
 }
@@ -33,8 +35,8 @@ pub struct Network<'a, R: Net + Wait + Files + Clock + Eprint> {
 impl<'a, R: Net + Wait + Files + Clock + Eprint> Network<'a, R> {
     ghost use Rattle.std.specs.Prelude.{◌≡◌, is_some};
 
-    /// By this handle, with what the run knows of hosts and keeps of connections, the line that counts them, where it saves and what
-    /// keeps why something failed, for the process of this number. Takes no memory.
+    /// By this handle, with what the run knows of hosts and keeps of connections, the line that counts them, where it saves, what
+    /// writes parts of files and what keeps why something failed, for the process of this number. Takes no memory.
     pub fn new(
         rt: &'a R,
         alloc: Global,
@@ -42,6 +44,7 @@ impl<'a, R: Net + Wait + Files + Clock + Eprint> Network<'a, R> {
         kept: &'a Kept<R::Stream>,
         progress: &'a Progress<'a, R>,
         saving: &'a Saving<R>,
+        crew: &'a PartThreads<'a, R>,
         failures: &'a SharedFailures,
         process: u32,
     ) -> Network<'a, R> {
@@ -52,6 +55,7 @@ impl<'a, R: Net + Wait + Files + Clock + Eprint> Network<'a, R> {
             kept,
             progress,
             saving,
+            crew,
             failures,
             process,
         }
@@ -117,6 +121,7 @@ where
                 inner,
                 rt: self.rt,
                 kept: self.kept,
+                crew: self.crew,
                 failures: self.failures,
             }),
             Err(_) => Err(AllocError),

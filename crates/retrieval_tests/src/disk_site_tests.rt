@@ -8,31 +8,47 @@ use local_tree::{Close, DiskFolder, Part, PartCrew, WriteFault, names, write_sit
 use robots_rules::RuleSet;
 use site_maps::MapSite;
 use std::alloc::{AllocError, Global};
+use std::fs;
 use std::fs::Files;
 use std::io::ErrorKind;
 use std::process::Abort;
-use std::thread::Threads;
-use std::{fs, thread};
+use std::thread::{Threads, join_mut};
 use workers::retrieve_in_order;
 
 /// In how many directories the pages of a site stand.
 const DIRECTORIES: u16 = 7;
 
-/// Writes parts in four threads.
+/// Writes parts in two threads.
 #[derive(Drop)]
-struct InThreads<'a, T, R> {
+struct InThreads<'a, T> {
     threads: &'a T,
-    disk: &'a R,
+    disk: &'a Disk,
 }
 
-impl<'a, T: Threads + Sync, R: Files + Sync> PartCrew for InThreads<'a, T, R>
+/// Writes these parts.
+fn write_all<R: Files>(disk: &R, parts: &mut [Part<'_>])
 where
     R::File: Close,
 {
-    fn write_parts(&self, parts: &mut [Part<'_>]) {
-        let disk = self.disk;
-        thread::for_each_mut(self.threads, parts, 4, &|_, part| part.write(disk));
+    for part in parts {
+        part.write(disk);
     }
+}
+
+impl<'a, T: Threads> PartCrew for InThreads<'a, T> {
+    fn write_parts(&self, parts: &mut [Part<'_>]) {
+        write_in_two(self.threads, self.disk, parts);
+    }
+}
+
+/// Writes these parts in two threads.
+fn write_in_two<T: Threads>(threads: &T, disk: &Disk, parts: &mut [Part<'_>]) {
+    let (front, back) = parts.split_at_mut(parts.len() / 2);
+    join_mut(
+        threads,
+        &mut || write_all(disk, front),
+        &mut || write_all(disk, back),
+    );
 }
 
 /// Writes parts in turn.
@@ -46,9 +62,7 @@ where
     R::File: Close,
 {
     fn write_parts(&self, parts: &mut [Part<'_>]) {
-        for part in parts {
-            part.write(self.disk);
-        }
+        write_all(self.disk, parts);
     }
 }
 
@@ -170,10 +184,10 @@ fn are_put(
     true
 }
 
-/// How many entries the folder `disk` has. It has the directory of the host, and a part that stays stands beside it.
-fn entries<R: Abort + Files + AllocGlobal + Clone + Drop>(rt: &R) -> usize {
+/// How many entries a directory has. The folder has that of the host, and a part that stays stands beside it.
+fn entries<R: Abort + Files + AllocGlobal + Clone + Drop>(rt: &R, path: &str) -> usize {
     let mut entries = 0usize;
-    for entry in fs::read_dir(rt, "disk").expect(rt, "the disk") {
+    for entry in fs::read_dir(rt, path).expect(rt, "the disk") {
         entry.expect(rt, "the disk");
         entries = entries.wrapping_add(1);
     }
@@ -223,19 +237,25 @@ where
     }
 }
 
+/// A disk of the test to which something befalls.
+fn disk(rt: HostRuntime, alloc: Global, mishap: Mishap) -> Result<Disk, AllocError> {
+    clear(&rt, alloc);
+    Disk::new(rt, alloc, mishap)
+}
+
 #[test]
 fn a_site_is_put_by_threads(rt: HostRuntime) {
     let harvest = harvest_of(&rt, rt.alloc(), 300);
     let names = names_of(&rt, rt.alloc(), &harvest, 300);
+    let disk = disk(rt, rt.alloc(), Mishap::Holds(u64::MAX)).expect(&rt, "memory");
     let crew = InThreads {
         threads: &rt,
-        disk: &rt,
+        disk: &disk,
     };
-    clear(&rt, rt.alloc());
     for _ in 0..2u8 {
-        assert!(rt; put(&rt, rt.alloc(), &rt, &crew, &names, &harvest) == (300, None));
+        assert!(rt; put(&rt, rt.alloc(), &disk, &crew, &names, &harvest) == (300, None));
         assert!(rt; are_put(&rt, &names, &harvest, 300));
-        assert_eq!(rt; entries(&rt), 1);
+        assert_eq!(rt; entries(&rt, "disk"), 1);
         // What a killed run left is in nobody's way.
         fs::write(&rt, "disk/.wgetr%part17", "left").expect(&rt, "the disk");
         fs::write(&rt, "disk/.wgetr%part17.3", "left").expect(&rt, "the disk");
@@ -247,9 +267,9 @@ fn a_site_is_put_by_threads(rt: HostRuntime) {
 
 #[test]
 fn what_a_crew_leaves_out_is_put_all_the_same(rt: HostRuntime) {
-    for files in [0u16, 1, 2, 15, 16, 17, 257, 258, 270] {
-        let harvest = harvest_of(&rt, rt.alloc(), files.max(1));
-        let count = usize::from(files.max(1));
+    for files in [1u16, 2, 15, 16, 17, 257, 258, 270] {
+        let harvest = harvest_of(&rt, rt.alloc(), files);
+        let count = usize::from(files);
         let names = names_of(&rt, rt.alloc(), &harvest, count);
         clear(&rt, rt.alloc());
         assert!(rt;
@@ -270,74 +290,140 @@ fn what_a_crew_leaves_out_is_put_all_the_same(rt: HostRuntime) {
             "{files}"
         );
         assert!(rt; are_put(&rt, &names, &harvest, count), "{files}");
-        assert_eq!(rt; entries(&rt), 1);
+        assert_eq!(rt; entries(&rt, "disk"), 1);
         drop(harvest);
     }
 }
+
+/// At which file a directory stands in its place, and how many entries the host's directory has then: the start, and a directory
+/// for each directory of the site up to there, of which each has 42 or 43 pages.
+const PLACES: [(usize, usize); 9] = [
+    (0, 1),
+    (1, 2),
+    (2, 2),
+    (42, 2),
+    (43, 3),
+    (130, 5),
+    (256, 7),
+    (257, 7),
+    (299, 8),
+];
 
 #[test]
 fn no_file_is_put_behind_one_that_cannot_be(rt: HostRuntime) {
     let harvest = harvest_of(&rt, rt.alloc(), 300);
     let names = names_of(&rt, rt.alloc(), &harvest, 300);
-    let crew = InThreads {
-        threads: &rt,
-        disk: &rt,
-    };
-    for place in [0usize, 1, 2, 130, 256, 257, 299] {
-        clear(&rt, rt.alloc());
+    for (place, directories) in PLACES {
+        let disk = disk(rt, rt.alloc(), Mishap::Holds(u64::MAX)).expect(&rt, "memory");
+        let crew = InThreads {
+            threads: &rt,
+            disk: &disk,
+        };
         let name = names.get(place).expect(&rt, "a name");
         let path = format!(in rt.alloc(); "disk/{name}").expect(&rt, "memory");
         fs::create_dir_all(&rt, path.as_str()).expect(&rt, "the disk");
-        let ended = put(&rt, rt.alloc(), &rt, &crew, &names, &harvest);
+        let ended = put(&rt, rt.alloc(), &disk, &crew, &names, &harvest);
         assert!(rt; ended == (place, Some(ErrorKind::AlreadyExists)), "{place}");
         assert!(rt; are_put(&rt, &names, &harvest, place), "{place}");
-        assert_eq!(rt; entries(&rt), 1);
+        assert_eq!(rt; entries(&rt, "disk"), 1);
+        assert_eq!(rt; entries(&rt, "disk/h"), directories);
     }
     drop(harvest);
+}
+
+/// How many bytes the files of a site have in all.
+fn bytes_of(harvest: &Harvest) -> u64 {
+    let mut bytes = 0u64;
+    for i in 0..harvest.kept().len() {
+        bytes = bytes.wrapping_add(harvest.body(i).len() as u64);
+    }
+    bytes
 }
 
 #[test]
 fn a_full_disk_holds_as_many_files_as_in_turn(rt: HostRuntime) {
     let harvest = harvest_of(&rt, rt.alloc(), 300);
     let names = names_of(&rt, rt.alloc(), &harvest, 300);
-    for room in [0u64, 1, 40, 41, 42, 43, 44, 800, 1_500, 10_000] {
-        clear(&rt, rt.alloc());
-        let disk = Disk::new(rt, rt.alloc(), Mishap::Holds(room)).expect(&rt, "memory");
-        let whole = put_in_turn(&rt, rt.alloc(), &disk, &names, &harvest);
-        clear(&rt, rt.alloc());
-        let disk = Disk::new(rt, rt.alloc(), Mishap::Holds(room)).expect(&rt, "memory");
+    let all = bytes_of(&harvest);
+    for room in [
+        0,
+        1,
+        2,
+        40,
+        41,
+        42,
+        43,
+        44,
+        800,
+        1_500,
+        all.wrapping_sub(1),
+        all,
+    ] {
+        let first = disk(rt, rt.alloc(), Mishap::Holds(room)).expect(&rt, "memory");
+        let whole = put_in_turn(&rt, rt.alloc(), &first, &names, &harvest);
+        assert!(rt; (whole == 300) == (room >= all), "{room}");
+        let second = disk(rt, rt.alloc(), Mishap::Holds(room)).expect(&rt, "memory");
         let crew = InThreads {
             threads: &rt,
-            disk: &disk,
+            disk: &second,
         };
-        let (put, error) = put(&rt, rt.alloc(), &disk, &crew, &names, &harvest);
+        let (put, error) = put(&rt, rt.alloc(), &second, &crew, &names, &harvest);
         assert_eq!(rt; put, whole);
-        assert!(rt; error.is_some() == (whole < 300), "{room}");
+        let is_full = error == Some(ErrorKind::StorageFull);
         assert!(rt;
-            (error == Some(ErrorKind::StorageFull)) == (whole < 300),
+            is_full == (room < all) && is_full == error.is_some(),
             "{room}"
         );
         assert!(rt; are_put(&rt, &names, &harvest, whole), "{room}");
-        assert_eq!(rt; entries(&rt), 1);
+        assert_eq!(rt; entries(&rt, "disk"), 1);
     }
     drop(harvest);
 }
 
 #[test]
-fn a_call_that_fails_once_costs_no_more_than_its_file(rt: HostRuntime) {
+fn files_are_replaced_where_a_disk_has_room_for_few(rt: HostRuntime) {
+    let harvest = harvest_of(&rt, rt.alloc(), 300);
+    let names = names_of(&rt, rt.alloc(), &harvest, 300);
+    let room = bytes_of(&harvest).wrapping_add(10);
+    let disk = disk(rt, rt.alloc(), Mishap::Holds(room)).expect(&rt, "memory");
+    let crew = InThreads {
+        threads: &rt,
+        disk: &disk,
+    };
+    for _ in 0..2u8 {
+        assert!(rt; put(&rt, rt.alloc(), &disk, &crew, &names, &harvest) == (300, None));
+        assert!(rt; are_put(&rt, &names, &harvest, 300));
+        assert_eq!(rt; entries(&rt, "disk"), 1);
+    }
+    drop(harvest);
+}
+
+#[test]
+fn a_disk_that_fails_leaves_whole_files_of_a_site(rt: HostRuntime) {
     let harvest = harvest_of(&rt, rt.alloc(), 20);
     let names = names_of(&rt, rt.alloc(), &harvest, 20);
-    for from in 0..220u64 {
-        clear(&rt, rt.alloc());
-        let disk = Disk::new(rt, rt.alloc(), Mishap::Fails(from, 1)).expect(&rt, "memory");
-        let crew = InThreads {
-            threads: &rt,
-            disk: &disk,
-        };
-        let (whole, error) = put(&rt, rt.alloc(), &disk, &crew, &names, &harvest);
-        // What fails with the first file, or where none can be told, ends it; a crew's failure is made good.
-        assert!(rt; error.is_none() || whole == 0, "{from}");
-        assert!(rt; are_put(&rt, &names, &harvest, whole), "{from}");
+    for from in 0..180u64 {
+        for lasting in [1, u64::MAX] {
+            let disk = disk(rt, rt.alloc(), Mishap::Fails(from, lasting)).expect(&rt, "memory");
+            let crew = InThreads {
+                threads: &rt,
+                disk: &disk,
+            };
+            let (whole, error) = put(&rt, rt.alloc(), &disk, &crew, &names, &harvest);
+            assert!(rt; error.is_some() == (whole < 20), "{from} {lasting}");
+            assert!(rt; are_put(&rt, &names, &harvest, whole), "{from} {lasting}");
+            // One failure stops the first file, which is put alone, and costs a later one a second try.
+            assert!(rt; lasting > 1 || whole == 0 || whole == 20, "{from}");
+            assert!(rt;
+                lasting > 1 || whole == 0 || entries(&rt, "disk") == 1,
+                "{from}"
+            );
+            disk.log().mend();
+            let ended = put(&rt, rt.alloc(), &disk, &crew, &names, &harvest);
+            assert!(rt; ended == (20, None), "{from} {lasting}");
+            assert!(rt; are_put(&rt, &names, &harvest, 20), "{from} {lasting}");
+            assert_eq!(rt; entries(&rt, "disk"), 1);
+        }
     }
     drop(harvest);
 }
