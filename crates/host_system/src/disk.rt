@@ -1,24 +1,41 @@
 //! What is put on the disk: the pages' folder, and a record. What can't be put there is kept for a person.
+use crate::part_threads::PartThreads;
 use crate::shared_failures::SharedFailures;
-use local_tree::{Close, DiskFolder, Folder, FolderFault};
+use harvest::Harvest;
+use local_tree::{Close, DiskFolder, Folder, FolderFault, WriteFault};
 use record_journal::SavedFile;
 use std::fs::Files;
 use std::io;
 use std::io::{ErrorKind, Write};
 use std::net::Net;
 use std::sync::Wait;
+use std::thread::Threads;
 use tcp_connect::Kept;
 
-/// The folder of a run's pages. Before one is put the connections that wait are ended, since a file needs a descriptor too.
+/// The folder of a run's pages. Before one is put the connections that wait are ended, since a file needs a descriptor too. Those
+/// of a site are made ready in threads.
 #[derive(Drop)]
 pub struct Disk<'a, R: Net + Files + Wait> {
     pub(crate) inner: DiskFolder<'a, R>,
     pub(crate) rt: &'a R,
     pub(crate) kept: &'a Kept<R::Stream>,
+    pub(crate) crew: &'a PartThreads<'a, R>,
     pub(crate) failures: &'a SharedFailures,
 }
 
-impl<'a, R: Net + Files + Wait> Folder for Disk<'a, R>
+impl<'a, R: Net + Files + Wait> Disk<'a, R>
+where
+    R::File: Close,
+{
+    // Keeps why the file of this name couldn't be put.
+    fn note(&self, name: &str) {
+        if let Some(error) = self.inner.error() {
+            self.failures.fail(self.rt, name, error);
+        }
+    }
+}
+
+impl<'a, R: Net + Files + Wait + Threads> Folder for Disk<'a, R>
 where
     R::File: Close,
 {
@@ -31,8 +48,19 @@ where
     fn put(&mut self, name: &str, bytes: &[u8]) -> Result<(), FolderFault> {
         self.kept.end_waiting(self.rt);
         let put = self.inner.put(name, bytes);
-        if let (Err(_), Some(error)) = (&put, self.inner.error()) {
-            self.failures.fail(self.rt, name, error);
+        if put.is_err() {
+            self.note(name);
+        }
+        put
+    }
+
+    fn put_site(&mut self, names: &[String], harvest: &Harvest) -> Result<(), WriteFault> {
+        self.kept.end_waiting(self.rt);
+        let put = self.inner.put_site_by(self.crew, names, harvest);
+        if let Err(WriteFault::Device(place)) = put {
+            if let Some(name) = names.get(place) {
+                self.note(name.as_str());
+            }
         }
         put
     }

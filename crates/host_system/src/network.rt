@@ -2,6 +2,7 @@
 use crate::asking::Asking;
 use crate::disk::{Disk, Saved};
 use crate::over_tcp::OverTcp;
+use crate::part_threads::PartThreads;
 use crate::shared_failures::SharedFailures;
 use http_fetcher::HttpFetcher;
 use local_tree::{Close, DiskFolder};
@@ -12,6 +13,7 @@ use std::alloc::{AllocError, Global};
 use std::fs::Files;
 use std::net::Net;
 use std::sync::Wait;
+use std::thread::Threads;
 use std::time::Clock;
 use streams::ReadFault;
 use tcp_connect::{Hosts, Kept, TcpConnect};
@@ -25,6 +27,7 @@ pub struct Network<'a, R: Net + Wait + Files + Clock + Eprint> {
     kept: &'a Kept<R::Stream>,
     progress: &'a Progress<'a, R>,
     saving: &'a Saving<R>,
+    crew: &'a PartThreads<'a, R>,
     failures: &'a SharedFailures,
     process: u32,
 }
@@ -32,8 +35,8 @@ pub struct Network<'a, R: Net + Wait + Files + Clock + Eprint> {
 impl<'a, R: Net + Wait + Files + Clock + Eprint> Network<'a, R> {
     ghost use Rattle.std.specs.Prelude.{◌≡◌, is_some};
 
-    /// By this handle, with what the run knows of hosts and keeps of connections, the line that counts them, where it saves and what
-    /// keeps why something failed, for the process of this number. Takes no memory.
+    /// By this handle, with what the run knows of hosts and keeps of connections, the line that counts them, where it saves, what
+    /// writes parts of files and what keeps why something failed, for the process of this number. Takes no memory.
     pub fn new(
         rt: &'a R,
         alloc: Global,
@@ -41,6 +44,7 @@ impl<'a, R: Net + Wait + Files + Clock + Eprint> Network<'a, R> {
         kept: &'a Kept<R::Stream>,
         progress: &'a Progress<'a, R>,
         saving: &'a Saving<R>,
+        crew: &'a PartThreads<'a, R>,
         failures: &'a SharedFailures,
         process: u32,
     ) -> Network<'a, R> {
@@ -51,6 +55,7 @@ impl<'a, R: Net + Wait + Files + Clock + Eprint> Network<'a, R> {
             kept,
             progress,
             saving,
+            crew,
             failures,
             process,
         }
@@ -76,7 +81,7 @@ impl<'a, R: Net + Wait + Files + Clock + Eprint> Network<'a, R> {
     }
 }
 
-impl<'a, R: Net + Wait + Files + Clock + Eprint + Sync> System for Network<'a, R>
+impl<'a, R: Net + Wait + Files + Clock + Eprint + Threads + Sync> System for Network<'a, R>
 where
     R::File: Close + Lock + Send + Sync,
     R::Stream: Send,
@@ -116,6 +121,7 @@ where
                 inner,
                 rt: self.rt,
                 kept: self.kept,
+                crew: self.crew,
                 failures: self.failures,
             }),
             Err(_) => Err(AllocError),

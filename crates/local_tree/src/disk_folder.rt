@@ -1,20 +1,30 @@
 //! A folder on a disk. Nothing of what a disk holds is proved; the tests show it.
-ghost use Rattle.std.specs.Prelude.{◌≡◌, None, IfOk, IfErr};
+ghost use Rattle.std.specs.Prelude.{◌≡◌, None, IfOk, IfErr, OnOk, length, map, string_bytes};
 ghost use Rattle.std.specs.IoError.{error_kind};
 ghost use Rattle.local_tree.specs.Folders.{CountsRefusedPut, opened_at};
+ghost use Rattle.local_tree.specs.SiteFiles.{IsTornBy};
 
 use crate::close::Close;
 use crate::folder::{Folder, FolderFault};
 use crate::local_name::is_local_name;
-use std::alloc::Global;
-use std::fs::{File, Files};
-use std::io::{Error, ErrorKind, Write};
+use crate::parts::{Part, PartCrew, write_new};
+use crate::site_files::WriteFault;
+use harvest::Harvest;
+use std::alloc::{AllocError, Global};
+use std::fs::Files;
+use std::io::{Error, ErrorKind};
 use std::marker::Model;
 use std::{fs, io};
 
 /// What the file is called, directly below the folder, that is written before it gets its name; a
 /// number follows. No host has a `%` (URL Standard, section 3.1), so no page has a name that begins so.
 const PART: &str = ".wgetr%part";
+
+/// How many files of a site are made ready together, at most.
+const BATCH: usize = 256;
+
+/// A site of fewer files is put one file after another.
+const FEW: usize = 16;
 
 /// Files below a folder of the system. A file is written under another name and gets its own when it
 /// is whole and closed without an error, so nobody sees half of it, and what stood there stays until then.
@@ -118,27 +128,6 @@ fn look_for_file<R: Files>(rt: &R, path: &str) -> io::Result<()> {
     }
 }
 
-// Makes a new file. What a killed run left there is taken away first; a link isn't followed.
-fn create_new<R: Files>(rt: &R, path: &str) -> io::Result<R::File> {
-    match File::create_new(rt, path) {
-        Err(e) if e.kind() == ErrorKind::AlreadyExists => {
-            rt.remove_file(path)?;
-            File::create_new(rt, path)
-        }
-        made => made,
-    }
-}
-
-// Writes a new file and closes it: some disks say only then that there is no room for what they took.
-fn write_new<R: Files>(rt: &R, path: &str, bytes: &[u8]) -> io::Result<()>
-where
-    R::File: Close,
-{
-    let mut file = create_new(rt, path)?;
-    file.write_all(bytes)?;
-    file.close()
-}
-
 // Writes a file under another name, and gives it its own when it is whole.
 fn put_by_way_of<R: Files>(rt: &R, part: &str, path: &str, bytes: &[u8]) -> io::Result<()>
 where
@@ -146,6 +135,23 @@ where
 {
     write_new(rt, part, bytes)?;
     rt.rename(part, path)
+}
+
+// The path of the part of this number of a batch.
+fn part_path(alloc: Global, part: &str, number: usize) -> Result<String, AllocError> {
+    format!(in alloc; "{part}.{number}")
+}
+
+// Whether a batch begins with the file at this place. The first file is put alone, since it is what makes the folder.
+fn begins_batch(place: usize, files: usize) -> bool {
+    files >= FEW && place % BATCH == 1
+}
+
+// Takes all these parts away.
+fn remove_all<R: Files>(rt: &R, parts: &[Part<'_>]) {
+    for part in parts {
+        part.remove(rt);
+    }
 }
 
 impl<'a, R: Files> DiskFolder<'a, R>
@@ -180,8 +186,8 @@ where
         self.error.as_ref()
     }
 
-    // Writes the file and gives it its name.
-    fn write(&mut self, name: &str, bytes: &[u8]) -> io::Result<()>
+    // Makes the directories of a file, and refuses what stands in its place. Gives its path.
+    fn find_place(&mut self, name: &str) -> io::Result<String>
         ensures { self.new ≡ self.old }
     {
         if !is_local_name(name) {
@@ -198,12 +204,116 @@ where
         }
         let path = path_below(self.alloc, self.prefix.as_str(), name)?;
         look_for_file(self.rt, path.as_str())?;
+        Ok(path)
+    }
+
+    // Writes the file and gives it its name.
+    fn write(&mut self, name: &str, bytes: &[u8]) -> io::Result<()>
+        ensures { self.new ≡ self.old }
+    {
+        let path = self.find_place(name)?;
         let put = put_by_way_of(self.rt, self.part.as_str(), path.as_str(), bytes);
         if put.is_err() {
             // A part that stays is taken away before the next file.
             let _ = self.rt.remove_file(self.part.as_str());
         }
         put
+    }
+
+    // Gives a part its name, where it is ready. Whether that ended well.
+    fn give_name(&mut self, part: &Part<'_>, name: &str) -> bool
+        ensures { self.new ≡ self.old }
+    {
+        if !part.is_ready() {
+            return false;
+        }
+        match self.find_place(name) {
+            Ok(path) => part.rename(self.rt, path.as_str()).is_ok(),
+            Err(_) => false,
+        }
+    }
+
+    // Puts a file by the last of these parts. Where there is none the file is put as any other; where it can't be put so, that is
+    // done once all these parts are taken away, so that the file has the room that it would have without them, and none stays
+    // where it fails.
+    fn put_next(
+        &mut self,
+        parts: &mut Vec<Part<'_>>,
+        name: &str,
+        bytes: &[u8],
+    ) -> Result<(), FolderFault>
+        ensures { CountsRefusedPut self.old.failed self.new.failed result }
+    {
+        if let Some(part) = parts.pop() {
+            if self.give_name(&part, name) {
+                return Ok(());
+            }
+            part.remove(self.rt);
+            remove_all(self.rt, parts.as_slice());
+            parts.clear();
+        }
+        self.put(name, bytes)
+    }
+
+    // The paths of parts have other names than that of a file that is put alone, and than those of other runs.
+    fn parts_from<'h>(
+        &self,
+        harvest: &'h Harvest,
+        from: usize,
+    ) -> Result<Vec<Part<'h>>, AllocError> {
+        let end = from.saturating_add(BATCH).min(harvest.kept().len());
+        let mut parts = Vec::new(self.alloc);
+        for i in from..end {
+            let path = part_path(self.alloc, self.part.as_str(), i % BATCH)?;
+            parts.push(Part::new(path, harvest.body(i)))?;
+        }
+        Ok(parts)
+    }
+
+    // Has the next files from this place on made ready, the last first. None, where there is no memory for them.
+    fn make_ready<'h, C: PartCrew>(
+        &self,
+        crew: &C,
+        harvest: &'h Harvest,
+        from: usize,
+    ) -> Vec<Part<'h>> {
+        match self.parts_from(harvest, from) {
+            Ok(mut parts) => {
+                crew.write_parts(parts.as_mut_slice());
+                parts.reverse();
+                parts
+            }
+            Err(_) => Vec::new(self.alloc),
+        }
+    }
+
+    /// As [`Folder::put_site`], with the same files put or not, the same directories made, and the same error kept, but this crew
+    /// makes the files ready, up to 256 at a time. They get their names in order, by this call, and no part stays, unless the disk
+    /// fails to take it away. A run that is killed may leave as many. The disk may need room for a batch beside the files that it
+    /// replaces; where there is none, or no descriptor, the files are put one after another.
+    pub fn put_site_by<C: PartCrew>(
+        &mut self,
+        crew: &C,
+        names: &[String],
+        harvest: &Harvest,
+    ) -> Result<(), WriteFault>
+        requires { length names.now ≡ length harvest.now.kept }
+        ensures torn { IfErr result (IsTornBy (map string_bytes names.now) harvest.now.bodies None None self.old.failed self.new.failed) }
+        ensures quiet { OnOk result (self.new.failed ≡ self.old.failed) }
+    {
+        let mut parts = Vec::new(self.alloc);
+        for (i, name) in names.iter().enumerate() {
+            if begins_batch(i, names.len()) {
+                parts = self.make_ready(crew, harvest, i);
+            }
+            if self
+                .put_next(&mut parts, name.as_str(), harvest.body(i))
+                .is_err()
+            {
+                return Err(WriteFault::Device(i));
+            }
+        }
+        Ok(())
     }
 }
 

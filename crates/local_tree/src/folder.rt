@@ -1,7 +1,11 @@
 //! What a folder is asked for.
-ghost use Rattle.std.specs.Prelude.{◌≡◌, ℕ, Option, OnOk, OnErr};
+ghost use Rattle.std.specs.Prelude.{◌≡◌, ℕ, Option, OnOk, OnErr, IfErr, length, map, string_bytes};
 ghost use Rattle.local_tree.specs.Folders.{Files, Puts, KeepsOthers, CountsRefusedPut};
+ghost use Rattle.local_tree.specs.Names.{AreDistinct};
+ghost use Rattle.local_tree.specs.SiteFiles.{IsWhole, IsTornBy};
 
+use crate::site_files::WriteFault;
+use harvest::Harvest;
 use thiserror::Error;
 
 /// Why a file wasn't put.
@@ -28,6 +32,23 @@ pub trait Folder {
         ensures put { OnOk result (Puts (files self.old) (files self.new) name.now bytes.now) }
         ensures torn { OnErr result (KeepsOthers (files self.old) (files self.new) name.now) }
         ensures counted { CountsRefusedPut (failed self.old) (failed self.new) result };
+
+    /// Puts the kept pages of a harvest, in their order, each under its name. Where a put fails no other is made. A folder may make
+    /// the files ready in another order, as long as nobody finds one under its name before its turn.
+    fn put_site(&mut self, names: &[String], harvest: &Harvest) -> Result<(), WriteFault>
+        requires count { length names.now ≡ length harvest.now.kept }
+        requires distinct { AreDistinct (map string_bytes names.now) }
+        ensures whole { OnOk result (IsWhole (map string_bytes names.now) harvest.now.bodies (files self.old) (files self.new)) }
+        ensures torn { IfErr result (IsTornBy (map string_bytes names.now) harvest.now.bodies (files self.old) (files self.new) (failed self.old) (failed self.new)) }
+        ensures quiet { OnOk result (failed self.new ≡ failed self.old) }
+    {
+        for (i, name) in names.iter().enumerate() {
+            if self.put(name.as_str(), harvest.body(i)).is_err() {
+                return Err(WriteFault::Device(i));
+            }
+        }
+        Ok(())
+    }
 
     /// How many puts answered an error; at the largest number it stays.
     fn failures(&self) -> u64

@@ -1,5 +1,5 @@
 //! The files of a retrieved site.
-ghost use Rattle.std.specs.Prelude.{◌≡◌, length, map, OnOk, OnErr, IfErr, MatchResult, string_bytes};
+ghost use Rattle.std.specs.Prelude.{◌≡◌, length, map, OnOk, IfErr, string_bytes};
 ghost use Rattle.local_tree.specs.Names.{AreDistinct};
 ghost use Rattle.local_tree.specs.SiteFiles.{IsWhole, IsTornBy};
 
@@ -16,7 +16,7 @@ pub enum WriteFault {
 }
 
 /// Puts the kept pages of a harvest into a folder, in their order, each under its name. Where a put
-/// fails no other is made. Takes no memory.
+/// fails no other is made.
 pub fn write_site<D: Folder>(
     folder: &mut D,
     names: &[String],
@@ -28,10 +28,5 @@ pub fn write_site<D: Folder>(
     ensures torn { IfErr result (IsTornBy (map string_bytes names.now) harvest.now.bodies (D.files folder.old) (D.files folder.new) (D.failed folder.old) (D.failed folder.new)) }
     ensures quiet { OnOk result (D.failed folder.new ≡ D.failed folder.old) }
 {
-    for (i, name) in names.iter().enumerate() {
-        if folder.put(name.as_str(), harvest.body(i)).is_err() {
-            return Err(WriteFault::Device(i));
-        }
-    }
-    Ok(())
+    folder.put_site(names, harvest)
 }

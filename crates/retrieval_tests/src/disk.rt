@@ -16,6 +16,8 @@ pub(crate) enum Mishap {
     /// Before the first call of this name for this path another process makes this there: a `dir`, a `file`, or a `link` to
     /// `../outside`.
     Meets(&'static str, &'static str, &'static str),
+    /// It has room for so many bytes of files that are written. A file that is taken away or replaced leaves its room.
+    Holds(u64),
 }
 
 /// What a disk and its files share.
@@ -24,6 +26,7 @@ pub(crate) struct Log {
     mishap: Mishap,
     calls: AtomicU64,
     closed: AtomicU64,
+    held: AtomicU64,
     is_over: AtomicBool,
 }
 
@@ -61,6 +64,19 @@ impl Log {
         }
     }
 
+    // Takes room for so many bytes, unless the disk is full.
+    fn take_room(&self, bytes: usize) -> io::Result<()> {
+        let bytes = bytes as u64;
+        let held = self.held.fetch_add(bytes, Ordering::SeqCst);
+        match self.mishap {
+            Mishap::Holds(room) if held.saturating_add(bytes) > room => {
+                self.held.fetch_sub(bytes, Ordering::SeqCst);
+                Err(Error::from(ErrorKind::StorageFull))
+            }
+            _ => Ok(()),
+        }
+    }
+
     /// How many calls were made.
     pub(crate) fn calls(&self) -> u64 {
         self.calls.load(Ordering::SeqCst)
@@ -83,6 +99,7 @@ impl Disk {
             mishap,
             calls: AtomicU64::new(0),
             closed: AtomicU64::new(0),
+            held: AtomicU64::new(0),
             is_over: AtomicBool::new(false),
         };
         Ok(Disk {
@@ -94,6 +111,15 @@ impl Disk {
     /// What befell it.
     pub(crate) fn log(&self) -> &Log {
         &self.log
+    }
+
+    // The room of the file at a path, if there is one, is free from now on.
+    fn leave_room(&self, path: &str) {
+        if let Ok(found) = self.rt.symlink_metadata(path) {
+            if found.is_file() {
+                self.log.held.fetch_sub(found.len(), Ordering::SeqCst);
+            }
+        }
     }
 
     // Counts a call for a path, which fails, or to which another process comes first.
@@ -146,11 +172,13 @@ impl Files for Disk {
 
     fn rename(&self, from: &str, to: &str) -> io::Result<()> {
         self.begin("rename", to)?;
+        self.leave_room(to);
         self.rt.rename(from, to)
     }
 
     fn remove_file(&self, path: &str) -> io::Result<()> {
         self.begin("remove", path)?;
+        self.leave_room(path);
         self.rt.remove_file(path)
     }
 
@@ -180,7 +208,9 @@ impl Read for DiskFile {
 impl Write for DiskFile {
     fn write(&mut self, bytes: &[u8]) -> io::Result<usize> {
         self.log.count()?;
-        self.file.write(&bytes[..bytes.len().min(3)])
+        let taken = bytes.len().min(3);
+        self.log.take_room(taken)?;
+        self.file.write(&bytes[..taken])
     }
 
     fn flush(&mut self) -> io::Result<()> {

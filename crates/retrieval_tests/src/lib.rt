@@ -14,6 +14,8 @@ mod crew_tests;
 #[cfg(test)]
 mod disk;
 #[cfg(test)]
+mod disk_site_tests;
+#[cfg(test)]
 mod disk_tests;
 #[cfg(test)]
 mod frontier_tests;

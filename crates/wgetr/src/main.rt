@@ -2,7 +2,7 @@
 //! its arguments and its streams is stated at `retriever::run_program`; `main` only names them, and what the system gives.
 #![tactic(auto)]
 
-use host_system::{Network, SharedFailures};
+use host_system::{Network, PartThreads, SharedFailures};
 use progress::{BehindLine, Progress};
 use record_journal::Saving;
 use retriever::run_program;
@@ -16,6 +16,7 @@ fn main(rt: HostRuntime) -> ExitCode {
     let kept = Kept::new(rt.alloc());
     let progress = Progress::new(&rt, rt.stderr().is_terminal());
     let saving = Saving::new();
+    let crew = PartThreads::new(&rt, &rt);
     let failures = SharedFailures::new(rt.alloc());
     let network = Network::new(
         &rt,
@@ -24,6 +25,7 @@ fn main(rt: HostRuntime) -> ExitCode {
         &kept,
         &progress,
         &saving,
+        &crew,
         &failures,
         process::id(rt.process()),
     );

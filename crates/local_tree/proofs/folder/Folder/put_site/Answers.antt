@@ -7,7 +7,7 @@ use Rattle.std.proofs.lemmas.List.{length-map, get_or-map}
 use Rattle.std.proofs.lemmas.Option.{get_or_from_slice_get}
 use Rattle.local_tree.specs.Folders.{CountsRefusedPut, one_more_refused}
 use Rattle.local_tree.proofs.SiteFilesLaws.{put_written, put_torn, risen}
-use Rattle.local_tree.proofs.site_files.write_site.Goals as goal
+use Rattle.local_tree.proofs.folder.Folder.put_site.Goals as goal
 
 made : {A E : Type 0} (r : Result A E) (P : Type 0) → is_err r ≡ false → OnOk r P → P
 made (Ok a) P is held = held
@@ -35,9 +35,9 @@ loop-i-preserved g c =
     let name = c.as_str.ensures.value ∙ ap string_bytes c.index-names-i.is ∙ sym (get_or-map string_bytes c.args.names.now c.loop-i.i c.index-names-i.result [] (omega (arith, below))) in
     let body = sym (get_or_from_slice_get bodies c.loop-i.i c.body.result.now [] c.body.ensures) in
     record {
-      files = put_written names bodies c.loop-i.i c.as_str.result.now c.body.result.now (g.D.Folder.files c.args.folder.now) (g.D.Folder.files c.loop-i.folder) (g.D.Folder.files c.put.new.self)
+      files = put_written names bodies c.loop-i.i c.as_str.result.now c.body.result.now (g.Self.Folder.files c.args.self.now) (g.Self.Folder.files c.loop-i.self) (g.Self.Folder.files c.put.new.self)
           c.requires.distinct (omega (arith, below, long)) name body c.loop-i.invariant.files (made c.put.result _ ended c.put.ensures.put);
-      quiet = same_count c.put.result (g.D.Folder.failed c.loop-i.folder) (g.D.Folder.failed c.put.new.self) ended c.put.ensures.counted ∙ c.loop-i.invariant.quiet;
+      quiet = same_count c.put.result (g.Self.Folder.failed c.loop-i.self) (g.Self.Folder.failed c.put.new.self) ended c.put.ensures.counted ∙ c.loop-i.invariant.quiet;
     }
 
 pub returns-then-is_err-clause-torn : goal.returns-then-is_err-clause-torn
@@ -50,8 +50,8 @@ returns-then-is_err-clause-torn g c =
     let name = c.as_str.ensures.value ∙ ap string_bytes c.index-names-i.is ∙ sym (get_or-map string_bytes c.args.names.now c.loop-i.i c.index-names-i.result [] (omega (arith, below))) in
     record {
       place = omega (arith, below, long);
-      files = put_torn names bodies c.loop-i.i c.as_str.result.now (g.D.Folder.files c.args.folder.now) (g.D.Folder.files c.loop-i.folder) (g.D.Folder.files c.put.new.self)
+      files = put_torn names bodies c.loop-i.i c.as_str.result.now (g.Self.Folder.files c.args.self.now) (g.Self.Folder.files c.loop-i.self) (g.Self.Folder.files c.put.new.self)
           c.requires.distinct (omega (arith, below, long)) name c.loop-i.invariant.files (failed c.put.result _ ended c.put.ensures.torn);
-      risen = risen (g.D.Folder.failed c.args.folder.now) (g.D.Folder.failed c.put.new.self)
-          (one_more c.put.result (g.D.Folder.failed c.loop-i.folder) (g.D.Folder.failed c.put.new.self) ended c.put.ensures.counted ∙ ap one_more_refused c.loop-i.invariant.quiet);
+      risen = risen (g.Self.Folder.failed c.args.self.now) (g.Self.Folder.failed c.put.new.self)
+          (one_more c.put.result (g.Self.Folder.failed c.loop-i.self) (g.Self.Folder.failed c.put.new.self) ended c.put.ensures.counted ∙ ap one_more_refused c.loop-i.invariant.quiet);
     }

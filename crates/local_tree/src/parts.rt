@@ -1,0 +1,76 @@
+//! Parts: files that are written under other names, and get their own when they are whole.
+use crate::close::Close;
+use std::fs::{File, Files};
+use std::io;
+use std::io::{ErrorKind, Write};
+
+/// A file that is made ready before its turn.
+#[derive(Drop)]
+pub struct Part<'a> {
+    path: String,
+    bytes: &'a [u8],
+    // Whether it stands at its path, whole and closed without an error.
+    is_ready: bool,
+}
+
+impl<'a> Part<'a> {
+    // The part that is to stand at this path with these bytes. Nothing stands there yet.
+    pub(crate) fn new(path: String, bytes: &'a [u8]) -> Part<'a> {
+        Part {
+            path,
+            bytes,
+            is_ready: false,
+        }
+    }
+
+    /// Writes it, and keeps whether that ended well. What fails may leave something at its path. Opens one file, and closes it.
+    pub fn write<R: Files>(&mut self, rt: &R)
+    where
+        R::File: Close,
+    {
+        self.is_ready = write_new(rt, self.path.as_str(), self.bytes).is_ok();
+    }
+
+    // Whether it is whole.
+    pub(crate) fn is_ready(&self) -> bool {
+        self.is_ready
+    }
+
+    // Gives it its name.
+    pub(crate) fn rename<R: Files>(&self, rt: &R, path: &str) -> io::Result<()> {
+        rt.rename(self.path.as_str(), path)
+    }
+
+    // Takes away what stands at its path.
+    pub(crate) fn remove<R: Files>(&self, rt: &R) {
+        let _ = rt.remove_file(self.path.as_str());
+    }
+}
+
+/// Who writes parts, perhaps several side by side.
+pub trait PartCrew {
+    /// Has [`Part::write`] called at each part, in any order. A part at which it isn't called, or that fails, isn't ready, and its
+    /// file is then put as it would be without a crew.
+    fn write_parts(&self, parts: &mut [Part<'_>]);
+}
+
+// Makes a new file. What a killed run left there is taken away first; a link isn't followed.
+fn create_new<R: Files>(rt: &R, path: &str) -> io::Result<R::File> {
+    match File::create_new(rt, path) {
+        Err(e) if e.kind() == ErrorKind::AlreadyExists => {
+            rt.remove_file(path)?;
+            File::create_new(rt, path)
+        }
+        made => made,
+    }
+}
+
+/// Writes a new file and closes it: some disks say only then that there is no room for what they took.
+pub(crate) fn write_new<R: Files>(rt: &R, path: &str, bytes: &[u8]) -> io::Result<()>
+where
+    R::File: Close,
+{
+    let mut file = create_new(rt, path)?;
+    file.write_all(bytes)?;
+    file.close()
+}
