@@ -23,7 +23,7 @@ const PART: &str = ".wgetr%part";
 /// How many files of a site are made ready together, at most.
 const BATCH: usize = 256;
 
-/// A site of fewer files is put one file after another.
+/// Fewer files of a site than these are put one after another.
 const FEW: usize = 16;
 
 /// Files below a folder of the system. A file is written under another name and gets its own when it
@@ -142,9 +142,9 @@ fn part_path(alloc: Global, part: &str, number: usize) -> Result<String, AllocEr
     format!(in alloc; "{part}.{number}")
 }
 
-// Whether a batch begins with the file at this place. The first file is put alone, since it is what makes the folder.
+// Whether a batch begins with the file at this place of so many. The first file is put alone, since it makes the folder.
 fn begins_batch(place: usize, files: usize) -> bool {
-    files >= FEW && place % BATCH == 1
+    place % BATCH == 1 && files.saturating_sub(place) >= FEW
 }
 
 // Takes all these parts away.
@@ -220,11 +220,11 @@ where
         put
     }
 
-    // Gives a part its name, where it is ready. Whether that ended well.
-    fn give_name(&mut self, part: &Part<'_>, name: &str) -> bool
+    // Gives a part the name of the file at this place, where it is ready for that. Whether that ended well.
+    fn give_name(&mut self, part: &Part<'_>, place: usize, name: &str) -> bool
         ensures { self.new ≡ self.old }
     {
-        if !part.is_ready() {
+        if !part.is_ready_for(place) {
             return false;
         }
         match self.find_place(name) {
@@ -233,19 +233,19 @@ where
         }
     }
 
-    // Puts a file by the last of these parts. Where there is none the file is put as any other; where it can't be put so, that is
-    // done once all these parts are taken away, so that the file has the room that it would have without them, and none stays
-    // where it fails.
+    // Puts the file at this place by the last of these parts. Where there is none it is put as any other. Where it can't be put by
+    // its part, these parts are taken away before that, so that it has the room that it would have without them, and none stays.
     fn put_next(
         &mut self,
         parts: &mut Vec<Part<'_>>,
+        place: usize,
         name: &str,
         bytes: &[u8],
     ) -> Result<(), FolderFault>
         ensures { CountsRefusedPut self.old.failed self.new.failed result }
     {
         if let Some(part) = parts.pop() {
-            if self.give_name(&part, name) {
+            if self.give_name(&part, place, name) {
                 return Ok(());
             }
             part.remove(self.rt);
@@ -255,7 +255,8 @@ where
         self.put(name, bytes)
     }
 
-    // The paths of parts have other names than that of a file that is put alone, and than those of other runs.
+    // The parts of the files from this place on, a batch at most. Their paths differ from those of other runs, and from that by way
+    // of which a file is put alone.
     fn parts_from<'h>(
         &self,
         harvest: &'h Harvest,
@@ -265,12 +266,12 @@ where
         let mut parts = Vec::new(self.alloc);
         for i in from..end {
             let path = part_path(self.alloc, self.part.as_str(), i % BATCH)?;
-            parts.push(Part::new(path, harvest.body(i)))?;
+            parts.push(Part::new(i, path, harvest.body(i)))?;
         }
         Ok(parts)
     }
 
-    // Has the next files from this place on made ready, the last first. None, where there is no memory for them.
+    // Has the files from this place on made ready. The part of the last stands first; where there is no memory there is none.
     fn make_ready<'h, C: PartCrew>(
         &self,
         crew: &C,
@@ -307,7 +308,7 @@ where
                 parts = self.make_ready(crew, harvest, i);
             }
             if self
-                .put_next(&mut parts, name.as_str(), harvest.body(i))
+                .put_next(&mut parts, i, name.as_str(), harvest.body(i))
                 .is_err()
             {
                 return Err(WriteFault::Device(i));

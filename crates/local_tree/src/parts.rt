@@ -7,6 +7,8 @@ use std::io::{ErrorKind, Write};
 /// A file that is made ready before its turn.
 #[derive(Drop)]
 pub struct Part<'a> {
+    // The place of its file among those of the site.
+    place: usize,
     path: String,
     bytes: &'a [u8],
     // Whether it stands at its path, whole and closed without an error.
@@ -14,9 +16,10 @@ pub struct Part<'a> {
 }
 
 impl<'a> Part<'a> {
-    // The part that is to stand at this path with these bytes. Nothing stands there yet.
-    pub(crate) fn new(path: String, bytes: &'a [u8]) -> Part<'a> {
+    // The part of the file at this place, which is to stand at this path with these bytes. Nothing stands there yet.
+    pub(crate) fn new(place: usize, path: String, bytes: &'a [u8]) -> Part<'a> {
         Part {
+            place,
             path,
             bytes,
             is_ready: false,
@@ -31,9 +34,9 @@ impl<'a> Part<'a> {
         self.is_ready = write_new(rt, self.path.as_str(), self.bytes).is_ok();
     }
 
-    // Whether it is whole.
-    pub(crate) fn is_ready(&self) -> bool {
-        self.is_ready
+    // Whether it is whole, and that of the file at this place.
+    pub(crate) fn is_ready_for(&self, place: usize) -> bool {
+        self.is_ready && self.place == place
     }
 
     // Gives it its name.
@@ -49,8 +52,8 @@ impl<'a> Part<'a> {
 
 /// Who writes parts, perhaps several side by side.
 pub trait PartCrew {
-    /// Has [`Part::write`] called at each part, in any order. A part at which it isn't called, or that fails, isn't ready, and its
-    /// file is then put as it would be without a crew.
+    /// Has [`Part::write`] called at each part, in any order. Where it isn't called, or fails, and where a part is moved, files are
+    /// put as they would be without a crew.
     fn write_parts(&self, parts: &mut [Part<'_>]);
 }
 

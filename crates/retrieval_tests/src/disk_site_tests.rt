@@ -4,7 +4,7 @@ use address::{Address, Origin};
 use fetcher::{Answer, Ask, Body, Fetcher};
 use follow_filters::{Limit, Plan};
 use harvest::Harvest;
-use local_tree::{Close, DiskFolder, Part, PartCrew, WriteFault, names, write_site};
+use local_tree::{Close, DiskFolder, Folder, Part, PartCrew, WriteFault, names};
 use robots_rules::RuleSet;
 use site_maps::MapSite;
 use std::alloc::{AllocError, Global};
@@ -72,6 +72,22 @@ struct Nobody;
 
 impl PartCrew for Nobody {
     fn write_parts(&self, _parts: &mut [Part<'_>]) {}
+}
+
+/// Writes parts in turn, and then moves them.
+#[derive(Drop)]
+struct Mover<'a, R> {
+    disk: &'a R,
+}
+
+impl<'a, R: Files> PartCrew for Mover<'a, R>
+where
+    R::File: Close,
+{
+    fn write_parts(&self, parts: &mut [Part<'_>]) {
+        write_all(self.disk, parts);
+        parts.reverse();
+    }
 }
 
 /// A map's site, in which the body of each page is its path.
@@ -231,10 +247,12 @@ where
     R::File: Close,
 {
     let mut folder = DiskFolder::new(disk, alloc, "disk", 17).expect(rt, "memory");
-    match write_site(&mut folder, names, harvest) {
-        Ok(()) => names.len(),
-        Err(WriteFault::Device(whole)) => whole,
+    for (i, name) in names.iter().enumerate() {
+        if i >= harvest.kept().len() || folder.put(name.as_str(), harvest.body(i)).is_err() {
+            return i;
+        }
     }
+    names.len()
 }
 
 /// A disk of the test to which something befalls.
@@ -266,14 +284,21 @@ fn a_site_is_put_by_threads(rt: HostRuntime) {
 }
 
 #[test]
-fn what_a_crew_leaves_out_is_put_all_the_same(rt: HostRuntime) {
-    for files in [1u16, 2, 15, 16, 17, 257, 258, 270] {
+fn what_a_crew_leaves_out_or_moves_is_put_all_the_same(rt: HostRuntime) {
+    for files in [1u16, 2, 15, 16, 17, 257, 258, 272, 273] {
         let harvest = harvest_of(&rt, rt.alloc(), files);
         let count = usize::from(files);
         let names = names_of(&rt, rt.alloc(), &harvest, count);
         clear(&rt, rt.alloc());
         assert!(rt;
             put(&rt, rt.alloc(), &rt, &Nobody, &names, &harvest) == (count, None),
+            "{files}"
+        );
+        assert!(rt; are_put(&rt, &names, &harvest, count), "{files}");
+        clear(&rt, rt.alloc());
+        let mover = Mover { disk: &rt };
+        assert!(rt;
+            put(&rt, rt.alloc(), &rt, &mover, &names, &harvest) == (count, None),
             "{files}"
         );
         assert!(rt; are_put(&rt, &names, &harvest, count), "{files}");
