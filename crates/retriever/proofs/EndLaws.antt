@@ -18,7 +18,7 @@ use Rattle.frontier_core.specs.declared.event.Cause.{Cause}
 use Rattle.frontier_core.specs.declared.event.Cause.TheVariants as why
 use Rattle.frontier_core.specs.declared.event.Event.{Event}
 use Rattle.workers.specs.Asks.{IsTold}
-use Rattle.site_records.specs.Records.{RecordedAnswers, GivesAnswer, GivesRules as GivesRecordedRules}
+use Rattle.site_records.specs.Records.{RecordedAnswers, GivesAnswer, RecordGivesRules}
 use Rattle.harvest.specs.Gathered.{AreEntries, AreRecords, ArePages}
 use Rattle.harvest.specs.Harvests.{Harvested}
 use Rattle.harvest.specs.Pages.{IsKept}
@@ -50,7 +50,7 @@ pub map_fits : (site : SiteAnswers) → Fits (GivesOutcome site) (GivesRules sit
 map_fits site = record { outcomes = λ u x body says. ap Some (sym says.0); rules = λ o rules is. ap Some (sym is) }
 
 -- a recorded site gives what its answers name
-pub record_fits : (site : RecordedAnswers) → Fits (GivesAnswer site) (GivesRecordedRules site) (whole_of (without_bodies site))
+pub record_fits : (site : RecordedAnswers) → Fits (GivesAnswer site) (RecordGivesRules site) (whole_of (without_bodies site))
 record_fits site = record { outcomes = λ u x body says. ap Some (sym says.0); rules = λ o rules is. ap Some (sym is) }
 
 told_part : (may_say : Text → Outcome → List ℕ → Type 0) (may_rule : Text → RuleSetValue → Type 0) (whole m : Answers) → Fits may_say may_rule whole → IsTold may_say may_rule m
