@@ -423,6 +423,11 @@ class Function:
             end = close + 1
         self.end = end
 
+    def told(self):
+        """The signature on one line."""
+        line = re.sub(r"\s+", " ", self.signature).strip()
+        return "fn " + re.sub(r",? ([)>])", r"\1", re.sub(r"([(<]) ", r"\1", line.removeprefix("fn ")))
+
     def bound(self):
         return set(re.findall(r"(\w+)\s*:(?!:)", self.signature)) | {"self", "result"}
 
