@@ -83,13 +83,6 @@ pub trait Fetcher: Drop {
     fn asks(&self) -> &[Ask]
         ensures { result.now ≡ log self.now };
 
-    /// Is told now and then how many addresses wait to be asked for, for somebody who looks on.
-    /// Nothing that is asked or answered depends on it.
-    fn tell_waiting(&mut self, waiting: usize)
-        ensures site { site self.new ≡ site self.old }
-        ensures log { log self.new ≡ log self.old }
-    {}
-
     /// Is told that one more answer came from a record in place of the site, for somebody who looks on. Nothing that is asked or
     /// answered depends on it.
     fn tell_recorded(&mut self)

@@ -4,6 +4,7 @@ use crate::shared_failures::SharedFailures;
 use address::{Address, Origin};
 use answer_notes::{Noted, Recording};
 use fetcher::{Answer, Ask, Fetcher};
+use progress::Progress;
 use record_journal::{Journaled, Pen};
 use robots_rules::RuleSet;
 use run_failures::LossKind;
@@ -21,6 +22,7 @@ use std::time::Clock;
 pub struct Asking<'a, R: Net + Wait + Files + Clock + Eprint> {
     pub(crate) inner: Journaled<OverTcp<'a, R>, Pen<'a, R, R>>,
     pub(crate) rt: &'a R,
+    pub(crate) progress: &'a Progress<'a, R>,
     pub(crate) failures: &'a SharedFailures,
 }
 
@@ -75,12 +77,8 @@ impl<'a, R: Net + Wait + Files + Clock + Eprint> Fetcher for Asking<'a, R> {
         self.inner.asks()
     }
 
-    fn tell_waiting(&mut self, waiting: usize) {
-        self.inner.tell_waiting(waiting);
-    }
-
     fn tell_recorded(&mut self) {
-        self.inner.tell_recorded();
+        self.progress.took_recorded();
     }
 }
 

@@ -111,6 +111,7 @@ where
         Asking {
             inner: Journaled::new(self.alloc, fetcher, pen, is_recording),
             rt: self.rt,
+            progress: self.progress,
             failures: self.failures,
         }
     }

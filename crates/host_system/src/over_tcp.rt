@@ -50,14 +50,6 @@ impl<'a, R: Net + Wait + Clock + Eprint> Fetcher for OverTcp<'a, R> {
     fn asks(&self) -> &[Ask] {
         self.inner.asks()
     }
-
-    fn tell_waiting(&mut self, waiting: usize) {
-        self.inner.tell_waiting(waiting);
-    }
-
-    fn tell_recorded(&mut self) {
-        self.inner.tell_recorded();
-    }
 }
 
 impl<'a, R: Net + Wait + Clock + Eprint> Telling for OverTcp<'a, R> {

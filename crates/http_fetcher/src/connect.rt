@@ -102,26 +102,6 @@ pub trait Connect: Drop {
         ensures gives { Stays (gives self.old) (gives self.new) }
     {}
 
-    /// Is told now and then how many addresses wait to be asked for, for somebody who looks on.
-    fn tell_waiting(&mut self, waiting: usize)
-        ensures made { made self.new ≡ made self.old }
-        ensures failed { failed self.new ≡ failed self.old }
-        ensures refused { refused self.new ≡ refused self.old }
-        ensures taken { taken self.new ≡ taken self.old }
-        ensures stands { Stays (stands self.old) (stands self.new) }
-        ensures gives { Stays (gives self.old) (gives self.new) }
-    {}
-
-    /// Is told that one more answer came from a record, for somebody who looks on.
-    fn tell_recorded(&mut self)
-        ensures made { made self.new ≡ made self.old }
-        ensures failed { failed self.new ≡ failed self.old }
-        ensures refused { refused self.new ≡ refused self.old }
-        ensures taken { taken self.new ≡ taken self.old }
-        ensures stands { Stays (stands self.old) (stands self.new) }
-        ensures gives { Stays (gives self.old) (gives self.new) }
-    {}
-
     /// How many calls answered an error; at the largest number it stays.
     fn failures(&self) -> u64
         ensures { result ≡ failed self.now };

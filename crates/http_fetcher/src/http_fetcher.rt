@@ -543,28 +543,6 @@ impl<C: Connect> Fetcher for HttpFetcher<C> {
     fn asks(&self) -> &[Ask] {
         self.asks.as_slice()
     }
-
-    fn tell_waiting(&mut self, waiting: usize)
-        ensures asks { self.new.asks ≡ self.old.asks }
-        ensures robots { self.new.robots ≡ self.old.robots }
-        ensures keeps { self.new.keeps ≡ self.old.keeps }
-        ensures made { C.made self.new.connect ≡ C.made self.old.connect }
-        ensures is_recording { self.new.is_recording ≡ self.old.is_recording }
-        ensures notes { self.new.notes ≡ self.old.notes }
-    {
-        self.connect.tell_waiting(waiting);
-    }
-
-    fn tell_recorded(&mut self)
-        ensures asks { self.new.asks ≡ self.old.asks }
-        ensures robots { self.new.robots ≡ self.old.robots }
-        ensures keeps { self.new.keeps ≡ self.old.keeps }
-        ensures made { C.made self.new.connect ≡ C.made self.old.connect }
-        ensures is_recording { self.new.is_recording ≡ self.old.is_recording }
-        ensures notes { self.new.notes ≡ self.old.notes }
-    {
-        self.connect.tell_recorded();
-    }
 }
 
 impl<C: Connect> Telling for HttpFetcher<C> {

@@ -314,10 +314,6 @@ impl<'a, C: Connect> Connect for Noting<'a, C> {
         self.inner.connect(of)
     }
 
-    fn tell_waiting(&mut self, waiting: usize) {
-        self.waiting.store(waiting as u64, Ordering::SeqCst);
-    }
-
     fn failures(&self) -> u64 {
         self.inner.failures()
     }

@@ -51,8 +51,8 @@ impl<'a, R: Clock + Eprint> Progress<'a, R> {
         self.show_due(start);
     }
 
-    // Counts an answer that came from a record, and shows the line where it is due.
-    pub(crate) fn took_recorded(&self) {
+    /// Counts an answer that came from a record, and shows the line where it is due.
+    pub fn took_recorded(&self) {
         let Some(start) = &self.start else {
             return;
         };

@@ -126,16 +126,6 @@ impl<'a, C: Connect, R: Clock + Eprint> Connect for Watched<'a, C, R> {
         }
     }
 
-    fn tell_waiting(&mut self, waiting: usize) {
-        self.progress.set_waiting(waiting);
-        self.inner.tell_waiting(waiting);
-    }
-
-    fn tell_recorded(&mut self) {
-        self.progress.took_recorded();
-        self.inner.tell_recorded();
-    }
-
     fn failures(&self) -> u64 {
         self.inner.failures()
     }

@@ -183,14 +183,6 @@ impl<F: Telling, J: Journal> Fetcher for Journaled<F, J> {
     fn asks(&self) -> &[Ask] {
         self.inner.asks()
     }
-
-    fn tell_waiting(&mut self, waiting: usize) {
-        self.inner.tell_waiting(waiting);
-    }
-
-    fn tell_recorded(&mut self) {
-        self.inner.tell_recorded();
-    }
 }
 
 // What was told and isn't in the journal.

@@ -103,10 +103,6 @@ impl Fetcher for Crewed {
     fn asks(&self) -> &[Ask] {
         self.site.asks()
     }
-
-    fn tell_waiting(&mut self, waiting: usize) {
-        self.waiting = self.waiting.max(waiting);
-    }
 }
 
 /// So many workers' fetchers of a row's site, each with a seed of its own.

@@ -109,14 +109,6 @@ impl<F: Fetcher> Fetcher for Resumed<F> {
     fn asks(&self) -> &[Ask] {
         self.asks.as_slice()
     }
-
-    fn tell_waiting(&mut self, waiting: usize) {
-        self.inner.tell_waiting(waiting);
-    }
-
-    fn tell_recorded(&mut self) {
-        self.inner.tell_recorded();
-    }
 }
 
 // The fetcher's notes: what the record states isn't noted again.

@@ -116,10 +116,6 @@ impl<C: Connect> Connect for Ended<C> {
         self.ended = self.ended.saturating_add(1);
     }
 
-    fn tell_waiting(&mut self, waiting: usize) {
-        self.waiting = waiting;
-    }
-
     fn failures(&self) -> u64 {
         self.inner.failures()
     }

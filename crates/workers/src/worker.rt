@@ -197,24 +197,6 @@ fn serve<F: Fetcher, R: Wait>(
     notes.pages.push_reserved(note);
 }
 
-// Tells the fetcher how many addresses wait, and asks for the page of a permit.
-#[tactic(auto, using(crate::proofs::Going::goes_idle, crate::proofs::Going::goes_on))]
-fn serve_page<F: Fetcher, R: Wait>(
-    rt: &R,
-    lock: &FrontierLock,
-    plan: &Plan,
-    worker: u32,
-    fetcher: &mut F,
-    notes: &mut Notes,
-    spool: &mut Spool,
-    permit: Permit,
-)
-    ensures { Goes F.site F.says F.rules F.log plan.now worker fetcher.old notes.old fetcher.new notes.new }
-{
-    fetcher.tell_waiting(lock.waiting());
-    serve(rt, lock, plan, worker, fetcher, notes, spool, permit);
-}
-
 // The note of an origin's rules that were asked for, where none were handed over.
 fn untold_rules(worker: u32, origin: Origin) -> RulesNote
     ensures { result ≡ record { worker = worker; origin = origin; told = None } }
@@ -318,7 +300,7 @@ fn work<F: Fetcher, R: Wait>(
                 serve_rules(rt, alloc, lock, worker, fetcher, notes, permit)
             }
             Ok(Work::Page(permit)) => {
-                serve_page(rt, lock, plan, worker, fetcher, notes, spool, permit)
+                serve(rt, lock, plan, worker, fetcher, notes, spool, permit)
             }
         }
     }
