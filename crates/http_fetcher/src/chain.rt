@@ -1,4 +1,4 @@
-//! Which rules the answers of a robots file give, redirects followed (RFC 9309, section 2.3.1).
+//! What one answer of a robots file says: where it leads, or which rules these are (RFC 9309, section 2.3.1).
 ghost use Rattle.std.specs.Prelude.{◌≡◌, IfOk};
 ghost use Rattle.http_fetcher.specs.inner.Chains.{TellsHop};
 
