@@ -13,6 +13,7 @@ use std::alloc::{AllocError, Global};
 use std::fs::Files;
 use std::net::Net;
 use std::sync::Wait;
+use std::sync::atomic::AtomicUsize;
 use std::thread::Threads;
 use std::time::Clock;
 use streams::ReadFault;
@@ -114,6 +115,10 @@ where
             progress: self.progress,
             failures: self.failures,
         }
+    }
+
+    fn waiting(&self) -> Option<&AtomicUsize> {
+        Some(self.progress.waiting())
     }
 
     fn folder(&self, path: &str) -> Result<Disk<'a, R>, AllocError> {

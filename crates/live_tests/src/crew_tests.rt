@@ -10,7 +10,7 @@ use site_maps::MapSite;
 use std::alloc::{AllocError, Global};
 use std::process::Abort;
 use std::sync::Wait;
-use std::sync::atomic::{AtomicU64, Ordering};
+use std::sync::atomic::{AtomicU64, AtomicUsize, Ordering};
 use std::thread;
 use std::thread::Threads;
 use streams::ReadFault;
@@ -82,13 +82,14 @@ impl<'a> Recording for Meeting<'a> {
     }
 }
 
-// A network whose fetchers meet.
+// A network whose fetchers meet, and who looks on.
 #[derive(Drop)]
 struct Meetings<'a> {
     alloc: Global,
     start: &'a Outcome,
     wanted: u64,
     arrived: &'a AtomicU64,
+    waiting: AtomicUsize,
 }
 
 impl<'a> System for Meetings<'a> {
@@ -118,6 +119,10 @@ impl<'a> System for Meetings<'a> {
         }
     }
 
+    fn waiting(&self) -> Option<&AtomicUsize> {
+        Some(&self.waiting)
+    }
+
     fn folder(&self, _path: &str) -> Result<MemoryFolder, AllocError> {
         Ok(MemoryFolder::new(self.alloc))
     }
@@ -133,7 +138,16 @@ impl<'a> System for Meetings<'a> {
 
 /// Live retrievals, as in `texts.rt`; `<` stands before the lines of a map that tell of the start alone. The text is written
 /// where as many links are asked for at one time as `=` says.
-const RETRIEVALS: &str = "two workers
+const RETRIEVALS: &str = "one worker
+$ wgetr -r -l 1 -e robots=off --workers 1 http://h/
+< page 200 http://h/
+< link http://h/a
+> 0 200 http://h/ h/index.html
+> 1 200 http://h/a h/a
+> fetched 2 kept 2 refused 0 failed 0
+= 1
+
+two workers
 $ wgetr -r -l 1 -e robots=off --workers 2 --per-host 2 http://h/
 < page 200 http://h/
 < link http://h/a
@@ -178,7 +192,7 @@ fn start_of(rt: &impl Abort, alloc: Global, map: &[u8]) -> Outcome {
     outcome
 }
 
-/// Whether the program writes what is wanted over a network whose fetchers meet.
+/// Whether the program writes what is wanted over a network whose fetchers meet, and notes at last that nothing waits.
 fn meets<R: Abort + Threads + Wait + Sync>(rt: &R, alloc: Global, text: &str) -> bool {
     let start = start_of(rt, alloc, &text_of(rt, alloc, text, "<", "none"));
     let arrived = AtomicU64::new(0);
@@ -187,6 +201,7 @@ fn meets<R: Abort + Threads + Wait + Sync>(rt: &R, alloc: Global, text: &str) ->
         start: &start,
         wanted: u64::from(status_of(text)),
         arrived: &arrived,
+        waiting: AtomicUsize::new(usize::MAX),
     };
     let args = arguments_of(rt, alloc, behind(text, "$"));
     let mut written: Vec<u8> = Vec::new(alloc);
@@ -201,6 +216,7 @@ fn meets<R: Abort + Threads + Wait + Sync>(rt: &R, alloc: Global, text: &str) ->
         &mut told,
     );
     written.as_slice() == text_of(rt, alloc, text, ">", "none").as_slice()
+        && system.waiting.load(Ordering::Relaxed) == 0
 }
 
 #[test]

@@ -103,7 +103,7 @@ fn run<R: Abort + Wait>(
     let mut connect = Watched::new(TcpConnect::new(network, alloc, &hosts), progress);
     for (at, text, waiting) in ENDS {
         terminal.now.store(*at, Ordering::SeqCst);
-        connect.tell_waiting(*waiting);
+        progress.waiting().store(*waiting, Ordering::Relaxed);
         if let Ok(mut wire) = connect.connect(&origin(rt, alloc, text)) {
             let _ = wire.write(&[b'x'; 1000]);
             let _ = wire.read(&mut [0u8; 1200]);
@@ -181,16 +181,14 @@ fn what_is_written_behind_the_line_covers_it_once(rt: HostRuntime) {
     assert!(rt; *terminal.text.lock(&rt) == shown(&rt, alloc, "first, second, flushed"));
 }
 
-// Tells of an answer from a record at each of these times.
-fn tell_recorded<R: Abort + Wait, C: Connect>(
+// Counts an answer from a record at each of these times.
+fn take_recorded<R: Abort + Wait>(
     terminal: &Terminal<'_, R>,
-    inner: C,
     progress: &Progress<'_, Terminal<'_, R>>,
 ) {
-    let mut connect = Watched::new(inner, progress);
     for at in [1100u64, 1200, 1300] {
         terminal.now.store(at, Ordering::SeqCst);
-        connect.tell_recorded();
+        progress.took_recorded();
     }
 }
 
@@ -199,7 +197,7 @@ fn line_counts_the_answers_from_a_record(rt: HostRuntime) {
     let alloc = rt.alloc();
     let terminal = Terminal::new(&rt, alloc);
     let progress = Progress::new(&terminal, true);
-    tell_recorded(&terminal, MemoryConnect::new(alloc, &[], &[]), &progress);
+    take_recorded(&terminal, &progress);
     let line = "3 recorded, 0 answered, 0 waiting, 0 failed, 0 kB, 0 kB/s";
     let shown = format!(in alloc; "\r{:79}\r{line}", "").expect(&rt, "memory");
     assert!(rt; *terminal.text.lock(&rt) == shown);
@@ -284,56 +282,4 @@ fn two_workers_do_not_write_one_line_twice(rt: HostRuntime) {
         },
     );
     assert_eq!(rt; terminal.lines.load(Ordering::SeqCst), MEETINGS);
-}
-
-/// Makes the connections of another, and notes how many addresses wait.
-#[derive(Drop)]
-struct Noting<'a, C: Connect> {
-    inner: C,
-    waiting: &'a AtomicU64,
-}
-
-impl<'a, C: Connect> Connect for Noting<'a, C> {
-    type Wire = C::Wire;
-
-    ghost made = { λ t. C.made t.inner };
-
-    ghost failed = { λ t. C.failed t.inner };
-
-    ghost refused = { λ t. C.refused t.inner };
-
-    ghost gives = { λ t of wire. C.gives t.inner of wire };
-
-    ghost taken = { λ t. C.taken t.inner };
-
-    ghost stands = { λ t of wire. C.stands t.inner of wire };
-
-    ghost again = { λ left wire. C.again left wire };
-
-    fn connect(&mut self, of: &Origin) -> Result<C::Wire, ConnectFault> {
-        self.inner.connect(of)
-    }
-
-    fn failures(&self) -> u64 {
-        self.inner.failures()
-    }
-}
-
-/// What these connections are told where what counts them is told this number.
-fn told<R: Abort + Wait, C: Connect>(terminal: &Terminal<'_, R>, inner: C, waiting: usize) -> u64 {
-    let progress = Progress::new(terminal, false);
-    let noted = AtomicU64::new(0);
-    let inner = Noting {
-        inner,
-        waiting: &noted,
-    };
-    Watched::new(inner, &progress).tell_waiting(waiting);
-    noted.load(Ordering::SeqCst)
-}
-
-#[test]
-fn what_makes_the_connections_is_told_how_many_addresses_wait(rt: HostRuntime) {
-    let alloc = rt.alloc();
-    let terminal = Terminal::new(&rt, alloc);
-    assert!(rt; told(&terminal, MemoryConnect::new(alloc, &[], &[]), 7) == 7);
 }

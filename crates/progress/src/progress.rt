@@ -16,7 +16,7 @@ pub struct Progress<'a, R: Clock + Eprint> {
     failed: AtomicU64,
     // How many answers came from a record.
     recorded: AtomicU64,
-    // How many addresses wait, as far as was told.
+    // How many addresses wait, as who knows it noted last.
     waiting: AtomicUsize,
     bytes: AtomicU64,
     // How many milliseconds after the start the next line may be written.
@@ -71,9 +71,9 @@ impl<'a, R: Clock + Eprint> Progress<'a, R> {
         }
     }
 
-    // So many addresses wait from now on.
-    pub(crate) fn set_waiting(&self, waiting: usize) {
-        self.waiting.store(waiting, Ordering::Relaxed);
+    /// Where it is noted how many addresses wait: the line shows the number that stands there.
+    pub fn waiting(&self) -> &AtomicUsize {
+        &self.waiting
     }
 
     // Whether the line is due, and this caller is the one to write it.

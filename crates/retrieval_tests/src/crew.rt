@@ -8,7 +8,7 @@ use robots_rules::RuleSet;
 use site_maps::MapSite;
 use std::alloc::{AllocError, Global};
 use std::process::Abort;
-use std::sync::atomic::{AtomicU64, Ordering};
+use std::sync::atomic::{AtomicU64, AtomicUsize, Ordering};
 use std::sync::{Arc, Wait};
 use std::thread;
 use std::thread::Threads;
@@ -30,7 +30,9 @@ pub(crate) struct Crewed {
     awaited_rules: u64,
     /// It waited for them in vain.
     pub(crate) is_alone: bool,
-    /// The most addresses that it was told wait.
+    /// Where the retrieval notes how many addresses wait, if anywhere.
+    pub(crate) shown: Option<Arc<AtomicUsize>>,
+    /// The most that stood there when it was asked for a page.
     pub(crate) waiting: usize,
     /// Where it is there, it takes its time to answer the start.
     pub(crate) sleeper: Option<HostRuntime>,
@@ -75,6 +77,9 @@ impl Fetcher for Crewed {
     ghost log = { λ s. s.site.asks };
 
     fn ask(&mut self, at: &Address) -> Result<Answer, AllocError> {
+        if let Some(shown) = &self.shown {
+            self.waiting = self.waiting.max(shown.load(Ordering::Relaxed));
+        }
         let is_start = at.path_query() == "/";
         if self.is_poor && !is_start {
             return Err(AllocError);
@@ -129,6 +134,7 @@ pub(crate) fn fetchers(
             others: Arc::try_clone(&others).expect(rt, "memory"),
             awaited_rules: behind(row, "rules ").parse::<u64>().unwrap_or(0),
             is_alone: false,
+            shown: None,
             waiting: 0,
             sleeper: None,
         };

@@ -5,9 +5,11 @@ use crate::retrieval::retrieved;
 use crate::rows::plan_of;
 use std::alloc::Global;
 use std::process::Abort;
-use std::sync::Wait;
+use std::sync::atomic::AtomicUsize;
+use std::sync::{Arc, Wait};
 use std::thread::Threads;
 use std::time::{CpuClock, Duration};
+use workers::retrieve_shown;
 
 /// Sites that any number of workers retrieves.
 const SITES: &str = "`/d` is found behind `/z` at 2, and behind `/b` at 3; `/f` is beyond three hops
@@ -254,10 +256,16 @@ fn whatever_the_interleaving_the_report_is_one(rt: HostRuntime) {
     }
 }
 
-/// The most addresses that one of so many workers was told wait.
+/// The most addresses that the retrieval by so many workers noted to wait, as one of their fetchers was asked for a page.
 fn most_waiting<R: Abort + Threads + Wait + Sync>(rt: &R, alloc: Global, workers: u8) -> usize {
-    let (seen, fetchers) = crew(rt, alloc, STAR, workers, 1);
-    if seen.end != "whole" {
+    let shown = Arc::new(alloc, AtomicUsize::new(0)).expect(rt, "memory");
+    let mut fetchers = fetchers(rt, alloc, STAR, workers, 1);
+    for fetcher in &mut fetchers {
+        fetcher.shown = Some(Arc::try_clone(&shown).expect(rt, "memory"));
+    }
+    let plan = plan_of(rt, alloc, STAR);
+    let (retrieved, fetchers) = retrieve_shown(rt, alloc, &plan, fetchers, Some(&shown));
+    if retrieved.is_err() {
         return 0;
     }
     let mut most = 0usize;
@@ -268,7 +276,7 @@ fn most_waiting<R: Abort + Threads + Wait + Sync>(rt: &R, alloc: Global, workers
 }
 
 #[test]
-fn workers_are_told_how_many_addresses_wait(rt: HostRuntime) {
+fn how_many_addresses_wait_is_noted_for_who_looks_on(rt: HostRuntime) {
     // Of five, one is asked for, or two are.
     assert!(rt; most_waiting(&rt, rt.alloc(), 1) == 4);
     let most = most_waiting(&rt, rt.alloc(), 2);

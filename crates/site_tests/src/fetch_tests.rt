@@ -72,21 +72,16 @@ fn a_connection_answers_the_text_of_a_request(rt: HostRuntime) {
     }
 }
 
-// Makes the connections of another, counts how many were ended, and notes how many addresses wait.
+// Makes the connections of another, and counts how many were ended.
 #[derive(Drop)]
 struct Ended<C: Connect> {
     inner: C,
     ended: u32,
-    waiting: usize,
 }
 
 impl<C: Connect> Ended<C> {
     fn new(inner: C) -> Ended<C> {
-        Ended {
-            inner,
-            ended: 0,
-            waiting: 0,
-        }
+        Ended { inner, ended: 0 }
     }
 }
 
@@ -143,17 +138,4 @@ fn each_connection_is_ended_once(rt: HostRuntime) {
     let alloc = rt.alloc();
     let answers = site_of(&rt, alloc, ENDING);
     assert!(rt; are_all_ended(&rt, alloc, MemoryConnect::new(alloc, &answers, &[])));
-}
-
-// What the connections are told where a fetcher over them is told this number.
-fn told<C: Connect>(alloc: Global, inner: C, waiting: usize) -> usize {
-    let mut fetcher = HttpFetcher::new(alloc, Ended::new(inner), true);
-    fetcher.tell_waiting(waiting);
-    fetcher.connect().waiting
-}
-
-#[test]
-fn connections_are_told_how_many_addresses_wait(rt: HostRuntime) {
-    let alloc = rt.alloc();
-    assert!(rt; told(alloc, MemoryConnect::new(alloc, &[], &[]), 7) == 7);
 }
