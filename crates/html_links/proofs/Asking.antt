@@ -1,14 +1,14 @@
--- Tags and attributes that no rule asks for give nothing.
-use Rattle.std.proofs.Common.{◌≡◌, ℕ, Bool, true, false, ◌||◌, List, [], ◌∷◌, ◌++◌, Some, None, if◌then◌else◌, refl, ◌∙◌, ap}
-use Rattle.std.specs.Prelude.{codes, option_map}
+-- Tags and attributes that no rule asks for give nothing. No proof names an element or an attribute, so that a row of the link table
+-- changes none.
+use Rattle.std.proofs.Common.{◌≡◌, ℕ, Bool, true, false, ◌||◌, List, [], ◌∷◌, ◌++◌, Option, Some, None, if◌then◌else◌, refl, ◌∙◌, ap, arith}
+use Rattle.std.specs.Prelude.{⊤, option_map}
 use Rattle.std.specs.Option.{option_or}
 use Rattle.std.specs.Str.{bytes_eq}
 use Rattle.std.specs.List.{flat_map}
 use Rattle.html_links.specs.Pieces.{Attribute, Tag}
 use Rattle.html_links.specs.Values.{text_of, written, value_of}
 use Rattle.html_links.specs.declared.links.LinkKind.{LinkKind}
-use Rattle.html_links.specs.declared.links.LinkKind.TheVariants as kind
-use Rattle.html_links.specs.Links.{Links, link_attribute, link_with, link_in, links_of, base_of, is_nofollow, first_base, any_nofollow, with_tags, is_embedded, is_painted}
+use Rattle.html_links.specs.Links.{Links, link_attribute, link_with, link_in, links_of, base_of, is_nofollow, first_base, any_nofollow, with_tags}
 use Rattle.html_links.specs.Asked.{is_asked_element, is_asked_attribute, asked_attributes, asked}
 use Rattle.std.proofs.lemmas.Slice.Eq.{bytes_eq-Decides}
 
@@ -33,41 +33,34 @@ value_asked name all h = ap (option_map text_of) (written_asked name all h)
 abbrev kept : Tag → Tag
 kept tag = record { name = tag.name; attributes = asked_attributes tag.attributes }
 
-no_part : (a b c d e f g : Bool) → (a || b || c || d || e || f || g) ≡ false
-    → (a ≡ false) × (b ≡ false) × (c ≡ false) × (d ≡ false) × (e ≡ false) × (f ≡ false) × (g ≡ false)
-no_part true b c d e f g h = absurd (cc)
-no_part false true c d e f g h = absurd (cc)
-no_part false false true d e f g h = absurd (cc)
-no_part false false false true e f g h = absurd (cc)
-no_part false false false false true f g h = absurd (cc)
-no_part false false false false false true g h = absurd (cc)
-no_part false false false false false false g h = (refl, refl, refl, refl, refl, refl, h)
+-- the attribute that is a link is one that a rule names, where there is one
+abbrev IsAskedFor : Option (List ℕ × LinkKind) → Type 0
+IsAskedFor None = ⊤
+IsAskedFor (Some place) = is_asked_attribute place.0 ≡ true
 
-link_asked : (all : List Attribute) (a b c d : Bool) (k : LinkKind)
-    → link_in (asked_attributes all) (if a then Some (codes "href", kind.Link) else if b then Some (codes "href", k) else if c then Some (codes "src", kind.Inline) else if d then Some (codes "background", kind.Inline) else None)
-    ≡ link_in all (if a then Some (codes "href", kind.Link) else if b then Some (codes "href", k) else if c then Some (codes "src", kind.Inline) else if d then Some (codes "background", kind.Inline) else None)
-link_asked all true b c d k = ap (link_with kind.Link) (value_asked (codes "href") all refl)
-link_asked all false true c d k = ap (link_with k) (value_asked (codes "href") all refl)
-link_asked all false false true d k = ap (link_with kind.Inline) (value_asked (codes "src") all refl)
-link_asked all false false false true k = ap (link_with kind.Inline) (value_asked (codes "background") all refl)
-link_asked all false false false false k = refl
+link_asked : (tag : Tag) → IsAskedFor (link_attribute tag)
+link_asked tag = grind arith
 
-attribute_asked : (tag : Tag) → link_attribute (kept tag) ≡ link_attribute tag
-attribute_asked tag = rw (value_asked (codes "rel") tag.attributes refl) refl
+link_in_asked : (all : List Attribute) (place : Option (List ℕ × LinkKind)) → IsAskedFor place → link_in (asked_attributes all) place ≡ link_in all place
+link_in_asked all None h = refl
+link_in_asked all (Some place) h = ap (link_with place.1) (value_asked place.0 all h)
+
+attribute_kept : (tag : Tag) → link_attribute (kept tag) ≡ link_attribute tag
+attribute_kept tag = grind (arith, value_asked)
 
 links_kept : (tag : Tag) → links_of (kept tag) ≡ links_of tag
 unfolding links_of
 links_kept tag =
-    ap (link_in (asked_attributes tag.attributes)) (attribute_asked tag)
-    ∙ link_asked tag.attributes (bytes_eq tag.name (codes "a") || bytes_eq tag.name (codes "area")) (bytes_eq tag.name (codes "link")) (is_embedded tag.name) (is_painted tag.name) _
+    ap (link_in (asked_attributes tag.attributes)) (attribute_kept tag)
+    ∙ link_in_asked tag.attributes (link_attribute tag) (link_asked tag)
 
 base_kept : (tag : Tag) → base_of (kept tag) ≡ base_of tag
 unfolding base_of
-base_kept tag = rw (value_asked (codes "href") tag.attributes refl) refl
+base_kept tag = grind (arith, value_asked)
 
 nofollow_kept : (tag : Tag) → is_nofollow (kept tag) ≡ is_nofollow tag
 unfolding is_nofollow
-nofollow_kept tag = rw (value_asked (codes "name") tag.attributes refl, value_asked (codes "content") tag.attributes refl) refl
+nofollow_kept tag = grind (arith, value_asked)
 
 -- a tag that no rule asks for
 record GivesNothing (tag : Tag) : Type 0 where
@@ -77,14 +70,7 @@ record GivesNothing (tag : Tag) : Type 0 where
 
 gives_nothing : (tag : Tag) → is_asked_element tag.name ≡ false → GivesNothing tag
 unfolding links_of base_of is_nofollow
-gives_nothing tag h =
-    let no = no_part (bytes_eq tag.name (codes "a")) (bytes_eq tag.name (codes "area")) (bytes_eq tag.name (codes "link")) (bytes_eq tag.name (codes "base"))
-    (bytes_eq tag.name (codes "meta")) (is_embedded tag.name) (is_painted tag.name) h in
-    record {
-      links = rw (no.0, no.1, no.2, no.5, no.6) refl;
-      base = rw no.3 refl;
-      nofollow = rw no.4 refl;
-    }
+gives_nothing tag h = record { links = grind arith; base = grind arith; nofollow = grind arith }
 
 links_asked : (tags : List Tag) → flat_map links_of (asked tags) ≡ flat_map links_of tags
 links_asked [] = refl

@@ -4,7 +4,7 @@ use Rattle.std.specs.List.{flat_map, list_any}
 use Rattle.std.proofs.Math.ListN.{drop_of_length-le}
 use Rattle.std.proofs.lemmas.List.{drop_more}
 use Rattle.options.specs.declared.table.Row.{Row}
-use Rattle.options.specs.declared.wget.TheConstants.{WGET}
+use Rattle.options.specs.declared.table.TheConstants.{WGET}
 use Rattle.options.specs.Hints.{first_near, foreign_text, form_hint, form_of, is_form_of, is_near, is_own, long_hint, long_name, wget, words_hint}
 use Rattle.options.specs.inner.Table.{row_in}
 

@@ -14,7 +14,7 @@ use Rattle.address.specs.declared.fault.AddressFault.TheVariants as refused
 use Rattle.options.specs.declared.fault.LineFault.{LineFault}
 use Rattle.options.specs.declared.fault.LineFault.TheVariants as line
 use Rattle.options.specs.declared.table.Row.{Row}
-use Rattle.options.specs.declared.wget.TheConstants.{WGET}
+use Rattle.options.specs.declared.table.TheConstants.{WGET}
 use Rattle.options.specs.Line.{refusals, rows}
 use Rattle.options.specs.Order.{are_taken}
 use Rattle.options.specs.Table.{table}

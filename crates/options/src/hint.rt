@@ -8,8 +8,7 @@ ghost use Rattle.address.specs.declared.fault.AddressFault.TheVariants as addres
 use crate::fault::LineFault;
 use crate::given::given;
 use crate::line::parse;
-use crate::table::{Row, TABLE};
-use crate::wget::WGET;
+use crate::table::{Row, TABLE, WGET};
 use address::{Address, AddressFault};
 use clap::error::ErrorKind;
 use std::alloc::{AllocError, Global};

@@ -11,7 +11,6 @@ mod line;
 mod order;
 mod read;
 mod table;
-mod wget;
 
 pub use crate::advice::{advice_text, no_text_advice};
 pub use crate::fault::LineFault;
