@@ -17,7 +17,7 @@ use Rattle.harvest.specs.Harvests.{Harvested}
 use Rattle.address.specs.AddressOrder.{IsBefore}
 use Rattle.harvest.specs.declared.entry.Entry.{Entry}
 use Rattle.report.specs.Report.{Line, Fate, Asked, Refused, AreAscending}
-use Rattle.report.specs.Entries.{fate_at, name_among, line_at, lines_of}
+use Rattle.report.specs.Entries.{fate_at, name_among, line_with, line_at, lines_of}
 use Rattle.report.proofs.ListLaws.{to_map, from_map, pairs_map, from_given, pairs_given, length-given}
 use Rattle.report.proofs.TableLaws.{found_entry}
 
@@ -102,10 +102,10 @@ pub record IsLineOf (h : Harvested) (names : List (List ℕ)) (e : Entry) (o : O
   pub name : name_among h.kept names line.address ≡ line.name
 
 pub line_is : (h : Harvested) (names : List (List ℕ)) (e : Entry) (o : Option Fate) (line : Line)
-    → option_map (λ fate. record { address = e.address; depth = e.depth; fate = fate; name = name_among h.kept names e.address }) o ≡ Some line → IsLineOf h names e o line
+    → option_map (line_with h names e) o ≡ Some line → IsLineOf h names e o line
 line_is h names e None line is = cc
 line_is h names e (Some fate) line is =
-    let same : record { address = e.address; depth = e.depth; fate = fate; name = name_among h.kept names e.address } ≡ line = cc in
+    let same : line_with h names e fate ≡ line = cc in
     let address : e.address ≡ line.address = ap (λ (l : Line). l.address) same in
     record {
       address = address;

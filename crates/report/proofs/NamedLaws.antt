@@ -20,7 +20,7 @@ use Rattle.harvest.specs.Gathered.{AreEntries, AreRecords, ArePages}
 use Rattle.harvest.specs.Harvests.{Harvested}
 use Rattle.harvest.specs.Pages.{IsKept, is_success}
 use Rattle.harvest.specs.declared.entry.Entry.{Entry}
-use Rattle.report.specs.Entries.{fate_at, name_among, line_at, lines_of}
+use Rattle.report.specs.Entries.{fate_at, name_among, line_with, line_at, lines_of}
 use Rattle.report.specs.Named.{has_succeeded, is_to_keep, named_pages, names_in}
 use Rattle.report.specs.Report.{Line, Fate, Asked, Refused}
 use Rattle.report.proofs.HarvestLaws.{Holds, held, answered, unanswered, FateOf, fate_from, by_rules, by_record, line_is, ascending_lines}
@@ -158,7 +158,7 @@ answered_line h names are records u x is =
     let placed = subst (λ (z : Entry). IsPlaceOf h.records z.address z.answer) at (are.places k e lt) in
     let among = subst (λ (v : Text). Contains (recorded_addresses h.records) v) (sym named) (to_map (λ (r : Recorded). r.0) h.records (u, x) (recorded h records u slot x found outcome)) in
     let (fate, is_fate) = became h.records e.address e.refused e.answer placed among in (
-      record { address = e.address; depth = e.depth; fate = fate; name = name_among h.kept names e.address },
+      line_with h names e fate,
       to_given (line_at h names) h.entries e _ there (rw is_fate refl),
       named,
     )

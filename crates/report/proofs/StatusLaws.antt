@@ -15,7 +15,7 @@ use Rattle.harvest.specs.Entries.{Seen, seen_of, seen_in, said_by, is_refused, r
 use Rattle.harvest.specs.Gathered.{AreEntries, AreRecords}
 use Rattle.harvest.specs.Harvests.{Harvested}
 use Rattle.harvest.specs.declared.entry.Entry.{Entry}
-use Rattle.report.specs.Entries.{fate_at, name_among, line_at, lines_of}
+use Rattle.report.specs.Entries.{fate_at, line_with, line_at, lines_of}
 use Rattle.report.specs.ExitStatus.{is_network_fault, exit_status, outcome_of, outcomes_in}
 use Rattle.report.specs.Report.{Line, Fate, Asked, Refused, is_failed}
 use Rattle.report.proofs.HarvestLaws.{Answers, answered, unanswered, at_place, fate_from, by_rules, by_record, line_is}
@@ -88,7 +88,7 @@ recorded_told h names are records once u x among =
     let (k, lt, at) = there in
     let placed = subst (λ (v : Text). IsPlaceOf h.records v e.answer) named (subst (λ (z : Entry). IsPlaceOf h.records z.address z.answer) at (are.places k e lt)) in
     let fate = recorded_fate h records once u x among e.refused e.answer (free said (ap (λ (z : Seen). z.2) says)) placed in
-    to_given (λ (line : Line). outcome_of line.fate) (lines_of h names) (record { address = e.address; depth = e.depth; fate = Asked x; name = name_among h.kept names e.address }) x
+    to_given (λ (line : Line). outcome_of line.fate) (lines_of h names) (line_with h names e (Asked x)) x
     (to_given (line_at h names) h.entries e _ there (rw fate refl)) refl
   where
     free : {refused : Bool} → (said : Answers h.state u x) → refused ≡ is_refused (condition_of said.slot.progress) → refused ≡ false

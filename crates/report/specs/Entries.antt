@@ -19,10 +19,14 @@ name_among [] names u = None
 name_among (page ∷ kept) [] u = None
 name_among (page ∷ kept) (name ∷ names) u = if bytes_eq page u then Some name else name_among kept names u
 
+-- the line of an entry with what became of it
+abbrev pub line_with : Harvested → List (List ℕ) → Entry → Fate → Line
+line_with harvest names entry fate =
+    record { address = entry.address; depth = entry.depth; fate = fate; name = name_among harvest.kept names entry.address }
+
 -- the line of an entry, where something became of it
 abbrev pub line_at : Harvested → List (List ℕ) → Entry → Option Line
-line_at harvest names entry =
-    option_map (λ fate. record { address = entry.address; depth = entry.depth; fate = fate; name = name_among harvest.kept names entry.address }) (fate_at harvest.records entry.refused entry.answer)
+line_at harvest names entry = option_map (line_with harvest names entry) (fate_at harvest.records entry.refused entry.answer)
 
 -- the lines of a harvest whose kept pages have these names, in the order of its entries
 abbrev pub lines_of : Harvested → List (List ℕ) → List Line

@@ -1,3 +1,3 @@
 -- Definitions that proofs alone need: no public clause cites them.
-pub mod Rows
+pub mod Fates
 pub mod OutcomeWord

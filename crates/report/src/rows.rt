@@ -1,13 +1,14 @@
 //! Rows of a report: what is said of each address of a harvest.
 ghost use Rattle.std.specs.Prelude.{◌≡◌, ◌<◌, List, [], IsTrue, length, IfOk, map, option_map, slice_index_or, string_bytes};
 ghost use Rattle.address.specs.AddressOrder.{IsAscending};
-ghost use Rattle.report.specs.inner.Rows.{line_of_row, fate_of};
+ghost use Rattle.report.specs.inner.Fates.{fate_of};
 ghost use Rattle.report.specs.Entries.{name_among, fate_at, line_at, lines_of};
 
 use address::Address;
 use fetcher::Outcome;
 use harvest::{Entry, Harvest};
 use std::alloc::{AllocError, Global};
+use std::marker::Model;
 
 /// What became of an address.
 #[derive(Clone, Copy)]
@@ -19,13 +20,24 @@ pub(crate) enum Fate<'a> {
 }
 
 /// What the report says of one address.
-#[derive(Clone, Copy)]
+#[derive(Drop)]
 pub(crate) struct Row<'a> {
     pub address: &'a str,
     pub depth: u32,
     pub fate: Fate<'a>,
     /// The name of its file, where its page is kept.
     pub name: Option<&'a str>,
+}
+
+// Contracts see its line, without where that lies in memory.
+impl<'a> Model for Row<'a> {
+    ghost use Rattle.std.specs.Prelude.{option_map};
+    ghost use Rattle.report.specs.Report.{Line};
+    ghost use Rattle.report.specs.inner.Fates.{fate_of};
+
+    ghost Value = { Line };
+
+    ghost view = { λ row. record { address = row.address.now; depth = row.depth; fate = fate_of row.fate; name = option_map (λ name. name.now) row.name } };
 }
 
 // Whether this page has this place among those that are kept.
@@ -75,7 +87,7 @@ fn row_of<'a>(
     near: usize,
 ) -> Option<Row<'a>>
     requires { length names.now ≡ length harvest.now.kept }
-    ensures { option_map line_of_row result ≡ line_at harvest.now (map string_bytes names.now) entry.now }
+    ensures { result ≡ line_at harvest.now (map string_bytes names.now) entry.now }
 {
     Some(Row {
         address: entry.address.as_str(),
@@ -92,7 +104,7 @@ pub(crate) fn rows_of<'a>(
     names: &'a [String],
 ) -> Result<Vec<Row<'a>>, AllocError>
     requires { length names.now ≡ length harvest.now.kept }
-    ensures { IfOk result (λ rows. map line_of_row rows.items ≡ lines_of harvest.now (map string_bytes names.now)) }
+    ensures { IfOk result (λ rows. rows.items ≡ lines_of harvest.now (map string_bytes names.now)) }
 {
     let mut rows = Vec::new(alloc);
     // Entries ascend as kept pages do, so the next page that is kept stands behind as many.

@@ -1,7 +1,7 @@
 //! The text of a report: a line for each address, and the counts.
 ghost use Rattle.std.specs.Prelude.{◌≡◌, ◌++◌, IfOk, OnOk, length, map, string_bytes};
 ghost use Rattle.report.specs.Report.{outcome_word, is_failed, fate_word, was_asked, was_refused, has_failed, is_kept, report_text, counts_text, line_text, count_of, count_kept};
-ghost use Rattle.report.specs.inner.Rows.{line_of_row, fate_of};
+ghost use Rattle.report.specs.inner.Fates.{fate_of};
 ghost use Rattle.report.specs.Entries.{lines_of};
 ghost use Rattle.report.specs.inner.OutcomeWord.{word_bytes};
 
@@ -79,16 +79,15 @@ struct Counts {
 }
 
 impl Counts {
-    ghost use Rattle.std.specs.Prelude.{◌≡◌, map};
+    ghost use Rattle.std.specs.Prelude.{◌≡◌};
     ghost use Rattle.report.specs.Report.{was_asked, was_refused, has_failed, count_of, count_kept};
-    ghost use Rattle.report.specs.inner.Rows.{line_of_row};
 
     // The counts of these rows.
     fn of(rows: &[Row<'_>]) -> Counts
-        ensures asked { result.asked ≡ count_of was_asked (map line_of_row rows.now) }
-        ensures kept { result.kept ≡ count_kept (map line_of_row rows.now) }
-        ensures refused { result.refused ≡ count_of was_refused (map line_of_row rows.now) }
-        ensures failed { result.failed ≡ count_of has_failed (map line_of_row rows.now) }
+        ensures asked { result.asked ≡ count_of was_asked rows.now }
+        ensures kept { result.kept ≡ count_kept rows.now }
+        ensures refused { result.refused ≡ count_of was_refused rows.now }
+        ensures failed { result.failed ≡ count_of has_failed rows.now }
     {
         Counts {
             asked: count_asked(rows),
@@ -101,28 +100,28 @@ impl Counts {
 
 // How many of these rows were asked for.
 fn count_asked(rows: &[Row<'_>]) -> usize
-    ensures { result ≡ count_of was_asked (map line_of_row rows.now) }
+    ensures { result ≡ count_of was_asked rows.now }
 {
     rows.iter().filter(|row| was_asked(row.fate)).count()
 }
 
 // How many of their pages are kept.
 fn count_kept(rows: &[Row<'_>]) -> usize
-    ensures { result ≡ count_kept (map line_of_row rows.now) }
+    ensures { result ≡ count_kept rows.now }
 {
     rows.iter().filter(|row| is_kept(row)).count()
 }
 
 // How many of them robots rules refuse.
 fn count_refused(rows: &[Row<'_>]) -> usize
-    ensures { result ≡ count_of was_refused (map line_of_row rows.now) }
+    ensures { result ≡ count_of was_refused rows.now }
 {
     rows.iter().filter(|row| was_refused(row.fate)).count()
 }
 
 // How many of them were asked for, and failed.
 fn count_failed(rows: &[Row<'_>]) -> usize
-    ensures { result ≡ count_of has_failed (map line_of_row rows.now) }
+    ensures { result ≡ count_of has_failed rows.now }
 {
     rows.iter().filter(|row| has_failed(row.fate)).count()
 }
@@ -143,7 +142,7 @@ fn was_refused(fate: Fate<'_>) -> bool
 
 // Whether its page is kept.
 fn is_kept(row: &Row<'_>) -> bool
-    ensures { result ≡ is_kept (line_of_row row.now) }
+    ensures { result ≡ is_kept row.now }
 {
     row.name.is_some()
 }
@@ -159,8 +158,8 @@ fn has_failed(fate: Fate<'_>) -> bool
 }
 
 // Adds the line of one address.
-fn push_line(text: &mut String, row: Row<'_>) -> Result<(), AllocError>
-    ensures ok { OnOk result (string_bytes text.new ≡ string_bytes text.old ++ line_text (line_of_row row.entry)) }
+fn push_line(text: &mut String, row: &Row<'_>) -> Result<(), AllocError>
+    ensures ok { OnOk result (string_bytes text.new ≡ string_bytes text.old ++ line_text row.now) }
 {
     let depth = row.depth;
     let word = word_of(row.fate);
@@ -187,10 +186,10 @@ fn push_counts(text: &mut String, counts: Counts) -> Result<(), AllocError>
 
 /// Adds the report over these rows.
 pub(crate) fn push_report(text: &mut String, rows: &[Row<'_>]) -> Result<(), AllocError>
-    ensures ok { OnOk result (string_bytes text.new ≡ string_bytes text.old ++ report_text (map line_of_row rows.now)) }
+    ensures ok { OnOk result (string_bytes text.new ≡ string_bytes text.old ++ report_text rows.now) }
 {
     for row in rows {
-        push_line(text, *row)?;
+        push_line(text, row)?;
     }
     push_counts(text, Counts::of(rows))
 }

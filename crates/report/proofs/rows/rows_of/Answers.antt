@@ -1,10 +1,8 @@
 -- An entry has a row, or none.
 use Rattle.std.proofs.Common.{◌∷◌, [], ◌++◌, List, map, ap, sym, ◌∙◌, arith}
-use Rattle.std.proofs.lemmas.List.{map-append}
 use Rattle.std.specs.String.{string_bytes}
 use Rattle.report.specs.Entries.{line_at}
 use Rattle.report.specs.Report.{Line}
-use Rattle.report.specs.inner.Rows.{line_of_row}
 use Rattle.report.proofs.ListLaws.{given_none, given_some}
 use Rattle.report.proofs.rows.rows_of.Goals as goal
 
@@ -17,5 +15,5 @@ loop-entry-preserved-in_default c =
 pub loop-entry-preserved : goal.loop-entry-preserved
 loop-entry-preserved c =
     let h = line_at c.args.harvest.now (map string_bytes c.args.names.now) in
-    ap (map line_of_row) c.in_ok-push.ensures.items ∙ map-append line_of_row _ _ ∙ ap (λ (lines : List Line). lines ++ line_of_row c.in-Some.row ∷ []) c.loop-entry.invariant
-    ∙ sym (given_some h c.entries-entry-items.result.now c.loop-entry.entry-index c.entry-item.result (line_of_row c.in-Some.row) (omega arith) (ap h (sym c.entry-item.is) ∙ sym c.in-Some.ensures))
+    c.in_ok-push.ensures.items ∙ ap (λ (lines : List Line). lines ++ c.in-Some.row ∷ []) c.loop-entry.invariant
+    ∙ sym (given_some h c.entries-entry-items.result.now c.loop-entry.entry-index c.entry-item.result c.in-Some.row (omega arith) (ap h (sym c.entry-item.is) ∙ sym c.in-Some.ensures))

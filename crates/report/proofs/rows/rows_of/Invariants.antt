@@ -3,8 +3,7 @@ use Rattle.std.proofs.Common.{◌≡◌, map, take}
 use Rattle.std.specs.List.{filter_map}
 use Rattle.std.specs.String.{string_bytes}
 use Rattle.report.specs.Entries.{line_at}
-use Rattle.report.specs.inner.Rows.{line_of_row}
 use Rattle.report.proofs.rows.rows_of.Given as goal
 
 abbrev pub invariant-loop-entry : goal.invariant-loop-entry
-invariant-loop-entry l = map line_of_row l.rows.items ≡ filter_map (line_at l.harvest (map string_bytes l.names)) (take l.entry-index l.entry-items)
+invariant-loop-entry l = l.rows.items ≡ filter_map (line_at l.harvest (map string_bytes l.names)) (take l.entry-index l.entry-items)
