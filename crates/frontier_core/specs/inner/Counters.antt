@@ -1,11 +1,18 @@
--- What proofs alone need beside `Counters`.
-use Rattle.std.specs.Prelude.{◌≡◌, ℕ, ◌+◌, ◌<◌, ◌≤◌, ◌^◌, Bool, false, cond, List, length, count_by}
+-- What the counters of the tables say: how many permits are out to workers, and how much is left to do.
+use Rattle.std.specs.Prelude.{◌≡◌, ℕ, ◌+◌, ◌<◌, ◌≤◌, ◌^◌, Bool, false, not, cond, List, length, count_by}
 use Rattle.frontier_core.specs.Tables.{Text}
-use Rattle.frontier_core.specs.Machine.{Slot, Progress, OriginRules}
+use Rattle.frontier_core.specs.Machine.{Slot, Progress, OriginRules, is_done, is_known}
 use Rattle.frontier_core.specs.Owed.{is_out_to_worker, is_asked}
 use Rattle.frontier_core.specs.declared.counters.Share.{Share}
 use Rattle.frontier_core.specs.declared.counters.Counters.{Counters}
-use Rattle.frontier_core.specs.Counters.{is_left, is_unknown}
+
+-- something is left to do for the address
+abbrev pub is_left : Progress → Bool
+is_left q = not (is_done q)
+
+-- the rules are asked for, and not known
+abbrev pub is_unknown : OriginRules → Bool
+is_unknown rules = not (is_known rules)
 
 -- one where it is so
 abbrev pub one : Bool → ℕ

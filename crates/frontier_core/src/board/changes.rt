@@ -94,7 +94,8 @@ impl Board {
         let robots = Robots::asked(worker);
         let share = robots.share();
         self.origins.insert(key, robots)?;
-        // The table's length fits, and so does what is counted in it.
+        // Asked for what its clause says behind an insertion, whose own says nothing of it: the length fits, and so does what is
+        // counted in the table.
         let _len = self.origins.len();
         self.counters.exchange(Share::NONE, share);
         Ok(())
@@ -153,7 +154,7 @@ impl Board {
         ensures { (old : Held) × (lookup self.old.entries (key_numbered self.old.entries i) ≡ Some old)
             × (self.new ≡ with_entry self.old (key_numbered self.old.entries i) (slot old.depth (unparked (policy plan.now) origin.now rules.now (key_numbered self.old.entries i) old.progress))) }
     {
-        // The plan is named by the contract alone.
+        // Named by the contract alone: what rules do to an address is said under a plan.
         let _ = plan;
         let address = self.address_at(i);
         if self.progress_at(i).is_parked() && address.origin() == origin.as_str() {

@@ -5,9 +5,9 @@ ghost use Rattle.frontier_core.specs.Routes.{admits};
 ghost use Rattle.address.specs.Address.{origin_of};
 ghost use Rattle.frontier_core.specs.Machine.{Slot as Held, slot_outcome, Parked, Waiting, slot, arrival, rules_in, asked_count, IsDue, IsQuiet, HasRoom};
 ghost use Rattle.frontier_core.specs.Invariants.{IsOverfull, IsStuck, IsGivenUp, AreRulesGivenUp};
-ghost use Rattle.frontier_core.specs.Owed.{owed, out_to_workers, asked_by_workers};
+ghost use Rattle.frontier_core.specs.Owed.{owed};
 ghost use Rattle.frontier_core.specs.inner.TableCalls.{key_numbered};
-ghost use Rattle.frontier_core.specs.Counters.{left_of};
+ghost use Rattle.frontier_core.specs.Waiting.{how_many_wait};
 ghost use Rattle.frontier_core.specs.Plans.{policy};
 ghost use Rattle.frontier_core.specs.Traced.{HasWaitingPage, HasRules, IsOutTo, IsAskedBy};
 
@@ -197,7 +197,7 @@ impl Board {
 
     /// At how many addresses and origins something is left to do, but for those that are out to workers.
     pub fn waiting(&self) -> usize
-        ensures { result + (out_to_workers self.now + asked_by_workers self.now) ≡ left_of self.now }
+        ensures { result ≡ how_many_wait self.now }
     {
         self.counters.left - self.counters.out
     }
