@@ -1,4 +1,4 @@
--- From the notes and the table to what a retrieval brings in or leaves.
+-- From the notes and the table to what was retrieved, or was until the stop.
 use Rattle.std.proofs.Common.{◌≡◌, ◌⊎◌, ℕ, inl, inr, true, false, Bool, ◌&&◌, List, [], ◌∷◌, map, zero, suc, Some, None, Option, Result, Ok, Err, refl, sym, ap, ◌∙◌, subst, arith}
 use Rattle.std.specs.Prelude.{◌<◌, All, Contains, IsSome, IfSome, IsPermutation, MatchOption, IfOk, IfErr, OnOk, IsOk}
 use Rattle.std.specs.List.{filter_map}

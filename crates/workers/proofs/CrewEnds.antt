@@ -1,4 +1,4 @@
--- What several fetchers bring in or leave, from what was noted and concluded.
+-- What several fetchers retrieve, or did until they stopped, from what was noted and concluded.
 use Rattle.std.proofs.Common.{◌≡◌, ◌≢◌, ◌⊎◌, ℕ, inl, inr, List, [], ◌∷◌, ◌++◌, length, get_or, slice_set, take, arith, Some, Result, Ok, Err, refl, sym, ap, ◌∙◌, subst}
 use Rattle.std.specs.Prelude.{Contains, IfOk, IfErr, IsOk, IsErr}
 use Rattle.std.specs.List.{AllZip}
@@ -24,7 +24,7 @@ use Rattle.workers.specs.declared.retrieval.Halt.{Halt}
 use Rattle.workers.specs.declared.worker.Seat.{Seat}
 use Rattle.workers.specs.declared.crew_retrieval.Retrieved.{Retrieved}
 use Rattle.workers.specs.declared.crew_retrieval.Stopped.{Stopped}
-use Rattle.workers.specs.inner.Answered.{IsBrought, IsLeftBy, IsAccount, IsOwnAccount}
+use Rattle.workers.specs.inner.Answered.{IsRetrievedBy, IsStoppedBy, IsAccount, IsOwnAccount}
 use Rattle.workers.specs.declared.crew_retrieval.Noted.{Noted}
 use Rattle.workers.specs.declared.crew_retrieval.Noted.TheVariants as known
 use Rattle.workers.specs.declared.note.Notes.{Notes}
@@ -37,7 +37,7 @@ use Rattle.harvest.specs.Harvests.{Harvested}
 use Rattle.workers.specs.Found.{AreMadeOnce, AreAsked, AreFound}
 use Rattle.workers.specs.inner.Noted.{AreNoted}
 use Rattle.workers.specs.inner.Notes.{addresses, origins}
-use Rattle.workers.specs.Retrieval.{Brings, Leaves, IsLeft}
+use Rattle.workers.specs.Retrieval.{IsRetrieved, IsPartRetrieved, IsStopped}
 use Rattle.workers.specs.inner.Seats.{AllGo, fetchers_of, page_notes, rules_notes}
 use Rattle.workers.specs.Sites.{IsCompleteFor}
 use Rattle.workers.specs.Takers.{AreOwn}
@@ -45,9 +45,9 @@ use Rattle.workers.specs.inner.Takers.{AreNotedBy}
 use Rattle.workers.specs.inner.Turns.{IsNothing}
 use Rattle.workers.proofs.ApartLaws.{same_fetchers}
 use Rattle.workers.proofs.CrewLaws.{crew_later, pages_are_noted, rules_are_noted}
-use Rattle.workers.proofs.FoundLaws.{page_in, rules_in, brings_found, left_once}
+use Rattle.workers.proofs.FoundLaws.{page_in, rules_in, retrieved_found, stopped_once}
 use Rattle.workers.proofs.RetrievalLaws.{gained_is, log_is}
-use Rattle.workers.proofs.ServingLaws.{crew_brings, crew_leaves, crew_bare, crew_fits, brings_more, leaves_more}
+use Rattle.workers.proofs.ServingLaws.{crew_retrieved, crew_part_retrieved, crew_bare, crew_fits, retrieved_more, part_retrieved_more}
 use Rattle.workers.proofs.SiteLaws.{fits_extend, complete_for, too_many_up, not_too_many}
 
 -- more candidates than the plan lets be held, and a full table that shows it
@@ -77,27 +77,27 @@ module _ {F S : Type 0} (site : F → S) (says : S → Text → Outcome → List
 
   -- ---- by what was concluded
 
-  pub brought : (old new : List F) (t : Traced) (notes : List PageNote) (sets : List RulesNote) (h : Harvested) → AreLater site log old new
+  pub retrieved_by : (old new : List F) (t : Traced) (notes : List PageNote) (sets : List RulesNote) (h : Harvested) → AreLater site log old new
       → AreNoted (SomeSays site says log old new) (SomeRules site rules log old new) plan (all_gained log old new) notes sets
-      → IsConcluded plan t notes sets h × IsQuiet t.state × IsComplete (policy t.plan) t.state → IsBrought site says rules log plan old new h
-  brought old new t notes sets h later noted all = record {
+      → IsConcluded plan t notes sets h × IsQuiet t.state × IsComplete (policy t.plan) t.state → IsRetrievedBy site says rules log plan old new h
+  retrieved_by old new t notes sets h later noted all = record {
     later = later;
-    brings = crew_brings (SomeSays site says log old new) (SomeRules site rules log old new) plan t (all_gained log old new) notes sets h noted all.0 all.1 all.2;
+    retrieved = crew_retrieved (SomeSays site says log old new) (SomeRules site rules log old new) plan t (all_gained log old new) notes sets h noted all.0 all.1 all.2;
     entries = all.0.harvest.entries;
   }
 
   full_of : (t : Traced) (notes : List PageNote) (sets : List RulesNote) (h : Harvested) → IsConcluded plan t notes sets h → IsFull t.plan t.state → IsFull plan h.state
   full_of t notes sets h all full = subst (λ (s : State). IsFull plan s) (sym all.harvest.state) (subst (λ (x : Plan). IsFull x t.state) all.follows full)
 
-  pub left : (old new : List F) (t : Traced) (notes : List PageNote) (sets : List RulesNote) (cause : Cause) (h : Harvested) → AreLater site log old new
+  pub stopped_by : (old new : List F) (t : Traced) (notes : List PageNote) (sets : List RulesNote) (cause : Cause) (h : Harvested) → AreLater site log old new
       → AreNoted (SomeSays site says log old new) (SomeRules site rules log old new) plan (all_gained log old new) notes sets
       → (cause ≢ why.Mismatch → IsBare notes sets cause h ⊎ (IsConcluded plan t notes sets h × (t.state.cause ≡ Some cause)))
-      → (cause ≡ why.Full → IsFull t.plan t.state) → IsLeftBy site says rules log plan old new cause h
-  left old new t notes sets cause h later noted err full = record {
+      → (cause ≡ why.Full → IsFull t.plan t.state) → IsStoppedBy site says rules log plan old new cause h
+  stopped_by old new t notes sets cause h later noted err full = record {
     later = later;
-    left = λ other. elim (err other) [
+    stopped = λ other. elim (err other) [
       | inl bare ↦ crew_bare (SomeSays site says log old new) (SomeRules site rules log old new) plan (all_gained log old new) notes sets cause h noted bare
-      | inr both ↦ inl (crew_leaves (SomeSays site says log old new) (SomeRules site rules log old new) plan t (all_gained log old new) notes sets cause h noted both.0 both.1)
+      | inr both ↦ inl (crew_part_retrieved (SomeSays site says log old new) (SomeRules site rules log old new) plan t (all_gained log old new) notes sets cause h noted both.0 both.1)
     ];
     full = λ is. elim (err (λ (wrong : cause ≡ why.Mismatch). let other : why.Mismatch ≡ why.Full = sym wrong ∙ is in cc)) [
       | inl bare ↦ absurd (let other : why.Memory ≡ why.Full = sym bare.nothing.memory ∙ is in cc)
@@ -105,17 +105,17 @@ module _ {F S : Type 0} (site : F → S) (says : S → Text → Outcome → List
     ];
   }
 
-  pub left_nothing : (old new : List F) (cause : Cause) (h : Harvested) → AreLater site log old new → AreOnce (all_gained log old new) → IsNothing cause h → IsLeftBy site says rules log plan old new cause h
-  left_nothing old new cause h later once nothing = record {
+  pub stopped_empty : (old new : List F) (cause : Cause) (h : Harvested) → AreLater site log old new → AreOnce (all_gained log old new) → IsNothing cause h → IsStoppedBy site says rules log plan old new cause h
+  stopped_empty old new cause h later once nothing = record {
     later = later;
-    left = λ other. inr (record { memory = nothing.memory; plan = nothing.plan; state = nothing.state; trace = nothing.trace; once = once });
+    stopped = λ other. inr (record { memory = nothing.memory; plan = nothing.plan; state = nothing.state; trace = nothing.trace; once = once });
     full = λ is. absurd (let other : why.Memory ≡ why.Full = sym nothing.memory ∙ is in cc);
   }
 
-  pub left_wrong : (old new : List F) (cause : Cause) (h : Harvested) → AreLater site log old new → cause ≡ why.Mismatch → IsLeftBy site says rules log plan old new cause h
-  left_wrong old new cause h later wrong = record {
+  pub stopped_wrong : (old new : List F) (cause : Cause) (h : Harvested) → AreLater site log old new → cause ≡ why.Mismatch → IsStoppedBy site says rules log plan old new cause h
+  stopped_wrong old new cause h later wrong = record {
     later = later;
-    left = λ other. absurd (other wrong);
+    stopped = λ other. absurd (other wrong);
     full = λ is. absurd (let other : why.Mismatch ≡ why.Full = sym wrong ∙ is in cc);
   }
 
@@ -128,18 +128,18 @@ module _ {F S : Type 0} (site : F → S) (says : S → Text → Outcome → List
   pub account_once : (old new : List F) (noted : Noted) → IsAccount site says rules log plan old new noted → noted ≡ known.Once → AreOnce (all_gained log old new)
   account_once old new noted account is = subst (λ (n : Noted). IsAccount site says rules log plan old new n) is account
 
-  pub all_brought : (old new : List F) (t : Traced) (notes : List PageNote) (sets : List RulesNote) (concluded : Result Harvested Halt) → AreLater site log old new
+  pub all_retrieved : (old new : List F) (t : Traced) (notes : List PageNote) (sets : List RulesNote) (concluded : Result Harvested Halt) → AreLater site log old new
       → AreNoted (SomeSays site says log old new) (SomeRules site rules log old new) plan (all_gained log old new) notes sets
-      → IfOk concluded (λ h. IsConcluded plan t notes sets h × IsQuiet t.state × IsComplete (policy t.plan) t.state) → IfOk concluded (λ h. IsBrought site says rules log plan old new h)
-  all_brought old new t notes sets (Ok h) later noted ok = brought old new t notes sets h later noted ok
-  all_brought old new t notes sets (Err halt) later noted ok = tt
+      → IfOk concluded (λ h. IsConcluded plan t notes sets h × IsQuiet t.state × IsComplete (policy t.plan) t.state) → IfOk concluded (λ h. IsRetrievedBy site says rules log plan old new h)
+  all_retrieved old new t notes sets (Ok h) later noted ok = retrieved_by old new t notes sets h later noted ok
+  all_retrieved old new t notes sets (Err halt) later noted ok = tt
 
-  pub all_left : (old new : List F) (t : Traced) (notes : List PageNote) (sets : List RulesNote) (concluded : Result Harvested Halt) → AreLater site log old new
+  pub all_stopped : (old new : List F) (t : Traced) (notes : List PageNote) (sets : List RulesNote) (concluded : Result Harvested Halt) → AreLater site log old new
       → AreNoted (SomeSays site says log old new) (SomeRules site rules log old new) plan (all_gained log old new) notes sets
       → IfErr concluded (λ halt. halt.cause ≢ why.Mismatch → IsBare notes sets halt.cause halt.harvest ⊎ (IsConcluded plan t notes sets halt.harvest × (t.state.cause ≡ Some halt.cause)))
-      → IfErr concluded (λ halt. halt.cause ≡ why.Full → IsFull t.plan t.state) → IfErr concluded (λ halt. IsLeftBy site says rules log plan old new halt.cause halt.harvest)
-  all_left old new t notes sets (Ok h) later noted err full = tt
-  all_left old new t notes sets (Err halt) later noted err full = left old new t notes sets halt.cause halt.harvest later noted err full
+      → IfErr concluded (λ halt. halt.cause ≡ why.Full → IsFull t.plan t.state) → IfErr concluded (λ halt. IsStoppedBy site says rules log plan old new halt.cause halt.harvest)
+  all_stopped old new t notes sets (Ok h) later noted err full = tt
+  all_stopped old new t notes sets (Err halt) later noted err full = stopped_by old new t notes sets halt.cause halt.harvest later noted err full
 
   -- ---- one fetcher
 
@@ -155,61 +155,61 @@ module _ {F S : Type 0} (site : F → S) (says : S → Text → Outcome → List
   one_rules : (f g : F) (o : Text) (r : RuleSetValue) → Contains (origins_asked (gained (log f) (log g))) o → rules (site f) o r → SomeRules site rules log (f ∷ []) (g ∷ []) o r
   one_rules f g o r among said = inl (rules_in (gained (log f) (log g)) o among, said)
 
-  pub one_brought : (f g : F) (h : Harvested) → site g ≡ site f → log g ≡ log f ++ gained (log f) (log g)
-      → Brings (says (site f)) (rules (site f)) plan (gained (log f) (log g)) h → AreEntries h → IsBrought site says rules log plan (f ∷ []) (g ∷ []) h
-  one_brought f g h site_is log_is brings entries = record {
+  pub one_retrieved : (f g : F) (h : Harvested) → site g ≡ site f → log g ≡ log f ++ gained (log f) (log g)
+      → IsRetrieved (says (site f)) (rules (site f)) plan (gained (log f) (log g)) h → AreEntries h → IsRetrievedBy site says rules log plan (f ∷ []) (g ∷ []) h
+  one_retrieved f g h site_is log_is retrieved entries = record {
     later = one_later f g site_is log_is;
-    brings = subst (λ (asks : List Ask). Brings (SomeSays site says log (f ∷ []) (g ∷ [])) (SomeRules site rules log (f ∷ []) (g ∷ [])) plan asks h) (sym (one_gained f g))
-        (brings_more (says (site f)) (SomeSays site says log (f ∷ []) (g ∷ [])) (rules (site f)) (SomeRules site rules log (f ∷ []) (g ∷ [])) (gained (log f) (log g)) (one_says f g) (one_rules f g) plan h brings);
+    retrieved = subst (λ (asks : List Ask). IsRetrieved (SomeSays site says log (f ∷ []) (g ∷ [])) (SomeRules site rules log (f ∷ []) (g ∷ [])) plan asks h) (sym (one_gained f g))
+        (retrieved_more (says (site f)) (SomeSays site says log (f ∷ []) (g ∷ [])) (rules (site f)) (SomeRules site rules log (f ∷ []) (g ∷ [])) (gained (log f) (log g)) (one_says f g) (one_rules f g) plan h retrieved);
     entries = entries;
   }
 
-  pub one_left : (f g : F) (cause : Cause) (h : Harvested) → site g ≡ site f → log g ≡ log f ++ gained (log f) (log g)
-      → IsLeft (says (site f)) (rules (site f)) plan (gained (log f) (log g)) cause h → (cause ≡ why.Full → IsFull plan h.state) → IsLeftBy site says rules log plan (f ∷ []) (g ∷ []) cause h
-  one_left f g cause h site_is log_is some full = record {
+  pub one_stopped : (f g : F) (cause : Cause) (h : Harvested) → site g ≡ site f → log g ≡ log f ++ gained (log f) (log g)
+      → IsStopped (says (site f)) (rules (site f)) plan (gained (log f) (log g)) cause h → (cause ≡ why.Full → IsFull plan h.state) → IsStoppedBy site says rules log plan (f ∷ []) (g ∷ []) cause h
+  one_stopped f g cause h site_is log_is some full = record {
     later = one_later f g site_is log_is;
-    left = λ other. elim some [
-      | inl leaves ↦ inl (subst (λ (asks : List Ask). Leaves (SomeSays site says log (f ∷ []) (g ∷ [])) (SomeRules site rules log (f ∷ []) (g ∷ [])) plan asks cause h) (sym (one_gained f g))
-          (leaves_more (says (site f)) (SomeSays site says log (f ∷ []) (g ∷ [])) (rules (site f)) (SomeRules site rules log (f ∷ []) (g ∷ [])) (gained (log f) (log g)) (one_says f g) (one_rules f g) plan cause h leaves))
+    stopped = λ other. elim some [
+      | inl part ↦ inl (subst (λ (asks : List Ask). IsPartRetrieved (SomeSays site says log (f ∷ []) (g ∷ [])) (SomeRules site rules log (f ∷ []) (g ∷ [])) plan asks cause h) (sym (one_gained f g))
+          (part_retrieved_more (says (site f)) (SomeSays site says log (f ∷ []) (g ∷ [])) (rules (site f)) (SomeRules site rules log (f ∷ []) (g ∷ [])) (gained (log f) (log g)) (one_says f g) (one_rules f g) plan cause h part))
       | inr empty ↦ inr (record { memory = empty.memory; plan = empty.plan; state = empty.state; trace = empty.trace; once = subst AreOnce (sym (one_gained f g)) empty.once })
     ];
     full = full;
   }
 
-  pub alone_brought : (fs : List F) (d g : F) (r : Result Harvested Halt) → length fs ≡ 1 → site g ≡ site (get_or fs 0 d) → log g ≡ log (get_or fs 0 d) ++ gained (log (get_or fs 0 d)) (log g)
-      → IfOk r (Brings (says (site (get_or fs 0 d))) (rules (site (get_or fs 0 d))) plan (gained (log (get_or fs 0 d)) (log g))) → IfOk r AreEntries
-      → IfOk r (λ h. IsBrought site says rules log plan fs (slice_set fs 0 g) h)
-  alone_brought [] d g r one site_is log_is ok entries = absurd (omega arith)
-  alone_brought (f ∷ []) d g (Ok h) one site_is log_is ok entries = one_brought f g h site_is log_is ok entries
-  alone_brought (f ∷ []) d g (Err halt) one site_is log_is ok entries = tt
-  alone_brought (f ∷ e ∷ fs) d g r one site_is log_is ok entries = absurd (omega arith)
+  pub alone_retrieved : (fs : List F) (d g : F) (r : Result Harvested Halt) → length fs ≡ 1 → site g ≡ site (get_or fs 0 d) → log g ≡ log (get_or fs 0 d) ++ gained (log (get_or fs 0 d)) (log g)
+      → IfOk r (IsRetrieved (says (site (get_or fs 0 d))) (rules (site (get_or fs 0 d))) plan (gained (log (get_or fs 0 d)) (log g))) → IfOk r AreEntries
+      → IfOk r (λ h. IsRetrievedBy site says rules log plan fs (slice_set fs 0 g) h)
+  alone_retrieved [] d g r one site_is log_is ok entries = absurd (omega arith)
+  alone_retrieved (f ∷ []) d g (Ok h) one site_is log_is ok entries = one_retrieved f g h site_is log_is ok entries
+  alone_retrieved (f ∷ []) d g (Err halt) one site_is log_is ok entries = tt
+  alone_retrieved (f ∷ e ∷ fs) d g r one site_is log_is ok entries = absurd (omega arith)
 
-  pub alone_left : (fs : List F) (d g : F) (r : Result Harvested Halt) → length fs ≡ 1 → site g ≡ site (get_or fs 0 d) → log g ≡ log (get_or fs 0 d) ++ gained (log (get_or fs 0 d)) (log g)
-      → IfErr r (λ halt. IsLeft (says (site (get_or fs 0 d))) (rules (site (get_or fs 0 d))) plan (gained (log (get_or fs 0 d)) (log g)) halt.cause halt.harvest)
-      → IfErr r (λ halt. halt.cause ≡ why.Full → IsFull plan halt.harvest.state) → IfErr r (λ halt. IsLeftBy site says rules log plan fs (slice_set fs 0 g) halt.cause halt.harvest)
-  alone_left [] d g r one site_is log_is err full = absurd (omega arith)
-  alone_left (f ∷ []) d g (Ok h) one site_is log_is err full = tt
-  alone_left (f ∷ []) d g (Err halt) one site_is log_is err full = one_left f g halt.cause halt.harvest site_is log_is err full
-  alone_left (f ∷ e ∷ fs) d g r one site_is log_is err full = absurd (omega arith)
+  pub alone_stopped : (fs : List F) (d g : F) (r : Result Harvested Halt) → length fs ≡ 1 → site g ≡ site (get_or fs 0 d) → log g ≡ log (get_or fs 0 d) ++ gained (log (get_or fs 0 d)) (log g)
+      → IfErr r (λ halt. IsStopped (says (site (get_or fs 0 d))) (rules (site (get_or fs 0 d))) plan (gained (log (get_or fs 0 d)) (log g)) halt.cause halt.harvest)
+      → IfErr r (λ halt. halt.cause ≡ why.Full → IsFull plan halt.harvest.state) → IfErr r (λ halt. IsStoppedBy site says rules log plan fs (slice_set fs 0 g) halt.cause halt.harvest)
+  alone_stopped [] d g r one site_is log_is err full = absurd (omega arith)
+  alone_stopped (f ∷ []) d g (Ok h) one site_is log_is err full = tt
+  alone_stopped (f ∷ []) d g (Err halt) one site_is log_is err full = one_stopped f g halt.cause halt.harvest site_is log_is err full
+  alone_stopped (f ∷ e ∷ fs) d g r one site_is log_is err full = absurd (omega arith)
 
   -- ---- for a whole site
 
   module _ (old new : List F) (whole : Answers) (fit : AllFit site says rules old whole) where
-    pub whole_brought : (h : Harvested) → IsBrought site says rules log plan old new h → IsCompleteFor (policy plan) whole h.state
-    whole_brought h b = complete_for (policy plan) h.state whole b.brings.complete
-        (fits_extend (SomeSays site says log old new) (SomeRules site rules log old new) whole (answers h.state) (crew_fits site says rules log old new whole fit) b.brings.told)
+    pub whole_retrieved : (h : Harvested) → IsRetrievedBy site says rules log plan old new h → IsCompleteFor (policy plan) whole h.state
+    whole_retrieved h b = complete_for (policy plan) h.state whole b.retrieved.complete
+        (fits_extend (SomeSays site says log old new) (SomeRules site rules log old new) whole (answers h.state) (crew_fits site says rules log old new whole fit) b.retrieved.told)
 
-    pub whole_left : (cause : Cause) (h : Harvested) → IsLeftBy site says rules log plan old new cause h → cause ≡ why.Full → HasTooMany (policy plan) whole
-    whole_left cause h l is = elim (l.left (λ (wrong : cause ≡ why.Mismatch). let other : why.Mismatch ≡ why.Full = sym wrong ∙ is in cc)) [
-      | inl leaves ↦ too_many_up (policy plan) (answers h.state) whole
-          (fits_extend (SomeSays site says log old new) (SomeRules site rules log old new) whole (answers h.state) (crew_fits site says rules log old new whole fit) leaves.told) (l.full is).0
+    pub whole_stopped : (cause : Cause) (h : Harvested) → IsStoppedBy site says rules log plan old new cause h → cause ≡ why.Full → HasTooMany (policy plan) whole
+    whole_stopped cause h l is = elim (l.stopped (λ (wrong : cause ≡ why.Mismatch). let other : why.Mismatch ≡ why.Full = sym wrong ∙ is in cc)) [
+      | inl part ↦ too_many_up (policy plan) (answers h.state) whole
+          (fits_extend (SomeSays site says log old new) (SomeRules site rules log old new) whole (answers h.state) (crew_fits site says rules log old new whole fit) part.told) (l.full is).0
       | inr empty ↦ absurd (let other : why.Memory ≡ why.Full = sym empty.memory ∙ is in cc)
     ]
 
-    pub never_brought : (h : Harvested) → IsBrought site says rules log plan old new h → HasTooMany (policy plan) whole → ⊥
-    never_brought h b many = not_too_many (policy plan) h.state whole b.brings.complete
-        (fits_extend (SomeSays site says log old new) (SomeRules site rules log old new) whole (answers h.state) (crew_fits site says rules log old new whole fit) b.brings.told)
-        (sound_replay (policy plan) h.trace h.state plan.some_urls b.brings.replay).few many
+    pub never_retrieved : (h : Harvested) → IsRetrievedBy site says rules log plan old new h → HasTooMany (policy plan) whole → ⊥
+    never_retrieved h b many = not_too_many (policy plan) h.state whole b.retrieved.complete
+        (fits_extend (SomeSays site says log old new) (SomeRules site rules log old new) whole (answers h.state) (crew_fits site says rules log old new whole fit) b.retrieved.told)
+        (sound_replay (policy plan) h.trace h.state plan.some_urls b.retrieved.replay).few many
 
 -- ---- where there is no memory to bring the notes together
 
@@ -232,74 +232,89 @@ pub account_own : {F : Type 0} (log : F → List Ask) (old new : List F) (noted 
     → (trace : List Event) → AreNotedBy notes.pages.items notes.rules.items trace → AreOwn log 0 old new trace
 account_own log old new noted notes account is = subst (λ (n : Noted). IsOwnAccount log old new n) is account
 
--- ---- what is handed on with its fetchers
+-- ---- what a retrieval comes to, beside its fetchers
 
-pub ok_told : {F : Type 0} (result : Result (Retrieved F) (Stopped F)) (concluded : Result Harvested Halt) (new : List F) (A : List F → Harvested → Type 0) → IfOk concluded (λ h. A new h)
-    → IfOk result (λ r. (r.fetchers.items ≡ new) × IfOk concluded (λ h. r.harvest ≡ h) × IsOk concluded) → IfOk result (λ r. A r.fetchers.items r.harvest)
-ok_told (Ok r) (Ok h) new A all (of, is, ok) = subst (λ fs. A fs r.harvest) (sym of) (subst (λ (x : Harvested). A new x) (sym is) all)
-ok_told (Ok r) (Err halt) new A all (of, is, ok) = absurd (false≢true ok)
-ok_told (Err s) concluded new A all told = tt
+module _ {F S : Type 0} (site : F → S) (says : S → Text → Outcome → List ℕ → Type 0) (rules : S → Text → RuleSetValue → Type 0) (log : F → List Ask) (plan : Plan) (old new : List F) where
+  -- it retrieved all
+  abbrev pub Retrieves : Result Harvested Halt → Type 0
+  Retrieves r = IfOk r (λ h. IsRetrievedBy site says rules log plan old new h)
 
-pub err_told : {F : Type 0} (result : Result (Retrieved F) (Stopped F)) (concluded : Result Harvested Halt) (new : List F) (A : List F → Cause → Harvested → Type 0)
-    → IfErr concluded (λ halt. A new halt.cause halt.harvest)
-    → IfErr result (λ s. (s.fetchers.items ≡ new) × IfErr concluded (λ halt. (s.cause ≡ halt.cause) × (s.harvest ≡ halt.harvest)) × IsErr concluded)
-    → IfErr result (λ s. A s.fetchers.items s.cause s.harvest)
-err_told (Ok r) concluded new A all told = tt
-err_told (Err s) (Ok h) new A all (of, is, err) = absurd (false≢true err)
-err_told (Err s) (Err halt) new A all (of, is, err) =
-    subst (λ fs. A fs s.cause s.harvest) (sym of) (subst (λ (x : Cause). A new x s.harvest) (sym is.0) (subst (λ (x : Harvested). A new halt.cause x) (sym is.1) all))
+  -- it stopped
+  abbrev pub Stops : Result Harvested Halt → Type 0
+  Stops r = IfErr r (λ halt. IsStoppedBy site says rules log plan old new halt.cause halt.harvest)
 
--- ---- what a retrieval answers
+  pub later_told : (r : Result Harvested Halt) → Retrieves r → Stops r → AreLater site log old new
+  later_told (Ok h) ok err = ok.later
+  later_told (Err halt) ok err = err.later
 
-module _ {F S : Type 0} (site : F → S) (says : S → Text → Outcome → List ℕ → Type 0) (rules : S → Text → RuleSetValue → Type 0) (log : F → List Ask) (plan : Plan) (old : List F) where
-  -- what it brings in
-  abbrev pub BringsIn : Result (Retrieved F) (Stopped F) → Type 0
-  BringsIn result = IfOk result (λ r. IsBrought site says rules log plan old r.fetchers.items r.harvest)
+  pub retrieved_told : (r : Result Harvested Halt) → Retrieves r → IfOk r (IsRetrieved (SomeSays site says log old new) (SomeRules site rules log old new) plan (all_gained log old new))
+  retrieved_told (Ok h) ok = ok.retrieved
+  retrieved_told (Err halt) ok = tt
 
-  -- what it leaves
-  abbrev pub LeavesBehind : Result (Retrieved F) (Stopped F) → Type 0
-  LeavesBehind result = IfErr result (λ s. IsLeftBy site says rules log plan old s.fetchers.items s.cause s.harvest)
+  pub stopped_told : (r : Result Harvested Halt) → Stops r
+      → IfErr r (λ halt. halt.cause ≢ why.Mismatch → IsStopped (SomeSays site says log old new) (SomeRules site rules log old new) plan (all_gained log old new) halt.cause halt.harvest)
+  stopped_told (Ok h) err = tt
+  stopped_told (Err halt) err = err.stopped
 
-  pub all_later_told : (result : Result (Retrieved F) (Stopped F)) → BringsIn result → LeavesBehind result
-      → IfOk result (λ r. AreLater site log old r.fetchers.items) × IfErr result (λ s. AreLater site log old s.fetchers.items)
-  all_later_told (Ok r) ok err = (ok.later, tt)
-  all_later_told (Err s) ok err = (tt, err.later)
+  pub found_told : (r : Result Harvested Halt) → Retrieves r
+      → IfOk r (λ h. (m : Answers) × AreAsked (SomeSays site says log old new) (SomeRules site rules log old new) plan (all_gained log old new) m × AreFound plan m h.entries)
+  found_told (Ok h) ok = retrieved_found (SomeSays site says log old new) (SomeRules site rules log old new) plan (all_gained log old new) h ok.entries ok.retrieved
+  found_told (Err halt) ok = tt
 
-  pub brings_told : (result : Result (Retrieved F) (Stopped F)) → BringsIn result
-      → IfOk result (λ r. Brings (SomeSays site says log old r.fetchers.items) (SomeRules site rules log old r.fetchers.items) plan (all_gained log old r.fetchers.items) r.harvest)
-  brings_told (Ok r) ok = ok.brings
-  brings_told (Err s) ok = tt
+  pub once_told : (r : Result Harvested Halt) → Stops r → IfErr r (λ halt. halt.cause ≢ why.Mismatch → AreMadeOnce (all_gained log old new))
+  once_told (Ok h) err = tt
+  once_told (Err halt) err = λ other.
+      stopped_once (SomeSays site says log old new) (SomeRules site rules log old new) plan (all_gained log old new) halt.cause halt.harvest (err.stopped other)
 
-  pub left_told : (result : Result (Retrieved F) (Stopped F)) → LeavesBehind result
-      → IfErr result (λ s. s.cause ≢ why.Mismatch → IsLeft (SomeSays site says log old s.fetchers.items) (SomeRules site rules log old s.fetchers.items) plan (all_gained log old s.fetchers.items) s.cause s.harvest)
-  left_told (Ok r) err = tt
-  left_told (Err s) err = err.left
-
-  pub found_told : (result : Result (Retrieved F) (Stopped F)) → BringsIn result
-      → IfOk result (λ r. (m : Answers) × AreAsked (SomeSays site says log old r.fetchers.items) (SomeRules site rules log old r.fetchers.items) plan (all_gained log old r.fetchers.items) m
-      × AreFound plan m r.harvest.entries)
-  found_told (Ok r) ok =
-      brings_found (SomeSays site says log old r.fetchers.items) (SomeRules site rules log old r.fetchers.items) plan (all_gained log old r.fetchers.items) r.harvest ok.entries ok.brings
-  found_told (Err s) ok = tt
-
-  pub once_told : (result : Result (Retrieved F) (Stopped F)) → LeavesBehind result → IfErr result (λ s. s.cause ≢ why.Mismatch → AreMadeOnce (all_gained log old s.fetchers.items))
-  once_told (Ok r) err = tt
-  once_told (Err s) err = λ other.
-      left_once (SomeSays site says log old s.fetchers.items) (SomeRules site rules log old s.fetchers.items) plan (all_gained log old s.fetchers.items) s.cause s.harvest (err.left other)
-
-  pub full_told : (result : Result (Retrieved F) (Stopped F)) → LeavesBehind result → IfErr result (λ s. s.cause ≡ why.Full → IsFull plan s.harvest.state)
-  full_told (Ok r) err = tt
-  full_told (Err s) err = err.full
+  pub full_told : (r : Result Harvested Halt) → Stops r → IfErr r (λ halt. halt.cause ≡ why.Full → IsFull plan halt.harvest.state)
+  full_told (Ok h) err = tt
+  full_told (Err halt) err = err.full
 
   module _ (whole : Answers) (fit : AllFit site says rules old whole) where
-    pub whole_told : (result : Result (Retrieved F) (Stopped F)) → BringsIn result → IfOk result (λ r. IsCompleteFor (policy plan) whole r.harvest.state)
-    whole_told (Ok r) ok = whole_brought site says rules log plan old r.fetchers.items whole fit r.harvest ok
-    whole_told (Err s) ok = tt
+    pub whole_told : (r : Result Harvested Halt) → Retrieves r → IfOk r (λ h. IsCompleteFor (policy plan) whole h.state)
+    whole_told (Ok h) ok = whole_retrieved site says rules log plan old new whole fit h ok
+    whole_told (Err halt) ok = tt
 
-    pub full_site_told : (result : Result (Retrieved F) (Stopped F)) → LeavesBehind result → IfErr result (λ s. s.cause ≡ why.Full → HasTooMany (policy plan) whole)
-    full_site_told (Ok r) err = tt
-    full_site_told (Err s) err = whole_left site says rules log plan old s.fetchers.items whole fit s.cause s.harvest err
+    pub full_site_told : (r : Result Harvested Halt) → Stops r → IfErr r (λ halt. halt.cause ≡ why.Full → HasTooMany (policy plan) whole)
+    full_site_told (Ok h) err = tt
+    full_site_told (Err halt) err = whole_stopped site says rules log plan old new whole fit halt.cause halt.harvest err
 
-    pub crowded_told : (result : Result (Retrieved F) (Stopped F)) → BringsIn result → HasTooMany (policy plan) whole → IsErr result
-    crowded_told (Ok r) ok many = absurd (never_brought site says rules log plan old r.fetchers.items whole fit r.harvest ok many)
-    crowded_told (Err s) ok many = refl
+    pub crowded_told : (r : Result Harvested Halt) → Retrieves r → HasTooMany (policy plan) whole → IsErr r
+    crowded_told (Ok h) ok many = absurd (never_retrieved site says rules log plan old new whole fit h ok many)
+    crowded_told (Err halt) ok many = refl
+
+-- ---- what it came to, with its fetchers
+
+module _ {F : Type 0} (result : Result (Retrieved F) (Stopped F)) (r : Result Harvested Halt) (new : List F) where
+  -- the harvest is the same, and so are the fetchers
+  abbrev pub IsOkWith : Type 0
+  IsOkWith = IfOk result (λ all. (all.fetchers.items ≡ new) × IfOk r (λ h. all.harvest ≡ h) × IsOk r)
+
+  abbrev pub IsErrWith : Type 0
+  IsErrWith = IfErr result (λ s. (s.fetchers.items ≡ new) × IfErr r (λ halt. (s.cause ≡ halt.cause) × (s.harvest ≡ halt.harvest)) × IsErr r)
+
+-- what is said of a harvest and the fetchers is said of both together
+pub ok_with : {F : Type 0} (A : List F → Harvested → Type 0) (result : Result (Retrieved F) (Stopped F)) (r : Result Harvested Halt) (new : List F) → IsOkWith result r new
+    → IfOk r (λ h. A new h) → IfOk result (λ all. A all.fetchers.items all.harvest)
+ok_with A (Ok all) (Ok h) new (of, is, ok) told = subst (λ fs. A fs all.harvest) (sym of) (subst (λ (x : Harvested). A new x) (sym is) told)
+ok_with A (Ok all) (Err halt) new (of, is, ok) told = absurd (false≢true ok)
+ok_with A (Err s) r new with told = tt
+
+pub err_with : {F : Type 0} (A : List F → Cause → Harvested → Type 0) (result : Result (Retrieved F) (Stopped F)) (r : Result Harvested Halt) (new : List F) → IsErrWith result r new
+    → IfErr r (λ halt. A new halt.cause halt.harvest) → IfErr result (λ s. A s.fetchers.items s.cause s.harvest)
+err_with A (Ok all) r new with told = tt
+err_with A (Err s) (Ok h) new (of, is, err) told = absurd (false≢true err)
+err_with A (Err s) (Err halt) new (of, is, err) told =
+    subst (λ fs. A fs s.cause s.harvest) (sym of) (subst (λ (x : Cause). A new x s.harvest) (sym is.0) (subst (λ (x : Harvested). A new halt.cause x) (sym is.1) told))
+
+-- so is what is said of the fetchers alone
+pub both_with : {F : Type 0} (A : List F → Type 0) (result : Result (Retrieved F) (Stopped F)) (r : Result Harvested Halt) (new : List F) → IsOkWith result r new → IsErrWith result r new
+    → A new → IfOk result (λ all. A all.fetchers.items) × IfErr result (λ s. A s.fetchers.items)
+both_with A (Ok all) r new ok err told = (subst A (sym ok.0) told, tt)
+both_with A (Err s) r new ok err told = (tt, subst A (sym err.0) told)
+
+-- and that it stopped
+pub is_err_with : {F : Type 0} (result : Result (Retrieved F) (Stopped F)) (r : Result Harvested Halt) (new : List F) → IsOkWith result r new → IsErr r → IsErr result
+is_err_with (Ok all) (Ok h) new ok err = err
+is_err_with (Ok all) (Err halt) new ok err = absurd (false≢true ok.2)
+is_err_with (Err s) r new ok err = refl

@@ -1,4 +1,4 @@
--- What a retrieval brings in is what was found, by the answers that were recorded alone.
+-- What was retrieved is what was found, by the answers that were recorded alone.
 use Rattle.std.proofs.Common.{◌≡◌, ◌≢◌, ℕ, inl, inr, List, [], ◌∷◌, Some, get_or, map, zero, suc, refl, sym, ap, ◌∙◌, subst, arith}
 use Rattle.std.specs.Prelude.{Contains, All, Any}
 use Rattle.std.proofs.lemmas.List.{length-map, get_or-map}
@@ -25,7 +25,7 @@ use Rattle.harvest.specs.Harvests.{Harvested}
 use Rattle.harvest.specs.declared.entry.Entry.{Entry}
 use Rattle.workers.specs.Asks.{pages_asked, origins_asked, AreOnce, AreRecorded, IsTold}
 use Rattle.workers.specs.Found.{AreMadeOnce, AreAsked, AreFound}
-use Rattle.workers.specs.Retrieval.{Brings, IsLeft}
+use Rattle.workers.specs.Retrieval.{IsRetrieved, IsStopped}
 use Rattle.workers.proofs.SiteLaws.{some_of}
 use Rattle.workers.proofs.TableLemmas.{found_entry, found_stands}
 
@@ -127,17 +127,17 @@ are_found plan h are once complete = record {
   all = λ u candidate. (let (slot, found) = some_of (lookup h.state.entries u) ((complete.candidates u).1 candidate) in has_entry h are u slot found);
 }
 
--- ---- what a retrieval brings in or leaves
+-- ---- what was retrieved, or was until the stop
 
-pub brings_found : (may_say : Text → Outcome → List ℕ → Type 0) (may_rule : Text → RuleSetValue → Type 0) (plan : Plan) (asks : List Ask) (h : Harvested) → AreEntries h
-    → Brings may_say may_rule plan asks h → (m : Answers) × AreAsked may_say may_rule plan asks m × AreFound plan m h.entries
-brings_found may_say may_rule plan asks h are brings = (
+pub retrieved_found : (may_say : Text → Outcome → List ℕ → Type 0) (may_rule : Text → RuleSetValue → Type 0) (plan : Plan) (asks : List Ask) (h : Harvested) → AreEntries h
+    → IsRetrieved may_say may_rule plan asks h → (m : Answers) × AreAsked may_say may_rule plan asks m × AreFound plan m h.entries
+retrieved_found may_say may_rule plan asks h are retrieved = (
   answers h.state,
-  are_asked may_say may_rule plan asks h.state brings.once brings.recorded brings.complete brings.told,
-  are_found plan h are (sound_replay (policy plan) h.trace h.state plan.some_urls brings.replay).addresses brings.complete,
+  are_asked may_say may_rule plan asks h.state retrieved.once retrieved.recorded retrieved.complete retrieved.told,
+  are_found plan h are (sound_replay (policy plan) h.trace h.state plan.some_urls retrieved.replay).addresses retrieved.complete,
 )
 
-pub left_once : (may_say : Text → Outcome → List ℕ → Type 0) (may_rule : Text → RuleSetValue → Type 0) (plan : Plan) (asks : List Ask) (cause : Cause) (h : Harvested)
-    → IsLeft may_say may_rule plan asks cause h → AreMadeOnce asks
-left_once may_say may_rule plan asks cause h (inl leaves) = made_once asks leaves.once
-left_once may_say may_rule plan asks cause h (inr empty) = made_once asks empty.once
+pub stopped_once : (may_say : Text → Outcome → List ℕ → Type 0) (may_rule : Text → RuleSetValue → Type 0) (plan : Plan) (asks : List Ask) (cause : Cause) (h : Harvested)
+    → IsStopped may_say may_rule plan asks cause h → AreMadeOnce asks
+stopped_once may_say may_rule plan asks cause h (inl part) = made_once asks part.once
+stopped_once may_say may_rule plan asks cause h (inr empty) = made_once asks empty.once

@@ -1,4 +1,4 @@
--- From what was noted and concluded to what a retrieval brings in or leaves.
+-- From what was noted and concluded to what was retrieved, or where the retrieval stopped.
 use Rattle.std.proofs.Common.{◌≡◌, ℕ, inl, inr, true, false, Bool, ◌&&◌, List, [], ◌∷◌, Some, None, Option, Result, Ok, Err, refl, sym, ap, ◌∙◌, subst}
 use Rattle.std.specs.Prelude.{All, Contains, IsSome, MatchOption, IfSome, IfOk, IfErr, IsOk, IsErr, if◌then◌else◌}
 use Rattle.std.specs.List.{filter_map, AllZip}
@@ -33,10 +33,10 @@ use Rattle.harvest.specs.Harvests.{Harvested}
 use Rattle.workers.specs.inner.Noted.{AreNoted, Agrees, StandsPage, StandsRules, page_of}
 use Rattle.workers.specs.inner.Notes.{IsToldPage, IsToldRules, origins, body_of}
 use Rattle.harvest.specs.Pages.{IsBodyOf, is_success}
-use Rattle.workers.specs.Retrieval.{Brings, Leaves, IsLeft}
+use Rattle.workers.specs.Retrieval.{IsRetrieved, IsPartRetrieved, IsStopped}
 use Rattle.workers.specs.inner.Turns.{IsServing, AtEnd, AtStop}
 use Rattle.workers.proofs.ConclusionLaws.{found_note, noted_moved, once_asked, rules_noted, recorded_or_lost, kept_once, kept_is}
-use Rattle.workers.proofs.RetrievalLaws.{brings, leaves}
+use Rattle.workers.proofs.RetrievalLaws.{retrieved, part_retrieved}
 
 -- what holds of each entry holds of the one that is found
 held_done : (entries : List (Text × Slot)) (u : Text) (e : Slot) → All (λ entry. is_done entry.1.progress ≡ true) entries → lookup entries u ≡ Some e → is_done e.progress ≡ true
@@ -182,23 +182,23 @@ module _ (may_say : Text → Outcome → List ℕ → Type 0) (may_rule : Text �
     recorded = recorded_or_lost may_say may_rule plan asks notes sets t.state noted agrees;
   }
 
-  -- ---- what is brought in, and what is left
+  -- ---- what was retrieved, at the end or until the stop
 
-  pub crew_brings : (t : Traced) (asks : List Ask) (notes : List PageNote) (sets : List RulesNote) (h : Harvested) → AreNoted may_say may_rule plan asks notes sets
-      → IsConcluded plan t notes sets h → IsQuiet t.state → IsComplete (policy t.plan) t.state → Brings may_say may_rule plan asks h
-  crew_brings t asks notes sets h noted all quiet complete =
+  pub crew_retrieved : (t : Traced) (asks : List Ask) (notes : List PageNote) (sets : List RulesNote) (h : Harvested) → AreNoted may_say may_rule plan asks notes sets
+      → IsConcluded plan t notes sets h → IsQuiet t.state → IsComplete (policy t.plan) t.state → IsRetrieved may_say may_rule plan asks h
+  crew_retrieved t asks notes sets h noted all quiet complete =
       let moved = noted_moved may_say may_rule plan asks notes all.sorted sets all.sorted_sets noted all.moved all.moved_sets in
-      brings may_say may_rule plan t asks (filter_map page_of all.sorted) h (at_end t asks all.sorted all.sorted_sets all.follows all.replay moved all.agrees quiet complete) all.replay all.harvest
+      retrieved may_say may_rule plan t asks (filter_map page_of all.sorted) h (at_end t asks all.sorted all.sorted_sets all.follows all.replay moved all.agrees quiet complete) all.replay all.harvest
 
-  pub crew_leaves : (t : Traced) (asks : List Ask) (notes : List PageNote) (sets : List RulesNote) (cause : Cause) (h : Harvested) → AreNoted may_say may_rule plan asks notes sets
-      → IsConcluded plan t notes sets h → t.state.cause ≡ Some cause → Leaves may_say may_rule plan asks cause h
-  crew_leaves t asks notes sets cause h noted all stopped =
+  pub crew_part_retrieved : (t : Traced) (asks : List Ask) (notes : List PageNote) (sets : List RulesNote) (cause : Cause) (h : Harvested) → AreNoted may_say may_rule plan asks notes sets
+      → IsConcluded plan t notes sets h → t.state.cause ≡ Some cause → IsPartRetrieved may_say may_rule plan asks cause h
+  crew_part_retrieved t asks notes sets cause h noted all stopped =
       let moved = noted_moved may_say may_rule plan asks notes all.sorted sets all.sorted_sets noted all.moved all.moved_sets in
-      leaves may_say may_rule plan t asks (filter_map page_of all.sorted) cause h (at_stop t asks all.sorted all.sorted_sets cause all.follows all.replay moved all.agrees stopped) all.replay
+      part_retrieved may_say may_rule plan t asks (filter_map page_of all.sorted) cause h (at_stop t asks all.sorted all.sorted_sets cause all.follows all.replay moved all.agrees stopped) all.replay
       (sound_replay (policy t.plan) t.trace t.state t.plan.some_urls all.replay) (closed_replay (policy t.plan) t.trace t.state all.replay) all.harvest
 
   pub crew_bare : (asks : List Ask) (notes : List PageNote) (sets : List RulesNote) (cause : Cause) (h : Harvested) → AreNoted may_say may_rule plan asks notes sets
-      → IsBare notes sets cause h → IsLeft may_say may_rule plan asks cause h
+      → IsBare notes sets cause h → IsStopped may_say may_rule plan asks cause h
   crew_bare asks notes sets cause h noted bare = inr (record {
     memory = bare.nothing.memory;
     plan = bare.nothing.plan;
@@ -255,9 +255,9 @@ module _ (may may' : Text → Outcome → List ℕ → Type 0) (rule rule' : Tex
   bodies_by_more m asked (u ∷ us) [] h = absurd h
   bodies_by_more m asked (u ∷ us) (b ∷ bs) ((x, found, said), rest) = ((x, found, more u x b (asked u (ap is_some found)) said), bodies_by_more m asked us bs rest)
 
-  -- what one fetcher brings in is what a crew of one brings in
-  pub brings_more : (plan : Plan) (h : Harvested) → Brings may rule plan asks h → Brings may' rule' plan asks h
-  brings_more plan h b = record {
+  -- what was retrieved by one fetcher was by a crew of one
+  pub retrieved_more : (plan : Plan) (h : Harvested) → IsRetrieved may rule plan asks h → IsRetrieved may' rule' plan asks h
+  retrieved_more plan h b = record {
     follows = b.follows;
     replay = b.replay;
     quiet = b.quiet;
@@ -268,8 +268,8 @@ module _ (may may' : Text → Outcome → List ℕ → Type 0) (rule rule' : Tex
     bodies = bodies_by_more (answers h.state) (λ u. (b.recorded.pages u).1) h.kept h.bodies b.bodies;
   }
 
-  pub leaves_more : (plan : Plan) (cause : Cause) (h : Harvested) → Leaves may rule plan asks cause h → Leaves may' rule' plan asks cause h
-  leaves_more plan cause h b = record {
+  pub part_retrieved_more : (plan : Plan) (cause : Cause) (h : Harvested) → IsPartRetrieved may rule plan asks cause h → IsPartRetrieved may' rule' plan asks cause h
+  part_retrieved_more plan cause h b = record {
     follows = b.follows;
     replay = b.replay;
     stopped = b.stopped;

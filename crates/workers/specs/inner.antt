@@ -7,3 +7,4 @@ pub mod Noted
 pub mod Takers
 pub mod Concluded
 pub mod Answered
+pub mod InOrder

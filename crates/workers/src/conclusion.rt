@@ -106,7 +106,7 @@ fn kept_pages(
     }
 }
 
-/// What a crew of so many workers brings in or leaves, by its notes and its frontier.
+/// What a crew of so many workers retrieved, at its end or until it stopped, by its notes and its frontier.
 pub fn conclude(
     alloc: Global,
     plan: &Plan,

@@ -6,9 +6,9 @@ ghost use Rattle.frontier_core.specs.Plans.{policy};
 ghost use Rattle.frontier_core.specs.Routes.{Answers, HasTooMany};
 ghost use Rattle.workers.specs.Crews.{AreLater, all_gained, SomeSays, SomeRules, AllFit};
 ghost use Rattle.workers.specs.Found.{AreMadeOnce, AreAsked, AreFound};
-ghost use Rattle.workers.specs.inner.Answered.{IsBrought, IsLeftBy, IsAccount, IsOwnAccount};
+ghost use Rattle.workers.specs.inner.Answered.{IsRetrievedBy, IsStoppedBy, IsAccount, IsOwnAccount};
 ghost use Rattle.workers.specs.OneWorker.{AreByCrew};
-ghost use Rattle.workers.specs.Retrieval.{Brings, IsLeft};
+ghost use Rattle.workers.specs.Retrieval.{IsRetrieved, IsStopped};
 ghost use Rattle.workers.specs.Sites.{IsCompleteFor};
 ghost use Rattle.workers.specs.Takers.{AreOwn};
 
@@ -16,7 +16,7 @@ use crate::conclusion::conclude;
 use crate::crew::run_crew;
 use crate::note::Notes;
 use crate::once::is_once_in_place;
-use crate::retrieval::{Halt, retrieve_in_order};
+use crate::retrieval::{Halt, retrieve_noting};
 use crate::seats::{Left, leave_all, leave_bare, note_room, seat_all};
 use crate::worker::Seat;
 use fetcher::Fetcher;
@@ -26,6 +26,7 @@ use frontier_lock::FrontierLock;
 use harvest::Harvest;
 use std::alloc::{AllocError, Global};
 use std::sync::Wait;
+use std::sync::atomic::AtomicUsize;
 use std::thread::Threads;
 
 /// A retrieval that found what is to be found.
@@ -48,38 +49,22 @@ pub struct Stopped<F> {
     pub fetchers: Vec<F>,
 }
 
-// What a crew brings in or leaves, with its fetchers.
-fn answer<F: Drop>(
-    concluded: Result<Harvest, Halt>,
-    fetchers: Vec<F>,
-) -> Result<Retrieved<F>, Stopped<F>>
-    ensures ok { IfOk result (λ r. (r.fetchers.items ≡ fetchers.items) × IfOk concluded (λ h. r.harvest ≡ h) × IsOk concluded) }
-    ensures err { IfErr result (λ s. (s.fetchers.items ≡ fetchers.items) × IfErr concluded (λ halt. (s.cause ≡ halt.cause) × (s.harvest ≡ halt.harvest)) × IsErr concluded) }
-{
-    match concluded {
-        Ok(harvest) => Ok(Retrieved { harvest, fetchers }),
-        Err(halt) => {
-            let Halt { cause, harvest } = halt;
-            Err(Stopped {
-                cause,
-                harvest,
-                fetchers,
-            })
-        }
-    }
-}
-
 // The retrieval with one fetcher: it needs no other thread, and no lock.
-fn ask_alone<F: Fetcher>(alloc: Global, plan: &Plan, fetchers: &mut [F]) -> Result<Harvest, Halt>
+fn ask_alone<F: Fetcher>(
+    alloc: Global,
+    plan: &Plan,
+    fetchers: &mut [F],
+    waiting: Option<&AtomicUsize>,
+) -> Result<Harvest, Halt>
     requires { length fetchers.old ≡ 1 }
-    ensures ok { IfOk result (λ h. IsBrought F.site F.says F.rules F.log plan.now fetchers.old fetchers.new h) }
-    ensures err { IfErr result (λ halt. IsLeftBy F.site F.says F.rules F.log plan.now fetchers.old fetchers.new halt.cause halt.harvest) }
+    ensures ok { IfOk result (λ h. IsRetrievedBy F.site F.says F.rules F.log plan.now fetchers.old fetchers.new h) }
+    ensures err { IfErr result (λ halt. IsStoppedBy F.site F.says F.rules F.log plan.now fetchers.old fetchers.new halt.cause halt.harvest) }
     ensures mismatch { IfErr result (λ halt. halt.cause ≢ Cause.Mismatch) }
     ensures numbered { IfOk result (λ h. AreByCrew 1 h.trace) × IfErr result (λ halt. halt.cause ≢ Cause.Mismatch → AreByCrew 1 halt.harvest.trace) }
     ensures own { IfOk result (λ h. AreOwn F.log 0 fetchers.old fetchers.new h.trace) × IfErr result (λ halt. halt.cause ≢ Cause.Mismatch → AreOwn F.log 0 fetchers.old fetchers.new halt.harvest.trace) }
 {
     if let [fetcher] = fetchers {
-        return retrieve_in_order(alloc, plan, fetcher);
+        return retrieve_noting(alloc, plan, fetcher, waiting);
     }
     unreachable!()
 }
@@ -89,17 +74,18 @@ fn retrieve_alone<F: Fetcher>(
     alloc: Global,
     plan: &Plan,
     mut fetchers: Vec<F>,
-) -> Result<Retrieved<F>, Stopped<F>>
+    waiting: Option<&AtomicUsize>,
+) -> (Result<Harvest, Halt>, Vec<F>)
     requires { vec_len fetchers ≡ 1 }
-    ensures ok { IfOk result (λ r. IsBrought F.site F.says F.rules F.log plan.now fetchers.items r.fetchers.items r.harvest) }
-    ensures err { IfErr result (λ s. IsLeftBy F.site F.says F.rules F.log plan.now fetchers.items s.fetchers.items s.cause s.harvest) }
-    ensures mismatch { IfErr result (λ s. s.cause ≢ Cause.Mismatch) }
-    ensures numbered { IfOk result (λ r. AreByCrew 1 r.harvest.trace) × IfErr result (λ s. s.cause ≢ Cause.Mismatch → AreByCrew 1 s.harvest.trace) }
-    ensures own { IfOk result (λ r. AreOwn F.log 0 fetchers.items r.fetchers.items r.harvest.trace)
-        × IfErr result (λ s. s.cause ≢ Cause.Mismatch → AreOwn F.log 0 fetchers.items s.fetchers.items s.harvest.trace) }
+    ensures ok { IfOk result.0 (λ h. IsRetrievedBy F.site F.says F.rules F.log plan.now fetchers.items result.1.items h) }
+    ensures err { IfErr result.0 (λ halt. IsStoppedBy F.site F.says F.rules F.log plan.now fetchers.items result.1.items halt.cause halt.harvest) }
+    ensures mismatch { IfErr result.0 (λ halt. halt.cause ≢ Cause.Mismatch) }
+    ensures numbered { IfOk result.0 (λ h. AreByCrew 1 h.trace) × IfErr result.0 (λ halt. halt.cause ≢ Cause.Mismatch → AreByCrew 1 halt.harvest.trace) }
+    ensures own { IfOk result.0 (λ h. AreOwn F.log 0 fetchers.items result.1.items h.trace)
+        × IfErr result.0 (λ halt. halt.cause ≢ Cause.Mismatch → AreOwn F.log 0 fetchers.items result.1.items halt.harvest.trace) }
 {
-    let concluded = ask_alone(alloc, plan, &mut fetchers);
-    answer(concluded, fetchers)
+    let retrieved = ask_alone(alloc, plan, &mut fetchers, waiting);
+    (retrieved, fetchers)
 }
 
 // What is needed before any worker starts.
@@ -196,17 +182,17 @@ fn retrieve_together<F: Fetcher + Send, R: Threads + Wait + Sync>(
     alloc: Global,
     plan: &Plan,
     fetchers: Vec<F>,
-) -> Result<Retrieved<F>, Stopped<F>>
+) -> (Result<Harvest, Halt>, Vec<F>)
     requires most { vec_len fetchers ≤ 64 }
-    ensures ok { IfOk result (λ r. IsBrought F.site F.says F.rules F.log plan.now fetchers.items r.fetchers.items r.harvest) }
-    ensures err { IfErr result (λ s. IsLeftBy F.site F.says F.rules F.log plan.now fetchers.items s.fetchers.items s.cause s.harvest) }
-    ensures numbered { IfOk result (λ r. AreByCrew (vec_len fetchers) r.harvest.trace) × IfErr result (λ s. s.cause ≢ Cause.Mismatch → AreByCrew (vec_len fetchers) s.harvest.trace) }
-    ensures own { IfOk result (λ r. AreOwn F.log 0 fetchers.items r.fetchers.items r.harvest.trace)
-        × IfErr result (λ s. s.cause ≢ Cause.Mismatch → AreOwn F.log 0 fetchers.items s.fetchers.items s.harvest.trace) }
+    ensures ok { IfOk result.0 (λ h. IsRetrievedBy F.site F.says F.rules F.log plan.now fetchers.items result.1.items h) }
+    ensures err { IfErr result.0 (λ halt. IsStoppedBy F.site F.says F.rules F.log plan.now fetchers.items result.1.items halt.cause halt.harvest) }
+    ensures numbered { IfOk result.0 (λ h. AreByCrew (vec_len fetchers) h.trace) × IfErr result.0 (λ halt. halt.cause ≢ Cause.Mismatch → AreByCrew (vec_len fetchers) halt.harvest.trace) }
+    ensures own { IfOk result.0 (λ h. AreOwn F.log 0 fetchers.items result.1.items h.trace)
+        × IfErr result.0 (λ halt. halt.cause ≢ Cause.Mismatch → AreOwn F.log 0 fetchers.items result.1.items halt.harvest.trace) }
 {
     let workers = fetchers.len();
     let Ok(room) = Room::new(alloc, plan, workers) else {
-        return answer(Err(Halt::empty(alloc)), fetchers);
+        return (Err(Halt::empty(alloc)), fetchers);
     };
     let Room {
         frontier,
@@ -217,14 +203,14 @@ fn retrieve_together<F: Fetcher + Send, R: Threads + Wait + Sync>(
     let Worked { fetchers, noted } = work_all(rt, alloc, &lock, plan, fetchers, seats, back);
     let frontier = lock.into_frontier();
     match noted {
-        Noted::All(notes) => answer(conclude(alloc, plan, workers, frontier, notes), fetchers),
+        Noted::All(notes) => (conclude(alloc, plan, workers, frontier, notes), fetchers),
         Noted::Once => {
             drop(frontier);
-            answer(Err(Halt::empty(alloc)), fetchers)
+            (Err(Halt::empty(alloc)), fetchers)
         }
         Noted::Twice => {
             drop(frontier);
-            answer(Err(Halt::mismatch(alloc)), fetchers)
+            (Err(Halt::mismatch(alloc)), fetchers)
         }
     }
 }
@@ -235,19 +221,76 @@ fn retrieve_with<F: Fetcher + Send, R: Threads + Wait + Sync>(
     alloc: Global,
     plan: &Plan,
     fetchers: Vec<F>,
-) -> Result<Retrieved<F>, Stopped<F>>
+    waiting: Option<&AtomicUsize>,
+) -> (Result<Harvest, Halt>, Vec<F>)
     requires most { vec_len fetchers ≤ 64 }
-    ensures ok { IfOk result (λ r. IsBrought F.site F.says F.rules F.log plan.now fetchers.items r.fetchers.items r.harvest) }
-    ensures err { IfErr result (λ s. IsLeftBy F.site F.says F.rules F.log plan.now fetchers.items s.fetchers.items s.cause s.harvest) }
-    ensures one { vec_len fetchers ≡ 1 → IfErr result (λ s. s.cause ≢ Cause.Mismatch) }
-    ensures numbered { IfOk result (λ r. AreByCrew (vec_len fetchers) r.harvest.trace) × IfErr result (λ s. s.cause ≢ Cause.Mismatch → AreByCrew (vec_len fetchers) s.harvest.trace) }
-    ensures own { IfOk result (λ r. AreOwn F.log 0 fetchers.items r.fetchers.items r.harvest.trace)
-        × IfErr result (λ s. s.cause ≢ Cause.Mismatch → AreOwn F.log 0 fetchers.items s.fetchers.items s.harvest.trace) }
+    ensures ok { IfOk result.0 (λ h. IsRetrievedBy F.site F.says F.rules F.log plan.now fetchers.items result.1.items h) }
+    ensures err { IfErr result.0 (λ halt. IsStoppedBy F.site F.says F.rules F.log plan.now fetchers.items result.1.items halt.cause halt.harvest) }
+    ensures one { vec_len fetchers ≡ 1 → IfErr result.0 (λ halt. halt.cause ≢ Cause.Mismatch) }
+    ensures numbered { IfOk result.0 (λ h. AreByCrew (vec_len fetchers) h.trace) × IfErr result.0 (λ halt. halt.cause ≢ Cause.Mismatch → AreByCrew (vec_len fetchers) halt.harvest.trace) }
+    ensures own { IfOk result.0 (λ h. AreOwn F.log 0 fetchers.items result.1.items h.trace)
+        × IfErr result.0 (λ halt. halt.cause ≢ Cause.Mismatch → AreOwn F.log 0 fetchers.items result.1.items halt.harvest.trace) }
 {
     if fetchers.len() == 1 {
-        return retrieve_alone(alloc, plan, fetchers);
+        return retrieve_alone(alloc, plan, fetchers, waiting);
     }
     retrieve_together(rt, alloc, plan, fetchers)
+}
+
+/// Retrieves as [`retrieve`] does, and gives what that came to beside the fetchers, which come back in their order whatever it
+/// is. How many addresses wait is noted there, where a place is given for who looks on.
+pub fn retrieve_shown<F: Fetcher + Send, R: Threads + Wait + Sync>(
+    rt: &R,
+    alloc: Global,
+    plan: &Plan,
+    fetchers: Vec<F>,
+    waiting: Option<&AtomicUsize>,
+) -> (Result<Harvest, Halt>, Vec<F>)
+    requires some { 0 < vec_len fetchers }
+    requires most { vec_len fetchers ≤ 64 }
+    ensures fetchers { AreLater F.site F.log fetchers.items result.1.items }
+    ensures ok { IfOk result.0 (IsRetrieved (SomeSays F.site F.says F.log fetchers.items result.1.items) (SomeRules F.site F.rules F.log fetchers.items result.1.items)
+        plan.now (all_gained F.log fetchers.items result.1.items)) }
+    ensures err { IfErr result.0 (λ halt. halt.cause ≢ Cause.Mismatch → IsStopped (SomeSays F.site F.says F.log fetchers.items result.1.items)
+        (SomeRules F.site F.rules F.log fetchers.items result.1.items) plan.now (all_gained F.log fetchers.items result.1.items) halt.cause halt.harvest) }
+
+    // What was found, by the answers alone.
+    ensures finds { IfOk result.0 (λ h. (m : Answers) × AreAsked (SomeSays F.site F.says F.log fetchers.items result.1.items) (SomeRules F.site F.rules F.log fetchers.items result.1.items)
+        plan.now (all_gained F.log fetchers.items result.1.items) m × AreFound plan.now m h.entries) }
+    ensures once { IfErr result.0 (λ halt. halt.cause ≢ Cause.Mismatch → AreMadeOnce (all_gained F.log fetchers.items result.1.items)) }
+    ensures full { IfErr result.0 (λ halt. halt.cause ≡ Cause.Full → HasTooMany (policy plan.now) (answers halt.harvest.state) × IsOverfull (policy plan.now) halt.harvest.state) }
+    ensures one { vec_len fetchers ≡ 1 → IfErr result.0 (λ halt. halt.cause ≢ Cause.Mismatch) }
+    ensures numbered { IfOk result.0 (λ h. AreByCrew (vec_len fetchers) h.trace) × IfErr result.0 (λ halt. halt.cause ≢ Cause.Mismatch → AreByCrew (vec_len fetchers) halt.harvest.trace) }
+    ensures own { IfOk result.0 (λ h. AreOwn F.log 0 fetchers.items result.1.items h.trace)
+        × IfErr result.0 (λ halt. halt.cause ≢ Cause.Mismatch → AreOwn F.log 0 fetchers.items result.1.items halt.harvest.trace) }
+
+    // What holds of fetchers whose sites give each address one outcome, and each origin one rule set, and the same.
+    ensures whole_site { (whole : Answers) → AllFit F.site F.says F.rules fetchers.items whole → IfOk result.0 (λ h. IsCompleteFor (policy plan.now) whole h.state) }
+    ensures full_site { (whole : Answers) → AllFit F.site F.says F.rules fetchers.items whole → IfErr result.0 (λ halt. halt.cause ≡ Cause.Full → HasTooMany (policy plan.now) whole) }
+    ensures crowded_site { (whole : Answers) → AllFit F.site F.says F.rules fetchers.items whole → HasTooMany (policy plan.now) whole → IsErr result.0 }
+{
+    retrieve_with(rt, alloc, plan, fetchers, waiting)
+}
+
+// What a retrieval came to, with its fetchers.
+fn with_fetchers<F: Drop>(
+    retrieved: Result<Harvest, Halt>,
+    fetchers: Vec<F>,
+) -> Result<Retrieved<F>, Stopped<F>>
+    ensures ok { IfOk result (λ r. (r.fetchers.items ≡ fetchers.items) × IfOk retrieved (λ h. r.harvest ≡ h) × IsOk retrieved) }
+    ensures err { IfErr result (λ s. (s.fetchers.items ≡ fetchers.items) × IfErr retrieved (λ halt. (s.cause ≡ halt.cause) × (s.harvest ≡ halt.harvest)) × IsErr retrieved) }
+{
+    match retrieved {
+        Ok(harvest) => Ok(Retrieved { harvest, fetchers }),
+        Err(halt) => {
+            let Halt { cause, harvest } = halt;
+            Err(Stopped {
+                cause,
+                harvest,
+                fetchers,
+            })
+        }
+    }
 }
 
 /// Asks for what the plan wants, with one worker for each fetcher, until nothing is left to do. The fetchers come back in their
@@ -266,9 +309,9 @@ pub fn retrieve<F: Fetcher + Send, R: Threads + Wait + Sync>(
     requires some { 0 < vec_len fetchers }
     requires most { vec_len fetchers ≤ 64 }
     ensures fetchers { IfOk result (λ r. AreLater F.site F.log fetchers.items r.fetchers.items) × IfErr result (λ s. AreLater F.site F.log fetchers.items s.fetchers.items) }
-    ensures ok { IfOk result (λ r. Brings (SomeSays F.site F.says F.log fetchers.items r.fetchers.items) (SomeRules F.site F.rules F.log fetchers.items r.fetchers.items)
+    ensures ok { IfOk result (λ r. IsRetrieved (SomeSays F.site F.says F.log fetchers.items r.fetchers.items) (SomeRules F.site F.rules F.log fetchers.items r.fetchers.items)
         plan.now (all_gained F.log fetchers.items r.fetchers.items) r.harvest) }
-    ensures err { IfErr result (λ s. s.cause ≢ Cause.Mismatch → IsLeft (SomeSays F.site F.says F.log fetchers.items s.fetchers.items)
+    ensures err { IfErr result (λ s. s.cause ≢ Cause.Mismatch → IsStopped (SomeSays F.site F.says F.log fetchers.items s.fetchers.items)
         (SomeRules F.site F.rules F.log fetchers.items s.fetchers.items) plan.now (all_gained F.log fetchers.items s.fetchers.items) s.cause s.harvest) }
 
     // What was found, by the answers alone.
@@ -286,5 +329,6 @@ pub fn retrieve<F: Fetcher + Send, R: Threads + Wait + Sync>(
     ensures full_site { (whole : Answers) → AllFit F.site F.says F.rules fetchers.items whole → IfErr result (λ s. s.cause ≡ Cause.Full → HasTooMany (policy plan.now) whole) }
     ensures crowded_site { (whole : Answers) → AllFit F.site F.says F.rules fetchers.items whole → HasTooMany (policy plan.now) whole → IsErr result }
 {
-    retrieve_with(rt, alloc, plan, fetchers)
+    let (retrieved, fetchers) = retrieve_shown(rt, alloc, plan, fetchers, None);
+    with_fetchers(retrieved, fetchers)
 }

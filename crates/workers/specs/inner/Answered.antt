@@ -1,4 +1,4 @@
--- What several fetchers bring in or leave.
+-- What several fetchers retrieve, or did until they stopped.
 use Rattle.std.specs.Prelude.{◌≡◌, ◌≢◌, ℕ, List}
 use Rattle.follow_filters.specs.declared.plan.Plan.{Plan}
 use Rattle.robots_rules.specs.Access.{RuleSetValue}
@@ -19,21 +19,21 @@ use Rattle.workers.specs.Crews.{AreLater, all_gained, SomeSays, SomeRules}
 use Rattle.harvest.specs.Gathered.{AreEntries}
 use Rattle.harvest.specs.Harvests.{Harvested}
 use Rattle.workers.specs.inner.Noted.{AreNoted}
-use Rattle.workers.specs.Retrieval.{Brings, IsLeft}
+use Rattle.workers.specs.Retrieval.{IsRetrieved, IsStopped}
 use Rattle.workers.specs.Takers.{AreOwn}
 use Rattle.workers.specs.inner.Takers.{AreNotedBy}
 
 module _ {F S : Type 0} (site : F → S) (says : S → Text → Outcome → List ℕ → Type 0) (rules : S → Text → RuleSetValue → Type 0) (log : F → List Ask) where
   -- the fetchers came back in their order, and the retrieval has found what is to be found; its entries say what its state holds
-  pub record IsBrought (plan : Plan) (old new : List F) (h : Harvested) : Type 0 where
+  pub record IsRetrievedBy (plan : Plan) (old new : List F) (h : Harvested) : Type 0 where
     pub later : AreLater site log old new
-    pub brings : Brings (SomeSays site says log old new) (SomeRules site rules log old new) plan (all_gained log old new) h
+    pub retrieved : IsRetrieved (SomeSays site says log old new) (SomeRules site rules log old new) plan (all_gained log old new) h
     pub entries : AreEntries h
 
-  -- the fetchers came back in their order; where no check failed, what was found is left, or there was no memory for it
-  pub record IsLeftBy (plan : Plan) (old new : List F) (cause : Cause) (h : Harvested) : Type 0 where
+  -- the fetchers came back in their order; where no check failed, what was found until the stop is there, or there was no memory for it
+  pub record IsStoppedBy (plan : Plan) (old new : List F) (cause : Cause) (h : Harvested) : Type 0 where
     pub later : AreLater site log old new
-    pub left : cause ≢ why.Mismatch → IsLeft (SomeSays site says log old new) (SomeRules site rules log old new) plan (all_gained log old new) cause h
+    pub stopped : cause ≢ why.Mismatch → IsStopped (SomeSays site says log old new) (SomeRules site rules log old new) plan (all_gained log old new) cause h
     pub full : cause ≡ why.Full → HasTooMany (policy plan) (answers h.state) × IsOverfull (policy plan) h.state
 
   -- what is known of the notes: all of them, or that nothing was asked for twice

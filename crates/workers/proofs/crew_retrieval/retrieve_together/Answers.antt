@@ -1,4 +1,4 @@
-use Rattle.std.proofs.Common.{◌≡◌, ◌≢◌, ℕ, Err, rules, subst}
+use Rattle.std.proofs.Common.{◌≡◌, ◌≢◌, ℕ, rules, subst}
 use Rattle.std.specs.Prelude.{IfOk, IfErr}
 use Rattle.frontier_core.specs.declared.event.Cause.TheVariants as why
 use Rattle.workers.specs.OneWorker.{AreByCrew}
@@ -6,23 +6,16 @@ use Rattle.workers.specs.Takers.{AreOwn}
 use Rattle.workers.specs.inner.Takers.{AreNotedBy}
 use Rattle.workers.proofs.ConclusionLaws.{by_nobody, if_ok, if_err}
 use Rattle.workers.proofs.TakerLaws.{own_none}
-use Rattle.workers.specs.inner.Answered.{IsBrought, IsLeftBy}
 use Rattle.workers.specs.Crews.{SomeSays}
-use Rattle.workers.proofs.CrewEnds.{ok_told, err_told, left_nothing, left_wrong, later_self, none_once, account_all, account_once, account_own, all_brought, all_left}
+use Rattle.workers.proofs.CrewEnds.{stopped_empty, stopped_wrong, later_self, none_once, account_all, account_once, account_own, all_retrieved, all_stopped}
 use Rattle.workers.proofs.ServingLaws.{all_has_body}
 use Rattle.workers.proofs.crew_retrieval.retrieve_together.Goals as goal
-
-pub returns-in_default-clause-ok : goal.returns-in_default-clause-ok
-returns-in_default-clause-ok g c =
-    let F = g.F.Fetcher in
-    ok_told c.answer.result (Err c.empty.result) c.args.fetchers.items (λ new h. IsBrought F.site F.says F.rules F.log c.args.plan.now c.args.fetchers.items new h) tt c.answer.ensures.ok
 
 pub returns-in_default-clause-err : goal.returns-in_default-clause-err
 returns-in_default-clause-err g c =
     let F = g.F.Fetcher in
-    err_told c.answer.result (Err c.empty.result) c.args.fetchers.items (λ new cause h. IsLeftBy F.site F.says F.rules F.log c.args.plan.now c.args.fetchers.items new cause h)
-    (left_nothing F.site F.says F.rules F.log c.args.plan.now c.args.fetchers.items c.args.fetchers.items c.empty.result.cause c.empty.result.harvest
-    (later_self F.site F.says F.rules F.log c.args.plan.now c.args.fetchers.items) (none_once F.site F.says F.rules F.log c.args.plan.now c.args.fetchers.items) c.empty.ensures) c.answer.ensures.err
+    stopped_empty F.site F.says F.rules F.log c.args.plan.now c.args.fetchers.items c.args.fetchers.items c.empty.result.cause c.empty.result.harvest
+    (later_self F.site F.says F.rules F.log c.args.plan.now c.args.fetchers.items) (none_once F.site F.says F.rules F.log c.args.plan.now c.args.fetchers.items) c.empty.ensures
 
 pub conclude-requires : goal.conclude-requires
 conclude-requires g c =
@@ -39,9 +32,8 @@ returns-in-All-clause-ok g c =
     let old = c.args.fetchers.items in
     let new = c.work_all-fetchers.result.fetchers.items in
     let account = account_all F.site F.says F.rules F.log plan old new c.work_all-fetchers.result.noted c.in-All.notes c.work_all-fetchers.ensures.noted c.in-All.is in
-    ok_told c.answer-in-All.result c.conclude.result new (λ fs h. IsBrought F.site F.says F.rules F.log plan old fs h)
-    (all_brought F.site F.says F.rules F.log plan old new c.into_frontier-frontier.result c.in-All.notes.pages.items c.in-All.notes.rules.items c.conclude.result
-    c.work_all-fetchers.ensures.later account c.conclude.ensures.ok) c.answer-in-All.ensures.ok
+    all_retrieved F.site F.says F.rules F.log plan old new c.into_frontier-frontier.result c.in-All.notes.pages.items c.in-All.notes.rules.items c.conclude.result
+    c.work_all-fetchers.ensures.later account c.conclude.ensures.ok
 
 pub returns-in-All-clause-err : goal.returns-in-All-clause-err
 returns-in-All-clause-err g c =
@@ -50,15 +42,8 @@ returns-in-All-clause-err g c =
     let old = c.args.fetchers.items in
     let new = c.work_all-fetchers.result.fetchers.items in
     let account = account_all F.site F.says F.rules F.log plan old new c.work_all-fetchers.result.noted c.in-All.notes c.work_all-fetchers.ensures.noted c.in-All.is in
-    err_told c.answer-in-All.result c.conclude.result new (λ fs cause h. IsLeftBy F.site F.says F.rules F.log plan old fs cause h)
-    (all_left F.site F.says F.rules F.log plan old new c.into_frontier-frontier.result c.in-All.notes.pages.items c.in-All.notes.rules.items c.conclude.result
-    c.work_all-fetchers.ensures.later account c.conclude.ensures.err c.conclude.ensures.full) c.answer-in-All.ensures.err
-
-pub returns-in-Once-clause-ok : goal.returns-in-Once-clause-ok
-returns-in-Once-clause-ok g c =
-    let F = g.F.Fetcher in
-    ok_told c.answer-in-Once.result (Err c.empty-in-Once.result) c.work_all-fetchers.result.fetchers.items (λ new h. IsBrought F.site F.says F.rules F.log c.args.plan.now c.args.fetchers.items new h)
-    tt c.answer-in-Once.ensures.ok
+    all_stopped F.site F.says F.rules F.log plan old new c.into_frontier-frontier.result c.in-All.notes.pages.items c.in-All.notes.rules.items c.conclude.result
+    c.work_all-fetchers.ensures.later account c.conclude.ensures.err c.conclude.ensures.full
 
 pub returns-in-Once-clause-err : goal.returns-in-Once-clause-err
 returns-in-Once-clause-err g c =
@@ -66,15 +51,8 @@ returns-in-Once-clause-err g c =
     let plan = c.args.plan.now in
     let old = c.args.fetchers.items in
     let new = c.work_all-fetchers.result.fetchers.items in
-    err_told c.answer-in-Once.result (Err c.empty-in-Once.result) new (λ fs cause h. IsLeftBy F.site F.says F.rules F.log plan old fs cause h)
-    (left_nothing F.site F.says F.rules F.log plan old new c.empty-in-Once.result.cause c.empty-in-Once.result.harvest c.work_all-fetchers.ensures.later
-    (account_once F.site F.says F.rules F.log plan old new c.work_all-fetchers.result.noted c.work_all-fetchers.ensures.noted c.in-Once.is) c.empty-in-Once.ensures) c.answer-in-Once.ensures.err
-
-pub returns-in-Twice-clause-ok : goal.returns-in-Twice-clause-ok
-returns-in-Twice-clause-ok g c =
-    let F = g.F.Fetcher in
-    ok_told c.answer-in-Twice.result (Err c.mismatch.result) c.work_all-fetchers.result.fetchers.items (λ new h. IsBrought F.site F.says F.rules F.log c.args.plan.now c.args.fetchers.items new h)
-    tt c.answer-in-Twice.ensures.ok
+    stopped_empty F.site F.says F.rules F.log plan old new c.empty-in-Once.result.cause c.empty-in-Once.result.harvest c.work_all-fetchers.ensures.later
+    (account_once F.site F.says F.rules F.log plan old new c.work_all-fetchers.result.noted c.work_all-fetchers.ensures.noted c.in-Once.is) c.empty-in-Once.ensures
 
 pub returns-in-Twice-clause-err : goal.returns-in-Twice-clause-err
 returns-in-Twice-clause-err g c =
@@ -82,45 +60,28 @@ returns-in-Twice-clause-err g c =
     let plan = c.args.plan.now in
     let old = c.args.fetchers.items in
     let new = c.work_all-fetchers.result.fetchers.items in
-    err_told c.answer-in-Twice.result (Err c.mismatch.result) new (λ fs cause h. IsLeftBy F.site F.says F.rules F.log plan old fs cause h)
-    (left_wrong F.site F.says F.rules F.log plan old new c.mismatch.result.cause c.mismatch.result.harvest c.work_all-fetchers.ensures.later c.mismatch.ensures) c.answer-in-Twice.ensures.err
+    stopped_wrong F.site F.says F.rules F.log plan old new c.mismatch.result.cause c.mismatch.result.harvest c.work_all-fetchers.ensures.later c.mismatch.ensures
 
 pub returns-in_default-clause-numbered : goal.returns-in_default-clause-numbered
-returns-in_default-clause-numbered g c =
-    let workers = c.args.fetchers.len in (
-      ok_told c.answer.result (Err c.empty.result) c.args.fetchers.items (λ new h. AreByCrew workers h.trace) tt c.answer.ensures.ok,
-      err_told c.answer.result (Err c.empty.result) c.args.fetchers.items (λ new cause h. cause ≢ why.Mismatch → AreByCrew workers h.trace) (λ other. by_nobody workers _ c.empty.ensures.trace) c.answer.ensures.err,
-    )
+returns-in_default-clause-numbered g c = (tt, λ other. by_nobody c.args.fetchers.len _ c.empty.ensures.trace)
 
 pub returns-in-All-clause-numbered : goal.returns-in-All-clause-numbered
 returns-in-All-clause-numbered g c =
-    let all : c.len-workers.result ≡ c.args.fetchers.len = search rules in
-    let workers = c.args.fetchers.len in (
-      ok_told c.answer-in-All.result c.conclude.result c.work_all-fetchers.result.fetchers.items (λ new h. AreByCrew workers h.trace) (subst (λ (n : ℕ). IfOk c.conclude.result (λ h. AreByCrew n h.trace)) all c.conclude.ensures.numbered.0) c.answer-in-All.ensures.ok,
-      err_told c.answer-in-All.result c.conclude.result c.work_all-fetchers.result.fetchers.items (λ new cause h. cause ≢ why.Mismatch → AreByCrew workers h.trace) (subst (λ (n : ℕ). IfErr c.conclude.result (λ halt. halt.cause ≢ why.Mismatch → AreByCrew n halt.harvest.trace)) all c.conclude.ensures.numbered.1) c.answer-in-All.ensures.err,
+    let all : c.len-workers.result ≡ c.args.fetchers.len = search rules in (
+      subst (λ (n : ℕ). IfOk c.conclude.result (λ h. AreByCrew n h.trace)) all c.conclude.ensures.numbered.0,
+      subst (λ (n : ℕ). IfErr c.conclude.result (λ halt. halt.cause ≢ why.Mismatch → AreByCrew n halt.harvest.trace)) all c.conclude.ensures.numbered.1,
     )
 
 pub returns-in-Once-clause-numbered : goal.returns-in-Once-clause-numbered
-returns-in-Once-clause-numbered g c =
-    let workers = c.args.fetchers.len in (
-      ok_told c.answer-in-Once.result (Err c.empty-in-Once.result) c.work_all-fetchers.result.fetchers.items (λ new h. AreByCrew workers h.trace) tt c.answer-in-Once.ensures.ok,
-      err_told c.answer-in-Once.result (Err c.empty-in-Once.result) c.work_all-fetchers.result.fetchers.items (λ new cause h. cause ≢ why.Mismatch → AreByCrew workers h.trace) (λ other. by_nobody workers _ c.empty-in-Once.ensures.trace) c.answer-in-Once.ensures.err,
-    )
+returns-in-Once-clause-numbered g c = (tt, λ other. by_nobody c.args.fetchers.len _ c.empty-in-Once.ensures.trace)
 
 pub returns-in-Twice-clause-numbered : goal.returns-in-Twice-clause-numbered
-returns-in-Twice-clause-numbered g c =
-    let workers = c.args.fetchers.len in (
-      ok_told c.answer-in-Twice.result (Err c.mismatch.result) c.work_all-fetchers.result.fetchers.items (λ new h. AreByCrew workers h.trace) tt c.answer-in-Twice.ensures.ok,
-      err_told c.answer-in-Twice.result (Err c.mismatch.result) c.work_all-fetchers.result.fetchers.items (λ new cause h. cause ≢ why.Mismatch → AreByCrew workers h.trace) (λ other. absurd (other c.mismatch.ensures)) c.answer-in-Twice.ensures.err,
-    )
+returns-in-Twice-clause-numbered g c = (tt, λ other. absurd (other c.mismatch.ensures))
 
 pub returns-in_default-clause-own : goal.returns-in_default-clause-own
 returns-in_default-clause-own g c =
-    let log = g.F.Fetcher.log in
-    let old = c.args.fetchers.items in (
-      ok_told c.answer.result (Err c.empty.result) old (λ new h. AreOwn log 0 old new h.trace) tt c.answer.ensures.ok,
-      err_told c.answer.result (Err c.empty.result) old (λ new cause h. cause ≢ why.Mismatch → AreOwn log 0 old new h.trace) (λ other. own_none log old old _ c.empty.ensures.trace) c.answer.ensures.err,
-    )
+    let old = c.args.fetchers.items in
+    (tt, λ other. own_none g.F.Fetcher.log old old _ c.empty.ensures.trace)
 
 pub returns-in-All-clause-own : goal.returns-in-All-clause-own
 returns-in-All-clause-own g c =
@@ -129,27 +90,13 @@ returns-in-All-clause-own g c =
     let new = c.work_all-fetchers.result.fetchers.items in
     let notes = c.in-All.notes in
     let noted = account_own log old new c.work_all-fetchers.result.noted notes c.work_all-fetchers.ensures.own c.in-All.is in (
-      ok_told c.answer-in-All.result c.conclude.result new (λ fs h. AreOwn log 0 old fs h.trace)
-          (if_ok c.conclude.result (λ h. AreNotedBy notes.pages.items notes.rules.items h.trace) (λ h. AreOwn log 0 old new h.trace) (λ h is. noted h.trace is) c.conclude.ensures.own.0) c.answer-in-All.ensures.ok,
-      err_told c.answer-in-All.result c.conclude.result new (λ fs cause h. cause ≢ why.Mismatch → AreOwn log 0 old fs h.trace)
-          (if_err c.conclude.result (λ halt. halt.cause ≢ why.Mismatch → AreNotedBy notes.pages.items notes.rules.items halt.harvest.trace) (λ halt. halt.cause ≢ why.Mismatch → AreOwn log 0 old new halt.harvest.trace)
-          (λ halt is other. noted halt.harvest.trace (is other)) c.conclude.ensures.own.1) c.answer-in-All.ensures.err,
+      if_ok c.conclude.result (λ h. AreNotedBy notes.pages.items notes.rules.items h.trace) (λ h. AreOwn log 0 old new h.trace) (λ h is. noted h.trace is) c.conclude.ensures.own.0,
+      if_err c.conclude.result (λ halt. halt.cause ≢ why.Mismatch → AreNotedBy notes.pages.items notes.rules.items halt.harvest.trace) (λ halt. halt.cause ≢ why.Mismatch → AreOwn log 0 old new halt.harvest.trace)
+          (λ halt is other. noted halt.harvest.trace (is other)) c.conclude.ensures.own.1,
     )
 
 pub returns-in-Once-clause-own : goal.returns-in-Once-clause-own
-returns-in-Once-clause-own g c =
-    let log = g.F.Fetcher.log in
-    let old = c.args.fetchers.items in
-    let new = c.work_all-fetchers.result.fetchers.items in (
-      ok_told c.answer-in-Once.result (Err c.empty-in-Once.result) new (λ fs h. AreOwn log 0 old fs h.trace) tt c.answer-in-Once.ensures.ok,
-      err_told c.answer-in-Once.result (Err c.empty-in-Once.result) new (λ fs cause h. cause ≢ why.Mismatch → AreOwn log 0 old fs h.trace) (λ other. own_none log old new _ c.empty-in-Once.ensures.trace) c.answer-in-Once.ensures.err,
-    )
+returns-in-Once-clause-own g c = (tt, λ other. own_none g.F.Fetcher.log c.args.fetchers.items c.work_all-fetchers.result.fetchers.items _ c.empty-in-Once.ensures.trace)
 
 pub returns-in-Twice-clause-own : goal.returns-in-Twice-clause-own
-returns-in-Twice-clause-own g c =
-    let log = g.F.Fetcher.log in
-    let old = c.args.fetchers.items in
-    let new = c.work_all-fetchers.result.fetchers.items in (
-      ok_told c.answer-in-Twice.result (Err c.mismatch.result) new (λ fs h. AreOwn log 0 old fs h.trace) tt c.answer-in-Twice.ensures.ok,
-      err_told c.answer-in-Twice.result (Err c.mismatch.result) new (λ fs cause h. cause ≢ why.Mismatch → AreOwn log 0 old fs h.trace) (λ other. absurd (other c.mismatch.ensures)) c.answer-in-Twice.ensures.err,
-    )
+returns-in-Twice-clause-own g c = (tt, λ other. absurd (other c.mismatch.ensures))

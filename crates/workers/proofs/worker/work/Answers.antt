@@ -21,7 +21,7 @@ loop-preserved-in-Ok-Robots g c =
 pub loop-preserved : goal.loop-preserved
 loop-preserved g c =
     let F = g.F.Fetcher in
-    goes_on F.site F.says F.rules F.log c.args.plan.now c.args.worker _ _ _ _ _ _ c.loop.invariant c.serve_page.ensures
+    goes_on F.site F.says F.rules F.log c.args.plan.now c.args.worker _ _ _ _ _ _ c.loop.invariant c.serve.ensures
 
 pub returns : goal.returns
 returns g c = c.loop.invariant
