@@ -1,9 +1,9 @@
 -- What ends a wait, and that each call makes at most one step.
-use Rattle.std.proofs.Common.{◌≡◌, ◌⊎◌, ℕ, Bool, true, false, inl, inr, Ok, Err, ◌∙◌}
+use Rattle.std.proofs.Common.{◌≡◌, ◌⊎◌, ◌↔◌, ◌<◌, ℕ, Bool, true, false, not, length, refl, inl, inr, Ok, Err, ◌∙◌}
 use Rattle.std.specs.Prelude.{Result, IsTrue, OnErr, OnOk, IfOk}
 use Rattle.frontier_core.specs.Plans.{policy}
 use Rattle.frontier_core.specs.Machine.{Action, IsRunning}
-use Rattle.frontier_core.specs.Traced.{Traced, Makes, Stops, Spreads, RefusesEdge, HasDue, HasRules, HasWaitingPage}
+use Rattle.frontier_core.specs.Traced.{Traced, Makes, Stops, Spreads, SpreadsPart, RefusesEdge, HasDue, HasRules, HasWaitingPage}
 use Rattle.frontier_core.specs.Taken.{TakesWork}
 use Rattle.frontier_core.specs.Waits.{ends_waits}
 use Rattle.frontier_core.specs.declared.event.Cause.{Cause}
@@ -77,3 +77,31 @@ spread_still old new (Ok done) (inl (d, u, k, made)) err slept = let wrong : fal
 spread_still old new (Ok done) (inr (undue, is)) err slept = is
 spread_still old new (Err fault) ok (inl (d, u, k, made, stuck)) slept = let wrong : false ≡ true = ends old new _ slept made in cc
 spread_still old new (Err fault) ok (inr is) slept = is
+
+-- ---- an exchange
+
+-- what is spread in part for want of memory had room
+pub short_of : (old new : Traced) → SpreadsPart old new ⊎ (new ≡ old) → (new ≡ old) ⊎ (length new.state.entries < new.plan.max_urls)
+    → (new ≡ old) ⊎ (SpreadsPart old new × (length new.state.entries < new.plan.max_urls))
+short_of old new part (inl is) = inl is
+short_of old new (inl part) (inr few) = inr (part, few)
+short_of old new (inr is) (inr few) = inl is
+
+-- somebody may be asleep just where it is said to be busy
+pub slept_if : (s : Traced) (busy : Bool) → ((worker : ℕ) → IsTrue busy ↔ TakesWork s worker Busy s) → IsTrue busy ↔ IsSleptAt s
+slept_if s busy told = (λ is. (0, (told 0).0 is), λ (worker, takes). (told worker).1 takes)
+
+-- where it was busy, all are woken just where it is busy no more
+pub woken_unless : (old new : Traced) (busy : Bool) → IsSleptAt old → IsTrue busy ↔ IsSleptAt new → IsTrue (not busy) ↔ (IsSleptAt old × ¬ IsSleptAt new)
+woken_unless old new true slept told = (λ wakes. let wrong : false ≡ true = wakes in cc, λ (was, awake). absurd (awake (told.0 refl)))
+woken_unless old new false slept told = (λ wakes. (slept, λ is. let wrong : false ≡ true = told.1 is in cc), λ (was, awake). refl)
+
+-- where nobody is woken that may be asleep, it is busy still
+pub asleep_still : (new : Traced) (busy : Bool) → IsTrue busy ↔ IsSleptAt new → not busy ≡ false → IsSleptAt new
+asleep_still new true told none = told.0 refl
+asleep_still new false told none = cc
+
+-- where it wasn't busy, nobody is asleep, and nobody woken
+pub none_woken : (old new : Traced) (busy said : Bool) → busy ≡ false → said ≡ false → IsTrue busy ↔ IsSleptAt old → IsTrue said ↔ (IsSleptAt old × ¬ IsSleptAt new)
+none_woken old new busy said idle none told =
+    (λ wakes. let is : said ≡ true = wakes in cc (is, none), λ (slept, awake). let is : busy ≡ true = told.1 slept in cc (is, idle))

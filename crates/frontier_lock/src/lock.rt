@@ -1,10 +1,11 @@
 //! The lock round a frontier.
-ghost use Rattle.std.specs.Prelude.{◌≡◌, ◌≢◌, false, length, OnOk, OnErr, IfOk, IfErr};
+ghost use Rattle.std.specs.Prelude.{◌≡◌, ◌≢◌, ◌↔◌, false, length, IsTrue, OnOk, OnErr, IfOk, IfErr};
 ghost use Rattle.frontier_core.specs.Machine.{Action};
 ghost use Rattle.frontier_core.specs.Traced.{Traced, Makes};
 ghost use Rattle.frontier_core.specs.Waits.{ends_waits};
 ghost use Rattle.frontier_lock.specs.Permits.{IsFor};
 ghost use Rattle.frontier_lock.specs.inner.Steps.{Records, GivesPermitUp};
+ghost use Rattle.frontier_lock.specs.inner.Exchanges.{OffersOrStops, TakesOrStops, Exchanges};
 ghost use Rattle.frontier_lock.specs.inner.Waits.{IsSleptAt, MakesAtMostOne, IsMadeBy, IsOneStep};
 
 use fetcher::Outcome;
@@ -41,13 +42,13 @@ pub struct Refused {
     pub fault: AnswerFault,
 }
 
-/// A frontier that many workers share. Each call makes one locked step.
+/// A frontier that many workers share.
 #[derive(Drop)]
-pub struct FrontierLock {
+pub struct FrontierLock<'a> {
     core: Mutex<Frontier>,
     moved: Condvar,
-    // How many addresses waited when last something was taken or changed. It is read without the lock.
-    waiting: AtomicUsize,
+    // How many addresses wait, for those who look on. They take no lock.
+    waiting: Option<&'a AtomicUsize>,
 }
 
 // Takes work for the worker. Where somebody may be asleep nothing changes, so that nobody has to be woken.
@@ -120,6 +121,62 @@ fn give_up(core: &mut Frontier, held: Option<Held>, cause: Cause)
     }
 }
 
+// Offers the edges of one due address. Where they are refused the frontier stops.
+fn offer_or_stop(core: &mut Frontier)
+    ensures { OffersOrStops core.old core.new }
+{
+    match core.spread() {
+        Ok(()) => {}
+        Err(SpreadFault::Full) => core.stop(Cause::Full),
+        Err(SpreadFault::Memory) => core.stop(Cause::Memory),
+    }
+}
+
+// Takes work for the worker. Where there is no memory for it the frontier stops.
+fn take_or_stop(core: &mut Frontier, worker: u32) -> Work
+    ensures work { IsFor worker result }
+    ensures takes { TakesOrStops core.old worker result core.new }
+{
+    match core.take(worker) {
+        Ok(work) => work,
+        Err(_) => {
+            core.stop(Cause::Memory);
+            Work::Stopped(Cause::Memory)
+        }
+    }
+}
+
+// Hands an answer over, offers the edges of one due address, and takes the worker's next work.
+fn exchange(core: &mut Frontier, worker: u32, done: Done) -> Result<Work, Refused>
+    ensures work { IfOk result (IsFor worker) }
+    ensures steps { IfOk result (λ work. Exchanges core.old done worker work core.new) }
+    ensures same { OnErr result (core.new ≡ core.old) }
+    ensures back { IfErr result (λ refused. refused.done ≡ done) }
+    ensures stray { IfErr result (λ refused. refused.fault ≡ AnswerFault.Stray) }
+{
+    hand_over(core, done)?;
+    offer_or_stop(core);
+    Ok(take_or_stop(core, worker))
+}
+
+// Exchanges an answer for work, and says whether all who sleep are to be woken. Whoever sleeps went to sleep at a busy
+// frontier, and while it is busy whenever the lock is let go, nobody who sleeps has anything to do. So an exchange wakes them
+// that finds it busy and leaves it otherwise, be it with work, quiet or stopped; each other call that can end a wait does.
+fn exchange_and_tell(core: &mut Frontier, worker: u32, done: Done) -> (Result<Work, Refused>, bool)
+    ensures work { IfOk result.0 (IsFor worker) }
+    ensures steps { IfOk result.0 (λ work. Exchanges core.old done worker work core.new) }
+    ensures same { OnErr result.0 (core.new ≡ core.old) }
+    ensures back { IfErr result.0 (λ refused. refused.done ≡ done) }
+    ensures stray { IfErr result.0 (λ refused. refused.fault ≡ AnswerFault.Stray) }
+
+    ensures woken { IsSleptAt core.old → result.1 ≡ false → IsSleptAt core.new }
+    ensures exact { IsTrue result.1 ↔ (IsSleptAt core.old × ¬ IsSleptAt core.new) }
+{
+    let was_busy = core.is_busy();
+    let answer = exchange(core, worker, done);
+    (answer, was_busy && !core.is_busy())
+}
+
 // Whether the step that the frontier made, when it had so many lines, is one that can end a wait.
 fn can_end_waits(core: &Frontier, lines: usize) -> bool
     ensures { (old : Traced) (action : Action) → length old.trace ≡ lines → Makes old action core.now → result ≡ ends_waits action }
@@ -151,13 +208,19 @@ fn make<A, T, S: FnOnce(&mut Frontier, A) -> T>(core: &mut Frontier, step: S, to
     (answer, wakes)
 }
 
-impl FrontierLock {
+impl<'a> FrontierLock<'a> {
     /// Shares a frontier. Takes no memory.
     pub fn new(core: Frontier) -> Self {
+        FrontierLock::watched(core, None)
+    }
+
+    /// Shares a frontier, and keeps in `waiting` how many addresses wait, as `Frontier::waiting` counts them, from the first call
+    /// on. It is for those who look on without the lock: no clause speaks of it. Takes no memory.
+    pub fn watched(core: Frontier, waiting: Option<&'a AtomicUsize>) -> Self {
         FrontierLock {
             core: Mutex::new(core),
             moved: Condvar::new(),
-            waiting: AtomicUsize::new(1),
+            waiting,
         }
     }
 
@@ -165,15 +228,7 @@ impl FrontierLock {
     pub fn next<R: Wait>(&self, rt: &R, worker: u32) -> Result<Work, AllocError>
         ensures { IfOk result (IsFor worker) }
     {
-        self.step(
-            rt,
-            |core, worker| {
-                let work = take(core, worker);
-                self.note_waiting(core);
-                work
-            },
-            worker,
-        )
+        self.step(rt, |core, worker| take(core, worker), worker)
     }
 
     /// As [`FrontierLock::next`], but where others are at work it sleeps until one of them made a step that can end its
@@ -209,6 +264,26 @@ impl FrontierLock {
         self.step(rt, |core, done| hand_over(core, done), done)
     }
 
+    /// Hands an answer over, as [`FrontierLock::give`] does, offers the edges of one due address, and takes what the worker is
+    /// to do next, as [`FrontierLock::next`] does, all under one lock. Where the edges are refused, or there is no memory, the
+    /// frontier stops for that cause, and the answer is Stopped. Where the permit is stray nothing else happens.
+    pub fn give_and_take<R: Wait>(&self, rt: &R, worker: u32, done: Done) -> Result<Work, Refused>
+        ensures work { IfOk result (IsFor worker) }
+        ensures back { IfErr result (λ refused. refused.done ≡ done) }
+        ensures stray { IfErr result (λ refused. refused.fault ≡ AnswerFault.Stray) }
+    {
+        let (answer, wakes) = {
+            let mut core = self.core.lock(rt);
+            let told = exchange_and_tell(&mut core, worker, done);
+            self.note_waiting(&core);
+            told
+        };
+        if wakes {
+            self.moved.notify_all();
+        }
+        answer
+    }
+
     /// Gives up the permit where there is one, as `Frontier::abandon` and `Frontier::abandon_robots` do, and stops the
     /// frontier where nothing stopped it yet. Takes no memory.
     pub fn halt<R: Wait>(&self, rt: &R, held: Option<Held>, cause: Cause) {
@@ -219,29 +294,30 @@ impl FrontierLock {
         )
     }
 
-    // Makes one locked step, and wakes all who sleep, with the lock free again, where it says so. Whom this wakes no clause
-    // can say.
+    // Makes one locked step, notes how many addresses wait, and wakes all who sleep, with the lock free again, where it says so.
+    // Whom this wakes no clause can say.
     fn step<R: Wait, A, T, S: FnOnce(&mut Frontier, A) -> T>(&self, rt: &R, step: S, told: A) -> T
         requires call { S.IsAlwaysCallable step }
         requires one { IsOneStep S.FnOnce step told }
         ensures { (old : Traced) × (new : Traced) × IsMadeBy S.FnOnce step told old result new }
     {
-        let (answer, wakes) = make(&mut self.core.lock(rt), step, told);
+        let (answer, wakes) = {
+            let mut core = self.core.lock(rt);
+            let made = make(&mut core, step, told);
+            self.note_waiting(&core);
+            made
+        };
         if wakes {
             self.moved.notify_all();
         }
         answer
     }
 
-    // Notes how many addresses wait.
+    // Notes how many addresses wait, where somebody looks on.
     fn note_waiting(&self, core: &Frontier) {
-        self.waiting.store(core.waiting(), Ordering::Relaxed);
-    }
-
-    /// How many addresses waited when something was last taken from the frontier, as `Frontier::waiting` counts them. It takes
-    /// no lock, so it is for those who look on: no clause speaks of it.
-    pub fn waiting(&self) -> usize {
-        self.waiting.load(Ordering::Relaxed)
+        if let Some(waiting) = self.waiting {
+            waiting.store(core.waiting(), Ordering::Relaxed);
+        }
     }
 
     /// The frontier again. Takes no memory.

@@ -1,24 +1,25 @@
 -- How a chain of redirects grows.
-use Rattle.std.proofs.Common.{◌≡◌, ◌∙◌, ◌<◌, ◌+◌, ◌++◌, ℕ, zero, suc, Bool, List, [], ◌∷◌, Option, inl, inr, arith, ap, subst, length}
+use Rattle.std.proofs.Common.{◌≡◌, ◌∙◌, ◌<◌, ◌+◌, ◌++◌, ℕ, zero, suc, List, [], ◌∷◌, inl, inr, arith, ap, subst, sym, length}
 use Rattle.std.proofs.lemmas.List.{length-append}
-use Rattle.address.specs.Address.{AddressText, OriginText}
+use Rattle.address.specs.Address.{AddressText}
 use Rattle.robots_rules.specs.Access.{RuleSetValue}
 use Rattle.response_reader.specs.Wire.{counted}
+use Rattle.response_reader.specs.declared.wire.Wire.{Ghosts as Wires}
+use Rattle.fetcher.specs.declared.answer.Answer.{Answer}
 use Rattle.fetcher.specs.declared.outcome.Outcome.{Outcome}
 use Rattle.answer_notes.specs.HopChains.{HopValue}
+use Rattle.http_fetcher.specs.declared.connect.Connect.{Ghosts as Connects}
 use Rattle.http_fetcher.specs.declared.chain.Hop.{Hop}
 use Rattle.http_fetcher.specs.declared.chain.Hop.TheVariants.{Next, Last}
 use Rattle.http_fetcher.specs.Chains.{IsChain, SaysHop}
-use Rattle.http_fetcher.specs.Fetching.{IsGiven, IsToldByTries, Tries}
+use Rattle.http_fetcher.specs.Fetching.{Fetching, IsGiven, IsToldByTries}
 
--- what was told over a connection is given, by what honours robots rules and keeps connections as before
-pub given_by : {C W : Type 0} (stands gives : C → OriginText → W → Type 0) (tries : C → Tries) (incoming outgoing : W → Option (List ℕ)) (failed : W → ℕ)
-    (robots same keeps kept : Bool) (at : AddressText) (x : Outcome) (body : List ℕ) (by after : C) → robots ≡ same → keeps ≡ kept
-    → IsToldByTries (stands by) (gives by) incoming outgoing failed (tries by) (tries after) robots keeps at x body
-    → IsGiven stands gives tries incoming outgoing failed same kept at x body
-given_by stands gives tries incoming outgoing failed robots same keeps kept at x body by after is holds told =
-    let first = subst (λ b. IsToldByTries (stands by) (gives by) incoming outgoing failed (tries by) (tries after) b keeps at x body) is told in
-    (by, after, subst (λ b. IsToldByTries (stands by) (gives by) incoming outgoing failed (tries by) (tries after) same b at x body) holds first)
+-- what was told over a connection is given, by a fetcher with the settings of another
+pub given_by : {C W : Type 0} (connects : Connects C W) (wires : Wires W) (first old new : Fetching C) (at : AddressText) (answer : Answer)
+    → old.robots ≡ first.robots → old.keeps ≡ first.keeps → IsToldByTries connects wires old new at answer
+    → IsGiven connects wires first at answer.outcome answer.body
+given_by connects wires first old new at answer robots keeps told =
+    (old.connect, new.connect, rw (sym robots, sym keeps) told)
 
 -- what an answer says of the hop that it was read as
 pub says_of : (x : Outcome) (body : List ℕ) (n : ℕ) (hop read : Hop) → hop ≡ read → SaysHop x body n hop → SaysHop x body n read

@@ -1,21 +1,23 @@
 -- What was told of a hop says what its answer says.
 use Rattle.std.proofs.Common.{◌≡◌, ◌∙◌, ℕ, zero, suc, ◌==◌, ◌||◌, ◌⊎◌, Bool, true, false, List, Option, Some, None, refl, sym, subst, inl, inr}
 use Rattle.std.proofs.lemmas.Bool.{eqb-true, false≢true}
-use Rattle.address.specs.Address.{AddressText, OriginText}
+use Rattle.address.specs.Address.{AddressText}
 use Rattle.robots_rules.specs.Access.{RuleSetValue}
 use Rattle.response_reader.specs.Response.{ResponseParts}
 use Rattle.response_reader.specs.Fields.{HeadParts}
-use Rattle.fetcher.specs.declared.outcome.Outcome.{Outcome}
+use Rattle.response_reader.specs.declared.wire.Wire.{Ghosts as Wires}
+use Rattle.fetcher.specs.declared.answer.Answer.{Answer}
 use Rattle.response_answer.specs.Digests.{is_redirect, is_successful, is_document, digest_of, kept_body, target_of, page_or_leaf}
 use Rattle.answer_notes.specs.RobotsAnswers.{all_allowed, rules_by_status}
 use Rattle.answer_notes.specs.Tellings.{outcome_told, body_told}
 use Rattle.answer_notes.specs.declared.told.Told.{Told}
 use Rattle.answer_notes.specs.declared.told.Told.TheVariants.{Whole, Fault}
+use Rattle.http_fetcher.specs.declared.connect.Connect.{Ghosts as Connects}
 use Rattle.http_fetcher.specs.declared.chain.Hop.{Hop}
 use Rattle.http_fetcher.specs.declared.chain.Hop.TheVariants.{Next, Last}
 use Rattle.http_fetcher.specs.Chains.{SaysHop}
 use Rattle.http_fetcher.specs.inner.Chains.{TellsHop}
-use Rattle.http_fetcher.specs.Fetching.{Fetching, IsToldByTries, Tries}
+use Rattle.http_fetcher.specs.Fetching.{Fetching, IsToldByTries, answer_told}
 
 or_split : (x y : Bool) → (x || y) ≡ true → (x ≡ true) ⊎ (y ≡ true)
 or_split true y h = inl refl
@@ -89,10 +91,8 @@ pub tells_of : (at : AddressText) (told : Told) (left : ℕ) (hop read : Hop) �
 tells_of at told left hop read is tells = subst (λ h. TellsHop at told left h) is tells
 
 -- an answer that says what was told over a connection was told over it
-pub told_by_answer : {C W : Type 0} (stands gives : C → OriginText → W → Type 0) (tries : C → Tries) (incoming outgoing : W → Option (List ℕ)) (failed : W → ℕ)
-    (old : C) (now new : Fetching C) (robots keeps : Bool) (at : AddressText) (told : Told) (x : Outcome) (body : List ℕ)
-    → now ≡ new → new.robots ≡ robots → x ≡ outcome_told now.robots at told → body ≡ body_told told
-    → IsToldByTries (stands old) (gives old) incoming outgoing failed (tries old) (tries new.connect) robots keeps at (outcome_told robots at told) (body_told told)
-    → IsToldByTries (stands old) (gives old) incoming outgoing failed (tries old) (tries now.connect) robots keeps at x body
-told_by_answer stands gives tries incoming outgoing failed old now new robots keeps at told x body same is outcome_is body_is h =
+pub told_by_answer : {C W : Type 0} (connects : Connects C W) (wires : Wires W) (old now new : Fetching C) (at : AddressText) (told : Told) (answer : Answer)
+    → now ≡ new → new.robots ≡ old.robots → answer.outcome ≡ outcome_told now.robots at told → answer.body ≡ body_told told
+    → IsToldByTries connects wires old new at (answer_told old.robots at told) → IsToldByTries connects wires old now at answer
+told_by_answer connects wires old now new at told answer same is outcome_is body_is h =
     rw (outcome_is, body_is, same, is) h

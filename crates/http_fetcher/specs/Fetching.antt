@@ -1,5 +1,5 @@
 -- What contracts see of a fetcher that asks over connections, and how its answers come.
-use Rattle.std.specs.Prelude.{◌≡◌, ◌⊎◌, ℕ, Bool, true, false, List, [], Option, Some}
+use Rattle.std.specs.Prelude.{◌≡◌, ◌⊎◌, ℕ, Bool, true, false, List, [], Some}
 use Rattle.std.specs.Io.KnownBytes.{Appends, IsAtEnd, Keeps}
 use Rattle.address.specs.Address.{AddressText, OriginText, origin_of}
 use Rattle.response_reader.specs.Wire.{HasRisen, OfBytes, counted}
@@ -9,14 +9,19 @@ use Rattle.response_reader.specs.Response.{ResponseParts, BeginsWithResponse}
 use Rattle.response_reader.specs.ReadFaults.{IsReadFault}
 use Rattle.response_reader.specs.declared.fault.ReadFault.{ReadFault}
 use Rattle.response_reader.specs.declared.fault.ReadFault.TheVariants as read
+use Rattle.response_reader.specs.declared.wire.Wire.{Ghosts as Wires}
+use Rattle.fetcher.specs.declared.answer.Answer.{Answer}
 use Rattle.fetcher.specs.declared.fault_kind.FaultKind.{FaultKind}
 use Rattle.fetcher.specs.declared.fault_kind.FaultKind.TheVariants as kind
 use Rattle.fetcher.specs.declared.fetcher.Ask.{Ask}
 use Rattle.fetcher.specs.declared.outcome.Outcome.{Outcome}
 use Rattle.fetcher.specs.declared.outcome.Outcome.TheVariants.{Fault}
+use Rattle.answer_notes.specs.Tellings.{outcome_told, body_told}
 use Rattle.answer_notes.specs.declared.noted.Noted.{Noted}
+use Rattle.answer_notes.specs.declared.told.Told.{Told}
 use Rattle.response_answer.specs.Digests.{digest_of, kept_body}
 use Rattle.response_answer.specs.KindsOfFaults.{kind_of_fault}
+use Rattle.http_fetcher.specs.declared.connect.Connect.{Ghosts as Connects}
 
 -- what makes its connections, whether robots rules are honoured and connections are kept, what was asked, whether notes are taken, and these
 pub record Fetching (C : Type 0) : Type 0 where
@@ -27,107 +32,132 @@ pub record Fetching (C : Type 0) : Type 0 where
   pub is_recording : Bool
   pub notes : List Noted
 
+-- an address that is asked for, whether robots rules are honoured, and whether the connection is to be kept
+pub record Question : Type 0 where
+  pub at : AddressText
+  pub robots : Bool
+  pub keeps : Bool
+
+-- the question by which such a fetcher asks for an address
+abbrev pub question_of : {C : Type 0} → Fetching C → AddressText → Question
+question_of fetcher at = record { at = at; robots = fetcher.robots; keeps = fetcher.keeps }
+
+-- what was told of an address, as an answer
+abbrev pub answer_told : Bool → AddressText → Told → Answer
+answer_told robots at told = record { outcome = outcome_told robots at told; body = body_told told }
+
 -- the answer is the digest of the response that begins the bytes
 abbrev pub IsDigestOf : Bool → AddressText → Outcome → List ℕ → List ℕ → Type 0
 IsDigestOf robots at x body bytes =
     (r : ResponseParts) × BeginsWithResponse r bytes × (x ≡ digest_of robots at r) × (body ≡ kept_body r.head.status r.body)
 
 -- the answer is a fault of the bytes, in which no response was read; a lost connection is one only where the count of failed calls rose
-abbrev pub IsFaultOfBytes : ℕ → ℕ → Outcome → List ℕ → List ℕ → Type 0
-IsFaultOfBytes before after x body bytes =
+abbrev pub IsFaultOfBytes : ℕ → ℕ → Answer → List ℕ → Type 0
+IsFaultOfBytes before after answer bytes =
     (fault : ReadFault) × (kind : FaultKind) × (kind_of_fault fault ≡ Some kind) × IsReadFault fault bytes
-    × (fault ≡ read.Device → HasRisen before after) × (x ≡ Fault kind) × (body ≡ [])
+    × (fault ≡ read.Device → HasRisen before after) × (answer.outcome ≡ Fault kind) × (answer.body ≡ [])
 
 -- the answer is what the bytes say
-abbrev pub AnswersBytes : Bool → AddressText → ℕ → ℕ → Outcome → List ℕ → List ℕ → Type 0
-AnswersBytes robots at before after x body bytes = IsDigestOf robots at x body bytes ⊎ IsFaultOfBytes before after x body bytes
+abbrev pub AnswersBytes : Question → ℕ → ℕ → Answer → List ℕ → Type 0
+AnswersBytes question before after answer bytes =
+    IsDigestOf question.robots question.at answer.outcome answer.body bytes ⊎ IsFaultOfBytes before after answer bytes
 
 -- no connection was made
-abbrev pub IsUnmade : ℕ → ℕ → Outcome → List ℕ → Type 0
-IsUnmade before after x body = HasRisen before after × (x ≡ Fault kind.Connect) × (body ≡ [])
+abbrev pub IsUnmade : ℕ → ℕ → Answer → Type 0
+IsUnmade before after answer = HasRisen before after × (answer.outcome ≡ Fault kind.Connect) × (answer.body ≡ [])
 
 -- the request couldn't be written, since the wire failed
-abbrev pub IsUnwritten : ℕ → ℕ → Outcome → List ℕ → Type 0
-IsUnwritten before after x body = HasRisen before after × (x ≡ Fault kind.Device) × (body ≡ [])
+abbrev pub IsUnwritten : ℕ → ℕ → Answer → Type 0
+IsUnwritten before after answer = HasRisen before after × (answer.outcome ≡ Fault kind.Device) × (answer.body ≡ [])
 
 -- the request for an address, which asks to close the connection unless it is kept
 abbrev pub request_by : Bool → AddressText → List ℕ
 request_by true at = kept_request_text at
 request_by false at = request_text at
 
--- the answer came over a wire: its request was written and nothing behind it, and the answer is what the wire then told
-abbrev pub ComesOver : {W : Type 0} → (W → Option (List ℕ)) → (W → Option (List ℕ)) → (W → ℕ) → Bool → Bool → AddressText → W → Outcome → List ℕ → Type 0
-ComesOver {W} incoming outgoing failed robots keeps at given x body =
-    (asked : W) × (left : W)
-    × (IsUnwritten (failed given) (failed left) x body
-    ⊎ (Appends (outgoing given) (outgoing asked) (request_by keeps at) × Keeps (incoming given) (incoming asked) × Keeps (outgoing asked) (outgoing left)
-    × OfBytes (incoming asked) (AnswersBytes robots at (failed asked) (failed left) x body)))
+module _ {W : Type 0} (wires : Wires W) where
+  -- over a wire the request was written, and nothing was read
+  abbrev pub IsAsked : Question → W → W → Type 0
+  IsAsked question given asked =
+      Appends (wires.outgoing given) (wires.outgoing asked) (request_by question.keeps question.at) × Keeps (wires.incoming given) (wires.incoming asked)
 
--- the same over a wire that was given for the address's origin
-abbrev pub IsToldByWire : {W : Type 0} → (OriginText → W → Type 0) → (W → Option (List ℕ)) → (W → Option (List ℕ)) → (W → ℕ)
-    → Bool → Bool → AddressText → Outcome → List ℕ → Type 0
-IsToldByWire {W} gives incoming outgoing failed robots keeps at x body =
-    (given : W) × gives (origin_of at) given × ComesOver incoming outgoing failed robots keeps at given x body
+  -- the answer came over a wire: its request was written and nothing behind it, and the answer is what the wire then told
+  abbrev pub ComesOver : Question → W → Answer → Type 0
+  ComesOver question given answer =
+      (asked : W) × (left : W)
+      × (IsUnwritten (wires.failed given) (wires.failed left) answer
+      ⊎ (IsAsked question given asked × Keeps (wires.outgoing asked) (wires.outgoing left)
+      × OfBytes (wires.incoming asked) (AnswersBytes question (wires.failed asked) (wires.failed left) answer)))
 
--- over a wire the request for an address went out, or couldn't be written, and no byte came back: it had ended, or failed
-abbrev pub IsSilentOn : {W : Type 0} → (W → Option (List ℕ)) → (W → Option (List ℕ)) → (W → ℕ) → Bool → AddressText → W → Type 0
-IsSilentOn {W} incoming outgoing failed keeps at given =
-    (asked : W) × (left : W)
-    × (HasRisen (failed given) (failed left)
-    ⊎ (Appends (outgoing given) (outgoing asked) (request_by keeps at) × Keeps (incoming given) (incoming asked) × Keeps (incoming asked) (incoming left)
-    × (IsAtEnd (incoming asked) ⊎ HasRisen (failed asked) (failed left))))
+  -- the same over a wire that was given for the address's origin
+  abbrev pub IsToldByWire : (OriginText → W → Type 0) → Question → Answer → Type 0
+  IsToldByWire gives question answer = (given : W) × gives (origin_of question.at) given × ComesOver question given answer
 
--- the same over a wire that had served before
-abbrev pub IsSilent : {W : Type 0} → (OriginText → W → Type 0) → (W → Option (List ℕ)) → (W → Option (List ℕ)) → (W → ℕ) → AddressText → Type 0
-IsSilent {W} stands incoming outgoing failed at =
-    (given : W) × stands (origin_of at) given × IsSilentOn incoming outgoing failed true at given
+  -- over a wire the request went out, or couldn't be written, and no byte came back: it had ended, or failed
+  abbrev pub IsSilentOn : Question → W → Type 0
+  IsSilentOn question given =
+      (asked : W) × (left : W)
+      × (HasRisen (wires.failed given) (wires.failed left)
+      ⊎ (IsAsked question given asked × Keeps (wires.incoming asked) (wires.incoming left)
+      × (IsAtEnd (wires.incoming asked) ⊎ HasRisen (wires.failed asked) (wires.failed left))))
 
--- over a wire the request was written and nothing behind it, and its response was read to its last byte, with none behind it, and leaves the connection usable
-abbrev pub LeavesUsable : {W : Type 0} → (W → Option (List ℕ)) → (W → Option (List ℕ)) → Bool → AddressText → W → W → Type 0
-LeavesUsable {W} incoming outgoing keeps at given left =
-    (asked : W) × Appends (outgoing given) (outgoing asked) (request_by keeps at) × Keeps (incoming given) (incoming asked) × Keeps (outgoing asked) (outgoing left)
-    × Reusable (incoming asked) (incoming left) true
+  -- the same over a wire that had served before
+  abbrev pub IsSilent : (OriginText → W → Type 0) → Question → Type 0
+  IsSilent stands question = (given : W) × stands (origin_of question.at) given × IsSilentOn question given
 
--- a wire is the connection of one that was left so
-abbrev pub IsLeftBy : {W : Type 0} → (W → W → Type 0) → (W → Option (List ℕ)) → (W → Option (List ℕ)) → AddressText → W → Type 0
-IsLeftBy {W} again incoming outgoing at wire =
-    (given : W) × (left : W) × LeavesUsable incoming outgoing true at given left × again left wire
+  -- over a wire the request was written and nothing behind it, and its response was read to its last byte, with none behind it, and leaves the connection usable
+  abbrev pub LeavesUsable : Question → W → W → Type 0
+  LeavesUsable question given left =
+      (asked : W) × IsAsked question given asked × Keeps (wires.outgoing asked) (wires.outgoing left) × Reusable (wires.incoming asked) (wires.incoming left) true
 
--- a connection that stands behind a question stood before it, or is one to its origin, kept, and left usable by it
-abbrev pub StandsBy : {W : Type 0} → (OriginText → W → Type 0) → (OriginText → W → Type 0) → (W → W → Type 0) → (W → Option (List ℕ)) → (W → Option (List ℕ))
-    → Bool → AddressText → Type 0
-StandsBy {W} old new again incoming outgoing keeps at =
-    (of : OriginText) (wire : W) → new of wire → old of wire ⊎ ((of ≡ origin_of at) × (keeps ≡ true) × IsLeftBy again incoming outgoing at wire)
+module _ {C W : Type 0} (connects : Connects C W) (wires : Wires W) where
+  -- a wire is a connection to this origin that a question left usable, kept since
+  abbrev pub IsKeptAfter : Question → OriginText → W → Type 0
+  IsKeptAfter question of wire =
+      (of ≡ origin_of question.at) × (question.keeps ≡ true)
+      × (given : W) × (left : W) × LeavesUsable wires question given left × connects.again left wire
 
--- the same of some questions
-abbrev pub StandsBehind : {W : Type 0} → (OriginText → W → Type 0) → (OriginText → W → Type 0) → (W → W → Type 0) → (W → Option (List ℕ)) → (W → Option (List ℕ))
-    → Bool → Type 0
-StandsBehind {W} old new again incoming outgoing keeps =
-    (of : OriginText) (wire : W) → new of wire
-    → old of wire ⊎ ((at : AddressText) × (of ≡ origin_of at) × (keeps ≡ true) × IsLeftBy again incoming outgoing at wire)
+  -- a connection that stands behind a question stood before it, or was kept by it
+  abbrev pub StandsBy : Fetching C → Fetching C → AddressText → Type 0
+  StandsBy old new at =
+      (of : OriginText) (wire : W) → connects.stands new.connect of wire
+      → connects.stands old.connect of wire ⊎ IsKeptAfter (question_of old at) of wire
 
--- how often connections were asked for, how many of these were refused, and how often one that was kept was taken
-pub record Tries : Type 0 where
-  pub made : ℕ
-  pub refused : ℕ
-  pub taken : ℕ
+  -- the same of some questions
+  abbrev pub StandsBehind : Fetching C → Fetching C → Type 0
+  StandsBehind old new =
+      (of : OriginText) (wire : W) → connects.stands new.connect of wire
+      → connects.stands old.connect of wire ⊎ ((at : AddressText) × IsKeptAfter (question_of old at) of wire)
 
--- an answer comes over a connection that was kept, and no other is asked for; or one more is asked for, once, and before it
--- none was taken, or one over which no byte came
-abbrev pub IsToldByTries : {W : Type 0} → (OriginText → W → Type 0) → (OriginText → W → Type 0) → (W → Option (List ℕ)) → (W → Option (List ℕ)) → (W → ℕ)
-    → Tries → Tries → Bool → Bool → AddressText → Outcome → List ℕ → Type 0
-IsToldByTries stands gives incoming outgoing failed old new robots keeps at x body =
-    ((new.made ≡ old.made) × (new.taken ≡ counted old.taken 1) × (keeps ≡ true) × IsToldByWire stands incoming outgoing failed robots true at x body)
-    ⊎ ((new.made ≡ counted old.made 1)
-    × ((new.taken ≡ old.taken) ⊎ ((new.taken ≡ counted old.taken 1) × (keeps ≡ true) × IsSilent stands incoming outgoing failed at))
-    × (IsUnmade old.refused new.refused x body ⊎ IsToldByWire gives incoming outgoing failed robots keeps at x body))
+  -- an answer comes over a connection that was kept, and no other is asked for
+  abbrev pub IsToldAgain : Fetching C → Fetching C → AddressText → Answer → Type 0
+  IsToldAgain old new at answer =
+      (connects.made new.connect ≡ connects.made old.connect)
+      × (connects.taken new.connect ≡ counted (connects.taken old.connect) 1) × (old.keeps ≡ true)
+      × IsToldByWire wires (connects.stands old.connect) (question_of old at) answer
 
--- how often what makes connections was asked
-abbrev pub tries_by : {C : Type 0} → (C → ℕ) → (C → ℕ) → (C → ℕ) → C → Tries
-tries_by made refused taken c = record { made = made c; refused = refused c; taken = taken c }
+  -- no connection was taken that was kept, or one over which no byte came
+  abbrev pub IsUntold : Fetching C → Fetching C → AddressText → Type 0
+  IsUntold old new at =
+      (connects.taken new.connect ≡ connects.taken old.connect)
+      ⊎ ((connects.taken new.connect ≡ counted (connects.taken old.connect) 1) × (old.keeps ≡ true)
+      × IsSilent wires (connects.stands old.connect) (question_of old at))
 
--- the same of what made connections at some time
-abbrev pub IsGiven : {C W : Type 0} → (C → OriginText → W → Type 0) → (C → OriginText → W → Type 0) → (C → Tries) → (W → Option (List ℕ)) → (W → Option (List ℕ)) → (W → ℕ)
-    → Bool → Bool → AddressText → Outcome → List ℕ → Type 0
-IsGiven {C} {W} stands gives tries incoming outgoing failed robots keeps at x body =
-    (by : C) × (after : C) × IsToldByTries (stands by) (gives by) incoming outgoing failed (tries by) (tries after) robots keeps at x body
+  -- no connection was made, or an answer comes over one that was
+  abbrev pub IsToldAnew : Fetching C → Fetching C → AddressText → Answer → Type 0
+  IsToldAnew old new at answer =
+      IsUnmade (connects.refused old.connect) (connects.refused new.connect) answer
+      ⊎ IsToldByWire wires (connects.gives old.connect) (question_of old at) answer
+
+  -- an answer comes over a connection that was kept, and no other is asked for; or one more is asked for, once, and before it
+  -- none was taken, or one over which no byte came
+  abbrev pub IsToldByTries : Fetching C → Fetching C → AddressText → Answer → Type 0
+  IsToldByTries old new at answer =
+      IsToldAgain old new at answer
+      ⊎ ((connects.made new.connect ≡ counted (connects.made old.connect) 1) × IsUntold old new at × IsToldAnew old new at answer)
+
+  -- the same at some time, by what asks as this fetcher does
+  abbrev pub IsGiven : Fetching C → AddressText → Outcome → List ℕ → Type 0
+  IsGiven fetcher at x body =
+      (by : C) × (after : C)
+      × IsToldByTries (record fetcher { connect = by }) (record fetcher { connect = after }) at (record { outcome = x; body = body })

@@ -1,5 +1,5 @@
 //! A fetcher that asks over connections, a new one for each question or one that served before (RFC 9112, sections 9.3 and 9.6).
-ghost use Rattle.std.specs.Prelude.{◌≡◌, ◌⊎◌, ◌≤◌, ◌+◌, ℕ, List, [], ◌∷◌, ◌++◌, true, false, length, IsTrue, Some, IfOk, IfSome, IfNone, OnOk, OnErr, codes};
+ghost use Rattle.std.specs.Prelude.{◌≡◌, ◌⊎◌, ◌≤◌, ◌+◌, ℕ, List, [], ◌∷◌, ◌++◌, true, false, length, IsTrue, Some, IfOk, IfSome, IfNone, OnOk, OnErr, MatchBool, codes};
 ghost use Rattle.std.specs.Io.KnownBytes.{Appends, IsAtEnd, Keeps};
 ghost use Rattle.response_reader.specs.Wire.{counted, HasRisen, OfBytes};
 ghost use Rattle.response_reader.specs.Reusable.{Reusable};
@@ -14,7 +14,7 @@ ghost use Rattle.answer_notes.specs.HopChains.{rules_of_hops};
 ghost use Rattle.answer_notes.specs.declared.told.Told.TheVariants as told;
 ghost use Rattle.http_fetcher.specs.Chains.{CountsHops, IsChain};
 ghost use Rattle.http_fetcher.specs.Connects.{Stays};
-ghost use Rattle.http_fetcher.specs.Fetching.{AnswersBytes, ComesOver, IsGiven, IsSilent, IsSilentOn, IsToldByTries, IsToldByWire, IsUnmade, LeavesUsable, StandsBehind, StandsBy, request_by, tries_by};
+ghost use Rattle.http_fetcher.specs.Fetching.{AnswersBytes, ComesOver, IsGiven, IsSilentOn, IsToldAgain, IsToldAnew, IsToldByTries, IsUntold, LeavesUsable, StandsBehind, StandsBy, answer_told, question_of, request_by};
 ghost use Rattle.http_fetcher.specs.Notes.{NotesPage, NotesChain};
 ghost use Rattle.http_fetcher.specs.Meanings.{MayAnswer, MayRule};
 
@@ -160,7 +160,7 @@ impl<C: Connect> HttpFetcher<C> {
     fn read_told(&mut self, wire: &mut C::Wire) -> Result<Heard, AllocError>
         ensures same { self.new ≡ self.old }
         ensures told { (at : AddressText) → IfOk result (λ h. OfBytes (C.Wire.incoming wire.old)
-            (AnswersBytes self.old.robots at (C.Wire.failed wire.old) (C.Wire.failed wire.new) (outcome_told self.old.robots at h.told) (body_told h.told))) }
+            (AnswersBytes (question_of self.old at) (C.Wire.failed wire.old) (C.Wire.failed wire.new) (answer_told self.old.robots at h.told))) }
         ensures serves { IfOk result (λ h. IsTrue h.serves → Reusable (C.Wire.incoming wire.old) (C.Wire.incoming wire.new) true) }
         ensures written { Keeps (C.Wire.outgoing wire.old) (C.Wire.outgoing wire.new) }
     {
@@ -193,7 +193,7 @@ impl<C: Connect> HttpFetcher<C> {
         ensures silent { IfOk result (λ o. IfNone o (Keeps (C.Wire.incoming wire.old) (C.Wire.incoming wire.new)
             × (IsAtEnd (C.Wire.incoming wire.old) ⊎ HasRisen (C.Wire.failed wire.old) (C.Wire.failed wire.new)))) }
         ensures told { (at : AddressText) → IfOk result (λ o. IfSome o (λ h. OfBytes (C.Wire.incoming wire.old)
-            (AnswersBytes self.old.robots at (C.Wire.failed wire.old) (C.Wire.failed wire.new) (outcome_told self.old.robots at h.told) (body_told h.told)))) }
+            (AnswersBytes (question_of self.old at) (C.Wire.failed wire.old) (C.Wire.failed wire.new) (answer_told self.old.robots at h.told)))) }
         ensures serves { IfOk result (λ o. IfSome o (λ h. IsTrue h.serves → Reusable (C.Wire.incoming wire.old) (C.Wire.incoming wire.new) true)) }
         ensures written { Keeps (C.Wire.outgoing wire.old) (C.Wire.outgoing wire.new) }
     {
@@ -226,9 +226,8 @@ impl<C: Connect> HttpFetcher<C> {
     // What is told over a new wire. The error is want of memory.
     fn told_over(&mut self, wire: &mut C::Wire, at: &Address) -> Result<Heard, AllocError>
         ensures same { self.new ≡ self.old }
-        ensures told { IfOk result (λ h. ComesOver C.Wire.incoming C.Wire.outgoing C.Wire.failed self.old.robots self.old.keeps at.now wire.old
-            (outcome_told self.old.robots at.now h.told) (body_told h.told)) }
-        ensures serves { IfOk result (λ h. IsTrue h.serves → LeavesUsable C.Wire.incoming C.Wire.outgoing self.old.keeps at.now wire.old wire.new) }
+        ensures told { IfOk result (λ h. ComesOver C.Wire.Wire (question_of self.old at.now) wire.old (answer_told self.old.robots at.now h.told)) }
+        ensures serves { IfOk result (λ h. IsTrue h.serves → LeavesUsable C.Wire.Wire (question_of self.old at.now) wire.old wire.new) }
         // Nothing is written behind the request.
         ensures sent { Appends (C.Wire.outgoing wire.old) (C.Wire.outgoing wire.new) (request_by self.old.keeps at.now)
             ⊎ HasRisen (C.Wire.failed wire.old) (C.Wire.failed wire.new) }
@@ -245,10 +244,9 @@ impl<C: Connect> HttpFetcher<C> {
     // What is told over a wire that served before: none where no byte came. The error is want of memory.
     fn told_again(&mut self, wire: &mut C::Wire, at: &Address) -> Result<Option<Heard>, AllocError>
         ensures same { self.new ≡ self.old }
-        ensures silent { IfOk result (λ o. IfNone o (IsSilentOn C.Wire.incoming C.Wire.outgoing C.Wire.failed self.old.keeps at.now wire.old)) }
-        ensures told { IfOk result (λ o. IfSome o (λ h. ComesOver C.Wire.incoming C.Wire.outgoing C.Wire.failed self.old.robots self.old.keeps at.now wire.old
-            (outcome_told self.old.robots at.now h.told) (body_told h.told))) }
-        ensures serves { IfOk result (λ o. IfSome o (λ h. IsTrue h.serves → LeavesUsable C.Wire.incoming C.Wire.outgoing self.old.keeps at.now wire.old wire.new)) }
+        ensures silent { IfOk result (λ o. IfNone o (IsSilentOn C.Wire.Wire (question_of self.old at.now) wire.old)) }
+        ensures told { IfOk result (λ o. IfSome o (λ h. ComesOver C.Wire.Wire (question_of self.old at.now) wire.old (answer_told self.old.robots at.now h.told))) }
+        ensures serves { IfOk result (λ o. IfSome o (λ h. IsTrue h.serves → LeavesUsable C.Wire.Wire (question_of self.old at.now) wire.old wire.new)) }
     {
         match self.write(wire, at) {
             Ok(()) => self.read_again(wire),
@@ -287,11 +285,8 @@ impl<C: Connect> HttpFetcher<C> {
         ensures one { OnOk result (C.made self.new.connect ≡ counted (C.made self.old.connect) 1) }
         ensures most { C.made self.new.connect ≤ C.made self.old.connect + 1 }
         ensures taken { C.taken self.new.connect ≡ C.taken self.old.connect }
-        ensures told { IfOk result (λ t.
-            IsUnmade (C.refused self.old.connect) (C.refused self.new.connect) (outcome_told self.old.robots at.now t) (body_told t)
-            ⊎ IsToldByWire (C.gives self.old.connect) C.Wire.incoming C.Wire.outgoing C.Wire.failed self.old.robots self.old.keeps at.now
-            (outcome_told self.old.robots at.now t) (body_told t)) }
-        ensures stands { StandsBy (C.stands self.old.connect) (C.stands self.new.connect) C.again C.Wire.incoming C.Wire.outgoing self.old.keeps at.now }
+        ensures told { IfOk result (λ t. IsToldAnew C.Connect C.Wire.Wire self.old self.new at.now (answer_told self.old.robots at.now t)) }
+        ensures stands { StandsBy C.Connect C.Wire.Wire self.old self.new at.now }
     {
         match self.connect.connect(origin) {
             Ok(mut wire) => match self.told_over(&mut wire, at) {
@@ -320,13 +315,9 @@ impl<C: Connect> HttpFetcher<C> {
         ensures made { C.made self.new.connect ≡ C.made self.old.connect }
         ensures refused { C.refused self.new.connect ≡ C.refused self.old.connect }
         ensures gives { IfOk result (λ o. IfNone o (Stays (C.gives self.old.connect) (C.gives self.new.connect))) }
-        ensures silent { IfOk result (λ o. IfNone o ((C.taken self.new.connect ≡ C.taken self.old.connect)
-            ⊎ ((C.taken self.new.connect ≡ counted (C.taken self.old.connect) 1)
-            × (self.old.keeps ≡ true) × IsSilent (C.stands self.old.connect) C.Wire.incoming C.Wire.outgoing C.Wire.failed at.now))) }
-        ensures told { IfOk result (λ o. IfSome o (λ t. (C.taken self.new.connect ≡ counted (C.taken self.old.connect) 1)
-            × (self.old.keeps ≡ true) × IsToldByWire (C.stands self.old.connect) C.Wire.incoming C.Wire.outgoing C.Wire.failed self.old.robots true at.now
-            (outcome_told self.old.robots at.now t) (body_told t))) }
-        ensures stands { StandsBy (C.stands self.old.connect) (C.stands self.new.connect) C.again C.Wire.incoming C.Wire.outgoing self.old.keeps at.now }
+        ensures silent { IfOk result (λ o. IfNone o (IsUntold C.Connect C.Wire.Wire self.old self.new at.now)) }
+        ensures told { IfOk result (λ o. IfSome o (λ t. IsToldAgain C.Connect C.Wire.Wire self.old self.new at.now (answer_told self.old.robots at.now t))) }
+        ensures stands { StandsBy C.Connect C.Wire.Wire self.old self.new at.now }
     {
         if !self.keeps {
             return Ok(None);
@@ -359,10 +350,8 @@ impl<C: Connect> HttpFetcher<C> {
         ensures notes { self.new.notes ≡ self.old.notes }
         ensures one { self.old.keeps ≡ false → OnOk result (C.made self.new.connect ≡ counted (C.made self.old.connect) 1) }
         ensures most { C.made self.new.connect ≤ C.made self.old.connect + 1 }
-        ensures told { IfOk result (λ t. IsToldByTries (C.stands self.old.connect) (C.gives self.old.connect) C.Wire.incoming C.Wire.outgoing C.Wire.failed
-            (tries_by C.made C.refused C.taken self.old.connect) (tries_by C.made C.refused C.taken self.new.connect)
-            self.old.robots self.old.keeps at.now (outcome_told self.old.robots at.now t) (body_told t)) }
-        ensures stands { StandsBy (C.stands self.old.connect) (C.stands self.new.connect) C.again C.Wire.incoming C.Wire.outgoing self.old.keeps at.now }
+        ensures told { IfOk result (λ t. IsToldByTries C.Connect C.Wire.Wire self.old self.new at.now (answer_told self.old.robots at.now t)) }
+        ensures stands { StandsBy C.Connect C.Wire.Wire self.old self.new at.now }
     {
         let origin = Origin::of(at)?;
         match self.ask_again(&origin, at)? {
@@ -380,10 +369,8 @@ impl<C: Connect> HttpFetcher<C> {
         ensures notes { self.new.notes ≡ self.old.notes }
         ensures one { self.old.keeps ≡ false → OnOk result (C.made self.new.connect ≡ counted (C.made self.old.connect) 1) }
         ensures most { C.made self.new.connect ≤ C.made self.old.connect + 1 }
-        ensures told { IfOk result (λ a. IsToldByTries (C.stands self.old.connect) (C.gives self.old.connect) C.Wire.incoming C.Wire.outgoing C.Wire.failed
-            (tries_by C.made C.refused C.taken self.old.connect) (tries_by C.made C.refused C.taken self.new.connect)
-            self.old.robots self.old.keeps at.now a.outcome a.body) }
-        ensures stands { StandsBy (C.stands self.old.connect) (C.stands self.new.connect) C.again C.Wire.incoming C.Wire.outgoing self.old.keeps at.now }
+        ensures told { IfOk result (IsToldByTries C.Connect C.Wire.Wire self.old self.new at.now) }
+        ensures stands { StandsBy C.Connect C.Wire.Wire self.old self.new at.now }
     {
         let told = self.exchange(at)?;
         let answer = told.into_answer(self.alloc, at, self.robots)?;
@@ -398,11 +385,9 @@ impl<C: Connect> HttpFetcher<C> {
         ensures is_recording { self.new.is_recording ≡ self.old.is_recording }
         ensures one { self.old.keeps ≡ false → OnOk result (C.made self.new.connect ≡ counted (C.made self.old.connect) 1) }
         ensures most { C.made self.new.connect ≤ C.made self.old.connect + 1 }
-        ensures told { IfOk result (λ a. IsToldByTries (C.stands self.old.connect) (C.gives self.old.connect) C.Wire.incoming C.Wire.outgoing C.Wire.failed
-            (tries_by C.made C.refused C.taken self.old.connect) (tries_by C.made C.refused C.taken self.new.connect)
-            self.old.robots self.old.keeps at.now a.outcome a.body) }
-        ensures stands { StandsBy (C.stands self.old.connect) (C.stands self.new.connect) C.again C.Wire.incoming C.Wire.outgoing self.old.keeps at.now }
-        ensures noted { IfOk result (λ a. NotesPage true self.old.robots at.now a.outcome a.body self.old.notes self.new.notes) }
+        ensures told { IfOk result (IsToldByTries C.Connect C.Wire.Wire self.old self.new at.now) }
+        ensures stands { StandsBy C.Connect C.Wire.Wire self.old self.new at.now }
+        ensures noted { IfOk result (λ a. NotesPage self.old.robots at.now a self.old.notes self.new.notes) }
         ensures unnoted { OnErr result (self.new.notes ≡ self.old.notes) }
     {
         let name = at.try_clone()?;
@@ -421,14 +406,12 @@ impl<C: Connect> HttpFetcher<C> {
         ensures is_recording { self.new.is_recording ≡ self.old.is_recording }
         ensures notes { self.new.notes ≡ self.old.notes }
         ensures few { C.made self.new.connect ≤ C.made self.old.connect + (max_redirects + 1) }
-        ensures stands { StandsBehind (C.stands self.old.connect) (C.stands self.new.connect) C.again C.Wire.incoming C.Wire.outgoing self.old.keeps }
+        ensures stands { StandsBehind C.Connect C.Wire.Wire self.old self.new }
         ensures count { self.old.keeps ≡ false → IfOk result (λ found. CountsHops (C.made self.old.connect) (C.made self.new.connect) of.now found.1) }
         ensures hops { self.old.keeps ≡ false → IfOk result (λ found. C.made self.new.connect ≡ counted (C.made self.old.connect) (length found.0.hops)) }
         ensures of { IfOk result (λ found. found.0.of ≡ of.now) }
         ensures rules { IfOk result (λ found. found.1 ≡ rules_of_hops found.0.hops) }
-        ensures chain { IfOk result (λ found. IsChain
-            (IsGiven C.stands C.gives (tries_by C.made C.refused C.taken) C.Wire.incoming C.Wire.outgoing C.Wire.failed self.old.robots self.old.keeps)
-            max_redirects (of.now ++ codes "/robots.txt") found.1) }
+        ensures chain { IfOk result (λ found. IsChain (IsGiven C.Connect C.Wire.Wire self.old) max_redirects (of.now ++ codes "/robots.txt") found.1) }
     {
         let alloc = self.alloc;
         let origin = of.try_clone()?;
@@ -458,12 +441,10 @@ impl<C: Connect> HttpFetcher<C> {
         ensures keeps { self.new.keeps ≡ self.old.keeps }
         ensures is_recording { self.new.is_recording ≡ self.old.is_recording }
         ensures few { C.made self.new.connect ≤ C.made self.old.connect + (max_redirects + 1) }
-        ensures stands { StandsBehind (C.stands self.old.connect) (C.stands self.new.connect) C.again C.Wire.incoming C.Wire.outgoing self.old.keeps }
+        ensures stands { StandsBehind C.Connect C.Wire.Wire self.old self.new }
         ensures count { self.old.keeps ≡ false → IfOk result (CountsHops (C.made self.old.connect) (C.made self.new.connect) of.now) }
-        ensures chain { IfOk result (IsChain
-            (IsGiven C.stands C.gives (tries_by C.made C.refused C.taken) C.Wire.incoming C.Wire.outgoing C.Wire.failed self.old.robots self.old.keeps)
-            max_redirects (of.now ++ codes "/robots.txt")) }
-        ensures noted { IfOk result (λ r. NotesChain self.old.is_recording of.now r self.old.notes self.new.notes) }
+        ensures chain { IfOk result (IsChain (IsGiven C.Connect C.Wire.Wire self.old) max_redirects (of.now ++ codes "/robots.txt")) }
+        ensures noted { IfOk result (λ r. MatchBool self.old.is_recording (NotesChain of.now r self.old.notes self.new.notes) (self.new.notes ≡ self.old.notes)) }
         ensures unnoted { OnErr result (self.new.notes ≡ self.old.notes) }
     {
         let (hops, rules) = self.follow(of)?;
@@ -498,14 +479,12 @@ impl<C: Connect> Fetcher for HttpFetcher<C> {
         // The answer is what came over one connection behind its own request. Where none are kept, one is asked for.
         ensures one { self.old.keeps ≡ false → OnOk result (C.made self.new.connect ≡ counted (C.made self.old.connect) 1) }
         ensures most { C.made self.new.connect ≤ C.made self.old.connect + 1 }
-        ensures told { IfOk result (λ a. IsToldByTries (C.stands self.old.connect) (C.gives self.old.connect) C.Wire.incoming C.Wire.outgoing C.Wire.failed
-            (tries_by C.made C.refused C.taken self.old.connect) (tries_by C.made C.refused C.taken self.new.connect)
-            self.old.robots self.old.keeps at.now a.outcome a.body) }
-        ensures stands { StandsBy (C.stands self.old.connect) (C.stands self.new.connect) C.again C.Wire.incoming C.Wire.outgoing self.old.keeps at.now }
+        ensures told { IfOk result (IsToldByTries C.Connect C.Wire.Wire self.old self.new at.now) }
+        ensures stands { StandsBy C.Connect C.Wire.Wire self.old self.new at.now }
         ensures may { IfOk result (λ a. MayAnswer self.old.robots at.now a.outcome a.body) }
         // A recording fetcher adds one note, which says the answer given.
         ensures is_recording { self.new.is_recording ≡ self.old.is_recording }
-        ensures noted { IfOk result (λ a. NotesPage self.old.is_recording self.old.robots at.now a.outcome a.body self.old.notes self.new.notes) }
+        ensures noted { IfOk result (λ a. MatchBool self.old.is_recording (NotesPage self.old.robots at.now a self.old.notes self.new.notes) (self.new.notes ≡ self.old.notes)) }
         ensures unnoted { OnErr result (self.new.notes ≡ self.old.notes) }
     {
         self.asks.push(Ask::Page(at.try_clone()?))?;
@@ -525,15 +504,13 @@ impl<C: Connect> Fetcher for HttpFetcher<C> {
         // The rules are those at the end of the chain of redirects that begins at the origin's file, with a connection for each
         // of its answers.
         ensures few { C.made self.new.connect ≤ C.made self.old.connect + (max_redirects + 1) }
-        ensures stands { StandsBehind (C.stands self.old.connect) (C.stands self.new.connect) C.again C.Wire.incoming C.Wire.outgoing self.old.keeps }
+        ensures stands { StandsBehind C.Connect C.Wire.Wire self.old self.new }
         ensures count { self.old.keeps ≡ false → IfOk result (CountsHops (C.made self.old.connect) (C.made self.new.connect) of.now) }
-        ensures chain { IfOk result (IsChain
-            (IsGiven C.stands C.gives (tries_by C.made C.refused C.taken) C.Wire.incoming C.Wire.outgoing C.Wire.failed self.old.robots self.old.keeps)
-            max_redirects (of.now ++ codes "/robots.txt")) }
+        ensures chain { IfOk result (IsChain (IsGiven C.Connect C.Wire.Wire self.old) max_redirects (of.now ++ codes "/robots.txt")) }
         ensures may { IfOk result (MayRule self.old.robots of.now) }
         // A recording fetcher adds one note, which says the rules given.
         ensures is_recording { self.new.is_recording ≡ self.old.is_recording }
-        ensures noted { IfOk result (λ r. NotesChain self.old.is_recording of.now r self.old.notes self.new.notes) }
+        ensures noted { IfOk result (λ r. MatchBool self.old.is_recording (NotesChain of.now r self.old.notes self.new.notes) (self.new.notes ≡ self.old.notes)) }
         ensures unnoted { OnErr result (self.new.notes ≡ self.old.notes) }
     {
         self.asks.push(Ask::Rules(of.try_clone()?))?;
@@ -562,10 +539,8 @@ impl<C: Connect> Telling for HttpFetcher<C> {
         // What is told came over one connection behind its own request. Where none are kept, one is asked for. Nothing is noted.
         ensures one { self.old.keeps ≡ false → OnOk result (C.made self.new.connect ≡ counted (C.made self.old.connect) 1) }
         ensures most { C.made self.new.connect ≤ C.made self.old.connect + 1 }
-        ensures told { IfOk result (λ t. IsToldByTries (C.stands self.old.connect) (C.gives self.old.connect) C.Wire.incoming C.Wire.outgoing C.Wire.failed
-            (tries_by C.made C.refused C.taken self.old.connect) (tries_by C.made C.refused C.taken self.new.connect)
-            self.old.robots self.old.keeps at.now (outcome_told self.old.robots at.now t) (body_told t)) }
-        ensures stands { StandsBy (C.stands self.old.connect) (C.stands self.new.connect) C.again C.Wire.incoming C.Wire.outgoing self.old.keeps at.now }
+        ensures told { IfOk result (λ t. IsToldByTries C.Connect C.Wire.Wire self.old self.new at.now (answer_told self.old.robots at.now t)) }
+        ensures stands { StandsBy C.Connect C.Wire.Wire self.old self.new at.now }
         ensures may { IfOk result (λ t. MayAnswer self.old.robots at.now (outcome_told self.old.robots at.now t) (body_told t)) }
         ensures is_recording { self.new.is_recording ≡ self.old.is_recording }
         ensures notes { self.new.notes ≡ self.old.notes }
@@ -585,11 +560,9 @@ impl<C: Connect> Telling for HttpFetcher<C> {
         // The rules are those at the end of the chain of redirects that begins at the origin's file. Nothing is noted.
         ensures of { IfOk result (λ found. found.of ≡ of.now) }
         ensures few { C.made self.new.connect ≤ C.made self.old.connect + (max_redirects + 1) }
-        ensures stands { StandsBehind (C.stands self.old.connect) (C.stands self.new.connect) C.again C.Wire.incoming C.Wire.outgoing self.old.keeps }
+        ensures stands { StandsBehind C.Connect C.Wire.Wire self.old self.new }
         ensures count { self.old.keeps ≡ false → IfOk result (λ found. C.made self.new.connect ≡ counted (C.made self.old.connect) (length found.hops)) }
-        ensures chain { IfOk result (λ found. IsChain
-            (IsGiven C.stands C.gives (tries_by C.made C.refused C.taken) C.Wire.incoming C.Wire.outgoing C.Wire.failed self.old.robots self.old.keeps)
-            max_redirects (of.now ++ codes "/robots.txt") (rules_of_hops found.hops)) }
+        ensures chain { IfOk result (λ found. IsChain (IsGiven C.Connect C.Wire.Wire self.old) max_redirects (of.now ++ codes "/robots.txt") (rules_of_hops found.hops)) }
         ensures may { IfOk result (λ found. MayRule self.old.robots of.now (rules_of_hops found.hops)) }
         ensures is_recording { self.new.is_recording ≡ self.old.is_recording }
         ensures notes { self.new.notes ≡ self.old.notes }

@@ -1,10 +1,10 @@
 -- What a fetcher with a journal does with what it is told: the journal has it, or the fetcher keeps it.
-use Rattle.std.specs.Prelude.{◌≡◌, ◌⊎◌, ℕ, Bool, true, false, List, [], ◌∷◌, ◌++◌, Option}
+use Rattle.std.specs.Prelude.{◌≡◌, ◌⊎◌, ℕ, Bool, List, [], ◌∷◌, ◌++◌, Option}
 use Rattle.std.specs.Io.KnownBytes.{Appends}
 use Rattle.streams.specs.Streams.{AppendsFront}
 use Rattle.address.specs.Address.{AddressText, OriginText}
 use Rattle.robots_rules.specs.Access.{RuleSetValue}
-use Rattle.fetcher.specs.declared.outcome.Outcome.{Outcome}
+use Rattle.fetcher.specs.declared.answer.Answer.{Answer}
 use Rattle.answer_notes.specs.Tellings.{outcome_told, body_told}
 use Rattle.answer_notes.specs.HopChains.{HopValue, rules_of_hops}
 use Rattle.answer_notes.specs.declared.told.Told.{Told}
@@ -29,14 +29,12 @@ IsHanded contents note old new =
 abbrev pub IsStill : {F J : Type 0} → Journaling F J → Journaling F J → Type 0
 IsStill old new = (new.journal ≡ old.journal) × (new.kept ≡ old.kept)
 
--- where answers are saved a note of this address was handed over, which says this outcome with this body; else none was
-abbrev pub HandsPage : {F J : Type 0} → (J → Option (List ℕ)) → Bool → Bool → AddressText → Outcome → List ℕ → Journaling F J → Journaling F J → Type 0
-HandsPage contents true robots at x body old new =
-    (told : Told) × IsHanded contents (Page at told) old new × (x ≡ outcome_told robots at told) × (body ≡ body_told told)
-HandsPage contents false robots at x body old new = IsStill old new
+-- a note of this address was handed over, which says this answer
+abbrev pub HandsPage : {F J : Type 0} → (J → Option (List ℕ)) → Bool → AddressText → Answer → Journaling F J → Journaling F J → Type 0
+HandsPage contents robots at answer old new =
+    (told : Told) × IsHanded contents (Page at told) old new × (answer.outcome ≡ outcome_told robots at told) × (answer.body ≡ body_told told)
 
--- where answers are saved a note of this origin was handed over, which says these rules; else none was
-abbrev pub HandsChain : {F J : Type 0} → (J → Option (List ℕ)) → Bool → OriginText → RuleSetValue → Journaling F J → Journaling F J → Type 0
-HandsChain contents true of rules old new =
+-- a note of this origin was handed over, which says these rules
+abbrev pub HandsChain : {F J : Type 0} → (J → Option (List ℕ)) → OriginText → RuleSetValue → Journaling F J → Journaling F J → Type 0
+HandsChain contents of rules old new =
     (hops : List HopValue) × IsHanded contents (Chain (record { of = of; hops = hops })) old new × (rules ≡ rules_of_hops hops)
-HandsChain contents false of rules old new = IsStill old new

@@ -1,11 +1,11 @@
 //! A fetcher whose answers a journal has.
-ghost use Rattle.std.specs.Prelude.{◌≡◌, ◌∷◌, ◌++◌, [], true, false, IfOk, OnOk, OnErr};
+ghost use Rattle.std.specs.Prelude.{◌≡◌, ◌∷◌, ◌++◌, [], true, false, IfOk, OnOk, OnErr, MatchBool};
 ghost use Rattle.std.specs.Io.KnownBytes.{Appends};
 ghost use Rattle.fetcher.specs.declared.fetcher.Ask.TheVariants as ask;
 ghost use Rattle.fetcher.specs.Logs.{GainedAtMost};
 ghost use Rattle.site_records.specs.WrittenEntries.{written_note};
 ghost use Rattle.streams.specs.Streams.{AppendsFront};
-ghost use Rattle.record_journal.specs.Handed.{HandsPage, HandsChain, IsHanded};
+ghost use Rattle.record_journal.specs.Handed.{HandsPage, HandsChain, IsHanded, IsStill};
 
 use crate::journal::Journal;
 use address::{Address, Origin};
@@ -109,7 +109,7 @@ impl<F: Telling, J: Journal> Journaled<F, J> {
         ensures told { IfOk result (λ a. F.says (F.site self.old.inner) at.now a.outcome a.body) }
         ensures asked { OnOk result (F.log self.new.inner ≡ F.log self.old.inner ++ ask.Page at.now ∷ []) }
         ensures refused { OnErr result (GainedAtMost (F.log self.old.inner) (F.log self.new.inner) (ask.Page at.now)) }
-        ensures handed { IfOk result (λ a. HandsPage J.contents true (F.honours self.old.inner) at.now a.outcome a.body self.old self.new) }
+        ensures handed { IfOk result (λ a. HandsPage J.contents (F.honours self.old.inner) at.now a self.old self.new) }
         ensures unkept { OnErr result (self.new.kept ≡ self.old.kept) }
     {
         let name = at.try_clone()?;
@@ -127,7 +127,7 @@ impl<F: Telling, J: Journal> Journaled<F, J> {
         ensures told { IfOk result (λ r. F.rules (F.site self.old.inner) of.now r) }
         ensures asked { OnOk result (F.log self.new.inner ≡ F.log self.old.inner ++ ask.Rules of.now ∷ []) }
         ensures refused { OnErr result (GainedAtMost (F.log self.old.inner) (F.log self.new.inner) (ask.Rules of.now)) }
-        ensures handed { IfOk result (λ r. HandsChain J.contents true of.now r self.old self.new) }
+        ensures handed { IfOk result (λ r. HandsChain J.contents of.now r self.old self.new) }
         ensures unkept { OnErr result (self.new.kept ≡ self.old.kept) }
     {
         let hops = self.inner.ask_hops(of)?;
@@ -155,7 +155,7 @@ impl<F: Telling, J: Journal> Fetcher for Journaled<F, J> {
         ensures refused { OnErr result (GainedAtMost (F.log self.old.inner) (F.log self.new.inner) (ask.Page at.now)) }
         // Where answers are saved, what was told is handed over before it is answered.
         ensures is_recording { self.new.is_recording ≡ self.old.is_recording }
-        ensures handed { IfOk result (λ a. HandsPage J.contents self.old.is_recording (F.honours self.old.inner) at.now a.outcome a.body self.old self.new) }
+        ensures handed { IfOk result (λ a. MatchBool self.old.is_recording (HandsPage J.contents (F.honours self.old.inner) at.now a self.old self.new) (IsStill self.old self.new)) }
         ensures unkept { OnErr result (self.new.kept ≡ self.old.kept) }
     {
         if self.is_recording {
@@ -171,7 +171,7 @@ impl<F: Telling, J: Journal> Fetcher for Journaled<F, J> {
         ensures refused { OnErr result (GainedAtMost (F.log self.old.inner) (F.log self.new.inner) (ask.Rules of.now)) }
         // Where answers are saved, what was told is handed over before it is answered.
         ensures is_recording { self.new.is_recording ≡ self.old.is_recording }
-        ensures handed { IfOk result (λ r. HandsChain J.contents self.old.is_recording of.now r self.old self.new) }
+        ensures handed { IfOk result (λ r. MatchBool self.old.is_recording (HandsChain J.contents of.now r self.old self.new) (IsStill self.old self.new)) }
         ensures unkept { OnErr result (self.new.kept ≡ self.old.kept) }
     {
         if self.is_recording {

@@ -7,27 +7,39 @@ use frontier_lock::{Done, FrontierLock, Held, Refused};
 use std::alloc::Global;
 use std::process::Abort;
 use std::sync::Wait;
-use std::sync::atomic::{AtomicU64, Ordering};
+use std::sync::atomic::{AtomicU64, AtomicUsize, Ordering};
 use std::thread;
 use std::thread::Threads;
 
-/// A frontier from `http://h/` behind a lock, one hop deep, without robots rules.
-fn locked(rt: &impl Abort, alloc: Global) -> FrontierLock {
+/// A frontier from `http://h/`, one hop deep, without robots rules, and two permits at a time.
+fn opened(rt: &impl Abort, alloc: Global) -> Frontier {
     let start = Address::read(alloc, "http://h/").expect(rt, "an address");
     if start.is_robots_file() {
         panic!(rt; "a robots file");
     }
     let plan = Plan::unfiltered(alloc, start, Limit::AtMost(1), 10);
-    FrontierLock::new(Frontier::open(alloc, plan).expect(rt, "memory"))
+    Frontier::open(alloc, plan).expect(rt, "memory")
+}
+
+/// That frontier behind a lock.
+fn locked(rt: &impl Abort, alloc: Global) -> FrontierLock<'static> {
+    FrontierLock::new(opened(rt, alloc))
+}
+
+/// A page with a link to each of these.
+fn page_to(rt: &impl Abort, alloc: Global, links: &[&str]) -> Outcome {
+    let mut edges = Vec::new(alloc);
+    for link in links {
+        let target = Address::read(alloc, link).expect(rt, "an address");
+        let kind = EdgeKind::Link;
+        edges.push(Edge { target, kind }).expect(rt, "memory");
+    }
+    Outcome::Page(200, Edges::new(edges).expect(rt, "memory"))
 }
 
 /// A page with one link, to `http://h/a`.
 fn page(rt: &impl Abort, alloc: Global) -> Outcome {
-    let target = Address::read(alloc, "http://h/a").expect(rt, "an address");
-    let kind = EdgeKind::Link;
-    let mut edges = Vec::new(alloc);
-    edges.push(Edge { target, kind }).expect(rt, "memory");
-    Outcome::Page(200, Edges::new(edges).expect(rt, "memory"))
+    page_to(rt, alloc, &["http://h/a"])
 }
 
 /// What a worker is told; a permit is given up.
@@ -67,6 +79,11 @@ fn told_now<R: Abort + Wait>(rt: &R, lock: &FrontierLock) -> Told {
 /// The permit for a page that the worker gets.
 fn page_permit<R: Abort + Wait>(rt: &R, lock: &FrontierLock, worker: u32) -> Permit {
     let work = lock.next(rt, worker).expect(rt, "memory");
+    permit_of(rt, lock, work)
+}
+
+/// The permit for the page that a worker is to ask for.
+fn permit_of<R: Abort + Wait>(rt: &R, lock: &FrontierLock, work: Work) -> Permit {
     let Work::Page(permit) = work else {
         tell(rt, lock, work);
         panic!(rt; "no page");
@@ -74,30 +91,53 @@ fn page_permit<R: Abort + Wait>(rt: &R, lock: &FrontierLock, worker: u32) -> Per
     permit
 }
 
-/// Hands the page's outcome over; one that isn't taken is given up.
-fn give(rt: &impl Wait, lock: &FrontierLock, permit: Permit, outcome: Outcome) {
-    let Err(refused) = lock.give(rt, Done::Page(permit, outcome)) else {
-        return;
-    };
+/// The permit of an answer that wasn't taken.
+fn held_of(refused: Refused) -> Held {
     let Refused { done, fault: _ } = refused;
-    let held = match done {
+    match done {
         Done::Page(permit, _) => Held::Page(permit),
         Done::Rules(permit, _) => Held::Rules(permit),
-    };
-    lock.halt(rt, Some(held), Cause::Mismatch);
+    }
+}
+
+/// Hands the page's outcome over; one that isn't taken is given up.
+fn give(rt: &impl Wait, lock: &FrontierLock, permit: Permit, outcome: Outcome) {
+    if let Err(refused) = lock.give(rt, Done::Page(permit, outcome)) {
+        lock.halt(rt, Some(held_of(refused)), Cause::Mismatch);
+    }
+}
+
+/// Hands the page's outcome over for worker 0's next work; one that isn't taken is given up.
+fn exchange<R: Abort + Wait>(
+    rt: &R,
+    lock: &FrontierLock,
+    permit: Permit,
+    outcome: Outcome,
+) -> Work {
+    match lock.give_and_take(rt, 0, Done::Page(permit, outcome)) {
+        Ok(work) => work,
+        Err(refused) => {
+            lock.halt(rt, Some(held_of(refused)), Cause::Mismatch);
+            panic!(rt; "a stray permit");
+        }
+    }
+}
+
+/// How many wait, as who looks on sees it.
+fn seen(waiting: &AtomicUsize) -> usize {
+    waiting.load(Ordering::Relaxed)
 }
 
 /// Has the lock's two pages asked for and answered by worker 0, and asserts what is told and what waits between.
-fn go_through<R: Abort + Wait>(rt: &R, alloc: Global, lock: &FrontierLock) {
-    assert!(rt; lock.waiting() == 1);
+fn go_through<R: Abort + Wait>(rt: &R, alloc: Global, lock: &FrontierLock, waiting: &AtomicUsize) {
     let permit = page_permit(rt, lock, 0);
-    assert!(rt; lock.waiting() == 0);
+    assert!(rt; seen(waiting) == 0);
     give(rt, lock, permit, page(rt, alloc));
     assert!(rt; told_now(rt, lock) == Told::Spread);
-    assert!(rt; lock.waiting() == 1);
+    assert!(rt; seen(waiting) == 1);
     assert!(rt; lock.spread(rt).is_ok());
     let permit = page_permit(rt, lock, 0);
-    assert!(rt; lock.waiting() == 0);
+    assert!(rt; seen(waiting) == 0);
     assert!(rt; permit.address().as_str() == "http://h/a");
     assert!(rt; told_now(rt, lock) == Told::Busy);
     give(rt, lock, permit, Outcome::Leaf(200));
@@ -119,9 +159,68 @@ fn is_left_quiet(lock: FrontierLock) -> bool {
 
 #[test]
 fn the_edges_of_a_page_are_offered(rt: HostRuntime) {
-    let lock = locked(&rt, rt.alloc());
-    go_through(&rt, rt.alloc(), &lock);
+    let waiting = AtomicUsize::new(1);
+    let lock = FrontierLock::watched(opened(&rt, rt.alloc()), Some(&waiting));
+    go_through(&rt, rt.alloc(), &lock, &waiting);
     assert!(rt; is_left_quiet(lock));
+}
+
+/// Has the lock's pages asked for by worker 0, each answer in exchange for the next.
+fn exchange_all<R: Abort + Wait>(
+    rt: &R,
+    alloc: Global,
+    lock: &FrontierLock,
+    waiting: &AtomicUsize,
+) {
+    let permit = page_permit(rt, lock, 0);
+    let links = page_to(rt, alloc, &["http://h/a", "http://h/b"]);
+    let work = exchange(rt, lock, permit, links);
+    let permit = permit_of(rt, lock, work);
+    assert!(rt; permit.address().as_str() == "http://h/a");
+    assert!(rt; seen(waiting) == 1);
+    let work = exchange(rt, lock, permit, Outcome::Leaf(200));
+    let permit = permit_of(rt, lock, work);
+    assert!(rt; permit.address().as_str() == "http://h/b");
+    assert!(rt; seen(waiting) == 0);
+    let work = exchange(rt, lock, permit, Outcome::Leaf(200));
+    assert!(rt; tell(rt, lock, work) == Told::Quiet);
+}
+
+#[test]
+fn an_answer_is_exchanged_for_the_next_page(rt: HostRuntime) {
+    let waiting = AtomicUsize::new(1);
+    let lock = FrontierLock::watched(opened(&rt, rt.alloc()), Some(&waiting));
+    exchange_all(&rt, rt.alloc(), &lock, &waiting);
+    assert!(rt; is_left_quiet(lock));
+}
+
+/// Hands an answer to a lock that didn't give its permit, and then to the one that did.
+fn go_astray<R: Abort + Wait>(rt: &R, own: &FrontierLock, other: &FrontierLock) {
+    let permit = page_permit(rt, own, 0);
+    match other.give_and_take(rt, 0, Done::Page(permit, Outcome::Leaf(200))) {
+        Ok(work) => {
+            tell(rt, other, work);
+            panic!(rt; "a stray permit was taken");
+        }
+        Err(refused) => match held_of(refused) {
+            Held::Page(permit) => {
+                let work = exchange(rt, own, permit, Outcome::Leaf(200));
+                assert!(rt; tell(rt, own, work) == Told::Quiet);
+            }
+            held => own.halt(rt, Some(held), Cause::Mismatch),
+        },
+    }
+    assert!(rt; told_now(rt, own) == Told::Quiet);
+    assert!(rt; told_now(rt, other) == Told::Permit);
+}
+
+#[test]
+fn a_stray_answer_comes_back(rt: HostRuntime) {
+    let own = locked(&rt, rt.alloc());
+    let other = locked(&rt, rt.alloc());
+    go_astray(&rt, &own, &other);
+    drop(own);
+    drop(other);
 }
 
 /// Stops twice while worker 0 holds the permit for the start, for another cause each time.
@@ -156,12 +255,25 @@ fn the_first_cause_stops_all_workers(rt: HostRuntime) {
 /// How far the workers are: one holds a permit, and so many more ask for work.
 const HELD: u64 = 1;
 
+/// Beside the one that holds a permit, one other asks for work.
+const ASKED: u64 = 2;
+
+/// That other was told what to do.
+const TOLD: u64 = 3;
+
 /// Lets other threads run until the workers are so far.
 fn wait_until(progress: &AtomicU64, reached: u64) {
     for _ in 0..1_000_000u32 {
         if progress.load(Ordering::SeqCst) >= reached {
             return;
         }
+        thread::yield_now();
+    }
+}
+
+/// Lets other threads run a while.
+fn let_others_run() {
+    for _ in 0..1_000u32 {
         thread::yield_now();
     }
 }
@@ -185,9 +297,7 @@ fn end_permit<R: Abort + Wait>(
     let permit = page_permit(rt, lock, 0);
     progress.store(HELD, Ordering::SeqCst);
     wait_until(progress, HELD.saturating_add(others));
-    for _ in 0..1_000u32 {
-        thread::yield_now();
-    }
+    let_others_run();
     match answer {
         Some(outcome) => give(rt, lock, permit, outcome),
         None => lock.halt(rt, Some(Held::Page(permit)), Cause::Memory),
@@ -231,4 +341,74 @@ fn a_worker_sleeps_until_another_is_done(rt: HostRuntime) {
     assert!(rt; woken(&rt, alloc, Some(page(&rt, alloc))) == Told::Spread);
     assert!(rt; woken(&rt, alloc, Some(Outcome::Leaf(200))) == Told::Quiet);
     assert!(rt; woken(&rt, alloc, None) == Told::Stopped(Cause::Memory));
+}
+
+/// Has worker 0 exchange the start for its next page a while after worker 1 asked for work, and says whether worker 1 is
+/// told anything before that page is answered too. Where it `is_due` to be told, that is waited for.
+fn exchange_late<R: Abort + Wait>(
+    rt: &R,
+    alloc: Global,
+    lock: &FrontierLock,
+    progress: &AtomicU64,
+    links: &[&str],
+    is_due: bool,
+) -> bool {
+    let permit = page_permit(rt, lock, 0);
+    progress.store(HELD, Ordering::SeqCst);
+    wait_until(progress, ASKED);
+    let_others_run();
+    let work = exchange(rt, lock, permit, page_to(rt, alloc, links));
+    let Work::Page(permit) = work else {
+        tell(rt, lock, work);
+        return false;
+    };
+    if is_due {
+        wait_until(progress, TOLD);
+    }
+    let_others_run();
+    let is_told = progress.load(Ordering::SeqCst) == TOLD;
+    let work = exchange(rt, lock, permit, Outcome::Leaf(200));
+    tell(rt, lock, work);
+    is_told
+}
+
+/// What worker 1 is told that slept while worker 0 exchanged the start for its next page, and whether it was told before
+/// that page was answered too.
+fn told_by<R: Abort + Threads + Wait + Sync>(
+    rt: &R,
+    alloc: Global,
+    links: &[&str],
+    is_due: bool,
+) -> (Told, bool) {
+    let lock = locked(rt, alloc);
+    let progress = AtomicU64::new(0);
+    thread::join(
+        rt,
+        || {
+            let told = wait_for_work(rt, &lock, &progress);
+            progress.store(TOLD, Ordering::SeqCst);
+            told
+        },
+        || exchange_late(rt, alloc, &lock, &progress, links, is_due),
+    )
+}
+
+#[test]
+fn who_sleeps_is_told_where_something_is_left(rt: HostRuntime) {
+    let (told, is_told) = told_by(&rt, rt.alloc(), &["http://h/a", "http://h/b"], true);
+    assert!(rt; told == Told::Permit);
+    assert!(rt; is_told);
+}
+
+#[test]
+fn who_sleeps_sleeps_on_where_nothing_is_left(rt: HostRuntime) {
+    let (told, is_told) = told_by(&rt, rt.alloc(), &["http://h/a"], false);
+    assert!(rt; told == Told::Quiet);
+    assert!(rt; !is_told);
+}
+
+#[test]
+fn who_sleeps_is_told_that_it_is_quiet(rt: HostRuntime) {
+    let (told, _) = told_by(&rt, rt.alloc(), &[], false);
+    assert!(rt; told == Told::Quiet);
 }

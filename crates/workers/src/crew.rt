@@ -15,7 +15,7 @@ use std::thread::{Threads, join_mut};
 #[derive(Drop)]
 struct Shared<'a> {
     alloc: Global,
-    lock: &'a FrontierLock,
+    lock: &'a FrontierLock<'a>,
     plan: &'a Plan,
 }
 

@@ -8,5 +8,6 @@ returns-in-Ok-told_over-clause-told g c =
 
 pub returns-in-Ok-told_over-clause-stands : goal.returns-in-Ok-told_over-clause-stands
 returns-in-Ok-told_over-clause-stands g c =
-    rw (sym c.self.view_is) (stands_by _ _ _ g.C.Connect.again g.C.Wire.Wire.incoming g.C.Wire.Wire.outgoing _ _ _ c.in-Ok-told_over.heard.serves c.in-Ok.wire c.told_over.new.wire
-    c.requires c.in-Ok.ensures.stands (rw c.told_over.ensures.same at c.put_away.ensures.stands) c.in-Ok-told_over.ensures.serves)
+    rw (sym c.self.view_is) (stands_by g.C.Connect g.C.Wire.Wire _ _ _ (record { at = c.args.at.now; robots = c.self.inside.robots; keeps = c.self.inside.keeps })
+    _ c.in-Ok-told_over.heard.serves c.in-Ok.wire c.told_over.new.wire c.requires c.in-Ok.ensures.stands
+    (rw c.told_over.ensures.same at c.put_away.ensures.stands) c.in-Ok-told_over.ensures.serves)

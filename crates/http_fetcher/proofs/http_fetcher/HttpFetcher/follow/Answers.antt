@@ -3,7 +3,7 @@ use Rattle.std.proofs.Common.{◌∙◌, ◌<◌, ◌-◌, ◌++◌, [], ◌∷�
 use Rattle.answer_notes.specs.HopChains.{IsAdmitted, rules_of_hops}
 use Rattle.http_fetcher.specs.inner.Chains.{TellsHop}
 use Rattle.http_fetcher.specs.declared.chain.Hop.TheVariants.{Next, Last}
-use Rattle.http_fetcher.specs.Fetching.{tries_by}
+use Rattle.http_fetcher.specs.Fetching.{answer_told}
 use Rattle.http_fetcher.proofs.KeptLemmas.{stands_more}
 use Rattle.http_fetcher.proofs.ChainLemmas.{chain_ends, chain_goes_on, given_by, one_more}
 use Rattle.answer_notes.proofs.HopLemmas.{hop_goes_on, hop_ends, rules_behind}
@@ -24,9 +24,9 @@ hops-preserved g c =
       left = let was = c.hops.invariant.left in omega arith;
       count = λ none. one_more _ _ _ c.hops.hops.items _ (c.hops.at, c.in_ok-told.told) (c.hops.invariant.count none) (c.in_ok-told.ensures.one (c.hops.invariant.keeps ∙ none)) c.in_ok-push-in-Next.ensures.items;
       few = let was = c.hops.invariant.few in let most = c.in_ok-told.ensures.most in omega arith;
-      stands = stands_more _ _ _ g.C.Connect.again g.C.Wire.Wire.incoming g.C.Wire.Wire.outgoing _ _ c.hops.at c.hops.invariant.keeps c.hops.invariant.stands c.in_ok-told.ensures.stands;
+      stands = stands_more g.C.Connect g.C.Wire.Wire c.args.self.now c.hops.self c.exchange.new.self c.hops.at c.hops.invariant.robots c.hops.invariant.keeps c.hops.invariant.stands c.in_ok-told.ensures.stands;
       chain = λ r chain. c.hops.invariant.chain r (chain_goes_on _ c.hops.left (c.hops.left - 1) _ _ r _ _
-          (given_by g.C.Connect.stands g.C.Connect.gives (tries_by g.C.Connect.made g.C.Connect.refused g.C.Connect.taken) g.C.Wire.Wire.incoming g.C.Wire.Wire.outgoing g.C.Wire.Wire.failed _ _ _ _ _ _ _ _ _ c.hops.invariant.robots c.hops.invariant.keeps c.in_ok-told.ensures.told)
+          (given_by g.C.Connect g.C.Wire.Wire c.args.self.now c.hops.self c.exchange.new.self c.hops.at (answer_told c.hops.self.robots c.hops.at c.in_ok-told.told) c.hops.invariant.robots c.hops.invariant.keeps c.in_ok-told.ensures.told)
           (tells_says c.hops.self.robots c.hops.at c.in_ok-told.told c.hops.left (Next c.in-Next.next) tells) (omega arith) chain);
       admitted = λ tail are. subst (λ l. IsAdmitted c.args.of.now l)
           (sym (ap (λ l. l ++ tail) c.in_ok-push-in-Next.ensures.items ∙ append_assoc c.hops.hops.items ((c.hops.at, c.in_ok-told.told) ∷ []) tail))
@@ -52,7 +52,7 @@ pub returns-in-Last-clause-chain : goal.returns-in-Last-clause-chain
 returns-in-Last-clause-chain g c =
     let tells : TellsHop c.hops.at c.in_ok-told.told c.hops.left (Last c.in-Last.rules) = tells_of c.hops.at c.in_ok-told.told c.hops.left _ _ c.in-Last.is c.in_ok-rules.ensures in
     c.hops.invariant.chain _ (chain_ends _ c.hops.left _ _ _ _
-    (given_by g.C.Connect.stands g.C.Connect.gives (tries_by g.C.Connect.made g.C.Connect.refused g.C.Connect.taken) g.C.Wire.Wire.incoming g.C.Wire.Wire.outgoing g.C.Wire.Wire.failed _ _ _ _ _ _ _ _ _ c.hops.invariant.robots c.hops.invariant.keeps c.in_ok-told.ensures.told)
+    (given_by g.C.Connect g.C.Wire.Wire c.args.self.now c.hops.self c.exchange.new.self c.hops.at (answer_told c.hops.self.robots c.hops.at c.in_ok-told.told) c.hops.invariant.robots c.hops.invariant.keeps c.in_ok-told.ensures.told)
     (tells_says c.hops.self.robots c.hops.at c.in_ok-told.told c.hops.left (Last c.in-Last.rules) tells))
 
 pub returns-in-Last-clause-hops : goal.returns-in-Last-clause-hops
@@ -70,16 +70,16 @@ returns-in-Last-clause-count g c none =
 
 pub returns-in-Last-clause-stands : goal.returns-in-Last-clause-stands
 returns-in-Last-clause-stands g c =
-    stands_more _ _ _ g.C.Connect.again g.C.Wire.Wire.incoming g.C.Wire.Wire.outgoing _ _ c.hops.at c.hops.invariant.keeps c.hops.invariant.stands c.in_ok-told.ensures.stands
+    stands_more g.C.Connect g.C.Wire.Wire c.args.self.now c.hops.self c.exchange.new.self c.hops.at c.hops.invariant.robots c.hops.invariant.keeps c.hops.invariant.stands c.in_ok-told.ensures.stands
 
 pub returns-in_err-rules-clause-stands : goal.returns-in_err-rules-clause-stands
 returns-in_err-rules-clause-stands g c =
-    stands_more _ _ _ g.C.Connect.again g.C.Wire.Wire.incoming g.C.Wire.Wire.outgoing _ _ c.hops.at c.hops.invariant.keeps c.hops.invariant.stands c.in_ok-told.ensures.stands
+    stands_more g.C.Connect g.C.Wire.Wire c.args.self.now c.hops.self c.exchange.new.self c.hops.at c.hops.invariant.robots c.hops.invariant.keeps c.hops.invariant.stands c.in_ok-told.ensures.stands
 
 pub returns-in_err-push-in-Last-clause-stands : goal.returns-in_err-push-in-Last-clause-stands
 returns-in_err-push-in-Last-clause-stands g c =
-    stands_more _ _ _ g.C.Connect.again g.C.Wire.Wire.incoming g.C.Wire.Wire.outgoing _ _ c.hops.at c.hops.invariant.keeps c.hops.invariant.stands c.in_ok-told.ensures.stands
+    stands_more g.C.Connect g.C.Wire.Wire c.args.self.now c.hops.self c.exchange.new.self c.hops.at c.hops.invariant.robots c.hops.invariant.keeps c.hops.invariant.stands c.in_ok-told.ensures.stands
 
 pub returns-in_err-push-in-Next-clause-stands : goal.returns-in_err-push-in-Next-clause-stands
 returns-in_err-push-in-Next-clause-stands g c =
-    stands_more _ _ _ g.C.Connect.again g.C.Wire.Wire.incoming g.C.Wire.Wire.outgoing _ _ c.hops.at c.hops.invariant.keeps c.hops.invariant.stands c.in_ok-told.ensures.stands
+    stands_more g.C.Connect g.C.Wire.Wire c.args.self.now c.hops.self c.exchange.new.self c.hops.at c.hops.invariant.robots c.hops.invariant.keeps c.hops.invariant.stands c.in_ok-told.ensures.stands

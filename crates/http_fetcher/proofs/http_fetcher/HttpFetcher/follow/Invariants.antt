@@ -3,13 +3,13 @@ use Rattle.robots_rules.specs.Access.{RuleSetValue}
 use Rattle.response_reader.specs.Wire.{counted}
 use Rattle.answer_notes.specs.RobotsAnswers.{max_redirects}
 use Rattle.http_fetcher.specs.Chains.{IsChain}
-use Rattle.http_fetcher.specs.Fetching.{IsGiven, StandsBehind, tries_by}
+use Rattle.http_fetcher.specs.Fetching.{IsGiven, StandsBehind}
 use Rattle.answer_notes.specs.HopChains.{HopValue, AreHops, IsAdmitted}
 use Rattle.http_fetcher.proofs.http_fetcher.HttpFetcher.follow.Given as goal
 
 abbrev pub invariant-hops : goal.invariant-hops
 invariant-hops g l =
-    let Told = IsGiven g.C.Connect.stands g.C.Connect.gives (tries_by g.C.Connect.made g.C.Connect.refused g.C.Connect.taken) g.C.Wire.Wire.incoming g.C.Wire.Wire.outgoing g.C.Wire.Wire.failed l.fn.self.robots l.fn.self.keeps in record {
+    let Told = IsGiven g.C.Connect g.C.Wire.Wire l.fn.self in record {
       asks : l.self.asks ≡ l.fn.self.asks;
       robots : l.self.robots ≡ l.fn.self.robots;
       keeps : l.self.keeps ≡ l.fn.self.keeps;
@@ -19,7 +19,7 @@ invariant-hops g l =
       left : l.left ≤ max_redirects;
       count : l.fn.self.keeps ≡ false → g.C.Connect.made l.self.connect ≡ counted (g.C.Connect.made l.fn.self.connect) (length l.hops.items);
       few : g.C.Connect.made l.self.connect + l.left ≤ g.C.Connect.made l.fn.self.connect + max_redirects;
-      stands : StandsBehind (g.C.Connect.stands l.fn.self.connect) (g.C.Connect.stands l.self.connect) g.C.Connect.again g.C.Wire.Wire.incoming g.C.Wire.Wire.outgoing l.fn.self.keeps;
+      stands : StandsBehind g.C.Connect g.C.Wire.Wire l.fn.self l.self;
       chain : (r : RuleSetValue) → IsChain Told l.left l.at r → IsChain Told max_redirects (l.fn.of ++ codes "/robots.txt") r;
       admitted : (tail : List HopValue) → AreHops l.left l.at tail → IsAdmitted l.fn.of (l.hops.items ++ tail);
     }

@@ -11,10 +11,10 @@ returns-then-self-clause-told g c = rw (sym c.self.view_is) c.ask_and_note.ensur
 
 pub returns-clause-may : goal.returns-clause-may
 returns-clause-may g c =
-    rw (sym c.self.view_is) (if_ok_map c.ask_page.result _ _ c.ask_page.ensures.told
-    (λ a told. may_answer (g.C.Connect.stands c.self.inside.connect) (g.C.Connect.gives c.self.inside.connect) g.C.Wire.Wire.incoming g.C.Wire.Wire.outgoing g.C.Wire.Wire.failed _ _ _ _ _ _ _ told))
+    if_ok_map c.ask_page.result _ _ c.ask_page.ensures.told
+    (λ a told. may_answer g.C.Connect g.C.Wire.Wire c.args.self.now c.ask_page.new.self c.args.at.now a (rw (sym c.self.view_is) told))
 
 pub returns-then-self-clause-may : goal.returns-then-self-clause-may
 returns-then-self-clause-may g c =
-    rw (sym c.self.view_is) (if_ok_map c.ask_and_note.result _ _ c.ask_and_note.ensures.told
-    (λ a told. may_answer (g.C.Connect.stands c.self.inside.connect) (g.C.Connect.gives c.self.inside.connect) g.C.Wire.Wire.incoming g.C.Wire.Wire.outgoing g.C.Wire.Wire.failed _ _ _ _ _ _ _ told))
+    if_ok_map c.ask_and_note.result _ _ c.ask_and_note.ensures.told
+    (λ a told. may_answer g.C.Connect g.C.Wire.Wire c.args.self.now c.ask_and_note.new.self c.args.at.now a (rw (sym c.self.view_is) told))
