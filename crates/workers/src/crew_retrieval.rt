@@ -105,7 +105,7 @@ impl<F: Drop> Room<F> {
     {
         let seats = Vec::with_capacity(alloc, count)?;
         let fetchers = Vec::with_capacity(alloc, count)?;
-        // Made last: at each exit behind it all that a frontier holds would be let go, and each is proved.
+        // Made last: at each exit behind it all that a frontier holds would be dropped, and each is proved.
         let frontier = Frontier::open(alloc, plan.try_clone()?)?;
         Ok(Room {
             frontier,
@@ -182,6 +182,7 @@ fn retrieve_together<F: Fetcher + Send, R: Threads + Wait + Sync>(
     alloc: Global,
     plan: &Plan,
     fetchers: Vec<F>,
+    waiting: Option<&AtomicUsize>,
 ) -> (Result<Harvest, Halt>, Vec<F>)
     requires most { vec_len fetchers ≤ 64 }
     ensures ok { IfOk result.0 (λ h. IsRetrievedBy F.site F.says F.rules F.log plan.now fetchers.items result.1.items h) }
@@ -199,7 +200,7 @@ fn retrieve_together<F: Fetcher + Send, R: Threads + Wait + Sync>(
         seats,
         fetchers: back,
     } = room;
-    let lock = FrontierLock::new(frontier);
+    let lock = FrontierLock::watched(frontier, waiting);
     let Worked { fetchers, noted } = work_all(rt, alloc, &lock, plan, fetchers, seats, back);
     let frontier = lock.into_frontier();
     match noted {
@@ -234,7 +235,7 @@ fn retrieve_with<F: Fetcher + Send, R: Threads + Wait + Sync>(
     if fetchers.len() == 1 {
         return retrieve_alone(alloc, plan, fetchers, waiting);
     }
-    retrieve_together(rt, alloc, plan, fetchers)
+    retrieve_together(rt, alloc, plan, fetchers, waiting)
 }
 
 /// Retrieves as [`retrieve`] does, and gives what that came to beside the fetchers, which come back in their order whatever it
