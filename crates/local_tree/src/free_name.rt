@@ -118,15 +118,15 @@ fn first_free_from(
     ensures free { IfOk result (λ found. ¬ IsNameTaken (map lent_text sorted.now) next.now (string_bytes found.0)) }
     ensures before { IfOk result (λ found. (k : ℕ) → k < found.1 → IsNameTaken (map lent_text sorted.now) next.now (numbered plain.now k)) }
 {
-    // The table has fewer names than there are numbers.
-    let _names = next.len();
-    for number in start..u64::MAX {
+    // Each entry and each plain name takes one numbered name at most, so one more is free.
+    let end = (next.len() + sorted.len()) as u64 + 1;
+    for number in start..end {
         let name = numbered(alloc, plain, number)?;
         if !is_taken(sorted, next, name.as_str(), near) {
             return Ok((name, number));
         }
     }
-    // There are fewer names than numbers.
+    // There are more numbers than names that are taken.
     unreachable!()
 }
 

@@ -118,7 +118,7 @@ fn note(
 ) -> Result<(), AllocError>
     requires place { i < length least.now }
     requires small { number < 2 ^ 64 - 1 }
-    ensures { OnOk result (IsNoted (map lent_text least.now) i (get_by_text next.old) (get_by_text next.new) own.now name.now number) }
+    ensures { OnOk result (IsNoted (map lent_text least.now) i name.now (get_by_text next.old) (remembered (get_by_text next.old) own.now name.now number) (get_by_text next.new)) }
 {
     if is_past(least, i, name) {
         return Ok(());

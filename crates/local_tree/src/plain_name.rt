@@ -101,9 +101,9 @@ fn file_or_index(page: &Address) -> &str
 fn query_of(page: &Address) -> &[u8]
     ensures { result.now ≡ query_of page.now }
 {
-    // What every address is: its path and query begin with its directory and its file name.
-    let _text = page.as_str();
-    let path_query = page.path_query().as_bytes();
+    // An address is its origin, and behind it directory, file name and query.
+    let text = page.as_str().as_bytes();
+    let path_query = &text[page.origin().len()..];
     &path_query[page.dir().len() + page.file().len()..]
 }
 
@@ -119,9 +119,11 @@ fn last_segment(alloc: Global, page: &Address) -> Result<Vec<u8>, AllocError>
 
 // The bytes of the plain name.
 fn plain_bytes(alloc: Global, page: &Address) -> Result<Vec<u8>, AllocError>
-    ensures { IfOk result (λ name. name.items ≡ plain_name_of page.now) }
+    ensures bytes { IfOk result (λ name. name.items ≡ plain_name_of page.now) }
+    ensures address { IfOk result (λ _. IsAddress page.now) }
 {
-    let mut name = Vec::new(alloc);
+    // A name is about as long as its address.
+    let mut name = Vec::with_capacity(alloc, page.as_str().len())?;
     push_local(&mut name, page.authority().as_bytes())?;
     push_dirs(&mut name, page.dir().as_bytes())?;
     let last = last_segment(alloc, page)?;
@@ -134,8 +136,6 @@ pub(crate) fn plain_name_of(alloc: Global, page: &Address) -> Result<String, All
     ensures name { IfOk result (λ name. string_bytes name ≡ plain_name_of page.now) }
     ensures address { IfOk result (λ _. IsAddress page.now) }
 {
-    // What every address is: ASCII among it.
-    let _text = page.as_str();
     match String::from_utf8(plain_bytes(alloc, page)?) {
         Ok(name) => Ok(name),
         // An address is ASCII.

@@ -43,6 +43,7 @@ pub record AreLeast (names least : List (List ℕ)) : Type 0 where
 abbrev pub IsPast : List (List ℕ) → ℕ → List ℕ → Type 0
 IsPast least i name = i + 1 < length least → is_lt (slice_cmp nat_cmp name (slice_index_or least (length least - (i + 2)) [])) ≡ true
 
--- a page at this place was given a name with this number: it has entries then, or no page behind asks for the name
-abbrev pub IsNoted : List (List ℕ) → ℕ → (List ℕ → Option ℕ) → (List ℕ → Option ℕ) → List ℕ → List ℕ → ℕ → Type 0
-IsNoted least i old new own name number = ((q : List ℕ) → new q ≡ remembered old own name number q) ⊎ (IsPast least i name × ((q : List ℕ) → new q ≡ old q))
+-- a page at this place was given this name: the entries are then those with its own among them, or as before where no
+-- page behind asks for the name
+abbrev pub IsNoted : List (List ℕ) → ℕ → List ℕ → (List ℕ → Option ℕ) → (List ℕ → Option ℕ) → (List ℕ → Option ℕ) → Type 0
+IsNoted least i name old noted new = ((q : List ℕ) → new q ≡ noted q) ⊎ (IsPast least i name × ((q : List ℕ) → new q ≡ old q))

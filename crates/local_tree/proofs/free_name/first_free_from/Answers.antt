@@ -1,4 +1,4 @@
-use Rattle.std.proofs.Common.{rules, ◌≡◌, map, IsTrue, inl, inr, subst, ◌∙◌, arith}
+use Rattle.std.proofs.Common.{rules, ◌≡◌, ◌+◌, length, map, IsTrue, inl, inr, subst, ◌∙◌, arith}
 use Rattle.std.proofs.lemmas.Bool.{cases_lt}
 use Rattle.std.proofs.lemmas.List.{length-map}
 use Rattle.local_tree.specs.Names.{numbered}
@@ -18,9 +18,9 @@ loop-number-preserved c =
 
 pub unreachable-requires : goal.unreachable-requires
 unreachable-requires c =
-    let most = taken_below (map lent_text c.args.sorted.now) c.args.next.now c.args.plain.now 18446744073709551615 (omega arith) (λ k below. c.loop-number.invariant k (omega arith)) in
-    let long = length-map c.args.sorted.now lent_text in
-    let size = c.len-names.ensures.len in
-    let bound = c.len-names.ensures.small in
+    let size = c.len.ensures.len in
+    let bound = c.len.ensures.small in
     let few = c.requires.few in
+    let most = taken_below (map lent_text c.args.sorted.now) c.args.next.now c.args.plain.now (c.len.result + length c.args.sorted.now + 1) (omega arith) (λ k below. c.loop-number.invariant k (omega arith)) in
+    let long = length-map c.args.sorted.now lent_text in
     omega arith
