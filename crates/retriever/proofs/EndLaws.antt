@@ -23,7 +23,7 @@ use Rattle.harvest.specs.Gathered.{AreEntries, AreRecords, ArePages}
 use Rattle.harvest.specs.Harvests.{Harvested}
 use Rattle.harvest.specs.Pages.{IsKept}
 use Rattle.workers.specs.OneWorker.{AreByCrew}
-use Rattle.workers.specs.Retrieval.{Brings, Leaves, IsLeft}
+use Rattle.workers.specs.Retrieval.{IsRetrieved, IsPartRetrieved, IsStopped}
 use Rattle.workers.specs.Sites.{Fits, IsCompleteFor}
 use Rattle.local_tree.specs.Names.{IsNaming}
 use Rattle.local_tree.specs.PlainNames.{plain_name_of}
@@ -32,14 +32,11 @@ use Rattle.report.specs.ExitStatus.{exit_status, outcomes_in}
 use Rattle.report.specs.Named.{named_pages}
 use Rattle.report.proofs.NamedLaws.{names_of_lines, pages_of_lines, line_to_keep}
 use Rattle.report.proofs.StatusLaws.{same_status}
-use Rattle.workers.specs.Crews.{AllFit, SomeSays, SomeRules, all_gained}
-use Rattle.workers.proofs.ServingLaws.{crew_fits}
-use Rattle.workers.specs.declared.crew_retrieval.Retrieved.{Retrieved}
-use Rattle.workers.specs.declared.crew_retrieval.Stopped.{Stopped as StoppedCrew}
+use Rattle.workers.specs.Crews.{AllFit}
 use Rattle.workers.specs.declared.retrieval.Halt.{Halt}
 use Rattle.retriever.specs.Parts.{shown_of}
-use Rattle.retriever.specs.inner.Parts.{IsOutputOf, IsToldOf, IsRead, brought_by, is_borne_out}
-use Rattle.retriever.specs.Retrieved.{IsPartOf, AreEventsOf, AreShown, HasStopped, Reported, Stopped, Finishes}
+use Rattle.retriever.specs.inner.Parts.{IsOutputOf, IsToldOf, IsRead, is_borne_out}
+use Rattle.retriever.specs.Retrieved.{IsPartOf, AreEventsOf, AreShown, HasStopped, Retrieved, Stopped, Finishes}
 use Rattle.retriever.specs.declared.told.Output.{Output}
 use Rattle.std.specs.declared.alloc.AllocError.{AllocError}
 use Rattle.retriever.specs.Site.{AreNamed, whole_of, without_bodies}
@@ -82,14 +79,14 @@ are_named plan h names are records pages follows once naming =
           (subst (λ (kept : List Text). IsNaming (map plain_name_of kept) names) (sym (pages_of_lines h names are records pages long)) naming);
     }
 
-pub reported : (order : Order) (may_say : Text → Outcome → List ℕ → Type 0) (may_rule : Text → RuleSetValue → Type 0) (whole : Answers) (asks : List Ask) (h : Harvested) (names : List (List ℕ))
-    → Fits may_say may_rule whole → Brings may_say may_rule order.plan asks h → IsRead h → IsCompleteFor (policy order.plan) whole h.state → AreByCrew order.workers h.trace → IsNaming (map plain_name_of h.kept) names
-    → Finishes order whole (shown_of order.trace h.trace) (Reported (lines_of h names))
-reported order may_say may_rule whole asks h names fits brings read complete by_one naming =
-    let sound = subst (λ (o : Option Plan). IfSome o (λ plan. IsSound (policy plan) h.state)) brings.follows read.3 in (
-      are_lines (policy order.plan) whole h names read.0 read.1 sound.addresses sound.few complete brings.quiet,
-      are_named order.plan h names read.0 read.1 read.2 brings.follows sound.addresses naming,
-      are_shown order.trace (AreEventsOf order.workers order.plan whole IsQuiet) h.trace (by_one, h.state, brings.replay, told_part may_say may_rule whole (answers h.state) fits brings.told, brings.quiet),
+pub retrieved : (order : Order) (may_say : Text → Outcome → List ℕ → Type 0) (may_rule : Text → RuleSetValue → Type 0) (whole : Answers) (asks : List Ask) (h : Harvested) (names : List (List ℕ))
+    → Fits may_say may_rule whole → IsRetrieved may_say may_rule order.plan asks h → IsRead h → IsCompleteFor (policy order.plan) whole h.state → AreByCrew order.workers h.trace → IsNaming (map plain_name_of h.kept) names
+    → Finishes order whole (shown_of order.trace h.trace) (Retrieved (lines_of h names))
+retrieved order may_say may_rule whole asks h names fits is read complete by_one naming =
+    let sound = subst (λ (o : Option Plan). IfSome o (λ plan. IsSound (policy plan) h.state)) is.follows read.3 in (
+      are_lines (policy order.plan) whole h names read.0 read.1 sound.addresses sound.few complete is.quiet,
+      are_named order.plan h names read.0 read.1 read.2 is.follows sound.addresses naming,
+      are_shown order.trace (AreEventsOf order.workers order.plan whole IsQuiet) h.trace (by_one, h.state, is.replay, told_part may_say may_rule whole (answers h.state) fits is.told, is.quiet),
     )
 
 -- the exit status of a report is that of its lines
@@ -100,78 +97,58 @@ status_of order h names read follows =
 -- ---- a stop
 
 stop_events : (order : Order) (may_say : Text → Outcome → List ℕ → Type 0) (may_rule : Text → RuleSetValue → Type 0) (whole : Answers) (asks : List Ask) (cause : Cause) (h : Harvested)
-    → Fits may_say may_rule whole → Leaves may_say may_rule order.plan asks cause h → AreByCrew order.workers h.trace
+    → Fits may_say may_rule whole → IsPartRetrieved may_say may_rule order.plan asks cause h → AreByCrew order.workers h.trace
     → AreShown order.trace (AreEventsOf order.workers order.plan whole (HasStopped cause)) (shown_of order.trace h.trace)
-stop_events order may_say may_rule whole asks cause h fits left by_one =
-    are_shown order.trace (AreEventsOf order.workers order.plan whole (HasStopped cause)) h.trace (by_one, h.state, left.replay, told_part may_say may_rule whole (answers h.state) fits left.told, left.stopped)
+stop_events order may_say may_rule whole asks cause h fits part by_one =
+    are_shown order.trace (AreEventsOf order.workers order.plan whole (HasStopped cause)) h.trace (by_one, h.state, part.replay, told_part may_say may_rule whole (answers h.state) fits part.told, part.stopped)
 
 pub stopped : (order : Order) (may_say : Text → Outcome → List ℕ → Type 0) (may_rule : Text → RuleSetValue → Type 0) (whole : Answers) (asks : List Ask) (cause : Cause) (h : Harvested)
-    → Fits may_say may_rule whole → (cause ≢ why.Mismatch → IsLeft may_say may_rule order.plan asks cause h)
+    → Fits may_say may_rule whole → (cause ≢ why.Mismatch → IsStopped may_say may_rule order.plan asks cause h)
     → (cause ≡ why.Full → HasTooMany (policy order.plan) whole) → (order.workers ≡ 1 → cause ≢ why.Mismatch) → (cause ≢ why.Mismatch → AreByCrew order.workers h.trace)
     → Finishes order whole (shown_of (is_borne_out cause && order.trace) h.trace) (Stopped cause)
-stopped order may_say may_rule whole asks why.Full h fits left many never by =
-    elim (left (λ is. cc)) [
-      | inl leaves ↦ (many refl, stop_events order may_say may_rule whole asks why.Full h fits leaves (by (λ is. cc)))
+stopped order may_say may_rule whole asks why.Full h fits stop many never by =
+    elim (stop (λ is. cc)) [
+      | inl part ↦ (many refl, stop_events order may_say may_rule whole asks why.Full h fits part (by (λ is. cc)))
       | inr empty ↦ (let same = empty.memory in cc)
     ]
-stopped order may_say may_rule whole asks why.Memory h fits left many never by =
-    elim (left (λ is. cc)) [
-      | inl leaves ↦ inr (stop_events order may_say may_rule whole asks why.Memory h fits leaves (by (λ is. cc)))
+stopped order may_say may_rule whole asks why.Memory h fits stop many never by =
+    elim (stop (λ is. cc)) [
+      | inl part ↦ inr (stop_events order may_say may_rule whole asks why.Memory h fits part (by (λ is. cc)))
       | inr empty ↦ inl (none_shown order.trace h.trace empty.trace)
     ]
-stopped order may_say may_rule whole asks why.Mismatch h fits left many never by = ((λ one. never one refl), refl)
+stopped order may_say may_rule whole asks why.Mismatch h fits stop many never by = ((λ one. never one refl), refl)
 
 -- ---- either
 
 -- what is told of either is told of how the retrieval of the site finishes
-pub told_finishes : (order : Order) (may_say : Text → Outcome → List ℕ → Type 0) (may_rule : Text → RuleSetValue → Type 0) (whole : Answers) (asks : List Ask) (brought : Result Harvested Halt)
-    (result : Result Output AllocError) → Fits may_say may_rule whole → IfOk brought (λ h. Brings may_say may_rule order.plan asks h)
-    → IfOk brought (λ h. IsCompleteFor (policy order.plan) whole h.state)
-    → IfErr brought (λ halt. halt.cause ≢ why.Mismatch → IsLeft may_say may_rule order.plan asks halt.cause halt.harvest)
-    → IfErr brought (λ halt. halt.cause ≡ why.Full → HasTooMany (policy order.plan) whole) → IfErr brought (λ halt. order.workers ≡ 1 → halt.cause ≢ why.Mismatch)
-    → IfOk brought (λ h. AreByCrew order.workers h.trace) × IfErr brought (λ halt. halt.cause ≢ why.Mismatch → AreByCrew order.workers halt.harvest.trace) → IfOk brought IsRead
-    → IfOk result (λ output. IsToldOf order.trace brought (string_bytes output.text) output.status) → IfOk result (λ output. IsOutputOf order whole (string_bytes output.text) output.status)
-told_finishes order may_say may_rule whole asks (Ok h) (Ok output) fits brings complete left many never by read told =
+pub told_finishes : (order : Order) (may_say : Text → Outcome → List ℕ → Type 0) (may_rule : Text → RuleSetValue → Type 0) (whole : Answers) (asks : List Ask) (r : Result Harvested Halt)
+    (result : Result Output AllocError) → Fits may_say may_rule whole → IfOk r (λ h. IsRetrieved may_say may_rule order.plan asks h)
+    → IfOk r (λ h. IsCompleteFor (policy order.plan) whole h.state)
+    → IfErr r (λ halt. halt.cause ≢ why.Mismatch → IsStopped may_say may_rule order.plan asks halt.cause halt.harvest)
+    → IfErr r (λ halt. halt.cause ≡ why.Full → HasTooMany (policy order.plan) whole) → (order.workers ≡ 1 → IfErr r (λ halt. halt.cause ≢ why.Mismatch))
+    → IfOk r (λ h. AreByCrew order.workers h.trace) × IfErr r (λ halt. halt.cause ≢ why.Mismatch → AreByCrew order.workers halt.harvest.trace) → IfOk r IsRead
+    → IfOk result (λ output. IsToldOf order.trace r (string_bytes output.text) output.status) → IfOk result (λ output. IsOutputOf order whole (string_bytes output.text) output.status)
+told_finishes order may_say may_rule whole asks (Ok h) (Ok output) fits is complete stop many never by read told =
     let (names, naming, text, status) = told in
     record {
       shown = shown_of order.trace h.trace;
-      finish = Reported (lines_of h names);
-      finishes = reported order may_say may_rule whole asks h names fits brings read complete by.0 naming;
+      finish = Retrieved (lines_of h names);
+      finishes = retrieved order may_say may_rule whole asks h names fits is read complete by.0 naming;
       text_is = text;
-      status_is = status ∙ status_of order h names read brings.follows;
+      status_is = status ∙ status_of order h names read is.follows;
     }
-told_finishes order may_say may_rule whole asks (Err halt) (Ok output) fits brings complete left many never by read told =
+told_finishes order may_say may_rule whole asks (Err halt) (Ok output) fits is complete stop many never by read told =
     record {
       shown = shown_of (is_borne_out halt.cause && order.trace) halt.harvest.trace;
       finish = Stopped halt.cause;
-      finishes = stopped order may_say may_rule whole asks halt.cause halt.harvest fits left many never by.1;
+      finishes = stopped order may_say may_rule whole asks halt.cause halt.harvest fits stop many never by.1;
       text_is = told.0;
       status_is = told.1;
     }
-told_finishes order may_say may_rule whole asks brought (Err e) fits brings complete left many never by read told = told
+told_finishes order may_say may_rule whole asks r (Err e) fits is complete stop many never by read told = told
 
--- what is told of the retrieval by a crew, each with a copy of the site
-module _ {F S : Type 0} (site : F → S) (says : S → Text → Outcome → List ℕ → Type 0) (rules : S → Text → RuleSetValue → Type 0) (log : F → List Ask) where
+module _ {F S : Type 0} (site : F → S) (says : S → Text → Outcome → List ℕ → Type 0) (rules : S → Text → RuleSetValue → Type 0) where
   -- copies fit where the site does
   pub copies_fit : (whole : Answers) (one : F) (count : ℕ) (copies : List F) → copies ≡ replicate count one → Fits (says (site one)) (rules (site one)) whole → AllFit site says rules copies whole
   copies_fit whole one count copies are fits =
       subst (λ (fs : List F). AllFit site says rules fs whole) (sym are) (All-replicate (λ (copy : F). Fits (says (site copy)) (rules (site copy)) whole) count one fits)
-
-  pub crew_finishes : (order : Order) (whole : Answers) (olds : List F) (crew : Result (Retrieved F) (StoppedCrew F)) (brought : Result Harvested Halt) (result : Result Output AllocError)
-      → brought ≡ brought_by crew → AllFit site says rules olds whole
-      → IfOk crew (λ r. Brings (SomeSays site says log olds r.fetchers.items) (SomeRules site rules log olds r.fetchers.items) order.plan (all_gained log olds r.fetchers.items) r.harvest)
-      → IfOk crew (λ r. IsCompleteFor (policy order.plan) whole r.harvest.state)
-      → IfErr crew (λ s. s.cause ≢ why.Mismatch → IsLeft (SomeSays site says log olds s.fetchers.items) (SomeRules site rules log olds s.fetchers.items) order.plan
-      (all_gained log olds s.fetchers.items) s.cause s.harvest)
-      → IfErr crew (λ s. s.cause ≡ why.Full → HasTooMany (policy order.plan) whole) → (order.workers ≡ 1 → IfErr crew (λ s. s.cause ≢ why.Mismatch))
-      → IfOk crew (λ r. AreByCrew order.workers r.harvest.trace) × IfErr crew (λ s. s.cause ≢ why.Mismatch → AreByCrew order.workers s.harvest.trace) → IfOk brought IsRead
-      → IfOk result (λ output. IsToldOf order.trace brought (string_bytes output.text) output.status)
-      → IfOk result (λ output. IsOutputOf order whole (string_bytes output.text) output.status)
-  crew_finishes order whole olds (Ok r) brought result is fit brings complete left many never by read told =
-      told_finishes order _ _ whole _ (Ok r.harvest) result (crew_fits site says rules log olds r.fetchers.items whole fit) brings complete tt tt tt
-      (by.0, tt) (subst (λ (b : Result Harvested Halt). IfOk b IsRead) is read)
-      (subst (λ (b : Result Harvested Halt). IfOk result (λ output. IsToldOf order.trace b (string_bytes output.text) output.status)) is told)
-  crew_finishes order whole olds (Err s) brought result is fit brings complete left many never by read told =
-      told_finishes order _ _ whole _ (Err (record { cause = s.cause; harvest = s.harvest })) result (crew_fits site says rules log olds s.fetchers.items whole fit) tt tt left many
-      never (tt, by.1) tt
-      (subst (λ (b : Result Harvested Halt). IfOk result (λ output. IsToldOf order.trace b (string_bytes output.text) output.status)) is told)

@@ -17,7 +17,7 @@ use Rattle.retriever.specs.InputFound.{TellsFault, IsFoundOf, FindsIn}
 use Rattle.retriever.specs.Order.{IsOrdered, IsRefused}
 use Rattle.retriever.specs.Parts.{IsDelivered, IsRefusal}
 use Rattle.retriever.specs.inner.Parts.{IsOutput, IsUnfit}
-use Rattle.retriever.specs.Retrieved.{Finish, Reported, Stopped, Finishes, AreShown, AreEventsOf, HasStopped}
+use Rattle.retriever.specs.Retrieved.{Finish, Retrieved, Stopped, Finishes, AreShown, AreEventsOf, HasStopped}
 use Rattle.retriever.specs.Run.{Comes, Ending, EndsFor, Failed, Ended, Runs, ending_text, ending_status}
 use Rattle.retriever.specs.Site.{IsToldBy, IsWrongBy, whole_of}
 use Rattle.streams.specs.Streams.{IsInput}
@@ -117,7 +117,7 @@ runs_refused words known before after wrong status ends (inr told) = record { en
 
 -- what is found of a site, without the events
 found_of : (order : Order) (whole : Answers) (shown : List Event) (finish : Finish) → Finishes order whole shown finish → IsFoundOf order whole finish
-found_of order whole shown (Reported lines) (are, named, events) = (are, named)
+found_of order whole shown (Retrieved lines) (are, named, events) = (are, named)
 found_of order whole shown (Stopped cause.Full) (many, events) = many
 found_of order whole shown (Stopped cause.Memory) finishes = tt
 found_of order whole shown (Stopped cause.Mismatch) (several, none) = several
@@ -128,7 +128,7 @@ unshown true AreSuch shown are is = (let other : true ≡ false = is in cc)
 unshown false AreSuch shown are is = are
 
 none_unordered : (order : Order) (whole : Answers) (shown : List Event) (finish : Finish) → Finishes order whole shown finish → order.trace ≡ false → shown ≡ []
-none_unordered order whole shown (Reported lines) (are, named, events) = unshown order.trace (AreEventsOf order.workers order.plan whole IsQuiet) shown events
+none_unordered order whole shown (Retrieved lines) (are, named, events) = unshown order.trace (AreEventsOf order.workers order.plan whole IsQuiet) shown events
 none_unordered order whole shown (Stopped cause.Full) (many, events) = unshown order.trace (AreEventsOf order.workers order.plan whole (HasStopped cause.Full)) shown events
 none_unordered order whole shown (Stopped cause.Memory) (inl none) = λ is. none
 none_unordered order whole shown (Stopped cause.Memory) (inr events) = unshown order.trace (AreEventsOf order.workers order.plan whole (HasStopped cause.Memory)) shown events

@@ -17,7 +17,7 @@ use Rattle.options.specs.declared.order.Order.{Order}
 use Rattle.report.specs.Named.{is_to_keep, has_succeeded, named_pages, names_in}
 use Rattle.report.specs.Report.{Line, Fate, Asked, Refused, report_text}
 use Rattle.report.proofs.SoleLaws.{AreAlike, HasEach, all_alike, same_pages, same_lines}
-use Rattle.retriever.specs.Retrieved.{Reported, Finishes}
+use Rattle.retriever.specs.Retrieved.{Retrieved, Finishes}
 use Rattle.retriever.specs.Run.{finish_text}
 use Rattle.retriever.specs.Site.{IsFate, AreLines, AreNamed}
 
@@ -54,8 +54,8 @@ sole_lines plan m xs ys lines others named others_named =
     same_lines xs ys alike (IsNaming-sole (map plain_name_of (named_pages ys)) (names_in ys) (names_in xs) others_named.names naming)
 
 -- orders of one plan, of one site, come to one report, however many workers each orders and whatever is shown of their traces
-pub sole_report : (order other : Order) (whole : Answers) (shown others : List Event) (xs ys : List Line) → order.plan ≡ other.plan → Finishes order whole shown (Reported xs)
-    → Finishes other whole others (Reported ys) → finish_text (Reported xs) ≡ finish_text (Reported ys)
+pub sole_report : (order other : Order) (whole : Answers) (shown others : List Event) (xs ys : List Line) → order.plan ≡ other.plan → Finishes order whole shown (Retrieved xs)
+    → Finishes other whole others (Retrieved ys) → finish_text (Retrieved xs) ≡ finish_text (Retrieved ys)
 sole_report order other whole shown others xs ys plans one two =
     let lines = subst (λ (plan : Plan). AreLines (policy plan) whole xs) plans one.0 in
     let named = subst (λ (plan : Plan). AreNamed plan xs) plans one.1 in

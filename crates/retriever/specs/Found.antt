@@ -12,7 +12,6 @@ use Rattle.robots_rules.specs.Access.{RuleSetValue}
 use Rattle.frontier_core.specs.Tables.{Text}
 use Rattle.frontier_core.specs.Routes.{Answers, HasTooMany, IsWanted, IsNeeded}
 use Rattle.frontier_core.specs.Plans.{policy}
-use Rattle.frontier_core.specs.declared.event.Cause.{Cause}
 use Rattle.frontier_core.specs.declared.event.Cause.TheVariants as cause
 use Rattle.harvest.specs.Pages.{IsBodyOf}
 use Rattle.workers.specs.Asks.{IsTold}
@@ -20,12 +19,11 @@ use Rattle.workers.specs.Crews.{AreLater, all_gained, SomeSays, SomeRules}
 use Rattle.workers.specs.Found.{AreMadeOnce, AreAsked}
 use Rattle.local_tree.specs.Folders.{Files}
 use Rattle.local_tree.specs.SiteFiles.{IsWhole, IsTorn}
-use Rattle.report.specs.ExitStatus.{exit_status, outcomes_in}
 use Rattle.report.specs.Named.{named_pages, names_in}
 use Rattle.report.specs.Report.{Line, report_text}
 use Rattle.retriever.specs.Parts.{IsDelivered}
-use Rattle.retriever.specs.Retrieved.{Stopped}
-use Rattle.retriever.specs.Run.{finish_text}
+use Rattle.retriever.specs.Retrieved.{Finish, Retrieved, Stopped}
+use Rattle.retriever.specs.Run.{finish_text, finish_status}
 use Rattle.retriever.specs.Site.{AreLines, AreNamed}
 
 -- ---- what was found
@@ -58,12 +56,11 @@ pub record Holding : Type 0 where
 abbrev pub holding : {D : Type 0} → (D → Option Files) → (D → ℕ) → D → Holding
 holding files failed folder = record { files = files folder; failed = failed folder }
 
--- the lines of a report whose files are all whole, or of which so many are whole since the next put failed; or the cause
--- for which there is no report
+-- what the retrieval comes to, where the files of its report are all whole; or a report's lines, of whose files so many are
+-- whole since the next put failed
 pub data LiveEnd : Type 0 where
-  Whole : List Line → LiveEnd
+  Finished : Finish → LiveEnd
   Torn : List Line → ℕ → LiveEnd
-  Halted : Cause → LiveEnd
 
 -- the line that says how many files are whole
 abbrev pub torn_line : ℕ → List ℕ
@@ -71,15 +68,13 @@ torn_line whole = codes "files written " ++ decimal whole ++ codes "\n"
 
 -- the text of an end
 abbrev pub live_text : LiveEnd → List ℕ
-live_text (Whole lines) = report_text lines
+live_text (Finished finish) = finish_text finish
 live_text (Torn lines whole) = report_text lines ++ torn_line whole
-live_text (Halted why) = finish_text (Stopped why)
 
 -- its status
 abbrev pub live_status : LiveEnd → ℕ
-live_status (Whole lines) = exit_status (outcomes_in lines)
+live_status (Finished finish) = finish_status finish
 live_status (Torn lines whole) = 3
-live_status (Halted why) = 1
 
 -- so many of the files of these lines are whole, the next may hold anything, and all else is as before
 abbrev pub IsTornAt : List Line → List (List ℕ) → Holding → Holding → ℕ → Type 0
@@ -93,17 +88,17 @@ IsWholeAt lines bodies old new = IsWhole (names_in lines) bodies old.files new.f
 -- The table is full only where what is recorded has more candidates than the plan lets be held. Memory may run out at any time,
 -- and may do so when a put has failed. A check of several workers may fail; then nothing more is said.
 abbrev pub EndsFound : (Text → Outcome → List ℕ → Type 0) → (Text → RuleSetValue → Type 0) → Order → ℕ → List Ask → Holding → Holding → LiveEnd → Type 0
-EndsFound may_say may_rule order workers asks old new (Whole lines) =
+EndsFound may_say may_rule order workers asks old new (Finished (Retrieved lines)) =
     (m : Answers) × (bodies : List (List ℕ)) × IsFound may_say may_rule order.plan asks m lines bodies × IsWholeAt lines bodies old new
 EndsFound may_say may_rule order workers asks old new (Torn lines whole) =
     (m : Answers) × (bodies : List (List ℕ)) × IsFound may_say may_rule order.plan asks m lines bodies × IsTornAt lines bodies old new whole
-EndsFound may_say may_rule order workers asks old new (Halted cause.Full) =
+EndsFound may_say may_rule order workers asks old new (Finished (Stopped cause.Full)) =
     (m : Answers) × IsPartFound may_say may_rule order.plan asks m × HasTooMany (policy order.plan) m × (new ≡ old)
-EndsFound may_say may_rule order workers asks old new (Halted cause.Memory) =
+EndsFound may_say may_rule order workers asks old new (Finished (Stopped cause.Memory)) =
     AreMadeOnce asks
     × ((new ≡ old) ⊎ ((m : Answers) × (lines : List Line) × (bodies : List (List ℕ)) × (whole : ℕ) × IsFound may_say may_rule order.plan asks m lines bodies
     × IsTornAt lines bodies old new whole))
-EndsFound may_say may_rule order workers asks old new (Halted cause.Mismatch) = (workers ≢ 1) × (new ≡ old)
+EndsFound may_say may_rule order workers asks old new (Finished (Stopped cause.Mismatch)) = (workers ≢ 1) × (new ≡ old)
 
 -- A live retrieval with these fetchers, one for each worker: it found what is to be found, by what the fetchers were asked and
 -- may have answered until its end. Either the writer gained that end's text, behind a trace where one is ordered, and the

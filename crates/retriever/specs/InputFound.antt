@@ -13,7 +13,7 @@ use Rattle.retriever.specs.declared.fault.Fault.{Fault}
 use Rattle.retriever.specs.declared.fault.Fault.TheVariants as fault
 use Rattle.retriever.specs.declared.input_run.TheConstants.{MAX_INPUT}
 use Rattle.retriever.specs.Parts.{IsDelivered}
-use Rattle.retriever.specs.Retrieved.{Finish, Reported, Stopped}
+use Rattle.retriever.specs.Retrieved.{Finish, Retrieved, Stopped}
 use Rattle.retriever.specs.Run.{Ending, Failed, Ended, ending_text, ending_status}
 use Rattle.retriever.specs.Site.{AreLines, AreNamed, whole_of}
 
@@ -35,7 +35,7 @@ TellsFault IsWrong known fault.Memory = Unit {0}
 -- This is found of a whole site: the lines of its report, or more addresses than the plan lets be held. Memory may run out at any
 -- time, and a check of several workers may fail.
 abbrev pub IsFoundOf : Order → Answers → Finish → Type 0
-IsFoundOf order whole (Reported lines) = AreLines (policy order.plan) whole lines × AreNamed order.plan lines
+IsFoundOf order whole (Retrieved lines) = AreLines (policy order.plan) whole lines × AreNamed order.plan lines
 IsFoundOf order whole (Stopped cause.Full) = HasTooMany (policy order.plan) whole
 IsFoundOf order whole (Stopped cause.Memory) = Unit {0}
 IsFoundOf order whole (Stopped cause.Mismatch) = order.workers ≢ 1

@@ -19,8 +19,9 @@ use Rattle.workers.specs.Found.{AreMadeOnce}
 use Rattle.workers.specs.OneWorker.{AreByCrew}
 use Rattle.workers.specs.Takers.{AreOwn}
 use Rattle.report.specs.Report.{Line}
-use Rattle.retriever.specs.Found.{IsFound, IsPartFound, Holding, LiveEnd, Whole, Torn, Halted, IsTornAt, IsWholeAt, live_text, live_status}
+use Rattle.retriever.specs.Found.{IsFound, IsPartFound, Holding, LiveEnd, Finished, Torn, IsTornAt, IsWholeAt, live_text, live_status}
 use Rattle.retriever.specs.Parts.{IsDelivered, shown_of}
+use Rattle.retriever.specs.Retrieved.{Retrieved, Stopped}
 use Rattle.report.specs.Trace.{trace_text}
 
 -- ---- what was retrieved
@@ -31,7 +32,7 @@ abbrev pub AreOfCrew : {F : Type 0} → (F → List Ask) → List F → List F �
 AreOfCrew log fetchers left events = AreByCrew (length fetchers) events × AreOwn log 0 fetchers left events
 
 -- These asks were made, and these events of the fetchers' workers happened, until nothing was left to do, and this was found.
-pub record IsRetrieved (may_say : Text → Outcome → List ℕ → Type 0) (may_rule : Text → RuleSetValue → Type 0) (AreByThem : List Event → Type 0) (plan : Plan) (asks : List Ask) (events : List Event)
+pub record IsRetrievedLive (may_say : Text → Outcome → List ℕ → Type 0) (may_rule : Text → RuleSetValue → Type 0) (AreByThem : List Event → Type 0) (plan : Plan) (asks : List Ask) (events : List Event)
     (lines : List Line) (bodies : List (List ℕ)) : Type 0 where
   pub state : State
   pub replay : IsReplay (policy plan) events state
@@ -42,7 +43,7 @@ pub record IsRetrieved (may_say : Text → Outcome → List ℕ → Type 0) (may
 -- These asks were made, and these events of the fetchers' workers happened, until the retrieval stopped for the cause: what was
 -- asked for is recorded or was given up. The table is full only where what is recorded has more candidates than the plan lets be
 -- held.
-pub record HasHalted (may_say : Text → Outcome → List ℕ → Type 0) (may_rule : Text → RuleSetValue → Type 0) (AreByThem : List Event → Type 0) (plan : Plan) (asks : List Ask) (why : Cause) (events : List Event) : Type 0 where
+pub record IsStoppedLive (may_say : Text → Outcome → List ℕ → Type 0) (may_rule : Text → RuleSetValue → Type 0) (AreByThem : List Event → Type 0) (plan : Plan) (asks : List Ask) (why : Cause) (events : List Event) : Type 0 where
   pub state : State
   pub replay : IsReplay (policy plan) events state
   pub by : AreByThem events
@@ -57,19 +58,19 @@ pub record HasHalted (may_say : Text → Outcome → List ℕ → Type 0) (may_r
 -- folder. Memory may run out at any time, and may do so when a put has failed. A check of several workers may fail; then
 -- nothing more is said.
 abbrev pub EndsLive : (Text → Outcome → List ℕ → Type 0) → (Text → RuleSetValue → Type 0) → (List Event → Type 0) → Order → ℕ → List Ask → Holding → Holding → List Event → LiveEnd → Type 0
-EndsLive may_say may_rule AreByThem order workers asks old new shown (Whole lines) =
-    (events : List Event) × (bodies : List (List ℕ)) × IsRetrieved may_say may_rule AreByThem order.plan asks events lines bodies × (shown ≡ shown_of order.trace events)
+EndsLive may_say may_rule AreByThem order workers asks old new shown (Finished (Retrieved lines)) =
+    (events : List Event) × (bodies : List (List ℕ)) × IsRetrievedLive may_say may_rule AreByThem order.plan asks events lines bodies × (shown ≡ shown_of order.trace events)
     × IsWholeAt lines bodies old new
 EndsLive may_say may_rule AreByThem order workers asks old new shown (Torn lines whole) =
-    (events : List Event) × (bodies : List (List ℕ)) × IsRetrieved may_say may_rule AreByThem order.plan asks events lines bodies × (shown ≡ shown_of order.trace events)
+    (events : List Event) × (bodies : List (List ℕ)) × IsRetrievedLive may_say may_rule AreByThem order.plan asks events lines bodies × (shown ≡ shown_of order.trace events)
     × IsTornAt lines bodies old new whole
-EndsLive may_say may_rule AreByThem order workers asks old new shown (Halted cause.Full) =
-    (events : List Event) × HasHalted may_say may_rule AreByThem order.plan asks cause.Full events × (shown ≡ shown_of order.trace events) × (new ≡ old)
-EndsLive may_say may_rule AreByThem order workers asks old new shown (Halted cause.Memory) =
-    AreMadeOnce asks × ((shown ≡ []) ⊎ ((events : List Event) × HasHalted may_say may_rule AreByThem order.plan asks cause.Memory events × (shown ≡ shown_of order.trace events)))
-    × ((new ≡ old) ⊎ ((events : List Event) × (lines : List Line) × (bodies : List (List ℕ)) × (whole : ℕ) × IsRetrieved may_say may_rule AreByThem order.plan asks events lines bodies
+EndsLive may_say may_rule AreByThem order workers asks old new shown (Finished (Stopped cause.Full)) =
+    (events : List Event) × IsStoppedLive may_say may_rule AreByThem order.plan asks cause.Full events × (shown ≡ shown_of order.trace events) × (new ≡ old)
+EndsLive may_say may_rule AreByThem order workers asks old new shown (Finished (Stopped cause.Memory)) =
+    AreMadeOnce asks × ((shown ≡ []) ⊎ ((events : List Event) × IsStoppedLive may_say may_rule AreByThem order.plan asks cause.Memory events × (shown ≡ shown_of order.trace events)))
+    × ((new ≡ old) ⊎ ((events : List Event) × (lines : List Line) × (bodies : List (List ℕ)) × (whole : ℕ) × IsRetrievedLive may_say may_rule AreByThem order.plan asks events lines bodies
     × IsTornAt lines bodies old new whole))
-EndsLive may_say may_rule AreByThem order workers asks old new shown (Halted cause.Mismatch) = (workers ≢ 1) × (shown ≡ []) × (new ≡ old)
+EndsLive may_say may_rule AreByThem order workers asks old new shown (Finished (Stopped cause.Mismatch)) = (workers ≢ 1) × (shown ≡ []) × (new ≡ old)
 
 -- A live retrieval with these fetchers, one for each worker: it comes to an end, by what the fetchers were asked and may
 -- have answered until then. Either the writer gained that end's text, behind what is shown of the trace, and the status is

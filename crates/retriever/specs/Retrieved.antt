@@ -38,13 +38,13 @@ HasStopped why s = s.cause ≡ Some why
 
 -- what a retrieval comes to: the lines of a report, or the cause for which it stopped
 pub data Finish : Type 0 where
-  Reported : List Line → Finish
+  Retrieved : List Line → Finish
   Stopped : Cause → Finish
 
 -- the retrieval that is ordered of a site comes to this, and this is shown of its trace; where memory was short there
 -- may be nothing to show. A check of several workers may fail; one worker has none
 abbrev pub Finishes : Order → Answers → List Event → Finish → Type 0
-Finishes order whole shown (Reported lines) =
+Finishes order whole shown (Retrieved lines) =
     AreLines (policy order.plan) whole lines × AreNamed order.plan lines × AreShown order.trace (AreEventsOf order.workers order.plan whole IsQuiet) shown
 Finishes order whole shown (Stopped cause.Full) =
     HasTooMany (policy order.plan) whole × AreShown order.trace (AreEventsOf order.workers order.plan whole (HasStopped cause.Full)) shown

@@ -16,7 +16,7 @@ use Rattle.retriever.specs.declared.input_run.TheConstants.{MAX_INPUT}
 use Rattle.retriever.specs.Order.{IsOrdered, AreForInput, AreForLive}
 use Rattle.report.specs.ExitStatus.{exit_status, outcomes_in}
 use Rattle.report.specs.Report.{report_text}
-use Rattle.retriever.specs.Retrieved.{Finish, Reported, Stopped, Finishes}
+use Rattle.retriever.specs.Retrieved.{Finish, Retrieved, Stopped, Finishes}
 use Rattle.retriever.specs.Site.{IsToldBy, IsWrongBy, whole_of}
 use Rattle.streams.specs.Streams.{IsInput, AppendsFront}
 use Rattle.report.specs.Trace.{cause_word, trace_text}
@@ -99,12 +99,12 @@ fault_status fault.Memory = 1
 
 -- the text of what a retrieval comes to: a report, or one line of words
 abbrev pub finish_text : Finish → List ℕ
-finish_text (Reported lines) = report_text lines
+finish_text (Retrieved lines) = report_text lines
 finish_text (Stopped why) = codes "stopped " ++ cause_word why ++ codes "\n"
 
 -- its status: that of a report is told by its outcomes
 abbrev pub finish_status : Finish → ℕ
-finish_status (Reported lines) = exit_status (outcomes_in lines)
+finish_status (Retrieved lines) = exit_status (outcomes_in lines)
 finish_status (Stopped why) = 1
 
 -- ---- a run

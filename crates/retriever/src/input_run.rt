@@ -14,7 +14,7 @@ ghost use Rattle.retriever.specs.Run.{Runs};
 
 use crate::copies::{Copied, copies_of};
 use crate::fault::{Fault, fault_text};
-use crate::told::{Output, brought_by, told_of};
+use crate::told::{Output, told_of};
 use options::{Order, Source, read_order};
 use site_maps::MapSite;
 use site_records::RecordedSite;
@@ -55,8 +55,10 @@ fn retrieve<H: Threads + Wait + Sync, F: Copied>(
     ensures { (whole : Answers) → Fits (F.says (F.site site.now)) (F.rules (F.site site.now)) whole → IfOk result (λ output. IsOutputOf order.now whole (string_bytes output.text) output.status) }
 {
     let copies = copies_of(alloc, site, order.workers)?;
-    let brought = brought_by(workers::retrieve(rt, alloc, &order.plan, copies));
-    told_of(alloc, order.trace, &brought)
+    let (retrieved, copies) = workers::retrieve_shown(rt, alloc, &order.plan, copies, None);
+    // They are let go before a report is made.
+    drop(copies);
+    told_of(alloc, order.trace, &retrieved)
 }
 
 // What is told of the retrieval of the map that is the input.

@@ -7,18 +7,20 @@ ghost use Rattle.retriever.specs.Systems.{IsNotRead, IsNotResumed, IsRecordRead,
 ghost use Rattle.retriever.specs.inner.Systems.{goes_on_from, is_plain};
 
 use crate::input_run::{MAX_INPUT, deliver};
-use crate::live_run::live;
+use crate::live_run::live_shown;
 use crate::resume_fault::{ResumeFault, resume_status, resume_text};
-use crate::saved_run::{live_resumed, resuming};
+use crate::saved_run::{live_saved, resuming};
 use crate::system::{HoldFault, System};
 use options::Order;
 use site_inputs::InputFault;
 use site_records::RecordedSite;
 use std::alloc::{AllocError, Global};
 use std::io::Write;
+use std::mem;
 use std::sync::Wait;
 use std::thread::Threads;
 use streams::ReadFault;
+use workers::{Halt, Harvest};
 
 /// A record without entries.
 const EMPTY: &[u8] = b"wgetr-record 2\n";
@@ -40,6 +42,12 @@ fn fetchers_of<S: System>(
     Ok(fetchers)
 }
 
+// Lets what was retrieved stand to the end. To give its memory back to the system, page by page, would take a tenth of a large
+// run, and the process ends behind it.
+fn keep_to_the_end(retrieved: Result<Harvest, Halt>) {
+    mem::forget(retrieved);
+}
+
 // Retrieves the live site that the order says, by fetchers of the system, into its folder.
 fn live_plainly<H: Threads + Wait + Sync, S: System, W: Write>(
     rt: &H,
@@ -53,7 +61,10 @@ fn live_plainly<H: Threads + Wait + Sync, S: System, W: Write>(
 {
     let fetchers = fetchers_of(alloc, system, order, false)?;
     let mut folder = system.folder(order.prefix.as_str())?;
-    Ok(live(rt, alloc, order, fetchers, &mut folder, writer))
+    let waiting = system.waiting();
+    let (status, retrieved) = live_shown(rt, alloc, order, fetchers, &mut folder, writer, waiting);
+    keep_to_the_end(retrieved);
+    Ok(status)
 }
 
 // The same by fetchers that ask those of the system for what the record doesn't state.
@@ -72,7 +83,10 @@ fn live_again<H: Threads + Wait + Sync, S: System, W: Write>(
     let fetchers = fetchers_of(alloc, system, order, false)?;
     let resumed = resuming(alloc, recorded, fetchers)?;
     let mut folder = system.folder(order.prefix.as_str())?;
-    Ok(live(rt, alloc, order, resumed, &mut folder, writer))
+    let waiting = system.waiting();
+    let (status, retrieved) = live_shown(rt, alloc, order, resumed, &mut folder, writer, waiting);
+    keep_to_the_end(retrieved);
+    Ok(status)
 }
 
 // The same, and what the record says and these fetchers note is saved at the path.
@@ -90,18 +104,22 @@ fn live_saving<H: Threads + Wait + Sync, S: System, W: Write>(
     ensures unwritten { OnErr result (writer.new ≡ writer.old) }
 {
     let fetchers = fetchers_of(alloc, system, order, true)?;
+    let resumed = resuming(alloc, recorded, fetchers)?;
     let mut folder = system.folder(order.prefix.as_str())?;
     let mut saved = system.record(path)?;
-    Ok(live_resumed(
+    let (status, retrieved) = live_saved(
         rt,
         alloc,
         order,
-        recorded,
-        fetchers,
+        recorded.notes(),
+        resumed,
         &mut folder,
         writer,
         &mut saved,
-    ))
+        system.waiting(),
+    );
+    keep_to_the_end(retrieved);
+    Ok(status)
 }
 
 // Reads a record, with notes of what it states where the order saves.

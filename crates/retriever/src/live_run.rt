@@ -10,7 +10,7 @@ ghost use Rattle.retriever.specs.inner.Puts.{IsHaltTold, IsPutAndTold, IsPutOf, 
 ghost use Rattle.retriever.specs.Retrieved.{Stopped};
 ghost use Rattle.retriever.specs.Run.{finish_text};
 
-use crate::told::{brought_by, halt_text, telling_of};
+use crate::told::{halt_text, telling_of};
 use fetcher::Fetcher;
 use frontier_core::Cause;
 use local_tree::{Folder, WriteFault, write_site};
@@ -19,6 +19,7 @@ use report::exit_status;
 use std::alloc::{AllocError, Global};
 use std::io::Write;
 use std::sync::Wait;
+use std::sync::atomic::AtomicUsize;
 use std::thread::Threads;
 use streams::{WriteFailed, write_text};
 use workers::{Halt, Harvest};
@@ -156,19 +157,19 @@ fn finish_harvest<D: Folder, W: Write>(
     }
 }
 
-/// Puts and tells what a retrieval brought. The error is that the writer failed.
+/// Puts and tells what was retrieved. The error is that the writer failed.
 pub(crate) fn finish<D: Folder, W: Write>(
     alloc: Global,
     is_shown: bool,
-    brought: &Result<Harvest, Halt>,
+    retrieved: &Result<Harvest, Halt>,
     folder: &mut D,
     writer: &mut W,
 ) -> Result<u8, WriteFailed>
-    ensures told { IsPutOf (IsToldAs (W.contents writer.old) (W.contents writer.new) result) is_shown brought.now
+    ensures told { IsPutOf (IsToldAs (W.contents writer.old) (W.contents writer.new) result) is_shown retrieved.now
         (holding D.files D.failed folder.old) (holding D.files D.failed folder.new) }
-    ensures read { IfOk brought.now IsRead }
+    ensures read { IfOk retrieved.now IsRead }
 {
-    match brought {
+    match retrieved {
         Ok(harvest) => finish_harvest(alloc, is_shown, harvest, folder, writer),
         Err(halt) => tell_halt(alloc, is_shown, halt, writer),
     }
@@ -182,6 +183,29 @@ fn status_told(told: Result<u8, WriteFailed>) -> u8
         Ok(status) => status,
         Err(_) => 1,
     }
+}
+
+/// Retrieves as [`live`] does, and gives what was retrieved beside the status. How many addresses wait is noted there, where a
+/// place is given for who looks on.
+pub(crate) fn live_shown<H: Threads + Wait + Sync, F: Fetcher + Send, D: Folder, W: Write>(
+    rt: &H,
+    alloc: Global,
+    order: &Order,
+    fetchers: Vec<F>,
+    folder: &mut D,
+    writer: &mut W,
+    waiting: Option<&AtomicUsize>,
+) -> (u8, Result<Harvest, Halt>)
+    requires some { 0 < vec_len fetchers }
+    requires most { vec_len fetchers ≤ 64 }
+    ensures lives { Lives F.site F.says F.rules F.log order.now fetchers.items (holding D.files D.failed folder.old) (holding D.files D.failed folder.new)
+        (W.contents writer.old) (W.contents writer.new) result.0 }
+{
+    let (retrieved, left) = workers::retrieve_shown(rt, alloc, &order.plan, fetchers, waiting);
+    // They are let go before a report is made.
+    drop(left);
+    let status = status_told(finish(alloc, order.trace, &retrieved, folder, writer));
+    (status, retrieved)
 }
 
 /// Retrieves the live site that the order says by these fetchers, a worker for each, 1 to 64 of them: asks for what its plan
@@ -207,6 +231,6 @@ pub fn live<H: Threads + Wait + Sync, F: Fetcher + Send, D: Folder, W: Write>(
     ensures lives { Lives F.site F.says F.rules F.log order.now fetchers.items (holding D.files D.failed folder.old) (holding D.files D.failed folder.new)
         (W.contents writer.old) (W.contents writer.new) result }
 {
-    let brought = brought_by(workers::retrieve(rt, alloc, &order.plan, fetchers));
-    status_told(finish(alloc, order.trace, &brought, folder, writer))
+    let (status, _retrieved) = live_shown(rt, alloc, order, fetchers, folder, writer, None);
+    status
 }

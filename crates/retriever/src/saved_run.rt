@@ -8,7 +8,6 @@ ghost use Rattle.retriever.specs.Saving.{IsSaved, LivesResumed, LivesSaved, resu
 
 use crate::input_run::deliver;
 use crate::live_run::finish;
-use crate::told::parted;
 use answer_notes::{Noted, Recording};
 use local_tree::Folder;
 use options::Order;
@@ -16,8 +15,10 @@ use site_records::{RecordFault, RecordedSite, Resumed, write_record};
 use std::alloc::{AllocError, Global};
 use std::io::Write;
 use std::sync::Wait;
+use std::sync::atomic::AtomicUsize;
 use std::thread::Threads;
 use streams::WriteFailed;
+use workers::{Halt, Harvest};
 
 /// Fetchers that ask these for what the record doesn't state.
 pub(crate) fn resuming<F: Recording>(
@@ -99,8 +100,15 @@ fn tell_saving_behind<W: Write>(
     }
 }
 
-// Retrieves live, and saves what is given and what the fetchers note. They are let go before a report is made.
-fn live_saved<H: Threads + Wait + Sync, F: Recording + Send, D: Folder, W: Write, V: Write>(
+/// Retrieves live, and saves what is given and what the fetchers note; gives what was retrieved beside the status. How many
+/// addresses wait is noted there, where a place is given for who looks on.
+pub(crate) fn live_saved<
+    H: Threads + Wait + Sync,
+    F: Recording + Send,
+    D: Folder,
+    W: Write,
+    V: Write,
+>(
     rt: &H,
     alloc: Global,
     order: &Order,
@@ -109,17 +117,19 @@ fn live_saved<H: Threads + Wait + Sync, F: Recording + Send, D: Folder, W: Write
     folder: &mut D,
     writer: &mut W,
     saved: &mut V,
-) -> u8
+    waiting: Option<&AtomicUsize>,
+) -> (u8, Result<Harvest, Halt>)
     requires some { 0 < vec_len fetchers }
     requires most { vec_len fetchers ≤ 64 }
     ensures { LivesSaved F.site F.says F.rules F.log F.noted order.now given.now fetchers.items (holding D.files D.failed folder.old) (holding D.files D.failed folder.new)
-        (W.contents writer.old) (W.contents writer.new) (V.contents saved.old) (V.contents saved.new) result }
+        (W.contents writer.old) (W.contents writer.new) (V.contents saved.old) (V.contents saved.new) result.0 }
 {
-    let (brought, left) = parted(workers::retrieve(rt, alloc, &order.plan, fetchers));
+    let (retrieved, left) = workers::retrieve_shown(rt, alloc, &order.plan, fetchers, waiting);
     let saving = save(alloc, given, left.as_slice(), saved);
+    // They are let go before a report is made.
     drop(left);
-    let told = finish(alloc, order.trace, &brought, folder, writer);
-    tell_saving_behind(told, saving, writer)
+    let told = finish(alloc, order.trace, &retrieved, folder, writer);
+    (tell_saving_behind(told, saving, writer), retrieved)
 }
 
 /// Retrieves as [`live`](crate::live) does, but that nothing is asked for that the record states, and saves the record's notes
@@ -143,16 +153,20 @@ pub fn live_resumed<H: Threads + Wait + Sync, F: Recording + Send, D: Folder, W:
         (holding D.files D.failed folder.new) (W.contents writer.old) (W.contents writer.new) (V.contents saved.old) (V.contents saved.new) result }
 {
     match resuming(alloc, recorded, fetchers) {
-        Ok(resuming) => live_saved(
-            rt,
-            alloc,
-            order,
-            recorded.notes(),
-            resuming,
-            folder,
-            writer,
-            saved,
-        ),
+        Ok(resuming) => {
+            let (status, _retrieved) = live_saved(
+                rt,
+                alloc,
+                order,
+                recorded.notes(),
+                resuming,
+                folder,
+                writer,
+                saved,
+                None,
+            );
+            status
+        }
         Err(_) => deliver(writer, b"stopped memory\n", 1),
     }
 }

@@ -5,6 +5,7 @@ use answer_notes::Recording;
 use local_tree::Folder;
 use std::alloc::{AllocError, Global};
 use std::io::Write;
+use std::sync::atomic::AtomicUsize;
 use streams::ReadFault;
 
 /// Why a run may not save at a path.
@@ -69,4 +70,9 @@ pub trait System {
     /// replaced by the whole record, or stays. The error is that memory is wanting.
     fn record(&self, path: &str) -> Result<Self::Record, AllocError>
         ensures { IfOk result (names self.now path.now) };
+
+    /// Where the run notes how many addresses wait, for who looks on.
+    fn waiting(&self) -> Option<&AtomicUsize> {
+        None
+    }
 }

@@ -5,8 +5,8 @@ ghost use Rattle.local_tree.specs.PlainNames.{plain_name_of};
 ghost use Rattle.report.specs.Entries.{lines_of};
 ghost use Rattle.report.specs.Report.{report_text};
 ghost use Rattle.retriever.specs.Parts.{shown_of};
-ghost use Rattle.retriever.specs.inner.Parts.{IsRead, IsToldOf, brought_by, crew_left, is_borne_out};
-ghost use Rattle.retriever.specs.Retrieved.{Stopped as StoppedFor};
+ghost use Rattle.retriever.specs.inner.Parts.{IsRead, IsToldOf, is_borne_out};
+ghost use Rattle.retriever.specs.Retrieved.{Stopped};
 ghost use Rattle.retriever.specs.Run.{finish_text};
 ghost use Rattle.report.specs.Trace.{trace_text};
 
@@ -14,7 +14,7 @@ use frontier_core::{Cause, Event};
 use local_tree::names;
 use report::{cause_word, exit_status, push_trace, report_text};
 use std::alloc::{AllocError, Global};
-use workers::{Halt, Harvest, Retrieved, Stopped};
+use workers::{Halt, Harvest};
 
 /// What a run has to write, and the status with which it ends.
 #[derive(Drop)]
@@ -54,15 +54,14 @@ pub(crate) fn telling_of(
         ≡ trace_text (shown_of is_shown harvest.now.trace) ++ report_text (lines_of harvest.now (map string_bytes telling.names.items))) }
     ensures read { IsRead harvest.now }
 {
-    // The entries, the records and the kept pages say what the frontier holds, and the trace leads there.
+    // The entries and the records say what the frontier holds.
     let _entries = harvest.entries();
     let _records = harvest.records();
-    let _kept = harvest.kept();
-    let _trace = harvest.trace();
+    let trace = harvest.trace();
     let names = names(alloc, harvest.kept())?;
     let report = report_text(alloc, harvest, names.as_slice())?;
     let mut text = String::new(alloc);
-    push_shown(&mut text, is_shown, harvest.trace())?;
+    push_shown(&mut text, is_shown, trace)?;
     text.push_str(report.as_str())?;
     Ok(Telling { names, text })
 }
@@ -79,7 +78,7 @@ fn is_borne_out(cause: Cause) -> bool
 
 /// The text of a retrieval that stopped: its trace, where it is to be shown and no check failed, and the line of the cause.
 pub(crate) fn halt_text(alloc: Global, is_shown: bool, halt: &Halt) -> Result<String, AllocError>
-    ensures { IfOk result (λ text. string_bytes text ≡ trace_text (shown_of (is_borne_out halt.now.cause && is_shown) halt.now.harvest.trace) ++ finish_text (StoppedFor halt.now.cause)) }
+    ensures { IfOk result (λ text. string_bytes text ≡ trace_text (shown_of (is_borne_out halt.now.cause && is_shown) halt.now.harvest.trace) ++ finish_text (Stopped halt.now.cause)) }
 {
     let mut text = String::new(alloc);
     let is_shown = is_borne_out(halt.cause) && is_shown;
@@ -89,16 +88,16 @@ pub(crate) fn halt_text(alloc: Global, is_shown: bool, halt: &Halt) -> Result<St
     Ok(text)
 }
 
-/// What is told of what a retrieval brought.
+/// What is told of what was retrieved.
 pub(crate) fn told_of(
     alloc: Global,
     is_shown: bool,
-    brought: &Result<Harvest, Halt>,
+    retrieved: &Result<Harvest, Halt>,
 ) -> Result<Output, AllocError>
-    ensures told { IfOk result (λ output. IsToldOf is_shown brought.now (string_bytes output.text) output.status) }
-    ensures read { IfOk brought.now IsRead }
+    ensures told { IfOk result (λ output. IsToldOf is_shown retrieved.now (string_bytes output.text) output.status) }
+    ensures read { IfOk retrieved.now IsRead }
 {
-    match brought {
+    match retrieved {
         Ok(harvest) => {
             let Telling { names: _, text } = telling_of(alloc, is_shown, harvest)?;
             let status = exit_status(harvest);
@@ -107,52 +106,6 @@ pub(crate) fn told_of(
         Err(halt) => {
             let text = halt_text(alloc, is_shown, halt)?;
             Ok(Output { text, status: 1 })
-        }
-    }
-}
-
-/// What a crew brings, without its fetchers.
-pub(crate) fn brought_by<F: Drop>(crew: Result<Retrieved<F>, Stopped<F>>) -> Result<Harvest, Halt>
-    ensures { result ≡ brought_by crew }
-{
-    match crew {
-        Ok(retrieved) => {
-            let Retrieved {
-                harvest,
-                fetchers: _,
-            } = retrieved;
-            Ok(harvest)
-        }
-        Err(stopped) => {
-            let Stopped {
-                cause,
-                harvest,
-                fetchers: _,
-            } = stopped;
-            Err(Halt { cause, harvest })
-        }
-    }
-}
-
-/// What a crew brings, and its fetchers.
-pub(crate) fn parted<F: Drop>(
-    crew: Result<Retrieved<F>, Stopped<F>>,
-) -> (Result<Harvest, Halt>, Vec<F>)
-    ensures brought { result.0 ≡ brought_by crew }
-    ensures left { result.1.items ≡ crew_left crew }
-{
-    match crew {
-        Ok(retrieved) => {
-            let Retrieved { harvest, fetchers } = retrieved;
-            (Ok(harvest), fetchers)
-        }
-        Err(stopped) => {
-            let Stopped {
-                cause,
-                harvest,
-                fetchers,
-            } = stopped;
-            (Err(Halt { cause, harvest }), fetchers)
         }
     }
 }

@@ -12,8 +12,6 @@ use Rattle.frontier_core.specs.declared.event.Cause.TheVariants as cause
 use Rattle.frontier_core.specs.declared.event.Event.{Event}
 use Rattle.harvest.specs.Gathered.{AreEntries, AreRecords, ArePages}
 use Rattle.harvest.specs.Harvests.{Harvested}
-use Rattle.workers.specs.declared.crew_retrieval.Retrieved.{Retrieved}
-use Rattle.workers.specs.declared.crew_retrieval.Stopped.{Stopped as StoppedCrew}
 use Rattle.workers.specs.declared.retrieval.Halt.{Halt}
 use Rattle.local_tree.specs.Names.{IsNaming}
 use Rattle.local_tree.specs.PlainNames.{plain_name_of}
@@ -62,16 +60,6 @@ abbrev pub is_borne_out : Cause → Bool
 is_borne_out cause.Full = true
 is_borne_out cause.Memory = true
 is_borne_out cause.Mismatch = false
-
--- what a crew brings, without its fetchers
-abbrev pub brought_by : {F : Type 0} → Result (Retrieved F) (StoppedCrew F) → Result Harvested Halt
-brought_by (Ok r) = Ok r.harvest
-brought_by (Err s) = Err (record { cause = s.cause; harvest = s.harvest })
-
--- the fetchers of a crew
-abbrev pub crew_left : {F : Type 0} → Result (Retrieved F) (StoppedCrew F) → List F
-crew_left (Ok r) = r.fetchers.items
-crew_left (Err s) = s.fetchers.items
 
 -- what is told of a retrieval: its report, in which the kept pages have their names, and the status of its records, or the
 -- cause for which it stopped; before either what is shown of its trace, which is nothing where a check failed

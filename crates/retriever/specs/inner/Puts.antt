@@ -1,4 +1,4 @@
--- What is put into a folder and told of what a retrieval brought, before it is said what that is. How a text is told, with the
+-- What is put into a folder and told of what was retrieved, before it is said what that is. How a text is told, with the
 -- status that belongs to it, is left to who says it.
 use Rattle.std.specs.Prelude.{◌≡◌, ◌⊎◌, ◌&&◌, ℕ, Bool, List, ◌++◌, map, codes, Result, Ok, Err}
 use Rattle.frontier_core.specs.declared.event.Cause.{Cause}
@@ -47,7 +47,7 @@ IsPutAndTold IsTold names bodies text wanted old new =
 abbrev pub harvest_text : Bool → Harvested → List (List ℕ) → List ℕ
 harvest_text is_shown h names = trace_text (shown_of is_shown h.trace) ++ report_text (lines_of h names)
 
--- what is put and told of what a retrieval brought: the kept pages and the report, or the line of the cause for which it
+-- what is put and told of what was retrieved: the kept pages and the report, or the line of the cause for which it
 -- stopped; or there is no memory for it, and nothing is put
 abbrev pub IsPutOf : (List ℕ → ℕ → Type 0) → Bool → Result Harvested Halt → Holding → Holding → Type 0
 IsPutOf IsTold is_shown (Ok h) old new =

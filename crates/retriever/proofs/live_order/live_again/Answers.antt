@@ -19,8 +19,8 @@ returns-clause-lives g c =
         count = sym c.in_ok-fetchers.fetchers.ok.0 ∙ c.in_ok-fetchers.ensures.count;
         opened = subst (λ (path : List ℕ). g.S.System.opens c.args.system.now path c.in_ok-folder.folder) c.as_str.ensures c.in_ok-folder.ensures;
       };
-      left = c.live.new.folder;
+      left = c.live_shown-status.new.folder;
       lives = subst (λ (all : List (Resuming _)). Lives (resumption_of F.site F.log) (SaysOr F.says) (RulesOr F.rules) (λ r. r.asks) c.args.order.now all
-          (holding D.files D.failed c.in_ok-folder.folder) (holding D.files D.failed c.live.new.folder) (g.W.Write.contents c.args.writer.now) (g.W.Write.contents c.live.new.writer) c.live.result)
-          c.in_ok-resumed.ensures.resuming c.live.ensures.lives;
+          (holding D.files D.failed c.in_ok-folder.folder) (holding D.files D.failed c.live_shown-status.new.folder) (g.W.Write.contents c.args.writer.now) (g.W.Write.contents c.live_shown-status.new.writer) c.live_shown-status.result.0)
+          c.in_ok-resumed.ensures.resuming c.live_shown-status.ensures.lives;
     }

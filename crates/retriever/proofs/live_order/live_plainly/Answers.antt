@@ -11,6 +11,6 @@ returns-clause-lives g c = record {
     count = sym c.in_ok-fetchers.fetchers.ok.0 ∙ c.in_ok-fetchers.ensures.count;
     opened = subst (λ (path : List ℕ). g.S.System.opens c.args.system.now path c.in_ok-folder.folder) c.as_str.ensures c.in_ok-folder.ensures;
   };
-  left = c.live.new.folder;
-  lives = c.live.ensures.lives;
+  left = c.live_shown-status.new.folder;
+  lives = c.live_shown-status.ensures.lives;
 }

@@ -11,9 +11,9 @@ returns-in-Ok g c =
     let F = g.F.Fetcher in
     let D = g.D.Folder in
     let lives = λ (given : List Noted) (all : List (Resuming g.row.F.Denot)). LivesSaved (resumption_of F.site F.log) (SaysOr F.says) (RulesOr F.rules) (λ r. r.asks)
-    (noted_within g.F.Recording.noted) c.args.order.now given all (holding D.files D.failed c.args.folder.now) (holding D.files D.failed c.live_saved.new.folder)
-    (g.W.Write.contents c.args.writer.now) (g.W.Write.contents c.live_saved.new.writer) (g.V.Write.contents c.args.saved.now) (g.V.Write.contents c.live_saved.new.saved) c.live_saved.result in
-    let of_record = subst (λ (given : List Noted). lives given c.in-Ok.resuming.items) c.notes.ensures c.live_saved.ensures in
+    (noted_within g.F.Recording.noted) c.args.order.now given all (holding D.files D.failed c.args.folder.now) (holding D.files D.failed c.live_saved-status.new.folder)
+    (g.W.Write.contents c.args.writer.now) (g.W.Write.contents c.live_saved-status.new.writer) (g.V.Write.contents c.args.saved.now) (g.V.Write.contents c.live_saved-status.new.saved) c.live_saved-status.result.0 in
+    let of_record = subst (λ (given : List Noted). lives given c.in-Ok.resuming.items) c.notes.ensures c.live_saved-status.ensures in
     record { lives = inl (subst (λ (all : List (Resuming g.row.F.Denot)). lives c.args.recorded.now.notes all) c.in-Ok.ensures.resuming of_record) }
 
 pub returns-in-Err : goal.returns-in-Err

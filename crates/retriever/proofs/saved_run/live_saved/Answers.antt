@@ -1,11 +1,11 @@
--- What the crew brought is put and told, and what its fetchers noted is saved.
+-- What the crew retrieved is put and told, and what its fetchers noted is saved.
 use Rattle.std.proofs.Common.{◌∙◌, ◌++◌, List, subst}
 use Rattle.std.specs.List.{flat_map}
 use Rattle.site_records.specs.WrittenRecords.{record_text}
 use Rattle.retriever.specs.Found.{holding}
-use Rattle.retriever.specs.inner.Parts.{IsToldAs, crew_left}
+use Rattle.retriever.specs.inner.Parts.{IsToldAs}
 use Rattle.retriever.specs.Saving.{IsSaved}
-use Rattle.retriever.proofs.LiveLaws.{crew_ends, crew_later, of_crew}
+use Rattle.retriever.proofs.LiveLaws.{crew_ends, of_crew}
 use Rattle.retriever.proofs.saved_run.live_saved.Goals as goal
 
 pub returns : goal.returns
@@ -13,21 +13,23 @@ returns g c =
     let F = g.F.Fetcher in
     let D = g.D.Folder in
     let noted = g.F.Recording.noted in
-    let crew = c.retrieve.ensures in
+    let r = c.retrieve_shown-retrieved.result.0 in
+    let news = c.retrieve_shown-retrieved.result.1.items in
+    let crew = c.retrieve_shown-retrieved.ensures in
     let olds = c.args.fetchers.items in
-    let by = of_crew F.site F.says F.rules F.log olds c.retrieve.result c.args.fetchers.len c.args.fetchers.ok.0 crew.numbered crew.own in
-    let (shown, ending, ends, written) = crew_ends F.site F.says F.rules F.log c.args.order.now olds c.retrieve.result _
+    let by = of_crew F.site F.says F.rules F.log olds news r c.args.fetchers.len c.args.fetchers.ok.0 crew.numbered crew.own in
+    let (shown, ending, ends, written) = crew_ends F.site F.says F.rules F.log c.args.order.now olds news r
     (holding D.files D.failed c.args.folder.now) (holding D.files D.failed c.finish-told.new.folder)
-    (IsToldAs (g.W.Write.contents c.args.writer.now) (g.W.Write.contents c.finish-told.new.writer) c.finish-told.result) c.parted-brought.ensures.brought
+    (IsToldAs (g.W.Write.contents c.args.writer.now) (g.W.Write.contents c.finish-told.new.writer) c.finish-told.result)
     crew.ok crew.err crew.full (λ is. crew.one (c.args.fetchers.ok.0 ∙ is)) by c.finish-told.ensures.read c.finish-told.ensures.told in
     record {
-      left = crew_left c.retrieve.result;
-      later = crew_later F.site F.says F.rules F.log olds c.retrieve.result crew.fetchers;
+      left = news;
+      later = crew.fetchers;
       shown = shown;
       ending = ending;
       ends = ends;
       saving = c.save-saving.result;
       saved = subst (λ (left : List g.row.F.Denot). IsSaved c.save-saving.result (g.V.Write.contents c.args.saved.now) (g.V.Write.contents c.save-saving.new.saved)
-          (record_text (c.args.given.now ++ flat_map noted left))) (c.as_slice.ensures.value ∙ c.parted-brought.ensures.left) c.save-saving.ensures;
+          (record_text (c.args.given.now ++ flat_map noted left))) c.as_slice.ensures.value c.save-saving.ensures;
       written = c.tell_saving_behind.ensures _ _ _ written;
     }
