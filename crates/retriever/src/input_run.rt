@@ -36,7 +36,7 @@ fn map_of<R: Read>(alloc: Global, reader: &mut R) -> Result<MapSite, Fault>
     Ok(MapSite::read(alloc, input.as_slice())?)
 }
 
-// The site of the record that is the input, by whether robots are honoured. The record's own bytes are let go.
+// The site of the record that is the input, by whether robots are honoured. The record's own bytes are dropped.
 fn record_of<R: Read>(alloc: Global, reader: &mut R, robots: bool) -> Result<RecordedSite, Fault>
     ensures ok { IfOk result (λ site. TellsOf (IsRecordOf robots) (R.remaining reader.old) (without_bodies (record_says site.answers site.rules))) }
     ensures err { IfErr result (TellsFault (IsFaultOfRecord robots) (R.remaining reader.old)) }
@@ -56,7 +56,7 @@ fn retrieve<H: Threads + Wait + Sync, F: Copied>(
 {
     let copies = copies_of(alloc, site, order.workers)?;
     let (retrieved, copies) = workers::retrieve_shown(rt, alloc, &order.plan, copies, None);
-    // They are let go before a report is made.
+    // They are dropped before a report is made.
     drop(copies);
     told_of(alloc, order.trace, &retrieved)
 }

@@ -202,7 +202,7 @@ pub(crate) fn live_shown<H: Threads + Wait + Sync, F: Fetcher + Send, D: Folder,
         (W.contents writer.old) (W.contents writer.new) result.0 }
 {
     let (retrieved, left) = workers::retrieve_shown(rt, alloc, &order.plan, fetchers, waiting);
-    // They are let go before a report is made.
+    // They are dropped before a report is made.
     drop(left);
     let status = status_told(finish(alloc, order.trace, &retrieved, folder, writer));
     (status, retrieved)

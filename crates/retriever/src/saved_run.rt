@@ -126,7 +126,7 @@ pub(crate) fn live_saved<
 {
     let (retrieved, left) = workers::retrieve_shown(rt, alloc, &order.plan, fetchers, waiting);
     let saving = save(alloc, given, left.as_slice(), saved);
-    // They are let go before a report is made.
+    // They are dropped before a report is made.
     drop(left);
     let told = finish(alloc, order.trace, &retrieved, folder, writer);
     (tell_saving_behind(told, saving, writer), retrieved)
