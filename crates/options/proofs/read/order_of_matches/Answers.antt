@@ -24,7 +24,7 @@ returns-in-Err c =
     let counts = c.in-Some-read_counts.ensures in
     let level : level_of found ≡ Some c.in-Some-level.level = sym c.in-Some-level.ensures.value in
     ⊎_elim
-    (λ fails. inl (bad-filters found (record { workers = c.in-Some-read_counts.counts.workers; per_host = c.in-Some-read_counts.counts.per_host; max_urls = c.in-Some-read_counts.counts.max_urls }) c.in-Some-level.level c.in-Err.fault words counts level fails ∙ ap Err (sym fails.0)))
+    (λ fails. inl (bad-filters found _ c.in-Some-level.level c.in-Err.fault words counts level fails ∙ ap Err (sym fails.0)))
     (λ memory. inr memory)
     c.in-Err.ensures
 
@@ -36,7 +36,7 @@ returns-in-Err-start c =
     let level : level_of found ≡ Some c.in-Some-level.level = sym c.in-Some-level.ensures.value in
     let lists = c.in-Ok.ensures in
     ⊎_elim
-    (λ fails. inl (bad-start found (record { workers = c.in-Some-read_counts.counts.workers; per_host = c.in-Some-read_counts.counts.per_host; max_urls = c.in-Some-read_counts.counts.max_urls }) c.in-Some-level.level (c.in-Ok.filters.names.given, c.in-Ok.filters.names.excluded) (c.in-Ok.filters.places.given, c.in-Ok.filters.places.excluded) (c.in-Ok.filters.hosts.given, c.in-Ok.filters.hosts.excluded) c.in-Err-start.fault words counts level lists.0 lists.1 lists.2 fails ∙ ap Err (sym fails.0)))
+    (λ fails. inl (bad-start found _ c.in-Some-level.level (c.in-Ok.filters.names.given, c.in-Ok.filters.names.excluded) (c.in-Ok.filters.places.given, c.in-Ok.filters.places.excluded) (c.in-Ok.filters.hosts.given, c.in-Ok.filters.hosts.excluded) c.in-Err-start.fault words counts level lists.0 lists.1 lists.2 fails ∙ ap Err (sym fails.0)))
     (λ memory. inr memory)
     c.in-Err-start.ensures
 
@@ -47,5 +47,5 @@ returns c =
     let counts = c.in-Some-read_counts.ensures in
     let level : level_of found ≡ Some c.in-Some-level.level = sym c.in-Some-level.ensures.value in
     let lists = c.in-Ok.ensures in
-    good-order found (record { workers = c.in-Some-read_counts.counts.workers; per_host = c.in-Some-read_counts.counts.per_host; max_urls = c.in-Some-read_counts.counts.max_urls }) c.in-Some-level.level (c.in-Ok.filters.names.given, c.in-Ok.filters.names.excluded) (c.in-Ok.filters.places.given, c.in-Ok.filters.places.excluded) (c.in-Ok.filters.hosts.given, c.in-Ok.filters.hosts.excluded) c.in-Ok-start.page words counts level lists.0 lists.1 lists.2 c.in-Ok-start.ensures.0
+    good-order found _ c.in-Some-level.level (c.in-Ok.filters.names.given, c.in-Ok.filters.names.excluded) (c.in-Ok.filters.places.given, c.in-Ok.filters.places.excluded) (c.in-Ok.filters.hosts.given, c.in-Ok.filters.hosts.excluded) c.in-Ok-start.page words counts level lists.0 lists.1 lists.2 c.in-Ok-start.ensures.0
     ∙ ap Ok (sym c.filled.ensures)
