@@ -80,13 +80,34 @@ fn held_of(done: Done) -> Held {
     }
 }
 
+// Stops the frontier, and the worker with it.
+fn halt<R: Wait>(rt: &R, lock: &FrontierLock<'_>, held: Option<Held>, cause: Cause) -> Work {
+    lock.halt(rt, held, cause);
+    Work::Stopped(cause)
+}
+
+// What the worker is to do next, when others have done what it has to wait for.
+fn next<R: Wait>(rt: &R, lock: &FrontierLock<'_>, worker: u32) -> Work {
+    match lock.next_or_wait(rt, worker) {
+        Ok(work) => work,
+        Err(_) => halt(rt, lock, None, Cause::Memory),
+    }
+}
+
+// Gives up the permit of an answer that wasn't taken, and stops the frontier.
+fn refuse<R: Wait>(rt: &R, lock: &FrontierLock<'_>, refused: Refused) -> Cause {
+    let Refused { done, fault } = refused;
+    let cause = cause_of(fault);
+    lock.halt(rt, Some(held_of(done)), cause);
+    cause
+}
+
 // Hands an answer over. Where it isn't taken the frontier stops.
-fn give<R: Wait>(rt: &R, lock: &FrontierLock, done: Done) -> bool {
+fn give<R: Wait>(rt: &R, lock: &FrontierLock<'_>, done: Done) -> bool {
     match lock.give(rt, done) {
         Ok(()) => true,
         Err(refused) => {
-            let Refused { done, fault } = refused;
-            lock.halt(rt, Some(held_of(done)), cause_of(fault));
+            refuse(rt, lock, refused);
             false
         }
     }
@@ -132,69 +153,75 @@ fn untold_page(worker: u32, address: Address) -> PageNote
     }
 }
 
-// Hands the answer of a page over, and gives the note of it.
+// Hands the answer of a page over, and gives the note of it with what the worker is to do next.
 fn hand_over<R: Wait>(
     rt: &R,
-    lock: &FrontierLock,
+    lock: &FrontierLock<'_>,
     plan: &Plan,
     worker: u32,
     spool: &mut Spool,
     address: Address,
     permit: Permit,
     answer: Answer,
-) -> PageNote
-    ensures worker { result.worker ≡ worker }
-    ensures address { result.address ≡ address }
-    ensures told { MatchOption result.told (result.body ≡ None) (λ x. (x ≡ answer.outcome) × (result.body ≡ body_of plan.now result.address x answer.body)) }
+) -> (PageNote, Work)
+    ensures worker { result.0.worker ≡ worker }
+    ensures address { result.0.address ≡ address }
+    ensures told { MatchOption result.0.told (result.0.body ≡ None) (λ x. (x ≡ answer.outcome) × (result.0.body ≡ body_of plan.now result.0.address x answer.body)) }
 {
     let Ok(told) = told_of(spool, plan, &address, answer) else {
-        lock.halt(rt, Some(Held::Page(permit)), Cause::Memory);
-        return untold_page(worker, address);
+        let stopped = halt(rt, lock, Some(Held::Page(permit)), Cause::Memory);
+        return (untold_page(worker, address), stopped);
     };
     let ToldPage {
         outcome,
         copy,
         body,
     } = told;
-    if !give(rt, lock, Done::Page(permit, copy)) {
-        return untold_page(worker, address);
-    }
-    PageNote {
+    let next = match lock.give_and_take(rt, worker, Done::Page(permit, copy)) {
+        Ok(next) => next,
+        Err(refused) => {
+            let stopped = Work::Stopped(refuse(rt, lock, refused));
+            return (untold_page(worker, address), stopped);
+        }
+    };
+    let note = PageNote {
         worker,
         address,
         told: Some(outcome),
         body,
-    }
+    };
+    (note, next)
 }
 
-// Asks for the page of a permit with the lock free, hands the outcome over, and notes what was asked for.
+// Asks for the page of a permit with the lock free, hands the outcome over, and notes what was asked for. Gives what the worker
+// is to do next.
 fn serve<F: Fetcher, R: Wait>(
     rt: &R,
-    lock: &FrontierLock,
+    lock: &FrontierLock<'_>,
     plan: &Plan,
     worker: u32,
     fetcher: &mut F,
     notes: &mut Notes,
     spool: &mut Spool,
     permit: Permit,
-)
+) -> Work
     ensures { Goes F.site F.says F.rules F.log plan.now worker fetcher.old notes.old fetcher.new notes.new }
 {
     let Ok(address) = make_page_room(notes, permit.address()) else {
-        lock.halt(rt, Some(Held::Page(permit)), Cause::Memory);
-        return;
+        return halt(rt, lock, Some(Held::Page(permit)), Cause::Memory);
     };
     let before = fetcher.asks().len();
     let Ok(answer) = fetcher.ask(permit.address()) else {
-        lock.halt(rt, Some(Held::Page(permit)), Cause::Memory);
+        let stopped = halt(rt, lock, Some(Held::Page(permit)), Cause::Memory);
         if fetcher.asks().len() == before {
-            return;
+            return stopped;
         }
         notes.pages.push_reserved(untold_page(worker, address));
-        return;
+        return stopped;
     };
-    let note = hand_over(rt, lock, plan, worker, spool, address, permit, answer);
+    let (note, next) = hand_over(rt, lock, plan, worker, spool, address, permit, answer);
     notes.pages.push_reserved(note);
+    next
 }
 
 // The note of an origin's rules that were asked for, where none were handed over.
@@ -212,7 +239,7 @@ fn untold_rules(worker: u32, origin: Origin) -> RulesNote
 fn hand_rules_over<R: Wait>(
     rt: &R,
     alloc: Global,
-    lock: &FrontierLock,
+    lock: &FrontierLock<'_>,
     worker: u32,
     origin: Origin,
     permit: OriginPermit,
@@ -241,7 +268,7 @@ fn hand_rules_over<R: Wait>(
 fn serve_rules<F: Fetcher, R: Wait>(
     rt: &R,
     alloc: Global,
-    lock: &FrontierLock,
+    lock: &FrontierLock<'_>,
     worker: u32,
     fetcher: &mut F,
     notes: &mut Notes,
@@ -267,7 +294,7 @@ fn serve_rules<F: Fetcher, R: Wait>(
 }
 
 // Offers the edges of one due address. Where they are refused the frontier stops.
-fn spread<R: Wait>(rt: &R, lock: &FrontierLock) {
+fn spread<R: Wait>(rt: &R, lock: &FrontierLock<'_>) {
     match lock.spread(rt) {
         Ok(()) => {}
         Err(SpreadFault::Full) => lock.halt(rt, None, Cause::Full),
@@ -279,7 +306,7 @@ fn spread<R: Wait>(rt: &R, lock: &FrontierLock) {
 fn work<F: Fetcher, R: Wait>(
     rt: &R,
     alloc: Global,
-    lock: &FrontierLock,
+    lock: &FrontierLock<'_>,
     plan: &Plan,
     worker: u32,
     fetcher: &mut F,
@@ -288,29 +315,31 @@ fn work<F: Fetcher, R: Wait>(
 )
     ensures { Goes F.site F.says F.rules F.log plan.now worker fetcher.old notes.old fetcher.new notes.new }
 {
+    let mut work = next(rt, lock, worker);
     for _ in rt.forever() {
-        match lock.next_or_wait(rt, worker) {
-            Err(_) => lock.halt(rt, None, Cause::Memory),
-            Ok(Work::Stopped(_)) => break,
-            Ok(Work::Quiet) => break,
-            // It slept where others were at work.
-            Ok(Work::Busy) => unreachable!(),
-            Ok(Work::Spread) => spread(rt, lock),
-            Ok(Work::Robots(permit)) => {
-                serve_rules(rt, alloc, lock, worker, fetcher, notes, permit)
+        work = match work {
+            Work::Stopped(_) => return,
+            Work::Quiet => return,
+            Work::Busy => next(rt, lock, worker),
+            Work::Spread => {
+                spread(rt, lock);
+                next(rt, lock, worker)
             }
-            Ok(Work::Page(permit)) => {
-                serve(rt, lock, plan, worker, fetcher, notes, spool, permit)
+            Work::Robots(permit) => {
+                serve_rules(rt, alloc, lock, worker, fetcher, notes, permit);
+                next(rt, lock, worker)
             }
-        }
+            Work::Page(permit) => serve(rt, lock, plan, worker, fetcher, notes, spool, permit),
+        };
     }
+    unreachable!()
 }
 
 /// Has the worker of a seat work, under the seat's number.
 pub fn work_at<F: Fetcher, R: Wait>(
     rt: &R,
     alloc: Global,
-    lock: &FrontierLock,
+    lock: &FrontierLock<'_>,
     plan: &Plan,
     seat: &mut Seat<F>,
 )

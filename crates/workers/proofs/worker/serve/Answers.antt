@@ -29,7 +29,7 @@ returns-in_default-ask g c =
 pub returns : goal.returns
 returns g c =
     let F = g.F.Fetcher in
-    let note = c.hand_over-note.result in
+    let note = c.hand_over-note.result.0 in
     let name : c.address-2.result.now ≡ note.address = c.address-2.ensures ∙ sym (c.hand_over-note.ensures.address ∙ (c.in-Ok.ensures.name ∙ c.address.ensures)) in
     goes_page F.site F.says F.rules F.log c.args.plan.now c.args.worker c.args.fetcher.now c.args.notes.now c.ask.new.self _ note c.in-Ok-ask.ensures.site
     (subst (λ u. F.log c.ask.new.self ≡ F.log c.args.fetcher.now ++ ask.Page u ∷ []) name c.in-Ok-ask.ensures.asked)

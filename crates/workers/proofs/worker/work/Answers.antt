@@ -7,21 +7,24 @@ loop-init g c =
     let F = g.F.Fetcher in
     goes_none F.site F.says F.rules F.log c.args.plan.now c.args.worker c.args.fetcher.now c.args.notes.now
 
-pub loop-preserved-in-Err : goal.loop-preserved-in-Err
-loop-preserved-in-Err g c = c.loop.invariant
+pub loop-preserved-in-Busy : goal.loop-preserved-in-Busy
+loop-preserved-in-Busy g c = c.loop.invariant
 
-pub loop-preserved-in-Ok-Spread : goal.loop-preserved-in-Ok-Spread
-loop-preserved-in-Ok-Spread g c = c.loop.invariant
+pub loop-preserved-in-Spread : goal.loop-preserved-in-Spread
+loop-preserved-in-Spread g c = c.loop.invariant
 
-pub loop-preserved-in-Ok-Robots : goal.loop-preserved-in-Ok-Robots
-loop-preserved-in-Ok-Robots g c =
+pub loop-preserved-in-Robots : goal.loop-preserved-in-Robots
+loop-preserved-in-Robots g c =
     let F = g.F.Fetcher in
     goes_on F.site F.says F.rules F.log c.args.plan.now c.args.worker _ _ _ _ _ _ c.loop.invariant (c.serve_rules.ensures c.args.plan.now)
 
 pub loop-preserved : goal.loop-preserved
 loop-preserved g c =
     let F = g.F.Fetcher in
-    goes_on F.site F.says F.rules F.log c.args.plan.now c.args.worker _ _ _ _ _ _ c.loop.invariant c.serve_page.ensures
+    goes_on F.site F.says F.rules F.log c.args.plan.now c.args.worker _ _ _ _ _ _ c.loop.invariant c.serve.ensures
 
-pub returns : goal.returns
-returns g c = c.loop.invariant
+pub returns-in-Stopped : goal.returns-in-Stopped
+returns-in-Stopped g c = c.loop.invariant
+
+pub returns-in-Quiet : goal.returns-in-Quiet
+returns-in-Quiet g c = c.loop.invariant
