@@ -1,7 +1,7 @@
 //! Retrievals by several workers: the same as by one, at one time, and by all of them to the end. The form of the rows is told
 //! in `rows.rt`.
 use crate::crew::{NAP, come_to, crew, fetchers};
-use crate::retrieval::retrieved;
+use crate::retrieval::{ends_well_noting, retrieved};
 use crate::rows::plan_of;
 use std::alloc::Global;
 use std::process::Abort;
@@ -9,7 +9,6 @@ use std::sync::atomic::AtomicUsize;
 use std::sync::{Arc, Wait};
 use std::thread::Threads;
 use std::time::{CpuClock, Duration};
-use workers::retrieve_shown;
 
 /// Sites that any number of workers retrieves.
 const SITES: &str = "`/d` is found behind `/z` at 2, and behind `/b` at 3; `/f` is beyond three hops
@@ -264,8 +263,8 @@ fn most_waiting<R: Abort + Threads + Wait + Sync>(rt: &R, alloc: Global, workers
         fetcher.shown = Some(Arc::try_clone(&shown).expect(rt, "memory"));
     }
     let plan = plan_of(rt, alloc, STAR);
-    let (retrieved, fetchers) = retrieve_shown(rt, alloc, &plan, fetchers, Some(&shown));
-    if retrieved.is_err() {
+    let (ends_well, fetchers) = ends_well_noting(rt, alloc, &plan, fetchers, &shown);
+    if !ends_well {
         return 0;
     }
     let mut most = 0usize;

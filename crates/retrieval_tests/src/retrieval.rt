@@ -5,8 +5,11 @@ use frontier_core::{Cause, Event};
 use std::alloc::Global;
 use std::process::Abort;
 use std::sync::Wait;
+use std::sync::atomic::AtomicUsize;
 use std::thread::Threads;
-use workers::{Entry, Halt, Harvest, Retrieved, Stopped, retrieve, retrieve_in_order};
+use workers::{
+    Entry, Halt, Harvest, Retrieved, Stopped, retrieve, retrieve_in_order, retrieve_shown,
+};
 
 /// What a retrieval came to.
 #[derive(Drop)]
@@ -155,6 +158,23 @@ pub(crate) fn retrieved<F: Fetcher + Send, R: Abort + Threads + Wait + Sync>(
         panic!(rt; "no worker, or too many");
     }
     seen_of(rt, alloc, retrieve(rt, alloc, plan, fetchers))
+}
+
+/// Does so, and has it noted there how many addresses wait. Gives whether it ended well, and the fetchers.
+pub(crate) fn ends_well_noting<F: Fetcher + Send, R: Abort + Threads + Wait + Sync>(
+    rt: &R,
+    alloc: Global,
+    plan: &Plan,
+    fetchers: Vec<F>,
+    waiting: &AtomicUsize,
+) -> (bool, Vec<F>) {
+    if fetchers.is_empty() || fetchers.len() > 64 {
+        panic!(rt; "no worker, or too many");
+    }
+    let (retrieved, fetchers) = retrieve_shown(rt, alloc, plan, fetchers, Some(waiting));
+    let ends_well = retrieved.is_ok();
+    drop(retrieved);
+    (ends_well, fetchers)
 }
 
 /// What is seen of a retrieval in order that stopped.
