@@ -1,6 +1,6 @@
 //! Threads that write the parts of a site's files.
 use local_tree::{Naming, Part, PartCrew};
-use std::thread::{Threads, join_mut};
+use std::thread::{Threads, join};
 
 /// Writes parts in three threads, while the caller's gives names. Each has one file open at a time. Where no thread can be made the
 /// caller's does its work.
@@ -32,11 +32,7 @@ fn write_in_one<R: Threads, N: Naming>(
     parts: &mut [Part<'_>],
     naming: &mut N,
 ) {
-    join_mut(
-        rt,
-        &mut || write_all(disk, parts),
-        &mut || naming.give_names(),
-    );
+    join(rt, || write_all(disk, parts), || naming.give_names());
 }
 
 // The same in two other threads.
@@ -47,10 +43,10 @@ fn write_in_two<R: Threads, N: Naming>(
     naming: &mut N,
 ) {
     let (first, rest) = parts.split_at_mut(parts.len() / 2);
-    join_mut(
+    join(
         rt,
-        &mut || write_all(disk, first),
-        &mut || write_in_one(rt, disk, rest, naming),
+        || write_all(disk, first),
+        || write_in_one(rt, disk, rest, naming),
     );
 }
 
@@ -62,10 +58,10 @@ fn write_in_three<R: Threads, N: Naming>(
     naming: &mut N,
 ) {
     let (first, rest) = parts.split_at_mut(parts.len() / 3);
-    join_mut(
+    join(
         rt,
-        &mut || write_all(disk, first),
-        &mut || write_in_two(rt, disk, rest, naming),
+        || write_all(disk, first),
+        || write_in_two(rt, disk, rest, naming),
     );
 }
 
