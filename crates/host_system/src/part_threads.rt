@@ -1,8 +1,8 @@
 //! Threads that write the parts of a site's files.
-use local_tree::{Part, PartCrew};
-use std::thread::{Threads, join_mut};
+use local_tree::{Naming, Part, PartCrew};
+use std::thread::{Threads, join};
 
-/// Writes parts in four threads, of which the caller's is one. Each has one file open at a time. Where no thread can be made the
+/// Writes parts in three threads, while the caller's gives names. Each has one file open at a time. Where no thread can be made the
 /// caller's does its work.
 // What a method sends to a thread may rest on no bound of its block, so the disk has a handle here whose type is known.
 #[derive(Drop)]
@@ -25,38 +25,48 @@ fn write_all(disk: &HostRuntime, parts: &mut [Part<'_>]) {
     }
 }
 
-// Writes these parts in two threads.
-fn write_in_two<R: Threads>(rt: &R, disk: &HostRuntime, parts: &mut [Part<'_>]) {
+// Writes these parts in another thread, while names are given in this one.
+fn write_in_one<R: Threads, N: Naming>(
+    rt: &R,
+    disk: &HostRuntime,
+    parts: &mut [Part<'_>],
+    naming: &mut N,
+) {
+    join(rt, || write_all(disk, parts), || naming.give_names());
+}
+
+// The same in two other threads.
+fn write_in_two<R: Threads, N: Naming>(
+    rt: &R,
+    disk: &HostRuntime,
+    parts: &mut [Part<'_>],
+    naming: &mut N,
+) {
     let (first, rest) = parts.split_at_mut(parts.len() / 2);
-    join_mut(
+    join(
         rt,
-        &mut || write_all(disk, first),
-        &mut || write_all(disk, rest),
+        || write_all(disk, first),
+        || write_in_one(rt, disk, rest, naming),
     );
 }
 
-// Writes these parts in three threads.
-fn write_in_three<R: Threads>(rt: &R, disk: &HostRuntime, parts: &mut [Part<'_>]) {
+// The same in three.
+fn write_in_three<R: Threads, N: Naming>(
+    rt: &R,
+    disk: &HostRuntime,
+    parts: &mut [Part<'_>],
+    naming: &mut N,
+) {
     let (first, rest) = parts.split_at_mut(parts.len() / 3);
-    join_mut(
+    join(
         rt,
-        &mut || write_all(disk, first),
-        &mut || write_in_two(rt, disk, rest),
-    );
-}
-
-// Writes these parts in four threads.
-fn write_in_four<R: Threads>(rt: &R, disk: &HostRuntime, parts: &mut [Part<'_>]) {
-    let (first, rest) = parts.split_at_mut(parts.len() / 4);
-    join_mut(
-        rt,
-        &mut || write_all(disk, first),
-        &mut || write_in_three(rt, disk, rest),
+        || write_all(disk, first),
+        || write_in_two(rt, disk, rest, naming),
     );
 }
 
 impl<'a, R: Threads> PartCrew for PartThreads<'a, R> {
-    fn write_parts(&self, parts: &mut [Part<'_>]) {
-        write_in_four(self.rt, self.disk, parts);
+    fn write_parts<N: Naming>(&self, parts: &mut [Part<'_>], naming: &mut N) {
+        write_in_three(self.rt, self.disk, parts, naming);
     }
 }

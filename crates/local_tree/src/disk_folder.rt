@@ -7,14 +7,14 @@ ghost use Rattle.local_tree.specs.SiteFiles.{IsTornBy};
 use crate::close::Close;
 use crate::folder::{Folder, FolderFault};
 use crate::local_name::is_local_name;
-use crate::parts::{Part, PartCrew, write_new};
+use crate::parts::{Naming, Part, PartCrew, write_new};
 use crate::site_files::WriteFault;
 use harvest::Harvest;
 use std::alloc::{AllocError, Global};
 use std::fs::Files;
 use std::io::{Error, ErrorKind};
 use std::marker::Model;
-use std::{fs, io};
+use std::{fs, io, mem};
 
 /// What the file is called, directly below the folder, that is written before it gets its name; a
 /// number follows. No host has a `%` (URL Standard, section 3.1), so no page has a name that begins so.
@@ -137,6 +137,74 @@ where
     rt.rename(part, path)
 }
 
+// Makes the directories of a file below a folder, and refuses what stands in its place. Gives its path.
+fn find_place<R: Files>(
+    rt: &R,
+    alloc: Global,
+    folder: &str,
+    known: &mut String,
+    name: &str,
+) -> io::Result<String> {
+    if !is_local_name(name) {
+        return Err(Error::from(ErrorKind::InvalidInput));
+    }
+    if let Some((dirs, _)) = name.rsplit_once('/') {
+        make_dirs(rt, alloc, folder, known, dirs)?;
+    }
+    let path = path_below(alloc, folder, name)?;
+    look_for_file(rt, path.as_str())?;
+    Ok(path)
+}
+
+// Parts that are ready, and the names of their files, from that at a place on.
+#[derive(Drop)]
+struct InOrder<'s, 'h, R> {
+    rt: &'s R,
+    alloc: Global,
+    prefix: &'s str,
+    // As of the folder.
+    known: String,
+    ready: &'s [Part<'h>],
+    names: &'s [String],
+    from: usize,
+    // How many have their names.
+    named: usize,
+}
+
+impl<'s, 'h, R: Files> InOrder<'s, 'h, R> {
+    // Gives the next part its name, where it is ready for that. Whether that ended well.
+    fn give_name(&mut self, part: &Part<'_>, place: usize) -> bool {
+        if !part.is_ready_for(place) {
+            return false;
+        }
+        let Some(name) = self.names.get(place) else {
+            return false;
+        };
+        match find_place(
+            self.rt,
+            self.alloc,
+            self.prefix,
+            &mut self.known,
+            name.as_str(),
+        ) {
+            Ok(path) => part.rename(self.rt, path.as_str()).is_ok(),
+            Err(_) => false,
+        }
+    }
+}
+
+impl<'s, 'h, R: Files> Naming for InOrder<'s, 'h, R> {
+    fn give_names(&mut self) {
+        let ready = self.ready;
+        for (i, part) in ready.iter().enumerate() {
+            if !self.give_name(part, self.from.saturating_add(i)) {
+                return;
+            }
+            self.named = self.named.saturating_add(1);
+        }
+    }
+}
+
 // The path of the part of this number of a batch.
 fn part_path(alloc: Global, part: &str, number: usize) -> Result<String, AllocError> {
     format!(in alloc; "{part}.{number}")
@@ -190,21 +258,13 @@ where
     fn find_place(&mut self, name: &str) -> io::Result<String>
         ensures { self.new ≡ self.old }
     {
-        if !is_local_name(name) {
-            return Err(Error::from(ErrorKind::InvalidInput));
-        }
-        if let Some((dirs, _)) = name.rsplit_once('/') {
-            make_dirs(
-                self.rt,
-                self.alloc,
-                self.prefix.as_str(),
-                &mut self.known,
-                dirs,
-            )?;
-        }
-        let path = path_below(self.alloc, self.prefix.as_str(), name)?;
-        look_for_file(self.rt, path.as_str())?;
-        Ok(path)
+        find_place(
+            self.rt,
+            self.alloc,
+            self.prefix.as_str(),
+            &mut self.known,
+            name,
+        )
     }
 
     // Writes the file and gives it its name.
@@ -220,43 +280,8 @@ where
         put
     }
 
-    // Gives a part the name of the file at this place, where it is ready for that. Whether that ended well.
-    fn give_name(&mut self, part: &Part<'_>, place: usize, name: &str) -> bool
-        ensures { self.new ≡ self.old }
-    {
-        if !part.is_ready_for(place) {
-            return false;
-        }
-        match self.find_place(name) {
-            Ok(path) => part.rename(self.rt, path.as_str()).is_ok(),
-            Err(_) => false,
-        }
-    }
-
-    // Puts the file at this place by the last of these parts. Where there is none it is put as any other. Where it can't be put by
-    // its part, these parts are taken away before that, so that it has the room that it would have without them, and none stays.
-    fn put_next(
-        &mut self,
-        parts: &mut Vec<Part<'_>>,
-        place: usize,
-        name: &str,
-        bytes: &[u8],
-    ) -> Result<(), FolderFault>
-        ensures { CountsRefusedPut self.old.failed self.new.failed result }
-    {
-        if let Some(part) = parts.pop() {
-            if self.give_name(&part, place, name) {
-                return Ok(());
-            }
-            part.remove(self.rt);
-            remove_all(self.rt, parts.as_slice());
-            parts.clear();
-        }
-        self.put(name, bytes)
-    }
-
-    // The parts of the files from this place on, a batch at most. Their paths differ from those of other runs, and from that by way
-    // of which a file is put alone.
+    // The parts of the files from this place on, a batch at most. Their paths differ from those of other runs, from those of the
+    // batches before and behind, and from that by way of which a file is put alone.
     fn parts_from<'h>(
         &self,
         harvest: &'h Harvest,
@@ -265,33 +290,90 @@ where
         let end = from.saturating_add(BATCH).min(harvest.kept().len());
         let mut parts = Vec::new(self.alloc);
         for i in from..end {
-            let path = part_path(self.alloc, self.part.as_str(), i % BATCH)?;
+            let path = part_path(self.alloc, self.part.as_str(), i % (2 * BATCH))?;
             parts.push(Part::new(i, path, harvest.body(i)))?;
         }
         Ok(parts)
     }
 
-    // Has the files from this place on made ready. The part of the last stands first; where there is no memory there is none.
-    fn make_ready<'h, C: PartCrew>(
-        &self,
-        crew: &C,
-        harvest: &'h Harvest,
-        from: usize,
-    ) -> Vec<Part<'h>> {
+    // The parts of the next batch, from this place on; none where there is no batch, or no memory for it.
+    fn next_parts<'h>(&self, harvest: &'h Harvest, from: usize) -> Vec<Part<'h>> {
+        if !begins_batch(from, harvest.kept().len()) {
+            return Vec::new(self.alloc);
+        }
         match self.parts_from(harvest, from) {
-            Ok(mut parts) => {
-                crew.write_parts(parts.as_mut_slice());
-                parts.reverse();
-                parts
-            }
+            Ok(parts) => parts,
             Err(_) => Vec::new(self.alloc),
         }
     }
 
+    // Has the crew write these parts, while these that are ready get the names of the files from this place on, until one doesn't.
+    // Gives how many did.
+    fn name_while_writing<C: PartCrew>(
+        &mut self,
+        crew: &C,
+        ready: &[Part<'_>],
+        names: &[String],
+        from: usize,
+        parts: &mut [Part<'_>],
+    ) -> usize
+        ensures { self.new ≡ self.old }
+    {
+        let mut naming = InOrder {
+            rt: self.rt,
+            alloc: self.alloc,
+            prefix: self.prefix.as_str(),
+            known: mem::replace(&mut self.known, String::new(self.alloc)),
+            ready,
+            names,
+            from,
+            named: 0,
+        };
+        crew.write_parts(parts, &mut naming);
+        let InOrder { known, named, .. } = naming;
+        self.known = known;
+        named
+    }
+
+    // Gives the files of a batch, which begins at this place, their names, those that are ready first made so where none is, and
+    // has those of the next batch made ready meanwhile. Where one doesn't get its name all parts are taken away, so that its file
+    // has the room that it would have without them. Gives the place behind the last that got its name.
+    fn name_batch<'h, C: PartCrew>(
+        &mut self,
+        crew: &C,
+        ready: &mut Vec<Part<'h>>,
+        names: &[String],
+        harvest: &'h Harvest,
+        from: usize,
+    ) -> usize
+        ensures { self.new ≡ self.old }
+    {
+        if ready.is_empty() {
+            *ready = self.next_parts(harvest, from);
+            self.name_while_writing(crew, &[], names, from, ready.as_mut_slice());
+        }
+        let mut next = self.next_parts(harvest, from.saturating_add(BATCH));
+        let named = self.name_while_writing(
+            crew,
+            ready.as_slice(),
+            names,
+            from,
+            next.as_mut_slice(),
+        );
+        if named < ready.len() {
+            remove_all(self.rt, ready.as_slice());
+            remove_all(self.rt, next.as_slice());
+            ready.clear();
+        } else {
+            *ready = next;
+        }
+        from.saturating_add(named)
+    }
+
     /// As [`Folder::put_site`], with the same files put or not, the same directories made, and the same error kept, but this crew
-    /// makes the files ready, up to 256 at a time. They get their names in order, by this call, and no part stays, unless the disk
-    /// fails to take it away. A run that is killed may leave as many. The disk may need room for a batch beside the files that it
-    /// replaces; where there is none, or no descriptor, the files are put one after another.
+    /// makes the files ready, up to 256 at a time, while those before them get their names, in order. No part stays, unless the disk
+    /// fails to take it away. A run that is killed may leave twice as many. The disk may need room for two batches beside the files
+    /// that it replaces; where there is none, or no descriptor, the files are put one after another.
     pub fn put_site_by<C: PartCrew>(
         &mut self,
         crew: &C,
@@ -302,15 +384,16 @@ where
         ensures torn { IfErr result (IsTornBy (map string_bytes names.now) harvest.now.bodies None None self.old.failed self.new.failed) }
         ensures quiet { OnOk result (self.new.failed ≡ self.old.failed) }
     {
-        let mut parts = Vec::new(self.alloc);
+        let mut ready = Vec::new(self.alloc);
+        let mut named = 0usize;
         for (i, name) in names.iter().enumerate() {
             if begins_batch(i, names.len()) {
-                parts = self.make_ready(crew, harvest, i);
+                named = self.name_batch(crew, &mut ready, names, harvest, i);
             }
-            if self
-                .put_next(&mut parts, i, name.as_str(), harvest.body(i))
-                .is_err()
-            {
+            if i < named {
+                continue;
+            }
+            if self.put(name.as_str(), harvest.body(i)).is_err() {
                 return Err(WriteFault::Device(i));
             }
         }

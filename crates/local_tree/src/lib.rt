@@ -19,7 +19,7 @@ pub use crate::folder::{Folder, FolderFault};
 pub use crate::local_name::is_local_name;
 pub use crate::memory_folder::MemoryFolder;
 pub use crate::naming::{ascend, names};
-pub use crate::parts::{Part, PartCrew};
+pub use crate::parts::{Naming, Part, PartCrew};
 pub use crate::plain_name::MAX_SEGMENT;
 pub use crate::site_files::{WriteFault, write_site};
 

@@ -50,11 +50,18 @@ impl<'a> Part<'a> {
     }
 }
 
+/// Who gives names to parts that are ready.
+pub trait Naming {
+    /// Gives them their names, in order.
+    fn give_names(&mut self);
+}
+
 /// Who writes parts, perhaps several side by side.
 pub trait PartCrew {
-    /// Has [`Part::write`] called at each part, in any order. Where it isn't called, or fails, and where a part is moved, files are
-    /// put as they would be without a crew.
-    fn write_parts(&self, parts: &mut [Part<'_>]);
+    /// Has [`Part::write`] called at each part, in any order, and meanwhile names given to the parts before them, once. Where the
+    /// first isn't called, or fails, where a part is moved, and where no names are given, files are put as they would be without a
+    /// crew.
+    fn write_parts<N: Naming>(&self, parts: &mut [Part<'_>], naming: &mut N);
 }
 
 // Makes a new file. What a killed run left there is taken away first; a link isn't followed.

@@ -4,7 +4,7 @@ use address::{Address, Origin};
 use fetcher::{Answer, Ask, Body, Fetcher};
 use follow_filters::{Limit, Plan};
 use harvest::Harvest;
-use local_tree::{Close, DiskFolder, Folder, Part, PartCrew, WriteFault, names};
+use local_tree::{Close, DiskFolder, Folder, Naming, Part, PartCrew, WriteFault, names};
 use robots_rules::RuleSet;
 use site_maps::MapSite;
 use std::alloc::{AllocError, Global};
@@ -18,7 +18,7 @@ use workers::retrieve_in_order;
 /// In how many directories the pages of a site stand.
 const DIRECTORIES: u16 = 7;
 
-/// Writes parts in two threads.
+/// Writes parts in a thread of their own.
 #[derive(Drop)]
 struct InThreads<'a, T> {
     threads: &'a T,
@@ -36,18 +36,22 @@ where
 }
 
 impl<'a, T: Threads> PartCrew for InThreads<'a, T> {
-    fn write_parts(&self, parts: &mut [Part<'_>]) {
-        write_in_two(self.threads, self.disk, parts);
+    fn write_parts<N: Naming>(&self, parts: &mut [Part<'_>], naming: &mut N) {
+        write_in_another(self.threads, self.disk, parts, naming);
     }
 }
 
-/// Writes these parts in two threads.
-fn write_in_two<T: Threads>(threads: &T, disk: &Disk, parts: &mut [Part<'_>]) {
-    let (front, back) = parts.split_at_mut(parts.len() / 2);
+/// Writes these parts in another thread, while names are given in this one.
+fn write_in_another<T: Threads, N: Naming>(
+    threads: &T,
+    disk: &Disk,
+    parts: &mut [Part<'_>],
+    naming: &mut N,
+) {
     join_mut(
         threads,
-        &mut || write_all(disk, front),
-        &mut || write_all(disk, back),
+        &mut || write_all(disk, parts),
+        &mut || naming.give_names(),
     );
 }
 
@@ -61,8 +65,9 @@ impl<'a, R: Files> PartCrew for InTurn<'a, R>
 where
     R::File: Close,
 {
-    fn write_parts(&self, parts: &mut [Part<'_>]) {
+    fn write_parts<N: Naming>(&self, parts: &mut [Part<'_>], naming: &mut N) {
         write_all(self.disk, parts);
+        naming.give_names();
     }
 }
 
@@ -71,7 +76,7 @@ where
 struct Nobody;
 
 impl PartCrew for Nobody {
-    fn write_parts(&self, _parts: &mut [Part<'_>]) {}
+    fn write_parts<N: Naming>(&self, _parts: &mut [Part<'_>], _naming: &mut N) {}
 }
 
 /// Writes parts in turn, and then moves them.
@@ -84,7 +89,8 @@ impl<'a, R: Files> PartCrew for Mover<'a, R>
 where
     R::File: Close,
 {
-    fn write_parts(&self, parts: &mut [Part<'_>]) {
+    fn write_parts<N: Naming>(&self, parts: &mut [Part<'_>], naming: &mut N) {
+        naming.give_names();
         write_all(self.disk, parts);
         parts.reverse();
     }
