@@ -47,7 +47,7 @@ took_open a b used P short x = record {
 }
 
 pub took_chunked : (a b c d : Option (List ℕ)) (P : List ℕ → Type 0) (used room response body len size : ℕ) → room + used ≡ MAX_RESPONSE
-    → PassedChunks a b P room response MAX_BODY body → TookLine b c len size → size ≡ 0 → len ≤ response → TookTrailers c d (response - len)
+    → PassedChunks a b P (room, MAX_BODY) (response, body) → TookLine b c len size → size ≡ 0 → len ≤ response → TookTrailers c d (response - len)
     → TookBody a d used Chunked
 took_chunked a b c d P used room response body len size whole p l none fits t =
     let taken = p.taken in
