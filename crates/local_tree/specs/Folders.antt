@@ -43,3 +43,16 @@ pub record DiskValue : Type 0 where
 abbrev pub opened_at : List ℕ → DiskValue
 opened_at [] = record { path = 46 ∷ []; failed = 0 }
 opened_at (b ∷ bytes) = record { path = b ∷ bytes; failed = 0 }
+
+-- what a folder tells of itself: its files, and how many puts failed
+pub record Holding : Type 0 where
+  pub files : Option Files
+  pub failed : ℕ
+
+-- what this folder tells
+abbrev pub holding : {D : Type 0} → (D → Option Files) → (D → ℕ) → D → Holding
+holding files failed folder = record { files = files folder; failed = failed folder }
+
+-- what a folder tells that tells no files
+abbrev pub untold : ℕ → Holding
+untold failed = record { files = None; failed = failed }

@@ -1,13 +1,13 @@
 //! A folder on a disk. Nothing of what a disk holds is proved; the tests show it.
 ghost use Rattle.std.specs.Prelude.{◌≡◌, None, IfOk, IfErr, OnOk, length, map, string_bytes};
 ghost use Rattle.std.specs.IoError.{error_kind};
-ghost use Rattle.local_tree.specs.Folders.{CountsRefusedPut, opened_at};
+ghost use Rattle.local_tree.specs.Folders.{CountsRefusedPut, opened_at, untold};
 ghost use Rattle.local_tree.specs.SiteFiles.{IsTornBy};
 
 use crate::close::Close;
 use crate::folder::{Folder, FolderFault};
 use crate::local_name::is_local_name;
-use crate::parts::{Naming, Part, PartCrew, write_new};
+use crate::parts::{Batch, Naming, Part, PartCrew, write_new};
 use crate::site_files::WriteFault;
 use harvest::Harvest;
 use std::alloc::{AllocError, Global};
@@ -205,21 +205,45 @@ impl<'s, 'h, R: Files> Naming for InOrder<'s, 'h, R> {
     }
 }
 
-// The path of the part of this number of a batch.
-fn part_path(alloc: Global, part: &str, number: usize) -> Result<String, AllocError> {
+// The path of the directory of a batch that begins at this place. It differs from those of other runs, from those of the batches
+// before and behind, and from that by way of which a file is put alone.
+fn batch_path(alloc: Global, part: &str, from: usize) -> Result<String, AllocError> {
+    let number = from / BATCH % 2;
     format!(in alloc; "{part}.{number}")
+}
+
+// The path of the part of this number of a batch.
+fn part_path(alloc: Global, batch: &str, number: usize) -> Result<String, AllocError> {
+    format!(in alloc; "{batch}/{number}")
+}
+
+// Takes away what a killed run left in the place of a batch's directory: that and its parts, a file, or a link, which isn't followed.
+fn take_away<R: Files>(rt: &R, alloc: Global, path: &str) {
+    if rt.remove_file(path).is_ok() {
+        return;
+    }
+    for number in 0..BATCH {
+        if let Ok(part) = part_path(alloc, path, number) {
+            let _ = rt.remove_file(part.as_str());
+        }
+    }
+    let _ = rt.remove_dir(path);
+}
+
+// Makes a new directory for a batch.
+fn make_new_dir<R: Files>(rt: &R, alloc: Global, path: &str) -> io::Result<()> {
+    match rt.create_dir(path) {
+        Err(e) if e.kind() == ErrorKind::AlreadyExists => {
+            take_away(rt, alloc, path);
+            rt.create_dir(path)
+        }
+        made => made,
+    }
 }
 
 // Whether a batch begins with the file at this place of so many. The first file is put alone, since it makes the folder.
 fn begins_batch(place: usize, files: usize) -> bool {
     place % BATCH == 1 && files.saturating_sub(place) >= FEW
-}
-
-// Takes all these parts away.
-fn remove_all<R: Files>(rt: &R, parts: &[Part<'_>]) {
-    for part in parts {
-        part.remove(rt);
-    }
 }
 
 impl<'a, R: Files> DiskFolder<'a, R>
@@ -280,30 +304,27 @@ where
         put
     }
 
-    // The parts of the files from this place on, a batch at most. Their paths differ from those of other runs, from those of the
-    // batches before and behind, and from that by way of which a file is put alone.
-    fn parts_from<'h>(
-        &self,
-        harvest: &'h Harvest,
-        from: usize,
-    ) -> Result<Vec<Part<'h>>, AllocError> {
+    // The files from this place on, a batch at most.
+    fn batch_from<'h>(&self, harvest: &'h Harvest, from: usize) -> Result<Batch<'h>, AllocError> {
         let end = from.saturating_add(BATCH).min(harvest.kept().len());
+        let dir = batch_path(self.alloc, self.part.as_str(), from)?;
         let mut parts = Vec::new(self.alloc);
-        for i in from..end {
-            let path = part_path(self.alloc, self.part.as_str(), i % (2 * BATCH))?;
+        for (number, i) in (from..end).enumerate() {
+            let path = part_path(self.alloc, dir.as_str(), number)?;
             parts.push(Part::new(i, path, harvest.body(i)))?;
         }
-        Ok(parts)
+        Ok(Batch { dir, parts })
     }
 
-    // The parts of the next batch, from this place on; none where there is no batch, or no memory for it.
-    fn next_parts<'h>(&self, harvest: &'h Harvest, from: usize) -> Vec<Part<'h>> {
+    // The next batch, from this place on, in a new directory; an empty one where none begins there, or there is no memory for it, or
+    // no directory.
+    fn next_batch<'h>(&self, harvest: &'h Harvest, from: usize) -> Batch<'h> {
         if !begins_batch(from, harvest.kept().len()) {
-            return Vec::new(self.alloc);
+            return Batch::empty(self.alloc);
         }
-        match self.parts_from(harvest, from) {
-            Ok(parts) => parts,
-            Err(_) => Vec::new(self.alloc),
+        match self.batch_from(harvest, from) {
+            Ok(batch) if make_new_dir(self.rt, self.alloc, batch.dir.as_str()).is_ok() => batch,
+            _ => Batch::empty(self.alloc),
         }
     }
 
@@ -341,39 +362,41 @@ where
     fn name_batch<'h, C: PartCrew>(
         &mut self,
         crew: &C,
-        ready: &mut Vec<Part<'h>>,
+        ready: &mut Batch<'h>,
         names: &[String],
         harvest: &'h Harvest,
         from: usize,
     ) -> usize
         ensures { self.new ≡ self.old }
     {
-        if ready.is_empty() {
-            *ready = self.next_parts(harvest, from);
-            self.name_while_writing(crew, &[], names, from, ready.as_mut_slice());
+        if ready.parts.is_empty() {
+            *ready = self.next_batch(harvest, from);
+            self.name_while_writing(crew, &[], names, from, ready.parts.as_mut_slice());
         }
-        let mut next = self.next_parts(harvest, from.saturating_add(BATCH));
+        let mut next = self.next_batch(harvest, from.saturating_add(BATCH));
         let named = self.name_while_writing(
             crew,
-            ready.as_slice(),
+            ready.parts.as_slice(),
             names,
             from,
-            next.as_mut_slice(),
+            next.parts.as_mut_slice(),
         );
-        if named < ready.len() {
-            remove_all(self.rt, ready.as_slice());
-            remove_all(self.rt, next.as_slice());
-            ready.clear();
+        if named < ready.parts.len() {
+            ready.remove(self.rt);
+            next.remove(self.rt);
+            *ready = Batch::empty(self.alloc);
         } else {
+            ready.remove_dir(self.rt);
             *ready = next;
         }
         from.saturating_add(named)
     }
 
     /// As [`Folder::put_site`], with the same files put or not, the same directories made, and the same error kept, but this crew
-    /// makes the files ready, up to 256 at a time, while those before them get their names, in order. No part stays, unless the disk
-    /// fails to take it away. A run that is killed may leave twice as many. The disk may need room for two batches beside the files
-    /// that it replaces; where there is none, or no descriptor, the files are put one after another.
+    /// makes the files ready, up to 256 at a time in a directory beside the folder's own, while those before them get their names,
+    /// in order. No part and no such directory stays, unless the disk fails to take it away. A run that is killed may leave two, with
+    /// their parts. The disk may need room for two batches beside the files that it replaces; where there is none, or no descriptor,
+    /// the files are put one after another.
     pub fn put_site_by<C: PartCrew>(
         &mut self,
         crew: &C,
@@ -381,10 +404,10 @@ where
         harvest: &Harvest,
     ) -> Result<(), WriteFault>
         requires { length names.now ≡ length harvest.now.kept }
-        ensures torn { IfErr result (IsTornBy (map string_bytes names.now) harvest.now.bodies None None self.old.failed self.new.failed) }
+        ensures torn { IfErr result (IsTornBy (map string_bytes names.now) harvest.now.bodies (untold self.old.failed) (untold self.new.failed)) }
         ensures quiet { OnOk result (self.new.failed ≡ self.old.failed) }
     {
-        let mut ready = Vec::new(self.alloc);
+        let mut ready = Batch::empty(self.alloc);
         let mut named = 0usize;
         for (i, name) in names.iter().enumerate() {
             if begins_batch(i, names.len()) {

@@ -1,6 +1,6 @@
 //! What a folder is asked for.
 ghost use Rattle.std.specs.Prelude.{◌≡◌, ℕ, Option, OnOk, OnErr, IfErr, length, map, string_bytes};
-ghost use Rattle.local_tree.specs.Folders.{Files, Puts, KeepsOthers, CountsRefusedPut};
+ghost use Rattle.local_tree.specs.Folders.{Files, Puts, KeepsOthers, CountsRefusedPut, holding};
 ghost use Rattle.local_tree.specs.Names.{AreDistinct};
 ghost use Rattle.local_tree.specs.SiteFiles.{IsWhole, IsTornBy};
 
@@ -39,7 +39,7 @@ pub trait Folder {
         requires count { length names.now ≡ length harvest.now.kept }
         requires distinct { AreDistinct (map string_bytes names.now) }
         ensures whole { OnOk result (IsWhole (map string_bytes names.now) harvest.now.bodies (files self.old) (files self.new)) }
-        ensures torn { IfErr result (IsTornBy (map string_bytes names.now) harvest.now.bodies (files self.old) (files self.new) (failed self.old) (failed self.new)) }
+        ensures torn { IfErr result (IsTornBy (map string_bytes names.now) harvest.now.bodies (holding files failed self.old) (holding files failed self.new)) }
         ensures quiet { OnOk result (failed self.new ≡ failed self.old) }
     {
         for (i, name) in names.iter().enumerate() {

@@ -1,5 +1,6 @@
 //! Parts: files that are written under other names, and get their own when they are whole.
 use crate::close::Close;
+use std::alloc::Global;
 use std::fs::{File, Files};
 use std::io;
 use std::io::{ErrorKind, Write};
@@ -47,6 +48,39 @@ impl<'a> Part<'a> {
     // Takes away what stands at its path.
     pub(crate) fn remove<R: Files>(&self, rt: &R) {
         let _ = rt.remove_file(self.path.as_str());
+    }
+}
+
+/// The parts of a batch, in a directory of their own: a disk may make one file at a time in a directory, so parts that are made
+/// ready don't wait for names that are given to others meanwhile.
+#[derive(Drop)]
+pub(crate) struct Batch<'a> {
+    pub(crate) dir: String,
+    pub(crate) parts: Vec<Part<'a>>,
+}
+
+impl<'a> Batch<'a> {
+    // One without parts, for which there is no directory.
+    pub(crate) fn empty(alloc: Global) -> Batch<'a> {
+        Batch {
+            dir: String::new(alloc),
+            parts: Vec::new(alloc),
+        }
+    }
+
+    // Takes its directory away, once nothing is in it.
+    pub(crate) fn remove_dir<R: Files>(&self, rt: &R) {
+        if !self.parts.is_empty() {
+            let _ = rt.remove_dir(self.dir.as_str());
+        }
+    }
+
+    // Takes its parts away, and its directory.
+    pub(crate) fn remove<R: Files>(&self, rt: &R) {
+        for part in &self.parts {
+            part.remove(rt);
+        }
+        self.remove_dir(rt);
     }
 }
 

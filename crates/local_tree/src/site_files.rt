@@ -1,5 +1,6 @@
 //! The files of a retrieved site.
 ghost use Rattle.std.specs.Prelude.{◌≡◌, length, map, OnOk, IfErr, string_bytes};
+ghost use Rattle.local_tree.specs.Folders.{holding};
 ghost use Rattle.local_tree.specs.Names.{AreDistinct};
 ghost use Rattle.local_tree.specs.SiteFiles.{IsWhole, IsTornBy};
 
@@ -25,7 +26,7 @@ pub fn write_site<D: Folder>(
     requires count { length names.now ≡ length harvest.now.kept }
     requires distinct { AreDistinct (map string_bytes names.now) }
     ensures whole { OnOk result (IsWhole (map string_bytes names.now) harvest.now.bodies (D.files folder.old) (D.files folder.new)) }
-    ensures torn { IfErr result (IsTornBy (map string_bytes names.now) harvest.now.bodies (D.files folder.old) (D.files folder.new) (D.failed folder.old) (D.failed folder.new)) }
+    ensures torn { IfErr result (IsTornBy (map string_bytes names.now) harvest.now.bodies (holding D.files D.failed folder.old) (holding D.files D.failed folder.new)) }
     ensures quiet { OnOk result (D.failed folder.new ≡ D.failed folder.old) }
 {
     folder.put_site(names, harvest)

@@ -190,8 +190,9 @@ impl Files for Disk {
         self.rt.create_dir(path)
     }
 
-    fn remove_dir(&self, _path: &str) -> io::Result<()> {
-        unsupported()
+    fn remove_dir(&self, path: &str) -> io::Result<()> {
+        self.begin("rmdir", path)?;
+        self.rt.remove_dir(path)
     }
 
     fn remove_dir_all<B: Allocator>(&self, _alloc: B, _path: &str) -> io::Result<()> {

@@ -206,7 +206,7 @@ fn are_put(
     true
 }
 
-/// How many entries a directory has. The folder has that of the host, and a part that stays stands beside it.
+/// How many entries a directory has. The folder has that of the host, and parts that stay stand beside it.
 fn entries<R: Abort + Files + AllocGlobal + Clone + Drop>(rt: &R, path: &str) -> usize {
     let mut entries = 0usize;
     for entry in fs::read_dir(rt, path).expect(rt, "the disk") {
@@ -282,8 +282,10 @@ fn a_site_is_put_by_threads(rt: HostRuntime) {
         assert_eq!(rt; entries(&rt, "disk"), 1);
         // What a killed run left is in nobody's way.
         fs::write(&rt, "disk/.wgetr%part17", "left").expect(&rt, "the disk");
-        fs::write(&rt, "disk/.wgetr%part17.3", "left").expect(&rt, "the disk");
-        rt.symlink("h/index.html", "disk/.wgetr%part17.4")
+        fs::create_dir(&rt, "disk/.wgetr%part17.0").expect(&rt, "the disk");
+        fs::write(&rt, "disk/.wgetr%part17.0/0", "left").expect(&rt, "the disk");
+        fs::write(&rt, "disk/.wgetr%part17.0/255", "left").expect(&rt, "the disk");
+        rt.symlink("h", "disk/.wgetr%part17.1")
             .expect(&rt, "the disk");
     }
     drop(harvest);
@@ -445,8 +447,12 @@ fn a_disk_that_fails_leaves_whole_files_of_a_site(rt: HostRuntime) {
             assert!(rt; are_put(&rt, &names, &harvest, whole), "{from} {lasting}");
             // One failure stops the first file, which is put alone, and costs a later one a second try.
             assert!(rt; lasting > 1 || whole == 0 || whole == 20, "{from}");
+            // No part stays, and no directory of parts but where it was the call that takes it away that failed.
             assert!(rt;
-                lasting > 1 || whole == 0 || entries(&rt, "disk") == 1,
+                lasting > 1
+                    || whole == 0
+                    || entries(&rt, "disk") == 1
+                    || rt.remove_dir("disk/.wgetr%part17.0").is_ok(),
                 "{from}"
             );
             disk.log().mend();
