@@ -26,20 +26,50 @@ const BATCH: usize = 256;
 /// Fewer files of a site than these are put one after another.
 const FEW: usize = 16;
 
+// The directory that was last found or made.
+#[derive(Drop)]
+struct Known {
+    // Below the folder; empty at first, and after a put that failed.
+    dirs: String,
+    // Whether it was made here, so that nothing stands in it but what was put there since.
+    is_new: bool,
+}
+
+impl Known {
+    // None.
+    fn nothing(alloc: Global) -> Known {
+        Known {
+            dirs: String::new(alloc),
+            is_new: false,
+        }
+    }
+
+    // Whether it is this one.
+    fn is(&self, dirs: &str) -> bool {
+        !self.dirs.is_empty() && self.dirs.as_str() == dirs
+    }
+
+    // It is none from then on.
+    fn forget(&mut self) {
+        self.dirs.clear();
+        self.is_new = false;
+    }
+}
+
 /// Files below a folder of the system. A file is written under another name and gets its own when it
 /// is whole and closed without an error, so nobody sees half of it, and what stood there stays until then.
 ///
 /// A symbolic link that stands below the folder where a directory or a file is to stand is refused,
-/// and so is anything else that is neither. Links that others make while a file is put aren't seen:
-/// the system's calls by which one would see them aren't offered.
+/// and so is anything else that is neither. Links that others make while a file is put, or in a
+/// directory that was made here, aren't seen: the system's calls by which one would see them aren't
+/// offered. One in a file's place is replaced, and never followed.
 #[derive(Drop)]
 pub struct DiskFolder<'a, R: Files> {
     rt: &'a R,
     alloc: Global,
     prefix: String,
     part: String,
-    // The directory that was last found or made; empty at first, and after a put that failed.
-    known: String,
+    known: Known,
     failed: u64,
     // That of the last put that failed.
     error: Option<Error>,
@@ -73,32 +103,38 @@ fn look_for_dir<R: Files>(rt: &R, path: &str) -> io::Result<()> {
     }
 }
 
-// Makes a directory, unless it is there. Where another run makes it meanwhile, it is looked at again.
-fn make_dir<R: Files>(rt: &R, path: &str) -> io::Result<()> {
+// Makes a directory, unless it is there. Where another run makes it meanwhile, it is looked at again. Whether it was made here.
+fn make_dir<R: Files>(rt: &R, path: &str) -> io::Result<bool> {
     match look_for_dir(rt, path) {
         Err(e) if e.kind() == ErrorKind::NotFound => match rt.create_dir(path) {
-            Err(e) if e.kind() == ErrorKind::AlreadyExists => look_for_dir(rt, path),
-            made => made,
+            Err(e) if e.kind() == ErrorKind::AlreadyExists => {
+                look_for_dir(rt, path)?;
+                Ok(false)
+            }
+            Err(e) => Err(e),
+            Ok(()) => Ok(true),
         },
-        looked => looked,
+        Err(e) => Err(e),
+        Ok(()) => Ok(false),
     }
 }
 
-// Makes the directory of this name below a path, which leads to it from then on.
-fn descend<R: Files>(rt: &R, path: &mut String, name: &str) -> io::Result<()> {
+// Makes the directory of this name below a path, which leads to it from then on. Whether it was made here.
+fn descend<R: Files>(rt: &R, path: &mut String, name: &str) -> io::Result<bool> {
     path.push_str("/")?;
     path.push_str(name)?;
     make_dir(rt, path.as_str())
 }
 
-// Finds or makes a folder, and these directories below it, from the top down.
-fn make_dirs_below<R: Files>(rt: &R, alloc: Global, folder: &str, dirs: &str) -> io::Result<()> {
+// Finds or makes a folder, and these directories below it, from the top down. Whether the last was made here.
+fn make_dirs_below<R: Files>(rt: &R, alloc: Global, folder: &str, dirs: &str) -> io::Result<bool> {
     fs::create_dir_all(rt, folder)?;
     let mut path = String::from_str(alloc, folder)?;
+    let mut is_new = false;
     for segment in dirs.split('/') {
-        descend(rt, &mut path, segment)?;
+        is_new = descend(rt, &mut path, segment)?;
     }
-    Ok(())
+    Ok(is_new)
 }
 
 // The same, unless these directories were the last that were found or made; they are from then on.
@@ -106,15 +142,16 @@ fn make_dirs<R: Files>(
     rt: &R,
     alloc: Global,
     folder: &str,
-    known: &mut String,
+    known: &mut Known,
     dirs: &str,
 ) -> io::Result<()> {
-    if !known.is_empty() && known.as_str() == dirs {
+    if known.is(dirs) {
         return Ok(());
     }
-    make_dirs_below(rt, alloc, folder, dirs)?;
-    known.clear();
-    known.push_str(dirs)?;
+    let is_new = make_dirs_below(rt, alloc, folder, dirs)?;
+    known.forget();
+    known.dirs.push_str(dirs)?;
+    known.is_new = is_new;
     Ok(())
 }
 
@@ -137,21 +174,25 @@ where
     rt.rename(part, path)
 }
 
-// Makes the directories of a file below a folder, and refuses what stands in its place. Gives its path.
+// Makes the directories of a file below a folder, and refuses what stands in its place, which can be nothing in a directory that
+// was made here. Gives its path.
 fn find_place<R: Files>(
     rt: &R,
     alloc: Global,
     folder: &str,
-    known: &mut String,
+    known: &mut Known,
     name: &str,
 ) -> io::Result<String> {
     if !is_local_name(name) {
         return Err(Error::from(ErrorKind::InvalidInput));
     }
+    let path = path_below(alloc, folder, name)?;
     if let Some((dirs, _)) = name.rsplit_once('/') {
         make_dirs(rt, alloc, folder, known, dirs)?;
+        if known.is_new {
+            return Ok(path);
+        }
     }
-    let path = path_below(alloc, folder, name)?;
     look_for_file(rt, path.as_str())?;
     Ok(path)
 }
@@ -162,8 +203,7 @@ struct InOrder<'s, 'h, R> {
     rt: &'s R,
     alloc: Global,
     prefix: &'s str,
-    // As of the folder.
-    known: String,
+    known: Known,
     ready: &'s [Part<'h>],
     names: &'s [String],
     from: usize,
@@ -265,7 +305,7 @@ where
             alloc,
             prefix,
             part,
-            known: String::new(alloc),
+            known: Known::nothing(alloc),
             failed: 0,
             error: None,
         })
@@ -309,8 +349,8 @@ where
         let end = from.saturating_add(BATCH).min(harvest.kept().len());
         let dir = batch_path(self.alloc, self.part.as_str(), from)?;
         let mut parts = Vec::new(self.alloc);
-        for (number, i) in (from..end).enumerate() {
-            let path = part_path(self.alloc, dir.as_str(), number)?;
+        for i in from..end {
+            let path = part_path(self.alloc, dir.as_str(), i - from)?;
             parts.push(Part::new(i, path, harvest.body(i)))?;
         }
         Ok(Batch { dir, parts })
@@ -344,7 +384,7 @@ where
             rt: self.rt,
             alloc: self.alloc,
             prefix: self.prefix.as_str(),
-            known: mem::replace(&mut self.known, String::new(self.alloc)),
+            known: mem::replace(&mut self.known, Known::nothing(self.alloc)),
             ready,
             names,
             from,
@@ -441,7 +481,7 @@ where
             Ok(()) => Ok(()),
             Err(error) => {
                 // The directory may have gone.
-                self.known.clear();
+                self.known.forget();
                 self.error = Some(error);
                 self.failed = self.failed.saturating_add(1);
                 Err(FolderFault::Device)

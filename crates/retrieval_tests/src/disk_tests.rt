@@ -187,40 +187,44 @@ fn a_disk_that_fails_leaves_each_file_whole(rt: HostRuntime) {
     }
 }
 
-// What another process makes while `k/y` is put: before which call, for which path, what; and how the put ends. A link that is made
-// behind the look for it isn't seen, as the folder says.
-const MEETINGS: &str = "mkdir disk/k dir whole
-mkdir disk/k file refused
-mkdir disk/k link refused
-lstat disk/k file refused
-lstat disk/k link refused
-lstat disk/k/y dir refused
-lstat disk/k/y link refused
-open disk/.wgetr%part17 file whole
-open disk/.wgetr%part17 link whole
-rename disk/k/y file whole
-rename disk/k/y dir refused";
+// What another process makes while a file is put, into a new directory or one that is there: which file, before which call, for
+// which path, what; and how the put ends. A link that is made behind the look for it isn't seen, as the folder says, nor one in a
+// new directory.
+const MEETINGS: &str = "k/y mkdir disk/k dir whole
+k/y mkdir disk/k file refused
+k/y mkdir disk/k link refused
+k/y lstat disk/k file refused
+k/y lstat disk/k link refused
+h/y lstat disk/h/y dir refused
+h/y lstat disk/h/y link refused
+k/y open disk/.wgetr%part17 file whole
+k/y open disk/.wgetr%part17 link whole
+k/y rename disk/k/y file whole
+k/y rename disk/k/y link whole
+k/y rename disk/k/y dir refused";
 
-// What a line says befalls the disk, and how the put ends.
-fn meeting_of(rt: &impl Abort, line: &'static str) -> (Mishap, &'static str) {
+// Which file a line says is put, what befalls the disk, and how the put ends.
+fn meeting_of(rt: &impl Abort, line: &'static str) -> (&'static str, Mishap, &'static str) {
     let mut words = line.split(' ');
+    let file = words.next().expect(rt, "a file");
     let call = words.next().expect(rt, "a call");
     let path = words.next().expect(rt, "a path");
     let made = words.next().expect(rt, "a thing");
     let ends = words.next().expect(rt, "an end");
-    (Mishap::Meets(call, path, made), ends)
+    (file, Mishap::Meets(call, path, made), ends)
 }
 
 // Whether the put ends as it is to, with the file whole where it ends well, and neither a part of it nor anything outside.
-fn meets<R: Abort + Files + AllocGlobal, D: Files>(rt: &R, disk: &D, ends: &str) -> bool
+fn meets<R: Abort + Files + AllocGlobal, D: Files>(rt: &R, disk: &D, file: &str, ends: &str) -> bool
 where
     D::File: Close,
 {
     lay_out(rt, rt.alloc());
     let mut folder = DiskFolder::new(disk, rt.alloc(), "disk", 17).expect(rt, "memory");
     let is_put = ends == "whole";
-    folder.put("k/y", NEW).is_ok() == is_put
-        && holds(rt, "disk/k/y", NEW) == is_put
+    let path = format!(in rt.alloc(); "disk/{file}").expect(rt, "memory");
+    folder.put(file, NEW).is_ok() == is_put
+        && holds(rt, path.as_str(), NEW) == is_put
         && is_absent(rt, "disk/.wgetr%part17")
         && is_absent(rt, "outside/y")
 }
@@ -228,9 +232,9 @@ where
 #[test]
 fn what_another_process_makes_is_seen(rt: HostRuntime) {
     for line in MEETINGS.lines() {
-        let (mishap, ends) = meeting_of(&rt, line);
+        let (file, mishap, ends) = meeting_of(&rt, line);
         let disk = Disk::new(rt, rt.alloc(), mishap).expect(&rt, "memory");
-        assert!(rt; meets(&rt, &disk, ends), "{line}");
+        assert!(rt; meets(&rt, &disk, file, ends), "{line}");
     }
 }
 
