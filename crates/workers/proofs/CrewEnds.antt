@@ -7,6 +7,7 @@ use Rattle.std.proofs.lemmas.List.{append-nil, take-append-le, take_all}
 use Rattle.follow_filters.specs.declared.plan.Plan.{Plan}
 use Rattle.robots_rules.specs.Access.{RuleSetValue}
 use Rattle.fetcher.specs.declared.fetcher.Ask.{Ask}
+use Rattle.fetcher.specs.declared.fetcher.Fetcher.{Ghosts as Meaning}
 use Rattle.fetcher.specs.declared.outcome.Outcome.{Outcome}
 use Rattle.frontier_core.specs.Tables.{Text, IsOnce}
 use Rattle.frontier_core.specs.Plans.{policy}
@@ -58,46 +59,46 @@ IsFull plan s = HasTooMany (policy plan) (answers s) × IsOverfull (policy plan)
 pub written : {X : Type 0} (n : ℕ) (new rest : List X) → length new ≡ n → take n (new ++ rest) ≡ new
 written n new rest is = take-append-le n new rest (omega arith) ∙ take_all n new (omega arith)
 
-module _ {F S : Type 0} (site : F → S) (says : S → Text → Outcome → List ℕ → Type 0) (rules : S → Text → RuleSetValue → Type 0) (log : F → List Ask) (plan : Plan) where
+module _ {F : Type 0} (m : Meaning F) (plan : Plan) where
   -- ---- fetchers of which nothing was asked
 
   same_gained : (asks : List Ask) → gained asks asks ≡ []
   same_gained asks = gained_is asks asks [] (sym (append-nil asks))
 
-  pub later_self : (fs : List F) → AreLater site log fs fs
+  pub later_self : (fs : List F) → AreLater m fs fs
   later_self [] = tt
-  later_self (f ∷ fs) = (record { site_is = refl; log_is = log_is (log f) (log f) [] (sym (append-nil (log f))) }, later_self fs)
+  later_self (f ∷ fs) = (record { site_is = refl; log_is = log_is (m.log f) (m.log f) [] (sym (append-nil (m.log f))) }, later_self fs)
 
-  pub none_gained : (fs : List F) → all_gained log fs fs ≡ []
+  pub none_gained : (fs : List F) → all_gained m fs fs ≡ []
   none_gained [] = refl
-  none_gained (f ∷ fs) = ap (λ (asks : List Ask). asks ++ all_gained log fs fs) (same_gained (log f)) ∙ none_gained fs
+  none_gained (f ∷ fs) = ap (λ (asks : List Ask). asks ++ all_gained m fs fs) (same_gained (m.log f)) ∙ none_gained fs
 
-  pub none_once : (fs : List F) → AreOnce (all_gained log fs fs)
+  pub none_once : (fs : List F) → AreOnce (all_gained m fs fs)
   none_once fs = subst AreOnce (sym (none_gained fs)) (record { pages = tt; origins = tt })
 
   -- ---- by what was concluded
 
-  pub retrieved_by : (old new : List F) (t : Traced) (notes : List PageNote) (sets : List RulesNote) (h : Harvested) → AreLater site log old new
-      → AreNoted (SomeSays site says log old new) (SomeRules site rules log old new) plan (all_gained log old new) notes sets
-      → IsConcluded plan t notes sets h × IsQuiet t.state × IsComplete (policy t.plan) t.state → IsRetrievedBy site says rules log plan old new h
+  pub retrieved_by : (old new : List F) (t : Traced) (notes : List PageNote) (sets : List RulesNote) (h : Harvested) → AreLater m old new
+      → AreNoted (SomeSays m old new) (SomeRules m old new) plan (all_gained m old new) notes sets
+      → IsConcluded plan t notes sets h × IsQuiet t.state × IsComplete (policy t.plan) t.state → IsRetrievedBy m plan old new h
   retrieved_by old new t notes sets h later noted all = record {
     later = later;
-    retrieved = crew_retrieved (SomeSays site says log old new) (SomeRules site rules log old new) plan t (all_gained log old new) notes sets h noted all.0 all.1 all.2;
+    retrieved = crew_retrieved (SomeSays m old new) (SomeRules m old new) plan t (all_gained m old new) notes sets h noted all.0 all.1 all.2;
     entries = all.0.harvest.entries;
   }
 
   full_of : (t : Traced) (notes : List PageNote) (sets : List RulesNote) (h : Harvested) → IsConcluded plan t notes sets h → IsFull t.plan t.state → IsFull plan h.state
   full_of t notes sets h all full = subst (λ (s : State). IsFull plan s) (sym all.harvest.state) (subst (λ (x : Plan). IsFull x t.state) all.follows full)
 
-  pub stopped_by : (old new : List F) (t : Traced) (notes : List PageNote) (sets : List RulesNote) (cause : Cause) (h : Harvested) → AreLater site log old new
-      → AreNoted (SomeSays site says log old new) (SomeRules site rules log old new) plan (all_gained log old new) notes sets
+  pub stopped_by : (old new : List F) (t : Traced) (notes : List PageNote) (sets : List RulesNote) (cause : Cause) (h : Harvested) → AreLater m old new
+      → AreNoted (SomeSays m old new) (SomeRules m old new) plan (all_gained m old new) notes sets
       → (cause ≢ why.Mismatch → IsBare notes sets cause h ⊎ (IsConcluded plan t notes sets h × (t.state.cause ≡ Some cause)))
-      → (cause ≡ why.Full → IsFull t.plan t.state) → IsStoppedBy site says rules log plan old new cause h
+      → (cause ≡ why.Full → IsFull t.plan t.state) → IsStoppedBy m plan old new cause h
   stopped_by old new t notes sets cause h later noted err full = record {
     later = later;
     stopped = λ other. elim (err other) [
-      | inl bare ↦ crew_bare (SomeSays site says log old new) (SomeRules site rules log old new) plan (all_gained log old new) notes sets cause h noted bare
-      | inr both ↦ inl (crew_part_retrieved (SomeSays site says log old new) (SomeRules site rules log old new) plan t (all_gained log old new) notes sets cause h noted both.0 both.1)
+      | inl bare ↦ crew_bare (SomeSays m old new) (SomeRules m old new) plan (all_gained m old new) notes sets cause h noted bare
+      | inr both ↦ inl (crew_part_retrieved (SomeSays m old new) (SomeRules m old new) plan t (all_gained m old new) notes sets cause h noted both.0 both.1)
     ];
     full = λ is. elim (err (λ (wrong : cause ≡ why.Mismatch). let other : why.Mismatch ≡ why.Full = sym wrong ∙ is in cc)) [
       | inl bare ↦ absurd (let other : why.Memory ≡ why.Full = sym bare.nothing.memory ∙ is in cc)
@@ -105,14 +106,14 @@ module _ {F S : Type 0} (site : F → S) (says : S → Text → Outcome → List
     ];
   }
 
-  pub stopped_empty : (old new : List F) (cause : Cause) (h : Harvested) → AreLater site log old new → AreOnce (all_gained log old new) → IsNothing cause h → IsStoppedBy site says rules log plan old new cause h
+  pub stopped_empty : (old new : List F) (cause : Cause) (h : Harvested) → AreLater m old new → AreOnce (all_gained m old new) → IsNothing cause h → IsStoppedBy m plan old new cause h
   stopped_empty old new cause h later once nothing = record {
     later = later;
     stopped = λ other. inr (record { memory = nothing.memory; plan = nothing.plan; state = nothing.state; trace = nothing.trace; once = once });
     full = λ is. absurd (let other : why.Memory ≡ why.Full = sym nothing.memory ∙ is in cc);
   }
 
-  pub stopped_wrong : (old new : List F) (cause : Cause) (h : Harvested) → AreLater site log old new → cause ≡ why.Mismatch → IsStoppedBy site says rules log plan old new cause h
+  pub stopped_wrong : (old new : List F) (cause : Cause) (h : Harvested) → AreLater m old new → cause ≡ why.Mismatch → IsStoppedBy m plan old new cause h
   stopped_wrong old new cause h later wrong = record {
     later = later;
     stopped = λ other. absurd (other wrong);
@@ -121,72 +122,72 @@ module _ {F S : Type 0} (site : F → S) (says : S → Text → Outcome → List
 
   -- ---- by what was noted
 
-  pub account_all : (old new : List F) (noted : Noted) (notes : Notes) → IsAccount site says rules log plan old new noted → noted ≡ known.All notes
-      → AreNoted (SomeSays site says log old new) (SomeRules site rules log old new) plan (all_gained log old new) notes.pages.items notes.rules.items
-  account_all old new noted notes account is = subst (λ (n : Noted). IsAccount site says rules log plan old new n) is account
+  pub account_all : (old new : List F) (noted : Noted) (notes : Notes) → IsAccount m plan old new noted → noted ≡ known.All notes
+      → AreNoted (SomeSays m old new) (SomeRules m old new) plan (all_gained m old new) notes.pages.items notes.rules.items
+  account_all old new noted notes account is = subst (λ (n : Noted). IsAccount m plan old new n) is account
 
-  pub account_once : (old new : List F) (noted : Noted) → IsAccount site says rules log plan old new noted → noted ≡ known.Once → AreOnce (all_gained log old new)
-  account_once old new noted account is = subst (λ (n : Noted). IsAccount site says rules log plan old new n) is account
+  pub account_once : (old new : List F) (noted : Noted) → IsAccount m plan old new noted → noted ≡ known.Once → AreOnce (all_gained m old new)
+  account_once old new noted account is = subst (λ (n : Noted). IsAccount m plan old new n) is account
 
-  pub all_retrieved : (old new : List F) (t : Traced) (notes : List PageNote) (sets : List RulesNote) (concluded : Result Harvested Halt) → AreLater site log old new
-      → AreNoted (SomeSays site says log old new) (SomeRules site rules log old new) plan (all_gained log old new) notes sets
-      → IfOk concluded (λ h. IsConcluded plan t notes sets h × IsQuiet t.state × IsComplete (policy t.plan) t.state) → IfOk concluded (λ h. IsRetrievedBy site says rules log plan old new h)
+  pub all_retrieved : (old new : List F) (t : Traced) (notes : List PageNote) (sets : List RulesNote) (concluded : Result Harvested Halt) → AreLater m old new
+      → AreNoted (SomeSays m old new) (SomeRules m old new) plan (all_gained m old new) notes sets
+      → IfOk concluded (λ h. IsConcluded plan t notes sets h × IsQuiet t.state × IsComplete (policy t.plan) t.state) → IfOk concluded (λ h. IsRetrievedBy m plan old new h)
   all_retrieved old new t notes sets (Ok h) later noted ok = retrieved_by old new t notes sets h later noted ok
   all_retrieved old new t notes sets (Err halt) later noted ok = tt
 
-  pub all_stopped : (old new : List F) (t : Traced) (notes : List PageNote) (sets : List RulesNote) (concluded : Result Harvested Halt) → AreLater site log old new
-      → AreNoted (SomeSays site says log old new) (SomeRules site rules log old new) plan (all_gained log old new) notes sets
+  pub all_stopped : (old new : List F) (t : Traced) (notes : List PageNote) (sets : List RulesNote) (concluded : Result Harvested Halt) → AreLater m old new
+      → AreNoted (SomeSays m old new) (SomeRules m old new) plan (all_gained m old new) notes sets
       → IfErr concluded (λ halt. halt.cause ≢ why.Mismatch → IsBare notes sets halt.cause halt.harvest ⊎ (IsConcluded plan t notes sets halt.harvest × (t.state.cause ≡ Some halt.cause)))
-      → IfErr concluded (λ halt. halt.cause ≡ why.Full → IsFull t.plan t.state) → IfErr concluded (λ halt. IsStoppedBy site says rules log plan old new halt.cause halt.harvest)
+      → IfErr concluded (λ halt. halt.cause ≡ why.Full → IsFull t.plan t.state) → IfErr concluded (λ halt. IsStoppedBy m plan old new halt.cause halt.harvest)
   all_stopped old new t notes sets (Ok h) later noted err full = tt
   all_stopped old new t notes sets (Err halt) later noted err full = stopped_by old new t notes sets halt.cause halt.harvest later noted err full
 
   -- ---- one fetcher
 
-  pub one_later : (f g : F) → site g ≡ site f → log g ≡ log f ++ gained (log f) (log g) → AreLater site log (f ∷ []) (g ∷ [])
+  pub one_later : (f g : F) → m.site g ≡ m.site f → m.log g ≡ m.log f ++ gained (m.log f) (m.log g) → AreLater m (f ∷ []) (g ∷ [])
   one_later f g site_is log_is = (record { site_is = site_is; log_is = log_is }, tt)
 
-  one_gained : (f g : F) → all_gained log (f ∷ []) (g ∷ []) ≡ gained (log f) (log g)
-  one_gained f g = append-nil (gained (log f) (log g))
+  one_gained : (f g : F) → all_gained m (f ∷ []) (g ∷ []) ≡ gained (m.log f) (m.log g)
+  one_gained f g = append-nil (gained (m.log f) (m.log g))
 
-  one_says : (f g : F) (u : Text) (x : Outcome) (body : List ℕ) → Contains (pages_asked (gained (log f) (log g))) u → says (site f) u x body → SomeSays site says log (f ∷ []) (g ∷ []) u x body
-  one_says f g u x body among said = inl (page_in (gained (log f) (log g)) u among, said)
+  one_says : (f g : F) (u : Text) (x : Outcome) (body : List ℕ) → Contains (pages_asked (gained (m.log f) (m.log g))) u → m.says (m.site f) u x body → SomeSays m (f ∷ []) (g ∷ []) u x body
+  one_says f g u x body among said = inl (page_in (gained (m.log f) (m.log g)) u among, said)
 
-  one_rules : (f g : F) (o : Text) (r : RuleSetValue) → Contains (origins_asked (gained (log f) (log g))) o → rules (site f) o r → SomeRules site rules log (f ∷ []) (g ∷ []) o r
-  one_rules f g o r among said = inl (rules_in (gained (log f) (log g)) o among, said)
+  one_rules : (f g : F) (o : Text) (r : RuleSetValue) → Contains (origins_asked (gained (m.log f) (m.log g))) o → m.rules (m.site f) o r → SomeRules m (f ∷ []) (g ∷ []) o r
+  one_rules f g o r among said = inl (rules_in (gained (m.log f) (m.log g)) o among, said)
 
-  pub one_retrieved : (f g : F) (h : Harvested) → site g ≡ site f → log g ≡ log f ++ gained (log f) (log g)
-      → IsRetrieved (says (site f)) (rules (site f)) plan (gained (log f) (log g)) h → AreEntries h → IsRetrievedBy site says rules log plan (f ∷ []) (g ∷ []) h
+  pub one_retrieved : (f g : F) (h : Harvested) → m.site g ≡ m.site f → m.log g ≡ m.log f ++ gained (m.log f) (m.log g)
+      → IsRetrieved (m.says (m.site f)) (m.rules (m.site f)) plan (gained (m.log f) (m.log g)) h → AreEntries h → IsRetrievedBy m plan (f ∷ []) (g ∷ []) h
   one_retrieved f g h site_is log_is retrieved entries = record {
     later = one_later f g site_is log_is;
-    retrieved = subst (λ (asks : List Ask). IsRetrieved (SomeSays site says log (f ∷ []) (g ∷ [])) (SomeRules site rules log (f ∷ []) (g ∷ [])) plan asks h) (sym (one_gained f g))
-        (retrieved_more (says (site f)) (SomeSays site says log (f ∷ []) (g ∷ [])) (rules (site f)) (SomeRules site rules log (f ∷ []) (g ∷ [])) (gained (log f) (log g)) (one_says f g) (one_rules f g) plan h retrieved);
+    retrieved = subst (λ (asks : List Ask). IsRetrieved (SomeSays m (f ∷ []) (g ∷ [])) (SomeRules m (f ∷ []) (g ∷ [])) plan asks h) (sym (one_gained f g))
+        (retrieved_more (m.says (m.site f)) (SomeSays m (f ∷ []) (g ∷ [])) (m.rules (m.site f)) (SomeRules m (f ∷ []) (g ∷ [])) (gained (m.log f) (m.log g)) (one_says f g) (one_rules f g) plan h retrieved);
     entries = entries;
   }
 
-  pub one_stopped : (f g : F) (cause : Cause) (h : Harvested) → site g ≡ site f → log g ≡ log f ++ gained (log f) (log g)
-      → IsStopped (says (site f)) (rules (site f)) plan (gained (log f) (log g)) cause h → (cause ≡ why.Full → IsFull plan h.state) → IsStoppedBy site says rules log plan (f ∷ []) (g ∷ []) cause h
+  pub one_stopped : (f g : F) (cause : Cause) (h : Harvested) → m.site g ≡ m.site f → m.log g ≡ m.log f ++ gained (m.log f) (m.log g)
+      → IsStopped (m.says (m.site f)) (m.rules (m.site f)) plan (gained (m.log f) (m.log g)) cause h → (cause ≡ why.Full → IsFull plan h.state) → IsStoppedBy m plan (f ∷ []) (g ∷ []) cause h
   one_stopped f g cause h site_is log_is some full = record {
     later = one_later f g site_is log_is;
     stopped = λ other. elim some [
-      | inl part ↦ inl (subst (λ (asks : List Ask). IsPartRetrieved (SomeSays site says log (f ∷ []) (g ∷ [])) (SomeRules site rules log (f ∷ []) (g ∷ [])) plan asks cause h) (sym (one_gained f g))
-          (part_retrieved_more (says (site f)) (SomeSays site says log (f ∷ []) (g ∷ [])) (rules (site f)) (SomeRules site rules log (f ∷ []) (g ∷ [])) (gained (log f) (log g)) (one_says f g) (one_rules f g) plan cause h part))
+      | inl part ↦ inl (subst (λ (asks : List Ask). IsPartRetrieved (SomeSays m (f ∷ []) (g ∷ [])) (SomeRules m (f ∷ []) (g ∷ [])) plan asks cause h) (sym (one_gained f g))
+          (part_retrieved_more (m.says (m.site f)) (SomeSays m (f ∷ []) (g ∷ [])) (m.rules (m.site f)) (SomeRules m (f ∷ []) (g ∷ [])) (gained (m.log f) (m.log g)) (one_says f g) (one_rules f g) plan cause h part))
       | inr empty ↦ inr (record { memory = empty.memory; plan = empty.plan; state = empty.state; trace = empty.trace; once = subst AreOnce (sym (one_gained f g)) empty.once })
     ];
     full = full;
   }
 
-  pub alone_retrieved : (fs : List F) (d g : F) (r : Result Harvested Halt) → length fs ≡ 1 → site g ≡ site (get_or fs 0 d) → log g ≡ log (get_or fs 0 d) ++ gained (log (get_or fs 0 d)) (log g)
-      → IfOk r (IsRetrieved (says (site (get_or fs 0 d))) (rules (site (get_or fs 0 d))) plan (gained (log (get_or fs 0 d)) (log g))) → IfOk r AreEntries
-      → IfOk r (λ h. IsRetrievedBy site says rules log plan fs (slice_set fs 0 g) h)
+  pub alone_retrieved : (fs : List F) (d g : F) (r : Result Harvested Halt) → length fs ≡ 1 → m.site g ≡ m.site (get_or fs 0 d) → m.log g ≡ m.log (get_or fs 0 d) ++ gained (m.log (get_or fs 0 d)) (m.log g)
+      → IfOk r (IsRetrieved (m.says (m.site (get_or fs 0 d))) (m.rules (m.site (get_or fs 0 d))) plan (gained (m.log (get_or fs 0 d)) (m.log g))) → IfOk r AreEntries
+      → IfOk r (λ h. IsRetrievedBy m plan fs (slice_set fs 0 g) h)
   alone_retrieved [] d g r one site_is log_is ok entries = absurd (omega arith)
   alone_retrieved (f ∷ []) d g (Ok h) one site_is log_is ok entries = one_retrieved f g h site_is log_is ok entries
   alone_retrieved (f ∷ []) d g (Err halt) one site_is log_is ok entries = tt
   alone_retrieved (f ∷ e ∷ fs) d g r one site_is log_is ok entries = absurd (omega arith)
 
-  pub alone_stopped : (fs : List F) (d g : F) (r : Result Harvested Halt) → length fs ≡ 1 → site g ≡ site (get_or fs 0 d) → log g ≡ log (get_or fs 0 d) ++ gained (log (get_or fs 0 d)) (log g)
-      → IfErr r (λ halt. IsStopped (says (site (get_or fs 0 d))) (rules (site (get_or fs 0 d))) plan (gained (log (get_or fs 0 d)) (log g)) halt.cause halt.harvest)
-      → IfErr r (λ halt. halt.cause ≡ why.Full → IsFull plan halt.harvest.state) → IfErr r (λ halt. IsStoppedBy site says rules log plan fs (slice_set fs 0 g) halt.cause halt.harvest)
+  pub alone_stopped : (fs : List F) (d g : F) (r : Result Harvested Halt) → length fs ≡ 1 → m.site g ≡ m.site (get_or fs 0 d) → m.log g ≡ m.log (get_or fs 0 d) ++ gained (m.log (get_or fs 0 d)) (m.log g)
+      → IfErr r (λ halt. IsStopped (m.says (m.site (get_or fs 0 d))) (m.rules (m.site (get_or fs 0 d))) plan (gained (m.log (get_or fs 0 d)) (m.log g)) halt.cause halt.harvest)
+      → IfErr r (λ halt. halt.cause ≡ why.Full → IsFull plan halt.harvest.state) → IfErr r (λ halt. IsStoppedBy m plan fs (slice_set fs 0 g) halt.cause halt.harvest)
   alone_stopped [] d g r one site_is log_is err full = absurd (omega arith)
   alone_stopped (f ∷ []) d g (Ok h) one site_is log_is err full = tt
   alone_stopped (f ∷ []) d g (Err halt) one site_is log_is err full = one_stopped f g halt.cause halt.harvest site_is log_is err full
@@ -194,93 +195,93 @@ module _ {F S : Type 0} (site : F → S) (says : S → Text → Outcome → List
 
   -- ---- for a whole site
 
-  module _ (old new : List F) (whole : Answers) (fit : AllFit site says rules old whole) where
-    pub whole_retrieved : (h : Harvested) → IsRetrievedBy site says rules log plan old new h → IsCompleteFor (policy plan) whole h.state
+  module _ (old new : List F) (whole : Answers) (fit : AllFit m old whole) where
+    pub whole_retrieved : (h : Harvested) → IsRetrievedBy m plan old new h → IsCompleteFor (policy plan) whole h.state
     whole_retrieved h b = complete_for (policy plan) h.state whole b.retrieved.complete
-        (fits_extend (SomeSays site says log old new) (SomeRules site rules log old new) whole (answers h.state) (crew_fits site says rules log old new whole fit) b.retrieved.told)
+        (fits_extend (SomeSays m old new) (SomeRules m old new) whole (answers h.state) (crew_fits m old new whole fit) b.retrieved.told)
 
-    pub whole_stopped : (cause : Cause) (h : Harvested) → IsStoppedBy site says rules log plan old new cause h → cause ≡ why.Full → HasTooMany (policy plan) whole
+    pub whole_stopped : (cause : Cause) (h : Harvested) → IsStoppedBy m plan old new cause h → cause ≡ why.Full → HasTooMany (policy plan) whole
     whole_stopped cause h l is = elim (l.stopped (λ (wrong : cause ≡ why.Mismatch). let other : why.Mismatch ≡ why.Full = sym wrong ∙ is in cc)) [
       | inl part ↦ too_many_up (policy plan) (answers h.state) whole
-          (fits_extend (SomeSays site says log old new) (SomeRules site rules log old new) whole (answers h.state) (crew_fits site says rules log old new whole fit) part.told) (l.full is).0
+          (fits_extend (SomeSays m old new) (SomeRules m old new) whole (answers h.state) (crew_fits m old new whole fit) part.told) (l.full is).0
       | inr empty ↦ absurd (let other : why.Memory ≡ why.Full = sym empty.memory ∙ is in cc)
     ]
 
-    pub never_retrieved : (h : Harvested) → IsRetrievedBy site says rules log plan old new h → HasTooMany (policy plan) whole → ⊥
+    pub never_retrieved : (h : Harvested) → IsRetrievedBy m plan old new h → HasTooMany (policy plan) whole → ⊥
     never_retrieved h b many = not_too_many (policy plan) h.state whole b.retrieved.complete
-        (fits_extend (SomeSays site says log old new) (SomeRules site rules log old new) whole (answers h.state) (crew_fits site says rules log old new whole fit) b.retrieved.told)
+        (fits_extend (SomeSays m old new) (SomeRules m old new) whole (answers h.state) (crew_fits m old new whole fit) b.retrieved.told)
         (sound_replay (policy plan) h.trace h.state plan.some_urls b.retrieved.replay).few many
 
 -- ---- where there is no memory to bring the notes together
 
-module _ {F S : Type 0} (site : F → S) (says : S → Text → Outcome → List ℕ → Type 0) (rules : S → Text → RuleSetValue → Type 0) (log : F → List Ask) (plan : Plan) where
-  pub bare_later : (old new : List F) (ss ts us : List (Seat F)) → fetchers_of ss ≡ old → new ≡ fetchers_of us → AllZip IsOrdered ts us → AllGo site says rules log plan ss ts → AreLater site log old new
-  bare_later old new ss ts us from to moved go = crew_later site says rules log plan old new ss ts from (to ∙ same_fetchers ts us moved) go
+module _ {F : Type 0} (m : Meaning F) (plan : Plan) where
+  pub bare_later : (old new : List F) (ss ts us : List (Seat F)) → fetchers_of ss ≡ old → new ≡ fetchers_of us → AllZip IsOrdered ts us → AllGo m plan ss ts → AreLater m old new
+  bare_later old new ss ts us from to moved go = crew_later m plan old new ss ts from (to ∙ same_fetchers ts us moved) go
 
   pub bare_once : (old new : List F) (ss ts us : List (Seat F)) → fetchers_of ss ≡ old → new ≡ fetchers_of us → AllZip IsOrdered ts us → page_notes ss ≡ [] → rules_notes ss ≡ []
-      → AllGo site says rules log plan ss ts → IsOnce (addresses (page_notes ts)) → IsOnce (origins (rules_notes ts)) → AreOnce (all_gained log old new)
+      → AllGo m plan ss ts → IsOnce (addresses (page_notes ts)) → IsOnce (origins (rules_notes ts)) → AreOnce (all_gained m old new)
   bare_once old new ss ts us from to moved no_pages no_sets go pages sets =
       let at : new ≡ fetchers_of ts = to ∙ same_fetchers ts us moved in
       rw (← from, at) record {
-        pages = subst IsOnce (sym (pages_are_noted site says rules log plan ss ts go no_pages)) pages;
-        origins = subst IsOnce (sym (rules_are_noted site says rules log plan ss ts go no_sets)) sets;
+        pages = subst IsOnce (sym (pages_are_noted m plan ss ts go no_pages)) pages;
+        origins = subst IsOnce (sym (rules_are_noted m plan ss ts go no_sets)) sets;
       }
 
 -- ---- who took what
 
-pub account_own : {F : Type 0} (log : F → List Ask) (old new : List F) (noted : Noted) (notes : Notes) → IsOwnAccount log old new noted → noted ≡ known.All notes
-    → (trace : List Event) → AreNotedBy notes.pages.items notes.rules.items trace → AreOwn log 0 old new trace
-account_own log old new noted notes account is = subst (λ (n : Noted). IsOwnAccount log old new n) is account
+pub account_own : {F : Type 0} (m : Meaning F) (old new : List F) (noted : Noted) (notes : Notes) → IsOwnAccount m old new noted → noted ≡ known.All notes
+    → (trace : List Event) → AreNotedBy notes.pages.items notes.rules.items trace → AreOwn m 0 old new trace
+account_own m old new noted notes account is = subst (λ (n : Noted). IsOwnAccount m old new n) is account
 
 -- ---- what a retrieval comes to, beside its fetchers
 
-module _ {F S : Type 0} (site : F → S) (says : S → Text → Outcome → List ℕ → Type 0) (rules : S → Text → RuleSetValue → Type 0) (log : F → List Ask) (plan : Plan) (old new : List F) where
+module _ {F : Type 0} (m : Meaning F) (plan : Plan) (old new : List F) where
   -- it retrieved all
   abbrev pub Retrieves : Result Harvested Halt → Type 0
-  Retrieves r = IfOk r (λ h. IsRetrievedBy site says rules log plan old new h)
+  Retrieves r = IfOk r (λ h. IsRetrievedBy m plan old new h)
 
   -- it stopped
   abbrev pub Stops : Result Harvested Halt → Type 0
-  Stops r = IfErr r (λ halt. IsStoppedBy site says rules log plan old new halt.cause halt.harvest)
+  Stops r = IfErr r (λ halt. IsStoppedBy m plan old new halt.cause halt.harvest)
 
-  pub later_told : (r : Result Harvested Halt) → Retrieves r → Stops r → AreLater site log old new
+  pub later_told : (r : Result Harvested Halt) → Retrieves r → Stops r → AreLater m old new
   later_told (Ok h) ok err = ok.later
   later_told (Err halt) ok err = err.later
 
-  pub retrieved_told : (r : Result Harvested Halt) → Retrieves r → IfOk r (IsRetrieved (SomeSays site says log old new) (SomeRules site rules log old new) plan (all_gained log old new))
+  pub retrieved_told : (r : Result Harvested Halt) → Retrieves r → IfOk r (IsRetrieved (SomeSays m old new) (SomeRules m old new) plan (all_gained m old new))
   retrieved_told (Ok h) ok = ok.retrieved
   retrieved_told (Err halt) ok = tt
 
   pub stopped_told : (r : Result Harvested Halt) → Stops r
-      → IfErr r (λ halt. halt.cause ≢ why.Mismatch → IsStopped (SomeSays site says log old new) (SomeRules site rules log old new) plan (all_gained log old new) halt.cause halt.harvest)
+      → IfErr r (λ halt. halt.cause ≢ why.Mismatch → IsStopped (SomeSays m old new) (SomeRules m old new) plan (all_gained m old new) halt.cause halt.harvest)
   stopped_told (Ok h) err = tt
   stopped_told (Err halt) err = err.stopped
 
   pub found_told : (r : Result Harvested Halt) → Retrieves r
-      → IfOk r (λ h. (m : Answers) × AreAsked (SomeSays site says log old new) (SomeRules site rules log old new) plan (all_gained log old new) m × AreFound plan m h.entries)
-  found_told (Ok h) ok = retrieved_found (SomeSays site says log old new) (SomeRules site rules log old new) plan (all_gained log old new) h ok.entries ok.retrieved
+      → IfOk r (λ h. (found : Answers) × AreAsked (SomeSays m old new) (SomeRules m old new) plan (all_gained m old new) found × AreFound plan found h.entries)
+  found_told (Ok h) ok = retrieved_found (SomeSays m old new) (SomeRules m old new) plan (all_gained m old new) h ok.entries ok.retrieved
   found_told (Err halt) ok = tt
 
-  pub once_told : (r : Result Harvested Halt) → Stops r → IfErr r (λ halt. halt.cause ≢ why.Mismatch → AreMadeOnce (all_gained log old new))
+  pub once_told : (r : Result Harvested Halt) → Stops r → IfErr r (λ halt. halt.cause ≢ why.Mismatch → AreMadeOnce (all_gained m old new))
   once_told (Ok h) err = tt
   once_told (Err halt) err = λ other.
-      stopped_once (SomeSays site says log old new) (SomeRules site rules log old new) plan (all_gained log old new) halt.cause halt.harvest (err.stopped other)
+      stopped_once (SomeSays m old new) (SomeRules m old new) plan (all_gained m old new) halt.cause halt.harvest (err.stopped other)
 
   pub full_told : (r : Result Harvested Halt) → Stops r → IfErr r (λ halt. halt.cause ≡ why.Full → IsFull plan halt.harvest.state)
   full_told (Ok h) err = tt
   full_told (Err halt) err = err.full
 
-  module _ (whole : Answers) (fit : AllFit site says rules old whole) where
+  module _ (whole : Answers) (fit : AllFit m old whole) where
     pub whole_told : (r : Result Harvested Halt) → Retrieves r → IfOk r (λ h. IsCompleteFor (policy plan) whole h.state)
-    whole_told (Ok h) ok = whole_retrieved site says rules log plan old new whole fit h ok
+    whole_told (Ok h) ok = whole_retrieved m plan old new whole fit h ok
     whole_told (Err halt) ok = tt
 
     pub full_site_told : (r : Result Harvested Halt) → Stops r → IfErr r (λ halt. halt.cause ≡ why.Full → HasTooMany (policy plan) whole)
     full_site_told (Ok h) err = tt
-    full_site_told (Err halt) err = whole_stopped site says rules log plan old new whole fit halt.cause halt.harvest err
+    full_site_told (Err halt) err = whole_stopped m plan old new whole fit halt.cause halt.harvest err
 
     pub crowded_told : (r : Result Harvested Halt) → Retrieves r → HasTooMany (policy plan) whole → IsErr r
-    crowded_told (Ok h) ok many = absurd (never_retrieved site says rules log plan old new whole fit h ok many)
+    crowded_told (Ok h) ok many = absurd (never_retrieved m plan old new whole fit h ok many)
     crowded_told (Err halt) ok many = refl
 
 -- ---- what it came to, with its fetchers

@@ -8,6 +8,7 @@ use Rattle.std.proofs.lemmas.List.Elements.{All-append, All-nil, All-cons, filte
 use Rattle.follow_filters.specs.declared.plan.Plan.{Plan}
 use Rattle.robots_rules.specs.Access.{RuleSetValue}
 use Rattle.fetcher.specs.declared.fetcher.Ask.{Ask}
+use Rattle.fetcher.specs.declared.fetcher.Fetcher.{Ghosts as Meaning}
 use Rattle.fetcher.specs.declared.fetcher.Ask.TheVariants as ask
 use Rattle.fetcher.specs.Logs.{GainedAtMost}
 use Rattle.fetcher.specs.declared.outcome.Outcome.{Outcome}
@@ -45,48 +46,48 @@ told_page says plan note x body said is = told_cases says plan note.address note
 pub told_rules : (may_rule : Text → RuleSetValue → Type 0) (note : RulesNote) (rules : RuleSetValue) → may_rule note.origin rules → IfSome note.told (λ told. told ≡ rules) → IsToldRules may_rule note
 told_rules may_rule note rules may is = IfSome_then note.told is (λ told same. subst (λ (r : RuleSetValue). may_rule note.origin r) (sym same) may)
 
-module _ {F S : Type 0} (site : F → S) (says : S → Text → Outcome → List ℕ → Type 0) (rules : S → Text → RuleSetValue → Type 0) (log : F → List Ask) (plan : Plan) (worker : ℕ) where
+module _ {F : Type 0} (m : Meaning F) (plan : Plan) (worker : ℕ) where
   -- nothing was done
-  pub goes_none : (f : F) (notes : Notes) → Goes site says rules log plan worker f notes f notes
+  pub goes_none : (f : F) (notes : Notes) → Goes m plan worker (f, notes) (f, notes)
   goes_none f notes = record {
     asks = [];
     pages = [];
     sets = [];
     site_is = refl;
-    log_is = sym (append-nil (log f));
+    log_is = sym (append-nil (m.log f));
     pages_are = sym (append-nil notes.pages.items);
     sets_are = sym (append-nil notes.rules.items);
     pages_noted = refl;
     rules_noted = refl;
-    told = All-nil (IsToldPage (says (site f)) plan);
-    ruled = All-nil (IsToldRules (rules (site f)));
+    told = All-nil (IsToldPage (m.says (m.site f)) plan);
+    ruled = All-nil (IsToldRules (m.rules (m.site f)));
     own = All-nil (λ (note : PageNote). note.worker ≡ worker);
     own_sets = All-nil (λ (note : RulesNote). note.worker ≡ worker);
   }
 
   -- nothing was asked, and nothing noted
-  pub goes_idle : (f : F) (n : Notes) (g : F) (m : Notes) → site g ≡ site f → log g ≡ log f → m.pages.items ≡ n.pages.items → m.rules.items ≡ n.rules.items
-      → Goes site says rules log plan worker f n g m
-  goes_idle f n g m same_site same_log same_pages same_sets = record {
+  pub goes_idle : (f g : F) (n n' : Notes) → m.site g ≡ m.site f → m.log g ≡ m.log f → n'.pages.items ≡ n.pages.items → n'.rules.items ≡ n.rules.items
+      → Goes m plan worker (f, n) (g, n')
+  goes_idle f g n n' same_site same_log same_pages same_sets = record {
     asks = [];
     pages = [];
     sets = [];
     site_is = same_site;
-    log_is = same_log ∙ sym (append-nil (log f));
+    log_is = same_log ∙ sym (append-nil (m.log f));
     pages_are = same_pages ∙ sym (append-nil n.pages.items);
     sets_are = same_sets ∙ sym (append-nil n.rules.items);
     pages_noted = refl;
     rules_noted = refl;
-    told = All-nil (IsToldPage (says (site f)) plan);
-    ruled = All-nil (IsToldRules (rules (site f)));
+    told = All-nil (IsToldPage (m.says (m.site f)) plan);
+    ruled = All-nil (IsToldRules (m.rules (m.site f)));
     own = All-nil (λ (note : PageNote). note.worker ≡ worker);
     own_sets = All-nil (λ (note : RulesNote). note.worker ≡ worker);
   }
 
   -- a page was asked for, and noted
-  pub goes_page : (f : F) (n : Notes) (g : F) (m : Notes) (note : PageNote) → site g ≡ site f → log g ≡ log f ++ ask.Page note.address ∷ []
-      → m.pages.items ≡ n.pages.items ++ note ∷ [] → m.rules.items ≡ n.rules.items → IsToldPage (says (site f)) plan note → note.worker ≡ worker → Goes site says rules log plan worker f n g m
-  goes_page f n g m note same_site logged noted same_sets told own = record {
+  pub goes_page : (f g : F) (n n' : Notes) (note : PageNote) → m.site g ≡ m.site f → m.log g ≡ m.log f ++ ask.Page note.address ∷ []
+      → n'.pages.items ≡ n.pages.items ++ note ∷ [] → n'.rules.items ≡ n.rules.items → IsToldPage (m.says (m.site f)) plan note → note.worker ≡ worker → Goes m plan worker (f, n) (g, n')
+  goes_page f g n n' note same_site logged noted same_sets told own = record {
     asks = ask.Page note.address ∷ [];
     pages = note ∷ [];
     sets = [];
@@ -96,16 +97,16 @@ module _ {F S : Type 0} (site : F → S) (says : S → Text → Outcome → List
     sets_are = same_sets ∙ sym (append-nil n.rules.items);
     pages_noted = refl;
     rules_noted = refl;
-    told = All-cons (IsToldPage (says (site f)) plan) note [] told (All-nil (IsToldPage (says (site f)) plan));
-    ruled = All-nil (IsToldRules (rules (site f)));
+    told = All-cons (IsToldPage (m.says (m.site f)) plan) note [] told (All-nil (IsToldPage (m.says (m.site f)) plan));
+    ruled = All-nil (IsToldRules (m.rules (m.site f)));
     own = All-cons (λ (note : PageNote). note.worker ≡ worker) note [] own (All-nil (λ (note : PageNote). note.worker ≡ worker));
     own_sets = All-nil (λ (note : RulesNote). note.worker ≡ worker);
   }
 
   -- an origin's rules were asked for, and noted
-  pub goes_rules : (f : F) (n : Notes) (g : F) (m : Notes) (note : RulesNote) → site g ≡ site f → log g ≡ log f ++ ask.Rules note.origin ∷ []
-      → m.pages.items ≡ n.pages.items → m.rules.items ≡ n.rules.items ++ note ∷ [] → IsToldRules (rules (site f)) note → note.worker ≡ worker → Goes site says rules log plan worker f n g m
-  goes_rules f n g m note same_site logged same_pages noted told own = record {
+  pub goes_rules : (f g : F) (n n' : Notes) (note : RulesNote) → m.site g ≡ m.site f → m.log g ≡ m.log f ++ ask.Rules note.origin ∷ []
+      → n'.pages.items ≡ n.pages.items → n'.rules.items ≡ n.rules.items ++ note ∷ [] → IsToldRules (m.rules (m.site f)) note → note.worker ≡ worker → Goes m plan worker (f, n) (g, n')
+  goes_rules f g n n' note same_site logged same_pages noted told own = record {
     asks = ask.Rules note.origin ∷ [];
     pages = [];
     sets = note ∷ [];
@@ -115,28 +116,28 @@ module _ {F S : Type 0} (site : F → S) (says : S → Text → Outcome → List
     sets_are = noted;
     pages_noted = refl;
     rules_noted = refl;
-    told = All-nil (IsToldPage (says (site f)) plan);
-    ruled = All-cons (IsToldRules (rules (site f))) note [] told (All-nil (IsToldRules (rules (site f))));
+    told = All-nil (IsToldPage (m.says (m.site f)) plan);
+    ruled = All-cons (IsToldRules (m.rules (m.site f))) note [] told (All-nil (IsToldRules (m.rules (m.site f))));
     own = All-nil (λ (note : PageNote). note.worker ≡ worker);
     own_sets = All-cons (λ (note : RulesNote). note.worker ≡ worker) note [] own (All-nil (λ (note : RulesNote). note.worker ≡ worker));
   }
 
   -- one thing was done after the other
-  pub goes_on : (f : F) (n : Notes) (g : F) (m : Notes) (h : F) (l : Notes) → Goes site says rules log plan worker f n g m → Goes site says rules log plan worker g m h l → Goes site says rules log plan worker f n h l
-  goes_on f n g m h l a b = record {
+  pub goes_on : (f g h : F) (n n' n'' : Notes) → Goes m plan worker (f, n) (g, n') → Goes m plan worker (g, n') (h, n'') → Goes m plan worker (f, n) (h, n'')
+  goes_on f g h n n' n'' a b = record {
     asks = a.asks ++ b.asks;
     pages = a.pages ++ b.pages;
     sets = a.sets ++ b.sets;
     site_is = b.site_is ∙ a.site_is;
-    log_is = b.log_is ∙ (ap (λ (x : List Ask). x ++ b.asks) a.log_is ∙ append_assoc (log f) a.asks b.asks);
+    log_is = b.log_is ∙ (ap (λ (x : List Ask). x ++ b.asks) a.log_is ∙ append_assoc (m.log f) a.asks b.asks);
     pages_are = b.pages_are ∙ (ap (λ (x : List PageNote). x ++ b.pages) a.pages_are ∙ append_assoc n.pages.items a.pages b.pages);
     sets_are = b.sets_are ∙ (ap (λ (x : List RulesNote). x ++ b.sets) a.sets_are ∙ append_assoc n.rules.items a.sets b.sets);
     pages_noted = filter_map-append page_asked a.asks b.asks ∙ (ap (λ (x : List Text). x ++ filter_map page_asked b.asks) a.pages_noted
         ∙ (ap (λ (x : List Text). map (λ (note : PageNote). note.address) a.pages ++ x) b.pages_noted ∙ sym (map-append (λ (note : PageNote). note.address) a.pages b.pages)));
     rules_noted = filter_map-append origin_asked a.asks b.asks ∙ (ap (λ (x : List Text). x ++ filter_map origin_asked b.asks) a.rules_noted
         ∙ (ap (λ (x : List Text). map (λ (note : RulesNote). note.origin) a.sets ++ x) b.rules_noted ∙ sym (map-append (λ (note : RulesNote). note.origin) a.sets b.sets)));
-    told = All-append (IsToldPage (says (site f)) plan) a.pages b.pages a.told (subst (λ (s : S). All (IsToldPage (says s) plan) b.pages) a.site_is b.told);
-    ruled = All-append (IsToldRules (rules (site f))) a.sets b.sets a.ruled (subst (λ (s : S). All (IsToldRules (rules s)) b.sets) a.site_is b.ruled);
+    told = All-append (IsToldPage (m.says (m.site f)) plan) a.pages b.pages a.told (subst (λ (s : m.Site). All (IsToldPage (m.says s) plan) b.pages) a.site_is b.told);
+    ruled = All-append (IsToldRules (m.rules (m.site f))) a.sets b.sets a.ruled (subst (λ (s : m.Site). All (IsToldRules (m.rules s)) b.sets) a.site_is b.ruled);
     own = All-append (λ (note : PageNote). note.worker ≡ worker) a.pages b.pages a.own b.own;
     own_sets = All-append (λ (note : RulesNote). note.worker ≡ worker) a.sets b.sets a.own_sets b.own_sets;
   }

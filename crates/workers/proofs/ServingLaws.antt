@@ -9,6 +9,7 @@ use Rattle.follow_filters.specs.Rules.{keeps_of}
 use Rattle.follow_filters.specs.declared.plan.Plan.{Plan}
 use Rattle.robots_rules.specs.Access.{RuleSetValue}
 use Rattle.fetcher.specs.declared.fetcher.Ask.{Ask}
+use Rattle.fetcher.specs.declared.fetcher.Fetcher.{Ghosts as Meaning}
 use Rattle.fetcher.specs.declared.outcome.Outcome.{Outcome}
 use Rattle.frontier_core.specs.Tables.{Text, lookup}
 use Rattle.frontier_core.specs.Plans.{policy}
@@ -174,11 +175,10 @@ module _ (may_say : Text → Outcome → List ℕ → Type 0) (may_rule : Text �
         complete = subst (λ (x : Plan). IsComplete (policy x) t.state) follows complete;
       }
 
-  pub at_stop : (t : Traced) (asks : List Ask) (notes : List PageNote) (sets : List RulesNote) (cause : Cause) → t.plan ≡ plan → IsReplay (policy t.plan) t.trace t.state
-      → AreNoted may_say may_rule plan asks notes sets → Agrees t.state notes sets → t.state.cause ≡ Some cause → AtStop may_say may_rule plan t asks (filter_map page_of notes) cause
-  at_stop t asks notes sets cause follows replay noted agrees stopped = record {
+  pub at_stop : (t : Traced) (asks : List Ask) (notes : List PageNote) (sets : List RulesNote) → t.plan ≡ plan → IsReplay (policy t.plan) t.trace t.state
+      → AreNoted may_say may_rule plan asks notes sets → Agrees t.state notes sets → AtStop may_say may_rule plan t asks (filter_map page_of notes)
+  at_stop t asks notes sets follows replay noted agrees = record {
     serving = serving t asks notes sets follows replay noted agrees;
-    stopped = stopped;
     recorded = recorded_or_lost may_say may_rule plan asks notes sets t.state noted agrees;
   }
 
@@ -194,7 +194,7 @@ module _ (may_say : Text → Outcome → List ℕ → Type 0) (may_rule : Text �
       → IsConcluded plan t notes sets h → t.state.cause ≡ Some cause → IsPartRetrieved may_say may_rule plan asks cause h
   crew_part_retrieved t asks notes sets cause h noted all stopped =
       let moved = noted_moved may_say may_rule plan asks notes all.sorted sets all.sorted_sets noted all.moved all.moved_sets in
-      part_retrieved may_say may_rule plan t asks (filter_map page_of all.sorted) cause h (at_stop t asks all.sorted all.sorted_sets cause all.follows all.replay moved all.agrees stopped) all.replay
+      part_retrieved may_say may_rule plan t asks (filter_map page_of all.sorted) cause h stopped (at_stop t asks all.sorted all.sorted_sets all.follows all.replay moved all.agrees) all.replay
       (sound_replay (policy t.plan) t.trace t.state t.plan.some_urls all.replay) (closed_replay (policy t.plan) t.trace t.state all.replay) all.harvest
 
   pub crew_bare : (asks : List Ask) (notes : List PageNote) (sets : List RulesNote) (cause : Cause) (h : Harvested) → AreNoted may_say may_rule plan asks notes sets
@@ -223,21 +223,21 @@ err_from (Err halt) cause h A all err is = subst (λ (x : Cause). A x h) (sym is
 
 -- ---- sites that fit, and sites that may say more
 
-module _ {F S : Type 0} (site : F → S) (says : S → Text → Outcome → List ℕ → Type 0) (rules : S → Text → RuleSetValue → Type 0) (log : F → List Ask) where
-  some_say : (fs gs : List F) (whole : Answers) → AllFit site says rules fs whole → (u : Text) (x : Outcome) (body : List ℕ) → SomeSays site says log fs gs u x body → whole.outcome u ≡ Some x
+module _ {F : Type 0} (m : Meaning F) where
+  some_say : (fs gs : List F) (whole : Answers) → AllFit m fs whole → (u : Text) (x : Outcome) (body : List ℕ) → SomeSays m fs gs u x body → whole.outcome u ≡ Some x
   some_say [] gs whole fit u x body h = absurd h
   some_say (f ∷ fs) [] whole fit u x body h = absurd h
-  some_say (f ∷ fs) (g ∷ gs) whole fit u x body (inl (among, said)) = (All-head (λ (f : F). Fits (says (site f)) (rules (site f)) whole) f fs fit).outcomes u x body said
-  some_say (f ∷ fs) (g ∷ gs) whole fit u x body (inr h) = some_say fs gs whole (All-tail (λ (f : F). Fits (says (site f)) (rules (site f)) whole) f fs fit) u x body h
+  some_say (f ∷ fs) (g ∷ gs) whole fit u x body (inl (among, said)) = (All-head (λ (f : F). Fits (m.says (m.site f)) (m.rules (m.site f)) whole) f fs fit).outcomes u x body said
+  some_say (f ∷ fs) (g ∷ gs) whole fit u x body (inr h) = some_say fs gs whole (All-tail (λ (f : F). Fits (m.says (m.site f)) (m.rules (m.site f)) whole) f fs fit) u x body h
 
-  some_rule : (fs gs : List F) (whole : Answers) → AllFit site says rules fs whole → (o : Text) (r : RuleSetValue) → SomeRules site rules log fs gs o r → whole.rules o ≡ Some r
+  some_rule : (fs gs : List F) (whole : Answers) → AllFit m fs whole → (o : Text) (r : RuleSetValue) → SomeRules m fs gs o r → whole.rules o ≡ Some r
   some_rule [] gs whole fit o r h = absurd h
   some_rule (f ∷ fs) [] whole fit o r h = absurd h
-  some_rule (f ∷ fs) (g ∷ gs) whole fit o r (inl (among, said)) = (All-head (λ (f : F). Fits (says (site f)) (rules (site f)) whole) f fs fit).rules o r said
-  some_rule (f ∷ fs) (g ∷ gs) whole fit o r (inr h) = some_rule fs gs whole (All-tail (λ (f : F). Fits (says (site f)) (rules (site f)) whole) f fs fit) o r h
+  some_rule (f ∷ fs) (g ∷ gs) whole fit o r (inl (among, said)) = (All-head (λ (f : F). Fits (m.says (m.site f)) (m.rules (m.site f)) whole) f fs fit).rules o r said
+  some_rule (f ∷ fs) (g ∷ gs) whole fit o r (inr h) = some_rule fs gs whole (All-tail (λ (f : F). Fits (m.says (m.site f)) (m.rules (m.site f)) whole) f fs fit) o r h
 
   -- where the site of each fits, so does what some of them say
-  pub crew_fits : (fs gs : List F) (whole : Answers) → AllFit site says rules fs whole → Fits (SomeSays site says log fs gs) (SomeRules site rules log fs gs) whole
+  pub crew_fits : (fs gs : List F) (whole : Answers) → AllFit m fs whole → Fits (SomeSays m fs gs) (SomeRules m fs gs) whole
   crew_fits fs gs whole fit = record { outcomes = some_say fs gs whole fit; rules = some_rule fs gs whole fit }
 
 module _ (may may' : Text → Outcome → List ℕ → Type 0) (rule rule' : Text → RuleSetValue → Type 0) (asks : List Ask)

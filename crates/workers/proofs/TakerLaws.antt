@@ -6,6 +6,7 @@ use Rattle.std.proofs.lemmas.List.{length-map, get_or-map, get_or_default, get_o
 use Rattle.std.proofs.lemmas.List.Elements.{All-nil, All-weaker}
 use Rattle.std.proofs.lemmas.List.Sorted.{All-permutation}
 use Rattle.fetcher.specs.declared.fetcher.Ask.{Ask}
+use Rattle.fetcher.specs.declared.fetcher.Fetcher.{Ghosts as Meaning}
 use Rattle.frontier_core.specs.Tables.{Text}
 use Rattle.frontier_core.specs.declared.event.Event.{Event}
 use Rattle.frontier_core.specs.declared.event.Event.TheVariants as line
@@ -131,18 +132,18 @@ only_own asks (line.Abandon w u) h = tt
 only_own asks (line.AbandonRules w o) h = tt
 only_own asks (line.Stop cause) h = tt
 
-module _ {F : Type 0} (log : F → List Ask) where
-  own_nothing : (n : ℕ) (old new : List F) → AreOwn log n old new []
+module _ {F : Type 0} (m : Meaning F) where
+  own_nothing : (n : ℕ) (old new : List F) → AreOwn m n old new []
   own_nothing n [] new = tt
   own_nothing n (f ∷ fs) [] = tt
-  own_nothing n (f ∷ fs) (g ∷ gs) = (All-nil (IsOwn n (gained (log f) (log g))), own_nothing (suc n) fs gs)
+  own_nothing n (f ∷ fs) (g ∷ gs) = (All-nil (IsOwn n (gained (m.log f) (m.log g))), own_nothing (suc n) fs gs)
 
   -- where there is no line each took what it was asked for
-  pub own_none : (old new : List F) (trace : List Event) → trace ≡ [] → AreOwn log 0 old new trace
-  own_none old new trace none = subst (λ (lines : List Event). AreOwn log 0 old new lines) (sym none) (own_nothing 0 old new)
+  pub own_none : (old new : List F) (trace : List Event) → trace ≡ [] → AreOwn m 0 old new trace
+  own_none old new trace none = subst (λ (lines : List Event). AreOwn m 0 old new lines) (sym none) (own_nothing 0 old new)
 
-  pub alone_own : (fs : List F) (g : F) (trace : List Event) → length fs ≡ 1 → AreByOne trace → AreOwn log 0 fs (slice_set fs 0 g) trace
+  pub alone_own : (fs : List F) (g : F) (trace : List Event) → length fs ≡ 1 → AreByOne trace → AreOwn m 0 fs (slice_set fs 0 g) trace
   alone_own [] g trace one by = absurd (omega arith)
   alone_own (f ∷ []) g trace one by =
-      (All-weaker (λ (event : Event). IfSome (worker_of event) (λ worker. worker ≡ only_worker)) (IsOwn 0 (gained (log f) (log g))) (only_own (gained (log f) (log g))) trace by, tt)
+      (All-weaker (λ (event : Event). IfSome (worker_of event) (λ worker. worker ≡ only_worker)) (IsOwn 0 (gained (m.log f) (m.log g))) (only_own (gained (m.log f) (m.log g))) trace by, tt)
   alone_own (f ∷ e ∷ fs) g trace one by = absurd (omega arith)

@@ -1,6 +1,7 @@
 -- Who took what, by the lines of a trace: the worker whose fetcher was asked for it.
 use Rattle.std.specs.Prelude.{◌≡◌, ℕ, suc, List, [], ◌∷◌, All, Contains}
 use Rattle.fetcher.specs.declared.fetcher.Ask.{Ask}
+use Rattle.fetcher.specs.declared.fetcher.Fetcher.{Ghosts as Meaning}
 use Rattle.frontier_core.specs.declared.event.Event.{Event}
 use Rattle.frontier_core.specs.declared.event.Event.TheVariants as line
 use Rattle.workers.specs.Asks.{gained, pages_asked, origins_asked}
@@ -18,9 +19,9 @@ IsOwn n asks (line.Abandon worker address) = Unit {0}
 IsOwn n asks (line.AbandonRules worker origin) = Unit {0}
 IsOwn n asks (line.Stop cause) = Unit {0}
 
-module _ {F : Type 0} (log : F → List Ask) where
+module _ {F : Type 0} (m : Meaning F) where
   -- by the lines each fetcher was asked for what its own worker took; the workers' numbers count from n, in the fetchers' order
   abbrev pub AreOwn : ℕ → List F → List F → List Event → Type 0
   AreOwn n [] news trace = Unit {0}
   AreOwn n (old ∷ olds) [] trace = Unit {0}
-  AreOwn n (old ∷ olds) (new ∷ news) trace = All (IsOwn n (gained (log old) (log new))) trace × AreOwn (suc n) olds news trace
+  AreOwn n (old ∷ olds) (new ∷ news) trace = All (IsOwn n (gained (m.log old) (m.log new))) trace × AreOwn (suc n) olds news trace

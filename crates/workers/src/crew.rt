@@ -22,7 +22,7 @@ struct Shared<'a> {
 // Has the worker at the only seat work, where there is one.
 fn work_alone<F: Fetcher, R: Wait>(rt: &R, shared: &Shared, seats: &mut [Seat<F>])
     requires { length seats.old ≤ 1 }
-    ensures { AllGo F.site F.says F.rules F.log shared.now.plan.now seats.old seats.new }
+    ensures { AllGo F.Fetcher shared.now.plan.now seats.old seats.new }
 {
     if let [seat] = seats {
         work_at(rt, shared.alloc, shared.lock, shared.plan, seat);
@@ -36,7 +36,7 @@ fn run_halves<F: Fetcher + Send, R: Threads + Wait + Sync>(
     shared: &Shared,
     seats: &mut [Seat<F>],
 )
-    ensures { AllGo F.site F.says F.rules F.log shared.now.plan.now seats.old seats.new }
+    ensures { AllGo F.Fetcher shared.now.plan.now seats.old seats.new }
 {
     if seats.len() <= 1 {
         work_alone(rt, shared, seats);
@@ -57,16 +57,16 @@ fn run_both<F: Fetcher + Send, R: Threads + Wait + Sync>(
 )
     requires some { 0 < length front.old }
     requires others { 0 < length back.old }
-    ensures front { AllGo F.site F.says F.rules F.log shared.now.plan.now front.old front.new }
-    ensures back { AllGo F.site F.says F.rules F.log shared.now.plan.now back.old back.new }
+    ensures front { AllGo F.Fetcher shared.now.plan.now front.old front.new }
+    ensures back { AllGo F.Fetcher shared.now.plan.now back.old back.new }
 {
     let mut one = ||
         requires { IsSync R.row × IsSend F.row }
-        ensures { AllGo F.site F.says F.rules F.log shared.entry.now.plan.now front.entry.now front.exit.now }
+        ensures { AllGo F.Fetcher shared.entry.now.plan.now front.entry.now front.exit.now }
     { run_halves(rt, shared, front) };
     let mut other = ||
         requires { IsSync R.row × IsSend F.row }
-        ensures { AllGo F.site F.says F.rules F.log shared.entry.now.plan.now back.entry.now back.exit.now }
+        ensures { AllGo F.Fetcher shared.entry.now.plan.now back.entry.now back.exit.now }
     { run_halves(rt, shared, back) };
     join_mut(rt, &mut one, &mut other);
 }
@@ -79,7 +79,7 @@ pub fn run_crew<F: Fetcher + Send, R: Threads + Wait + Sync>(
     plan: &Plan,
     mut seats: Vec<Seat<F>>,
 ) -> Vec<Seat<F>>
-    ensures went { AllGo F.site F.says F.rules F.log plan.now seats.items result.items }
+    ensures went { AllGo F.Fetcher plan.now seats.items result.items }
     ensures len { vec_len result ≡ vec_len seats }
 {
     let shared = Shared { alloc, lock, plan };

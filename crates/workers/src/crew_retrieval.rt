@@ -57,11 +57,11 @@ fn ask_alone<F: Fetcher>(
     waiting: Option<&AtomicUsize>,
 ) -> Result<Harvest, Halt>
     requires { length fetchers.old ≡ 1 }
-    ensures ok { IfOk result (λ h. IsRetrievedBy F.site F.says F.rules F.log plan.now fetchers.old fetchers.new h) }
-    ensures err { IfErr result (λ halt. IsStoppedBy F.site F.says F.rules F.log plan.now fetchers.old fetchers.new halt.cause halt.harvest) }
+    ensures ok { IfOk result (λ h. IsRetrievedBy F.Fetcher plan.now fetchers.old fetchers.new h) }
+    ensures err { IfErr result (λ halt. IsStoppedBy F.Fetcher plan.now fetchers.old fetchers.new halt.cause halt.harvest) }
     ensures mismatch { IfErr result (λ halt. halt.cause ≢ Cause.Mismatch) }
     ensures numbered { IfOk result (λ h. AreByCrew 1 h.trace) × IfErr result (λ halt. halt.cause ≢ Cause.Mismatch → AreByCrew 1 halt.harvest.trace) }
-    ensures own { IfOk result (λ h. AreOwn F.log 0 fetchers.old fetchers.new h.trace) × IfErr result (λ halt. halt.cause ≢ Cause.Mismatch → AreOwn F.log 0 fetchers.old fetchers.new halt.harvest.trace) }
+    ensures own { IfOk result (λ h. AreOwn F.Fetcher 0 fetchers.old fetchers.new h.trace) × IfErr result (λ halt. halt.cause ≢ Cause.Mismatch → AreOwn F.Fetcher 0 fetchers.old fetchers.new halt.harvest.trace) }
 {
     if let [fetcher] = fetchers {
         return retrieve_noting(alloc, plan, fetcher, waiting);
@@ -77,12 +77,12 @@ fn retrieve_alone<F: Fetcher>(
     waiting: Option<&AtomicUsize>,
 ) -> (Result<Harvest, Halt>, Vec<F>)
     requires { vec_len fetchers ≡ 1 }
-    ensures ok { IfOk result.0 (λ h. IsRetrievedBy F.site F.says F.rules F.log plan.now fetchers.items result.1.items h) }
-    ensures err { IfErr result.0 (λ halt. IsStoppedBy F.site F.says F.rules F.log plan.now fetchers.items result.1.items halt.cause halt.harvest) }
+    ensures ok { IfOk result.0 (λ h. IsRetrievedBy F.Fetcher plan.now fetchers.items result.1.items h) }
+    ensures err { IfErr result.0 (λ halt. IsStoppedBy F.Fetcher plan.now fetchers.items result.1.items halt.cause halt.harvest) }
     ensures mismatch { IfErr result.0 (λ halt. halt.cause ≢ Cause.Mismatch) }
     ensures numbered { IfOk result.0 (λ h. AreByCrew 1 h.trace) × IfErr result.0 (λ halt. halt.cause ≢ Cause.Mismatch → AreByCrew 1 halt.harvest.trace) }
-    ensures own { IfOk result.0 (λ h. AreOwn F.log 0 fetchers.items result.1.items h.trace)
-        × IfErr result.0 (λ halt. halt.cause ≢ Cause.Mismatch → AreOwn F.log 0 fetchers.items result.1.items halt.harvest.trace) }
+    ensures own { IfOk result.0 (λ h. AreOwn F.Fetcher 0 fetchers.items result.1.items h.trace)
+        × IfErr result.0 (λ halt. halt.cause ≢ Cause.Mismatch → AreOwn F.Fetcher 0 fetchers.items result.1.items halt.harvest.trace) }
 {
     let retrieved = ask_alone(alloc, plan, &mut fetchers, waiting);
     (retrieved, fetchers)
@@ -145,9 +145,9 @@ fn work_all<F: Fetcher + Send, R: Threads + Wait + Sync>(
     requires most { vec_len fetchers ≤ 64 }
     requires seats { (seats.items ≡ []) × (vec_len fetchers ≤ vec_capacity seats) }
     requires room { (room.items ≡ []) × (vec_len fetchers ≤ vec_capacity room) }
-    ensures later { AreLater F.site F.log fetchers.items result.fetchers.items }
-    ensures noted { IsAccount F.site F.says F.rules F.log plan.now fetchers.items result.fetchers.items result.noted }
-    ensures own { IsOwnAccount F.log fetchers.items result.fetchers.items result.noted }
+    ensures later { AreLater F.Fetcher fetchers.items result.fetchers.items }
+    ensures noted { IsAccount F.Fetcher plan.now fetchers.items result.fetchers.items result.noted }
+    ensures own { IsOwnAccount F.Fetcher fetchers.items result.fetchers.items result.noted }
 {
     let seats = seat_all(alloc, fetchers, seats);
     let mut seats = run_crew(rt, alloc, lock, plan, seats);
@@ -185,11 +185,11 @@ fn retrieve_together<F: Fetcher + Send, R: Threads + Wait + Sync>(
     waiting: Option<&AtomicUsize>,
 ) -> (Result<Harvest, Halt>, Vec<F>)
     requires most { vec_len fetchers ≤ 64 }
-    ensures ok { IfOk result.0 (λ h. IsRetrievedBy F.site F.says F.rules F.log plan.now fetchers.items result.1.items h) }
-    ensures err { IfErr result.0 (λ halt. IsStoppedBy F.site F.says F.rules F.log plan.now fetchers.items result.1.items halt.cause halt.harvest) }
+    ensures ok { IfOk result.0 (λ h. IsRetrievedBy F.Fetcher plan.now fetchers.items result.1.items h) }
+    ensures err { IfErr result.0 (λ halt. IsStoppedBy F.Fetcher plan.now fetchers.items result.1.items halt.cause halt.harvest) }
     ensures numbered { IfOk result.0 (λ h. AreByCrew (vec_len fetchers) h.trace) × IfErr result.0 (λ halt. halt.cause ≢ Cause.Mismatch → AreByCrew (vec_len fetchers) halt.harvest.trace) }
-    ensures own { IfOk result.0 (λ h. AreOwn F.log 0 fetchers.items result.1.items h.trace)
-        × IfErr result.0 (λ halt. halt.cause ≢ Cause.Mismatch → AreOwn F.log 0 fetchers.items result.1.items halt.harvest.trace) }
+    ensures own { IfOk result.0 (λ h. AreOwn F.Fetcher 0 fetchers.items result.1.items h.trace)
+        × IfErr result.0 (λ halt. halt.cause ≢ Cause.Mismatch → AreOwn F.Fetcher 0 fetchers.items result.1.items halt.harvest.trace) }
 {
     let workers = fetchers.len();
     let Ok(room) = Room::new(alloc, plan, workers) else {
@@ -225,12 +225,12 @@ fn retrieve_with<F: Fetcher + Send, R: Threads + Wait + Sync>(
     waiting: Option<&AtomicUsize>,
 ) -> (Result<Harvest, Halt>, Vec<F>)
     requires most { vec_len fetchers ≤ 64 }
-    ensures ok { IfOk result.0 (λ h. IsRetrievedBy F.site F.says F.rules F.log plan.now fetchers.items result.1.items h) }
-    ensures err { IfErr result.0 (λ halt. IsStoppedBy F.site F.says F.rules F.log plan.now fetchers.items result.1.items halt.cause halt.harvest) }
+    ensures ok { IfOk result.0 (λ h. IsRetrievedBy F.Fetcher plan.now fetchers.items result.1.items h) }
+    ensures err { IfErr result.0 (λ halt. IsStoppedBy F.Fetcher plan.now fetchers.items result.1.items halt.cause halt.harvest) }
     ensures one { vec_len fetchers ≡ 1 → IfErr result.0 (λ halt. halt.cause ≢ Cause.Mismatch) }
     ensures numbered { IfOk result.0 (λ h. AreByCrew (vec_len fetchers) h.trace) × IfErr result.0 (λ halt. halt.cause ≢ Cause.Mismatch → AreByCrew (vec_len fetchers) halt.harvest.trace) }
-    ensures own { IfOk result.0 (λ h. AreOwn F.log 0 fetchers.items result.1.items h.trace)
-        × IfErr result.0 (λ halt. halt.cause ≢ Cause.Mismatch → AreOwn F.log 0 fetchers.items result.1.items halt.harvest.trace) }
+    ensures own { IfOk result.0 (λ h. AreOwn F.Fetcher 0 fetchers.items result.1.items h.trace)
+        × IfErr result.0 (λ halt. halt.cause ≢ Cause.Mismatch → AreOwn F.Fetcher 0 fetchers.items result.1.items halt.harvest.trace) }
 {
     if fetchers.len() == 1 {
         return retrieve_alone(alloc, plan, fetchers, waiting);
@@ -249,26 +249,26 @@ pub fn retrieve_shown<F: Fetcher + Send, R: Threads + Wait + Sync>(
 ) -> (Result<Harvest, Halt>, Vec<F>)
     requires some { 0 < vec_len fetchers }
     requires most { vec_len fetchers ≤ 64 }
-    ensures fetchers { AreLater F.site F.log fetchers.items result.1.items }
-    ensures ok { IfOk result.0 (IsRetrieved (SomeSays F.site F.says F.log fetchers.items result.1.items) (SomeRules F.site F.rules F.log fetchers.items result.1.items)
-        plan.now (all_gained F.log fetchers.items result.1.items)) }
-    ensures err { IfErr result.0 (λ halt. halt.cause ≢ Cause.Mismatch → IsStopped (SomeSays F.site F.says F.log fetchers.items result.1.items)
-        (SomeRules F.site F.rules F.log fetchers.items result.1.items) plan.now (all_gained F.log fetchers.items result.1.items) halt.cause halt.harvest) }
+    ensures fetchers { AreLater F.Fetcher fetchers.items result.1.items }
+    ensures ok { IfOk result.0 (IsRetrieved (SomeSays F.Fetcher fetchers.items result.1.items) (SomeRules F.Fetcher fetchers.items result.1.items)
+        plan.now (all_gained F.Fetcher fetchers.items result.1.items)) }
+    ensures err { IfErr result.0 (λ halt. halt.cause ≢ Cause.Mismatch → IsStopped (SomeSays F.Fetcher fetchers.items result.1.items)
+        (SomeRules F.Fetcher fetchers.items result.1.items) plan.now (all_gained F.Fetcher fetchers.items result.1.items) halt.cause halt.harvest) }
 
     // What was found, by the answers alone.
-    ensures finds { IfOk result.0 (λ h. (m : Answers) × AreAsked (SomeSays F.site F.says F.log fetchers.items result.1.items) (SomeRules F.site F.rules F.log fetchers.items result.1.items)
-        plan.now (all_gained F.log fetchers.items result.1.items) m × AreFound plan.now m h.entries) }
-    ensures once { IfErr result.0 (λ halt. halt.cause ≢ Cause.Mismatch → AreMadeOnce (all_gained F.log fetchers.items result.1.items)) }
+    ensures finds { IfOk result.0 (λ h. (m : Answers) × AreAsked (SomeSays F.Fetcher fetchers.items result.1.items) (SomeRules F.Fetcher fetchers.items result.1.items)
+        plan.now (all_gained F.Fetcher fetchers.items result.1.items) m × AreFound plan.now m h.entries) }
+    ensures once { IfErr result.0 (λ halt. halt.cause ≢ Cause.Mismatch → AreMadeOnce (all_gained F.Fetcher fetchers.items result.1.items)) }
     ensures full { IfErr result.0 (λ halt. halt.cause ≡ Cause.Full → HasTooMany (policy plan.now) (answers halt.harvest.state) × IsOverfull (policy plan.now) halt.harvest.state) }
     ensures one { vec_len fetchers ≡ 1 → IfErr result.0 (λ halt. halt.cause ≢ Cause.Mismatch) }
     ensures numbered { IfOk result.0 (λ h. AreByCrew (vec_len fetchers) h.trace) × IfErr result.0 (λ halt. halt.cause ≢ Cause.Mismatch → AreByCrew (vec_len fetchers) halt.harvest.trace) }
-    ensures own { IfOk result.0 (λ h. AreOwn F.log 0 fetchers.items result.1.items h.trace)
-        × IfErr result.0 (λ halt. halt.cause ≢ Cause.Mismatch → AreOwn F.log 0 fetchers.items result.1.items halt.harvest.trace) }
+    ensures own { IfOk result.0 (λ h. AreOwn F.Fetcher 0 fetchers.items result.1.items h.trace)
+        × IfErr result.0 (λ halt. halt.cause ≢ Cause.Mismatch → AreOwn F.Fetcher 0 fetchers.items result.1.items halt.harvest.trace) }
 
     // What holds of fetchers whose sites give each address one outcome, and each origin one rule set, and the same.
-    ensures whole_site { (whole : Answers) → AllFit F.site F.says F.rules fetchers.items whole → IfOk result.0 (λ h. IsCompleteFor (policy plan.now) whole h.state) }
-    ensures full_site { (whole : Answers) → AllFit F.site F.says F.rules fetchers.items whole → IfErr result.0 (λ halt. halt.cause ≡ Cause.Full → HasTooMany (policy plan.now) whole) }
-    ensures crowded_site { (whole : Answers) → AllFit F.site F.says F.rules fetchers.items whole → HasTooMany (policy plan.now) whole → IsErr result.0 }
+    ensures whole_site { (whole : Answers) → AllFit F.Fetcher fetchers.items whole → IfOk result.0 (λ h. IsCompleteFor (policy plan.now) whole h.state) }
+    ensures full_site { (whole : Answers) → AllFit F.Fetcher fetchers.items whole → IfErr result.0 (λ halt. halt.cause ≡ Cause.Full → HasTooMany (policy plan.now) whole) }
+    ensures crowded_site { (whole : Answers) → AllFit F.Fetcher fetchers.items whole → HasTooMany (policy plan.now) whole → IsErr result.0 }
 {
     retrieve_with(rt, alloc, plan, fetchers, waiting)
 }
@@ -309,26 +309,26 @@ pub fn retrieve<F: Fetcher + Send, R: Threads + Wait + Sync>(
 ) -> Result<Retrieved<F>, Stopped<F>>
     requires some { 0 < vec_len fetchers }
     requires most { vec_len fetchers ≤ 64 }
-    ensures fetchers { IfOk result (λ r. AreLater F.site F.log fetchers.items r.fetchers.items) × IfErr result (λ s. AreLater F.site F.log fetchers.items s.fetchers.items) }
-    ensures ok { IfOk result (λ r. IsRetrieved (SomeSays F.site F.says F.log fetchers.items r.fetchers.items) (SomeRules F.site F.rules F.log fetchers.items r.fetchers.items)
-        plan.now (all_gained F.log fetchers.items r.fetchers.items) r.harvest) }
-    ensures err { IfErr result (λ s. s.cause ≢ Cause.Mismatch → IsStopped (SomeSays F.site F.says F.log fetchers.items s.fetchers.items)
-        (SomeRules F.site F.rules F.log fetchers.items s.fetchers.items) plan.now (all_gained F.log fetchers.items s.fetchers.items) s.cause s.harvest) }
+    ensures fetchers { IfOk result (λ r. AreLater F.Fetcher fetchers.items r.fetchers.items) × IfErr result (λ s. AreLater F.Fetcher fetchers.items s.fetchers.items) }
+    ensures ok { IfOk result (λ r. IsRetrieved (SomeSays F.Fetcher fetchers.items r.fetchers.items) (SomeRules F.Fetcher fetchers.items r.fetchers.items)
+        plan.now (all_gained F.Fetcher fetchers.items r.fetchers.items) r.harvest) }
+    ensures err { IfErr result (λ s. s.cause ≢ Cause.Mismatch → IsStopped (SomeSays F.Fetcher fetchers.items s.fetchers.items)
+        (SomeRules F.Fetcher fetchers.items s.fetchers.items) plan.now (all_gained F.Fetcher fetchers.items s.fetchers.items) s.cause s.harvest) }
 
     // What was found, by the answers alone.
-    ensures finds { IfOk result (λ r. (m : Answers) × AreAsked (SomeSays F.site F.says F.log fetchers.items r.fetchers.items) (SomeRules F.site F.rules F.log fetchers.items r.fetchers.items)
-        plan.now (all_gained F.log fetchers.items r.fetchers.items) m × AreFound plan.now m r.harvest.entries) }
-    ensures once { IfErr result (λ s. s.cause ≢ Cause.Mismatch → AreMadeOnce (all_gained F.log fetchers.items s.fetchers.items)) }
+    ensures finds { IfOk result (λ r. (m : Answers) × AreAsked (SomeSays F.Fetcher fetchers.items r.fetchers.items) (SomeRules F.Fetcher fetchers.items r.fetchers.items)
+        plan.now (all_gained F.Fetcher fetchers.items r.fetchers.items) m × AreFound plan.now m r.harvest.entries) }
+    ensures once { IfErr result (λ s. s.cause ≢ Cause.Mismatch → AreMadeOnce (all_gained F.Fetcher fetchers.items s.fetchers.items)) }
     ensures full { IfErr result (λ s. s.cause ≡ Cause.Full → HasTooMany (policy plan.now) (answers s.harvest.state) × IsOverfull (policy plan.now) s.harvest.state) }
     ensures one { vec_len fetchers ≡ 1 → IfErr result (λ s. s.cause ≢ Cause.Mismatch) }
     ensures numbered { IfOk result (λ r. AreByCrew (vec_len fetchers) r.harvest.trace) × IfErr result (λ s. s.cause ≢ Cause.Mismatch → AreByCrew (vec_len fetchers) s.harvest.trace) }
-    ensures own { IfOk result (λ r. AreOwn F.log 0 fetchers.items r.fetchers.items r.harvest.trace)
-        × IfErr result (λ s. s.cause ≢ Cause.Mismatch → AreOwn F.log 0 fetchers.items s.fetchers.items s.harvest.trace) }
+    ensures own { IfOk result (λ r. AreOwn F.Fetcher 0 fetchers.items r.fetchers.items r.harvest.trace)
+        × IfErr result (λ s. s.cause ≢ Cause.Mismatch → AreOwn F.Fetcher 0 fetchers.items s.fetchers.items s.harvest.trace) }
 
     // What holds of fetchers whose sites give each address one outcome, and each origin one rule set, and the same.
-    ensures whole_site { (whole : Answers) → AllFit F.site F.says F.rules fetchers.items whole → IfOk result (λ r. IsCompleteFor (policy plan.now) whole r.harvest.state) }
-    ensures full_site { (whole : Answers) → AllFit F.site F.says F.rules fetchers.items whole → IfErr result (λ s. s.cause ≡ Cause.Full → HasTooMany (policy plan.now) whole) }
-    ensures crowded_site { (whole : Answers) → AllFit F.site F.says F.rules fetchers.items whole → HasTooMany (policy plan.now) whole → IsErr result }
+    ensures whole_site { (whole : Answers) → AllFit F.Fetcher fetchers.items whole → IfOk result (λ r. IsCompleteFor (policy plan.now) whole r.harvest.state) }
+    ensures full_site { (whole : Answers) → AllFit F.Fetcher fetchers.items whole → IfErr result (λ s. s.cause ≡ Cause.Full → HasTooMany (policy plan.now) whole) }
+    ensures crowded_site { (whole : Answers) → AllFit F.Fetcher fetchers.items whole → HasTooMany (policy plan.now) whole → IsErr result }
 {
     let (retrieved, fetchers) = retrieve_shown(rt, alloc, plan, fetchers, None);
     with_fetchers(retrieved, fetchers)

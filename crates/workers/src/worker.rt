@@ -205,7 +205,7 @@ fn serve<F: Fetcher, R: Wait>(
     spool: &mut Spool,
     permit: Permit,
 ) -> Work
-    ensures { Goes F.site F.says F.rules F.log plan.now worker fetcher.old notes.old fetcher.new notes.new }
+    ensures { Goes F.Fetcher plan.now worker (fetcher.old, notes.old) (fetcher.new, notes.new) }
 {
     let Ok(address) = make_page_room(notes, permit.address()) else {
         return halt(rt, lock, Some(Held::Page(permit)), Cause::Memory);
@@ -274,7 +274,7 @@ fn serve_rules<F: Fetcher, R: Wait>(
     notes: &mut Notes,
     permit: OriginPermit,
 )
-    ensures { (plan : Plan) → Goes F.site F.says F.rules F.log plan worker fetcher.old notes.old fetcher.new notes.new }
+    ensures { (plan : Plan) → Goes F.Fetcher plan worker (fetcher.old, notes.old) (fetcher.new, notes.new) }
 {
     let Ok(origin) = make_rules_room(notes, permit.origin()) else {
         lock.halt(rt, Some(Held::Rules(permit)), Cause::Memory);
@@ -313,7 +313,7 @@ fn work<F: Fetcher, R: Wait>(
     notes: &mut Notes,
     spool: &mut Spool,
 )
-    ensures { Goes F.site F.says F.rules F.log plan.now worker fetcher.old notes.old fetcher.new notes.new }
+    ensures { Goes F.Fetcher plan.now worker (fetcher.old, notes.old) (fetcher.new, notes.new) }
 {
     let mut work = next(rt, lock, worker);
     for _ in rt.forever() {
@@ -343,7 +343,7 @@ pub fn work_at<F: Fetcher, R: Wait>(
     plan: &Plan,
     seat: &mut Seat<F>,
 )
-    ensures { SeatGoes F.site F.says F.rules F.log plan.now seat.old seat.new }
+    ensures { SeatGoes F.Fetcher plan.now seat.old seat.new }
 {
     work(
         rt,

@@ -1,10 +1,7 @@
 -- What several fetchers retrieve, or did until they stopped.
-use Rattle.std.specs.Prelude.{◌≡◌, ◌≢◌, ℕ, List}
+use Rattle.std.specs.Prelude.{◌≡◌, ◌≢◌, List}
 use Rattle.follow_filters.specs.declared.plan.Plan.{Plan}
-use Rattle.robots_rules.specs.Access.{RuleSetValue}
-use Rattle.fetcher.specs.declared.fetcher.Ask.{Ask}
-use Rattle.fetcher.specs.declared.outcome.Outcome.{Outcome}
-use Rattle.frontier_core.specs.Tables.{Text}
+use Rattle.fetcher.specs.declared.fetcher.Fetcher.{Ghosts as Meaning}
 use Rattle.frontier_core.specs.Routes.{HasTooMany}
 use Rattle.frontier_core.specs.Plans.{policy}
 use Rattle.frontier_core.specs.Machine.{answers}
@@ -23,29 +20,28 @@ use Rattle.workers.specs.Retrieval.{IsRetrieved, IsStopped}
 use Rattle.workers.specs.Takers.{AreOwn}
 use Rattle.workers.specs.inner.Takers.{AreNotedBy}
 
-module _ {F S : Type 0} (site : F → S) (says : S → Text → Outcome → List ℕ → Type 0) (rules : S → Text → RuleSetValue → Type 0) (log : F → List Ask) where
+module _ {F : Type 0} (m : Meaning F) where
   -- the fetchers came back in their order, and the retrieval has found what is to be found; its entries say what its state holds
   pub record IsRetrievedBy (plan : Plan) (old new : List F) (h : Harvested) : Type 0 where
-    pub later : AreLater site log old new
-    pub retrieved : IsRetrieved (SomeSays site says log old new) (SomeRules site rules log old new) plan (all_gained log old new) h
+    pub later : AreLater m old new
+    pub retrieved : IsRetrieved (SomeSays m old new) (SomeRules m old new) plan (all_gained m old new) h
     pub entries : AreEntries h
 
   -- the fetchers came back in their order; where no check failed, what was found until the stop is there, or there was no memory for it
   pub record IsStoppedBy (plan : Plan) (old new : List F) (cause : Cause) (h : Harvested) : Type 0 where
-    pub later : AreLater site log old new
-    pub stopped : cause ≢ why.Mismatch → IsStopped (SomeSays site says log old new) (SomeRules site rules log old new) plan (all_gained log old new) cause h
+    pub later : AreLater m old new
+    pub stopped : cause ≢ why.Mismatch → IsStopped (SomeSays m old new) (SomeRules m old new) plan (all_gained m old new) cause h
     pub full : cause ≡ why.Full → HasTooMany (policy plan) (answers h.state) × IsOverfull (policy plan) h.state
 
   -- what is known of the notes: all of them, or that nothing was asked for twice
   abbrev pub IsAccount : Plan → List F → List F → Noted → Type 0
   IsAccount plan old new (known.All notes) =
-      AreNoted (SomeSays site says log old new) (SomeRules site rules log old new) plan (all_gained log old new) notes.pages.items notes.rules.items
-  IsAccount plan old new known.Once = AreOnce (all_gained log old new)
+      AreNoted (SomeSays m old new) (SomeRules m old new) plan (all_gained m old new) notes.pages.items notes.rules.items
+  IsAccount plan old new known.Once = AreOnce (all_gained m old new)
   IsAccount plan old new known.Twice = Unit {0}
 
-module _ {F : Type 0} (log : F → List Ask) where
   -- where the notes are known, and by some lines each noted it who took it, each fetcher was asked for what its own worker took
   abbrev pub IsOwnAccount : List F → List F → Noted → Type 0
-  IsOwnAccount old new (known.All notes) = (trace : List Event) → AreNotedBy notes.pages.items notes.rules.items trace → AreOwn log 0 old new trace
+  IsOwnAccount old new (known.All notes) = (trace : List Event) → AreNotedBy notes.pages.items notes.rules.items trace → AreOwn m 0 old new trace
   IsOwnAccount old new known.Once = Unit {0}
   IsOwnAccount old new known.Twice = Unit {0}

@@ -4,6 +4,7 @@ use Rattle.follow_filters.specs.Rules.{keeps_of}
 use Rattle.follow_filters.specs.declared.plan.Plan.{Plan}
 use Rattle.robots_rules.specs.Access.{RuleSetValue}
 use Rattle.fetcher.specs.declared.fetcher.Ask.{Ask}
+use Rattle.fetcher.specs.declared.fetcher.Fetcher.{Ghosts as Meaning}
 use Rattle.fetcher.specs.declared.outcome.Outcome.{Outcome}
 use Rattle.frontier_core.specs.Tables.{Text}
 use Rattle.workers.specs.Asks.{pages_asked, origins_asked}
@@ -32,20 +33,20 @@ addresses notes = map (λ note. note.address) notes
 abbrev pub origins : List RulesNote → List Text
 origins notes = map (λ note. note.origin) notes
 
--- What a worker does with its fetcher and its notes: the site stays what it is; each ask that the log gains has its note, in
--- order, under the worker's number, and what was noted of an answer is what the site may give.
-pub record Goes {F S : Type 0} (site : F → S) (says : S → Text → Outcome → List ℕ → Type 0) (rules : S → Text → RuleSetValue → Type 0) (log : F → List Ask)
-    (plan : Plan) (worker : ℕ) (old : F) (notes : Notes) (new : F) (notes' : Notes) : Type 0 where
+-- What a worker does with its fetcher and its notes, which stand in a pair before it and behind it: the site stays what it is;
+-- each ask that the log gains has its note, in order, under the worker's number, and what was noted of an answer is what the
+-- site may give.
+pub record Goes {F : Type 0} (m : Meaning F) (plan : Plan) (worker : ℕ) (old new : F × Notes) : Type 0 where
   pub asks : List Ask
   pub pages : List PageNote
   pub sets : List RulesNote
-  pub site_is : site new ≡ site old
-  pub log_is : log new ≡ log old ++ asks
-  pub pages_are : notes'.pages.items ≡ notes.pages.items ++ pages
-  pub sets_are : notes'.rules.items ≡ notes.rules.items ++ sets
+  pub site_is : m.site new.0 ≡ m.site old.0
+  pub log_is : m.log new.0 ≡ m.log old.0 ++ asks
+  pub pages_are : new.1.pages.items ≡ old.1.pages.items ++ pages
+  pub sets_are : new.1.rules.items ≡ old.1.rules.items ++ sets
   pub pages_noted : pages_asked asks ≡ addresses pages
   pub rules_noted : origins_asked asks ≡ origins sets
-  pub told : All (IsToldPage (says (site old)) plan) pages
-  pub ruled : All (IsToldRules (rules (site old))) sets
+  pub told : All (IsToldPage (m.says (m.site old.0)) plan) pages
+  pub ruled : All (IsToldRules (m.rules (m.site old.0))) sets
   pub own : All (λ note. note.worker ≡ worker) pages
   pub own_sets : All (λ note. note.worker ≡ worker) sets

@@ -2,22 +2,19 @@
 use Rattle.std.specs.Prelude.{◌≡◌, ◌<◌, ℕ, List, map, length, get_or}
 use Rattle.std.specs.List.{AllZip, flat_map}
 use Rattle.follow_filters.specs.declared.plan.Plan.{Plan}
-use Rattle.robots_rules.specs.Access.{RuleSetValue}
-use Rattle.fetcher.specs.declared.fetcher.Ask.{Ask}
-use Rattle.fetcher.specs.declared.outcome.Outcome.{Outcome}
-use Rattle.frontier_core.specs.Tables.{Text}
+use Rattle.fetcher.specs.declared.fetcher.Fetcher.{Ghosts as Meaning}
 use Rattle.workers.specs.declared.note.PageNote.{PageNote}
 use Rattle.workers.specs.declared.note.RulesNote.{RulesNote}
 use Rattle.workers.specs.declared.worker.Seat.{Seat}
 use Rattle.workers.specs.inner.Notes.{Goes}
 
 -- what a worker did at its seat, under the seat's number
-abbrev pub SeatGoes : {F S : Type 0} → (F → S) → (S → Text → Outcome → List ℕ → Type 0) → (S → Text → RuleSetValue → Type 0) → (F → List Ask) → Plan → Seat F → Seat F → Type 0
-SeatGoes site says rules log plan old new = Goes site says rules log plan old.number old.fetcher old.notes new.fetcher new.notes
+abbrev pub SeatGoes : {F : Type 0} → Meaning F → Plan → Seat F → Seat F → Type 0
+SeatGoes m plan old new = Goes m plan old.number (old.fetcher, old.notes) (new.fetcher, new.notes)
 
 -- what the workers did, each at its own seat
-abbrev pub AllGo : {F S : Type 0} → (F → S) → (S → Text → Outcome → List ℕ → Type 0) → (S → Text → RuleSetValue → Type 0) → (F → List Ask) → Plan → List (Seat F) → List (Seat F) → Type 0
-AllGo site says rules log plan olds news = AllZip (SeatGoes site says rules log plan) olds news
+abbrev pub AllGo : {F : Type 0} → Meaning F → Plan → List (Seat F) → List (Seat F) → Type 0
+AllGo m plan olds news = AllZip (SeatGoes m plan) olds news
 
 -- who sits there, in order
 abbrev pub fetchers_of : {F : Type 0} → List (Seat F) → List F

@@ -11,13 +11,13 @@ pub returns-in-len1-clause-ok : goal.returns-in-len1-clause-ok
 returns-in-len1-clause-ok g c =
     let F = g.F.Fetcher in
     let told = c.retrieve_noting.ensures in
-    alone_retrieved F.site F.says F.rules F.log c.args.plan.now c.args.fetchers.now c.index-fetchers-0.result c.retrieve_noting.new.fetcher c.retrieve_noting.result c.requires told.site told.log told.comes.ok told.comes.entries
+    alone_retrieved F c.args.plan.now c.args.fetchers.now c.index-fetchers-0.result c.retrieve_noting.new.fetcher c.retrieve_noting.result c.requires told.site told.log told.comes.ok told.comes.entries
 
 pub returns-in-len1-clause-err : goal.returns-in-len1-clause-err
 returns-in-len1-clause-err g c =
     let F = g.F.Fetcher in
     let told = c.retrieve_noting.ensures in
-    alone_stopped F.site F.says F.rules F.log c.args.plan.now c.args.fetchers.now c.index-fetchers-0.result c.retrieve_noting.new.fetcher c.retrieve_noting.result c.requires told.site told.log told.comes.err told.comes.full
+    alone_stopped F c.args.plan.now c.args.fetchers.now c.index-fetchers-0.result c.retrieve_noting.new.fetcher c.retrieve_noting.result c.requires told.site told.log told.comes.err told.comes.full
 
 pub returns-in-len1-clause-mismatch : goal.returns-in-len1-clause-mismatch
 returns-in-len1-clause-mismatch g c = c.retrieve_noting.ensures.comes.mismatch
@@ -31,11 +31,11 @@ returns-in-len1-clause-numbered g c =
 
 pub returns-in-len1-clause-own : goal.returns-in-len1-clause-own
 returns-in-len1-clause-own g c =
-    let log = g.F.Fetcher.log in
+    let F = g.F.Fetcher in
     let old = c.args.fetchers.now in
     let new = slice_set old 0 c.retrieve_noting.new.fetcher in
     let by = c.retrieve_noting.ensures.comes.by_one in (
-      if_ok c.retrieve_noting.result (λ h. AreByOne h.trace) (λ h. AreOwn log 0 old new h.trace) (λ h. alone_own log old c.retrieve_noting.new.fetcher h.trace c.requires) by.0,
-      if_err c.retrieve_noting.result (λ halt. AreByOne halt.harvest.trace) (λ halt. halt.cause ≢ why.Mismatch → AreOwn log 0 old new halt.harvest.trace)
-          (λ halt is other. alone_own log old c.retrieve_noting.new.fetcher halt.harvest.trace c.requires is) by.1,
+      if_ok c.retrieve_noting.result (λ h. AreByOne h.trace) (λ h. AreOwn F 0 old new h.trace) (λ h. alone_own F old c.retrieve_noting.new.fetcher h.trace c.requires) by.0,
+      if_err c.retrieve_noting.result (λ halt. AreByOne halt.harvest.trace) (λ halt. halt.cause ≢ why.Mismatch → AreOwn F 0 old new halt.harvest.trace)
+          (λ halt is other. alone_own F old c.retrieve_noting.new.fetcher halt.harvest.trace c.requires is) by.1,
     )

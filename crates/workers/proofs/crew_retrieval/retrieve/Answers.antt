@@ -18,7 +18,7 @@ pub returns-clause-fetchers : goal.returns-clause-fetchers
 returns-clause-fetchers g c =
     let F = g.F.Fetcher in
     let shown = c.retrieve_shown-retrieved in
-    both_with (λ fs. AreLater F.site F.log c.args.fetchers.items fs) c.with_fetchers.result shown.result.0 shown.result.1.items c.with_fetchers.ensures.ok c.with_fetchers.ensures.err
+    both_with (λ fs. AreLater F c.args.fetchers.items fs) c.with_fetchers.result shown.result.0 shown.result.1.items c.with_fetchers.ensures.ok c.with_fetchers.ensures.err
     shown.ensures.fetchers
 
 pub returns-clause-ok : goal.returns-clause-ok
@@ -26,7 +26,7 @@ returns-clause-ok g c =
     let F = g.F.Fetcher in
     let old = c.args.fetchers.items in
     let shown = c.retrieve_shown-retrieved in
-    ok_with (λ fs h. IsRetrieved (SomeSays F.site F.says F.log old fs) (SomeRules F.site F.rules F.log old fs) c.args.plan.now (all_gained F.log old fs) h)
+    ok_with (λ fs h. IsRetrieved (SomeSays F old fs) (SomeRules F old fs) c.args.plan.now (all_gained F old fs) h)
     c.with_fetchers.result shown.result.0 shown.result.1.items c.with_fetchers.ensures.ok shown.ensures.ok
 
 pub returns-clause-err : goal.returns-clause-err
@@ -34,7 +34,7 @@ returns-clause-err g c =
     let F = g.F.Fetcher in
     let old = c.args.fetchers.items in
     let shown = c.retrieve_shown-retrieved in
-    err_with (λ fs cause h. cause ≢ why.Mismatch → IsStopped (SomeSays F.site F.says F.log old fs) (SomeRules F.site F.rules F.log old fs) c.args.plan.now (all_gained F.log old fs) cause h)
+    err_with (λ fs cause h. cause ≢ why.Mismatch → IsStopped (SomeSays F old fs) (SomeRules F old fs) c.args.plan.now (all_gained F old fs) cause h)
     c.with_fetchers.result shown.result.0 shown.result.1.items c.with_fetchers.ensures.err shown.ensures.err
 
 pub returns-clause-finds : goal.returns-clause-finds
@@ -43,13 +43,13 @@ returns-clause-finds g c =
     let old = c.args.fetchers.items in
     let plan = c.args.plan.now in
     let shown = c.retrieve_shown-retrieved in
-    ok_with (λ fs h. (m : Answers) × AreAsked (SomeSays F.site F.says F.log old fs) (SomeRules F.site F.rules F.log old fs) plan (all_gained F.log old fs) m × AreFound plan m h.entries)
+    ok_with (λ fs h. (m : Answers) × AreAsked (SomeSays F old fs) (SomeRules F old fs) plan (all_gained F old fs) m × AreFound plan m h.entries)
     c.with_fetchers.result shown.result.0 shown.result.1.items c.with_fetchers.ensures.ok shown.ensures.finds
 
 pub returns-clause-once : goal.returns-clause-once
 returns-clause-once g c =
     let shown = c.retrieve_shown-retrieved in
-    err_with (λ fs cause h. cause ≢ why.Mismatch → AreMadeOnce (all_gained g.F.Fetcher.log c.args.fetchers.items fs))
+    err_with (λ fs cause h. cause ≢ why.Mismatch → AreMadeOnce (all_gained g.F.Fetcher c.args.fetchers.items fs))
     c.with_fetchers.result shown.result.0 shown.result.1.items c.with_fetchers.ensures.err shown.ensures.once
 
 pub returns-clause-full : goal.returns-clause-full
@@ -74,11 +74,11 @@ returns-clause-numbered g c =
 
 pub returns-clause-own : goal.returns-clause-own
 returns-clause-own g c =
-    let log = g.F.Fetcher.log in
+    let F = g.F.Fetcher in
     let old = c.args.fetchers.items in
     let shown = c.retrieve_shown-retrieved in (
-      ok_with (λ fs h. AreOwn log 0 old fs h.trace) c.with_fetchers.result shown.result.0 shown.result.1.items c.with_fetchers.ensures.ok shown.ensures.own.0,
-      err_with (λ fs cause h. cause ≢ why.Mismatch → AreOwn log 0 old fs h.trace) c.with_fetchers.result shown.result.0 shown.result.1.items c.with_fetchers.ensures.err shown.ensures.own.1,
+      ok_with (λ fs h. AreOwn F 0 old fs h.trace) c.with_fetchers.result shown.result.0 shown.result.1.items c.with_fetchers.ensures.ok shown.ensures.own.0,
+      err_with (λ fs cause h. cause ≢ why.Mismatch → AreOwn F 0 old fs h.trace) c.with_fetchers.result shown.result.0 shown.result.1.items c.with_fetchers.ensures.err shown.ensures.own.1,
     )
 
 pub returns-clause-whole_site : goal.returns-clause-whole_site

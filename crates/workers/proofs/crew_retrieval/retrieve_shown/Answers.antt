@@ -6,60 +6,60 @@ returns-clause-fetchers g c =
     let F = g.F.Fetcher in
     let r = c.retrieve_with.result.0 in
     let new = c.retrieve_with.result.1.items in
-    later_told F.site F.says F.rules F.log c.args.plan.now c.args.fetchers.items new r c.retrieve_with.ensures.ok c.retrieve_with.ensures.err
+    later_told F c.args.plan.now c.args.fetchers.items new r c.retrieve_with.ensures.ok c.retrieve_with.ensures.err
 
 pub returns-clause-ok : goal.returns-clause-ok
 returns-clause-ok g c =
     let F = g.F.Fetcher in
     let r = c.retrieve_with.result.0 in
     let new = c.retrieve_with.result.1.items in
-    retrieved_told F.site F.says F.rules F.log c.args.plan.now c.args.fetchers.items new r c.retrieve_with.ensures.ok
+    retrieved_told F c.args.plan.now c.args.fetchers.items new r c.retrieve_with.ensures.ok
 
 pub returns-clause-err : goal.returns-clause-err
 returns-clause-err g c =
     let F = g.F.Fetcher in
     let r = c.retrieve_with.result.0 in
     let new = c.retrieve_with.result.1.items in
-    stopped_told F.site F.says F.rules F.log c.args.plan.now c.args.fetchers.items new r c.retrieve_with.ensures.err
+    stopped_told F c.args.plan.now c.args.fetchers.items new r c.retrieve_with.ensures.err
 
 pub returns-clause-finds : goal.returns-clause-finds
 returns-clause-finds g c =
     let F = g.F.Fetcher in
     let r = c.retrieve_with.result.0 in
     let new = c.retrieve_with.result.1.items in
-    found_told F.site F.says F.rules F.log c.args.plan.now c.args.fetchers.items new r c.retrieve_with.ensures.ok
+    found_told F c.args.plan.now c.args.fetchers.items new r c.retrieve_with.ensures.ok
 
 pub returns-clause-once : goal.returns-clause-once
 returns-clause-once g c =
     let F = g.F.Fetcher in
     let r = c.retrieve_with.result.0 in
     let new = c.retrieve_with.result.1.items in
-    once_told F.site F.says F.rules F.log c.args.plan.now c.args.fetchers.items new r c.retrieve_with.ensures.err
+    once_told F c.args.plan.now c.args.fetchers.items new r c.retrieve_with.ensures.err
 
 pub returns-clause-full : goal.returns-clause-full
 returns-clause-full g c =
     let F = g.F.Fetcher in
     let r = c.retrieve_with.result.0 in
     let new = c.retrieve_with.result.1.items in
-    full_told F.site F.says F.rules F.log c.args.plan.now c.args.fetchers.items new r c.retrieve_with.ensures.err
+    full_told F c.args.plan.now c.args.fetchers.items new r c.retrieve_with.ensures.err
 
 pub returns-clause-whole_site : goal.returns-clause-whole_site
 returns-clause-whole_site g c whole fit =
     let F = g.F.Fetcher in
     let r = c.retrieve_with.result.0 in
     let new = c.retrieve_with.result.1.items in
-    whole_told F.site F.says F.rules F.log c.args.plan.now c.args.fetchers.items new whole fit r c.retrieve_with.ensures.ok
+    whole_told F c.args.plan.now c.args.fetchers.items new whole fit r c.retrieve_with.ensures.ok
 
 pub returns-clause-full_site : goal.returns-clause-full_site
 returns-clause-full_site g c whole fit =
     let F = g.F.Fetcher in
     let r = c.retrieve_with.result.0 in
     let new = c.retrieve_with.result.1.items in
-    full_site_told F.site F.says F.rules F.log c.args.plan.now c.args.fetchers.items new whole fit r c.retrieve_with.ensures.err
+    full_site_told F c.args.plan.now c.args.fetchers.items new whole fit r c.retrieve_with.ensures.err
 
 pub returns-clause-crowded_site : goal.returns-clause-crowded_site
 returns-clause-crowded_site g c whole fit many =
     let F = g.F.Fetcher in
     let r = c.retrieve_with.result.0 in
     let new = c.retrieve_with.result.1.items in
-    crowded_told F.site F.says F.rules F.log c.args.plan.now c.args.fetchers.items new whole fit r c.retrieve_with.ensures.ok many
+    crowded_told F c.args.plan.now c.args.fetchers.items new whole fit r c.retrieve_with.ensures.ok many

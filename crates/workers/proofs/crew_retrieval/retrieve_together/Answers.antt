@@ -14,16 +14,16 @@ use Rattle.workers.proofs.crew_retrieval.retrieve_together.Goals as goal
 pub returns-in_default-clause-err : goal.returns-in_default-clause-err
 returns-in_default-clause-err g c =
     let F = g.F.Fetcher in
-    stopped_empty F.site F.says F.rules F.log c.args.plan.now c.args.fetchers.items c.args.fetchers.items c.empty.result.cause c.empty.result.harvest
-    (later_self F.site F.says F.rules F.log c.args.plan.now c.args.fetchers.items) (none_once F.site F.says F.rules F.log c.args.plan.now c.args.fetchers.items) c.empty.ensures
+    stopped_empty F c.args.plan.now c.args.fetchers.items c.args.fetchers.items c.empty.result.cause c.empty.result.harvest
+    (later_self F c.args.plan.now c.args.fetchers.items) (none_once F c.args.plan.now c.args.fetchers.items) c.empty.ensures
 
 pub conclude-requires : goal.conclude-requires
 conclude-requires g c =
     let F = g.F.Fetcher in
     let old = c.args.fetchers.items in
     let new = c.work_all-fetchers.result.fetchers.items in
-    let account = account_all F.site F.says F.rules F.log c.args.plan.now old new c.work_all-fetchers.result.noted c.in-All.notes c.work_all-fetchers.ensures.noted c.in-All.is in
-    all_has_body (SomeSays F.site F.says F.log old new) c.args.plan.now c.in-All.notes.pages.items account.told
+    let account = account_all F c.args.plan.now old new c.work_all-fetchers.result.noted c.in-All.notes c.work_all-fetchers.ensures.noted c.in-All.is in
+    all_has_body (SomeSays F old new) c.args.plan.now c.in-All.notes.pages.items account.told
 
 pub returns-in-All-clause-ok : goal.returns-in-All-clause-ok
 returns-in-All-clause-ok g c =
@@ -31,8 +31,8 @@ returns-in-All-clause-ok g c =
     let plan = c.args.plan.now in
     let old = c.args.fetchers.items in
     let new = c.work_all-fetchers.result.fetchers.items in
-    let account = account_all F.site F.says F.rules F.log plan old new c.work_all-fetchers.result.noted c.in-All.notes c.work_all-fetchers.ensures.noted c.in-All.is in
-    all_retrieved F.site F.says F.rules F.log plan old new c.into_frontier-frontier.result c.in-All.notes.pages.items c.in-All.notes.rules.items c.conclude.result
+    let account = account_all F plan old new c.work_all-fetchers.result.noted c.in-All.notes c.work_all-fetchers.ensures.noted c.in-All.is in
+    all_retrieved F plan old new c.into_frontier-frontier.result c.in-All.notes.pages.items c.in-All.notes.rules.items c.conclude.result
     c.work_all-fetchers.ensures.later account c.conclude.ensures.ok
 
 pub returns-in-All-clause-err : goal.returns-in-All-clause-err
@@ -41,8 +41,8 @@ returns-in-All-clause-err g c =
     let plan = c.args.plan.now in
     let old = c.args.fetchers.items in
     let new = c.work_all-fetchers.result.fetchers.items in
-    let account = account_all F.site F.says F.rules F.log plan old new c.work_all-fetchers.result.noted c.in-All.notes c.work_all-fetchers.ensures.noted c.in-All.is in
-    all_stopped F.site F.says F.rules F.log plan old new c.into_frontier-frontier.result c.in-All.notes.pages.items c.in-All.notes.rules.items c.conclude.result
+    let account = account_all F plan old new c.work_all-fetchers.result.noted c.in-All.notes c.work_all-fetchers.ensures.noted c.in-All.is in
+    all_stopped F plan old new c.into_frontier-frontier.result c.in-All.notes.pages.items c.in-All.notes.rules.items c.conclude.result
     c.work_all-fetchers.ensures.later account c.conclude.ensures.err c.conclude.ensures.full
 
 pub returns-in-Once-clause-err : goal.returns-in-Once-clause-err
@@ -51,8 +51,8 @@ returns-in-Once-clause-err g c =
     let plan = c.args.plan.now in
     let old = c.args.fetchers.items in
     let new = c.work_all-fetchers.result.fetchers.items in
-    stopped_empty F.site F.says F.rules F.log plan old new c.empty-in-Once.result.cause c.empty-in-Once.result.harvest c.work_all-fetchers.ensures.later
-    (account_once F.site F.says F.rules F.log plan old new c.work_all-fetchers.result.noted c.work_all-fetchers.ensures.noted c.in-Once.is) c.empty-in-Once.ensures
+    stopped_empty F plan old new c.empty-in-Once.result.cause c.empty-in-Once.result.harvest c.work_all-fetchers.ensures.later
+    (account_once F plan old new c.work_all-fetchers.result.noted c.work_all-fetchers.ensures.noted c.in-Once.is) c.empty-in-Once.ensures
 
 pub returns-in-Twice-clause-err : goal.returns-in-Twice-clause-err
 returns-in-Twice-clause-err g c =
@@ -60,7 +60,7 @@ returns-in-Twice-clause-err g c =
     let plan = c.args.plan.now in
     let old = c.args.fetchers.items in
     let new = c.work_all-fetchers.result.fetchers.items in
-    stopped_wrong F.site F.says F.rules F.log plan old new c.mismatch.result.cause c.mismatch.result.harvest c.work_all-fetchers.ensures.later c.mismatch.ensures
+    stopped_wrong F plan old new c.mismatch.result.cause c.mismatch.result.harvest c.work_all-fetchers.ensures.later c.mismatch.ensures
 
 pub returns-in_default-clause-numbered : goal.returns-in_default-clause-numbered
 returns-in_default-clause-numbered g c = (tt, λ other. by_nobody c.args.fetchers.len _ c.empty.ensures.trace)
@@ -81,22 +81,22 @@ returns-in-Twice-clause-numbered g c = (tt, λ other. absurd (other c.mismatch.e
 pub returns-in_default-clause-own : goal.returns-in_default-clause-own
 returns-in_default-clause-own g c =
     let old = c.args.fetchers.items in
-    (tt, λ other. own_none g.F.Fetcher.log old old _ c.empty.ensures.trace)
+    (tt, λ other. own_none g.F.Fetcher old old _ c.empty.ensures.trace)
 
 pub returns-in-All-clause-own : goal.returns-in-All-clause-own
 returns-in-All-clause-own g c =
-    let log = g.F.Fetcher.log in
+    let F = g.F.Fetcher in
     let old = c.args.fetchers.items in
     let new = c.work_all-fetchers.result.fetchers.items in
     let notes = c.in-All.notes in
-    let noted = account_own log old new c.work_all-fetchers.result.noted notes c.work_all-fetchers.ensures.own c.in-All.is in (
-      if_ok c.conclude.result (λ h. AreNotedBy notes.pages.items notes.rules.items h.trace) (λ h. AreOwn log 0 old new h.trace) (λ h is. noted h.trace is) c.conclude.ensures.own.0,
-      if_err c.conclude.result (λ halt. halt.cause ≢ why.Mismatch → AreNotedBy notes.pages.items notes.rules.items halt.harvest.trace) (λ halt. halt.cause ≢ why.Mismatch → AreOwn log 0 old new halt.harvest.trace)
+    let noted = account_own F old new c.work_all-fetchers.result.noted notes c.work_all-fetchers.ensures.own c.in-All.is in (
+      if_ok c.conclude.result (λ h. AreNotedBy notes.pages.items notes.rules.items h.trace) (λ h. AreOwn F 0 old new h.trace) (λ h is. noted h.trace is) c.conclude.ensures.own.0,
+      if_err c.conclude.result (λ halt. halt.cause ≢ why.Mismatch → AreNotedBy notes.pages.items notes.rules.items halt.harvest.trace) (λ halt. halt.cause ≢ why.Mismatch → AreOwn F 0 old new halt.harvest.trace)
           (λ halt is other. noted halt.harvest.trace (is other)) c.conclude.ensures.own.1,
     )
 
 pub returns-in-Once-clause-own : goal.returns-in-Once-clause-own
-returns-in-Once-clause-own g c = (tt, λ other. own_none g.F.Fetcher.log c.args.fetchers.items c.work_all-fetchers.result.fetchers.items _ c.empty-in-Once.ensures.trace)
+returns-in-Once-clause-own g c = (tt, λ other. own_none g.F.Fetcher c.args.fetchers.items c.work_all-fetchers.result.fetchers.items _ c.empty-in-Once.ensures.trace)
 
 pub returns-in-Twice-clause-own : goal.returns-in-Twice-clause-own
 returns-in-Twice-clause-own g c = (tt, λ other. absurd (other c.mismatch.ensures))

@@ -5,7 +5,7 @@ use Rattle.workers.proofs.worker.work.Goals as goal
 pub loop-init : goal.loop-init
 loop-init g c =
     let F = g.F.Fetcher in
-    goes_none F.site F.says F.rules F.log c.args.plan.now c.args.worker c.args.fetcher.now c.args.notes.now
+    goes_none F c.args.plan.now c.args.worker c.args.fetcher.now c.args.notes.now
 
 pub loop-preserved-in-Busy : goal.loop-preserved-in-Busy
 loop-preserved-in-Busy g c = c.loop.invariant
@@ -16,12 +16,12 @@ loop-preserved-in-Spread g c = c.loop.invariant
 pub loop-preserved-in-Robots : goal.loop-preserved-in-Robots
 loop-preserved-in-Robots g c =
     let F = g.F.Fetcher in
-    goes_on F.site F.says F.rules F.log c.args.plan.now c.args.worker _ _ _ _ _ _ c.loop.invariant (c.serve_rules.ensures c.args.plan.now)
+    goes_on F c.args.plan.now c.args.worker _ _ _ _ _ _ c.loop.invariant (c.serve_rules.ensures c.args.plan.now)
 
 pub loop-preserved : goal.loop-preserved
 loop-preserved g c =
     let F = g.F.Fetcher in
-    goes_on F.site F.says F.rules F.log c.args.plan.now c.args.worker _ _ _ _ _ _ c.loop.invariant c.serve.ensures
+    goes_on F c.args.plan.now c.args.worker _ _ _ _ _ _ c.loop.invariant c.serve.ensures
 
 pub returns-in-Stopped : goal.returns-in-Stopped
 returns-in-Stopped g c = c.loop.invariant
