@@ -2,7 +2,8 @@
 ghost use Rattle.std.specs.Prelude.{◌≡◌, ◌<◌, List, [], IsTrue, length, IfOk, map, option_map, slice_index_or, string_bytes};
 ghost use Rattle.address.specs.AddressOrder.{IsAscending};
 ghost use Rattle.report.specs.inner.Fates.{fate_of};
-ghost use Rattle.report.specs.Entries.{name_among, fate_at, line_at, lines_of};
+ghost use Rattle.harvest.specs.Gathered.{AreEntries, AreRecords};
+ghost use Rattle.report.specs.Entries.{name_among, fate_at, line_with, lines_of};
 
 use address::Address;
 use fetcher::Outcome;
@@ -78,23 +79,24 @@ fn fate_of<'a>(entry: &Entry, records: &'a [(Address, Outcome)]) -> Option<Fate<
     Some(Fate::Asked(&records.get(entry.answer?)?.1))
 }
 
-// The row of an entry, where something became of it. Its page is looked for at this place among those
-// that are kept first.
+// The row of an entry of which this became. Its page is looked for at this place among those that are
+// kept first.
 fn row_of<'a>(
     harvest: &'a Harvest,
     names: &'a [String],
     entry: &'a Entry,
+    fate: Fate<'a>,
     near: usize,
-) -> Option<Row<'a>>
+) -> Row<'a>
     requires { length names.now ≡ length harvest.now.kept }
-    ensures { result ≡ line_at harvest.now (map string_bytes names.now) entry.now }
+    ensures { result ≡ line_with harvest.now (map string_bytes names.now) entry.now (fate_of fate.entry) }
 {
-    Some(Row {
+    Row {
         address: entry.address.as_str(),
         depth: entry.depth,
-        fate: fate_of(entry, harvest.records())?,
+        fate,
         name: name_of(harvest.kept(), names, &entry.address, near),
-    })
+    }
 }
 
 /// The rows of a harvest whose kept pages have these names, in the order of its entries.
@@ -104,15 +106,19 @@ pub(crate) fn rows_of<'a>(
     names: &'a [String],
 ) -> Result<Vec<Row<'a>>, AllocError>
     requires { length names.now ≡ length harvest.now.kept }
-    ensures { IfOk result (λ rows. rows.items ≡ lines_of harvest.now (map string_bytes names.now)) }
+    ensures rows { IfOk result (λ rows. rows.items ≡ lines_of harvest.now (map string_bytes names.now)) }
+    ensures entries { AreEntries harvest.now }
+    ensures records { AreRecords harvest.now }
 {
+    let records = harvest.records();
     let mut rows = Vec::new(alloc);
     // Entries ascend as kept pages do, so the next page that is kept stands behind as many.
     let mut named = 0usize;
     for entry in harvest.entries() {
-        let Some(row) = row_of(harvest, names, entry, named) else {
+        let Some(fate) = fate_of(entry, records) else {
             continue;
         };
+        let row = row_of(harvest, names, entry, fate, named);
         if row.name.is_some() {
             named = named.saturating_add(1);
         }

@@ -8,6 +8,7 @@ use Rattle.options.specs.declared.order.Order.{Order}
 use Rattle.robots_rules.specs.Access.{RuleSetValue}
 use Rattle.fetcher.specs.Sites.{SiteAnswers, GivesOutcome, GivesRules}
 use Rattle.fetcher.specs.declared.fetcher.Ask.{Ask}
+use Rattle.fetcher.specs.declared.fetcher.Fetcher.{Ghosts as Meaning}
 use Rattle.fetcher.specs.declared.outcome.Outcome.{Outcome}
 use Rattle.frontier_core.specs.Invariants.{IsSound}
 use Rattle.frontier_core.specs.Machine.{answers, IsQuiet}
@@ -126,10 +127,10 @@ pub told_finishes : (order : Order) (may_say : Text → Outcome → List ℕ →
     → IfOk r (λ h. IsCompleteFor (policy order.plan) whole h.state)
     → IfErr r (λ halt. halt.cause ≢ why.Mismatch → IsStopped may_say may_rule order.plan asks halt.cause halt.harvest)
     → IfErr r (λ halt. halt.cause ≡ why.Full → HasTooMany (policy order.plan) whole) → (order.workers ≡ 1 → IfErr r (λ halt. halt.cause ≢ why.Mismatch))
-    → IfOk r (λ h. AreByCrew order.workers h.trace) × IfErr r (λ halt. halt.cause ≢ why.Mismatch → AreByCrew order.workers halt.harvest.trace) → IfOk r IsRead
+    → IfOk r (λ h. AreByCrew order.workers h.trace) × IfErr r (λ halt. halt.cause ≢ why.Mismatch → AreByCrew order.workers halt.harvest.trace)
     → IfOk result (λ output. IsToldOf order.trace r (string_bytes output.text) output.status) → IfOk result (λ output. IsOutputOf order whole (string_bytes output.text) output.status)
-told_finishes order may_say may_rule whole asks (Ok h) (Ok output) fits is complete stop many never by read told =
-    let (names, naming, text, status) = told in
+told_finishes order may_say may_rule whole asks (Ok h) (Ok output) fits is complete stop many never by told =
+    let (read, names, naming, text, status) = told in
     record {
       shown = shown_of order.trace h.trace;
       finish = Retrieved (lines_of h names);
@@ -137,7 +138,7 @@ told_finishes order may_say may_rule whole asks (Ok h) (Ok output) fits is compl
       text_is = text;
       status_is = status ∙ status_of order h names read is.follows;
     }
-told_finishes order may_say may_rule whole asks (Err halt) (Ok output) fits is complete stop many never by read told =
+told_finishes order may_say may_rule whole asks (Err halt) (Ok output) fits is complete stop many never by told =
     record {
       shown = shown_of (is_borne_out halt.cause && order.trace) halt.harvest.trace;
       finish = Stopped halt.cause;
@@ -145,10 +146,10 @@ told_finishes order may_say may_rule whole asks (Err halt) (Ok output) fits is c
       text_is = told.0;
       status_is = told.1;
     }
-told_finishes order may_say may_rule whole asks r (Err e) fits is complete stop many never by read told = told
+told_finishes order may_say may_rule whole asks r (Err e) fits is complete stop many never by told = told
 
-module _ {F S : Type 0} (site : F → S) (says : S → Text → Outcome → List ℕ → Type 0) (rules : S → Text → RuleSetValue → Type 0) where
-  -- copies fit where the site does
-  pub copies_fit : (whole : Answers) (one : F) (count : ℕ) (copies : List F) → copies ≡ replicate count one → Fits (says (site one)) (rules (site one)) whole → AllFit site says rules copies whole
-  copies_fit whole one count copies are fits =
-      subst (λ (fs : List F). AllFit site says rules fs whole) (sym are) (All-replicate (λ (copy : F). Fits (says (site copy)) (rules (site copy)) whole) count one fits)
+-- copies fit where the site does
+pub copies_fit : {F : Type 0} (m : Meaning F) (whole : Answers) (one : F) (count : ℕ) (copies : List F) → copies ≡ replicate count one → Fits (m.says (m.site one)) (m.rules (m.site one)) whole
+    → AllFit m copies whole
+copies_fit {F = F} m whole one count copies are fits =
+    subst (λ (fs : List F). AllFit m fs whole) (sym are) (All-replicate (λ (copy : F). Fits (m.says (m.site copy)) (m.rules (m.site copy)) whole) count one fits)

@@ -12,8 +12,8 @@ use Rattle.options.specs.declared.order.Source.TheVariants as source
 use Rattle.retriever.specs.Advice.{said_of}
 use Rattle.retriever.specs.Order.{IsRefused}
 use Rattle.retriever.specs.Parts.{IsRefusal}
-use Rattle.retriever.specs.Program.{IsExplained, IsTold}
-use Rattle.retriever.specs.inner.Program.{Starts}
+use Rattle.retriever.specs.Program.{Outputs, IsExplained, IsTold}
+use Rattle.retriever.specs.inner.Program.{Streams, Starts}
 use Rattle.retriever.specs.Run.{Runs}
 use Rattle.streams.specs.Streams.{AppendsFront}
 use Rattle.retriever.specs.declared.fault.Fault.{Fault}
@@ -59,43 +59,40 @@ is_live source.Recorded never = absurd (never record_is_not_live)
 pub runs_memory : (words : List (List ℕ)) (known old new : Option (List ℕ)) (status : ℕ) → IsRefusal old new fault.Memory status → Runs words known old new status
 runs_memory words known old new status refusal = runs_refused words known old new fault.Memory status (ends_memory words known) refusal
 
-pub told_memory : {E : Type 0} (words : List (List ℕ)) (before after : Option (List ℕ)) (errors : E) (told : Option (List ℕ)) (status : ℕ) → IsRefusal before after fault.Memory status
-    → IsTold words before after errors errors told told status
-told_memory words before after errors told status (inl delivered) = (fault.Line line.Memory, inr refl, inr (delivered, refl))
-told_memory words before after errors told status (inr delivered) = (fault.Line line.Memory, inr refl, inr (delivered, refl))
+pub told_memory : {E : Type 0} (words : List (List ℕ)) (before after : Outputs E) (status : ℕ) → after.errors ≡ before.errors → IsRefusal before.written after.written fault.Memory status
+    → IsTold words before after status
+told_memory words before after status same (inl delivered) = (fault.Line line.Memory, inr refl, inr (delivered, same))
+told_memory words before after status same (inr delivered) = (fault.Line line.Memory, inr refl, inr (delivered, same))
 
 -- words whose fault is explained are refused
-refusal_of : {E : Type 0} (words : List (List ℕ)) (wrong : Fault) (before after : Option (List ℕ)) (errors_old errors_new : E) (told_before told_after : Option (List ℕ)) (status : ℕ)
-    → IsExplained words wrong before after errors_old errors_new told_before told_after status → IsRefusal before after wrong status
-refusal_of words wrong before after errors_old errors_new told_before told_after status (inl told) = inl told.0
-refusal_of words wrong before after errors_old errors_new told_before told_after status (inr told) = inr told.0
+refusal_of : {E : Type 0} (words : List (List ℕ)) (wrong : Fault) (before after : Outputs E) (status : ℕ) → IsExplained words wrong before after status
+    → IsRefusal before.written after.written wrong status
+refusal_of words wrong before after status (inl told) = inl told.0
+refusal_of words wrong before after status (inr told) = inr told.0
 
 -- ---- the program
 
-module _ {R E : Type 0} (Lives : List (List ℕ) → Type 0) (remaining before after : Option (List ℕ)) (status : ℕ) where
+module _ {R E : Type 0} (Lives : List (List ℕ) → Type 0) (before after : Streams R E) (status : ℕ) where
   -- want of memory before the words are read
-  pub starts_memory : (reader : R) (errors : E) (told : Option (List ℕ)) (words : List (List ℕ)) → Lives words → IsRefusal before after fault.Memory status
-      → Starts Lives remaining before after reader reader errors errors told told status words
-  starts_memory reader errors told words lives refusal = record {
-    runs = λ not. runs_memory words remaining before after status refusal;
+  pub starts_memory : after.reader ≡ before.reader → after.outputs.errors ≡ before.outputs.errors → (words : List (List ℕ)) → Lives words
+      → IsRefusal before.outputs.written after.outputs.written fault.Memory status → Starts Lives before after status words
+  starts_memory unread quiet words lives refusal = record {
+    runs = λ not. runs_memory words before.remaining before.outputs.written after.outputs.written status refusal;
     lives = λ live. lives;
-    unread = λ no. refl;
-    told = λ no none. told_memory words before after errors told status refusal;
-    quiet = λ either. refl;
+    unread = λ no. unread;
+    told = λ no none. told_memory words before.outputs after.outputs status quiet refusal;
+    quiet = λ either. quiet;
   }
 
   -- the same of equal words
-  pub starts_as : (reader_old reader_new : R) (errors_old errors_new : E) (told_before told_after : Option (List ℕ)) (given words : List (List ℕ)) → given ≡ words
-      → Starts Lives remaining before after reader_old reader_new errors_old errors_new told_before told_after status given
-      → Starts Lives remaining before after reader_old reader_new errors_old errors_new told_before told_after status words
-  starts_as reader_old reader_new errors_old errors_new told_before told_after given words same starts =
-      subst (λ (w : List (List ℕ)). Starts Lives remaining before after reader_old reader_new errors_old errors_new told_before told_after status w) same starts
+  pub starts_as : (given words : List (List ℕ)) → given ≡ words → Starts Lives before after status given → Starts Lives before after status words
+  starts_as given words same starts = subst (λ (w : List (List ℕ)). Starts Lives before after status w) same starts
 
   -- words that order something: of a site on the network, or of one that the input tells
-  pub starts_order : (reader_old reader_new : R) (errors : E) (told : Option (List ℕ)) (words : List (List ℕ)) (order : Order) → order_of words ≡ Ok (said_by order)
-      → (order.source ≢ source.Live → Runs words remaining before after status) → (order.source ≡ source.Live → Lives words) → (order.source ≡ source.Live → reader_new ≡ reader_old)
-      → Starts Lives remaining before after reader_old reader_new errors errors told told status words
-  starts_order reader_old reader_new errors told words order says runs lives unread = record {
+  pub starts_order : after.outputs.errors ≡ before.outputs.errors → (words : List (List ℕ)) (order : Order) → order_of words ≡ Ok (said_by order)
+      → (order.source ≢ source.Live → Runs words before.remaining before.outputs.written after.outputs.written status) → (order.source ≡ source.Live → Lives words)
+      → (order.source ≡ source.Live → after.reader ≡ before.reader) → Starts Lives before after status words
+  starts_order quiet words order says runs lives unread = record {
     runs = λ not. runs (λ is. not (said_by order, says, is));
     lives = λ live.
         let (ordered, said, is) = live in
@@ -103,21 +100,21 @@ module _ {R E : Type 0} (Lives : List (List ℕ) → Type 0) (remaining before a
         lives (sym (ap (λ (o : Ordered). o.source) same) ∙ is);
     unread = λ no. unread (is_live order.source (λ not. no (order, (says, not))));
     told = λ no none. absurd (none (said_by order, says, is_live order.source (λ not. no (order, (says, not)))));
-    quiet = λ either. refl;
+    quiet = λ either. quiet;
   }
 
   -- words that order nothing, or for which there is no memory
-  pub starts_wrong : (reader : R) (errors_old errors_new : E) (told_before told_after : Option (List ℕ)) (words : List (List ℕ)) (wrong : LineFault) → IsRefused words (fault.Line wrong)
-      → (IsRefusal before after fault.Memory status → Lives words) → IsExplained words (fault.Line wrong) before after errors_old errors_new told_before told_after status
-      → (said_of words (fault.Line wrong) ≡ [] → errors_new ≡ errors_old)
-      → Starts Lives remaining before after reader reader errors_old errors_new told_before told_after status words
-  starts_wrong reader errors_old errors_new told_before told_after words wrong refused lives told quiet =
-      let refusal = refusal_of words (fault.Line wrong) before after errors_old errors_new told_before told_after status told in record {
-        runs = λ not. runs_refused words remaining before after (fault.Line wrong) status (ends_refused words remaining (fault.Line wrong) refused) refusal;
+  pub starts_wrong : after.reader ≡ before.reader → (words : List (List ℕ)) (wrong : LineFault) → IsRefused words (fault.Line wrong)
+      → (IsRefusal before.outputs.written after.outputs.written fault.Memory status → Lives words) → IsExplained words (fault.Line wrong) before.outputs after.outputs status
+      → (said_of words (fault.Line wrong) ≡ [] → after.outputs.errors ≡ before.outputs.errors) → Starts Lives before after status words
+  starts_wrong unread words wrong refused lives told quiet =
+      let refusal = refusal_of words (fault.Line wrong) before.outputs after.outputs status told in record {
+        runs = λ not.
+            runs_refused words before.remaining before.outputs.written after.outputs.written (fault.Line wrong) status (ends_refused words before.remaining (fault.Line wrong) refused) refusal;
         lives = λ live.
             let (ordered, says, is) = live in
-            lives (subst (λ (w : LineFault). IsRefusal before after (fault.Line w) status) (only_memory words ordered wrong says refused) refusal);
-        unread = λ no. refl;
+            lives (subst (λ (w : LineFault). IsRefusal before.outputs.written after.outputs.written (fault.Line w) status) (only_memory words ordered wrong says refused) refusal);
+        unread = λ no. unread;
         told = λ no none. (fault.Line wrong, refused, told);
         quiet = λ either. elim either [
           | inl input ↦ (let (order, ordered) = input in quiet (ap (λ (w : LineFault). said_of words (fault.Line w)) (only_memory words (said_by order) wrong ordered.0 refused)))

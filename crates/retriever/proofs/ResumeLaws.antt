@@ -53,13 +53,13 @@ module _ {S F D V : Type 0} (m : Means S F D V) (order : Order) where
     saves_not r is lives = subst (λ (save : Option (List ℕ)). IfOk r (LivesWith m save order before after)) (sym is) lives
 
     -- one of an order that neither resumes nor saves
-    pub plainly : (resume save : Option (List ℕ)) (status : ℕ) → is_plain resume save ≡ true → LivesPlainly m order before after status → LivesBy m resume save order before after status
+    pub plainly : (resume save : Option (List ℕ)) (status : ℕ) → is_plain resume save ≡ true → LivesPlainly m order before after status → LivesBy m (resume, save) order before after status
     plainly None None status is lives = lives
     plainly None (Some path) status is lives = cc
     plainly (Some from) save status is lives = cc
 
     -- one of an order that does either
-    pub not_plainly : (resume save : Option (List ℕ)) (status : ℕ) → is_plain resume save ≡ false → LivesWith m save order before after status → LivesBy m resume save order before after status
+    pub not_plainly : (resume save : Option (List ℕ)) (status : ℕ) → is_plain resume save ≡ false → LivesWith m save order before after status → LivesBy m (resume, save) order before after status
     not_plainly None None status is lives = cc
     not_plainly None (Some path) status is lives = lives
     not_plainly (Some from) save status is lives = lives

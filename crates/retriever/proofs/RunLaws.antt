@@ -1,8 +1,6 @@
 -- The parts of a run come to its ending.
 use Rattle.std.proofs.Common.{◌≡◌, ◌≢◌, ℕ, inl, inr, Bool, true, false, List, [], Option, Some, None, refl, sym, ap, subst, ◌∙◌}
 use Rattle.std.specs.Prelude.{Ok}
-use Rattle.fetcher.specs.Sites.{SiteAnswers}
-use Rattle.site_inputs.specs.declared.input_fault.InputFault.{InputFault}
 use Rattle.frontier_core.specs.Machine.{IsQuiet}
 use Rattle.frontier_core.specs.Routes.{Answers}
 use Rattle.frontier_core.specs.declared.event.Cause.TheVariants as cause
@@ -13,7 +11,7 @@ use Rattle.options.specs.declared.order.Order.{Order}
 use Rattle.options.specs.declared.order.Source.{Source}
 use Rattle.options.specs.declared.order.Source.TheVariants as source
 use Rattle.report.specs.Trace.{trace_text}
-use Rattle.retriever.specs.InputFound.{TellsFault, IsFoundOf, FindsIn}
+use Rattle.retriever.specs.InputFound.{Form, TellsFault, IsFoundOf, FindsIn}
 use Rattle.retriever.specs.Order.{IsOrdered, IsRefused}
 use Rattle.retriever.specs.Parts.{IsDelivered, IsRefusal}
 use Rattle.retriever.specs.inner.Parts.{IsOutput, IsUnfit}
@@ -134,9 +132,8 @@ none_unordered order whole shown (Stopped cause.Memory) (inl none) = λ is. none
 none_unordered order whole shown (Stopped cause.Memory) (inr events) = unshown order.trace (AreEventsOf order.workers order.plan whole (HasStopped cause.Memory)) shown events
 none_unordered order whole shown (Stopped cause.Mismatch) (several, none) = λ is. none
 
-module _ (IsOf : List ℕ → SiteAnswers → Type 0) (IsWrong : List ℕ → InputFault → Type 0) (order : Order) (known before after : Option (List ℕ)) where
-  finds_output : (text : List ℕ) (wanted status : ℕ) → IsOutput IsOf order known text wanted → IsDelivered before after text wanted status
-      → FindsIn IsOf IsWrong order known before after status
+module _ (form : Form) (order : Order) (known before after : Option (List ℕ)) where
+  finds_output : (text : List ℕ) (wanted status : ℕ) → IsOutput form.tells order known text wanted → IsDelivered before after text wanted status → FindsIn form order known before after status
   finds_output text wanted status (site, tells, output) told = record {
     ending = Ended (trace_text output.shown) output.finish;
     ends = (
@@ -148,21 +145,25 @@ module _ (IsOf : List ℕ → SiteAnswers → Type 0) (IsWrong : List ℕ → In
     written = delivered before after text wanted status (Ended (trace_text output.shown) output.finish) output.text_is output.status_is told;
   }
 
-  finds_fault : (wrong : Fault) (status : ℕ) → TellsFault IsWrong known wrong → IsRefusal before after wrong status → FindsIn IsOf IsWrong order known before after status
+  finds_fault : (wrong : Fault) (status : ℕ) → TellsFault form.has_fault known wrong → IsRefusal before after wrong status → FindsIn form order known before after status
   finds_fault wrong status tells (inl told) = record { ending = Failed wrong; ends = tells; written = told }
   finds_fault wrong status tells (inr told) = record { ending = Failed fault.Memory; ends = tt; written = told }
+
+-- the form that is read, by the source
+abbrev form_by : Source → Bool → Form
+form_by s robots = record { tells = IsToldBy s robots; has_fault = IsWrongBy s robots }
 
 -- the same by the order's source
 pub finds_told : (s : Source) (order : Order) (known before after : Option (List ℕ)) (text : List ℕ) (wanted status : ℕ) → order.source ≡ s
     → IsOutput (IsToldBy order.source order.plan.robots) order known text wanted → IsDelivered before after text wanted status
-    → FindsIn (IsToldBy s order.plan.robots) (IsWrongBy s order.plan.robots) order known before after status
+    → FindsIn (form_by s order.plan.robots) order known before after status
 finds_told s order known before after text wanted status is output told =
-    finds_output (IsToldBy s order.plan.robots) (IsWrongBy s order.plan.robots) order known before after text wanted status
+    finds_output (form_by s order.plan.robots) order known before after text wanted status
     (subst (λ (x : Source). IsOutput (IsToldBy x order.plan.robots) order known text wanted) is output) told
 
 pub finds_unfit : (s : Source) (order : Order) (known before after : Option (List ℕ)) (wrong : Fault) (status : ℕ) → order.source ≡ s → (s ≢ source.Live) → IsUnfit order known wrong
-    → IsRefusal before after wrong status → FindsIn (IsToldBy s order.plan.robots) (IsWrongBy s order.plan.robots) order known before after status
+    → IsRefusal before after wrong status → FindsIn (form_by s order.plan.robots) order known before after status
 finds_unfit s order known before after wrong status is other (inl (live, none)) told = absurd (other (sym is ∙ live))
 finds_unfit s order known before after wrong status is other (inr (not, tells)) told =
-    finds_fault (IsToldBy s order.plan.robots) (IsWrongBy s order.plan.robots) order known before after wrong status
+    finds_fault (form_by s order.plan.robots) order known before after wrong status
     (subst (λ (x : Source). TellsFault (IsWrongBy x order.plan.robots) known wrong) is tells) told

@@ -7,6 +7,7 @@ use Rattle.follow_filters.specs.declared.plan.Plan.{Plan}
 use Rattle.options.specs.declared.order.Order.{Order}
 use Rattle.fetcher.specs.declared.fetcher.Ask.{Ask}
 use Rattle.fetcher.specs.declared.fetcher.Ask.TheVariants as ask
+use Rattle.fetcher.specs.declared.fetcher.Fetcher.{Ghosts as Meaning}
 use Rattle.fetcher.specs.declared.outcome.Outcome.{Outcome}
 use Rattle.robots_rules.specs.Access.{RuleSetValue}
 use Rattle.frontier_core.specs.Tables.{Text}
@@ -17,7 +18,7 @@ use Rattle.harvest.specs.Pages.{IsBodyOf}
 use Rattle.workers.specs.Asks.{IsTold}
 use Rattle.workers.specs.Crews.{AreLater, all_gained, SomeSays, SomeRules}
 use Rattle.workers.specs.Found.{AreMadeOnce, AreAsked}
-use Rattle.local_tree.specs.Folders.{Files}
+use Rattle.local_tree.specs.Folders.{Holding}
 use Rattle.local_tree.specs.SiteFiles.{IsWhole, IsTorn}
 use Rattle.report.specs.Named.{named_pages, names_in}
 use Rattle.report.specs.Report.{Line, report_text}
@@ -26,35 +27,58 @@ use Rattle.retriever.specs.Retrieved.{Finish, Retrieved, Stopped}
 use Rattle.retriever.specs.Run.{finish_text, finish_status}
 use Rattle.retriever.specs.Site.{AreLines, AreNamed}
 
+-- ---- a crew
+
+-- what the fetchers of a retrieval mean, and what they are at its start and at its end, in their order
+pub record Crew (F : Type 0) : Type 1 where
+  pub means : Meaning F
+  pub first : List F
+  pub left : List F
+
+-- the fetchers of this meaning that were those and are these
+abbrev pub crew_of : {F : Type 0} → Meaning F → List F → List F → Crew F
+crew_of m first left = record { means = m; first = first; left = left }
+
+-- some fetcher that was asked for the address may say this of it
+abbrev pub MaySay : {F : Type 0} → Crew F → Text → Outcome → List ℕ → Type 0
+MaySay crew = SomeSays crew.means crew.first crew.left
+
+-- some fetcher that was asked for the origin's rules may say that they are these
+abbrev pub MayRule : {F : Type 0} → Crew F → Text → RuleSetValue → Type 0
+MayRule crew = SomeRules crew.means crew.first crew.left
+
+-- what the fetchers were asked between, all together
+abbrev pub asks_of : {F : Type 0} → Crew F → List Ask
+asks_of crew = all_gained crew.means crew.first crew.left
+
 -- ---- what was found
 
--- Just these asks were made, each once, and this is recorded of them. The lines are those of the breadth-first retrieval of what is
--- recorded, and the bodies those of the pages with names, each one that the fetchers may have answered.
-pub record IsFound (may_say : Text → Outcome → List ℕ → Type 0) (may_rule : Text → RuleSetValue → Type 0) (plan : Plan) (asks : List Ask) (recorded_as : Answers)
-    (lines : List Line) (bodies : List (List ℕ)) : Type 0 where
-  pub asked : AreAsked may_say may_rule plan asks recorded_as
+-- Just this is recorded of what the fetchers were asked, each ask made once. The lines are those of the breadth-first retrieval of
+-- what is recorded, and the bodies those of the pages with names, each one that the fetchers may have answered.
+pub record IsFound {F : Type 0} (crew : Crew F) (plan : Plan) (recorded_as : Answers) (lines : List Line) (bodies : List (List ℕ)) : Type 0 where
+  pub asked : AreAsked (MaySay crew) (MayRule crew) plan (asks_of crew) recorded_as
   pub reported : AreLines (policy plan) recorded_as lines
   pub named : AreNamed plan lines
-  pub kept : AllZip (IsBodyOf may_say recorded_as) (named_pages lines) bodies
+  pub kept : AllZip (IsBodyOf (MaySay crew) recorded_as) (named_pages lines) bodies
 
--- These asks were made before the retrieval stopped, and this is recorded: what was asked for, each once, is wanted by what is
--- recorded. Each outcome and rule set is one that the fetchers may have answered.
-pub record IsPartFound (may_say : Text → Outcome → List ℕ → Type 0) (may_rule : Text → RuleSetValue → Type 0) (plan : Plan) (asks : List Ask) (recorded_as : Answers) : Type 0 where
-  pub once : AreMadeOnce asks
-  pub wanted : (u : Text) → Contains asks (ask.Page u) → IsWanted (policy plan) recorded_as u
-  pub needed : (o : Text) → Contains asks (ask.Rules o) → IsNeeded (policy plan) recorded_as o
-  pub told : IsTold may_say may_rule recorded_as
+-- This is recorded of what the fetchers were asked before the retrieval stopped: what was asked for, each once, is wanted by what
+-- is recorded. Each outcome and rule set is one that the fetchers may have answered.
+pub record IsPartFound {F : Type 0} (crew : Crew F) (plan : Plan) (recorded_as : Answers) : Type 0 where
+  pub once : AreMadeOnce (asks_of crew)
+  pub wanted : (u : Text) → Contains (asks_of crew) (ask.Page u) → IsWanted (policy plan) recorded_as u
+  pub needed : (o : Text) → Contains (asks_of crew) (ask.Rules o) → IsNeeded (policy plan) recorded_as o
+  pub told : IsTold (MaySay crew) (MayRule crew) recorded_as
 
 -- ---- what it comes to
 
--- what a folder tells of itself: its files, and how many puts failed
-pub record Holding : Type 0 where
-  pub files : Option Files
-  pub failed : ℕ
+-- what a live run has around it at one moment: what its folder tells, and what its writer got
+pub record Outside : Type 0 where
+  pub folder : Holding
+  pub written : Option (List ℕ)
 
--- what this folder tells
-abbrev pub holding : {D : Type 0} → (D → Option Files) → (D → ℕ) → D → Holding
-holding files failed folder = record { files = files folder; failed = failed folder }
+-- these around it
+abbrev pub outside : Holding → Option (List ℕ) → Outside
+outside folder written = record { folder = folder; written = written }
 
 -- what the retrieval comes to, where the files of its report are all whole; or a report's lines, of whose files so many are
 -- whole since the next put failed
@@ -78,7 +102,7 @@ live_status (Torn lines whole) = 3
 
 -- so many of the files of these lines are whole, the next may hold anything, and all else is as before
 abbrev pub IsTornAt : List Line → List (List ℕ) → Holding → Holding → ℕ → Type 0
-IsTornAt lines bodies old new whole = IsTorn (names_in lines) bodies old.files new.files old.failed new.failed whole
+IsTornAt lines bodies old new whole = IsTorn (names_in lines) bodies old new whole
 
 -- all files of these lines are whole, and all else is as before
 abbrev pub IsWholeAt : List Line → List (List ℕ) → Holding → Holding → Type 0
@@ -87,28 +111,26 @@ IsWholeAt lines bodies old new = IsWhole (names_in lines) bodies old.files new.f
 -- The retrieval that is ordered found what is to be found, and this came of it. Before its end nothing is put into the folder.
 -- The table is full only where what is recorded has more candidates than the plan lets be held. Memory may run out at any time,
 -- and may do so when a put has failed. A check of several workers may fail; then nothing more is said.
-abbrev pub EndsFound : (Text → Outcome → List ℕ → Type 0) → (Text → RuleSetValue → Type 0) → Order → ℕ → List Ask → Holding → Holding → LiveEnd → Type 0
-EndsFound may_say may_rule order workers asks old new (Finished (Retrieved lines)) =
-    (m : Answers) × (bodies : List (List ℕ)) × IsFound may_say may_rule order.plan asks m lines bodies × IsWholeAt lines bodies old new
-EndsFound may_say may_rule order workers asks old new (Torn lines whole) =
-    (m : Answers) × (bodies : List (List ℕ)) × IsFound may_say may_rule order.plan asks m lines bodies × IsTornAt lines bodies old new whole
-EndsFound may_say may_rule order workers asks old new (Finished (Stopped cause.Full)) =
-    (m : Answers) × IsPartFound may_say may_rule order.plan asks m × HasTooMany (policy order.plan) m × (new ≡ old)
-EndsFound may_say may_rule order workers asks old new (Finished (Stopped cause.Memory)) =
-    AreMadeOnce asks
-    × ((new ≡ old) ⊎ ((m : Answers) × (lines : List Line) × (bodies : List (List ℕ)) × (whole : ℕ) × IsFound may_say may_rule order.plan asks m lines bodies
+abbrev pub EndsFound : {F : Type 0} → Crew F → Order → Holding → Holding → LiveEnd → Type 0
+EndsFound crew order old new (Finished (Retrieved lines)) =
+    (m : Answers) × (bodies : List (List ℕ)) × IsFound crew order.plan m lines bodies × IsWholeAt lines bodies old new
+EndsFound crew order old new (Torn lines whole) =
+    (m : Answers) × (bodies : List (List ℕ)) × IsFound crew order.plan m lines bodies × IsTornAt lines bodies old new whole
+EndsFound crew order old new (Finished (Stopped cause.Full)) = (m : Answers) × IsPartFound crew order.plan m × HasTooMany (policy order.plan) m × (new ≡ old)
+EndsFound crew order old new (Finished (Stopped cause.Memory)) =
+    AreMadeOnce (asks_of crew)
+    × ((new ≡ old) ⊎ ((m : Answers) × (lines : List Line) × (bodies : List (List ℕ)) × (whole : ℕ) × IsFound crew order.plan m lines bodies
     × IsTornAt lines bodies old new whole))
-EndsFound may_say may_rule order workers asks old new (Finished (Stopped cause.Mismatch)) = (workers ≢ 1) × (new ≡ old)
+EndsFound crew order old new (Finished (Stopped cause.Mismatch)) = (length crew.first ≢ 1) × (new ≡ old)
 
 -- A live retrieval with these fetchers, one for each worker: it found what is to be found, by what the fetchers were asked and
 -- may have answered until its end. Either the writer gained that end's text, behind a trace where one is ordered, and the
 -- status is the end's, or the writer failed behind a front of it, and the status is 1.
-pub record Finds {F S : Type 0} (site : F → S) (says : S → Text → Outcome → List ℕ → Type 0) (rules : S → Text → RuleSetValue → Type 0) (log : F → List Ask)
-    (order : Order) (fetchers : List F) (old new : Holding) (before after : Option (List ℕ)) (status : ℕ) : Type 0 where
+pub record Finds {F : Type 0} (m : Meaning F) (order : Order) (fetchers : List F) (before after : Outside) (status : ℕ) : Type 0 where
   pub left : List F
-  pub later : AreLater site log fetchers left
+  pub later : AreLater m fetchers left
   pub ending : LiveEnd
-  pub ends : EndsFound (SomeSays site says log fetchers left) (SomeRules site rules log fetchers left) order (length fetchers) (all_gained log fetchers left) old new ending
+  pub ends : EndsFound (crew_of m fetchers left) order before.folder after.folder ending
   pub trace : List ℕ
   pub untraced : order.trace ≡ false → trace ≡ []
-  pub written : IsDelivered before after (trace ++ live_text ending) (live_status ending) status
+  pub written : IsDelivered before.written after.written (trace ++ live_text ending) (live_status ending) status

@@ -1,12 +1,14 @@
 -- What a run by an order found of the site that its input tells, and what it writes of that, with no word of the events that led
 -- there nor of the words that order it: these says `Run`.
-use Rattle.std.specs.Prelude.{◌≡◌, ◌≢◌, ◌≤◌, ◌<◌, ℕ, false, List, [], length, Option}
+use Rattle.std.specs.Prelude.{◌≡◌, ◌≢◌, ◌≤◌, ◌<◌, ℕ, Bool, false, List, [], length, Option}
 use Rattle.fetcher.specs.Sites.{SiteAnswers}
 use Rattle.frontier_core.specs.Plans.{policy}
 use Rattle.frontier_core.specs.Routes.{Answers, HasTooMany}
 use Rattle.frontier_core.specs.declared.event.Cause.TheVariants as cause
 use Rattle.options.specs.declared.order.Order.{Order}
 use Rattle.site_inputs.specs.declared.input_fault.InputFault.{InputFault}
+use Rattle.site_maps.specs.Maps.{IsFault as IsFaultOfMap}
+use Rattle.site_records.specs.Records.{IsFault as IsFaultOfRecord}
 use Rattle.streams.specs.Streams.{IsInput}
 use Rattle.streams.specs.declared.input.ReadFault.TheVariants as reading
 use Rattle.retriever.specs.declared.fault.Fault.{Fault}
@@ -15,7 +17,20 @@ use Rattle.retriever.specs.declared.input_run.TheConstants.{MAX_INPUT}
 use Rattle.retriever.specs.Parts.{IsDelivered}
 use Rattle.retriever.specs.Retrieved.{Finish, Retrieved, Stopped}
 use Rattle.retriever.specs.Run.{Ending, Failed, Ended, ending_text, ending_status}
-use Rattle.retriever.specs.Site.{AreLines, AreNamed, whole_of}
+use Rattle.retriever.specs.Site.{IsMapOf, IsRecordOf, AreLines, AreNamed, whole_of}
+
+-- a form of inputs: the site that an input tells, and the faults that it has
+pub record Form : Type 1 where
+  pub tells : List ℕ → SiteAnswers → Type 0
+  pub has_fault : List ℕ → InputFault → Type 0
+
+-- the form of maps
+abbrev pub map_form : Form
+map_form = record { tells = IsMapOf; has_fault = IsFaultOfMap }
+
+-- the form of records, by whether robots are honoured
+abbrev pub record_form : Bool → Form
+record_form robots = record { tells = IsRecordOf robots; has_fault = IsFaultOfRecord robots }
 
 -- what the reader has left tells this site
 abbrev pub TellsOf : (List ℕ → SiteAnswers → Type 0) → Option (List ℕ) → SiteAnswers → Type 0
@@ -41,13 +56,13 @@ IsFoundOf order whole (Stopped cause.Memory) = Unit {0}
 IsFoundOf order whole (Stopped cause.Mismatch) = order.workers ≢ 1
 
 -- what the reader has left comes to this ending
-abbrev pub EndsOn : (List ℕ → SiteAnswers → Type 0) → (List ℕ → InputFault → Type 0) → Order → Option (List ℕ) → Ending → Type 0
-EndsOn IsOf IsWrong order known (Failed wrong) = TellsFault IsWrong known wrong
-EndsOn IsOf IsWrong order known (Ended trace finish) =
-    (order.trace ≡ false → trace ≡ []) × (site : SiteAnswers) × TellsOf IsOf known site × IsFoundOf order (whole_of site) finish
+abbrev pub EndsOn : Form → Order → Option (List ℕ) → Ending → Type 0
+EndsOn form order known (Failed wrong) = TellsFault form.has_fault known wrong
+EndsOn form order known (Ended trace finish) =
+    (order.trace ≡ false → trace ≡ []) × (site : SiteAnswers) × TellsOf form.tells known site × IsFoundOf order (whole_of site) finish
 
 -- A run by an order, of an input of a form: it comes to an ending, whose text the writer gained, or a front of it where it failed.
-pub record FindsIn (IsOf : List ℕ → SiteAnswers → Type 0) (IsWrong : List ℕ → InputFault → Type 0) (order : Order) (known old new : Option (List ℕ)) (status : ℕ) : Type 0 where
+pub record FindsIn (form : Form) (order : Order) (known old new : Option (List ℕ)) (status : ℕ) : Type 0 where
   pub ending : Ending
-  pub ends : EndsOn IsOf IsWrong order known ending
+  pub ends : EndsOn form order known ending
   pub written : IsDelivered old new (ending_text ending) (ending_status ending) status

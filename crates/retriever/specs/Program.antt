@@ -21,17 +21,26 @@ abbrev pub words_fault : ErrorKind → Fault
 words_fault OutOfMemory = fault.Memory
 words_fault kind = fault.NotText
 
+-- the outputs of the program at one moment: what its writer got, and its error stream with what a person was told there
+pub record Outputs (E : Type 0) : Type 0 where
+  pub written : Option (List ℕ)
+  pub errors : E
+  pub told : Option (List ℕ)
+
+-- these outputs
+abbrev pub outputs : {E : Type 0} → (E → Option (List ℕ)) → Option (List ℕ) → E → Outputs E
+outputs contents written errors = record { written = written; errors = errors; told = contents errors }
+
 -- The line of a fault of the words is delivered with its status, and what is wrong, or a front of it, was written to a person;
 -- or the line of want of memory is delivered, and nothing was written to a person.
-abbrev pub IsExplained : {E : Type 0} → List (List ℕ) → Fault → Option (List ℕ) → Option (List ℕ) → E → E → Option (List ℕ) → Option (List ℕ) → ℕ → Type 0
-IsExplained words wrong before after errors_old errors_new told_before told_after status =
-    (IsDelivered before after (fault_words wrong ++ codes "\n") (fault_status wrong) status × AppendsFront told_before told_after (said_of words wrong))
-    ⊎ (IsDelivered before after (codes "stopped memory\n") 1 status × (errors_new ≡ errors_old))
+abbrev pub IsExplained : {E : Type 0} → List (List ℕ) → Fault → Outputs E → Outputs E → ℕ → Type 0
+IsExplained words wrong before after status =
+    (IsDelivered before.written after.written (fault_words wrong ++ codes "\n") (fault_status wrong) status × AppendsFront before.told after.told (said_of words wrong))
+    ⊎ (IsDelivered before.written after.written (codes "stopped memory\n") 1 status × (after.errors ≡ before.errors))
 
 -- what is wrong with the words is told, in its line and to a person
-abbrev pub IsTold : {E : Type 0} → List (List ℕ) → Option (List ℕ) → Option (List ℕ) → E → E → Option (List ℕ) → Option (List ℕ) → ℕ → Type 0
-IsTold words before after errors_old errors_new told_before told_after status =
-    (wrong : Fault) × IsRefused words wrong × IsExplained words wrong before after errors_old errors_new told_before told_after status
+abbrev pub IsTold : {E : Type 0} → List (List ℕ) → Outputs E → Outputs E → ℕ → Type 0
+IsTold words before after status = (wrong : Fault) × IsRefused words wrong × IsExplained words wrong before after status
 
 -- ---- a site on the network
 

@@ -3,20 +3,19 @@ use Rattle.std.specs.Prelude.{◌≡◌, ◌⊎◌, ◌==◌, ℕ, List, [], ◌
 use Rattle.std.specs.Io.KnownBytes.{Appends}
 use Rattle.options.specs.declared.order.Order.{Order}
 use Rattle.fetcher.specs.declared.fetcher.Ask.{Ask}
-use Rattle.fetcher.specs.declared.outcome.Outcome.{Outcome}
-use Rattle.robots_rules.specs.Access.{RuleSetValue}
-use Rattle.frontier_core.specs.Tables.{Text}
+use Rattle.fetcher.specs.declared.fetcher.Fetcher.{Ghosts as Meaning}
 use Rattle.frontier_core.specs.declared.event.Event.{Event}
 use Rattle.answer_notes.specs.declared.noted.Noted.{Noted}
 use Rattle.site_records.specs.RecordSites.{RecordValue}
-use Rattle.site_records.specs.Resumption.{Resuming, resumption_of, SaysOr, RulesOr}
+use Rattle.site_records.specs.Resumption.{Resuming, Resumption, resumption_of, SaysOr, RulesOr}
 use Rattle.site_records.specs.WrittenRecords.{record_text}
 use Rattle.site_records.specs.declared.record_fault.RecordFault.{RecordFault}
 use Rattle.site_records.specs.declared.record_fault.RecordFault.TheVariants.{Device, Memory}
 use Rattle.streams.specs.Streams.{AppendsFront}
-use Rattle.workers.specs.Crews.{AreLater, all_gained, SomeSays, SomeRules}
-use Rattle.retriever.specs.Found.{Holding, LiveEnd, live_text, live_status}
-use Rattle.retriever.specs.Live.{AreOfCrew, EndsLive}
+use Rattle.workers.specs.Crews.{AreLater}
+use Rattle.local_tree.specs.Folders.{Holding}
+use Rattle.retriever.specs.Found.{crew_of, LiveEnd, live_text, live_status}
+use Rattle.retriever.specs.Live.{EndsLive}
 use Rattle.retriever.specs.Parts.{IsDelivered}
 use Rattle.report.specs.Trace.{trace_text}
 
@@ -42,18 +41,37 @@ IsSaved (Ok done) old new text = Appends old new text
 IsSaved (Err Device) old new text = AppendsFront old new text
 IsSaved (Err Memory) old new text = new ≡ old
 
+-- what a live run that saves has around it at one moment: the saved record's writer too, by what that got
+pub record OutsideSaved : Type 0 where
+  pub folder : Holding
+  pub written : Option (List ℕ)
+  pub saved : Option (List ℕ)
+
+-- these around it
+abbrev pub outside_saved : Holding → Option (List ℕ) → Option (List ℕ) → OutsideSaved
+outside_saved folder written saved = record { folder = folder; written = written; saved = saved }
+
+-- what fetchers mean, what each noted, and the notes that are given
+pub record Notes (F : Type 0) : Type 1 where
+  pub means : Meaning F
+  pub noted : F → List Noted
+  pub given : List Noted
+
+-- these notes
+abbrev pub notes_of : {F : Type 0} → Meaning F → (F → List Noted) → List Noted → Notes F
+notes_of m noted given = record { means = m; noted = noted; given = given }
+
 -- A live retrieval, as `Lives` has it, whose record is saved at its end, whatever that is: what was given, and behind it what
 -- each fetcher noted. What is told of that stands behind all else.
-pub record LivesSaved {F S : Type 0} (site : F → S) (says : S → Text → Outcome → List ℕ → Type 0) (rules : S → Text → RuleSetValue → Type 0) (log : F → List Ask)
-    (noted : F → List Noted) (order : Order) (given : List Noted) (fetchers : List F) (old new : Holding) (before after record_before record_after : Option (List ℕ)) (status : ℕ) : Type 0 where
+pub record LivesSaved {F : Type 0} (notes : Notes F) (order : Order) (fetchers : List F) (before after : OutsideSaved) (status : ℕ) : Type 0 where
   pub left : List F
-  pub later : AreLater site log fetchers left
+  pub later : AreLater notes.means fetchers left
   pub shown : List Event
   pub ending : LiveEnd
-  pub ends : EndsLive (SomeSays site says log fetchers left) (SomeRules site rules log fetchers left) (AreOfCrew log fetchers left) order (length fetchers) (all_gained log fetchers left) old new shown ending
+  pub ends : EndsLive (crew_of notes.means fetchers left) order before.folder after.folder shown ending
   pub saving : Result (Unit {0}) RecordFault
-  pub saved : IsSaved saving record_before record_after (record_text (given ++ flat_map noted left))
-  pub written : IsDelivered before after ((trace_text shown ++ live_text ending) ++ save_text saving) (save_status saving (live_status ending)) status
+  pub saved : IsSaved saving before.saved after.saved (record_text (notes.given ++ flat_map notes.noted left))
+  pub written : IsDelivered before.written after.written ((trace_text shown ++ live_text ending) ++ save_text saving) (save_status saving (live_status ending)) status
 
 -- ---- with a record that is resumed
 
@@ -61,15 +79,28 @@ pub record LivesSaved {F S : Type 0} (site : F → S) (says : S → Text → Out
 abbrev pub resuming_of : {F : Type 0} → (F → List Ask) → RecordValue → F → Resuming F
 resuming_of log recorded inner = record { recorded = recorded; inner = inner; asks = []; since = length (log inner) }
 
+-- what such fetchers mean, by what those mean that they ask
+abbrev pub resuming_means : {F : Type 0} → Meaning F → Meaning (Resuming F)
+resuming_means m =
+    record { Site = Resumption m.Site; site = resumption_of m.site m.log; says = SaysOr m.says; rules = RulesOr m.rules; log = λ r. r.asks }
+
 -- what fetchers noted that ask others for what a record doesn't state
 abbrev pub noted_within : {F : Type 0} → (F → List Noted) → Resuming F → List Noted
 noted_within noted resuming = noted resuming.inner
 
--- The same by fetchers that ask those given for what the record doesn't state, where the notes of the record are what is saved first. Or there was no memory for these fetchers: nothing
--- was asked, put or saved.
-abbrev pub LivesResumed : {F S : Type 0} → (F → S) → (S → Text → Outcome → List ℕ → Type 0) → (S → Text → RuleSetValue → Type 0) → (F → List Ask) → (F → List Noted)
-    → Order → RecordValue → List F → Holding → Holding → Option (List ℕ) → Option (List ℕ) → Option (List ℕ) → Option (List ℕ) → ℕ → Type 0
-LivesResumed site says rules log noted order recorded fetchers old new before after record_before record_after status =
-    LivesSaved (resumption_of site log) (SaysOr says) (RulesOr rules) (λ r. r.asks) (noted_within noted) order recorded.notes (map (resuming_of log recorded) fetchers) old new
-    before after record_before record_after status
-    ⊎ (IsDelivered before after (codes "stopped memory\n") 1 status × (new ≡ old) × (record_after ≡ record_before))
+-- what fetchers mean, what each noted, and the record that is resumed
+pub record Resumes (F : Type 0) : Type 1 where
+  pub means : Meaning F
+  pub noted : F → List Noted
+  pub recorded : RecordValue
+
+-- this record is resumed
+abbrev pub resumes : {F : Type 0} → Meaning F → (F → List Noted) → RecordValue → Resumes F
+resumes m noted recorded = record { means = m; noted = noted; recorded = recorded }
+
+-- The same by fetchers that ask those given for what the record doesn't state, where the notes of the record are what is saved
+-- first. Or there was no memory for these fetchers: nothing was asked, put or saved.
+abbrev pub LivesResumed : {F : Type 0} → Resumes F → Order → List F → OutsideSaved → OutsideSaved → ℕ → Type 0
+LivesResumed resumed order fetchers before after status =
+    LivesSaved (notes_of (resuming_means resumed.means) (noted_within resumed.noted) resumed.recorded.notes) order (map (resuming_of resumed.means.log resumed.recorded) fetchers) before after status
+    ⊎ (IsDelivered before.written after.written (codes "stopped memory\n") 1 status × (after.folder ≡ before.folder) × (after.saved ≡ before.saved))

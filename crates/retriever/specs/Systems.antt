@@ -4,6 +4,7 @@ use Rattle.std.specs.declared.io.Write.{Ghosts as Writers}
 use Rattle.options.specs.declared.order.Order.{Order}
 use Rattle.options.specs.Order.{kept_of}
 use Rattle.fetcher.specs.declared.fetcher.Fetcher.{Ghosts as Fetchers}
+use Rattle.local_tree.specs.Folders.{Holding, holding}
 use Rattle.local_tree.specs.declared.folder.Folder.{Ghosts as Folders}
 use Rattle.answer_notes.specs.declared.noted.Noted.{Noted}
 use Rattle.site_inputs.specs.declared.input_fault.InputFault.TheVariants as input
@@ -12,11 +13,10 @@ use Rattle.site_records.specs.Entries.{Entry}
 use Rattle.site_records.specs.RecordNotes.{HasNotes}
 use Rattle.site_records.specs.RecordSites.{RecordValue}
 use Rattle.site_records.specs.Records.{IsRecord, IsFault, answers_of, rules_of}
-use Rattle.site_records.specs.Resumption.{resumption_of, SaysOr, RulesOr}
-use Rattle.retriever.specs.Found.{Holding, holding}
+use Rattle.retriever.specs.Found.{outside}
 use Rattle.retriever.specs.Live.{Lives}
 use Rattle.retriever.specs.Resuming.{IsUnresumed}
-use Rattle.retriever.specs.Saving.{LivesResumed, resuming_of}
+use Rattle.retriever.specs.Saving.{LivesResumed, outside_saved, resumes, resuming_means, resuming_of}
 use Rattle.retriever.specs.declared.resume_fault.ResumeFault.{ResumeFault}
 use Rattle.retriever.specs.declared.resume_fault.ResumeFault.TheVariants.{Read, Input, Refused}
 use Rattle.retriever.specs.declared.system.System.{Ghosts as Systems}
@@ -65,7 +65,7 @@ module _ {S F D V : Type 0} (m : Means S F D V) where
     pub folder : D
     pub given : AreGiven order false fetchers folder
     pub left : D
-    pub lives : Lives m.fetchers.site m.fetchers.says m.fetchers.rules m.fetchers.log order fetchers (held folder) (held left) before after status
+    pub lives : Lives m.fetchers order fetchers (outside (held folder) before) (outside (held left) after) status
 
   -- this is recorded in the file that the order resumes, or in a record without entries where it resumes none
   abbrev pub IsResumed : Order → RecordValue → Type 0
@@ -81,8 +81,7 @@ module _ {S F D V : Type 0} (m : Means S F D V) where
     pub folder : D
     pub given : AreGiven order false fetchers folder
     pub left : D
-    pub lives : Lives (resumption_of m.fetchers.site m.fetchers.log) (SaysOr m.fetchers.says) (RulesOr m.fetchers.rules) (λ r. r.asks) order
-        (map (resuming_of m.fetchers.log recorded) fetchers) (held folder) (held left) before after status
+    pub lives : Lives (resuming_means m.fetchers) order (map (resuming_of m.fetchers.log recorded) fetchers) (outside (held folder) before) (outside (held left) after) status
 
   -- the same, where the notes of what is recorded, and what such fetchers note, are saved at this path
   pub record LivesSaving (order : Order) (path : List ℕ) (before after : Option (List ℕ)) (status : ℕ) : Type 0 where
@@ -95,19 +94,19 @@ module _ {S F D V : Type 0} (m : Means S F D V) where
     pub record_begun : V
     pub named : m.gives.names m.system path record_begun
     pub record_left : V
-    pub lives : LivesResumed m.fetchers.site m.fetchers.says m.fetchers.rules m.fetchers.log m.noted order recorded fetchers (held folder) (held left) before after
-        (m.records.contents record_begun) (m.records.contents record_left) status
+    pub lives : LivesResumed (resumes m.fetchers m.noted recorded) order fetchers (outside_saved (held folder) before (m.records.contents record_begun))
+        (outside_saved (held left) after (m.records.contents record_left)) status
 
   -- one of the last two, by where the order saves
   abbrev pub LivesWith : Option (List ℕ) → Order → Option (List ℕ) → Option (List ℕ) → ℕ → Type 0
   LivesWith None order before after status = LivesAgain order before after status
   LivesWith (Some path) order before after status = LivesSaving order path before after status
 
-  -- one of the three, by whether the order resumes and saves
-  abbrev pub LivesBy : Option (List ℕ) → Option (List ℕ) → Order → Option (List ℕ) → Option (List ℕ) → ℕ → Type 0
-  LivesBy None None order before after status = LivesPlainly order before after status
-  LivesBy None (Some path) order before after status = LivesWith (Some path) order before after status
-  LivesBy (Some from) save order before after status = LivesWith save order before after status
+  -- one of the three, by what the order resumes and where it saves
+  abbrev pub LivesBy : Option (List ℕ) × Option (List ℕ) → Order → Option (List ℕ) → Option (List ℕ) → ℕ → Type 0
+  LivesBy (None, None) order before after status = LivesPlainly order before after status
+  LivesBy (None, Some path) order before after status = LivesWith (Some path) order before after status
+  LivesBy (Some from, save) order before after status = LivesWith save order before after status
 
   -- why the file that the order resumes can't be, or none may stand where it saves
   abbrev pub IsNotResumed : Order → ResumeFault → Type 0
@@ -119,4 +118,4 @@ module _ {S F D V : Type 0} (m : Means S F D V) where
   -- the live retrieval that is ordered, or the line that tells why its record can't be resumed, or of want of memory
   abbrev pub LivesIn : Order → Option (List ℕ) → Option (List ℕ) → ℕ → Type 0
   LivesIn order before after status =
-      LivesBy order.resume order.save order before after status ⊎ ((wrong : ResumeFault) × IsNotResumed order wrong × IsUnresumed before after wrong status)
+      LivesBy (order.resume, order.save) order before after status ⊎ ((wrong : ResumeFault) × IsNotResumed order wrong × IsUnresumed before after wrong status)

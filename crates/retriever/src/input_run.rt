@@ -6,7 +6,7 @@ ghost use Rattle.frontier_core.specs.Routes.{Answers};
 ghost use Rattle.workers.specs.Sites.{Fits};
 ghost use Rattle.options.specs.Order.{order_of, said_by};
 ghost use Rattle.retriever.specs.Order.{AreForInput};
-ghost use Rattle.retriever.specs.InputFound.{TellsOf, TellsFault, FindsIn};
+ghost use Rattle.retriever.specs.InputFound.{TellsOf, TellsFault, FindsIn, map_form, record_form};
 ghost use Rattle.retriever.specs.Site.{IsMapOf, IsRecordOf, IsToldBy, without_bodies};
 ghost use Rattle.retriever.specs.Parts.{IsDelivered, IsRefusal};
 ghost use Rattle.retriever.specs.inner.Parts.{IsOutput, IsOutputOf, IsUnfit};
@@ -142,9 +142,9 @@ pub fn run_of_order<H: Threads + Wait + Sync, R: Read, W: Write>(
 ) -> u8
     // What is found and what comes of it, by the order.
     ensures of_map { order.now.source ≡ Source.Map
-        → FindsIn IsMapOf IsFaultOfMap order.now (R.remaining reader.old) (W.contents writer.old) (W.contents writer.new) result }
-    ensures of_record { order.now.source ≡ Source.Recorded → FindsIn (IsRecordOf order.now.plan.robots) (IsFaultOfRecord order.now.plan.robots) order.now
-        (R.remaining reader.old) (W.contents writer.old) (W.contents writer.new) result }
+        → FindsIn map_form order.now (R.remaining reader.old) (W.contents writer.old) (W.contents writer.new) result }
+    ensures of_record { order.now.source ≡ Source.Recorded
+        → FindsIn (record_form order.now.plan.robots) order.now (R.remaining reader.old) (W.contents writer.old) (W.contents writer.new) result }
 
     // By the words that order it, with the events that led there.
     ensures runs { (words : List (List ℕ)) → order_of words ≡ Ok (said_by order.now)

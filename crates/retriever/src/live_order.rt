@@ -231,7 +231,7 @@ fn live_in<H: Threads + Wait + Sync, S: System, W: Write>(
     order: &Order,
     writer: &mut W,
 ) -> Result<u8, ResumeFault>
-    ensures lives { IfOk result (LivesBy (means S.System system.now S.Fetcher.Fetcher S.Fetcher.noted S.Folder.Folder S.Record.Write) order.now.resume order.now.save order.now (W.contents writer.old) (W.contents writer.new)) }
+    ensures lives { IfOk result (LivesBy (means S.System system.now S.Fetcher.Fetcher S.Fetcher.noted S.Folder.Folder S.Record.Write) (order.now.resume, order.now.save) order.now (W.contents writer.old) (W.contents writer.new)) }
     ensures unresumed { IfErr result (IsNotResumed (means S.System system.now S.Fetcher.Fetcher S.Fetcher.noted S.Folder.Folder S.Record.Write) order.now) }
     ensures unwritten { OnErr result (writer.new ≡ writer.old) }
 {

@@ -1,11 +1,12 @@
 //! A live retrieval: fetchers ask the site, its kept pages are put into a folder, and then the report is written.
 ghost use Rattle.std.specs.Prelude.{◌≡◌, ◌<◌, ◌≤◌, ◌++◌, IfOk, Ok, length, map, string_bytes, vec_len};
 ghost use Rattle.report.specs.ExitStatus.{exit_status};
+ghost use Rattle.local_tree.specs.Folders.{holding};
 ghost use Rattle.local_tree.specs.Names.{AreDistinct};
-ghost use Rattle.retriever.specs.Found.{Finds, holding, torn_line};
+ghost use Rattle.retriever.specs.Found.{Finds, outside, torn_line};
 ghost use Rattle.retriever.specs.Live.{Lives};
 ghost use Rattle.retriever.specs.inner.Live.{IsTornTold};
-ghost use Rattle.retriever.specs.inner.Parts.{IsRead, IsToldAs, status_told};
+ghost use Rattle.retriever.specs.inner.Parts.{IsToldAs, status_told};
 ghost use Rattle.retriever.specs.inner.Puts.{IsHaltTold, IsPutAndTold, IsPutOf, bare_cause, files_whole};
 ghost use Rattle.retriever.specs.Retrieved.{Stopped};
 ghost use Rattle.retriever.specs.Run.{finish_text};
@@ -123,8 +124,8 @@ fn put_and_tell<D: Folder, W: Write>(
 ) -> Result<u8, WriteFailed>
     requires count { length names.now ≡ length harvest.now.kept }
     requires distinct { AreDistinct (map string_bytes names.now) }
-    ensures { IsPutAndTold (IsToldAs (W.contents writer.old) (W.contents writer.new) result) (map string_bytes names.now) harvest.now.bodies text.now
-        (exit_status (map (λ recorded. recorded.1) harvest.now.records)) (holding D.files D.failed folder.old) (holding D.files D.failed folder.new) }
+    ensures { IsPutAndTold (IsToldAs (W.contents writer.old) (W.contents writer.new) result) (map string_bytes names.now) harvest.now.bodies
+        (text.now, exit_status (map (λ recorded. recorded.1) harvest.now.records)) (holding D.files D.failed folder.old) (holding D.files D.failed folder.new) }
 {
     match write_site(folder, names, harvest) {
         Ok(()) => tell_report(harvest, text, writer),
@@ -140,9 +141,8 @@ fn finish_harvest<D: Folder, W: Write>(
     folder: &mut D,
     writer: &mut W,
 ) -> Result<u8, WriteFailed>
-    ensures told { IsPutOf (IsToldAs (W.contents writer.old) (W.contents writer.new) result) is_shown (Ok harvest.now)
+    ensures { IsPutOf (IsToldAs (W.contents writer.old) (W.contents writer.new) result) is_shown (Ok harvest.now)
         (holding D.files D.failed folder.old) (holding D.files D.failed folder.new) }
-    ensures read { IsRead harvest.now }
 {
     match telling_of(alloc, is_shown, harvest) {
         Ok(telling) => put_and_tell(
@@ -165,9 +165,8 @@ pub(crate) fn finish<D: Folder, W: Write>(
     folder: &mut D,
     writer: &mut W,
 ) -> Result<u8, WriteFailed>
-    ensures told { IsPutOf (IsToldAs (W.contents writer.old) (W.contents writer.new) result) is_shown retrieved.now
+    ensures { IsPutOf (IsToldAs (W.contents writer.old) (W.contents writer.new) result) is_shown retrieved.now
         (holding D.files D.failed folder.old) (holding D.files D.failed folder.new) }
-    ensures read { IfOk retrieved.now IsRead }
 {
     match retrieved {
         Ok(harvest) => finish_harvest(alloc, is_shown, harvest, folder, writer),
@@ -198,8 +197,8 @@ pub(crate) fn live_shown<H: Threads + Wait + Sync, F: Fetcher + Send, D: Folder,
 ) -> (u8, Result<Harvest, Halt>)
     requires some { 0 < vec_len fetchers }
     requires most { vec_len fetchers ≤ 64 }
-    ensures lives { Lives F.site F.says F.rules F.log order.now fetchers.items (holding D.files D.failed folder.old) (holding D.files D.failed folder.new)
-        (W.contents writer.old) (W.contents writer.new) result.0 }
+    ensures lives { Lives F.Fetcher order.now fetchers.items (outside (holding D.files D.failed folder.old) (W.contents writer.old))
+        (outside (holding D.files D.failed folder.new) (W.contents writer.new)) result.0 }
 {
     let (retrieved, left) = workers::retrieve_shown(rt, alloc, &order.plan, fetchers, waiting);
     // They are dropped before a report is made.
@@ -225,11 +224,11 @@ pub fn live<H: Threads + Wait + Sync, F: Fetcher + Send, D: Folder, W: Write>(
     requires some { 0 < vec_len fetchers }
     requires most { vec_len fetchers ≤ 64 }
     // What was found and what came of it.
-    ensures finds { Finds F.site F.says F.rules F.log order.now fetchers.items (holding D.files D.failed folder.old) (holding D.files D.failed folder.new)
-        (W.contents writer.old) (W.contents writer.new) result }
+    ensures finds { Finds F.Fetcher order.now fetchers.items (outside (holding D.files D.failed folder.old) (W.contents writer.old))
+        (outside (holding D.files D.failed folder.new) (W.contents writer.new)) result }
     // And which events led there.
-    ensures lives { Lives F.site F.says F.rules F.log order.now fetchers.items (holding D.files D.failed folder.old) (holding D.files D.failed folder.new)
-        (W.contents writer.old) (W.contents writer.new) result }
+    ensures lives { Lives F.Fetcher order.now fetchers.items (outside (holding D.files D.failed folder.old) (W.contents writer.old))
+        (outside (holding D.files D.failed folder.new) (W.contents writer.new)) result }
 {
     let (status, _retrieved) = live_shown(rt, alloc, order, fetchers, folder, writer, None);
     status

@@ -5,8 +5,8 @@ ghost use Rattle.std.specs.Vec.Iter.{into_iter_items};
 ghost use Rattle.options.specs.Order.{order_of, said_by};
 ghost use Rattle.retriever.specs.Advice.{said_of};
 ghost use Rattle.retriever.specs.Order.{AreForInput, AreForLive};
-ghost use Rattle.retriever.specs.Program.{IsExplained, IsTold, LivesFor, words_behind, words_fault};
-ghost use Rattle.retriever.specs.inner.Program.{Starts};
+ghost use Rattle.retriever.specs.Program.{IsExplained, IsTold, LivesFor, outputs, words_behind, words_fault};
+ghost use Rattle.retriever.specs.inner.Program.{Starts, all_streams};
 ghost use Rattle.retriever.specs.Run.{Runs, fault_words};
 ghost use Rattle.retriever.specs.Systems.{means};
 ghost use Rattle.streams.specs.Streams.{AppendsFront};
@@ -109,8 +109,8 @@ fn explain<W: Write, E: Write>(
     writer: &mut W,
     errors: &mut E,
 ) -> u8
-    ensures explained { IsExplained (map (λ word. word.now) words.now) fault (W.contents writer.old) (W.contents writer.new) errors.old errors.new
-        (E.contents errors.old) (E.contents errors.new) result }
+    ensures explained { IsExplained (map (λ word. word.now) words.now) fault (outputs E.contents (W.contents writer.old) errors.old)
+        (outputs E.contents (W.contents writer.new) errors.new) result }
     ensures quiet { said_of (map (λ word. word.now) words.now) fault ≡ [] → errors.new ≡ errors.old }
 {
     match refusal_of(alloc, fault, words) {
@@ -155,7 +155,7 @@ fn run_texts<H: Threads + Wait + Sync, S: System, R: Read, W: Write, E: Write>(
     errors: &mut E,
 ) -> u8
     ensures { Starts (LivesFor (means S.System system.now S.Fetcher.Fetcher S.Fetcher.noted S.Folder.Folder S.Record.Write) (W.contents writer.old) (W.contents writer.new) result)
-        (R.remaining reader.old) (W.contents writer.old) (W.contents writer.new) reader.old reader.new errors.old errors.new (E.contents errors.old) (E.contents errors.new) result
+        (all_streams R.remaining reader.old (outputs E.contents (W.contents writer.old) errors.old)) (all_streams R.remaining reader.new (outputs E.contents (W.contents writer.new) errors.new)) result
         (map (λ word. word.now) words.now) }
 {
     match read_order(alloc, words) {
@@ -175,7 +175,7 @@ fn run_words<H: Threads + Wait + Sync, S: System, R: Read, W: Write, E: Write>(
     errors: &mut E,
 ) -> u8
     ensures { Starts (LivesFor (means S.System system.now S.Fetcher.Fetcher S.Fetcher.noted S.Folder.Folder S.Record.Write) (W.contents writer.old) (W.contents writer.new) result)
-        (R.remaining reader.old) (W.contents writer.old) (W.contents writer.new) reader.old reader.new errors.old errors.new (E.contents errors.old) (E.contents errors.new) result
+        (all_streams R.remaining reader.old (outputs E.contents (W.contents writer.old) errors.old)) (all_streams R.remaining reader.new (outputs E.contents (W.contents writer.new) errors.new)) result
         (words_behind all.now) }
 {
     match texts_behind(alloc, all) {
@@ -195,7 +195,7 @@ fn run_args<H: Threads + Wait + Sync, S: System, R: Read, W: Write, E: Write>(
     errors: &mut E,
 ) -> u8
     ensures { Starts (LivesFor (means S.System system.now S.Fetcher.Fetcher S.Fetcher.noted S.Folder.Folder S.Record.Write) (W.contents writer.old) (W.contents writer.new) result)
-        (R.remaining reader.old) (W.contents writer.old) (W.contents writer.new) reader.old reader.new errors.old errors.new (E.contents errors.old) (E.contents errors.new) result
+        (all_streams R.remaining reader.old (outputs E.contents (W.contents writer.old) errors.old)) (all_streams R.remaining reader.new (outputs E.contents (W.contents writer.new) errors.new)) result
         (words_behind (into_iter_items args)) }
 {
     match all_words(alloc, args) {
@@ -227,10 +227,10 @@ pub fn run_program<H: Threads + Wait + Sync, S: System, R: Read, W: Write, E: Wr
         → LivesFor (means S.System system.now S.Fetcher.Fetcher S.Fetcher.noted S.Folder.Folder S.Record.Write) (W.contents writer.old) (W.contents writer.new) result (words_behind (into_iter_items all))) }
     ensures unread { IfOk args (λ all. ¬ AreForInput (words_behind (into_iter_items all)) → reader.new ≡ reader.old) }
     ensures told { IfOk args (λ all. ¬ AreForInput (words_behind (into_iter_items all)) → ¬ AreForLive (words_behind (into_iter_items all))
-        → IsTold (words_behind (into_iter_items all)) (W.contents writer.old) (W.contents writer.new) errors.old errors.new (E.contents errors.old) (E.contents errors.new) result) }
+        → IsTold (words_behind (into_iter_items all)) (outputs E.contents (W.contents writer.old) errors.old) (outputs E.contents (W.contents writer.new) errors.new) result) }
     ensures quiet { IfOk args (λ all. AreForInput (words_behind (into_iter_items all)) ⊎ AreForLive (words_behind (into_iter_items all)) → errors.new ≡ errors.old) }
-    ensures refused { IfErr args (λ error. IsExplained [] (words_fault (error_kind error)) (W.contents writer.old) (W.contents writer.new) errors.old errors.new
-        (E.contents errors.old) (E.contents errors.new) result) }
+    ensures refused { IfErr args (λ error. IsExplained [] (words_fault (error_kind error)) (outputs E.contents (W.contents writer.old) errors.old)
+        (outputs E.contents (W.contents writer.new) errors.new) result) }
     ensures untouched { IfErr args (λ error. reader.new ≡ reader.old) }
 {
     match args {

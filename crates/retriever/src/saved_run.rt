@@ -1,10 +1,10 @@
 //! A live retrieval that goes on from a record, and whose answers are saved as one.
 ghost use Rattle.std.specs.Prelude.{◌≡◌, ◌≢◌, ◌<◌, ◌≤◌, ◌++◌, ℕ, List, Option, IfOk, flat_map, map, vec_len};
 ghost use Rattle.site_records.specs.WrittenRecords.{all_noted, record_text};
-ghost use Rattle.retriever.specs.Found.{holding};
+ghost use Rattle.local_tree.specs.Folders.{holding};
 ghost use Rattle.retriever.specs.Parts.{IsDelivered};
 ghost use Rattle.retriever.specs.inner.Parts.{IsToldAs};
-ghost use Rattle.retriever.specs.Saving.{IsSaved, LivesResumed, LivesSaved, resuming_of, save_status, save_text, unsaved_status};
+ghost use Rattle.retriever.specs.Saving.{IsSaved, LivesResumed, LivesSaved, notes_of, outside_saved, resumes, resuming_of, save_status, save_text, unsaved_status};
 
 use crate::input_run::deliver;
 use crate::live_run::finish;
@@ -121,8 +121,8 @@ pub(crate) fn live_saved<
 ) -> (u8, Result<Harvest, Halt>)
     requires some { 0 < vec_len fetchers }
     requires most { vec_len fetchers ≤ 64 }
-    ensures { LivesSaved F.site F.says F.rules F.log F.noted order.now given.now fetchers.items (holding D.files D.failed folder.old) (holding D.files D.failed folder.new)
-        (W.contents writer.old) (W.contents writer.new) (V.contents saved.old) (V.contents saved.new) result.0 }
+    ensures { LivesSaved (notes_of F.Fetcher F.noted given.now) order.now fetchers.items (outside_saved (holding D.files D.failed folder.old) (W.contents writer.old) (V.contents saved.old))
+        (outside_saved (holding D.files D.failed folder.new) (W.contents writer.new) (V.contents saved.new)) result.0 }
 {
     let (retrieved, left) = workers::retrieve_shown(rt, alloc, &order.plan, fetchers, waiting);
     let saving = save(alloc, given, left.as_slice(), saved);
@@ -149,8 +149,8 @@ pub fn live_resumed<H: Threads + Wait + Sync, F: Recording + Send, D: Folder, W:
 ) -> u8
     requires some { 0 < vec_len fetchers }
     requires most { vec_len fetchers ≤ 64 }
-    ensures lives { LivesResumed F.site F.says F.rules F.log F.noted order.now recorded.now fetchers.items (holding D.files D.failed folder.old)
-        (holding D.files D.failed folder.new) (W.contents writer.old) (W.contents writer.new) (V.contents saved.old) (V.contents saved.new) result }
+    ensures lives { LivesResumed (resumes F.Fetcher F.noted recorded.now) order.now fetchers.items (outside_saved (holding D.files D.failed folder.old) (W.contents writer.old) (V.contents saved.old))
+        (outside_saved (holding D.files D.failed folder.new) (W.contents writer.new) (V.contents saved.new)) result }
 {
     match resuming(alloc, recorded, fetchers) {
         Ok(resuming) => {

@@ -52,11 +52,8 @@ pub(crate) fn telling_of(
     ensures distinct { IfOk result (λ telling. AreDistinct (map string_bytes telling.names.items)) }
     ensures text { IfOk result (λ telling. string_bytes telling.text
         ≡ trace_text (shown_of is_shown harvest.now.trace) ++ report_text (lines_of harvest.now (map string_bytes telling.names.items))) }
-    ensures read { IsRead harvest.now }
+    ensures read { IfOk result (λ telling. IsRead harvest.now) }
 {
-    // The entries and the records say what the frontier holds.
-    let _entries = harvest.entries();
-    let _records = harvest.records();
     let trace = harvest.trace();
     let names = names(alloc, harvest.kept())?;
     let report = report_text(alloc, harvest, names.as_slice())?;
@@ -94,8 +91,7 @@ pub(crate) fn told_of(
     is_shown: bool,
     retrieved: &Result<Harvest, Halt>,
 ) -> Result<Output, AllocError>
-    ensures told { IfOk result (λ output. IsToldOf is_shown retrieved.now (string_bytes output.text) output.status) }
-    ensures read { IfOk retrieved.now IsRead }
+    ensures { IfOk result (λ output. IsToldOf is_shown retrieved.now (string_bytes output.text) output.status) }
 {
     match retrieved {
         Ok(harvest) => {

@@ -2,14 +2,23 @@
 use Rattle.std.specs.Prelude.{◌≡◌, ◌⊎◌, ℕ, List, Option}
 use Rattle.retriever.specs.Order.{AreForInput, AreForLive}
 use Rattle.retriever.specs.Run.{Runs}
-use Rattle.retriever.specs.Program.{IsTold}
+use Rattle.retriever.specs.Program.{Outputs, IsTold}
+
+-- the streams of the program at one moment: its reader with what that has left, and its outputs
+pub record Streams (R E : Type 0) : Type 0 where
+  pub reader : R
+  pub remaining : Option (List ℕ)
+  pub outputs : Outputs E
+
+-- these streams
+abbrev pub all_streams : {R E : Type 0} → (R → Option (List ℕ)) → R → Outputs E → Streams R E
+all_streams remaining reader outputs = record { reader = reader; remaining = remaining reader; outputs = outputs }
 
 -- What becomes of the words: those that order a site on the network are retrieved live, and others run. No byte of the
 -- reader is read but of words for an input, and a person is told of words that order nothing.
-pub record Starts {R E : Type 0} (Lives : List (List ℕ) → Type 0) (remaining before after : Option (List ℕ)) (reader_old reader_new : R) (errors_old errors_new : E)
-    (told_before told_after : Option (List ℕ)) (status : ℕ) (words : List (List ℕ)) : Type 0 where
-  pub runs : ¬ AreForLive words → Runs words remaining before after status
+pub record Starts {R E : Type 0} (Lives : List (List ℕ) → Type 0) (before after : Streams R E) (status : ℕ) (words : List (List ℕ)) : Type 0 where
+  pub runs : ¬ AreForLive words → Runs words before.remaining before.outputs.written after.outputs.written status
   pub lives : AreForLive words → Lives words
-  pub unread : ¬ AreForInput words → reader_new ≡ reader_old
-  pub told : ¬ AreForInput words → ¬ AreForLive words → IsTold words before after errors_old errors_new told_before told_after status
-  pub quiet : AreForInput words ⊎ AreForLive words → errors_new ≡ errors_old
+  pub unread : ¬ AreForInput words → after.reader ≡ before.reader
+  pub told : ¬ AreForInput words → ¬ AreForLive words → IsTold words before.outputs after.outputs status
+  pub quiet : AreForInput words ⊎ AreForLive words → after.outputs.errors ≡ before.outputs.errors

@@ -5,6 +5,7 @@ use Rattle.frontier_core.specs.declared.event.Cause.{Cause}
 use Rattle.frontier_core.specs.declared.event.Cause.TheVariants as cause
 use Rattle.harvest.specs.Harvests.{Harvested}
 use Rattle.workers.specs.declared.retrieval.Halt.{Halt}
+use Rattle.local_tree.specs.Folders.{Holding}
 use Rattle.local_tree.specs.Names.{IsNaming}
 use Rattle.local_tree.specs.PlainNames.{plain_name_of}
 use Rattle.local_tree.specs.SiteFiles.{IsWhole, IsTorn}
@@ -13,10 +14,9 @@ use Rattle.local_tree.specs.declared.site_files.WriteFault.TheVariants.{Device}
 use Rattle.report.specs.Entries.{lines_of}
 use Rattle.report.specs.ExitStatus.{exit_status}
 use Rattle.report.specs.Report.{report_text}
-use Rattle.retriever.specs.Found.{Holding}
 use Rattle.retriever.specs.inner.Live.{IsTornTold}
 use Rattle.retriever.specs.Parts.{shown_of}
-use Rattle.retriever.specs.inner.Parts.{is_borne_out}
+use Rattle.retriever.specs.inner.Parts.{IsRead, is_borne_out}
 use Rattle.retriever.specs.Retrieved.{Stopped}
 use Rattle.retriever.specs.Run.{finish_text}
 use Rattle.report.specs.Trace.{trace_text}
@@ -37,21 +37,21 @@ IsHaltTold IsTold is_shown halt =
 abbrev pub files_whole : WriteFault → ℕ
 files_whole (Device whole) = whole
 
--- these files were put, and then the text was told with this status, or a put failed
-abbrev pub IsPutAndTold : (List ℕ → ℕ → Type 0) → List (List ℕ) → List (List ℕ) → List ℕ → ℕ → Holding → Holding → Type 0
-IsPutAndTold IsTold names bodies text wanted old new =
+-- these files were put, and then this text was told with this status, or a put failed
+abbrev pub IsPutAndTold : (List ℕ → ℕ → Type 0) → List (List ℕ) → List (List ℕ) → List ℕ × ℕ → Holding → Holding → Type 0
+IsPutAndTold IsTold names bodies (text, wanted) old new =
     (IsWhole names bodies old.files new.files × (new.failed ≡ old.failed) × IsTold text wanted)
-    ⊎ ((whole : ℕ) × IsTorn names bodies old.files new.files old.failed new.failed whole × IsTornTold IsTold text whole)
+    ⊎ ((whole : ℕ) × IsTorn names bodies old new whole × IsTornTold IsTold text whole)
 
 -- the text of a harvest whose kept pages have these names
 abbrev pub harvest_text : Bool → Harvested → List (List ℕ) → List ℕ
 harvest_text is_shown h names = trace_text (shown_of is_shown h.trace) ++ report_text (lines_of h names)
 
--- what is put and told of what was retrieved: the kept pages and the report, or the line of the cause for which it
--- stopped; or there is no memory for it, and nothing is put
+-- what is put and told of what was retrieved: the kept pages and the report of a harvest that was read, or the line of the
+-- cause for which it stopped; or there is no memory for it, and nothing is put
 abbrev pub IsPutOf : (List ℕ → ℕ → Type 0) → Bool → Result Harvested Halt → Holding → Holding → Type 0
 IsPutOf IsTold is_shown (Ok h) old new =
     ((new ≡ old) × IsTold (codes "stopped memory\n") 1)
-    ⊎ ((names : List (List ℕ)) × IsNaming (map plain_name_of h.kept) names
-    × IsPutAndTold IsTold names h.bodies (harvest_text is_shown h names) (exit_status (map (λ recorded. recorded.1) h.records)) old new)
+    ⊎ (IsRead h × (names : List (List ℕ)) × IsNaming (map plain_name_of h.kept) names
+    × IsPutAndTold IsTold names h.bodies (harvest_text is_shown h names, exit_status (map (λ recorded. recorded.1) h.records)) old new)
 IsPutOf IsTold is_shown (Err halt) old new = (new ≡ old) × IsHaltTold IsTold is_shown halt

@@ -1,19 +1,18 @@
 -- The fetchers, the folder and the record's writer are the system's, each fetcher behind the record, whose notes are saved first.
 use Rattle.std.proofs.Common.{◌∙◌, ℕ, List, inl, sym, subst}
 use Rattle.answer_notes.specs.declared.noted.Noted.{Noted}
-use Rattle.site_records.specs.Resumption.{Resuming, resumption_of, SaysOr, RulesOr}
-use Rattle.retriever.specs.Found.{holding}
-use Rattle.retriever.specs.Saving.{LivesSaved, noted_within}
+use Rattle.local_tree.specs.Folders.{holding}
+use Rattle.site_records.specs.Resumption.{Resuming}
+use Rattle.retriever.specs.Saving.{LivesSaved, notes_of, noted_within, outside_saved, resuming_means}
 use Rattle.retriever.proofs.live_order.live_saving.Goals as goal
 
 pub returns-clause-lives : goal.returns-clause-lives
 returns-clause-lives g c =
-    let F = g.S.Fetcher.Fetcher in
     let D = g.S.Folder.Folder in
     let V = g.S.Record.Write in
-    let lives = λ (given : List Noted) (all : List (Resuming _)). LivesSaved (resumption_of F.site F.log) (SaysOr F.says) (RulesOr F.rules) (λ r. r.asks)
-    (noted_within g.S.Fetcher.Recording.noted) c.args.order.now given all (holding D.files D.failed c.in_ok-folder.folder) (holding D.files D.failed c.live_saved-status.new.folder)
-    (g.W.Write.contents c.args.writer.now) (g.W.Write.contents c.live_saved-status.new.writer) (V.contents c.in_ok-saved.saved) (V.contents c.live_saved-status.new.saved) c.live_saved-status.result.0 in
+    let lives = λ (given : List Noted) (all : List (Resuming _)). LivesSaved (notes_of (resuming_means g.S.Fetcher.Fetcher) (noted_within g.S.Fetcher.Recording.noted) given) c.args.order.now all
+    (outside_saved (holding D.files D.failed c.in_ok-folder.folder) (g.W.Write.contents c.args.writer.now) (V.contents c.in_ok-saved.saved))
+    (outside_saved (holding D.files D.failed c.live_saved-status.new.folder) (g.W.Write.contents c.live_saved-status.new.writer) (V.contents c.live_saved-status.new.saved)) c.live_saved-status.result.0 in
     let of_record = subst (λ (given : List Noted). lives given c.in_ok-resumed.resumed.items) c.notes.ensures c.live_saved-status.ensures in
     record {
       recorded = c.args.recorded.now;

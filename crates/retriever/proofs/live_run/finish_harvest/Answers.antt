@@ -1,13 +1,13 @@
 -- What is put has the names, and what is told the text, of the harvest.
 use Rattle.std.proofs.Common.{◌∙◌, ℕ, List, String, Global, inr, map, string_bytes, subst}
 use Rattle.report.specs.ExitStatus.{exit_status}
-use Rattle.retriever.specs.Found.{holding}
+use Rattle.local_tree.specs.Folders.{holding}
 use Rattle.retriever.specs.inner.Parts.{IsToldAs}
 use Rattle.retriever.specs.inner.Puts.{IsPutAndTold}
 use Rattle.retriever.proofs.live_run.finish_harvest.Goals as goal
 
-pub returns-in-Ok-clause-told : goal.returns-in-Ok-clause-told
-returns-in-Ok-clause-told g c =
+pub returns-in-Ok : goal.returns-in-Ok
+returns-in-Ok g c =
     let telling = c.in-Ok.telling in
     let given = c.in-Ok.ensures in
     let h = c.args.harvest.now in
@@ -16,8 +16,9 @@ returns-in-Ok-clause-told g c =
     let is_told = IsToldAs (g.W.Write.contents c.args.writer.now) (g.W.Write.contents c.put_and_tell.new.writer) c.put_and_tell.result in
     let wanted = exit_status (map (λ recorded. recorded.1) h.records) in
     inr (
+      given.read,
       map string_bytes telling.names.items,
       given.naming,
-      subst (λ (text : List ℕ). IsPutAndTold is_told (map string_bytes telling.names.items) h.bodies text wanted old new) (c.as_str.ensures.value ∙ given.text)
-          (subst (λ (names : List (String Global)). IsPutAndTold is_told (map string_bytes names) h.bodies c.as_str.result.now wanted old new) c.as_slice.ensures.value c.put_and_tell.ensures),
+      subst (λ (text : List ℕ). IsPutAndTold is_told (map string_bytes telling.names.items) h.bodies (text, wanted) old new) (c.as_str.ensures.value ∙ given.text)
+          (subst (λ (names : List (String Global)). IsPutAndTold is_told (map string_bytes names) h.bodies (c.as_str.result.now, wanted) old new) c.as_slice.ensures.value c.put_and_tell.ensures),
     )

@@ -1,12 +1,16 @@
 -- A live retrieval found what it comes to.
+use Rattle.local_tree.specs.Folders.{holding}
+use Rattle.retriever.specs.Found.{outside}
 use Rattle.retriever.proofs.LiveLaws.{finds_of_lives}
 use Rattle.retriever.proofs.live_run.live.Goals as goal
 
 pub returns : goal.returns
 returns g c =
-    let F = g.F.Fetcher in
+    let D = g.D.Folder in
+    let W = g.W.Write in
     let lives = c.live_shown-status.ensures.lives in
     record {
       lives = lives;
-      finds = finds_of_lives F.site F.says F.rules F.log c.args.order.now c.args.fetchers.items _ _ _ _ c.live_shown-status.result.0 lives;
+      finds = finds_of_lives g.F.Fetcher c.args.order.now c.args.fetchers.items (outside (holding D.files D.failed c.args.folder.now) (W.contents c.args.writer.now))
+          (outside (holding D.files D.failed c.live_shown-status.new.folder) (W.contents c.live_shown-status.new.writer)) c.live_shown-status.result.0 lives;
     }

@@ -1,15 +1,15 @@
 -- The files are whole, or so many are as the fault says.
-use Rattle.std.proofs.Common.{◌≡◌, ℕ, List, Option, inl, inr, sym, subst}
-use Rattle.local_tree.specs.Folders.{Files}
+use Rattle.std.proofs.Common.{◌≡◌, ℕ, List, inl, inr, sym, subst}
+use Rattle.local_tree.specs.Folders.{Holding}
 use Rattle.local_tree.specs.SiteFiles.{IsTorn, IsTornBy}
 use Rattle.local_tree.specs.declared.site_files.WriteFault.{WriteFault}
 use Rattle.local_tree.specs.declared.site_files.WriteFault.TheVariants.{Device}
 use Rattle.retriever.specs.inner.Puts.{files_whole}
 use Rattle.retriever.proofs.live_run.put_and_tell.Goals as goal
 
-torn_is : (names bodies : List (List ℕ)) (old new : Option Files) (failed_old failed_new : ℕ) (fault : WriteFault) (whole : ℕ) → whole ≡ files_whole fault
-    → IsTornBy names bodies old new failed_old failed_new fault → IsTorn names bodies old new failed_old failed_new whole
-torn_is names bodies old new failed_old failed_new (Device k) whole is torn = subst (λ (n : ℕ). IsTorn names bodies old new failed_old failed_new n) (sym is) torn
+torn_is : (names bodies : List (List ℕ)) (old new : Holding) (fault : WriteFault) (whole : ℕ) → whole ≡ files_whole fault → IsTornBy names bodies old new fault
+    → IsTorn names bodies old new whole
+torn_is names bodies old new (Device k) whole is torn = subst (λ (n : ℕ). IsTorn names bodies old new n) (sym is) torn
 
 pub returns-in-Ok : goal.returns-in-Ok
 returns-in-Ok g c = inl (c.in-Ok.ensures.whole, c.in-Ok.ensures.quiet, c.tell_report.ensures)
@@ -18,6 +18,6 @@ pub returns-in-Err : goal.returns-in-Err
 returns-in-Err g c =
     inr (
       c.files_whole.result,
-      torn_is _ _ _ _ _ _ c.in-Err.fault c.files_whole.result c.files_whole.ensures c.in-Err.ensures.torn,
+      torn_is _ _ _ _ c.in-Err.fault c.files_whole.result c.files_whole.ensures c.in-Err.ensures.torn,
       c.tell_torn.ensures,
     )

@@ -1,8 +1,9 @@
 -- What the crew retrieved is put and told, and what its fetchers noted is saved.
 use Rattle.std.proofs.Common.{◌∙◌, ◌++◌, List, subst}
 use Rattle.std.specs.List.{flat_map}
+use Rattle.local_tree.specs.Folders.{holding}
 use Rattle.site_records.specs.WrittenRecords.{record_text}
-use Rattle.retriever.specs.Found.{holding}
+use Rattle.retriever.specs.Found.{crew_of}
 use Rattle.retriever.specs.inner.Parts.{IsToldAs}
 use Rattle.retriever.specs.Saving.{IsSaved}
 use Rattle.retriever.proofs.LiveLaws.{crew_ends, of_crew}
@@ -15,16 +16,17 @@ returns g c =
     let noted = g.F.Recording.noted in
     let r = c.retrieve_shown-retrieved.result.0 in
     let news = c.retrieve_shown-retrieved.result.1.items in
-    let crew = c.retrieve_shown-retrieved.ensures in
+    let known = c.retrieve_shown-retrieved.ensures in
     let olds = c.args.fetchers.items in
-    let by = of_crew F.site F.says F.rules F.log olds news r c.args.fetchers.len c.args.fetchers.ok.0 crew.numbered crew.own in
-    let (shown, ending, ends, written) = crew_ends F.site F.says F.rules F.log c.args.order.now olds news r
+    let crew = crew_of F olds news in
+    let by = of_crew crew r c.args.fetchers.len c.args.fetchers.ok.0 known.numbered known.own in
+    let (shown, ending, ends, written) = crew_ends crew c.args.order.now r
     (holding D.files D.failed c.args.folder.now) (holding D.files D.failed c.finish-told.new.folder)
     (IsToldAs (g.W.Write.contents c.args.writer.now) (g.W.Write.contents c.finish-told.new.writer) c.finish-told.result)
-    crew.ok crew.err crew.full (λ is. crew.one (c.args.fetchers.ok.0 ∙ is)) by c.finish-told.ensures.read c.finish-told.ensures.told in
+    known.ok known.err known.full (λ is. known.one (c.args.fetchers.ok.0 ∙ is)) by c.finish-told.ensures in
     record {
       left = news;
-      later = crew.fetchers;
+      later = known.fetchers;
       shown = shown;
       ending = ending;
       ends = ends;
