@@ -252,9 +252,10 @@ fn batch_path(alloc: Global, part: &str, from: usize) -> Result<String, AllocErr
     format!(in alloc; "{part}.{number}")
 }
 
-// The path of the part of this number of a batch.
+// The path of the part of this number of a batch, whose name begins as the others do, so that who looks for what a killed run left
+// finds it.
 fn part_path(alloc: Global, batch: &str, number: usize) -> Result<String, AllocError> {
-    format!(in alloc; "{batch}/{number}")
+    format!(in alloc; "{batch}/{PART}.{number}")
 }
 
 // Takes away what a killed run left in the place of a batch's directory: that and its parts, a file, or a link, which isn't followed.

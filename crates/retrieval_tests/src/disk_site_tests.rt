@@ -283,8 +283,8 @@ fn a_site_is_put_by_threads(rt: HostRuntime) {
         // What a killed run left is in nobody's way.
         fs::write(&rt, "disk/.wgetr%part17", "left").expect(&rt, "the disk");
         fs::create_dir(&rt, "disk/.wgetr%part17.0").expect(&rt, "the disk");
-        fs::write(&rt, "disk/.wgetr%part17.0/0", "left").expect(&rt, "the disk");
-        fs::write(&rt, "disk/.wgetr%part17.0/255", "left").expect(&rt, "the disk");
+        fs::write(&rt, "disk/.wgetr%part17.0/.wgetr%part.0", "left").expect(&rt, "the disk");
+        fs::write(&rt, "disk/.wgetr%part17.0/.wgetr%part.255", "left").expect(&rt, "the disk");
         rt.symlink("h", "disk/.wgetr%part17.1")
             .expect(&rt, "the disk");
     }
