@@ -4,7 +4,7 @@ ghost use Rattle.std.specs.Fmt.{decimal};
 ghost use Rattle.options.specs.Help.{help_text, in_columns, left_text, row_text, rows_text, short_text, usual_text, value_name};
 ghost use Rattle.options.specs.inner.Table.{kind_in, row_in};
 
-use crate::table::{Kind, Row, TABLE};
+use crate::table::{Kind, Row, option_rows};
 use std::alloc::{AllocError, Global};
 
 /// The version of the program.
@@ -157,5 +157,5 @@ fn between(
 pub fn help_text(alloc: Global) -> Result<String, AllocError>
     ensures { IfOk result (λ text. string_bytes text ≡ help_text) }
 {
-    between(alloc, HEAD, &TABLE, FOOT)
+    between(alloc, HEAD, option_rows(), FOOT)
 }

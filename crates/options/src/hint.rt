@@ -8,7 +8,7 @@ ghost use Rattle.address.specs.declared.fault.AddressFault.TheVariants as addres
 use crate::fault::LineFault;
 use crate::given::given;
 use crate::line::parse;
-use crate::table::{Row, TABLE, WGET};
+use crate::table::{Row, WGET, option_rows};
 use address::{Address, AddressFault};
 use clap::error::ErrorKind;
 use std::alloc::{AllocError, Global};
@@ -154,7 +154,7 @@ fn near_text(alloc: Global, form: &str, meant: Option<&str>) -> Result<String, A
 fn name_hint(alloc: Global, form: &str, name: &str) -> Result<String, AllocError>
     ensures { IfOk result (λ text. string_bytes text ≡ name_hint form.now name.now) }
 {
-    near_text(alloc, form, nearest(alloc, name, &TABLE)?)
+    near_text(alloc, form, nearest(alloc, name, option_rows())?)
 }
 
 // What is said of a form that isn't one of Wget's alone: nothing, unless it is a long form that no option has.
@@ -179,7 +179,7 @@ fn is_own(form: &str) -> bool
     ensures { result ≡ is_own form.now }
 {
     match long_name(form) {
-        Some(name) => is_known(name, &TABLE),
+        Some(name) => is_known(name, option_rows()),
         None => false,
     }
 }

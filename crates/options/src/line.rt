@@ -5,7 +5,7 @@ ghost use Rattle.options.specs.Line.{letter_of, line, line_rules, no_options, nu
 ghost use Rattle.options.specs.inner.Table.{kind_in, row_in};
 
 use crate::help::VERSION;
-use crate::table::{Kind, Row, TABLE};
+use crate::table::{Kind, Row, option_rows};
 use clap::{Arg, ArgAction, ArgMatches, Command, Error, value_parser};
 use std::alloc::{AllocError, Global};
 
@@ -96,7 +96,7 @@ fn arguments<'a>(alloc: Global) -> Result<Vec<Arg<'a>>, AllocError>
     ensures rules { IfOk result (λ args. map rule_of args.items ≡ line_rules) }
     ensures own { IfOk result (λ args. All (λ a. a.global ≡ false) args.items) }
 {
-    let mut args = arguments_of(alloc, &TABLE)?;
+    let mut args = arguments_of(alloc, option_rows())?;
     args.push(start(alloc))?;
     Ok(args)
 }

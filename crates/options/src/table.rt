@@ -1,5 +1,9 @@
 //! The table of options, a row for each: the command that `clap` reads, the help and what is told of refused words are made
 //! of it; and the options of Wget that aren't in it, of which refused words are told so (GNU Wget manual, chapter Invoking).
+ghost use Rattle.std.specs.Prelude.{◌≡◌, map};
+ghost use Rattle.options.specs.Table.{table};
+ghost use Rattle.options.specs.inner.Table.{row_in};
+
 use crate::order::{DEFAULT_MAX_URLS, DEFAULT_PER_HOST, DEFAULT_WORKERS, MAX_WORKERS};
 use follow_filters::{MAX_PER_HOST, MAX_URLS};
 
@@ -31,7 +35,7 @@ pub(crate) struct Row<T> {
 }
 
 /// The options.
-pub(crate) const TABLE: [Row<&str>; 23] = [
+const TABLE: [Row<&str>; 23] = [
     Row {
         short: "r",
         name: "recursive",
@@ -194,6 +198,15 @@ pub(crate) const TABLE: [Row<&str>; 23] = [
         says: "write what the site answered into this record",
     },
 ];
+
+const ROWS: &[Row<&str>] = &TABLE;
+
+/// The options. The constant stands here alone, since what names it is proved with each of its rows.
+pub(crate) fn option_rows() -> &'static [Row<&'static str>]
+    ensures { map row_in result.now ≡ table }
+{
+    ROWS
+}
 
 /// The forms of Wget's options that aren't among these. One of two letters is the first letter's, as `nc`.
 pub(crate) const WGET: [&str; 146] = [

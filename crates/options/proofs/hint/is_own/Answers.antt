@@ -7,11 +7,12 @@ use Rattle.options.specs.Table.{table}
 use Rattle.options.proofs.hint.is_own.Goals as goal
 
 pub returns-in-Some : goal.returns-in-Some
-unfolding is_own table
+unfolding is_own
 returns-in-Some c =
     c.is_known.ensures
+    ∙ ap (list_any (is_long_form c.in-Some.name.now)) c.option_rows.ensures
     ∙ ap (λ name. option_map_or (λ name. list_any (is_long_form name) table) name false) c.in-Some.ensures
 
 pub returns-in-None : goal.returns-in-None
-unfolding is_own table
+unfolding is_own
 returns-in-None c = ap (λ name. option_map_or (λ name. list_any (is_long_form name) table) name false) c.in-None.ensures
