@@ -1,5 +1,7 @@
 //! A record in mid-read: the answers and the rule sets that the entries so far state.
-ghost use Rattle.std.specs.Prelude.{◌≡◌, ◌≤◌, ◌+◌, ◌++◌, ◌∷◌, [], IfOk, MatchResult, OnOk, if◌then◌else◌, length};
+ghost use Rattle.std.specs.Prelude.{◌≡◌, ◌≤◌, ◌+◌, ◌++◌, ◌∷◌, [], IfOk, MatchResult, None, OnOk, if◌then◌else◌, length};
+ghost use Rattle.std.specs.Map.{lookup};
+ghost use Rattle.std.specs.Str.{bytes_eq};
 ghost use Rattle.site_inputs.specs.inner.Tables.{IsVacant};
 ghost use Rattle.site_records.specs.EntryLines.{page, fault, file, free, closed, chain, IsHopCount};
 ghost use Rattle.site_records.specs.inner.Said.{said};
@@ -85,6 +87,17 @@ impl Reading {
         Ok(())
     }
 
+    // Keeps the answer of an address for which none is kept, and a note of it. The error is want of memory.
+    fn keep(&mut self, at: Address, answer: Answer, noted: Noted) -> Result<(), AllocError>
+        requires { lookup (bytes_eq at) self.old.answers.entries ≡ None }
+        ensures kept { self.new ≡ record self.old { answers = self.new.answers; notes = self.new.notes } }
+        ensures answers { OnOk result (self.new.answers.entries ≡ self.old.answers.entries ++ (at, answer) ∷ []) }
+        ensures notes { OnOk result (self.new.notes.items ≡ (if self.old.keeps_notes then self.old.notes.items ++ noted ∷ [] else self.old.notes.items)) }
+    {
+        self.answers.insert(at, answer)?;
+        self.note(noted)
+    }
+
     // Takes a line with an address's response, which has so many bytes.
     fn add_page<'a>(
         &mut self,
@@ -99,11 +112,10 @@ impl Reading {
         let Some((bytes, after)) = counted(behind, count) else {
             return Err(InputLineFault::Line);
         };
+        let copy = at.try_clone()?;
         let told = told_of(self.alloc, bytes)?;
         let answer = told.answer(self.alloc, &at, self.robots)?;
-        let noted = Noted::Page(at.try_clone()?, told);
-        self.answers.insert(at, answer)?;
-        self.note(noted)?;
+        self.keep(at, answer, Noted::Page(copy, told))?;
         Ok(after)
     }
 
@@ -119,8 +131,7 @@ impl Reading {
         let at = read_address(self.alloc, text)?;
         self.unstated(&at)?;
         let noted = Noted::Page(at.try_clone()?, Told::Fault(kind));
-        self.answers.insert(at, no_response(self.alloc, kind))?;
-        self.note(noted)?;
+        self.keep(at, no_response(self.alloc, kind), noted)?;
         Ok(behind)
     }
 

@@ -1,8 +1,6 @@
 -- A fault goes behind the other answers.
-use Rattle.std.proofs.Common.{◌∙◌, ap}
-use Rattle.std.specs.Str.{bytes_eq}
+use Rattle.std.proofs.Common.{ap}
 use Rattle.std.proofs.lemmas.Result.{err_from_is_err_and}
-use Rattle.indexmap.proofs.CallerLemmas.{insert_entry-new}
 use Rattle.site_records.specs.EntryLines.{fault}
 use Rattle.site_records.specs.declared.reading.Reading.{Reading}
 use Rattle.site_records.specs.Entries.{no_response, answered}
@@ -22,13 +20,12 @@ returns-in_err-unstated c =
 
 pub returns : goal.returns
 returns c =
-    let kept = c.in_ok-note.ensures.kept in
+    let kept = c.in_ok-keep.ensures.kept in
     let none = c.in_ok-unstated.ensures in
     let a = no_response c.args.kind in
-    let put = insert_entry-new bytes_eq c.args.self.now.answers c.in_ok-at.at a none in
     takes_answer c.args.self.now _ (fault c.args.kind c.args.text.now) c.args.behind.now c.args.behind.now c.in_ok-at.at a c.in_ok-at.ensures tt
     (fault_states c.args.self.now.robots c.args.kind c.args.text.now c.args.behind.now c.in_ok-at.at)
-    none (ap (λ (r : Reading). r.answers.entries) kept ∙ rw c.no_response.ensures at c.in_ok-insert.ensures.entries ∙ put) (ap (λ (r : Reading). r.rules.entries) kept) (ap (λ (r : Reading). r.robots) kept)
+    none (rw c.no_response.ensures at c.in_ok-keep.ensures.answers) (ap (λ (r : Reading). r.rules.entries) kept) (ap (λ (r : Reading). r.robots) kept)
     (ap (λ (r : Reading). r.version) kept) (ap (λ (r : Reading). r.keeps_notes) kept)
-    (note_added c.args.self.now.keeps_notes c.args.self.now.robots c.args.self.now.notes.items _ _ (answered c.in_ok-at.at a) c.in_ok-note.ensures.notes
+    (note_added c.args.self.now.keeps_notes c.args.self.now.robots c.args.self.now.notes.items _ _ (answered c.in_ok-at.at a) c.in_ok-keep.ensures.notes
     (fault_says c.args.self.now.robots c.in_ok-at.at c.in_ok-try_clone.field-0 c.args.kind c.in_ok-try_clone.ensures))

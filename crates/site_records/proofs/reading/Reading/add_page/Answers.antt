@@ -1,8 +1,6 @@
 -- A page's answer goes behind the others.
-use Rattle.std.proofs.Common.{◌∙◌, ap, arith, rules}
-use Rattle.std.specs.Str.{bytes_eq}
+use Rattle.std.proofs.Common.{ap, arith, rules}
 use Rattle.std.proofs.lemmas.Result.{err_from_is_err_and}
-use Rattle.indexmap.proofs.CallerLemmas.{insert_entry-new}
 use Rattle.site_inputs.proofs.NameLaws.{names}
 use Rattle.site_records.specs.EntryLines.{page}
 use Rattle.site_records.specs.declared.reading.Reading.{Reading}
@@ -31,13 +29,12 @@ returns c =
     let a = c.in-Some.bytes-is in
     let b = c.in-Some.after-is in
     let has : HasBytes c.args.behind.now c.args.count c.in-Some.bytes.now c.in-Some.after.now = first_of (assumption h, search (rules, h), grind (arith, h, a, b)) in
-    let kept = c.in_ok-note.ensures.kept in
+    let kept = c.in_ok-keep.ensures.kept in
     let none = c.in_ok-unstated.ensures in
-    let put = insert_entry-new bytes_eq c.args.self.now.answers c.in_ok-at.at c.in_ok-answer.answer none in
     takes_answer c.args.self.now _ (page c.args.text.now c.args.count) c.args.behind.now c.in-Some.after.now c.in_ok-at.at c.in_ok-answer.answer c.in_ok-at.ensures tt
     (page_states c.args.self.now.robots c.args.text.now c.args.count c.args.behind.now c.in-Some.bytes.now c.in-Some.after.now c.in_ok-at.at c.in_ok-answer.answer has
     (read_as_told c.args.self.now.robots c.in_ok-at.at c.in-Some.bytes.now c.in_ok-told.told c.in_ok-answer.answer c.in_ok-told.ensures c.in_ok-answer.ensures.outcome c.in_ok-answer.ensures.body))
-    none (ap (λ (r : Reading). r.answers.entries) kept ∙ c.in_ok-insert.ensures.entries ∙ put) (ap (λ (r : Reading). r.rules.entries) kept) (ap (λ (r : Reading). r.robots) kept) (ap (λ (r : Reading). r.version) kept)
+    none c.in_ok-keep.ensures.answers (ap (λ (r : Reading). r.rules.entries) kept) (ap (λ (r : Reading). r.robots) kept) (ap (λ (r : Reading). r.version) kept)
     (ap (λ (r : Reading). r.keeps_notes) kept)
-    (note_added c.args.self.now.keeps_notes c.args.self.now.robots c.args.self.now.notes.items _ _ (answered c.in_ok-at.at c.in_ok-answer.answer) c.in_ok-note.ensures.notes
-    (page_says c.args.self.now.robots c.in_ok-at.at c.in_ok-try_clone.field-0 c.in_ok-told.told c.in_ok-answer.answer c.in_ok-try_clone.ensures c.in_ok-answer.ensures.outcome c.in_ok-answer.ensures.body))
+    (note_added c.args.self.now.keeps_notes c.args.self.now.robots c.args.self.now.notes.items _ _ (answered c.in_ok-at.at c.in_ok-answer.answer) c.in_ok-keep.ensures.notes
+    (page_says c.args.self.now.robots c.in_ok-at.at c.in_ok-copy.copy c.in_ok-told.told c.in_ok-answer.answer c.in_ok-copy.ensures c.in_ok-answer.ensures.outcome c.in_ok-answer.ensures.body))
