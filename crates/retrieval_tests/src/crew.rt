@@ -62,6 +62,28 @@ fn meet(arrived: &AtomicU64, awaited: u64) -> bool {
     false
 }
 
+impl Crewed {
+    // The most addresses that were noted to wait, by now.
+    fn most_waiting(&self) -> usize {
+        match &self.shown {
+            Some(shown) => self.waiting.max(shown.load(Ordering::Relaxed)),
+            None => self.waiting,
+        }
+    }
+
+    // Takes its time, where it is to.
+    fn nap(&self) {
+        if let Some(rt) = &self.sleeper {
+            thread::sleep(rt, Duration::from_millis(NAP));
+        }
+    }
+
+    // Whether this is no page without links, or as many of them were asked for as have to be.
+    fn has_met(&self, outcome: &Outcome) -> bool {
+        !matches!(outcome, Outcome::Leaf(_)) || meet(&self.leaves, self.awaited)
+    }
+}
+
 impl Fetcher for Crewed {
     ghost use Rattle.site_maps.specs.Maps.{says_of};
     ghost use Rattle.fetcher.specs.Sites.{SiteAnswers, GivesOutcome, GivesRules};
@@ -77,23 +99,16 @@ impl Fetcher for Crewed {
     ghost log = { λ s. s.site.asks };
 
     fn ask(&mut self, at: &Address) -> Result<Answer, AllocError> {
-        if let Some(shown) = &self.shown {
-            self.waiting = self.waiting.max(shown.load(Ordering::Relaxed));
-        }
-        let is_start = at.path_query() == "/";
-        if self.is_poor && !is_start {
+        self.waiting = self.most_waiting();
+        if at.path_query() == "/" {
+            self.nap();
+        } else if self.is_poor {
             return Err(AllocError);
-        }
-        if let Some(rt) = &self.sleeper
-            && is_start
-        {
-            thread::sleep(rt, Duration::from_millis(NAP));
         }
         self.seed = hesitate(self.seed);
         let answer = self.site.ask(at)?;
-        if matches!(answer.outcome, Outcome::Leaf(_)) && !meet(&self.leaves, self.awaited) {
-            self.is_alone = true;
-        }
+        let has_met = self.has_met(&answer.outcome);
+        self.is_alone = self.is_alone || !has_met;
         Ok(answer)
     }
 
@@ -152,7 +167,9 @@ pub(crate) fn crew<R: Abort + Threads + Wait + Sync>(
     seed: u64,
 ) -> (Seen, Vec<Crewed>) {
     let plan = plan_of(rt, alloc, row);
-    retrieved(rt, alloc, &plan, fetchers(rt, alloc, row, workers, seed))
+    let found = retrieved(rt, alloc, &plan, fetchers(rt, alloc, row, workers, seed));
+    drop(plan);
+    found
 }
 
 /// Whether as many workers took pages by the trace as a row says, where it says so.

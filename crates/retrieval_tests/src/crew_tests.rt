@@ -1,6 +1,6 @@
 //! Retrievals by several workers: the same as by one, at one time, and by all of them to the end. The form of the rows is told
 //! in `rows.rt`.
-use crate::crew::{NAP, come_to, crew, fetchers};
+use crate::crew::{Crewed, NAP, come_to, fetchers};
 use crate::retrieval::{ends_well_noting, retrieved};
 use crate::rows::plan_of;
 use std::alloc::Global;
@@ -255,22 +255,35 @@ fn whatever_the_interleaving_the_report_is_one(rt: HostRuntime) {
     }
 }
 
-/// The most addresses that the retrieval by so many workers noted to wait, as one of their fetchers was asked for a page.
-fn most_waiting<R: Abort + Threads + Wait + Sync>(rt: &R, alloc: Global, workers: u8) -> usize {
-    let shown = Arc::new(alloc, AtomicUsize::new(0)).expect(rt, "memory");
-    let mut fetchers = fetchers(rt, alloc, STAR, workers, 1);
+/// Fetchers of that page that look on how many addresses are noted there to wait.
+fn onlookers(rt: &impl Abort, alloc: Global, count: u8, shown: &Arc<AtomicUsize>) -> Vec<Crewed> {
+    let mut fetchers = fetchers(rt, alloc, STAR, count, 1);
     for fetcher in &mut fetchers {
-        fetcher.shown = Some(Arc::try_clone(&shown).expect(rt, "memory"));
+        fetcher.shown = Some(Arc::try_clone(shown).expect(rt, "memory"));
     }
-    let plan = plan_of(rt, alloc, STAR);
-    let (ends_well, fetchers) = ends_well_noting(rt, alloc, &plan, fetchers, &shown);
-    if !ends_well {
-        return 0;
-    }
+    fetchers
+}
+
+/// The most that one of them saw.
+fn most_seen(fetchers: &[Crewed]) -> usize {
     let mut most = 0usize;
-    for fetcher in &fetchers {
+    for fetcher in fetchers {
         most = most.max(fetcher.waiting);
     }
+    most
+}
+
+/// The most addresses that the retrieval by so many workers noted to wait, as one of their fetchers was asked for a page.
+fn most_waiting<R: Abort + Threads + Wait + Sync>(rt: &R, alloc: Global, workers: u8) -> usize {
+    let plan = plan_of(rt, alloc, STAR);
+    let shown = Arc::new(alloc, AtomicUsize::new(0)).expect(rt, "memory");
+    let fetchers = onlookers(rt, alloc, workers, &shown);
+    let (ends_well, fetchers) = ends_well_noting(rt, alloc, &plan, fetchers, &shown);
+    drop(shown);
+    drop(plan);
+    let most = most_seen(&fetchers);
+    drop(fetchers);
+    assert!(rt; ends_well);
     most
 }
 
@@ -288,13 +301,9 @@ fn meeting(rt: &impl Abort, alloc: Global, count: u8) -> String {
     let per_host = count.min(16);
     let entries = u16::from(count) + 1;
     let hosts = count.div_ceil(16);
-    let mut row = String::new(alloc);
-    write!(row, "hops 1\nmost 100\nrobots on\nhost {per_host}\n").expect(rt, "memory");
-    write!(
-        row,
-        "meet {count}\nrules {hosts}\nworkers {count}\nentries {entries}\n< page 200 http://h/\n"
-    )
-    .expect(rt, "memory");
+    let mut row = format!(in alloc;
+        "hops 1\nmost 100\nrobots on\nhost {per_host}\nmeet {count}\nrules {hosts}\nworkers {count}\nentries {entries}\n< page 200 http://h/\n"
+    ).expect(rt, "memory");
     for link in 0..count {
         let host = link / 16;
         writeln!(row, "< link http://h{host}/{link}").expect(rt, "memory");
@@ -313,17 +322,34 @@ fn as_many_workers_meet_as_there_are(rt: HostRuntime) {
     }
 }
 
+/// Each fetcher takes its time to answer the start.
+fn slow_down(fetchers: &mut [Crewed], sleeper: HostRuntime) {
+    for fetcher in fetchers {
+        fetcher.sleeper = Some(sleeper);
+    }
+}
+
+/// How the retrieval of that page by these fetchers ends.
+fn end_of<R: Abort + Threads + Wait + Sync>(
+    rt: &R,
+    alloc: Global,
+    fetchers: Vec<Crewed>,
+) -> &'static str {
+    let plan = plan_of(rt, alloc, STAR);
+    let (seen, fetchers) = retrieved(rt, alloc, &plan, fetchers);
+    drop(plan);
+    drop(fetchers);
+    let end = seen.end;
+    drop(seen);
+    end
+}
+
 #[test]
 fn workers_that_wait_take_no_processor_time(rt: HostRuntime) {
-    let plan = plan_of(&rt, rt.alloc(), STAR);
     let mut fetchers = fetchers(&rt, rt.alloc(), STAR, 4, 1);
-    for fetcher in &mut fetchers {
-        fetcher.sleeper = Some(rt);
-    }
+    slow_down(&mut fetchers, rt);
     let before = rt.process_cpu_time().expect(&rt, "a clock");
-    let (seen, _fetchers) = retrieved(&rt, rt.alloc(), &plan, fetchers);
+    let end = end_of(&rt, rt.alloc(), fetchers);
     let after = rt.process_cpu_time().expect(&rt, "a clock");
-    assert!(rt;
-        seen.end == "whole" && after.saturating_sub(before) < Duration::from_millis(NAP / 2)
-    );
+    assert!(rt; end == "whole" && after.saturating_sub(before) < Duration::from_millis(NAP / 2));
 }

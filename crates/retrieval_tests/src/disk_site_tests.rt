@@ -1,8 +1,8 @@
 //! Sites that are put on a disk by a crew: as many files as one after another would be, with the same bytes, and no part stays.
 use crate::disk::{Disk, Mishap};
+use crate::rows::plan;
 use address::{Address, Origin};
 use fetcher::{Answer, Ask, Body, Fetcher};
-use follow_filters::{Limit, Plan};
 use harvest::Harvest;
 use local_tree::{Close, DiskFolder, Folder, Naming, Part, PartCrew, WriteFault, names};
 use robots_rules::RuleSet;
@@ -136,47 +136,56 @@ impl Fetcher for Pages {
     }
 }
 
+/// Writes a line of a map for each page of a site but its start.
+fn write_lines(rt: &impl Abort, map: &mut String, word: &str, pages: u16) {
+    for page in 1..pages {
+        let directory = page % DIRECTORIES;
+        writeln!(map, "{word} http://h/{directory}/{page}").expect(rt, "memory");
+    }
+}
+
 /// A site of a start and of pages to which that leads, so many in all.
 fn site_of(rt: &impl Abort, alloc: Global, pages: u16) -> Pages {
     let mut map = String::from_str(alloc, "page 200 http://h/\n").expect(rt, "memory");
-    for page in 1..pages {
-        let directory = page % DIRECTORIES;
-        writeln!(map, "link http://h/{directory}/{page}").expect(rt, "memory");
-    }
-    for page in 1..pages {
-        let directory = page % DIRECTORIES;
-        writeln!(map, "page 200 http://h/{directory}/{page}").expect(rt, "memory");
-    }
+    write_lines(rt, &mut map, "link", pages);
+    write_lines(rt, &mut map, "page 200", pages);
     Pages {
         alloc,
         map: MapSite::read(alloc, map.as_bytes()).expect(rt, "a map"),
     }
 }
 
-/// A plan of all pages of such a site.
-fn plan(rt: &impl Abort, alloc: Global) -> Plan {
-    let start = Address::read(alloc, "http://h/").expect(rt, "an address");
-    if start.is_robots_file() {
-        panic!(rt; "a robots file");
-    }
-    Plan::unfiltered(alloc, start, Limit::AtMost(1), 1_000)
-}
-
 /// What is kept of such a site.
 fn harvest_of(rt: &impl Abort, alloc: Global, pages: u16) -> Harvest {
     let mut site = site_of(rt, alloc, pages);
-    let plan = plan(rt, alloc);
-    match retrieve_in_order(alloc, &plan, &mut site) {
-        Ok(harvest) => harvest,
-        Err(_) => panic!(rt; "memory"),
-    }
+    let plan = plan(rt, alloc, 1, 1_000);
+    let Ok(harvest) = retrieve_in_order(alloc, &plan, &mut site) else {
+        panic!(rt; "memory");
+    };
+    drop(plan);
+    drop(site);
+    harvest
+}
+
+/// What is kept of a site, and the names of its files.
+#[derive(Drop)]
+struct KeptSite {
+    harvest: Harvest,
+    names: Vec<String>,
 }
 
 /// The names of a site's files. There are so many.
-fn names_of(rt: &impl Abort, alloc: Global, harvest: &Harvest, files: usize) -> Vec<String> {
+fn names_of(rt: &impl Abort, alloc: Global, harvest: &Harvest, files: u16) -> Vec<String> {
     let names = names(alloc, harvest.kept()).expect(rt, "memory");
-    assert_eq!(rt; names.len(), files);
+    assert_eq!(rt; names.len(), usize::from(files));
     names
+}
+
+/// Such a site with so many files.
+fn kept_site(rt: &impl Abort, alloc: Global, files: u16) -> KeptSite {
+    let harvest = harvest_of(rt, alloc, files);
+    let names = names_of(rt, alloc, &harvest, files);
+    KeptSite { harvest, names }
 }
 
 /// The folder `disk`, which isn't there yet.
@@ -184,22 +193,28 @@ fn clear(rt: &impl Files, alloc: Global) {
     let _ = rt.remove_dir_all(alloc, "disk");
 }
 
+/// Whether the file of this name stands in the folder with these bytes, or none does where there are none.
+fn stands<R: Abort + Files + AllocGlobal>(rt: &R, name: &str, bytes: Option<&[u8]>) -> bool {
+    let path = format!(in rt.alloc(); "disk/{name}").expect(rt, "memory");
+    match fs::read(rt, path.as_str()) {
+        Ok(found) => bytes == Some(found.as_slice()),
+        Err(_) => bytes.is_none(),
+    }
+}
+
+/// The bytes of a site's file, where it is one of the first so many.
+fn bytes_of(site: &KeptSite, file: usize, whole: usize) -> Option<&[u8]> {
+    if file < whole && file < site.harvest.kept().len() {
+        Some(site.harvest.body(file))
+    } else {
+        None
+    }
+}
+
 /// Whether exactly the first so many files of a site stand in the folder, each with its bytes.
-fn are_put(
-    rt: &(impl Abort + Files + AllocGlobal),
-    names: &[String],
-    harvest: &Harvest,
-    whole: usize,
-) -> bool {
-    for (i, name) in names.iter().enumerate() {
-        let path = format!(in rt.alloc(); "disk/{name}").expect(rt, "memory");
-        let is_right = match fs::read(rt, path.as_str()) {
-            Ok(found) => i < whole
-                && i < harvest.kept().len()
-                && found.as_slice() == harvest.body(i),
-            Err(_) => i >= whole,
-        };
-        if !is_right {
+fn are_put<R: Abort + Files + AllocGlobal>(rt: &R, site: &KeptSite, whole: usize) -> bool {
+    for (i, name) in site.names.iter().enumerate() {
+        if !stands(rt, name.as_str(), bytes_of(site, i, whole)) {
             return false;
         }
     }
@@ -216,49 +231,81 @@ fn entries<R: Abort + Files + AllocGlobal + Clone + Drop>(rt: &R, path: &str) ->
     entries
 }
 
-/// Puts a site by a crew into the folder `disk`. Answers how many files are whole, and the kind of the error, if any.
+/// The folder `disk` on a disk.
+fn folder<'a, R: Files>(rt: &impl Abort, alloc: Global, disk: &'a R) -> DiskFolder<'a, R>
+where
+    R::File: Close,
+{
+    DiskFolder::new(disk, alloc, "disk", 17).expect(rt, "memory")
+}
+
+/// Puts a site by a crew into a folder. Answers how many files are whole, and the kind of the error, if any.
+fn put_into<R: Files, C: PartCrew>(
+    rt: &impl Abort,
+    folder: &mut DiskFolder<'_, R>,
+    crew: &C,
+    site: &KeptSite,
+) -> (usize, Option<ErrorKind>)
+where
+    R::File: Close,
+{
+    if site.names.len() != site.harvest.kept().len() {
+        panic!(rt; "other names");
+    }
+    match folder.put_site_by(crew, &site.names, &site.harvest) {
+        Ok(()) => (site.names.len(), None),
+        Err(WriteFault::Device(whole)) => {
+            let error = folder.error().expect(rt, "an error");
+            (whole, Some(error.kind()))
+        }
+    }
+}
+
+/// Puts a site by a crew into the folder `disk`. Answers the same.
 fn put<R: Files, C: PartCrew>(
     rt: &impl Abort,
     alloc: Global,
     disk: &R,
     crew: &C,
-    names: &[String],
-    harvest: &Harvest,
+    site: &KeptSite,
 ) -> (usize, Option<ErrorKind>)
 where
     R::File: Close,
 {
-    let mut folder = DiskFolder::new(disk, alloc, "disk", 17).expect(rt, "memory");
-    if names.len() != harvest.kept().len() {
-        panic!(rt; "other names");
-    }
-    match folder.put_site_by(crew, names, harvest) {
-        Ok(()) => (names.len(), None),
-        Err(WriteFault::Device(whole)) => match folder.error() {
-            Some(error) => (whole, Some(error.kind())),
-            None => panic!(rt; "no error"),
-        },
-    }
+    let mut folder = folder(rt, alloc, disk);
+    let ended = put_into(rt, &mut folder, crew, site);
+    drop(folder);
+    ended
 }
 
-/// Puts a site into the folder `disk`, one file after another. Answers how many files are whole.
-fn put_in_turn<R: Files>(
-    rt: &impl Abort,
-    alloc: Global,
-    disk: &R,
-    names: &[String],
-    harvest: &Harvest,
-) -> usize
-where
-    R::File: Close,
-{
-    let mut folder = DiskFolder::new(disk, alloc, "disk", 17).expect(rt, "memory");
-    for (i, name) in names.iter().enumerate() {
-        if i >= harvest.kept().len() || folder.put(name.as_str(), harvest.body(i)).is_err() {
+/// Puts a site by threads into the folder `disk`. Answers the same.
+fn put_by_threads<R: Abort + Threads + AllocGlobal>(
+    rt: &R,
+    disk: &Disk,
+    site: &KeptSite,
+) -> (usize, Option<ErrorKind>) {
+    let crew = InThreads { threads: rt, disk };
+    put(rt, rt.alloc(), disk, &crew, site)
+}
+
+/// Puts a site into a folder, one file after another. Answers how many files are whole.
+fn put_all(folder: &mut impl Folder, site: &KeptSite) -> usize {
+    for (i, name) in site.names.iter().enumerate() {
+        if i >= site.harvest.kept().len()
+            || folder.put(name.as_str(), site.harvest.body(i)).is_err()
+        {
             return i;
         }
     }
-    names.len()
+    site.names.len()
+}
+
+/// Does so in the folder `disk`.
+fn put_in_turn(rt: &impl Abort, alloc: Global, disk: &Disk, site: &KeptSite) -> usize {
+    let mut folder = folder(rt, alloc, disk);
+    let whole = put_all(&mut folder, site);
+    drop(folder);
+    whole
 }
 
 /// A disk of the test to which something befalls.
@@ -267,70 +314,88 @@ fn disk(rt: HostRuntime, alloc: Global, mishap: Mishap) -> Result<Disk, AllocErr
     Disk::new(rt, alloc, mishap)
 }
 
+/// Whether a crew puts a site whole onto a disk.
+fn is_put_by<R: Abort + Files + AllocGlobal, D: Files, C: PartCrew>(
+    rt: &R,
+    disk: &D,
+    crew: &C,
+    site: &KeptSite,
+) -> bool
+where
+    D::File: Close,
+{
+    let count = site.names.len();
+    put(rt, rt.alloc(), disk, crew, site) == (count, None) && are_put(rt, site, count)
+}
+
+/// Whether threads do, and no part stays.
+fn is_put_by_threads<R: Abort + Threads + Files + AllocGlobal + Clone + Drop>(
+    rt: &R,
+    disk: &Disk,
+    site: &KeptSite,
+) -> bool {
+    let crew = InThreads { threads: rt, disk };
+    is_put_by(rt, disk, &crew, site) && entries(rt, "disk") == 1
+}
+
+/// Leaves what a killed run would.
+fn leave_parts(rt: &(impl Abort + Files)) {
+    fs::write(rt, "disk/.wgetr%part17", "left").expect(rt, "the disk");
+    fs::create_dir(rt, "disk/.wgetr%part17.0").expect(rt, "the disk");
+    fs::write(rt, "disk/.wgetr%part17.0/.wgetr%part.0", "left").expect(rt, "the disk");
+    fs::write(rt, "disk/.wgetr%part17.0/.wgetr%part.255", "left").expect(rt, "the disk");
+    rt.symlink("h", "disk/.wgetr%part17.1")
+        .expect(rt, "the disk");
+}
+
 #[test]
 fn a_site_is_put_by_threads(rt: HostRuntime) {
-    let harvest = harvest_of(&rt, rt.alloc(), 300);
-    let names = names_of(&rt, rt.alloc(), &harvest, 300);
+    let site = kept_site(&rt, rt.alloc(), 300);
     let disk = disk(rt, rt.alloc(), Mishap::Holds(u64::MAX)).expect(&rt, "memory");
-    let crew = InThreads {
-        threads: &rt,
-        disk: &disk,
-    };
-    for _ in 0..2u8 {
-        assert!(rt; put(&rt, rt.alloc(), &disk, &crew, &names, &harvest) == (300, None));
-        assert!(rt; are_put(&rt, &names, &harvest, 300));
-        assert_eq!(rt; entries(&rt, "disk"), 1);
-        // What a killed run left is in nobody's way.
-        fs::write(&rt, "disk/.wgetr%part17", "left").expect(&rt, "the disk");
-        fs::create_dir(&rt, "disk/.wgetr%part17.0").expect(&rt, "the disk");
-        fs::write(&rt, "disk/.wgetr%part17.0/.wgetr%part.0", "left").expect(&rt, "the disk");
-        fs::write(&rt, "disk/.wgetr%part17.0/.wgetr%part.255", "left").expect(&rt, "the disk");
-        rt.symlink("h", "disk/.wgetr%part17.1")
-            .expect(&rt, "the disk");
-    }
-    drop(harvest);
+    assert!(rt; is_put_by_threads(&rt, &disk, &site));
+    // What a killed run left is in nobody's way.
+    leave_parts(&rt);
+    assert!(rt; is_put_by_threads(&rt, &disk, &site));
+    drop(disk);
+    drop(site);
+}
+
+/// Whether a crew puts a site whole into the folder `disk`, which is cleared before.
+fn is_put_anew<R: Abort + Files + AllocGlobal, C: PartCrew>(
+    rt: &R,
+    crew: &C,
+    site: &KeptSite,
+) -> bool
+where
+    R::File: Close,
+{
+    clear(rt, rt.alloc());
+    is_put_by(rt, rt, crew, site)
+}
+
+/// Whether a crew that leaves all parts out does, one that moves them, and one that does neither, and no part stays.
+fn is_put_by_each<R: Abort + Files + AllocGlobal + Clone + Drop>(rt: &R, site: &KeptSite) -> bool
+where
+    R::File: Close,
+{
+    is_put_anew(rt, &Nobody, site)
+        && is_put_anew(rt, &Mover { disk: rt }, site)
+        && is_put_anew(rt, &InTurn { disk: rt }, site)
+        && entries(rt, "disk") == 1
 }
 
 #[test]
 fn what_a_crew_leaves_out_or_moves_is_put_all_the_same(rt: HostRuntime) {
     for files in [1u16, 2, 15, 16, 17, 257, 258, 272, 273] {
-        let harvest = harvest_of(&rt, rt.alloc(), files);
-        let count = usize::from(files);
-        let names = names_of(&rt, rt.alloc(), &harvest, count);
-        clear(&rt, rt.alloc());
-        assert!(rt;
-            put(&rt, rt.alloc(), &rt, &Nobody, &names, &harvest) == (count, None),
-            "{files}"
-        );
-        assert!(rt; are_put(&rt, &names, &harvest, count), "{files}");
-        clear(&rt, rt.alloc());
-        let mover = Mover { disk: &rt };
-        assert!(rt;
-            put(&rt, rt.alloc(), &rt, &mover, &names, &harvest) == (count, None),
-            "{files}"
-        );
-        assert!(rt; are_put(&rt, &names, &harvest, count), "{files}");
-        clear(&rt, rt.alloc());
-        assert!(rt;
-            put(
-                &rt,
-                rt.alloc(),
-                &rt,
-                &InTurn { disk: &rt },
-                &names,
-                &harvest
-            ) == (count, None),
-            "{files}"
-        );
-        assert!(rt; are_put(&rt, &names, &harvest, count), "{files}");
-        assert_eq!(rt; entries(&rt, "disk"), 1);
-        drop(harvest);
+        let site = kept_site(&rt, rt.alloc(), files);
+        assert!(rt; is_put_by_each(&rt, &site), "{files}");
+        drop(site);
     }
 }
 
 /// At which file a directory stands in its place, and how many entries the host's directory has then: the start, and a directory
 /// for each directory of the site up to there, of which each has 42 or 43 pages.
-const PLACES: [(usize, usize); 9] = [
+const PLACES: &[(usize, usize)] = &[
     (0, 1),
     (1, 2),
     (2, 2),
@@ -342,42 +407,72 @@ const PLACES: [(usize, usize); 9] = [
     (299, 8),
 ];
 
+/// Makes a directory in the place of a site's file.
+fn occupy<R: Abort + Files + AllocGlobal>(rt: &R, site: &KeptSite, place: usize) {
+    let name = site.names.get(place).expect(rt, "a name");
+    let path = format!(in rt.alloc(); "disk/{name}").expect(rt, "memory");
+    fs::create_dir_all(rt, path.as_str()).expect(rt, "the disk");
+}
+
+/// Whether a site is put as far as its file whose place is taken, and the host's directory has so many entries then.
+fn stops_at<R: Abort + Threads + Files + AllocGlobal + Clone + Drop>(
+    rt: &R,
+    disk: &Disk,
+    site: &KeptSite,
+    place: usize,
+    directories: usize,
+) -> bool {
+    put_by_threads(rt, disk, site) == (place, Some(ErrorKind::AlreadyExists))
+        && are_put(rt, site, place)
+        && entries(rt, "disk") == 1
+        && entries(rt, "disk/h") == directories
+}
+
 #[test]
 fn no_file_is_put_behind_one_that_cannot_be(rt: HostRuntime) {
-    let harvest = harvest_of(&rt, rt.alloc(), 300);
-    let names = names_of(&rt, rt.alloc(), &harvest, 300);
+    let site = kept_site(&rt, rt.alloc(), 300);
     for (place, directories) in PLACES {
         let disk = disk(rt, rt.alloc(), Mishap::Holds(u64::MAX)).expect(&rt, "memory");
-        let crew = InThreads {
-            threads: &rt,
-            disk: &disk,
-        };
-        let name = names.get(place).expect(&rt, "a name");
-        let path = format!(in rt.alloc(); "disk/{name}").expect(&rt, "memory");
-        fs::create_dir_all(&rt, path.as_str()).expect(&rt, "the disk");
-        let ended = put(&rt, rt.alloc(), &disk, &crew, &names, &harvest);
-        assert!(rt; ended == (place, Some(ErrorKind::AlreadyExists)), "{place}");
-        assert!(rt; are_put(&rt, &names, &harvest, place), "{place}");
-        assert_eq!(rt; entries(&rt, "disk"), 1);
-        assert_eq!(rt; entries(&rt, "disk/h"), directories);
+        occupy(&rt, &site, *place);
+        assert!(rt;
+            stops_at(&rt, &disk, &site, *place, *directories),
+            "{place}"
+        );
+        drop(disk);
     }
-    drop(harvest);
+    drop(site);
 }
 
 /// How many bytes the files of a site have in all.
-fn bytes_of(harvest: &Harvest) -> u64 {
+fn size_of(site: &KeptSite) -> u64 {
     let mut bytes = 0u64;
-    for i in 0..harvest.kept().len() {
-        bytes = bytes.wrapping_add(harvest.body(i).len() as u64);
+    for i in 0..site.harvest.kept().len() {
+        bytes = bytes.wrapping_add(site.harvest.body(i).len() as u64);
     }
     bytes
 }
 
+/// Whether a disk takes as many of 300 files by threads as in turn: all, or those that it has room for where it is full.
+fn holds_as_many<R: Abort + Threads + Files + AllocGlobal + Clone + Drop>(
+    rt: &R,
+    disk: &Disk,
+    site: &KeptSite,
+    in_turn: usize,
+    is_full: bool,
+) -> bool {
+    let (whole, error) = put_by_threads(rt, disk, site);
+    whole == in_turn
+        && (whole == 300) != is_full
+        && (error == Some(ErrorKind::StorageFull)) == is_full
+        && error.is_some() == is_full
+        && are_put(rt, site, whole)
+        && entries(rt, "disk") == 1
+}
+
 #[test]
 fn a_full_disk_holds_as_many_files_as_in_turn(rt: HostRuntime) {
-    let harvest = harvest_of(&rt, rt.alloc(), 300);
-    let names = names_of(&rt, rt.alloc(), &harvest, 300);
-    let all = bytes_of(&harvest);
+    let site = kept_site(&rt, rt.alloc(), 300);
+    let all = size_of(&site);
     for room in [
         0,
         1,
@@ -393,74 +488,74 @@ fn a_full_disk_holds_as_many_files_as_in_turn(rt: HostRuntime) {
         all,
     ] {
         let first = disk(rt, rt.alloc(), Mishap::Holds(room)).expect(&rt, "memory");
-        let whole = put_in_turn(&rt, rt.alloc(), &first, &names, &harvest);
-        assert!(rt; (whole == 300) == (room >= all), "{room}");
+        let in_turn = put_in_turn(&rt, rt.alloc(), &first, &site);
+        drop(first);
         let second = disk(rt, rt.alloc(), Mishap::Holds(room)).expect(&rt, "memory");
-        let crew = InThreads {
-            threads: &rt,
-            disk: &second,
-        };
-        let (put, error) = put(&rt, rt.alloc(), &second, &crew, &names, &harvest);
-        assert_eq!(rt; put, whole);
-        let is_full = error == Some(ErrorKind::StorageFull);
         assert!(rt;
-            is_full == (room < all) && is_full == error.is_some(),
+            holds_as_many(&rt, &second, &site, in_turn, room < all),
             "{room}"
         );
-        assert!(rt; are_put(&rt, &names, &harvest, whole), "{room}");
-        assert_eq!(rt; entries(&rt, "disk"), 1);
+        drop(second);
     }
-    drop(harvest);
+    drop(site);
 }
 
 #[test]
 fn files_are_replaced_where_a_disk_has_room_for_few(rt: HostRuntime) {
-    let harvest = harvest_of(&rt, rt.alloc(), 300);
-    let names = names_of(&rt, rt.alloc(), &harvest, 300);
-    let room = bytes_of(&harvest).wrapping_add(10);
+    let site = kept_site(&rt, rt.alloc(), 300);
+    let room = size_of(&site).wrapping_add(10);
     let disk = disk(rt, rt.alloc(), Mishap::Holds(room)).expect(&rt, "memory");
-    let crew = InThreads {
-        threads: &rt,
-        disk: &disk,
-    };
     for _ in 0..2u8 {
-        assert!(rt; put(&rt, rt.alloc(), &disk, &crew, &names, &harvest) == (300, None));
-        assert!(rt; are_put(&rt, &names, &harvest, 300));
-        assert_eq!(rt; entries(&rt, "disk"), 1);
+        assert!(rt; is_put_by_threads(&rt, &disk, &site));
     }
-    drop(harvest);
+    drop(disk);
+    drop(site);
+}
+
+/// Whether whole files of a site of 20 are put onto a disk of which so many calls fail in turn.
+fn are_put_whole<R: Abort + Threads + Files + AllocGlobal + Clone + Drop>(
+    rt: &R,
+    disk: &Disk,
+    site: &KeptSite,
+    lasting: u64,
+) -> bool {
+    let (whole, error) = put_by_threads(rt, disk, site);
+    let is_all_or_nothing = whole == 0 || whole == 20;
+    // One failure stops the first file, which is put alone, and costs a later one a second try. No part stays then, and no
+    // directory of parts but where it was the call that takes it away that failed.
+    error.is_some() == (whole < 20)
+        && are_put(rt, site, whole)
+        && (lasting > 1 || is_all_or_nothing)
+        && (lasting > 1
+            || whole == 0
+            || entries(rt, "disk") == 1
+            || rt.remove_dir("disk/.wgetr%part17.0").is_ok())
+}
+
+/// Whether they are, and all once the disk is mended.
+fn leaves_whole_files<R: Abort + Threads + Files + AllocGlobal + Clone + Drop>(
+    rt: &R,
+    disk: &Disk,
+    site: &KeptSite,
+    lasting: u64,
+) -> bool {
+    let are_whole = are_put_whole(rt, disk, site, lasting);
+    disk.log().mend();
+    are_whole && is_put_by_threads(rt, disk, site)
 }
 
 #[test]
 fn a_disk_that_fails_leaves_whole_files_of_a_site(rt: HostRuntime) {
-    let harvest = harvest_of(&rt, rt.alloc(), 20);
-    let names = names_of(&rt, rt.alloc(), &harvest, 20);
+    let site = kept_site(&rt, rt.alloc(), 20);
     for from in 0..180u64 {
         for lasting in [1, u64::MAX] {
             let disk = disk(rt, rt.alloc(), Mishap::Fails(from, lasting)).expect(&rt, "memory");
-            let crew = InThreads {
-                threads: &rt,
-                disk: &disk,
-            };
-            let (whole, error) = put(&rt, rt.alloc(), &disk, &crew, &names, &harvest);
-            assert!(rt; error.is_some() == (whole < 20), "{from} {lasting}");
-            assert!(rt; are_put(&rt, &names, &harvest, whole), "{from} {lasting}");
-            // One failure stops the first file, which is put alone, and costs a later one a second try.
-            assert!(rt; lasting > 1 || whole == 0 || whole == 20, "{from}");
-            // No part stays, and no directory of parts but where it was the call that takes it away that failed.
             assert!(rt;
-                lasting > 1
-                    || whole == 0
-                    || entries(&rt, "disk") == 1
-                    || rt.remove_dir("disk/.wgetr%part17.0").is_ok(),
-                "{from}"
+                leaves_whole_files(&rt, &disk, &site, lasting),
+                "{from} {lasting}"
             );
-            disk.log().mend();
-            let ended = put(&rt, rt.alloc(), &disk, &crew, &names, &harvest);
-            assert!(rt; ended == (20, None), "{from} {lasting}");
-            assert!(rt; are_put(&rt, &names, &harvest, 20), "{from} {lasting}");
-            assert_eq!(rt; entries(&rt, "disk"), 1);
+            drop(disk);
         }
     }
-    drop(harvest);
+    drop(site);
 }

@@ -5,6 +5,7 @@ use local_tree::{Close, DiskFolder, Folder, MemoryFolder};
 use std::alloc::Global;
 use std::fs;
 use std::fs::Files;
+use std::io::Error;
 use std::process::Abort;
 
 // Whether the file holds these bytes.
@@ -13,6 +14,27 @@ fn holds(rt: &(impl Files + AllocGlobal), path: &str, bytes: &[u8]) -> bool {
         Ok(found) => found.as_slice() == bytes,
         Err(_) => false,
     }
+}
+
+// Whether each of these names below a folder has a file with its own text.
+fn hold_own<R: Abort + Files + AllocGlobal>(rt: &R, folder: &str, names: &str) -> bool {
+    for name in names.split(' ') {
+        if !holds_below(rt, folder, name, name.as_bytes()) {
+            return false;
+        }
+    }
+    true
+}
+
+// Whether the file of this name below a folder holds these bytes.
+fn holds_below<R: Abort + Files + AllocGlobal>(
+    rt: &R,
+    folder: &str,
+    name: &str,
+    bytes: &[u8],
+) -> bool {
+    let path = format!(in rt.alloc(); "{folder}/{name}").expect(rt, "memory");
+    holds(rt, path.as_str(), bytes)
 }
 
 // Whether nothing stands there.
@@ -58,32 +80,41 @@ fn puts_none(folder: &mut impl Folder, names: &str) -> bool {
     true
 }
 
+// Whether files are put into a folder that is `tree/of files` on the disk, of which nothing stands there before.
+fn is_filled<R: Abort + Files + AllocGlobal>(rt: &R, folder: &mut impl Folder) -> bool {
+    // The third directory is named as the two before it are in one; the text of one begins with that of the next, twice.
+    let names = "h/index.html h/a/b?c=%2F hh/a/d h:81/index.html m/a!/x m/a/y n.com/x n/y";
+    is_absent(rt, "tree") && puts_all(folder, names) && hold_own(rt, "tree/of files", names)
+}
+
+// Whether a file of it is replaced, by a shorter one too, and what a killed run left is in nobody's way.
+fn is_replaced<R: Abort + Files + AllocGlobal>(rt: &R, folder: &mut impl Folder) -> bool {
+    write(rt, "tree/of files/.wgetr%part7", "left");
+    folder.put("h/index.html", b"4").is_ok()
+        && holds(rt, "tree/of files/h/index.html", b"4")
+        && folder.put("h/empty", b"").is_ok()
+        && holds(rt, "tree/of files/h/empty", b"")
+}
+
+// Whether a name is refused where a directory stands in the place of its file, or a file in that of a directory, and one that
+// leads out or is empty, as the last is.
+fn refuses_odd_names(rt: &impl Files, folder: &mut impl Folder) -> bool {
+    puts_none(folder, "h/a h/index.html/b ../x /x h//x h/./x ")
+        && folder.failures() == 7
+        && is_absent(rt, "tree/of files/.wgetr%part7")
+        && is_absent(rt, "tree/x")
+}
+
+// Files are put below that folder.
+fn put_below<R: Abort + Files + AllocGlobal>(rt: &R, folder: &mut impl Folder) {
+    assert!(rt; is_filled(rt, folder));
+    assert!(rt; is_replaced(rt, folder));
+    assert!(rt; refuses_odd_names(rt, folder));
+}
+
 #[test]
 fn files_are_put_below_the_folder(rt: HostRuntime) {
-    let mut folder = folder(&rt, rt.alloc(), "tree/of files");
-    assert!(rt; is_absent(&rt, "tree"));
-    // The third directory is named as the two before it are in one; the text of one begins with that of the next, twice.
-    assert!(rt;
-        puts_all(
-            &mut folder,
-            "h/index.html h/a/b?c=%2F hh/a/d h:81/index.html m/a!/x m/a/y n.com/x n/y"
-        )
-    );
-    assert!(rt; holds(&rt, "tree/of files/hh/a/d", b"hh/a/d"));
-    assert!(rt; holds(&rt, "tree/of files/h/index.html", b"h/index.html"));
-    assert!(rt; holds(&rt, "tree/of files/h/a/b?c=%2F", b"h/a/b?c=%2F"));
-    assert!(rt; holds(&rt, "tree/of files/h:81/index.html", b"h:81/index.html"));
-    // A file is replaced, by a shorter one too, and what a killed run left is in nobody's way.
-    write(&rt, "tree/of files/.wgetr%part7", "left");
-    assert!(rt; folder.put("h/index.html", b"4").is_ok());
-    assert!(rt; holds(&rt, "tree/of files/h/index.html", b"4"));
-    assert!(rt; folder.put("h/empty", b"").is_ok());
-    assert!(rt; holds(&rt, "tree/of files/h/empty", b""));
-    // A directory stands where a file is to stand, a file where a directory is to; a name leads out. The last is empty.
-    assert!(rt; puts_none(&mut folder, "h/a h/index.html/b ../x /x h//x h/./x "));
-    assert_eq!(rt; folder.failures(), 7);
-    assert!(rt; is_absent(&rt, "tree/of files/.wgetr%part7"));
-    assert!(rt; is_absent(&rt, "tree/x"));
+    put_below(&rt, &mut folder(&rt, rt.alloc(), "tree/of files"));
 }
 
 // A folder `inside` with links that lead out of it.
@@ -98,14 +129,20 @@ fn make_links(rt: &(impl Abort + Files)) {
     link(rt, "../outside/kept", "inside/.wgetr%part7");
 }
 
+// Whether a folder that is `inside` refuses what would lead out of it, and nothing else.
+fn stays_inside(rt: &(impl Files + AllocGlobal), folder: &mut impl Folder) -> bool {
+    puts_none(folder, "h/d/kept h/d h/f h/g k/kept k/x/y")
+        && puts_all(folder, "h/e")
+        && holds(rt, "outside/kept", b"as it was")
+        && is_absent(rt, "outside/new")
+}
+
 #[test]
 fn links_are_not_followed(rt: HostRuntime) {
     make_links(&rt);
     let mut folder = folder(&rt, rt.alloc(), "inside");
-    assert!(rt; puts_none(&mut folder, "h/d/kept h/d h/f h/g k/kept k/x/y"));
-    assert!(rt; puts_all(&mut folder, "h/e"));
-    assert!(rt; holds(&rt, "outside/kept", b"as it was"));
-    assert!(rt; is_absent(&rt, "outside/new"));
+    assert!(rt; stays_inside(&rt, &mut folder));
+    drop(folder);
 }
 
 // The folder `disk` with a file, and beside it another.
@@ -115,6 +152,15 @@ fn lay_out(rt: &(impl Abort + Files), alloc: Global) {
     fs::create_dir_all(rt, "outside").expect(rt, "the disk");
     write(rt, "disk/h/x", "as it was");
     write(rt, "disk/.wgetr%part7", "of another run");
+}
+
+// That folder on a disk.
+fn laid_out<'a, R: Abort + Files + AllocGlobal, D: Files>(rt: &R, disk: &'a D) -> DiskFolder<'a, D>
+where
+    D::File: Close,
+{
+    lay_out(rt, rt.alloc());
+    DiskFolder::new(disk, rt.alloc(), "disk", 17).expect(rt, "memory")
 }
 
 // Whether the file holds what was put, where that ended well, and else what was there, if anything.
@@ -142,8 +188,24 @@ fn put_both(folder: &mut impl Folder) -> (bool, bool) {
     (replaced, folder.put("k/y", NEW).is_ok())
 }
 
+// Whether both are put once the disk is mended, and no part stays but another run's.
+fn is_mended<R: Files + AllocGlobal>(rt: &R, folder: &mut impl Folder) -> bool {
+    put_both(folder) == (true, true)
+        && holds(rt, "disk/h/x", REPLACED)
+        && holds(rt, "disk/k/y", NEW)
+        && is_absent(rt, "disk/.wgetr%part17")
+        && holds(rt, "disk/.wgetr%part7", b"of another run")
+}
+
+// Whether both files hold what was put, where that ended well, and else what was there, and what failed once isn't seen.
+fn are_whole<R: Files + AllocGlobal>(rt: &R, replaced: bool, new: bool, lasting: u64) -> bool {
+    is_whole(rt, "disk/h/x", replaced, REPLACED, b"as it was")
+        && is_whole(rt, "disk/k/y", new, NEW, b"")
+        && (lasting > 1 || is_absent(rt, "disk/.wgetr%part17"))
+}
+
 // Whether the files of a disk are whole of which so many calls fail from this on: both puts end well only where no call failed and
-// each file was closed, what failed isn't seen, and once the disk is mended both are put.
+// each file was closed, and once the disk is mended both are put.
 fn stays_whole<R: Abort + Files + AllocGlobal, D: Files>(
     rt: &R,
     disk: &D,
@@ -154,23 +216,15 @@ fn stays_whole<R: Abort + Files + AllocGlobal, D: Files>(
 where
     D::File: Close,
 {
-    lay_out(rt, rt.alloc());
-    let mut folder = DiskFolder::new(disk, rt.alloc(), "disk", 17).expect(rt, "memory");
+    let mut folder = laid_out(rt, disk);
     let (replaced, new) = put_both(&mut folder);
     let is_felt = log.calls() > from;
-    let is_kept = is_whole(rt, "disk/h/x", replaced, REPLACED, b"as it was")
-        && is_whole(rt, "disk/k/y", new, NEW, b"")
-        && (lasting > 1 || is_absent(rt, "disk/.wgetr%part17"));
     let is_closed = log.closed() >= u64::from(replaced).saturating_add(u64::from(new));
+    let are_whole = are_whole(rt, replaced, new, lasting);
     log.mend();
-    is_felt != (replaced && new)
-        && is_kept
-        && is_closed
-        && put_both(&mut folder) == (true, true)
-        && holds(rt, "disk/h/x", REPLACED)
-        && holds(rt, "disk/k/y", NEW)
-        && is_absent(rt, "disk/.wgetr%part17")
-        && holds(rt, "disk/.wgetr%part7", b"of another run")
+    let is_mended = is_mended(rt, &mut folder);
+    drop(folder);
+    is_felt != (replaced && new) && are_whole && is_closed && is_mended
 }
 
 #[test]
@@ -183,6 +237,7 @@ fn a_disk_that_fails_leaves_each_file_whole(rt: HostRuntime) {
                 stays_whole(&rt, &disk, disk.log(), from, lasting),
                 "{from} {lasting}"
             );
+            drop(disk);
         }
     }
 }
@@ -214,17 +269,22 @@ fn meeting_of(rt: &impl Abort, line: &'static str) -> (&'static str, Mishap, &'s
     (file, Mishap::Meets(call, path, made), ends)
 }
 
-// Whether the put ends as it is to, with the file whole where it ends well, and neither a part of it nor anything outside.
-fn meets<R: Abort + Files + AllocGlobal, D: Files>(rt: &R, disk: &D, file: &str, ends: &str) -> bool
+// Whether this file can be put into a folder that is laid out.
+fn puts_new<R: Abort + Files + AllocGlobal, D: Files>(rt: &R, disk: &D, file: &str) -> bool
 where
     D::File: Close,
 {
-    lay_out(rt, rt.alloc());
-    let mut folder = DiskFolder::new(disk, rt.alloc(), "disk", 17).expect(rt, "memory");
-    let is_put = ends == "whole";
-    let path = format!(in rt.alloc(); "disk/{file}").expect(rt, "memory");
-    folder.put(file, NEW).is_ok() == is_put
-        && holds(rt, path.as_str(), NEW) == is_put
+    let mut folder = laid_out(rt, disk);
+    let is_put = folder.put(file, NEW).is_ok();
+    drop(folder);
+    is_put
+}
+
+// Whether the put ends as it is to, with the file whole where it ends well, and neither a part of it nor anything outside.
+fn meets<R: Abort + Files + AllocGlobal>(rt: &R, disk: &Disk, file: &str, ends: &str) -> bool {
+    let is_put = puts_new(rt, disk, file);
+    is_put == (ends == "whole")
+        && holds_below(rt, "disk", file, NEW) == is_put
         && is_absent(rt, "disk/.wgetr%part17")
         && is_absent(rt, "outside/y")
 }
@@ -235,20 +295,33 @@ fn what_another_process_makes_is_seen(rt: HostRuntime) {
         let (file, mishap, ends) = meeting_of(&rt, line);
         let disk = Disk::new(rt, rt.alloc(), mishap).expect(&rt, "memory");
         assert!(rt; meets(&rt, &disk, file, ends), "{line}");
+        drop(disk);
     }
+}
+
+// Takes a directory away with the file in it.
+fn take_away(rt: &(impl Abort + Files)) {
+    rt.remove_file("gone/a/x").expect(rt, "the disk");
+    rt.remove_dir("gone/a").expect(rt, "the disk");
+}
+
+// Whether a folder that is this directory misses one of its own that was taken away, and makes it again.
+fn makes_again(rt: &(impl Abort + Files + AllocGlobal), folder: &mut impl Folder) -> bool {
+    let is_made = puts_all(folder, "gone/a/x");
+    take_away(rt);
+    is_made
+        && puts_none(folder, "gone/a/y")
+        && is_absent(rt, "./.wgetr%part7")
+        && puts_all(folder, "gone/a/y")
+        && holds(rt, "./gone/a/y", b"gone/a/y")
 }
 
 #[test]
 fn a_directory_that_went_is_made_again(rt: HostRuntime) {
     // The empty path is this directory.
     let mut folder = folder(&rt, rt.alloc(), "");
-    assert!(rt; puts_all(&mut folder, "gone/a/x"));
-    rt.remove_file("gone/a/x").expect(&rt, "the disk");
-    rt.remove_dir("gone/a").expect(&rt, "the disk");
-    assert!(rt; puts_none(&mut folder, "gone/a/y"));
-    assert!(rt; is_absent(&rt, "./.wgetr%part7"));
-    assert!(rt; puts_all(&mut folder, "gone/a/y"));
-    assert!(rt; holds(&rt, "./gone/a/y", b"gone/a/y"));
+    assert!(rt; makes_again(&rt, &mut folder));
+    drop(folder);
 }
 
 // Why each of these can't be put below a folder with `h/a/b` and `h/c`: the kind of the error.
@@ -256,24 +329,65 @@ const REASONS: &str = "h/a AlreadyExists
 h/c/d NotADirectory
 ../x InvalidInput";
 
+// Whether an error is of this kind.
+fn is_kind(rt: &impl Abort, alloc: Global, error: &Error, kind: &str) -> bool {
+    let text = format!(in alloc; "{:?}", error.kind()).expect(rt, "memory");
+    text.as_str() == kind
+}
+
+// Whether a folder refuses a line's name for its reason, which isn't the system's.
+fn refuses<R: Abort + Files + AllocGlobal>(
+    rt: &R,
+    folder: &mut DiskFolder<'_, R>,
+    line: &str,
+) -> bool
+where
+    R::File: Close,
+{
+    let (name, kind) = line.split_once(' ').expect(rt, "a row");
+    if !puts_none(folder, name) {
+        return false;
+    }
+    let error = folder.error().expect(rt, "an error");
+    error.raw_os_error().is_none() && is_kind(rt, rt.alloc(), error, kind)
+}
+
+// Whether a folder takes those files, and has no error then.
+fn takes_both<R: Files>(folder: &mut DiskFolder<'_, R>) -> bool
+where
+    R::File: Close,
+{
+    puts_all(folder, "h/a/b h/c") && folder.error().is_none()
+}
+
+// A folder with those files refuses each of the names for its reason.
+fn refuse_all<R: Abort + Files + AllocGlobal>(rt: &R, folder: &mut DiskFolder<'_, R>)
+where
+    R::File: Close,
+{
+    assert!(rt; takes_both(folder));
+    for line in REASONS.lines() {
+        assert!(rt; refuses(rt, folder, line), "{line}");
+    }
+}
+
+// The system's number of the error by which a folder refuses a name.
+fn number_of_refusal<R: Abort + Files>(rt: &R, folder: &mut DiskFolder<'_, R>) -> Option<i32>
+where
+    R::File: Close,
+{
+    if !puts_none(folder, "h/x") {
+        return None;
+    }
+    folder.error().expect(rt, "an error").raw_os_error()
+}
+
 #[test]
 fn a_folder_says_why_a_put_failed(rt: HostRuntime) {
-    let mut whole = folder(&rt, rt.alloc(), "reasons");
-    assert!(rt; puts_all(&mut whole, "h/a/b h/c"));
-    assert!(rt; whole.error().is_none());
-    for line in REASONS.lines() {
-        let (name, wanted) = line.split_once(' ').expect(&rt, "a row");
-        assert!(rt; puts_none(&mut whole, name), "{line}");
-        let error = whole.error().expect(&rt, "an error");
-        assert!(rt; error.raw_os_error().is_none(), "{line}");
-        let kind = format!(in rt.alloc(); "{:?}", error.kind()).expect(&rt, "memory");
-        assert!(rt; kind.as_str() == wanted, "{line}");
-    }
+    refuse_all(&rt, &mut folder(&rt, rt.alloc(), "reasons"));
     // What the system says has its number (errno(3), Linux: not a directory).
-    let mut below = folder(&rt, rt.alloc(), "reasons/h/c/d");
-    assert!(rt; puts_none(&mut below, "h/x"));
-    let error = below.error().expect(&rt, "an error");
-    assert!(rt; error.raw_os_error() == Some(20));
+    let number = number_of_refusal(&rt, &mut folder(&rt, rt.alloc(), "reasons/h/c/d"));
+    assert!(rt; number == Some(20));
 }
 
 // A name of 50 directories, each of 100 letters.
@@ -288,12 +402,17 @@ fn long_name(rt: &impl Abort, alloc: Global) -> String {
     name
 }
 
+// Whether a folder refuses that name, and no other.
+fn refuses_long_name(rt: &impl Abort, alloc: Global, folder: &mut impl Folder) -> bool {
+    let name = long_name(rt, alloc);
+    puts_none(folder, name.as_str()) && puts_all(folder, "h/b")
+}
+
 #[test]
 fn names_too_long_for_the_disk_are_refused(rt: HostRuntime) {
-    let name = long_name(&rt, rt.alloc());
     let mut folder = folder(&rt, rt.alloc(), "long");
-    assert!(rt; puts_none(&mut folder, name.as_str()));
-    assert!(rt; puts_all(&mut folder, "h/b"));
+    assert!(rt; refuses_long_name(&rt, rt.alloc(), &mut folder));
+    drop(folder);
 }
 
 // Whether the folder has `a` and `b`, each with its own text, and nothing of `c`.
@@ -303,19 +422,25 @@ fn has_two(folder: &MemoryFolder) -> bool {
         && folder.file("c").is_none()
 }
 
+// Whether the second put into a folder fails, and no other.
+fn fails_once(folder: &mut MemoryFolder) -> bool {
+    puts_all(folder, "a")
+        && puts_none(folder, "b")
+        && puts_all(folder, "b a")
+        && has_two(folder)
+        && folder.failures() == 1
+}
+
 #[test]
 fn a_put_in_memory_fails_where_it_is_to(rt: HostRuntime) {
     let mut folder = MemoryFolder::failing_at(rt.alloc(), 1);
-    assert!(rt; puts_all(&mut folder, "a"));
-    assert!(rt; puts_none(&mut folder, "b"));
-    assert!(rt; puts_all(&mut folder, "b a"));
-    assert!(rt; has_two(&folder));
-    assert_eq!(rt; folder.failures(), 1);
+    assert!(rt; fails_once(&mut folder));
+    drop(folder);
 }
 
 #[test]
 fn a_put_in_memory_fails_nowhere_else(rt: HostRuntime) {
     let mut folder = MemoryFolder::new(rt.alloc());
-    assert!(rt; puts_all(&mut folder, "a b"));
-    assert_eq!(rt; folder.failures(), 0);
+    assert!(rt; puts_all(&mut folder, "a b") && folder.failures() == 0);
+    drop(folder);
 }

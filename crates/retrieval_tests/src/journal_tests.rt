@@ -40,6 +40,48 @@ fn whole_of(cut: usize) -> usize {
     whole
 }
 
+// Whether a record at a path, of at most so many bytes, is read so with what its journal has.
+fn is_read<R: Wait + Eprint + AllocGlobal + Files>(
+    rt: &R,
+    saving: &Saving<R>,
+    path: &str,
+    limit: usize,
+    wanted: &[u8],
+) -> bool {
+    match saving.read(rt, rt, rt.alloc(), path, limit) {
+        Ok(read) => read.as_slice() == wanted,
+        Err(_) => false,
+    }
+}
+
+// Whether a journal is these bytes and one entry more behind them.
+fn has_more<R: Files + AllocGlobal>(rt: &R, front: &[u8]) -> bool {
+    text_at(rt, "cut/f.journal").strip_prefix(front)
+        == Some(b"more
+"
+            .as_slice())
+}
+
+// Whether a journal that was cut is taken as far as this, and goes on behind it.
+fn goes_on_behind<R: Wait + Clock + Eprint + AllocGlobal + Files>(
+    rt: &R,
+    saving: &Saving<R>,
+    front: &[u8],
+) -> bool
+where
+    R::File: Lock,
+{
+    let held = saving.hold(rt, rt, rt.alloc(), "cut/f", true);
+    let is_added = Pen::new(rt, saving).append(
+        b"more
+",
+    );
+    held == Ok(())
+        && is_added
+        && is_read(rt, saving, "cut/f", JOURNAL.len(), front)
+        && has_more(rt, front)
+}
+
 // Whether a journal that was cut there is taken as far as its entries are whole, and goes on behind them.
 fn goes_on<R: Wait + Clock + Eprint + AllocGlobal + Abort + Files>(rt: &R, cut: usize) -> bool
 where
@@ -52,20 +94,12 @@ where
         return false;
     };
     write(rt, "cut/f.journal", torn);
-    let saving = Saving::new();
-    let held = saving.hold(rt, rt, rt.alloc(), "cut/f", true);
-    let is_added = Pen::new(rt, &saving).append(b"more\n");
-    let left = saving.read(rt, rt, rt.alloc(), "cut/f", JOURNAL.len());
-    let text = text_at(rt, "cut/f.journal");
     let front = if whole.is_empty() {
         FIRST.as_bytes()
     } else {
         whole
     };
-    held == Ok(())
-        && is_added
-        && left.is_ok_and(|left| left.as_slice() == front)
-        && text.strip_prefix(front) == Some(b"more\n".as_slice())
+    goes_on_behind(rt, &Saving::new(), front)
 }
 
 #[test]
@@ -76,21 +110,39 @@ fn a_journal_that_was_cut_goes_on_behind_its_whole_entries(rt: HostRuntime) {
     }
 }
 
+// Whether a run holds a file, so that another can't, and saves an answer.
+fn saves_alone<R: Wait + Clock + Eprint + AllocGlobal + Files>(
+    rt: &R,
+    saving: &Saving<R>,
+    other: &Saving<R>,
+) -> bool
+where
+    R::File: Lock,
+{
+    saving.hold(rt, rt, rt.alloc(), "held/f", false) == Ok(())
+        && other.hold(rt, rt, rt.alloc(), "held/f", true) == Err(HoldFault::Refused)
+        && Pen::new(rt, saving).append(&JOURNAL[15..40])
+}
+
+// Whether another holds it only where it resumes what is left there.
+fn only_resumes<R: Wait + Clock + Eprint + AllocGlobal + Files>(rt: &R, other: &Saving<R>) -> bool
+where
+    R::File: Lock,
+{
+    other.hold(rt, rt, rt.alloc(), "held/f", false) == Err(HoldFault::Refused)
+        && text_at(rt, "held/f.journal").as_slice() == &JOURNAL[..40]
+        && other.hold(rt, rt, rt.alloc(), "held/f", true) == Ok(())
+}
+
 #[test]
 fn a_file_that_another_run_saves_to_or_left_answers_of_is_refused(rt: HostRuntime) {
     fs::create_dir_all(&rt, "held").expect(&rt, "the disk");
     let saving = Saving::new();
     let other = Saving::new();
-    assert!(rt; saving.hold(&rt, &rt, rt.alloc(), "held/f", false) == Ok(()));
-    let held = other.hold(&rt, &rt, rt.alloc(), "held/f", true);
-    assert!(rt; held == Err(HoldFault::Refused));
-    assert!(rt; Pen::new(&rt, &saving).append(&JOURNAL[15..40]));
+    assert!(rt; saves_alone(&rt, &saving, &other));
     // As it does where its run is killed.
     drop(saving);
-    let held = other.hold(&rt, &rt, rt.alloc(), "held/f", false);
-    assert!(rt; held == Err(HoldFault::Refused));
-    assert!(rt; text_at(&rt, "held/f.journal").as_slice() == &JOURNAL[..40]);
-    assert!(rt; other.hold(&rt, &rt, rt.alloc(), "held/f", true) == Ok(()));
+    assert!(rt; only_resumes(&rt, &other));
     drop(other);
 }
 
@@ -102,21 +154,20 @@ const CUT: &[u8] =
 
 const BOTH: &[u8] = b"wgetr-record 2\nfault ended http://h/a\nfault connect http://h/b\n";
 
-// Whether the record at `both/f` is read so, with what its journal has.
-fn is_read<R: Wait + Eprint + AllocGlobal + Files>(rt: &R, wanted: &[u8]) -> bool {
-    let read = Saving::new().read(rt, rt, rt.alloc(), "both/f", 1000);
-    read.is_ok_and(|read| read.as_slice() == wanted)
+// Whether the record at `both/f` is read so.
+fn are_both_read<R: Wait + Eprint + AllocGlobal + Files>(rt: &R, wanted: &[u8]) -> bool {
+    is_read(rt, &Saving::new(), "both/f", 1000, wanted)
 }
 
 #[test]
 fn a_record_counts_before_the_journal_beside_it(rt: HostRuntime) {
     fs::create_dir_all(&rt, "both").expect(&rt, "the disk");
     write(&rt, "both/f", RECORD);
-    assert!(rt; is_read(&rt, RECORD));
+    assert!(rt; are_both_read(&rt, RECORD));
     write(&rt, "both/f.journal", CUT);
-    assert!(rt; is_read(&rt, BOTH));
+    assert!(rt; are_both_read(&rt, BOTH));
     rt.remove_file("both/f").expect(&rt, "the disk");
-    assert!(rt; is_read(&rt, &CUT[..65]));
+    assert!(rt; are_both_read(&rt, &CUT[..65]));
     rt.remove_file("both/f.journal").expect(&rt, "the disk");
-    assert!(rt; !is_read(&rt, b""));
+    assert!(rt; !are_both_read(&rt, b""));
 }

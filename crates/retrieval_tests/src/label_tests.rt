@@ -40,13 +40,15 @@ fn found(rt: &impl Abort, alloc: Global, labels: &Labels, text: &str) -> Option<
     labels.find(&address)
 }
 
-// Whether both addresses are read back, with their depths.
+// Whether both addresses are read back, with their depths, and a third isn't found.
 fn holds_both(rt: &impl Abort, alloc: Global, labels: &Labels) -> bool {
     let second = Address::read(alloc, "http://h/b").expect(rt, "an address");
     labels.len() == 2
         && labels.depth(0) == 1
         && labels.depth(1) == 0
         && *labels.address(1) == second
+        && labels.find(&second) == Some(1)
+        && found(rt, alloc, labels, "http://h/c").is_none()
 }
 
 #[test]
@@ -56,7 +58,6 @@ fn a_full_table_still_lowers_what_it_holds(rt: HostRuntime) {
     for line in OFFERS.lines() {
         assert!(rt; is_answered(&rt, alloc, &mut labels, line), "{line}");
     }
-    assert!(rt; found(&rt, alloc, &labels, "http://h/b") == Some(1));
-    assert!(rt; found(&rt, alloc, &labels, "http://h/c").is_none());
     assert!(rt; holds_both(&rt, alloc, &labels));
+    drop(labels);
 }

@@ -1,7 +1,7 @@
 //! A frontier behind a lock: what each call does with ample memory, and that a worker sleeps until another is done.
+use crate::rows::plan;
 use address::Address;
 use fetcher::{Edge, EdgeKind, Edges, Outcome};
-use follow_filters::{Limit, Plan};
 use frontier_core::{Cause, Frontier, Permit, Work};
 use frontier_lock::{Done, FrontierLock, Held, Refused};
 use std::alloc::Global;
@@ -13,11 +13,7 @@ use std::thread::Threads;
 
 /// A frontier from `http://h/`, one hop deep, without robots rules, and two permits at a time.
 fn opened(rt: &impl Abort, alloc: Global) -> Frontier {
-    let start = Address::read(alloc, "http://h/").expect(rt, "an address");
-    if start.is_robots_file() {
-        panic!(rt; "a robots file");
-    }
-    let plan = Plan::unfiltered(alloc, start, Limit::AtMost(1), 10);
+    let plan = plan(rt, alloc, 1, 10);
     Frontier::open(alloc, plan).expect(rt, "memory")
 }
 

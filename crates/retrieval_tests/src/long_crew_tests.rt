@@ -1,9 +1,6 @@
 //! Retrievals in order, and by one worker and by eight, of a site without end, and of a long ring of redirects.
-ghost use Rattle.std.specs.Prelude.{◌≡◌, true};
-ghost use Rattle.follow_filters.specs.Limits.{is_in_range};
-
 use crate::retrieval::{Seen, retrieved, retrieved_in_order};
-use address::Address;
+use crate::rows::plan_from;
 use fetcher::{Ask, Fetcher};
 use follow_filters::{Limit, Plan};
 use site_maps::MapSite;
@@ -13,7 +10,7 @@ use std::sync::Wait;
 use std::thread::Threads;
 
 /// How many addresses may be held, and how many the sites tell of.
-const MOST: u32 = 1_000;
+const MOST: u16 = 1_000;
 
 /// Sites of 1,000 addresses, each of which leads to the next. Of `pages` the last leads to an address of which nothing is
 /// told, so that they go on and on; a `ring` is of redirects, and the last leads to the first. Then how many hops are followed,
@@ -61,34 +58,29 @@ fn map_of(rt: &impl Abort, alloc: Global, is_ring: bool) -> String {
     map
 }
 
-/// So many copies of a chain's site.
-fn sites(rt: &impl Abort, alloc: Global, is_ring: bool, count: u8) -> Vec<MapSite> {
+/// A chain's site.
+fn site(rt: &impl Abort, alloc: Global, is_ring: bool) -> MapSite {
     let map = map_of(rt, alloc, is_ring);
+    MapSite::read(alloc, map.as_bytes()).expect(rt, "a map")
+}
+
+/// So many copies of it.
+fn sites(rt: &impl Abort, alloc: Global, is_ring: bool, count: u8) -> Vec<MapSite> {
     let mut sites = Vec::new(alloc);
     for _ in 0..count {
-        let site = MapSite::read(alloc, map.as_bytes()).expect(rt, "a map");
-        sites.push(site).expect(rt, "memory");
+        sites.push(site(rt, alloc, is_ring)).expect(rt, "memory");
     }
     sites
 }
 
-/// A plan without filters from `http://h/0`.
-fn plan(rt: &impl Abort, alloc: Global, limit: Limit) -> Plan
-    requires { is_in_range limit ≡ true }
-{
-    let start = Address::read(alloc, "http://h/0").expect(rt, "an address");
-    if start.is_robots_file() {
-        panic!(rt; "a robots file");
-    }
-    Plan::unfiltered(alloc, start, limit, MOST)
-}
-
 /// The plan of a chain.
 fn plan_of(rt: &impl Abort, alloc: Global, follows_all: bool) -> Plan {
-    if follows_all {
-        return plan(rt, alloc, Limit::Unlimited);
-    }
-    plan(rt, alloc, Limit::AtMost(999))
+    let limit = if follows_all {
+        Limit::Unlimited
+    } else {
+        Limit::AtMost(999)
+    };
+    plan_from(rt, alloc, "http://h/0", limit, MOST)
 }
 
 /// Marks the pages that were asked for. Gives whether each is one of `http://h/0` to `http://h/999` and wasn't marked.
@@ -125,13 +117,22 @@ fn is_as_told(seen: &Seen, chain: Chain<'_>) -> bool {
     seen.end == chain.end && seen.entries == 1_000 && seen.deepest == chain.deepest
 }
 
+/// Whether a retrieval came to what a chain's line says by asking for its pages once.
+fn is_brought(seen: &Seen, sites: &[MapSite], chain: Chain<'_>) -> bool {
+    is_as_told(seen, chain) && are_asked_once(sites)
+}
+
 /// Whether so many workers bring what a chain's line says.
 fn bring<R: Abort + Threads + Wait + Sync>(rt: &R, alloc: Global, line: &str, workers: u8) -> bool {
     let chain = chain_of(rt, line);
     let plan = plan_of(rt, alloc, chain.follows_all);
     let sites = sites(rt, alloc, chain.is_ring, workers);
     let (seen, sites) = retrieved(rt, alloc, &plan, sites);
-    is_as_told(&seen, chain) && are_asked_once(&sites)
+    drop(plan);
+    let is_brought = is_brought(&seen, &sites, chain);
+    drop(seen);
+    drop(sites);
+    is_brought
 }
 
 #[test]
@@ -162,19 +163,30 @@ fn has_last(rt: &impl Abort, alloc: Global, seen: &Seen) -> bool {
     report.contains(line.as_str())
 }
 
+/// Whether a retrieval in order came to what a chain's line says.
+fn is_brought_in_order(
+    rt: &impl Abort,
+    alloc: Global,
+    seen: &Seen,
+    site: &MapSite,
+    chain: Chain<'_>,
+) -> bool {
+    are_asked_in_turn(rt, alloc, site.asks())
+        && is_as_told(seen, chain)
+        && has_last(rt, alloc, seen)
+}
+
 /// Whether one fetcher asked in order brings what a chain's line says.
 fn brings_in_order(rt: &impl Abort, alloc: Global, line: &str) -> bool {
     let chain = chain_of(rt, line);
     let plan = plan_of(rt, alloc, chain.follows_all);
-    let mut sites = sites(rt, alloc, chain.is_ring, 1);
-    let Some(site) = sites.first_mut() else {
-        return false;
-    };
-    let seen = retrieved_in_order(rt, alloc, &plan, site);
+    let mut site = site(rt, alloc, chain.is_ring);
+    let seen = retrieved_in_order(rt, alloc, &plan, &mut site);
     drop(plan);
-    let is_in_turn = are_asked_in_turn(rt, alloc, site.asks());
-    drop(sites);
-    is_in_turn && is_as_told(&seen, chain) && has_last(rt, alloc, &seen)
+    let is_brought = is_brought_in_order(rt, alloc, &seen, &site, chain);
+    drop(seen);
+    drop(site);
+    is_brought
 }
 
 #[test]

@@ -26,23 +26,23 @@ fn names_of(rt: &impl Abort, alloc: Global, pages: &[Address]) -> Vec<String> {
     names(alloc, pages).expect(rt, "memory")
 }
 
-// The names are these, and stay inside.
-fn are_these(rt: &impl Abort, names: &[String], expected: &str) {
+// Whether the names are these, and stay inside.
+fn are_these(names: &[String], expected: &str) -> bool {
     let mut words = expected.split(' ');
     for name in names {
         let name = name.as_str();
-        let word = words.next().unwrap_or("");
-        assert!(rt; name == word, "{name} isn't next in: {expected}");
-        assert!(rt; stays_inside(name), "{name} leads out");
+        if words.next() != Some(name) || !stays_inside(name) {
+            return false;
+        }
     }
-    assert!(rt; words.next().is_none(), "more are named in: {expected}");
+    words.next().is_none()
 }
 
 // The pages of these texts, which ascend, have these names.
 fn are_named(rt: &impl Abort, alloc: Global, texts: &str, expected: &str) {
     let pages = pages_of(rt, alloc, texts);
     let names = names_of(rt, alloc, &pages);
-    are_these(rt, &names, expected);
+    assert!(rt; are_these(&names, expected), "not named so: {expected}");
 }
 
 // Each line is pages, `=>` and their names.

@@ -126,6 +126,7 @@ fn failures(rt: &impl Abort, alloc: Global, line: &str) -> Vec<PlannedFailure> {
 fn finds<C: Connect>(rt: &impl Abort, alloc: Global, connect: C, wanted: &str) -> bool {
     let mut plan = plan(rt, alloc, 2, 100);
     plan.robots = true;
+    plan.span_hosts = true;
     let mut fetcher = HttpFetcher::new(alloc, connect, true).keeping();
     let seen = retrieved_in_order(rt, alloc, &plan, &mut fetcher);
     drop(plan);
