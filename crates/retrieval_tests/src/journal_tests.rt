@@ -56,10 +56,7 @@ fn is_read<R: Wait + Eprint + AllocGlobal + Files>(
 
 // Whether a journal is these bytes and one entry more behind them.
 fn has_more<R: Files + AllocGlobal>(rt: &R, front: &[u8]) -> bool {
-    text_at(rt, "cut/f.journal").strip_prefix(front)
-        == Some(b"more
-"
-            .as_slice())
+    text_at(rt, "cut/f.journal").strip_prefix(front) == Some(b"more\n".as_slice())
 }
 
 // Whether a journal that was cut is taken as far as this, and goes on behind it.
@@ -72,10 +69,7 @@ where
     R::File: Lock,
 {
     let held = saving.hold(rt, rt, rt.alloc(), "cut/f", true);
-    let is_added = Pen::new(rt, saving).append(
-        b"more
-",
-    );
+    let is_added = Pen::new(rt, saving).append(b"more\n");
     held == Ok(())
         && is_added
         && is_read(rt, saving, "cut/f", JOURNAL.len(), front)
