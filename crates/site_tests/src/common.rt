@@ -1,12 +1,27 @@
-//! What several modules need: addresses, texts that are long, bytes of texts, what a site says, and the end of a test.
+//! What several modules need: parts of rows, addresses, texts that are long, bytes of texts, what a site says, and the end of a test.
 use address::{Address, Origin};
-use fetcher::{Answer, Fetcher, Outcome};
+use fetcher::{Answer, FaultKind, Fetcher, Outcome};
 use std::alloc::Global;
 use std::process::Abort;
 
 /// Ends the test where what a row says isn't so.
 pub(crate) fn demand(rt: &impl Abort, is_so: bool, row: &str) {
     assert!(rt; is_so, "{row}");
+}
+
+/// What stands before a mark in a row, and what behind it: nothing where there is none.
+pub(crate) fn halves<'a>(row: &'a str, mark: &str) -> (&'a str, &'a str) {
+    row.split_once(mark).unwrap_or((row, ""))
+}
+
+/// The field of a row at a place, where a mark parts them: empty where there is none.
+pub(crate) fn field(row: &str, mark: char, place: usize) -> &str {
+    row.split(mark).nth(place).unwrap_or("")
+}
+
+/// The number of a field; 0 where it is none.
+pub(crate) fn number(text: &str) -> usize {
+    text.parse::<usize>().unwrap_or(0)
 }
 
 /// The address of a text.
@@ -16,8 +31,7 @@ pub(crate) fn address(rt: &impl Abort, alloc: Global, text: &str) -> Address {
 
 /// The origin of the address of a text.
 pub(crate) fn origin(rt: &impl Abort, alloc: Global, text: &str) -> Origin {
-    let page = address(rt, alloc, text);
-    Origin::of(&page).expect(rt, "memory")
+    Origin::of(&address(rt, alloc, text)).expect(rt, "memory")
 }
 
 /// The start, so many times the piece, and the end.
@@ -58,24 +72,84 @@ pub(crate) fn is_printed(rt: &impl Abort, alloc: Global, outcome: &Outcome, want
 
 /// Whether an answer has a body of a length and an outcome, as a row says.
 fn is_answered(rt: &impl Abort, alloc: Global, answer: &Answer, row: &str) -> bool {
-    let (len, outcome) = row.split_once(' ').unwrap_or((row, ""));
-    len.parse::<usize>().ok() == Some(answer.body.as_slice().len())
-        && is_printed(rt, alloc, &answer.outcome, outcome)
+    let (len, outcome) = halves(row, " ");
+    answer.body.as_slice().len() == number(len) && is_printed(rt, alloc, &answer.outcome, outcome)
 }
 
-/// Whether a site says of an address what stands behind it: the length of the body, and the outcome.
-pub(crate) fn says<F: Fetcher>(rt: &impl Abort, alloc: Global, site: &mut F, row: &str) -> bool {
-    let (at, wanted) = row.split_once(' ').unwrap_or((row, ""));
+/// Whether a site says of an address what a row says: the length of the body, and the outcome.
+fn says<F: Fetcher>(rt: &impl Abort, alloc: Global, site: &mut F, at: &str, row: &str) -> bool {
     let answer = site.ask(&address(rt, alloc, at)).expect(rt, "memory");
-    is_answered(rt, alloc, &answer, wanted)
+    is_answered(rt, alloc, &answer, row)
 }
 
-/// Whether a site's rules say of an origin and a path what stands behind these.
-pub(crate) fn rules<F: Fetcher>(rt: &impl Abort, alloc: Global, site: &mut F, row: &str) -> bool {
-    let mut words = row.split(' ');
-    let root = words.next().unwrap_or("");
-    let path = words.next().unwrap_or("");
-    let origin = origin(rt, alloc, root);
-    let rules = site.ask_robots(&origin).expect(rt, "memory");
-    rules.allows(path) == (words.next() == Some("yes"))
+/// Whether a site's rules say of an origin what a row says: a path, and whether it may be asked for.
+fn rules<F: Fetcher>(rt: &impl Abort, alloc: Global, site: &mut F, of: &str, row: &str) -> bool {
+    let (path, wanted) = halves(row, " ");
+    let rules = site.ask_robots(&origin(rt, alloc, of)).expect(rt, "memory");
+    rules.allows(path) == (wanted == "yes")
+}
+
+/// Demands that a site, which nobody asked yet, says what each row says of an address or an origin, and notes each question once.
+pub(crate) fn says_all<F: Fetcher>(rt: &impl Abort, alloc: Global, site: &mut F, rows: &str) {
+    for row in rows.lines() {
+        let (of, said) = halves(row, " ");
+        let is_so = if said.starts_with('/') {
+            rules(rt, alloc, site, of, said)
+        } else {
+            says(rt, alloc, site, of, said)
+        };
+        demand(rt, is_so, row);
+    }
+    let is_noted = site.asks().len() == rows.lines().count();
+    demand(rt, is_noted, "each question is noted once");
+}
+
+/// How many edges a site's answer to an address has.
+pub(crate) fn edge_count<F: Fetcher>(
+    rt: &impl Abort,
+    alloc: Global,
+    site: &mut F,
+    at: &str,
+) -> usize {
+    let answer = site.ask(&address(rt, alloc, at)).expect(rt, "memory");
+    answer.outcome.edge_count()
+}
+
+/// The fault of an outcome that is one.
+fn fault_of(outcome: &Outcome) -> Option<FaultKind> {
+    match outcome {
+        Outcome::Fault(kind) => Some(*kind),
+        _ => None,
+    }
+}
+
+/// Asks for a page, and gives the fault that answers.
+fn ask<F: Fetcher>(rt: &impl Abort, alloc: Global, site: &mut F, at: &str) -> Option<FaultKind> {
+    let answer = site.ask(&address(rt, alloc, at)).expect(rt, "memory");
+    fault_of(&answer.outcome)
+}
+
+/// Asks for the rules of an origin.
+fn ask_robots<F: Fetcher>(rt: &impl Abort, alloc: Global, site: &mut F, of: &str) {
+    let _ = site.ask_robots(&origin(rt, alloc, of)).expect(rt, "memory");
+}
+
+/// Asks a site, which nobody asked yet, for pages and, behind `robots:`, for the rules of origins, and gives the fault that answers
+/// the last page.
+pub(crate) fn ask_all<F: Fetcher>(
+    rt: &impl Abort,
+    alloc: Global,
+    site: &mut F,
+    questions: &str,
+) -> Option<FaultKind> {
+    let mut fault = None;
+    for question in questions.split(' ') {
+        match question.strip_prefix("robots:") {
+            Some(of) => ask_robots(rt, alloc, site, of),
+            None => fault = ask(rt, alloc, site, question),
+        }
+    }
+    let is_noted = site.asks().len() == questions.split(' ').count();
+    demand(rt, is_noted, "each question is noted once");
+    fault
 }

@@ -1,5 +1,5 @@
 //! Elements, rules and copies as the GNU Wget manual and worked examples have them.
-use crate::common::{address, demand, repeated};
+use crate::common::{address, demand, field, halves, repeated};
 use follow_filters::{Directory, Domain, ElementFault, Elements, Limit, Pattern, Plan, Rule};
 use std::alloc::Global;
 use std::process::Abort;
@@ -29,16 +29,6 @@ fn word_of(verdict: Result<(), Rule>) -> &'static str {
     }
 }
 
-// How the plan's verdict on an address reads.
-fn verdict(rt: &impl Abort, alloc: Global, plan: &Plan, at: &str) -> &'static str {
-    word_of(plan.passes(&address(rt, alloc, at)))
-}
-
-// Whether the plan keeps the page of an address.
-fn keeps(rt: &impl Abort, alloc: Global, plan: &Plan, at: &str) -> bool {
-    plan.keeps(&address(rt, alloc, at))
-}
-
 // Rows end with a line feed: a pattern, a name, and whether they match.
 const PATTERNS: &str = "gif pic.gif yes
 gif pic.GIF no
@@ -55,11 +45,8 @@ a]? a]b yes
 
 // Whether a row's pattern is read, and matches or doesn't, as the row says.
 fn matches_as(alloc: Global, row: &str) -> bool {
-    let mut fields = row.split(' ');
-    let pattern = fields.next().unwrap_or("");
-    let file = fields.next().unwrap_or("none");
-    match Pattern::read(alloc, pattern) {
-        Ok(read) => read.matches(file) == (fields.next() == Some("yes")),
+    match Pattern::read(alloc, field(row, ' ', 0)) {
+        Ok(read) => read.matches(field(row, ' ', 1)) == (field(row, ' ', 2) == "yes"),
         Err(_) => false,
     }
 }
@@ -71,61 +58,89 @@ fn patterns_match_as_the_shell_does(rt: HostRuntime) {
     }
 }
 
-// Whether an element was refused as one that is bad.
-fn is_bad(fault: Option<ElementFault>) -> bool {
-    matches!(fault, Some(ElementFault::Bad))
+// Rows end with `|`: what a text is to be read as, and the text.
+const BAD: &str = "pattern [a|pattern []|pattern [!]|pattern []a]|pattern [b-a]x|\
+    directory a|directory /a*|directory |domain .|domain |domain a/b|domain bücher.de";
+
+// The fault of a row's text, where it has one.
+fn fault_of(alloc: Global, row: &str) -> Option<ElementFault> {
+    let (kind, text) = halves(row, " ");
+    if kind == "pattern" {
+        Pattern::read(alloc, text).err()
+    } else if kind == "directory" {
+        Directory::read(alloc, text).err()
+    } else {
+        Domain::read(alloc, text).err()
+    }
 }
 
 #[test]
 fn bad_elements_are_refused(rt: HostRuntime) {
-    for pattern in ["[a", "[]", "[!]", "[]a]", "[b-a]x"] {
+    for row in BAD.split('|') {
         demand(
             &rt,
-            is_bad(Pattern::read(rt.alloc(), pattern).err()),
-            pattern,
+            matches!(fault_of(rt.alloc(), row), Some(ElementFault::Bad)),
+            row,
         );
-    }
-    for directory in ["a", "/a*", ""] {
-        demand(
-            &rt,
-            is_bad(Directory::read(rt.alloc(), directory).err()),
-            directory,
-        );
-    }
-    for domain in [".", "", "a/b", "bücher.de"] {
-        demand(&rt, is_bad(Domain::read(rt.alloc(), domain).err()), domain);
     }
 }
 
-// Whether a directory, a domain and a pattern of so many letters are read.
-fn are_read(rt: &impl Abort, alloc: Global, letters: usize) -> bool {
-    let text = repeated(rt, alloc, "/", "a", letters, "");
-    let directory = Directory::read(alloc, text.as_str()).expect(rt, "a directory");
-    if directory.as_str() != text.as_str() {
-        return false;
-    }
-    let text = repeated(rt, alloc, "", "a", letters, "");
-    let domain = Domain::read(alloc, text.as_str()).expect(rt, "a domain");
-    let pattern = Pattern::read(alloc, text.as_str()).expect(rt, "a pattern");
-    domain.as_str() == text.as_str() && pattern.matches(text.as_str())
+// Whether a directory, a domain and a pattern are those of these texts.
+fn are_of(
+    directory: &Directory,
+    domain: &Domain,
+    pattern: &Pattern,
+    path: &str,
+    name: &str,
+) -> bool {
+    directory.as_str() == path && domain.as_str() == name && pattern.matches(name)
+}
+
+// Whether a path is read as a directory, and its name as a domain and a pattern.
+fn are_read(rt: &impl Abort, alloc: Global, path: &str) -> bool {
+    let (_, name) = halves(path, "/");
+    are_of(
+        &Directory::read(alloc, path).expect(rt, "a directory"),
+        &Domain::read(alloc, name).expect(rt, "a domain"),
+        &Pattern::read(alloc, name).expect(rt, "a pattern"),
+        path,
+        name,
+    )
 }
 
 #[test]
 fn long_elements_are_read(rt: HostRuntime) {
     for letters in [300, 8_000] {
-        assert!(rt; are_read(&rt, rt.alloc(), letters), "{letters}");
+        let path = repeated(&rt, rt.alloc(), "/", "a", letters, "");
+        assert!(rt; are_read(&rt, rt.alloc(), path.as_str()), "{letters}");
     }
 }
 
-// Rows end with a line feed: an address, and how the plan's verdict on it reads.
-fn judges(rt: &impl Abort, alloc: Global, plan: &Plan, rows: &str) -> bool {
-    for row in rows.lines() {
-        let (address, expected) = row.split_once(' ').unwrap_or((row, ""));
-        if verdict(rt, alloc, plan, address) != expected {
-            return false;
-        }
+// Whether a copy is the same as the plan, until that rejects nothing.
+fn is_copied(rt: &impl Abort, alloc: Global, plan: &mut Plan) -> bool {
+    let copy = plan.try_clone().expect(rt, "memory");
+    let was_same = copy.same(plan);
+    plan.reject = Elements::none(alloc);
+    let is_same = copy.same(plan);
+    drop(copy);
+    was_same && !is_same
+}
+
+// Whether a line holds of a plan: behind an address stands how the verdict on it reads, and behind `kept` an address and whether
+// its page is kept.
+fn holds(rt: &impl Abort, alloc: Global, plan: &Plan, line: &str) -> bool {
+    let (at, verdict) = halves(line, " ");
+    if at == "kept" {
+        let (at, is_kept) = halves(verdict, " ");
+        return plan.keeps(&address(rt, alloc, at)) == (is_kept == "yes");
     }
-    true
+    word_of(plan.passes(&address(rt, alloc, at))) == verdict
+}
+
+fn lines_hold(rt: &(impl Abort + AllocGlobal), plan: &Plan, lines: &str) {
+    for line in lines.lines() {
+        demand(rt, holds(rt, rt.alloc(), plan, line), line);
+    }
 }
 
 const OF_ONE_HOST: &str = "http://foo.edu:81/a passes
@@ -142,11 +157,11 @@ fn hosts_and_domains_are_looked_at_in_order(rt: HostRuntime) {
     let alloc = rt.alloc();
     let mut plan = plan_from(&rt, alloc, "http://foo.edu/");
     plan.domains = Elements::read(alloc, ".foo.edu").expect(&rt, "domains");
-    assert!(rt; judges(&rt, alloc, &plan, OF_ONE_HOST));
+    lines_hold(&rt, &plan, OF_ONE_HOST);
     plan.span_hosts = true;
-    assert!(rt; judges(&rt, alloc, &plan, OF_ONE_DOMAIN));
+    lines_hold(&rt, &plan, OF_ONE_DOMAIN);
     plan.exclude_domains = Elements::read(alloc, "WWW.foo.edu").expect(&rt, "domains");
-    assert!(rt; verdict(&rt, alloc, &plan, "http://www.foo.edu/") == "excluded domain");
+    lines_hold(&rt, &plan, "http://www.foo.edu/ excluded domain");
     drop(plan);
 }
 
@@ -167,41 +182,28 @@ fn directories_begin_with_an_element_and_a_slash(rt: HostRuntime) {
     let alloc = rt.alloc();
     let mut plan = plan_from(&rt, alloc, "http://h/bar/");
     plan.include_dirs = Elements::read(alloc, "/a/").expect(&rt, "directories");
-    assert!(rt; judges(&rt, alloc, &plan, INCLUDED));
+    lines_hold(&rt, &plan, INCLUDED);
     plan.include_dirs = Elements::read(alloc, "//").expect(&rt, "directories");
     plan.exclude_dirs = Elements::read(alloc, "/x").expect(&rt, "directories");
-    assert!(rt; judges(&rt, alloc, &plan, EXCLUDED));
+    lines_hold(&rt, &plan, EXCLUDED);
     plan.no_parent = true;
-    assert!(rt; judges(&rt, alloc, &plan, BELOW_START));
+    lines_hold(&rt, &plan, BELOW_START);
     drop(plan);
 }
 
-// Rows end with a line feed: an address, whether its page is kept, and how the verdict reads.
-const NAMES: &str = "http://h/ no passes
-http://h/page.html no passes
-http://h/pic.gif yes passes
-http://h/pic.gif?x=1 yes passes
-http://h/pic.GIF no not accepted
-http://h/x.gif no rejected
+const NAMES: &str = "http://h/ passes
+kept http://h/ no
+http://h/page.html passes
+kept http://h/page.html no
+http://h/pic.gif passes
+kept http://h/pic.gif yes
+http://h/pic.gif?x=1 passes
+kept http://h/pic.gif?x=1 yes
+http://h/pic.GIF not accepted
+kept http://h/pic.GIF no
+http://h/x.gif rejected
+kept http://h/x.gif no
 ";
-
-// Whether the plan follows and keeps the page of a row as that says.
-fn follows(rt: &impl Abort, alloc: Global, plan: &Plan, row: &str) -> bool {
-    let (address, rest) = row.split_once(' ').unwrap_or((row, ""));
-    let (kept, expected) = rest.split_once(' ').unwrap_or((rest, ""));
-    verdict(rt, alloc, plan, address) == expected
-        && keeps(rt, alloc, plan, address) == (kept == "yes")
-}
-
-// Whether a copy is the same as the plan, until that rejects nothing.
-fn is_copied(rt: &impl Abort, alloc: Global, plan: &mut Plan) -> bool {
-    let copy = plan.try_clone().expect(rt, "memory");
-    let was_same = copy.same(plan);
-    plan.reject = Elements::none(alloc);
-    let is_same = copy.same(plan);
-    drop(copy);
-    was_same && !is_same
-}
 
 #[test]
 fn pages_are_followed_to_more_names_than_are_kept(rt: HostRuntime) {
@@ -209,9 +211,7 @@ fn pages_are_followed_to_more_names_than_are_kept(rt: HostRuntime) {
     let mut plan = plan_from(&rt, alloc, "http://h/");
     plan.accept = Elements::read(alloc, "gif").expect(&rt, "patterns");
     plan.reject = Elements::read(alloc, "[xy]*").expect(&rt, "patterns");
-    for row in NAMES.lines() {
-        demand(&rt, follows(&rt, alloc, &plan, row), row);
-    }
+    lines_hold(&rt, &plan, NAMES);
     assert!(rt; is_copied(&rt, alloc, &mut plan));
     drop(plan);
 }

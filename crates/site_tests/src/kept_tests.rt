@@ -1,39 +1,55 @@
 //! Connections that are kept: behind which responses one serves again, and what is asked once more where one died.
-use crate::common::{address, demand, origin};
+use crate::common::{ask_all, demand, field, halves, number};
 use crate::fetch_tests::site_of;
 use address::Origin;
 use response_reader::{PlannedFault, WireFault};
 use site_answer::{
-    Connect, ConnectFault, FailingPlace, FaultKind, Fetcher, HttpFetcher, MemoryConnect, Outcome,
-    PlannedFailure,
+    Connect, ConnectFault, FailingPlace, FaultKind, HttpFetcher, MemoryConnect, PlannedFailure,
 };
 use std::alloc::Global;
 use std::process::Abort;
 
-// Makes the connections of another, and counts those that were made, taken again, given back and ended.
-#[derive(Drop)]
-struct Counted<C: Connect> {
-    inner: C,
+/// How many connections were made, taken again, given back and ended.
+#[derive(Clone, Copy)]
+pub(crate) struct Counts {
     made: u32,
     taken: u32,
     given: u32,
-    ended: u32,
+    pub(crate) ended: u32,
+}
+
+impl Counts {
+    // Whether so many were made, taken again, given back and ended.
+    fn are(&self, made: u32, taken: u32, given: u32, ended: u32) -> bool {
+        self.made == made && self.taken == taken && self.given == given && self.ended == ended
+    }
+
+    // Whether a word says rightly that the connection of one question served a second one.
+    fn say(&self, serves: &str) -> bool {
+        if serves == "yes" {
+            self.are(1, 1, 2, 0)
+        } else {
+            self.are(2, 0, 1, 1)
+        }
+    }
+}
+
+// Makes the connections of another, and counts them.
+#[derive(Drop)]
+struct Counted<C: Connect> {
+    inner: C,
+    counts: Counts,
 }
 
 impl<C: Connect> Counted<C> {
     fn new(inner: C) -> Counted<C> {
-        Counted {
-            inner,
+        let counts = Counts {
             made: 0,
             taken: 0,
             given: 0,
             ended: 0,
-        }
-    }
-
-    // Whether so many were made, taken again, given back and ended.
-    fn are(&self, made: u32, taken: u32, given: u32, ended: u32) -> bool {
-        self.made == made && self.taken == taken && self.given == given && self.ended == ended
+        };
+        Counted { inner, counts }
     }
 }
 
@@ -55,23 +71,23 @@ impl<C: Connect> Connect for Counted<C> {
     ghost again = { λ left wire. C.again left wire };
 
     fn connect(&mut self, of: &Origin) -> Result<C::Wire, ConnectFault> {
-        self.made = self.made.saturating_add(1);
+        self.counts.made = self.counts.made.saturating_add(1);
         self.inner.connect(of)
     }
 
     fn take(&mut self, of: &Origin) -> Option<C::Wire> {
         let wire = self.inner.take(of)?;
-        self.taken = self.taken.saturating_add(1);
+        self.counts.taken = self.counts.taken.saturating_add(1);
         Some(wire)
     }
 
     fn give_back(&mut self, of: &Origin, wire: C::Wire) {
-        self.given = self.given.saturating_add(1);
+        self.counts.given = self.counts.given.saturating_add(1);
         self.inner.give_back(of, wire);
     }
 
     fn close(&mut self, wire: C::Wire) {
-        self.ended = self.ended.saturating_add(1);
+        self.counts.ended = self.counts.ended.saturating_add(1);
         self.inner.close(wire);
     }
 
@@ -93,126 +109,123 @@ http://h/cut HTTP/1.1 200 |Content-Length: 2||a
 http://h/robots.txt HTTP/1.1 302 |Location: /rules|Content-Length: 0||
 http://h/rules HTTP/1.1 200 |Content-Length: 0||";
 
-// Whether a second question is asked over the connection of the first, for this path.
-fn serves_again<C: Connect>(rt: &impl Abort, alloc: Global, inner: C, path: &str) -> bool {
-    let mut fetcher = HttpFetcher::new(alloc, Counted::new(inner), true).keeping();
-    for at in [path, "http://h/a"] {
-        let _ = fetcher.ask(&address(rt, alloc, at)).expect(rt, "memory");
+// What is counted where questions are asked over these connections, each kept or not, and the fault that answers the last page.
+fn asked_over<C: Connect>(
+    rt: &impl Abort,
+    alloc: Global,
+    inner: C,
+    keeps: bool,
+    questions: &str,
+) -> (Counts, Option<FaultKind>) {
+    let mut fetcher = HttpFetcher::new(alloc, Counted::new(inner), true);
+    if keeps {
+        fetcher = fetcher.keeping();
     }
-    if fetcher.connect().are(1, 1, 2, 0) {
-        return true;
-    }
-    demand(rt, fetcher.connect().are(2, 0, 1, 1), path);
-    false
+    let fault = ask_all(rt, alloc, &mut fetcher, questions);
+    let counts = fetcher.connect().counts;
+    drop(fetcher);
+    (counts, fault)
 }
+
+/// The same of a site that is given by lines, where these failures are planned.
+pub(crate) fn asked(
+    rt: &impl Abort,
+    alloc: Global,
+    lines: &str,
+    failures: &[PlannedFailure],
+    keeps: bool,
+    questions: &str,
+) -> (Counts, Option<FaultKind>) {
+    let answers = site_of(rt, alloc, lines);
+    let inner = MemoryConnect::new(alloc, &answers, failures);
+    asked_over(rt, alloc, inner, keeps, questions)
+}
+
+// Rows: whether the connection that answers the first question serves again, and two questions.
+const SERVING: &str = "yes http://h/a http://h/a
+yes http://h/chunks http://h/a
+yes http://h/none http://h/a
+yes http://h/missing http://h/a
+no http://h/close http://h/a
+no http://h/old http://h/a
+no http://h/open http://h/a
+no http://h/over http://h/a
+no http://h/cut http://h/a
+";
 
 #[test]
 fn a_connection_serves_again_behind_a_response_that_lets_it(rt: HostRuntime) {
     let alloc = rt.alloc();
-    let answers = site_of(&rt, alloc, SITE);
-    for path in ["/a", "/chunks", "/none", "/missing"] {
-        let at = format!(in alloc; "http://h{path}").expect(&rt, "memory");
-        let inner = MemoryConnect::new(alloc, &answers, &[]);
-        demand(&rt, serves_again(&rt, alloc, inner, at.as_str()), path);
-    }
-    for path in ["/close", "/old", "/open", "/over", "/cut"] {
-        let at = format!(in alloc; "http://h{path}").expect(&rt, "memory");
-        let inner = MemoryConnect::new(alloc, &answers, &[]);
-        demand(&rt, !serves_again(&rt, alloc, inner, at.as_str()), path);
+    for row in SERVING.lines() {
+        let (serves, questions) = halves(row, " ");
+        let (counts, _) = asked(&rt, alloc, SITE, &[], true, questions);
+        demand(&rt, counts.say(serves), row);
     }
 }
 
-// How many connections are made where a page is asked for twice, and whether the second answer is this fault, or none.
-fn made_by<C: Connect>(rt: &impl Abort, alloc: Global, inner: C, fault: Option<FaultKind>) -> u32 {
-    let mut fetcher = HttpFetcher::new(alloc, Counted::new(inner), true).keeping();
-    let at = address(rt, alloc, "http://h/a");
-    let _ = fetcher.ask(&at).expect(rt, "memory");
-    let second = fetcher.ask(&at).expect(rt, "memory");
-    let found = match second.outcome {
-        Outcome::Fault(kind) => Some(kind),
-        _ => None,
-    };
-    demand(rt, found == fault, "the second answer");
-    demand(
-        rt,
-        fetcher.asks().len() == 2,
-        "each question is logged once",
-    );
-    fetcher.connect().made
-}
+// Rows: how many connections are made where a page is asked for twice, the fault that answers the second question, and what fails:
+// a connection, and behind `:` the call of it, `idle` where it dies while it is kept, `connect` where it can't be made. First the
+// second request can't be written, or no byte of its answer be read; then the connection in its place fails too, which is the answer.
+const FAILURES: &str = "1 none
+2 none 0:idle
+2 none 0:2
+2 none 0:3
+2 device 0:idle 1:0
+2 connect 0:idle 1:connect
+";
 
-// The same where these failures are planned.
-fn made_for_two(
-    rt: &impl Abort,
-    alloc: Global,
-    failures: &[PlannedFailure],
-    fault: Option<FaultKind>,
-) -> u32 {
-    let answers = site_of(rt, alloc, SITE);
-    made_by(
-        rt,
-        alloc,
-        MemoryConnect::new(alloc, &answers, failures),
-        fault,
-    )
-}
+const TWICE: &str = "http://h/a http://h/a";
 
-// The failure of a call of a connection.
-fn failed_call(connection: u64, call: u64) -> PlannedFailure {
-    PlannedFailure {
-        connection,
-        place: FailingPlace::Call(PlannedFault {
-            call,
+// The failure of a word of a row.
+fn failure_of(word: &str) -> PlannedFailure {
+    let (connection, place) = halves(word, ":");
+    let place = if place == "idle" {
+        FailingPlace::Idle
+    } else if place == "connect" {
+        FailingPlace::Connect
+    } else {
+        FailingPlace::Call(PlannedFault {
+            call: number(place) as u64,
             fault: WireFault::Failed,
-        }),
+        })
+    };
+    PlannedFailure {
+        connection: number(connection) as u64,
+        place,
     }
 }
 
-const DIED: PlannedFailure = PlannedFailure {
-    connection: 0,
-    place: FailingPlace::Idle,
-};
+// The failures of a row.
+fn failures_of(rt: &impl Abort, alloc: Global, row: &str) -> Vec<PlannedFailure> {
+    let mut failures = Vec::new(alloc);
+    for word in row.split(' ').skip(2) {
+        failures.push(failure_of(word)).expect(rt, "memory");
+    }
+    failures
+}
+
+// Whether so many connections were made, and this fault answers, as a row says.
+fn is_replaced(made: u32, fault: Option<FaultKind>, row: &str) -> bool {
+    made as usize == number(field(row, ' ', 0)) && fault == FaultKind::of_word(field(row, ' ', 1))
+}
 
 #[test]
 fn a_connection_that_died_is_replaced_once(rt: HostRuntime) {
     let alloc = rt.alloc();
-    assert_eq!(rt; made_for_two(&rt, alloc, &[], None), 1);
-    assert_eq!(rt; made_for_two(&rt, alloc, &[DIED], None), 2);
-    // The second request can't be written, or no byte of its answer can be read.
-    assert_eq!(rt; made_for_two(&rt, alloc, &[failed_call(0, 2)], None), 2);
-    assert_eq!(rt; made_for_two(&rt, alloc, &[failed_call(0, 3)], None), 2);
-    // The connection in its place fails too: that is the answer.
-    let lost = Some(FaultKind::Device);
-    assert_eq!(rt;
-        made_for_two(&rt, alloc, &[DIED, failed_call(1, 0)], lost),
-        2
-    );
-    let refused = PlannedFailure {
-        connection: 1,
-        place: FailingPlace::Connect,
-    };
-    assert_eq!(rt;
-        made_for_two(&rt, alloc, &[DIED, refused], Some(FaultKind::Connect)),
-        2
-    );
+    for row in FAILURES.lines() {
+        let failures = failures_of(&rt, alloc, row);
+        let (counts, fault) = asked(&rt, alloc, SITE, &failures, true, TWICE);
+        demand(&rt, is_replaced(counts.made, fault, row), row);
+    }
 }
 
-// Whether the chain of an origin's robots file goes over one connection, and that of another origin over its own.
-fn are_chains_kept<C: Connect>(rt: &impl Abort, alloc: Global, inner: C) -> bool {
-    let mut fetcher = HttpFetcher::new(alloc, Counted::new(inner), true).keeping();
-    let _ = fetcher
-        .ask_robots(&origin(rt, alloc, "http://h/"))
-        .expect(rt, "memory");
-    let first = fetcher.connect().are(1, 1, 2, 0);
-    let _ = fetcher
-        .ask_robots(&origin(rt, alloc, "http://k/"))
-        .expect(rt, "memory");
-    first && fetcher.connect().made == 2
-}
-
+// The chain of an origin's robots file goes over one connection, and that of another origin over its own.
 #[test]
 fn a_chain_of_redirects_is_asked_over_one_connection(rt: HostRuntime) {
     let alloc = rt.alloc();
-    let answers = site_of(&rt, alloc, SITE);
-    assert!(rt; are_chains_kept(&rt, alloc, MemoryConnect::new(alloc, &answers, &[])));
+    let (counts, _) = asked(&rt, alloc, SITE, &[], true, "robots:http://h/");
+    assert!(rt; counts.are(1, 1, 2, 0));
+    let both = "robots:http://h/ robots:http://k/";
+    let (counts, _) = asked(&rt, alloc, SITE, &[], true, both);
+    assert!(rt; counts.made == 2);
 }

@@ -1,7 +1,6 @@
 //! Maps in examples: what each line says, which line is bad, and each call once.
-use crate::common::{address, bytes_of, demand, rules, says};
-use address::{Address, Origin};
-use fetcher::{Fetcher, SteadyFetcher};
+use crate::common::{bytes_of, demand, edge_count, halves, says_all};
+use fetcher::SteadyFetcher;
 use site_inputs::InputFault;
 use site_maps::MapSite;
 use std::alloc::Global;
@@ -44,10 +43,7 @@ fn site_of(rt: &impl Abort, alloc: Global, map: &str) -> MapSite {
 #[test]
 fn a_map_says_what_its_lines_say(rt: HostRuntime) {
     let mut site = site_of(&rt, rt.alloc(), SITE);
-    for row in ANSWERS.lines() {
-        demand(&rt, says(&rt, rt.alloc(), &mut site, row), row);
-    }
-    assert_eq!(rt; site.asks().len(), 7);
+    says_all(&rt, rt.alloc(), &mut site, ANSWERS);
     drop(site);
 }
 
@@ -109,7 +105,7 @@ fn is_named(rt: &impl Abort, alloc: Global, map: &[u8], line: &str) -> bool {
 
 // Whether the line of a row is named of the map behind it.
 fn is_bad(rt: &impl Abort, alloc: Global, row: &str) -> bool {
-    let (line, map) = row.split_once(": ").unwrap_or((row, ""));
+    let (line, map) = halves(row, ": ");
     let map = bytes_of(rt, alloc, map.strip_suffix(";").unwrap_or(map));
     is_named(rt, alloc, &map, line)
 }
@@ -156,25 +152,8 @@ fn a_map_has_the_rules_of_its_robots_lines(rt: HostRuntime) {
     let first = site_of(&rt, rt.alloc(), ROBOTS);
     let mut site = first.try_clone().expect(&rt, "memory");
     drop(first);
-    for row in ALLOWED.lines() {
-        demand(&rt, rules(&rt, rt.alloc(), &mut site, row), row);
-    }
-    assert_eq!(rt; site.asks().len(), 9);
+    says_all(&rt, rt.alloc(), &mut site, ALLOWED);
     drop(site);
-}
-
-// The outcome's text, and the log's after one more ask, of any steady site.
-fn steady_text<F: SteadyFetcher>(
-    rt: &impl Abort,
-    alloc: Global,
-    fetcher: &mut F,
-    at: &Address,
-) -> String {
-    let answer = fetcher.ask(at).expect(rt, "memory");
-    let origin = Origin::of(at).expect(rt, "memory");
-    let _rules = fetcher.ask_robots(&origin).expect(rt, "memory");
-    let asks = fetcher.asks();
-    format!(in alloc; "{:?} {asks:?}", answer.outcome).expect(rt, "memory")
 }
 
 #[test]
@@ -183,10 +162,22 @@ fn a_map_with_a_fault_line_is_not_steady(rt: HostRuntime) {
     let Err(mut site) = site_of(&rt, alloc, SITE).steady() else {
         panic!(rt; "a map with a fault line");
     };
-    let at = address(&rt, alloc, "http://h/");
-    let answer = site.ask(&at).expect(&rt, "memory");
-    assert!(rt; answer.outcome.edge_count() == 3);
+    assert_eq!(rt; edge_count(&rt, alloc, &mut site, "http://h/"), 3);
     drop(site);
+}
+
+// What a steady site is asked here, and how it notes that.
+const STEADY: &str = "http://h/ 0 Page(200, Edges { items: [] })
+http://h/ / yes
+";
+
+const NOTED: &str = "[Page(\"http://h/\"), Rules(\"http://h\")]";
+
+// Whether a steady site, of whatever kind, answers and notes that.
+fn is_steady<F: SteadyFetcher>(rt: &impl Abort, alloc: Global, site: &mut F) -> bool {
+    says_all(rt, alloc, site, STEADY);
+    let asks = format!(in alloc; "{:?}", site.asks()).expect(rt, "memory");
+    asks.as_str() == NOTED
 }
 
 #[test]
@@ -197,11 +188,7 @@ fn a_map_without_fault_lines_is_steady(rt: HostRuntime) {
     };
     let mut site = first.try_clone().expect(&rt, "memory");
     drop(first);
-    let at = address(&rt, alloc, "http://h/");
-    assert!(rt;
-        steady_text(&rt, alloc, &mut site, &at).as_str()
-            == "Page(200, Edges { items: [] }) [Page(\"http://h/\"), Rules(\"http://h\")]"
-    );
+    assert!(rt; is_steady(&rt, alloc, &mut site));
     drop(site);
 }
 

@@ -47,7 +47,6 @@ fn outcomes_are_the_same_where_all_parts_are(rt: HostRuntime) {
             assert!(rt; is_same(&rt, rt.alloc(), k, j) == (k == j), "{k} {j}");
         }
     }
-    assert!(rt; FaultKind::of_word("body-long") == Some(FaultKind::BodyLong));
 }
 
 // Whether a copy of the ask is for the page of this address.
@@ -65,6 +64,11 @@ fn parts_come_back_as_they_were(rt: HostRuntime) {
     assert!(rt; Body::new(bytes).into_vec().as_slice() == [7, 8].as_slice());
     let ask = Ask::Page(address(&rt, alloc, "http://h/"));
     assert!(rt; asks_for(&rt, &ask, "http://h/"));
+}
+
+#[test]
+fn words_name_faults_and_numbers_statuses(rt: HostRuntime) {
+    assert!(rt; FaultKind::of_word("body-long") == Some(FaultKind::BodyLong));
     assert!(rt; FaultKind::HeadLong.word() == "head-long");
     assert!(rt; FaultKind::Ended.class() == FaultClass::Network);
     assert!(rt; is_redirect(308) && !is_redirect(304));

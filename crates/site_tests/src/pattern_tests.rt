@@ -1,7 +1,7 @@
 //! Patterns of the shell's kind over bytes: `*` is a run, `?` takes any byte.
 ghost use Rattle.std.specs.Prelude.{◌≡◌, Bool, true, false, ◌==◌, ◌||◌, ℕ};
 
-use crate::common::demand;
+use crate::common::{demand, field};
 use part_match::{Part, matches};
 use std::alloc::Global;
 use std::process::Abort;
@@ -55,11 +55,8 @@ const ROWS: &str = "- - yes|\
 
 // Whether a row's pattern and text match, or don't, as the row says.
 fn holds(rt: &impl Abort, alloc: Global, row: &str) -> bool {
-    let mut words = row.split(' ');
-    let pattern = words.next().unwrap_or("no row");
-    let text = words.next().unwrap_or("no row");
-    let found = answers(rt, alloc, pattern, text);
-    words.next() == Some(if found { "yes" } else { "no" })
+    let found = answers(rt, alloc, field(row, ' ', 0), field(row, ' ', 1));
+    field(row, ' ', 2) == if found { "yes" } else { "no" }
 }
 
 #[test]

@@ -1,5 +1,5 @@
 //! Records in examples: what each entry says, which entry is bad, and each call once.
-use crate::common::{address, bytes_of, demand, rules, says};
+use crate::common::{bytes_of, demand, edge_count, halves, says_all};
 use crate::map_tests::told;
 use fetcher::{Ask, Fetcher};
 use site_inputs::InputFault;
@@ -119,10 +119,7 @@ fn recorded(rt: &impl Abort, alloc: Global, record: &str, robots: bool) -> Recor
 fn a_record_says_what_its_entries_say(rt: HostRuntime) {
     let first = recorded(&rt, rt.alloc(), SITE, true);
     let mut site = first.try_clone().expect(&rt, "memory");
-    for row in ANSWERS.lines() {
-        demand(&rt, says(&rt, rt.alloc(), &mut site, row), row);
-    }
-    assert_eq!(rt; site.asks().len(), 8);
+    says_all(&rt, rt.alloc(), &mut site, ANSWERS);
     drop(site);
     assert!(rt; first.asks().is_empty());
     drop(first);
@@ -164,27 +161,20 @@ hop http://o/robots.txt 4
 HTTP
 ";
 
-// Whether this agent may ask an origin of that record for a path, a row for each.
+// Whether this agent may ask an origin of that record for a path, a row for each, and what it says of the fault.
 const LED: &str = "http://h/ /a no
 http://k/ /a no
 http://m/ /a yes
 http://n/ /a yes
 http://o/ /a no
 http://l/ /a yes
+http://h/z 0 Fault(Head)
 ";
 
 #[test]
 fn a_record_of_chains_has_the_rules_at_their_ends(rt: HostRuntime) {
     let mut site = recorded(&rt, rt.alloc(), SECOND, true);
-    for row in LED.lines() {
-        demand(&rt, rules(&rt, rt.alloc(), &mut site, row), row);
-    }
-    demand(
-        &rt,
-        says(&rt, rt.alloc(), &mut site, "http://h/z 0 Fault(Head)"),
-        "fault",
-    );
-    assert_eq!(rt; site.asks().len(), 7);
+    says_all(&rt, rt.alloc(), &mut site, LED);
     drop(site);
 }
 
@@ -199,9 +189,7 @@ http://z/ /b yes
 #[test]
 fn a_record_has_the_rules_of_its_origins(rt: HostRuntime) {
     let mut site = recorded(&rt, rt.alloc(), SITE, true);
-    for row in ALLOWED.lines() {
-        demand(&rt, rules(&rt, rt.alloc(), &mut site, row), row);
-    }
+    says_all(&rt, rt.alloc(), &mut site, ALLOWED);
     assert!(rt; matches!(site.asks(), [Ask::Rules(_), ..]));
     drop(site);
 }
@@ -209,9 +197,7 @@ fn a_record_has_the_rules_of_its_origins(rt: HostRuntime) {
 #[test]
 fn links_that_a_page_forbids_are_followed_where_robots_are_off(rt: HostRuntime) {
     let mut site = recorded(&rt, rt.alloc(), SITE, false);
-    let at = address(&rt, rt.alloc(), "http://h/q");
-    let answer = site.ask(&at).expect(&rt, "memory");
-    assert_eq!(rt; answer.outcome.edge_count(), 1);
+    assert_eq!(rt; edge_count(&rt, rt.alloc(), &mut site, "http://h/q"), 1);
     drop(site);
 }
 
@@ -222,7 +208,7 @@ fn fault_of(alloc: Global, record: &[u8]) -> Option<InputFault> {
 
 // Whether the line of a row is named of the record behind it.
 fn is_bad(rt: &impl Abort, alloc: Global, row: &str) -> bool {
-    let (line, record) = row.split_once(": ").unwrap_or((row, ""));
+    let (line, record) = halves(row, ": ");
     let bytes = bytes_of(rt, alloc, record.strip_suffix(";").unwrap_or(record));
     told(rt, alloc, fault_of(alloc, &bytes)).as_str() == line
 }
@@ -240,29 +226,36 @@ fn fault_at(ends: &[usize], due: &[usize], len: usize) -> Option<InputFault> {
     if ends.contains(&len) && !due.contains(&len) {
         return None;
     }
-    let whole = ends.iter().filter(|end| **end <= len).count();
-    Some(InputFault::Line(whole.wrapping_add(1)))
+    let mut line = 1usize;
+    for end in ends {
+        if *end <= len {
+            line = line.saturating_add(1);
+        }
+    }
+    Some(InputFault::Line(line))
+}
+
+// Whether a record has that fault where it is cut at this length.
+fn is_cut(alloc: Global, bytes: &[u8], ends: &[usize], due: &[usize], len: usize) -> bool {
+    let (front, _) = bytes.split_at(len.min(bytes.len()));
+    fault_of(alloc, front) == fault_at(ends, due, len)
 }
 
 // Cuts a record at each byte.
-fn cut(rt: &impl Abort, alloc: Global, record: &str, ends: &[usize], due: &[usize]) {
-    let bytes = bytes_of(rt, alloc, record);
-    assert_eq!(rt; Some(&bytes.len()), ends.last());
+fn cut(rt: &impl Abort, alloc: Global, bytes: &[u8], ends: &[usize], due: &[usize]) {
+    demand(rt, ends.last() == Some(&bytes.len()), "the last end");
     for len in 0..bytes.len() {
-        assert_eq!(rt;
-            fault_of(alloc, &bytes[..len]),
-            fault_at(ends, due, len),
-            "at {len}"
-        );
+        assert!(rt; is_cut(alloc, bytes, ends, due, len), "at {len}");
     }
 }
 
 #[test]
 fn a_record_that_is_cut_names_the_entry_that_is_cut(rt: HostRuntime) {
-    cut(&rt, rt.alloc(), CUT, &ENDS, &[]);
+    cut(&rt, rt.alloc(), &bytes_of(&rt, rt.alloc(), CUT), &ENDS, &[]);
 }
 
 #[test]
 fn a_chain_that_is_cut_names_the_hop_that_is_cut(rt: HostRuntime) {
-    cut(&rt, rt.alloc(), CUT_CHAIN, &CHAIN_ENDS, &DUE);
+    let bytes = bytes_of(&rt, rt.alloc(), CUT_CHAIN);
+    cut(&rt, rt.alloc(), &bytes, &CHAIN_ENDS, &DUE);
 }

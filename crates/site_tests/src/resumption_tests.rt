@@ -1,6 +1,6 @@
 //! What was told, noted so that it can be told again: recording fetchers, the head of a response that is written down, and a
 //! record that is asked before a fetcher.
-use crate::common::{address, bytes_of, demand, origin, rules, says};
+use crate::common::{ask_all, bytes_of, demand, halves, says_all};
 use crate::fetch_tests::site_of;
 use answer_notes::{Hops, Noted, Told};
 use fetcher::Fetcher;
@@ -55,20 +55,27 @@ fn noted(rt: &impl Abort, alloc: Global, notes: &[Noted]) -> String {
     text
 }
 
-// Asks for the page, for one that isn't there, and for the rules.
-pub(crate) fn ask_all<C: Connect>(rt: &impl Abort, alloc: Global, fetcher: &mut HttpFetcher<C>) {
-    for at in ["http://h/", "http://h/none"] {
-        let _ = fetcher.ask(&address(rt, alloc, at)).expect(rt, "memory");
-    }
-    let _ = fetcher
-        .ask_robots(&origin(rt, alloc, "http://h/"))
-        .expect(rt, "memory");
+/// The page, one that isn't there, and the rules.
+pub(crate) const QUESTIONS: &str = "http://h/ http://h/none robots:http://h/";
+
+// What a fetcher, which records or doesn't, has noted once it asked for all.
+fn noted_by<C: Connect>(rt: &impl Abort, alloc: Global, connect: C, records: bool) -> String {
+    let mut fetcher = if records {
+        HttpFetcher::recording(alloc, connect, true)
+    } else {
+        HttpFetcher::new(alloc, connect, true)
+    };
+    let _ = ask_all(rt, alloc, &mut fetcher, QUESTIONS);
+    let noted = noted(rt, alloc, fetcher.notes());
+    drop(fetcher);
+    noted
 }
 
-// What a fetcher has noted once it asked for all.
-fn noted_by<C: Connect>(rt: &impl Abort, alloc: Global, mut fetcher: HttpFetcher<C>) -> String {
-    ask_all(rt, alloc, &mut fetcher);
-    noted(rt, alloc, fetcher.notes())
+// Whether a fetcher of `SITE`, which records or doesn't, has noted this.
+fn is_noted(rt: &impl Abort, alloc: Global, records: bool, text: &str) -> bool {
+    let answers = site_of(rt, alloc, SITE);
+    let connect = MemoryConnect::new(alloc, &answers, &[]);
+    noted_by(rt, alloc, connect, records).as_str() == text
 }
 
 const NOTES: &str = "http://h/ 200 10
@@ -81,13 +88,8 @@ http://h/r 200 11
 #[test]
 fn what_is_told_is_noted_in_order(rt: HostRuntime) {
     let alloc = rt.alloc();
-    let answers = site_of(&rt, alloc, SITE);
-    let connect = MemoryConnect::new(alloc, &answers, &[]);
-    assert!(rt;
-        noted_by(&rt, alloc, HttpFetcher::recording(alloc, connect, true)).as_str() == NOTES
-    );
-    let connect = MemoryConnect::new(alloc, &answers, &[]);
-    assert!(rt; noted_by(&rt, alloc, HttpFetcher::new(alloc, connect, true)).is_empty());
+    assert!(rt; is_noted(&rt, alloc, true, NOTES));
+    assert!(rt; is_noted(&rt, alloc, false, ""));
 }
 
 // The response of a text, CR LF as `|`.
@@ -111,7 +113,7 @@ HTTP/1.1 200 X|Transfer-Encoding: chunked||2|ab|0|| => HTTP/1.1 200 |Content-Len
 
 // Whether a row's response is written as it says.
 fn is_written(rt: &impl Abort, alloc: Global, row: &str) -> bool {
-    let (text, head) = row.split_once(" => ").unwrap_or((row, ""));
+    let (text, head) = halves(row, " => ");
     let response = response_of(rt, alloc, text);
     let mut written = Vec::new(alloc);
     push_head(&mut written, &response).expect(rt, "memory");
@@ -130,27 +132,32 @@ const RECORD: &str =
     "wgetr-record 1~page http://h/ 54~HTTP/1.1 200 OK|Content-Type: text/html||<a href=b>~\
 fault connect http://h/lost~rules none http://h/~";
 
-// What the record says, and what the site behind it.
+// What the record says, and what the site behind it, of addresses and of the rules of origins.
 const RESUMED: &str =
     "http://h/ 10 Page(200, Edges { items: [Edge { target: \"http://h/b\", kind: Link }] })
 http://h/lost 0 Fault(Connect)
 http://h/b 2 Leaf(203)
-http://h/c 0 Leaf(404)";
+http://h/c 0 Leaf(404)
+http://h/ /a no
+http://k/ /a yes";
+
+const ASKED: &str = "[Page(\"http://h/b\"), Page(\"http://h/c\"), Rules(\"http://k\")]";
+
+// Whether a site was asked just for what the record doesn't say.
+fn is_asked<F: Fetcher>(rt: &impl Abort, alloc: Global, site: &F) -> bool {
+    let asked = format!(in alloc; "{:?}", site.asks()).expect(rt, "memory");
+    asked.as_str() == ASKED
+}
 
 // Whether a site is asked for what the record doesn't say, and for nothing else.
 fn asks_for_the_rest<C: Connect>(rt: &impl Abort, alloc: Global, connect: C) -> bool {
     let record = RecordedSite::read(alloc, &bytes_of(rt, alloc, RECORD), true);
     let record = record.expect(rt, "a record");
     let mut site = Resumed::new(alloc, record, HttpFetcher::new(alloc, connect, true));
-    for row in RESUMED.lines() {
-        demand(rt, says(rt, alloc, &mut site, row), row);
-    }
-    for row in ["http://h/ /a no", "http://k/ /a yes"] {
-        demand(rt, rules(rt, alloc, &mut site, row), row);
-    }
-    let asked = format!(in alloc; "{:?}", site.inner().asks()).expect(rt, "memory");
-    asked.as_str() == "[Page(\"http://h/b\"), Page(\"http://h/c\"), Rules(\"http://k\")]"
-        && site.asks().len() == 6
+    says_all(rt, alloc, &mut site, RESUMED);
+    let is_asked = is_asked(rt, alloc, site.inner());
+    drop(site);
+    is_asked
 }
 
 #[test]

@@ -1,334 +1,146 @@
 //! Robots files and what they allow: the examples of RFC 9309 and what each of its rules comes to at its edges.
+use crate::common::{demand, halves, number};
 use robots_rules::{RuleSet, parse};
 use std::alloc::Global;
 use std::process::Abort;
-
-/// One robots file, what it shows, and the paths that it allows and refuses.
-#[derive(Clone, Copy)]
-struct Row {
-    shows: &'static str,
-    file: &'static [u8],
-    allowed: &'static [&'static str],
-    refused: &'static [&'static str],
-}
 
 /// The rules of a file.
 fn rules(rt: &impl Abort, alloc: Global, file: &[u8]) -> RuleSet {
     parse(alloc, file).expect(rt, "memory")
 }
 
-/// Which path the rules are wrong about: the first, if any. The copy refuses what it must.
-fn wrong_path(set: &RuleSet, copy: &RuleSet, row: &Row) -> Option<&'static str> {
-    for path in row.allowed {
-        if !set.allows(path) {
-            return Some(path);
-        }
+/// Whether the rules allow a path behind a `+`, or their copy refuses one without.
+fn is_right(set: &RuleSet, copy: &RuleSet, path: &str) -> bool {
+    match path.strip_prefix('+') {
+        Some(allowed) => set.allows(allowed),
+        None => !copy.allows(path),
     }
-    for path in row.refused {
-        if copy.allows(path) {
-            return Some(path);
-        }
-    }
-    None
 }
 
-/// What a row is wrong about: the first, if any, also after the rules were copied.
-fn wrong(rt: &impl Abort, alloc: Global, row: &Row) -> Option<&'static str> {
-    let set = rules(rt, alloc, row.file);
-    let copy = set.try_clone(alloc).expect(rt, "memory");
-    if !set.same(&copy) {
-        return Some("the copy");
+/// Demands of rules and their copy that they are the same, and right about each of the paths, which end with `;`.
+fn demand_paths(rt: &impl Abort, set: &RuleSet, copy: &RuleSet, shows: &str, paths: &str) {
+    demand(rt, set.same(copy), shows);
+    for path in paths.split_terminator(';') {
+        assert!(rt; is_right(set, copy, path), "{shows}: {path}");
     }
-    wrong_path(&set, &copy, row)
 }
+
+/// Demands of a file what it shows, also after its rules were copied.
+fn demand_file(rt: &impl Abort, alloc: Global, shows: &str, file: &[u8], paths: &str) {
+    let set = rules(rt, alloc, file);
+    let copy = set.try_clone(alloc).expect(rt, "memory");
+    demand_paths(rt, &set, &copy, shows, paths);
+}
+
+// Rows end with `|`: what a row shows, a file, and the paths that it allows, with `+`, and refuses.
 
 // RFC 9309, sections 5.1, 5.2, 2.2.1, 2.2.2 and 2.2.3.
-const STANDARD: [Row; 6] = [
-    Row {
-        shows: "the star group of the simple example",
-        file: b"User-Agent: *\nDisallow: *.gif$\nDisallow: /example/\nAllow: /publications/\n\nUser-Agent: foobot\nDisallow:/\nAllow:/example/page.html\nAllow:/example/allowed.gif\n\nUser-Agent: barbot\nUser-Agent: bazbot\nDisallow: /example/page.html\n\nUser-Agent: quxbot\n\nEOF\n",
-        allowed: &["/", "/a.gifs", "/example", "/publications/a.gif"],
-        refused: &["/a.gif", "/example/", "/example/page.html"],
-    },
-    Row {
-        shows: "the longest match",
-        file: b"User-Agent: wget\nAllow: /example/page/\nDisallow: /example/page/disallowed.gif\n",
-        allowed: &["/example/page/", "/example/page/a.gif"],
-        refused: &["/example/page/disallowed.gif"],
-    },
-    Row {
-        shows: "two groups of one agent are one",
-        file: b"user-agent: Wget\ndisallow: /foo\ndisallow: /bar\n\nuser-agent: Wget\ndisallow: /baz\n",
-        allowed: &["/", "/ba"],
-        refused: &["/foo", "/bar", "/baz"],
-    },
-    Row {
-        shows: "escapes of unreserved octets and of octets above ASCII",
-        file: b"user-agent: *\ndisallow: /foo/bar/\xe3\x83\x84\ndisallow: /bar/%62%61%7A\ndisallow: /foo/bar?baz=quz\n",
-        allowed: &["/foo/bar/", "/bar/ba", "/foo/bar?baz=qu"],
-        refused: &[
-            "/foo/bar/%E3%83%84",
-            "/foo/bar/%e3%83%84x",
-            "/bar/baz",
-            "/foo/bar?baz=quz",
-        ],
-    },
-    Row {
-        shows: "special octets stand for themselves where they are escaped",
-        file: b"user-agent: *\ndisallow: /path/file-with-a-%2A.html\ndisallow: /path/foo-%24\n",
-        allowed: &["/path/file-with-a-b.html", "/path/foo-"],
-        refused: &["/path/file-with-a-*.html", "/path/foo-$", "/path/foo-$x"],
-    },
-    Row {
-        shows: "special octets",
-        file: b"user-agent: * # everyone\ndisallow: / # all\nallow: /this/path/exactly$\nallow: /this/*/exactly\n",
-        allowed: &[
-            "/this/path/exactly",
-            "/this/any/path/exactly",
-            "/this//exactly?x",
-        ],
-        refused: &["/", "/this/path/exactl", "/this/exactly"],
-    },
-];
+const STANDARD: &str =
+    "the star group of the simple example: User-Agent: *\nDisallow: *.gif$\nDisallow: /example/\nAllow: /publications/\n\nUser-Agent: foobot\nDisallow:/\nAllow:/example/page.html\nAllow:/example/allowed.gif\n\nUser-Agent: barbot\nUser-Agent: bazbot\nDisallow: /example/page.html\n\nUser-Agent: quxbot\n\nEOF\n \
+        => +/;+/a.gifs;+/example;+/publications/a.gif;/a.gif;/example/;/example/page.html;|\
+    the longest match: User-Agent: wget\nAllow: /example/page/\nDisallow: /example/page/disallowed.gif\n \
+        => +/example/page/;+/example/page/a.gif;/example/page/disallowed.gif;|\
+    two groups of one agent are one: user-agent: Wget\ndisallow: /foo\ndisallow: /bar\n\nuser-agent: Wget\ndisallow: /baz\n \
+        => +/;+/ba;/foo;/bar;/baz;|\
+    escapes of unreserved octets and of octets above ASCII: user-agent: *\ndisallow: /foo/bar/ツ\ndisallow: /bar/%62%61%7A\ndisallow: /foo/bar?baz=quz\n \
+        => +/foo/bar/;+/bar/ba;+/foo/bar?baz=qu;/foo/bar/%E3%83%84;/foo/bar/%e3%83%84x;/bar/baz;/foo/bar?baz=quz;|\
+    special octets stand for themselves where they are escaped: user-agent: *\ndisallow: /path/file-with-a-%2A.html\ndisallow: /path/foo-%24\n \
+        => +/path/file-with-a-b.html;+/path/foo-;/path/file-with-a-*.html;/path/foo-$;/path/foo-$x;|\
+    special octets: user-agent: * # everyone\ndisallow: / # all\nallow: /this/path/exactly$\nallow: /this/*/exactly\n \
+        => +/this/path/exactly;+/this/any/path/exactly;+/this//exactly?x;/;/this/path/exactl;/this/exactly;";
 
-const MATCHES: [Row; 15] = [
-    Row {
-        shows: "an allow wins a tie, and a longer pattern wins",
-        file: b"User-agent: *\nDisallow: /p\nAllow: /p\nDisallow: /p*x$\n",
-        allowed: &["/p", "/paxy"],
-        refused: &["/pax", "/px"],
-    },
-    Row {
-        shows: "the order of the rules is nothing",
-        file: b"user-agent: *\nallow: /p\ndisallow: /p\ndisallow: /\n",
-        allowed: &["/p"],
-        refused: &["/q"],
-    },
-    Row {
-        shows: "an empty value matches nothing",
-        file: b"user-agent: *\ndisallow:\nallow:\n",
-        allowed: &["/", ""],
-        refused: &[],
-    },
-    Row {
-        shows: "a `*` matches nothing too",
-        file: b"user-agent: *\ndisallow: /a*b\n",
-        allowed: &["/a", "/ba"],
-        refused: &["/ab", "/axb", "/a/b/c"],
-    },
-    Row {
-        shows: "the last `*` is come back to",
-        file: b"user-agent: *\ndisallow: /*ab$\n",
-        allowed: &["/aba", "/b"],
-        refused: &["/aab", "/ababab"],
-    },
-    Row {
-        shows: "a piece counts at its leftmost place, and no octet twice",
-        file: b"user-agent: *\ndisallow: /x*ab*b$\ndisallow: /yab*ba$\ndisallow: /z**$\n",
-        allowed: &["/xab", "/yaba", "/x"],
-        refused: &["/xabab", "/xabb", "/yabba", "/z", "/zz"],
-    },
-    Row {
-        shows: "an earlier `*` needs no second look",
-        file: b"user-agent: *\ndisallow: /**a*b*c$\n",
-        allowed: &["/xaybzcd", "/abx"],
-        refused: &["/xaybzc", "/abc"],
-    },
-    Row {
-        shows: "each `*` counts in the length",
-        file: b"user-agent: *\ndisallow: /a**\nallow: /a*b\ndisallow: /c***\nallow: /c*b\n",
-        allowed: &["/ab"],
-        refused: &["/az", "/cb", "/cz/"],
-    },
-    Row {
-        shows: "a last `$` is the end, of the query too",
-        file: b"user-agent: *\ndisallow: /a$\ndisallow: /b?c$\n",
-        allowed: &["/ab", "/a?b", "/b?cd"],
-        refused: &["/a", "/b?c"],
-    },
-    Row {
-        shows: "a `$` inside is an octet",
-        file: b"user-agent: *\ndisallow: /a$b\ndisallow: /c$$\n",
-        allowed: &["/a", "/ab", "/c", "/c$$"],
-        refused: &["/a$b", "/a%24bc", "/c$"],
-    },
-    Row {
-        shows: "a path's `*` is no wild card",
-        file: b"user-agent: *\ndisallow: /a%2Ab\ndisallow: /c*d\n",
-        allowed: &["/axb", "/c"],
-        refused: &["/a*b", "/a%2ab", "/c*d"],
-    },
-    Row {
-        shows: "an unreserved octet has one form",
-        file: b"user-agent: *\ndisallow: /%7ejoe\ndisallow: /%41-%5F\n",
-        allowed: &["/%7Ejo"],
-        refused: &["/~joe", "/%7Ejoe", "/A-_"],
-    },
-    Row {
-        shows: "a reserved octet has two",
-        file: b"user-agent: *\ndisallow: /a%2fb\ndisallow: /c/d\n",
-        allowed: &["/a/b", "/c%2Fd"],
-        refused: &["/a%2Fb", "/c/d"],
-    },
-    Row {
-        shows: "a `%` without digits is an octet",
-        file: b"user-agent: *\ndisallow: /%zz\ndisallow: /%4\n",
-        allowed: &["/%z", "/%20", "/%42x"],
-        refused: &["/%zz", "/%4g"],
-    },
-    Row {
-        shows: "lengths are those of the normal form",
-        file: b"user-agent: *\ndisallow: /\xc3\xa9\nallow: /%c3%a9\ndisallow: /%61b\nallow: /a*\n",
-        allowed: &["/%c3%a9", "/%C3%A9x", "/ab"],
-        refused: &[],
-    },
-];
+const MATCHES: &str =
+    "an allow wins a tie, and a longer pattern wins: User-agent: *\nDisallow: /p\nAllow: /p\nDisallow: /p*x$\n \
+        => +/p;+/paxy;/pax;/px;|\
+    the order of the rules is nothing: user-agent: *\nallow: /p\ndisallow: /p\ndisallow: /\n \
+        => +/p;/q;|\
+    an empty value matches nothing: user-agent: *\ndisallow:\nallow:\n \
+        => +/;+;|\
+    a `*` matches nothing too: user-agent: *\ndisallow: /a*b\n \
+        => +/a;+/ba;/ab;/axb;/a/b/c;|\
+    the last `*` is come back to: user-agent: *\ndisallow: /*ab$\n \
+        => +/aba;+/b;/aab;/ababab;|\
+    a piece counts at its leftmost place, and no octet twice: user-agent: *\ndisallow: /x*ab*b$\ndisallow: /yab*ba$\ndisallow: /z**$\n \
+        => +/xab;+/yaba;+/x;/xabab;/xabb;/yabba;/z;/zz;|\
+    an earlier `*` needs no second look: user-agent: *\ndisallow: /**a*b*c$\n \
+        => +/xaybzcd;+/abx;/xaybzc;/abc;|\
+    each `*` counts in the length: user-agent: *\ndisallow: /a**\nallow: /a*b\ndisallow: /c***\nallow: /c*b\n \
+        => +/ab;/az;/cb;/cz/;|\
+    a last `$` is the end, of the query too: user-agent: *\ndisallow: /a$\ndisallow: /b?c$\n \
+        => +/ab;+/a?b;+/b?cd;/a;/b?c;|\
+    a `$` inside is an octet: user-agent: *\ndisallow: /a$b\ndisallow: /c$$\n \
+        => +/a;+/ab;+/c;+/c$$;/a$b;/a%24bc;/c$;|\
+    a path's `*` is no wild card: user-agent: *\ndisallow: /a%2Ab\ndisallow: /c*d\n \
+        => +/axb;+/c;/a*b;/a%2ab;/c*d;|\
+    an unreserved octet has one form: user-agent: *\ndisallow: /%7ejoe\ndisallow: /%41-%5F\n \
+        => +/%7Ejo;/~joe;/%7Ejoe;/A-_;|\
+    a reserved octet has two: user-agent: *\ndisallow: /a%2fb\ndisallow: /c/d\n \
+        => +/a/b;+/c%2Fd;/a%2Fb;/c/d;|\
+    a `%` without digits is an octet: user-agent: *\ndisallow: /%zz\ndisallow: /%4\n \
+        => +/%z;+/%20;+/%42x;/%zz;/%4g;|\
+    lengths are those of the normal form: user-agent: *\ndisallow: /é\nallow: /%c3%a9\ndisallow: /%61b\nallow: /a*\n \
+        => +/%c3%a9;+/%C3%A9x;+/ab;";
 
-const GROUPS: [Row; 12] = [
-    Row {
-        shows: "another agent's group is not ours",
-        file: b"User-agent: other\nDisallow: /\n",
-        allowed: &["/x"],
-        refused: &[],
-    },
-    Row {
-        shows: "our group alone counts beside the star",
-        file: b"User-Agent: WGET\nDisallow: /q\nUser-agent: *\nDisallow: /\n",
-        allowed: &["/r"],
-        refused: &["/q1"],
-    },
-    Row {
-        shows: "the star before our group",
-        file: b"User-agent: *\nDisallow: /\nUser-agent: wget\nDisallow: /q\n",
-        allowed: &["/r"],
-        refused: &["/q1"],
-    },
-    Row {
-        shows: "our group without rules",
-        file: b"user-agent: *\ndisallow: /\nuser-agent: wget\n",
-        allowed: &["/"],
-        refused: &[],
-    },
-    Row {
-        shows: "blank lines and unknown keys part no group",
-        file: b"user-agent: wget\n\nsitemap: /s\nuser-agent: other\ncrawl-delay: 1\n\ndisallow: /a\n\nhost: x\ndisallow: /b\n",
-        allowed: &["/c"],
-        refused: &["/a", "/b"],
-    },
-    Row {
-        shows: "a rule with an empty value ends the agents of a group",
-        file: b"user-agent: wget\ndisallow:\nuser-agent: other\ndisallow: /x\n",
-        allowed: &["/x"],
-        refused: &[],
-    },
-    Row {
-        shows: "rules before any group are nobody's",
-        file: b"disallow: /\nuser-agent: *\ndisallow: /a\n",
-        allowed: &["/b"],
-        refused: &["/a"],
-    },
-    Row {
-        shows: "star groups are one",
-        file: b"user-agent: *\ndisallow: /a\nuser-agent: x\ndisallow: /b\nuser-agent: * x\ndisallow: /c\n",
-        allowed: &["/b"],
-        refused: &["/a", "/c"],
-    },
-    Row {
-        shows: "a version behind the name",
-        file: b"user-agent: wget2/1.0\ndisallow: /a\nuser-agent: Wget/1.21 (linux)\ndisallow: /b\n",
-        allowed: &["/c"],
-        refused: &["/a", "/b"],
-    },
-    Row {
-        shows: "longer names are others",
-        file: b"user-agent: wgetr\ndisallow: /a\nuser-agent: wget-x\ndisallow: /b\nuser-agent: xwget\ndisallow: /c\n",
-        allowed: &["/a", "/b", "/c"],
-        refused: &[],
-    },
-    Row {
-        shows: "a star with more behind it is no star",
-        file: b"user-agent: *bot\ndisallow: /\n",
-        allowed: &["/"],
-        refused: &[],
-    },
-    Row {
-        shows: "an empty file",
-        file: b"",
-        allowed: &["/", "/a"],
-        refused: &[],
-    },
-];
+const GROUPS: &str = "another agent's group is not ours: User-agent: other\nDisallow: /\n \
+        => +/x;|\
+    our group alone counts beside the star: User-Agent: WGET\nDisallow: /q\nUser-agent: *\nDisallow: /\n \
+        => +/r;/q1;|\
+    the star before our group: User-agent: *\nDisallow: /\nUser-agent: wget\nDisallow: /q\n \
+        => +/r;/q1;|\
+    our group without rules: user-agent: *\ndisallow: /\nuser-agent: wget\n \
+        => +/;|\
+    blank lines and unknown keys part no group: user-agent: wget\n\nsitemap: /s\nuser-agent: other\ncrawl-delay: 1\n\ndisallow: /a\n\nhost: x\ndisallow: /b\n \
+        => +/c;/a;/b;|\
+    a rule with an empty value ends the agents of a group: user-agent: wget\ndisallow:\nuser-agent: other\ndisallow: /x\n \
+        => +/x;|\
+    rules before any group are nobody's: disallow: /\nuser-agent: *\ndisallow: /a\n \
+        => +/b;/a;|\
+    star groups are one: user-agent: *\ndisallow: /a\nuser-agent: x\ndisallow: /b\nuser-agent: * x\ndisallow: /c\n \
+        => +/b;/a;/c;|\
+    a version behind the name: user-agent: wget2/1.0\ndisallow: /a\nuser-agent: Wget/1.21 (linux)\ndisallow: /b\n \
+        => +/c;/a;/b;|\
+    longer names are others: user-agent: wgetr\ndisallow: /a\nuser-agent: wget-x\ndisallow: /b\nuser-agent: xwget\ndisallow: /c\n \
+        => +/a;+/b;+/c;|\
+    a star with more behind it is no star: user-agent: *bot\ndisallow: /\n \
+        => +/;|\
+    an empty file:  \
+        => +/;+/a;";
 
-const LINES: [Row; 9] = [
-    Row {
-        shows: "lines end with CR",
-        file: b"user-agent: *\rdisallow: /a\rallow: /ab\r",
-        allowed: &["/ab", "/b"],
-        refused: &["/a"],
-    },
-    Row {
-        shows: "lines end with CR LF",
-        file: b"user-agent: *\r\ndisallow: /a$\r\nallow: /b\r\n",
-        allowed: &["/ab"],
-        refused: &["/a"],
-    },
-    Row {
-        shows: "the last line has no end",
-        file: b"user-agent: *\ndisallow: /a",
-        allowed: &["/b"],
-        refused: &["/a"],
-    },
-    Row {
-        shows: "a byte order mark",
-        file: b"\xef\xbb\xbfuser-agent: *\ndisallow: /a\n",
-        allowed: &["/b"],
-        refused: &["/a"],
-    },
-    Row {
-        shows: "no byte order mark behind the front",
-        file: b"user-agent: *\n\xef\xbb\xbfdisallow: /a\n",
-        allowed: &["/a"],
-        refused: &[],
-    },
-    Row {
-        shows: "a comment ends a value",
-        file: b"#user-agent: wget\nuser-agent: *#x\ndisallow: /a#b\ndisallow: /c #d: /e\n",
-        allowed: &["/b", "/e"],
-        refused: &["/a", "/c"],
-    },
-    Row {
-        shows: "blanks stand round keys and values",
-        file: b" \tUSER-agent \t:\t * \ndisAllow :/a \t\n",
-        allowed: &["/b"],
-        refused: &["/a", "/ab"],
-    },
-    Row {
-        shows: "the first `:` counts, and blanks inside stay",
-        file: b"user-agent: *\ndisallow: /a:b\ndisallow: /c d\ndis allow: /e\n",
-        allowed: &["/a", "/c", "/e"],
-        refused: &["/a:b", "/c d"],
-    },
-    Row {
-        shows: "bytes that are no text",
-        file: b"user-agent: *\ndisallow: /\xff\x00\nuser\x80-agent: wget\n\xc3",
-        allowed: &["/%FF"],
-        refused: &["/%ff\0"],
-    },
-];
+const LINES: &str = "lines end with CR: user-agent: *\rdisallow: /a\rallow: /ab\r \
+        => +/ab;+/b;/a;|\
+    lines end with CR LF: user-agent: *\r\ndisallow: /a$\r\nallow: /b\r\n \
+        => +/ab;/a;|\
+    the last line has no end: user-agent: *\ndisallow: /a \
+        => +/b;/a;|\
+    a byte order mark: \u{feff}user-agent: *\ndisallow: /a\n \
+        => +/b;/a;|\
+    no byte order mark behind the front: user-agent: *\n\u{feff}disallow: /a\n \
+        => +/a;|\
+    a comment ends a value: #user-agent: wget\nuser-agent: *#x\ndisallow: /a#b\ndisallow: /c #d: /e\n \
+        => +/b;+/e;/a;/c;|\
+    blanks stand round keys and values:  \tUSER-agent \t:\t * \ndisAllow :/a \t\n \
+        => +/b;/a;/ab;|\
+    the first `:` counts, and blanks inside stay: user-agent: *\ndisallow: /a:b\ndisallow: /c d\ndis allow: /e\n \
+        => +/a;+/c;+/e;/a:b;/c d;";
+
+const NO_TEXT: &[u8] = b"user-agent: *\ndisallow: /\xff\x00\nuser\x80-agent: wget\n\xc3";
+
+fn demand_rows(rt: &(impl Abort + AllocGlobal), rows: &str) {
+    for row in rows.split('|') {
+        let (shows, rest) = halves(row, ": ");
+        let (file, paths) = halves(rest, " => ");
+        demand_file(rt, rt.alloc(), shows, file.as_bytes(), paths);
+    }
+}
 
 #[test]
 fn each_row_allows_and_refuses_what_it_says(rt: HostRuntime) {
-    for rows in [
-        STANDARD.as_slice(),
-        MATCHES.as_slice(),
-        GROUPS.as_slice(),
-        LINES.as_slice(),
-    ] {
-        for row in rows {
-            let wrong = wrong(&rt, rt.alloc(), row);
-            assert_eq!(rt; wrong, None, "{}", row.shows);
-        }
-    }
+    demand_rows(&rt, STANDARD);
+    demand_rows(&rt, MATCHES);
+    demand_rows(&rt, GROUPS);
+    demand_rows(&rt, LINES);
+    let shows = "bytes that are no text";
+    demand_file(&rt, rt.alloc(), shows, NO_TEXT, "+/%FF;/%ff\0;");
 }
 
 /// A group for every agent with a comment line, so many bytes up to its end, and then what follows.
@@ -340,33 +152,53 @@ fn long_file(rt: &impl Abort, alloc: Global, bytes: usize, rest: &[u8]) -> Vec<u
     file
 }
 
+// Rows end with `|`: where the comment line ends, whether `/abc` is allowed, and what follows that line.
+const CUTS: &str = "511988 yes Disallow: /abc\n|\
+    511984 no Disallow: /abc\n|\
+    511984 no Disallow: /abc\nDisallow: /\n|\
+    511984 no Disallow: /abc\rDisallow: /\n|\
+    511985 yes Disallow: /abc\n|\
+    511985 no Disallow: /abc";
+
+/// Whether the rules of a row's file allow what it says, and all else.
+fn is_cut(rt: &impl Abort, alloc: Global, row: &str) -> bool {
+    let (bytes, rest) = halves(row, " ");
+    let (allows, rest) = halves(rest, " ");
+    let file = long_file(rt, alloc, number(bytes), rest.as_bytes());
+    let set = rules(rt, alloc, &file);
+    set.allows("/abc") == (allows == "yes") && set.allows("/x")
+}
+
 #[test]
 fn a_line_that_the_limit_cuts_is_passed_over(rt: HostRuntime) {
-    let rows: [(usize, &[u8], bool); 6] = [
-        (511_988, b"Disallow: /abc\n", true),
-        (511_984, b"Disallow: /abc\n", false),
-        (511_984, b"Disallow: /abc\nDisallow: /\n", false),
-        (511_984, b"Disallow: /abc\rDisallow: /\n", false),
-        (511_985, b"Disallow: /abc\n", true),
-        (511_985, b"Disallow: /abc", false),
-    ];
-    for (bytes, rest, allows) in rows {
-        let file = long_file(&rt, rt.alloc(), bytes, rest);
-        let set = rules(&rt, rt.alloc(), &file);
-        assert_eq!(rt; set.allows("/abc"), allows, "{bytes}");
-        assert!(rt; set.allows("/x"));
+    for row in CUTS.split('|') {
+        demand(&rt, is_cut(&rt, rt.alloc(), row), row);
     }
+}
+
+/// Whether these are the rules that allow all and that allow none, beside those of a file without a line and of one that refuses
+/// all.
+fn are_all_and_none(all: &RuleSet, none: &RuleSet, empty: &RuleSet, closed: &RuleSet) -> bool {
+    all.allows("/")
+        && !none.allows("/")
+        && all.same(empty)
+        && !all.same(none)
+        && !none.same(closed)
+        && !closed.same(empty)
 }
 
 #[test]
 fn all_and_none_need_no_file(rt: HostRuntime) {
-    let empty = rules(&rt, rt.alloc(), b"");
-    let other = rules(&rt, rt.alloc(), b"user-agent: *\ndisallow: /\n");
-    let all = RuleSet::all();
-    let none = RuleSet::none();
-    assert!(rt; all.allows("/") && !none.allows("/"));
-    assert!(rt; all.same(&empty) && !all.same(&none));
-    assert!(rt; !none.same(&other) && !other.same(&empty));
-    let copy = none.try_clone(rt.alloc()).expect(&rt, "memory");
-    assert!(rt; copy.same(&none));
+    let alloc = rt.alloc();
+    let closed = rules(&rt, alloc, b"user-agent: *\ndisallow: /\n");
+    assert!(rt;
+        are_all_and_none(
+            &RuleSet::all(),
+            &RuleSet::none(),
+            &rules(&rt, alloc, b""),
+            &closed
+        )
+    );
+    let copy = RuleSet::none().try_clone(alloc).expect(&rt, "memory");
+    assert!(rt; copy.same(&RuleSet::none()));
 }

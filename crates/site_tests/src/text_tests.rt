@@ -1,7 +1,7 @@
 //! Texts of responses, and what is read of each, however its bytes are cut.
-use crate::common::{bytes_of, demand};
+use crate::common::{bytes_of, demand, field, halves, number};
 use crate::reader_tests::{repeated_bytes, wire_of};
-use response_reader::{Gather, ReadFault, read_into, read_response};
+use response_reader::{Gather, MemoryWire, ReadFault, Wire, read_into, read_response};
 use std::alloc::Global;
 use std::process::Abort;
 
@@ -53,40 +53,43 @@ many\tHTTP/1.1 200 OK|Transfer-Encoding: chunked||0|\t\t0\t => the input ended b
 /// What is told of a text that is cut.
 const ENDED: &str = "the input ended before the response was whole";
 
-/// What was read: the body, or why there is none.
-fn told(rt: &impl Abort, alloc: Global, read: Result<Vec<u8>, ReadFault>) -> String {
-    match read {
-        Ok(body) => {
-            let body = String::from_utf8_lossy(alloc, &body).expect(rt, "memory");
-            format!(in alloc; "read `{body}`").expect(rt, "memory")
-        }
-        Err(fault) => format!(in alloc; "{fault}").expect(rt, "memory"),
+/// Whether a text says that this body is read.
+fn is_body(body: &[u8], wanted: &str) -> bool {
+    field(wanted, '`', 0) == "read " && field(wanted, '`', 1).as_bytes() == body
+}
+
+/// Whether a text says why there is no body.
+fn is_fault(rt: &impl Abort, alloc: Global, fault: ReadFault, wanted: &str) -> bool {
+    let told = format!(in alloc; "{fault}").expect(rt, "memory");
+    told.as_str() == wanted
+}
+
+/// Whether `read_response` gives this.
+pub(crate) fn keeps<W: Wire>(rt: &impl Abort, alloc: Global, wire: &mut W, wanted: &str) -> bool {
+    match read_response(alloc, wire) {
+        Ok(response) => is_body(&response.body, wanted),
+        Err(fault) => is_fault(rt, alloc, fault, wanted),
     }
 }
 
-/// What `read_response` gives, where the bytes come in these pieces.
-fn kept(rt: &impl Abort, alloc: Global, bytes: &[u8], pieces: &[usize]) -> String {
-    let mut wire = wire_of(rt, alloc, bytes, pieces, Vec::new(alloc));
-    match read_response(alloc, &mut wire) {
-        Ok(response) => told(rt, alloc, Ok(response.body)),
-        Err(fault) => told(rt, alloc, Err(fault)),
-    }
-}
-
-/// What `read_into` gives.
-fn gathered(rt: &impl Abort, alloc: Global, bytes: &[u8], pieces: &[usize]) -> String {
-    let mut wire = wire_of(rt, alloc, bytes, pieces, Vec::new(alloc));
+/// Whether `read_into` gives this.
+pub(crate) fn gathers<W: Wire>(rt: &impl Abort, alloc: Global, wire: &mut W, wanted: &str) -> bool {
     let mut gather = Gather::new(alloc);
-    match read_into(alloc, &mut wire, &mut gather) {
-        Ok(_) => told(rt, alloc, Ok(gather.into_parts().1)),
-        Err(fault) => told(rt, alloc, Err(fault)),
+    match read_into(alloc, wire, &mut gather) {
+        Ok(_) => is_body(&gather.into_parts().1, wanted),
+        Err(fault) => is_fault(rt, alloc, fault, wanted),
     }
 }
 
-/// Whether both calls give this.
+/// A wire of bytes that come in these pieces, of which no call fails.
+fn unfailing(rt: &impl Abort, alloc: Global, bytes: &[u8], pieces: &[usize]) -> MemoryWire {
+    wire_of(rt, alloc, bytes, pieces, Vec::new(alloc))
+}
+
+/// Whether both calls give this, where the bytes come in these pieces.
 fn gives(rt: &impl Abort, alloc: Global, bytes: &[u8], pieces: &[usize], wanted: &str) -> bool {
-    kept(rt, alloc, bytes, pieces).as_str() == wanted
-        && gathered(rt, alloc, bytes, pieces).as_str() == wanted
+    let is_kept = keeps(rt, alloc, &mut unfailing(rt, alloc, bytes, pieces), wanted);
+    is_kept && gathers(rt, alloc, &mut unfailing(rt, alloc, bytes, pieces), wanted)
 }
 
 /// Whether both calls give this, where the bytes are cut once, at each place, and where they come one by one.
@@ -102,8 +105,32 @@ fn gives_cut(rt: &impl Abort, alloc: Global, bytes: &[u8], wanted: &str) -> bool
 
 /// How many bytes the head of a text has.
 fn head_len(rt: &impl Abort, alloc: Global, text: &str) -> usize {
-    let (head, _) = text.split_once("||").unwrap_or((text, ""));
+    let (head, _) = halves(text, "||");
     bytes_of(rt, alloc, head).len().saturating_add(4)
+}
+
+/// Whether `read_response` gives just this body.
+fn is_open<W: Wire>(alloc: Global, wire: &mut W, body: &[u8]) -> bool {
+    match read_response(alloc, wire) {
+        Ok(response) => response.body.as_slice() == body,
+        Err(_) => false,
+    }
+}
+
+/// Whether a front is read as the task says, which has this of the body where it has the whole head.
+fn front_is_read<W: Wire>(
+    rt: &impl Abort,
+    alloc: Global,
+    task: &str,
+    wire: &mut W,
+    body: Option<&[u8]>,
+    wanted: &str,
+) -> bool {
+    match body {
+        Some(body) if task == "open" => is_open(alloc, wire, body),
+        Some(_) if task == "head" => keeps(rt, alloc, wire, wanted),
+        _ => keeps(rt, alloc, wire, ENDED),
+    }
 }
 
 /// Whether each front but the whole is read as the task says.
@@ -117,45 +144,46 @@ fn fronts_are_read(
 ) -> bool {
     for cut in 0..bytes.len() {
         let (front, _) = bytes.split_at(cut);
-        let read = kept(rt, alloc, front, &[]);
-        let is_right = if cut < head || task == "front" {
-            read.as_str() == ENDED
-        } else if task == "head" {
-            read.as_str() == wanted
-        } else {
-            let (_, body) = front.split_at(head);
-            let body = Vec::from_slice(alloc, body).expect(rt, "memory");
-            read.as_str() == told(rt, alloc, Ok(body)).as_str()
-        };
-        if !is_right {
+        let mut wire = unfailing(rt, alloc, front, &[]);
+        let is_read = front_is_read(rt, alloc, task, &mut wire, front.get(head..), wanted);
+        drop(wire);
+        if !is_read {
             return false;
         }
     }
     true
 }
 
+/// Whether the bytes of a text, whose head has this length, are read as the task says.
+fn text_is_read(
+    rt: &impl Abort,
+    alloc: Global,
+    task: &str,
+    bytes: &[u8],
+    head: usize,
+    wanted: &str,
+) -> bool {
+    if task == "many" {
+        return gives(rt, alloc, bytes, &[], wanted);
+    }
+    gives(rt, alloc, bytes, &[], wanted)
+        && gives_cut(rt, alloc, bytes, wanted)
+        && (task == "text" || fronts_are_read(rt, alloc, task, bytes, head, wanted))
+}
+
 /// Whether a line's text is read as it says.
 fn is_read(rt: &impl Abort, alloc: Global, line: &str, wanted: &str) -> bool {
-    let mut words = line.split('\t');
-    let task = words.next().unwrap_or("");
-    let front = words.next().unwrap_or("");
-    let middle = words.next().unwrap_or("");
-    let times = words.next().and_then(|times| times.parse::<usize>().ok());
-    let end = words.next().unwrap_or("");
-    let bytes = repeated_bytes(rt, alloc, front, middle, times.unwrap_or(0), end);
-    if task == "many" {
-        return gives(rt, alloc, &bytes, &[], wanted);
-    }
-    let head = head_len(rt, alloc, front);
-    gives(rt, alloc, &bytes, &[], wanted)
-        && gives_cut(rt, alloc, &bytes, wanted)
-        && (task == "text" || fronts_are_read(rt, alloc, task, &bytes, head, wanted))
+    let (task, front) = (field(line, '\t', 0), field(line, '\t', 1));
+    let (middle, end) = (field(line, '\t', 2), field(line, '\t', 4));
+    let times = number(field(line, '\t', 3));
+    let bytes = repeated_bytes(rt, alloc, front, middle, times, end);
+    text_is_read(rt, alloc, task, &bytes, head_len(rt, alloc, front), wanted)
 }
 
 #[test]
 fn texts_are_read_however_they_are_cut(rt: HostRuntime) {
     for line in TEXTS.lines() {
-        let (given, wanted) = line.split_once(" => ").unwrap_or((line, ""));
+        let (given, wanted) = halves(line, " => ");
         demand(&rt, is_read(&rt, rt.alloc(), given, wanted), given);
     }
 }

@@ -1,5 +1,5 @@
 //! Words and what they order: the manual's options, the defaults, and which fault is named.
-use crate::common::{demand, repeated};
+use crate::common::{demand, halves, repeated};
 use address::AddressFault;
 use clap::error::ErrorKind;
 use follow_filters::{Limit, Plan};
@@ -83,7 +83,7 @@ fn words_of<'a>(rt: &impl Abort, alloc: Global, text: &'a str) -> Vec<&'a str> {
 
 // Whether the answer to a row's words reads as the row says.
 fn is_named(rt: &impl Abort, alloc: Global, row: &str) -> bool {
-    let (expected, text) = row.split_once(" => ").unwrap_or((row, ""));
+    let (expected, text) = halves(row, " => ");
     outcome(alloc, &words_of(rt, alloc, text)) == expected
 }
 
@@ -202,25 +202,20 @@ false true true => -rp http://h/
 true true true => -rpnp http://h/
 ";
 
-// What the plan of a row says of these.
-fn letters_of(rt: &impl Abort, alloc: Global, text: &str) -> String {
-    let order = order_of(rt, alloc, text);
-    let plan = &order.plan;
+// Whether a plan says this of these.
+fn says(rt: &impl Abort, alloc: Global, plan: &Plan, expected: &str) -> bool {
     let follows = plan.limit != Limit::AtMost(0);
     let said = format!(in alloc; "{} {} {}", plan.no_parent, plan.page_requisites, follows);
-    drop(order);
-    said.expect(rt, "memory")
+    said.expect(rt, "memory").as_str() == expected
 }
 
 #[test]
 fn no_parent_and_requisites_are_told_apart(rt: HostRuntime) {
     for row in LETTERS.lines() {
-        let (expected, text) = row.split_once(" => ").unwrap_or((row, ""));
-        demand(
-            &rt,
-            letters_of(&rt, rt.alloc(), text).as_str() == expected,
-            row,
-        );
+        let (expected, text) = halves(row, " => ");
+        let order = order_of(&rt, rt.alloc(), text);
+        demand(&rt, says(&rt, rt.alloc(), &order.plan, expected), row);
+        drop(order);
     }
 }
 
@@ -269,10 +264,15 @@ Others:
 START is an http address. A LIST has commas between its elements.
 ";
 
+// The help by a call, so that no test has its text in itself.
+fn help() -> &'static str {
+    HELP
+}
+
 #[test]
 fn the_help_has_a_line_for_each_option(rt: HostRuntime) {
     let text = help_text(rt.alloc()).expect(&rt, "memory");
-    assert!(rt; text.as_str() == HELP);
+    assert!(rt; text.as_str() == help());
 }
 
 // Rows: words, behind `=>` what is said to be wrong with them and what was likely meant, and behind `|` the second line.
@@ -300,20 +300,24 @@ http://h/robots.txt => START is a robots file|START is any other page (see wgetr
 -D a*b http://h/ => an element of -D, --domains or --exclude-domains is no domain|an element is letters, digits, -, _ and dots, as example.org (see wgetr --help)
 ";
 
-// What a person is told of these words; nothing of words that are taken.
-fn told(rt: &impl Abort, alloc: Global, words: &[&str]) -> String {
-    let Some(fault) = read_order(alloc, words).err() else {
-        return String::new(alloc);
-    };
-    advice_text(alloc, fault, words).expect(rt, "memory")
+// Whether a person is told this of these words; nothing of words that are taken.
+fn tells(rt: &impl Abort, alloc: Global, words: &[&str], lines: &str) -> bool {
+    match read_order(alloc, words).err() {
+        Some(fault) => {
+            let text = advice_text(alloc, fault, words).expect(rt, "memory");
+            text.as_str() == lines
+        }
+        None => lines.is_empty(),
+    }
 }
 
 // Whether just what a row says is told of its words.
 fn is_told(rt: &impl Abort, alloc: Global, row: &str) -> bool {
-    let (words, expected) = row.split_once(" => ").unwrap_or((row, ""));
-    let (wrong, accepted) = expected.split_once('|').unwrap_or((expected, ""));
+    let (words, expected) = halves(row, " => ");
+    let (wrong, accepted) = halves(expected, "|");
     let lines = format!(in alloc; "wgetr: {wrong}, in: {words}\n{accepted}\n");
-    told(rt, alloc, &words_of(rt, alloc, words)).as_str() == lines.expect(rt, "memory").as_str()
+    let lines = lines.expect(rt, "memory");
+    tells(rt, alloc, &words_of(rt, alloc, words), lines.as_str())
 }
 
 #[test]
@@ -326,9 +330,9 @@ fn what_was_meant_is_told(rt: HostRuntime) {
 #[test]
 fn help_and_version_are_told_to_who_asks(rt: HostRuntime) {
     let alloc = rt.alloc();
-    assert!(rt; told(&rt, alloc, &["--help"]).as_str() == HELP);
-    assert!(rt; told(&rt, alloc, &["-r", "-h"]).as_str() == HELP);
-    assert!(rt; told(&rt, alloc, &["-V"]).as_str() == "wgetr 1.0\n");
+    assert!(rt; tells(&rt, alloc, &["--help"], help()));
+    assert!(rt; tells(&rt, alloc, &["-r", "-h"], help()));
+    assert!(rt; tells(&rt, alloc, &["-V"], "wgetr 1.0\n"));
     let text = no_text_advice(alloc, &[]).expect(&rt, "memory");
     assert!(rt;
         text.as_str()

@@ -1,9 +1,8 @@
 //! Records that are written: their text, what counts and what is left out, a writer that fails, and a text that is cut.
-use crate::common::{address, bytes_of, demand, repeated};
+use crate::common::{ask_all, bytes_of, demand, repeated};
 use crate::fetch_tests::site_of;
-use crate::resumption_tests::{SITE, ask_all};
+use crate::resumption_tests::{QUESTIONS, SITE};
 use answer_notes::Noted;
-use fetcher::Fetcher;
 use http_fetcher::{Connect, HttpFetcher};
 use memory_connect::MemoryConnect;
 use site_inputs::InputFault;
@@ -21,17 +20,6 @@ hop http://h/r 48~HTTP/1.1 200 |Content-Length: 11||Disallow: /~";
 // Where its first line and each of its entries end.
 const ENDS: [usize; 4] = [15, 106, 165, 328];
 
-// The record of notes that are handed in so many times.
-fn record_of(rt: &impl Abort, alloc: Global, notes: &[Noted], times: usize) -> Vec<u8> {
-    let mut parts = Vec::new(alloc);
-    for _ in 0..times {
-        parts.push(notes).expect(rt, "memory");
-    }
-    let mut text = Vec::new(alloc);
-    write_record(alloc, &mut text, parts.as_slice()).expect(rt, "written");
-    text
-}
-
 // Whether a writer with room for so many bytes fails, and holds these.
 fn fails_behind(rt: &impl Abort, alloc: Global, notes: &[Noted], text: &[u8]) -> bool {
     let mut room = [0u8; 20];
@@ -41,15 +29,32 @@ fn fails_behind(rt: &impl Abort, alloc: Global, notes: &[Noted], text: &[u8]) ->
     text.starts_with(&room)
 }
 
-// Whether all that a fetcher notes is written, once, and in part where there is no room.
+// Whether the record of notes that are handed in in these parts is this text.
+fn is_written(rt: &impl Abort, alloc: Global, parts: &[&[Noted]], text: &[u8]) -> bool {
+    let mut written = Vec::new(alloc);
+    write_record(alloc, &mut written, parts).expect(rt, "written");
+    written.as_slice() == text
+}
+
+// Whether the record of notes is this text.
+fn is_record(rt: &impl Abort, alloc: Global, notes: &[Noted], text: &[u8]) -> bool {
+    is_written(rt, alloc, &[notes], text)
+}
+
+// Whether notes are written as this text, once, and in part where there is no room.
+fn are_written(rt: &impl Abort, alloc: Global, notes: &[Noted], text: &[u8]) -> bool {
+    is_record(rt, alloc, notes, text)
+        && is_written(rt, alloc, &[notes, notes], text)
+        && fails_behind(rt, alloc, notes, text)
+}
+
+// Whether all that a fetcher notes is written.
 fn writes_what_it_noted<C: Connect>(rt: &impl Abort, alloc: Global, connect: C) -> bool {
     let mut fetcher = HttpFetcher::recording(alloc, connect, true);
-    ask_all(rt, alloc, &mut fetcher);
-    let text = bytes_of(rt, alloc, WRITTEN);
-    let notes = fetcher.notes();
-    record_of(rt, alloc, notes, 1) == text
-        && record_of(rt, alloc, notes, 2) == text
-        && fails_behind(rt, alloc, notes, &text)
+    let _ = ask_all(rt, alloc, &mut fetcher, QUESTIONS);
+    let is_written = are_written(rt, alloc, fetcher.notes(), &bytes_of(rt, alloc, WRITTEN));
+    drop(fetcher);
+    is_written
 }
 
 #[test]
@@ -62,11 +67,10 @@ fn what_is_noted_is_written_once(rt: HostRuntime) {
 // Whether nothing is written of the one page that is asked for.
 fn leaves_it_out<C: Connect>(rt: &impl Abort, alloc: Global, connect: C) -> bool {
     let mut fetcher = HttpFetcher::recording(alloc, connect, true);
-    let _ = fetcher
-        .ask(&address(rt, alloc, "http://h/"))
-        .expect(rt, "memory");
-    let text = record_of(rt, alloc, fetcher.notes(), 1);
-    text == bytes_of(rt, alloc, "wgetr-record 2~")
+    let _ = ask_all(rt, alloc, &mut fetcher, "http://h/");
+    let is_empty = is_record(rt, alloc, fetcher.notes(), b"wgetr-record 2\n");
+    drop(fetcher);
+    is_empty
 }
 
 // The heads that are read have 65,536 bytes; written, with a length, they have more.
@@ -90,29 +94,32 @@ fn end_within(cut: usize) -> usize {
     last
 }
 
-// Whether the whole front of a text that is cut there is read.
-fn is_read_to(alloc: Global, text: &[u8], cut: usize) -> bool {
+// Whether a text that is cut is read as far as it is whole.
+fn is_read(alloc: Global, text: &[u8]) -> bool {
     match read_front(alloc, text, true) {
-        Ok(front) => front.len == end_within(cut),
+        Ok(front) => front.len == end_within(text.len()),
         Err(_) => false,
     }
+}
+
+// Whether each front of a text is, and the text itself.
+fn fronts_are_read(alloc: Global, text: &[u8]) -> bool {
+    for cut in 0..text.len() {
+        let (front, _) = text.split_at(cut);
+        if !is_read(alloc, front) {
+            return false;
+        }
+    }
+    is_read(alloc, text)
 }
 
 #[test]
 fn a_record_that_is_cut_is_read_as_far_as_it_is_whole(rt: HostRuntime) {
     let alloc = rt.alloc();
-    let mut text = bytes_of(&rt, alloc, WRITTEN);
-    for _ in 0..329 {
-        let cut = text.len();
-        demand(&rt, is_read_to(alloc, &text, cut), "a front");
-        let _ = text.pop();
-    }
-    let bad = bytes_of(&rt, alloc, "wgetr-record 2~fault x http://h/~page");
-    demand(
-        &rt,
-        read_front(alloc, &bad, true).err() == Some(InputFault::Line(2)),
-        "a bad line",
-    );
+    let text = bytes_of(&rt, alloc, WRITTEN);
+    assert!(rt; fronts_are_read(alloc, &text));
+    let bad = b"wgetr-record 2\nfault x http://h/\npage";
+    assert!(rt; read_front(alloc, bad, true).err() == Some(InputFault::Line(2)));
 }
 
 // A record of version 1, and the same as it is written again.
@@ -131,11 +138,7 @@ fn a_record_of_the_first_version_is_written_again_as_one_of_the_second(rt: HostR
     let alloc = rt.alloc();
     let site = RecordedSite::read_noted(alloc, &bytes_of(&rt, alloc, FIRST), true);
     let site = site.expect(&rt, "a record");
-    let text = record_of(&rt, alloc, site.notes(), 1);
-    demand(
-        &rt,
-        text == bytes_of(&rt, alloc, SECOND),
-        "the second version",
-    );
+    let second = bytes_of(&rt, alloc, SECOND);
+    assert!(rt; is_record(&rt, alloc, site.notes(), &second));
     drop(site);
 }

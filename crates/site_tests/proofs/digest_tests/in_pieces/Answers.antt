@@ -1,11 +1,13 @@
 -- A digester that took the head of a response has one.
 use Rattle.std.proofs.Common.{inl}
+use Rattle.std.proofs.lemmas.Result.{IfOk-at_ok}
 use Rattle.response_answer.proofs.DigestLemmas.{stage_has_head}
 use Rattle.site_tests.proofs.digest_tests.in_pieces.Goals as goal
 
 pub finish-requires : goal.finish-requires
-finish-requires c =
-    let begun = c.in_ok-head.ensures.took c.in_ok-digester.ensures.fresh in
-    let front = c.in_ok-piece.ensures.took _ _ begun in
-    let rest = c.in_ok-piece-2.ensures.took _ _ front in
+finish-requires g c =
+    let fresh = IfOk-at_ok _ c.expect-digester.ensures c.new.ensures.fresh in
+    let begun = IfOk-at_ok _ c.expect.ensures c.head.ensures.took fresh in
+    let front = IfOk-at_ok _ c.expect-2.ensures c.piece.ensures.took _ _ begun in
+    let rest = IfOk-at_ok _ c.expect-3.ensures c.piece-2.ensures.took _ _ front in
     inl (stage_has_head _ _ _ rest.1)
