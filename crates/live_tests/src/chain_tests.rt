@@ -1,5 +1,5 @@
 //! Robots files behind redirects, as a live retrieval follows them (RFC 9309, section 2.3.1.2).
-use crate::memory_tests::{failure, live_alone, stored};
+use crate::memory_tests::{failure, live_by, stored};
 use crate::texts::behind;
 use local_tree::MemoryFolder;
 use std::alloc::Global;
@@ -98,23 +98,20 @@ fn writes<R: Abort + Threads + Wait + Sync>(
     wanted: &str,
 ) -> bool {
     let lines = format!(in alloc; "{START}\n{chain}").expect(rt, "memory");
-    let answers = stored(rt, alloc, lines.as_str());
     // No connection has so great a number.
     let failing = match behind(chain, "!") {
         "" => "1000000 connect",
         words => words,
     };
-    let failures = [failure(rt, failing)];
-    let mut folder = MemoryFolder::new(alloc);
     let mut written: Vec<u8> = Vec::new(alloc);
-    let words = "-r http://h/";
-    live_alone(
+    live_by(
         rt,
         alloc,
-        words,
-        &answers,
-        &failures,
-        &mut folder,
+        1,
+        "-r http://h/",
+        &stored(rt, alloc, lines.as_str()),
+        &[failure(rt, failing)],
+        &mut MemoryFolder::new(alloc),
         &mut written,
     );
     written.as_slice() == wanted.as_bytes()

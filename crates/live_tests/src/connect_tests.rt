@@ -19,101 +19,72 @@ pub fn origin(rt: &impl Abort, alloc: Global, text: &str) -> Origin {
     Origin::of(&address).expect(rt, "memory")
 }
 
-/// Makes a connection to the origin and closes it; whether there was one.
+/// Makes a connection to the origin of an address and closes it. Tells what came of it.
 fn visit<R: Wait + Abort>(
     rt: &R,
+    alloc: Global,
     connect: &mut TcpConnect<'_, Network<'_, R>>,
-    of: &Origin,
-) -> bool {
-    match connect.connect(of) {
+    text: &str,
+) -> &'static str {
+    let made = connect.connect(&origin(rt, alloc, text));
+    match made {
         Ok(wire) => {
             connect.close(wire);
-            true
+            "made"
         }
-        Err(fault) => {
-            assert!(rt; fault == ConnectFault::Failed);
-            false
-        }
+        Err(ConnectFault::Failed) => "failed",
+        Err(ConnectFault::Memory) => "memory",
     }
 }
 
-/// What two workers do after one another: where one goes, whether it gets there, and how many lookups, reads at the end and
-/// tried addresses there were by then.
-const VISITS: &[(usize, &str, bool, (u64, u64, usize))] = &[
-    // A host is looked up once, for its other ports too. A dead first address costs one connection.
-    (0, "http://two/", true, (1, 1, 2)),
-    (0, "http://two/", true, (1, 2, 3)),
-    (1, "http://two:8080/", true, (1, 3, 4)),
-    // A lookup that failed isn't made again.
-    (0, "http://none/", false, (2, 3, 4)),
-    (1, "http://none:81/", false, (2, 3, 4)),
-    // A server that keeps its connections open is waited for until one worker saw it twice.
-    (0, "http://two:81/", true, (2, 4, 5)),
-    (1, "http://two:81/", true, (2, 5, 6)),
-    (0, "http://two:81/", true, (2, 6, 7)),
-    (0, "http://two:81/", true, (2, 6, 8)),
-    (1, "http://two:81/", true, (2, 6, 9)),
-    // One that is late now and then is always waited for, as it was in time between.
-    (0, "http://two:87/", true, (2, 7, 10)),
-    (0, "http://two:87/", true, (2, 8, 11)),
-    (0, "http://two:87/", true, (2, 9, 12)),
-    (0, "http://two:87/", true, (2, 10, 13)),
-    // What one server of a host keeps open says nothing of another, and a connection that broke wasn't kept open.
-    (0, "http://two/", true, (2, 11, 14)),
-    (0, "http://two:83/", true, (2, 12, 15)),
-    (0, "http://two:83/", true, (2, 13, 16)),
-    (0, "http://two:83/", true, (2, 14, 17)),
-    // Addresses need no lookup.
-    (1, "http://[::1]:8080/", true, (2, 15, 18)),
-    (0, "http://10.0.0.1/", false, (2, 15, 19)),
-    // The address that took a connection is the first from then on.
-    (0, "http://three/", true, (3, 16, 21)),
-    (1, "http://three/", true, (3, 17, 22)),
-    // Three dead addresses in front, and one that dies: each that is left is tried, in turn.
-    (0, "http://five/", true, (4, 18, 26)),
-    (1, "http://five/", true, (4, 19, 28)),
-    (0, "http://five/", true, (4, 20, 29)),
-    // A server that didn't answer in time isn't tried again; its host's other ports are.
-    (0, "http://10.0.0.6/", false, (4, 20, 30)),
-    (1, "http://10.0.0.6/", false, (4, 20, 30)),
-    (1, "http://10.0.0.6:81/", false, (4, 20, 31)),
-    (0, "http://silent/", true, (5, 21, 32)),
-    // Without a limit on its time no connection is used, and without the other option it is.
-    (0, "http://two:85/", false, (5, 21, 33)),
-    (1, "http://two:86/", true, (5, 22, 34)),
-    // Either error of a time limit says that a server keeps its connections open.
-    (0, "http://two:88/", true, (5, 23, 35)),
-    (0, "http://two:88/", true, (5, 24, 36)),
-    (0, "http://two:88/", true, (5, 24, 37)),
-];
-
-#[test]
-fn workers_share_what_is_known_of_hosts(rt: HostRuntime) {
-    let alloc = rt.alloc();
-    let network = Network::new(&rt, alloc);
-    let hosts = Hosts::new(alloc);
-    let mut first = TcpConnect::new(&network, alloc, &hosts);
-    let mut second = TcpConnect::new(&network, alloc, &hosts);
-    for (worker, text, made, counts) in VISITS {
-        let of = origin(&rt, alloc, text);
-        let visited = if *worker == 0 {
-            visit(&rt, &mut first, &of)
-        } else {
-            visit(&rt, &mut second, &of)
-        };
-        assert!(rt; visited == *made, "{text}");
-        assert!(rt; network.counts() == *counts, "{text}");
-    }
-    assert!(rt; first.failures() == 4 && second.failures() == 3);
-    let tried = network.log.tried.lock(&rt);
-    for (k, server) in TRIED {
-        assert!(rt; tried.get(*k) == Some(&SocketAddr::from(*server)), "{k}");
-    }
-    assert!(rt; tried.get(18 - 1) == Some(&SocketAddr::from(([0, 0, 0, 0, 0, 0, 0, 1], 8080))));
-    drop(tried);
-    assert!(rt; network.limits() == LIMITS);
-    assert!(rt; network.clock() == 0);
-}
+/// What two workers do after one another: which of them goes where, what comes of it, and how many lookups, reads at the end and
+/// tried addresses there were by then. Behind `#` stands what the next rows show.
+const VISITS: &str =
+    "# A host is looked up once, for its other ports too. A dead first address costs one connection.
+0 http://two/ made (1, 1, 2)
+0 http://two/ made (1, 2, 3)
+1 http://two:8080/ made (1, 3, 4)
+# A lookup that failed isn't made again.
+0 http://none/ failed (2, 3, 4)
+1 http://none:81/ failed (2, 3, 4)
+# A server that keeps its connections open is waited for until one worker saw it twice.
+0 http://two:81/ made (2, 4, 5)
+1 http://two:81/ made (2, 5, 6)
+0 http://two:81/ made (2, 6, 7)
+0 http://two:81/ made (2, 6, 8)
+1 http://two:81/ made (2, 6, 9)
+# One that is late now and then is always waited for, as it was in time between.
+0 http://two:87/ made (2, 7, 10)
+0 http://two:87/ made (2, 8, 11)
+0 http://two:87/ made (2, 9, 12)
+0 http://two:87/ made (2, 10, 13)
+# What one server of a host keeps open says nothing of another, and a connection that broke wasn't kept open.
+0 http://two/ made (2, 11, 14)
+0 http://two:83/ made (2, 12, 15)
+0 http://two:83/ made (2, 13, 16)
+0 http://two:83/ made (2, 14, 17)
+# Addresses need no lookup.
+1 http://[::1]:8080/ made (2, 15, 18)
+0 http://10.0.0.1/ failed (2, 15, 19)
+# The address that took a connection is the first from then on.
+0 http://three/ made (3, 16, 21)
+1 http://three/ made (3, 17, 22)
+# Three dead addresses in front, and one that dies: each that is left is tried, in turn.
+0 http://five/ made (4, 18, 26)
+1 http://five/ made (4, 19, 28)
+0 http://five/ made (4, 20, 29)
+# A server that didn't answer in time isn't tried again; its host's other ports are.
+0 http://10.0.0.6/ failed (4, 20, 30)
+1 http://10.0.0.6/ failed (4, 20, 30)
+1 http://10.0.0.6:81/ failed (4, 20, 31)
+0 http://silent/ made (5, 21, 32)
+# Without a limit on its time no connection is used, and without the other option it is.
+0 http://two:85/ failed (5, 21, 33)
+1 http://two:86/ made (5, 22, 34)
+# Either error of a time limit says that a server keeps its connections open.
+0 http://two:88/ made (5, 23, 35)
+0 http://two:88/ made (5, 24, 36)
+0 http://two:88/ made (5, 24, 37)";
 
 /// Where some of these went.
 const TRIED: &[(usize, ([u8; 4], u16))] = &[
@@ -133,68 +104,172 @@ const TRIED: &[(usize, ([u8; 4], u16))] = &[
 /// for a read at its end; and how many connections were set to delay nothing.
 const LIMITS: (u64, u64, u64, u64) = (900_000, 100, 900_000, 27);
 
+/// Whether a visit of a worker comes out as a row says.
+fn comes_out<R: Wait + Abort>(
+    rt: &R,
+    alloc: Global,
+    network: &Network<'_, R>,
+    connect: &mut TcpConnect<'_, Network<'_, R>>,
+    row: &str,
+) -> bool {
+    let (text, wanted) = row.split_once(' ').unwrap_or((row, ""));
+    let made = visit(rt, alloc, connect, text);
+    let seen = format!(in alloc; "{made} {:?}", network.counts()).expect(rt, "memory");
+    seen.as_str() == wanted
+}
+
+/// Makes the visits.
+fn make_visits<R: Wait + Abort>(
+    rt: &R,
+    alloc: Global,
+    network: &Network<'_, R>,
+    first: &mut TcpConnect<'_, Network<'_, R>>,
+    second: &mut TcpConnect<'_, Network<'_, R>>,
+) {
+    for line in VISITS.lines() {
+        let (worker, row) = line.split_once(' ').unwrap_or((line, ""));
+        let is_out = match worker {
+            "#" => true,
+            "0" => comes_out(rt, alloc, network, first, row),
+            _ => comes_out(rt, alloc, network, second, row),
+        };
+        assert!(rt; is_out, "{line}");
+    }
+    assert!(rt; first.failures() == 4 && second.failures() == 3);
+    check_tried(rt, network.log.tried.lock(rt).as_slice());
+    assert!(rt; network.limits() == LIMITS);
+    assert!(rt; network.clock() == 0);
+}
+
+/// Looks at where these went.
+fn check_tried(rt: &impl Abort, tried: &[SocketAddr]) {
+    for (k, server) in TRIED {
+        assert!(rt; tried.get(*k) == Some(&SocketAddr::from(*server)), "{k}");
+    }
+    assert!(rt; tried.get(18 - 1) == Some(&SocketAddr::from(([0, 0, 0, 0, 0, 0, 0, 1], 8080))));
+}
+
 #[test]
-fn a_connection_that_failed_says_nothing_of_how_its_server_closes(rt: HostRuntime) {
+fn workers_share_what_is_known_of_hosts(rt: HostRuntime) {
     let alloc = rt.alloc();
-    for text in ["http://two:81/", "http://two:83/", "http://two:88/"] {
-        let network = Network::new(&rt, alloc);
-        let hosts = Hosts::new(alloc);
-        let mut connect = TcpConnect::new(&network, alloc, &hosts);
-        let of = origin(&rt, alloc, text);
-        for reads in 1..4 {
-            let Ok(mut wire) = connect.connect(&of) else {
-                panic!(rt; "no connection");
-            };
-            assert!(rt; wire.read(&mut [0u8; 2]) == Err(WireFault::Failed));
-            connect.close(wire);
-            assert!(rt; network.counts().1 == reads);
-        }
-        assert!(rt; visit(&rt, &mut connect, &of));
-        assert!(rt; network.counts().1 == 4);
+    let network = Network::new(&rt, alloc);
+    let hosts = Hosts::new(alloc);
+    make_visits(
+        &rt,
+        alloc,
+        &network,
+        &mut TcpConnect::new(&network, alloc, &hosts),
+        &mut TcpConnect::new(&network, alloc, &hosts),
+    );
+}
+
+/// Makes a connection, reads it once and closes it. Tells what came of it.
+pub fn read_once<R: Wait + Abort>(
+    rt: &R,
+    alloc: Global,
+    connect: &mut TcpConnect<'_, Network<'_, R>>,
+    text: &str,
+) -> &'static str {
+    let Ok(mut wire) = connect.connect(&origin(rt, alloc, text)) else {
+        return "none";
+    };
+    let read = wire.read(&mut [0u8; 2]);
+    connect.close(wire);
+    match read {
+        Err(WireFault::Failed) => "failed",
+        _ => "read",
     }
 }
 
-/// Where a worker goes twice in a network of its own, whether it gets there and how many milliseconds were slept by then, and
-/// how many lookups there were in all. The errors of a port's number are Linux's (errno(3)).
-const WAITS: &[(&str, (bool, u64), (bool, u64), u64)] = &[
-    // No descriptor, no buffer and no port are waited for.
-    ("http://lacking:23/", (true, 3_000), (true, 3_000), 1),
-    ("http://lacking:24/", (true, 3_000), (true, 3_000), 1),
-    ("http://lacking:105/", (true, 3_000), (true, 3_000), 1),
-    ("http://lacking:11/", (true, 3_000), (true, 3_000), 1),
-    ("http://lacking:12/", (true, 3_000), (true, 3_000), 1),
-    ("http://lacking:99/", (true, 3_000), (true, 3_000), 1),
-    // No route, and nobody who listens, are not.
-    ("http://lacking:101/", (false, 0), (false, 0), 1),
-    ("http://lacking:111/", (false, 0), (false, 0), 1),
-    ("http://lacking:113/", (false, 0), (false, 0), 1),
-    // A minute at most, and nothing of it is kept.
-    ("http://never:24/", (false, 60_000), (false, 120_000), 1),
-    ("http://never:99/", (false, 60_000), (false, 120_000), 1),
-    // Where another address gave an answer there may be no port at all for this one.
-    ("http://mixed:99/", (false, 0), (false, 0), 1),
-    // At the address that took a connection there was one.
-    ("http://used:99/", (true, 0), (true, 3_000), 1),
-    // The resolver's want is waited for, ten seconds at most, and what it says in want isn't kept.
-    ("http://again/", (true, 3_000), (true, 3_000), 4),
-    ("http://never-again/", (false, 10_000), (false, 20_000), 22),
-    ("http://tight/", (true, 3_000), (true, 3_000), 61),
-    ("http://hidden/", (true, 3_000), (true, 3_000), 2),
-];
+/// How many milliseconds were slept, or how many lookups or reads there were.
+fn count_of<R: Wait + Abort>(network: &Network<'_, R>, word: &str) -> u64 {
+    let (lookups, reads, _) = network.counts();
+    match word {
+        "clock" => network.clock(),
+        "lookups" => lookups,
+        _ => reads,
+    }
+}
+
+/// Takes the steps of a worker, each a word and what comes of it: it visits an address, or reads a connection to that; all others
+/// are counts.
+fn take_steps<R: Wait + Abort>(
+    rt: &R,
+    alloc: Global,
+    network: &Network<'_, R>,
+    connect: &mut TcpConnect<'_, Network<'_, R>>,
+    text: &str,
+    steps: &str,
+) {
+    for step in steps.split(", ") {
+        let (word, wanted) = step.split_once(' ').unwrap_or((step, ""));
+        let is_met = if word == "visit" {
+            visit(rt, alloc, connect, text) == wanted
+        } else if word == "read" {
+            read_once(rt, alloc, connect, text) == wanted
+        } else {
+            wanted.parse::<u64>().unwrap_or(u64::MAX) == count_of(network, word)
+        };
+        assert!(rt; is_met, "{text} {step}");
+    }
+}
+
+/// Takes them in a network of its own.
+fn go_alone<R: Wait + Abort>(rt: &R, alloc: Global, text: &str, steps: &str) {
+    let network = Network::new(rt, alloc);
+    let hosts = Hosts::new(alloc);
+    let mut connect = TcpConnect::new(&network, alloc, &hosts);
+    take_steps(rt, alloc, &network, &mut connect, text, steps);
+}
+
+#[test]
+fn a_connection_that_failed_says_nothing_of_how_its_server_closes(rt: HostRuntime) {
+    let steps =
+        "read failed, reads 1, read failed, reads 2, read failed, reads 3, visit made, reads 4";
+    for text in ["http://two:81/", "http://two:83/", "http://two:88/"] {
+        go_alone(&rt, rt.alloc(), text, steps);
+    }
+}
+
+#[test]
+fn a_host_is_looked_up_again_where_memory_was_wanting(rt: HostRuntime) {
+    let steps = "visit memory, lookups 1, visit memory, lookups 2";
+    go_alone(&rt, rt.alloc(), "http://full/", steps);
+}
+
+/// Where a worker goes twice in a network of its own. The errors of a port's number are Linux's (errno(3)). Behind `#` stands what
+/// the next rows show.
+const WAITS: &str = "# No descriptor, no buffer and no port are waited for.
+http://lacking:23/ visit made, clock 3000, visit made, clock 3000, lookups 1
+http://lacking:24/ visit made, clock 3000, visit made, clock 3000, lookups 1
+http://lacking:105/ visit made, clock 3000, visit made, clock 3000, lookups 1
+http://lacking:11/ visit made, clock 3000, visit made, clock 3000, lookups 1
+http://lacking:12/ visit made, clock 3000, visit made, clock 3000, lookups 1
+http://lacking:99/ visit made, clock 3000, visit made, clock 3000, lookups 1
+# No route, and nobody who listens, are not.
+http://lacking:101/ visit failed, clock 0, visit failed, clock 0, lookups 1
+http://lacking:111/ visit failed, clock 0, visit failed, clock 0, lookups 1
+http://lacking:113/ visit failed, clock 0, visit failed, clock 0, lookups 1
+# A minute at most, and nothing of it is kept.
+http://never:24/ visit failed, clock 60000, visit failed, clock 120000, lookups 1
+http://never:99/ visit failed, clock 60000, visit failed, clock 120000, lookups 1
+# Where another address gave an answer there may be no port at all for this one.
+http://mixed:99/ visit failed, clock 0, visit failed, clock 0, lookups 1
+# At the address that took a connection there was one.
+http://used:99/ visit made, clock 0, visit made, clock 3000, lookups 1
+# The resolver's want is waited for, ten seconds at most, and what it says in want isn't kept.
+http://again/ visit made, clock 3000, visit made, clock 3000, lookups 4
+http://never-again/ visit failed, clock 10000, visit failed, clock 20000, lookups 22
+http://tight/ visit made, clock 3000, visit made, clock 3000, lookups 61
+http://hidden/ visit made, clock 3000, visit made, clock 3000, lookups 2";
 
 #[test]
 fn what_the_system_lacks_is_waited_for(rt: HostRuntime) {
-    let alloc = rt.alloc();
-    for (text, first, second, lookups) in WAITS {
-        let network = Network::new(&rt, alloc);
-        let hosts = Hosts::new(alloc);
-        let mut connect = TcpConnect::new(&network, alloc, &hosts);
-        let of = origin(&rt, alloc, text);
-        for wanted in [first, second] {
-            let made = visit(&rt, &mut connect, &of);
-            assert!(rt; (made, network.clock()) == *wanted, "{text}");
+    for row in WAITS.lines() {
+        let (text, steps) = row.split_once(' ').unwrap_or((row, ""));
+        if text != "#" {
+            go_alone(&rt, rt.alloc(), text, steps);
         }
-        assert!(rt; network.counts().0 == *lookups, "{text}");
     }
 }
 
@@ -204,15 +279,26 @@ fn visit_until_late<R: Wait + Abort>(
     network: &Network<'_, R>,
     alloc: Global,
     hosts: &Hosts,
-    of: &Origin,
 ) {
     let mut connect = TcpConnect::new(network, alloc, hosts);
     for _ in rt.forever() {
         if network.clock() >= LATE {
             break;
         }
-        assert!(rt; visit(rt, &mut connect, of));
+        assert!(rt; visit(rt, alloc, &mut connect, "http://two/") == "made");
     }
+}
+
+/// Goes to a server once, by a worker of its own.
+fn visit_once<R: Wait + Abort>(
+    rt: &R,
+    network: &Network<'_, R>,
+    alloc: Global,
+    hosts: &Hosts,
+    text: &str,
+) -> &'static str {
+    let mut connect = TcpConnect::new(network, alloc, hosts);
+    visit(rt, alloc, &mut connect, text)
 }
 
 #[test]
@@ -220,27 +306,12 @@ fn a_descriptor_is_waited_for_while_connections_of_the_run_end(rt: HostRuntime) 
     let alloc = rt.alloc();
     let network = Network::following(&rt, alloc);
     let hosts = Hosts::new(alloc);
-    let wanted = origin(&rt, alloc, "http://late:24/");
-    let other = origin(&rt, alloc, "http://two/");
     let (got, ()) = thread::join(
         &rt,
-        || visit(&rt, &mut TcpConnect::new(&network, alloc, &hosts), &wanted),
-        || visit_until_late(&rt, &network, alloc, &hosts, &other),
+        || visit_once(&rt, &network, alloc, &hosts, "http://late:24/"),
+        || visit_until_late(&rt, &network, alloc, &hosts),
     );
-    assert!(rt; got && network.clock() >= LATE);
-}
-
-#[test]
-fn a_host_is_looked_up_again_where_memory_was_wanting(rt: HostRuntime) {
-    let alloc = rt.alloc();
-    let network = Network::new(&rt, alloc);
-    let hosts = Hosts::new(alloc);
-    let mut connect = TcpConnect::new(&network, alloc, &hosts);
-    let of = origin(&rt, alloc, "http://full/");
-    for lookups in 1..3 {
-        assert!(rt; matches!(connect.connect(&of), Err(ConnectFault::Memory)));
-        assert!(rt; network.counts().0 == lookups);
-    }
+    assert!(rt; got == "made" && network.clock() >= LATE);
 }
 
 #[test]
@@ -248,14 +319,12 @@ fn two_workers_look_a_host_up_once(rt: HostRuntime) {
     let alloc = rt.alloc();
     let network = Network::new(&rt, alloc);
     let hosts = Hosts::new(alloc);
-    let of = origin(&rt, alloc, "http://two/");
     let (first, second) = thread::join(
         &rt,
-        || visit(&rt, &mut TcpConnect::new(&network, alloc, &hosts), &of),
-        || visit(&rt, &mut TcpConnect::new(&network, alloc, &hosts), &of),
+        || visit_once(&rt, &network, alloc, &hosts, "http://two/"),
+        || visit_once(&rt, &network, alloc, &hosts, "http://two/"),
     );
-    assert!(rt; first && second);
-    assert!(rt; network.counts().0 == 1);
+    assert!(rt; first == "made" && second == "made" && network.counts().0 == 1);
 }
 
 /// A stream that answers each call so.

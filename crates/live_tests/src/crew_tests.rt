@@ -192,7 +192,28 @@ fn start_of(rt: &impl Abort, alloc: Global, map: &[u8]) -> Outcome {
     outcome
 }
 
-/// Whether the program writes what is wanted over a network whose fetchers meet, and notes at last that nothing waits.
+/// Whether the program writes what is wanted over a network whose fetchers meet.
+fn writes<R: Abort + Threads + Wait + Sync>(
+    rt: &R,
+    alloc: Global,
+    system: &Meetings<'_>,
+    text: &str,
+) -> bool {
+    let args = arguments_of(rt, alloc, behind(text, "$"));
+    let mut written: Vec<u8> = Vec::new(alloc);
+    run_program(
+        rt,
+        alloc,
+        system,
+        Ok(args),
+        &mut b"".as_slice(),
+        &mut written,
+        &mut Vec::new(alloc),
+    );
+    written == text_of(rt, alloc, text, ">", "none")
+}
+
+/// Whether it does, and notes at last that nothing waits.
 fn meets<R: Abort + Threads + Wait + Sync>(rt: &R, alloc: Global, text: &str) -> bool {
     let start = start_of(rt, alloc, &text_of(rt, alloc, text, "<", "none"));
     let arrived = AtomicU64::new(0);
@@ -203,20 +224,7 @@ fn meets<R: Abort + Threads + Wait + Sync>(rt: &R, alloc: Global, text: &str) ->
         arrived: &arrived,
         waiting: AtomicUsize::new(usize::MAX),
     };
-    let args = arguments_of(rt, alloc, behind(text, "$"));
-    let mut written: Vec<u8> = Vec::new(alloc);
-    let mut told: Vec<u8> = Vec::new(alloc);
-    run_program(
-        rt,
-        alloc,
-        &system,
-        Ok(args),
-        &mut b"".as_slice(),
-        &mut written,
-        &mut told,
-    );
-    written.as_slice() == text_of(rt, alloc, text, ">", "none").as_slice()
-        && system.waiting.load(Ordering::Relaxed) == 0
+    writes(rt, alloc, &system, text) && system.waiting.load(Ordering::Relaxed) == 0
 }
 
 #[test]

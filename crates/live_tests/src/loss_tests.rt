@@ -1,8 +1,6 @@
 //! Why connections are lost, over a network that isn't there.
-use crate::connect_tests::origin;
+use crate::connect_tests::read_once;
 use crate::network::Network;
-use http_fetcher::Connect;
-use response_reader::Wire;
 use std::alloc::Global;
 use std::process::Abort;
 use std::sync::Wait;
@@ -32,10 +30,7 @@ fn loss<R: Wait + Abort>(rt: &R, alloc: Global, text: &str) -> String {
     let network = Network::new(rt, alloc);
     let hosts = Hosts::new(alloc);
     let mut connect = TcpConnect::new(&network, alloc, &hosts);
-    if let Ok(mut wire) = connect.connect(&origin(rt, alloc, text)) {
-        let _ = wire.read(&mut [0u8; 2]);
-        connect.close(wire);
-    }
+    let _ = read_once(rt, alloc, &mut connect, text);
     format!(in alloc; "{:?}", connect.loss()).expect(rt, "memory")
 }
 

@@ -4,11 +4,9 @@
 //! `!` stand the number of a connection and the place where that fails: `connect`, `write`, `read`, or `end`, the read behind the
 //! last byte. The first connection is the start's, the second its robots file's. A run is made once for each line that names a
 //! place, and else once.
-ghost use Rattle.std.specs.Prelude.{◌≡◌, vec_len};
-
-use crate::texts::{append, behind, status_of, text_of, words_of};
+use crate::texts::{append, behind, is_written, words_of};
 use address::Address;
-use http_fetcher::{Connect, HttpFetcher};
+use http_fetcher::HttpFetcher;
 use local_tree::{Folder, MemoryFolder};
 use memory_connect::{FailingPlace, MemoryConnect, PlannedFailure, StoredAnswer};
 use options::read_order;
@@ -30,7 +28,7 @@ pub(crate) const SITE: &str =
 pub(crate) const WHOLE: &str =
     "0 200 http://h/ h/index.html\n1 200 http://h/a h/a\n1 200 http://h/b h/b\nfetched 3 kept 3 refused 0 failed 0\n";
 
-const FILES: [(&str, &str); 3] = [
+const FILES: &[(&str, &str)] = &[
     ("h/index.html", "<a href=a><a href=b>"),
     ("h/a", "A"),
     ("h/b", "B"),
@@ -40,7 +38,7 @@ const FILES: [(&str, &str); 3] = [
 pub(crate) fn stored(rt: &impl Abort, alloc: Global, run: &str) -> Vec<StoredAnswer> {
     let mut answers = Vec::new(alloc);
     for line in run.lines() {
-        if let Some(("<", answer)) = line.split_once(' ') {
+        if let Some(answer) = line.strip_prefix("< ") {
             let (at, text) = answer.split_once(' ').unwrap_or((answer, ""));
             let at = Address::read(alloc, at).expect(rt, "an address");
             let mut bytes = Vec::new(alloc);
@@ -53,21 +51,29 @@ pub(crate) fn stored(rt: &impl Abort, alloc: Global, run: &str) -> Vec<StoredAns
     answers
 }
 
-/// One fetcher over these connections.
-fn lone<C: Connect>(rt: &impl Abort, alloc: Global, connect: C, robots: bool) -> Vec<HttpFetcher<C>>
-    ensures { vec_len result ≡ 1 }
-{
+/// So many fetchers over connections that fail at these places.
+fn fetchers<'a>(
+    rt: &impl Abort,
+    alloc: Global,
+    workers: u8,
+    answers: &'a [StoredAnswer],
+    failures: &'a [PlannedFailure],
+    robots: bool,
+) -> Vec<HttpFetcher<MemoryConnect<'a>>> {
     let mut fetchers = Vec::new(alloc);
-    let Ok(()) = fetchers.push(HttpFetcher::new(alloc, connect, robots)) else {
-        panic!(rt; "memory");
-    };
+    for _ in 0..workers {
+        let connect = MemoryConnect::new(alloc, answers, failures);
+        let fetcher = HttpFetcher::new(alloc, connect, robots);
+        fetchers.push(fetcher).expect(rt, "memory");
+    }
     fetchers
 }
 
-/// Retrieves live, by one worker, over connections that fail at these places. Gives the status.
-pub(crate) fn live_alone<R: Abort + Threads + Wait + Sync, D: Folder, W: Write>(
+/// Retrieves live, by so many workers, over connections that fail at these places. Gives the status.
+pub(crate) fn live_by<R: Abort + Threads + Wait + Sync, D: Folder, W: Write>(
     rt: &R,
     alloc: Global,
+    workers: u8,
     words: &str,
     answers: &[StoredAnswer],
     failures: &[PlannedFailure],
@@ -78,8 +84,10 @@ pub(crate) fn live_alone<R: Abort + Threads + Wait + Sync, D: Folder, W: Write>(
     let Ok(order) = read_order(alloc, &words) else {
         panic!(rt; "no order");
     };
-    let connect = MemoryConnect::new(alloc, answers, failures);
-    let fetchers = lone(rt, alloc, connect, order.plan.robots);
+    let fetchers = fetchers(rt, alloc, workers, answers, failures, order.plan.robots);
+    if fetchers.is_empty() || fetchers.len() > 64 {
+        panic!(rt; "no worker, or too many");
+    }
     let status = live(rt, alloc, &order, fetchers, folder, writer);
     drop(order);
     status
@@ -93,23 +101,20 @@ fn comes_out<R: Abort + Threads + Wait + Sync>(
     run: &str,
     failures: &[PlannedFailure],
 ) -> bool {
-    let answers = stored(rt, alloc, site);
-    let wanted = text_of(rt, alloc, run, ">", "none");
     let mut folder = MemoryFolder::new(alloc);
     let mut written: Vec<u8> = Vec::new(alloc);
-    let words = behind(run, "$");
-    let status = live_alone(
+    let status = live_by(
         rt,
         alloc,
-        words,
-        &answers,
+        1,
+        behind(run, "$"),
+        &stored(rt, alloc, site),
         failures,
         &mut folder,
         &mut written,
     );
-    written.as_slice() == wanted.as_slice()
-        && status == status_of(run)
-        && folder.file("h/index.html").is_some() == wanted.starts_with(b"0 200")
+    is_written(rt, alloc, run, &written, status)
+        && folder.file("h/index.html").is_some() == written.starts_with(b"0 200")
 }
 
 /// Live sites.
@@ -271,7 +276,7 @@ pub(crate) fn failure(rt: &impl Abort, words: &str) -> PlannedFailure {
 fn a_connection_that_fails_costs_its_page_alone(rt: HostRuntime) {
     for run in FAILING.split("\n\n") {
         for line in run.lines() {
-            if let Some(("!", words)) = line.split_once(' ') {
+            if let Some(words) = line.strip_prefix("! ") {
                 let failures = [failure(&rt, words)];
                 assert!(rt; comes_out(&rt, rt.alloc(), SITE, run, &failures), "{words}");
             }
@@ -279,19 +284,15 @@ fn a_connection_that_fails_costs_its_page_alone(rt: HostRuntime) {
     }
 }
 
-/// What the folder has of a file's body where so many files were put before it failed.
-fn held(number: usize, whole: u64, body: &str) -> Option<&[u8]> {
-    if (number as u64) < whole {
-        Some(body.as_bytes())
-    } else {
-        None
-    }
-}
-
 /// Whether the folder has the first so many files, and no other.
 pub(crate) fn has_front(folder: &MemoryFolder, whole: u64) -> bool {
     for (number, (name, body)) in FILES.iter().enumerate() {
-        if folder.file(name) != held(number, whole, body) {
+        let held = if (number as u64) < whole {
+            Some(body.as_bytes())
+        } else {
+            None
+        };
+        if folder.file(name) != held {
             return false;
         }
     }
@@ -300,11 +301,18 @@ pub(crate) fn has_front(folder: &MemoryFolder, whole: u64) -> bool {
 
 /// Whether a folder that fails behind so many files has these alone, and their count stands behind the report.
 fn fails_behind<R: Abort + Threads + Wait + Sync>(rt: &R, alloc: Global, whole: u64) -> bool {
-    let answers = stored(rt, alloc, SITE);
     let mut folder = MemoryFolder::failing_at(alloc, whole);
     let mut written: Vec<u8> = Vec::new(alloc);
-    let words = "-r http://h/";
-    let status = live_alone(rt, alloc, words, &answers, &[], &mut folder, &mut written);
+    let status = live_by(
+        rt,
+        alloc,
+        1,
+        "-r http://h/",
+        &stored(rt, alloc, SITE),
+        &[],
+        &mut folder,
+        &mut written,
+    );
     let wanted = format!(in alloc; "{WHOLE}files written {whole}\n").expect(rt, "memory");
     has_front(&folder, whole) && written.as_slice() == wanted.as_bytes() && status == 3
 }

@@ -161,8 +161,8 @@ fn goes<C: Connect>(
 ) -> bool {
     let port = server.port;
     let text = format!(in alloc; "http://127.0.0.{host}:{port}/").expect(rt, "memory");
-    let of = origin(rt, alloc, text.as_str());
-    works(connect, wires, &of, word) && (word != "make" || server.accepts())
+    let came = works(connect, wires, &origin(rt, alloc, text.as_str()), word);
+    came && (word != "make" || server.accepts())
 }
 
 /// Makes a connection to each of so many origins, and gives it back.
@@ -188,6 +188,16 @@ fn fills<C: Connect>(
 /// Whether a connection ends, with nothing before its end.
 fn is_ended<S: Read>(end: &mut S) -> bool {
     !matches!(end.read(&mut [0u8; 1]), Ok(n) if n > 0)
+}
+
+/// Whether each of these does.
+fn are_ended(ends: &mut [TcpStream]) -> bool {
+    for end in ends.iter_mut() {
+        if !is_ended(end) {
+            return false;
+        }
+    }
+    true
 }
 
 /// How many bytes a worker reads of its last connection, one at most.
@@ -230,24 +240,25 @@ fn steps<C: Connect>(
     goes(rt, alloc, connect, wires, server, word, number)
 }
 
-/// Takes the steps of a run.
-fn run<R: Net + Wait + Abort>(rt: &R, alloc: Global, server: &mut Server<'_>) {
-    let still = Still::new(rt);
-    let hosts = Hosts::new(alloc);
-    let kept = Kept::new(alloc);
-    let mut connect = TcpConnect::new(&still, alloc, &hosts).keeping(&kept, 2);
-    let mut wires = Vec::new(alloc);
+/// Takes the steps over these connections.
+fn take_steps<R: Net + Wait + Abort, C: Connect>(
+    rt: &R,
+    alloc: Global,
+    still: &Still<'_, R>,
+    kept: &Kept<R::Stream>,
+    connect: &mut C,
+    wires: &mut Vec<C::Wire>,
+    server: &mut Server<'_>,
+) {
     for line in STEPS.lines() {
-        let Some((word, number)) = line.split_once(' ') else {
-            panic!(rt; "no step");
-        };
-        let number: usize = number.parse().expect(rt, "a number");
+        let (word, number) = line.split_once(' ').unwrap_or((line, ""));
+        let number = number.parse::<usize>().expect(rt, "a number");
         if word == "waits" {
             still.seconds.fetch_add(number as u64, Ordering::SeqCst);
         } else if word == "files" {
-            kept.end_waiting(&still);
+            kept.end_waiting(still);
         } else {
-            let came = steps(rt, alloc, &mut connect, &mut wires, server, word, number);
+            let came = steps(rt, alloc, connect, wires, server, word, number);
             assert!(rt; came, "{line}");
         }
     }
@@ -262,11 +273,25 @@ fn connections_that_wait_are_counted_and_those_that_died_are_dropped(rt: HostRun
         port: listener.local_addr().expect(&rt, "its address").port(),
         ends: Vec::new(alloc),
     };
-    run(&rt, alloc, &mut server);
+    let still = Still::new(&rt);
+    let hosts = Hosts::new(alloc);
+    let kept = Kept::new(alloc);
+    let mut connect = TcpConnect::new(&still, alloc, &hosts).keeping(&kept, 2);
+    let mut wires = Vec::new(alloc);
+    take_steps(
+        &rt,
+        alloc,
+        &still,
+        &kept,
+        &mut connect,
+        &mut wires,
+        &mut server,
+    );
+    drop(wires);
+    drop(connect);
+    drop(kept);
     // Behind a run no connection stands.
-    for end in server.ends.iter_mut() {
-        assert!(rt; is_ended(end));
-    }
+    assert!(rt; are_ended(&mut server.ends));
 }
 
 /// What a server does by a script, the requests that it sees then, each as the number of its connection and what it asks for, and
@@ -288,6 +313,19 @@ fn word_of(answer: &Answer) -> &str {
     }
 }
 
+/// Asks for an address, and notes what is told behind a blank.
+fn note_answer<F: Fetcher>(
+    rt: &impl Abort,
+    alloc: Global,
+    fetcher: &mut F,
+    text: &str,
+    words: &mut String,
+) {
+    let at = Address::read(alloc, text).expect(rt, "an address");
+    let answer = fetcher.ask(&at).expect(rt, "memory");
+    write!(words, " {}", word_of(&answer)).expect(rt, "memory");
+}
+
 /// What a worker over these connections is told to so many questions, with a blank before each.
 fn told<C: Connect>(rt: &impl Abort, alloc: Global, connect: C, port: u16, count: usize) -> String {
     let mut fetcher = HttpFetcher::new(alloc, connect, false).keeping();
@@ -295,45 +333,35 @@ fn told<C: Connect>(rt: &impl Abort, alloc: Global, connect: C, port: u16, count
     for k in 0..count {
         let number = k.saturating_add(1);
         let text = format!(in alloc; "http://127.0.0.1:{port}/{number}").expect(rt, "memory");
-        let at = Address::read(alloc, text.as_str()).expect(rt, "an address");
-        let answer = fetcher.ask(&at).expect(rt, "memory");
-        write!(words, " {}", word_of(&answer)).expect(rt, "memory");
+        note_answer(rt, alloc, &mut fetcher, text.as_str(), &mut words);
     }
     words
-}
-
-/// The same over TCP, with connections that are kept.
-fn told_over_tcp<R: Net + Wait + Abort>(rt: &R, alloc: Global, port: u16, count: usize) -> String {
-    let still = Still::new(rt);
-    let hosts = Hosts::new(alloc);
-    let kept = Kept::new(alloc);
-    let connect = TcpConnect::new(&still, alloc, &hosts).keeping(&kept, 1);
-    told(rt, alloc, connect, port, count)
 }
 
 #[test]
 fn what_a_kept_connection_does_not_answer_is_asked_once_more(rt: HostRuntime) {
     let alloc = rt.alloc();
     for row in EXCHANGES.lines() {
-        let mut fields = row.split(':');
-        let (Some(script), Some(seen), Some(words)) = (fields.next(), fields.next(), fields.next())
-        else {
-            panic!(rt; "no row");
-        };
+        let (script, rest) = row.split_once(':').unwrap_or((row, ""));
+        let (_, words) = rest.split_once(':').unwrap_or((rest, ""));
+        let count = words.split_whitespace().count();
         let listener = TcpListener::bind(&rt, "127.0.0.1:0").expect(&rt, "a port");
         let here = listener.local_addr().expect(&rt, "its address");
-        let count = words.split_whitespace().count();
         let (log, answers) = join(
             &rt,
-            || follow(alloc, &listener, script),
+            || follow(&rt, alloc, &listener, script),
             || {
-                let answers = told_over_tcp(&rt, alloc, here.port(), count);
+                let still = Still::new(&rt);
+                let hosts = Hosts::new(alloc);
+                let kept = Kept::new(alloc);
+                let connect = TcpConnect::new(&still, alloc, &hosts).keeping(&kept, 1);
+                let answers = told(&rt, alloc, connect, here.port(), count);
                 // A connection without a request ends the server.
                 let _ = TcpStream::connect(&rt, here);
                 answers
             },
         );
-        assert!(rt; log.expect(&rt, "memory").as_str() == seen, "{row}");
-        assert!(rt; answers.as_str() == words, "{row}");
+        let came = format!(in alloc; "{script}:{log}:{answers}").expect(&rt, "memory");
+        assert!(rt; came.as_str() == row, "{row}");
     }
 }

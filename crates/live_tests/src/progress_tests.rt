@@ -32,6 +32,12 @@ impl<'a, R: Abort + Wait> Terminal<'a, R> {
             text: Mutex::new(String::new(alloc)),
         }
     }
+
+    // Whether this was written to it.
+    fn holds(&self, wanted: &str) -> bool {
+        let text = self.text.lock(self.rt);
+        text.as_str() == wanted
+    }
 }
 
 impl<R: Abort + Wait> Clock for Terminal<'_, R> {
@@ -91,94 +97,105 @@ const LINES: &str = "2 answered, 17 waiting, 0 failed, 4 kB, 13 kB/s
 3 answered, 9 waiting, 2 failed, 6 kB, 6 kB/s
 3 answered, 0 waiting, 3 failed, 8 kB, 6 kB/s";
 
-/// Makes these connections.
-fn run<R: Abort + Wait>(
-    rt: &R,
-    alloc: Global,
-    network: &Network<'_, R>,
-    terminal: &Terminal<'_, R>,
-    progress: &Progress<'_, Terminal<'_, R>>,
-) {
-    let hosts = Hosts::new(alloc);
-    let mut connect = Watched::new(TcpConnect::new(network, alloc, &hosts), progress);
-    for (at, text, waiting) in ENDS {
-        terminal.now.store(*at, Ordering::SeqCst);
-        progress.waiting().store(*waiting, Ordering::Relaxed);
-        if let Ok(mut wire) = connect.connect(&origin(rt, alloc, text)) {
-            let _ = wire.write(&[b'x'; 1000]);
-            let _ = wire.read(&mut [0u8; 1200]);
-            let _ = wire.read(&mut [0u8; 800]);
-            connect.close(wire);
-        }
+/// Makes a connection, which is used where there is one.
+fn use_once<C: Connect>(connect: &mut C, of: &Origin) {
+    if let Ok(mut wire) = connect.connect(of) {
+        let _ = wire.write(&[b'x'; 1000]);
+        let _ = wire.read(&mut [0u8; 1200]);
+        let _ = wire.read(&mut [0u8; 800]);
+        connect.close(wire);
     }
 }
 
-/// What stands on the terminal behind these: each line is covered before the next, and the last before this text.
-fn shown(rt: &impl Abort, alloc: Global, behind: &str) -> String {
+/// Makes these connections.
+fn make_connections<R: Abort + Wait, C: Connect>(
+    rt: &R,
+    alloc: Global,
+    inner: C,
+    terminal: &Terminal<'_, R>,
+    progress: &Progress<'_, Terminal<'_, R>>,
+) {
+    let mut connect = Watched::new(inner, progress);
+    for (at, text, waiting) in ENDS {
+        terminal.now.store(*at, Ordering::SeqCst);
+        progress.waiting().store(*waiting, Ordering::Relaxed);
+        use_once(&mut connect, &origin(rt, alloc, text));
+    }
+}
+
+/// Makes them over a network of their own, and gives how many lookups, reads and tried addresses there were.
+fn run<R: Abort + Wait>(
+    rt: &R,
+    alloc: Global,
+    terminal: &Terminal<'_, R>,
+    progress: &Progress<'_, Terminal<'_, R>>,
+) -> (u64, u64, usize) {
+    let network = Network::new(rt, alloc);
+    let hosts = Hosts::new(alloc);
+    let connect = TcpConnect::new(&network, alloc, &hosts);
+    make_connections(rt, alloc, connect, terminal, progress);
+    network.counts()
+}
+
+/// What stands on the terminal behind these lines: each is covered before the next, and the last before this text.
+fn shown(rt: &impl Abort, alloc: Global, lines: &str, behind: &str) -> String {
     let mut text = String::new(alloc);
-    for line in LINES.lines() {
+    for line in lines.lines() {
         write!(text, "\r{:79}\r{line}", "").expect(rt, "memory");
     }
     write!(text, "\r{:79}\r{behind}", "").expect(rt, "memory");
     text
 }
 
+/// Whether this stands on the terminal behind the connections once the line is cleared, which is shown or not.
+fn shows<R: Abort + Wait>(rt: &R, alloc: Global, is_shown: bool, wanted: &str) -> bool {
+    let terminal = Terminal::new(rt, alloc);
+    let progress = Progress::new(&terminal, is_shown);
+    run(rt, alloc, &terminal, &progress);
+    progress.clear();
+    progress.clear();
+    terminal.holds(wanted)
+}
+
 #[test]
 fn one_line_counts_at_most_four_times_a_second(rt: HostRuntime) {
-    let alloc = rt.alloc();
-    let terminal = Terminal::new(&rt, alloc);
-    let network = Network::new(&rt, alloc);
-    let progress = Progress::new(&terminal, true);
-    run(&rt, alloc, &network, &terminal, &progress);
-    progress.clear();
-    progress.clear();
-    assert!(rt; *terminal.text.lock(&rt) == shown(&rt, alloc, ""));
+    let wanted = shown(&rt, rt.alloc(), LINES, "");
+    assert!(rt; shows(&rt, rt.alloc(), true, wanted.as_str()));
 }
 
 #[test]
 fn nothing_is_written_where_nothing_is_to_be_shown(rt: HostRuntime) {
-    let alloc = rt.alloc();
-    let terminal = Terminal::new(&rt, alloc);
-    let network = Network::new(&rt, alloc);
-    let progress = Progress::new(&terminal, false);
-    run(&rt, alloc, &network, &terminal, &progress);
-    progress.clear();
-    progress.clear();
-    assert!(rt; terminal.text.lock(&rt).is_empty());
+    assert!(rt; shows(&rt, rt.alloc(), false, ""));
 }
 
-// Of each of the five connections there were two reads, and one at its end, where it was waited for.
 #[test]
 fn connections_that_are_counted_are_handed_back(rt: HostRuntime) {
     let alloc = rt.alloc();
     let terminal = Terminal::new(&rt, alloc);
-    let network = Network::new(&rt, alloc);
-    run(
-        &rt,
-        alloc,
-        &network,
-        &terminal,
-        &Progress::new(&terminal, true),
-    );
+    let counts = run(&rt, alloc, &terminal, &Progress::new(&terminal, true));
     // Two reads of each of five connections, and one at the end of the three that didn't break.
-    assert_eq!(rt; network.counts(), (2, 13, 6));
+    assert_eq!(rt; counts, (2, 13, 6));
+}
+
+/// Writes two texts to a terminal and flushes it.
+fn write_two<W: Write>(rt: &impl Abort, output: &mut W) {
+    output.write_all(b"first, ").expect(rt, "a terminal");
+    output.write_all(b"second").expect(rt, "a terminal");
+    output.flush().expect(rt, "a terminal");
 }
 
 #[test]
 fn what_is_written_behind_the_line_covers_it_once(rt: HostRuntime) {
     let alloc = rt.alloc();
     let terminal = Terminal::new(&rt, alloc);
-    let network = Network::new(&rt, alloc);
     let progress = Progress::new(&terminal, true);
-    run(&rt, alloc, &network, &terminal, &progress);
+    run(&rt, alloc, &terminal, &progress);
     let screen = Screen {
         terminal: &terminal,
     };
-    let mut output = BehindLine::new(screen, &progress);
-    output.write_all(b"first, ").expect(&rt, "a terminal");
-    output.write_all(b"second").expect(&rt, "a terminal");
-    output.flush().expect(&rt, "a terminal");
-    assert!(rt; *terminal.text.lock(&rt) == shown(&rt, alloc, "first, second, flushed"));
+    write_two(&rt, &mut BehindLine::new(screen, &progress));
+    let wanted = shown(&rt, alloc, LINES, "first, second, flushed");
+    assert!(rt; terminal.holds(wanted.as_str()));
 }
 
 // Counts an answer from a record at each of these times.
@@ -199,8 +216,7 @@ fn line_counts_the_answers_from_a_record(rt: HostRuntime) {
     let progress = Progress::new(&terminal, true);
     take_recorded(&terminal, &progress);
     let line = "3 recorded, 0 answered, 0 waiting, 0 failed, 0 kB, 0 kB/s";
-    let shown = format!(in alloc; "\r{:79}\r{line}", "").expect(&rt, "memory");
-    assert!(rt; *terminal.text.lock(&rt) == shown);
+    assert!(rt; terminal.holds(shown(&rt, alloc, "", line).as_str()));
 }
 
 /// A terminal with a clock by which two threads meet: each of their calls waits for one of the other, and both are told the same

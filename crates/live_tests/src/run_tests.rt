@@ -1,6 +1,6 @@
 //! Runs of the retriever on worked sites, told by maps and by records, and on wrong words and inputs; the program over three
 //! streams. The form of the texts is told in `texts.rt`.
-use crate::texts::{arguments_of, behind, status_of, text_of, words_of};
+use crate::texts::{arguments_of, behind, is_written, text_of, words_of};
 use address::{Address, Origin};
 use answer_notes::{Noted, Recording};
 use fetcher::{Answer, Ask, Fetcher};
@@ -652,10 +652,9 @@ fn comes_out<R: Abort + Threads + Wait + Sync>(
 ) -> bool {
     let words = words_of(rt, alloc, workers, behind(text, "$"));
     let input = text_of(rt, alloc, text, "<", "-");
-    let wanted = text_of(rt, alloc, text, ">", "none");
     let mut written: Vec<u8> = Vec::new(alloc);
     let status = run(rt, alloc, &words, &mut input.as_slice(), &mut written);
-    written.as_slice() == wanted.as_slice() && status == status_of(text)
+    is_written(rt, alloc, text, &written, status)
 }
 
 /// Goes through these runs, but for those that order another number of workers.
@@ -992,10 +991,7 @@ fn ends<R: Abort + Threads + Wait + Sync>(
         &mut written,
         &mut told,
     );
-    let wanted = text_of(rt, alloc, call, ">", "none");
-    written.as_slice() == wanted.as_slice()
-        && status == status_of(call)
-        && is_told(rt, alloc, call, &told)
+    is_written(rt, alloc, call, &written, status) && is_told(rt, alloc, call, &told)
 }
 
 #[test]
@@ -1075,15 +1071,24 @@ fn put_three(rt: &impl Abort, alloc: Global, folder: &mut MemoryFolder) -> usize
     put.expect(rt, "memory")
 }
 
-#[test]
-fn a_put_that_fails_leaves_the_files_before_it_whole(rt: HostRuntime) {
-    let mut folder = MemoryFolder::failing_at(rt.alloc(), 1);
-    assert!(rt; put_three(&rt, rt.alloc(), &mut folder) == 1);
+/// Puts them into a folder that fails behind its first file.
+fn put_one(rt: &impl Abort, alloc: Global, folder: &mut MemoryFolder) {
+    assert!(rt; put_three(rt, alloc, folder) == 1);
     assert!(rt; folder.file("h/index.html") == Some(b"<a href=b><a href=c>".as_slice()));
     assert!(rt; folder.file("h/c").is_none());
     assert_eq!(rt; folder.failures(), 1);
-    let mut folder = MemoryFolder::new(rt.alloc());
-    assert!(rt; put_three(&rt, rt.alloc(), &mut folder) == 3);
+}
+
+/// Puts them into a folder that doesn't fail.
+fn put_all(rt: &impl Abort, alloc: Global, folder: &mut MemoryFolder) {
+    assert!(rt; put_three(rt, alloc, folder) == 3);
     assert!(rt; folder.file("h/b") == Some(b"b".as_slice()));
     assert!(rt; folder.file("h/c") == Some(b"c".as_slice()));
+}
+
+#[test]
+fn a_put_that_fails_leaves_the_files_before_it_whole(rt: HostRuntime) {
+    let alloc = rt.alloc();
+    put_one(&rt, alloc, &mut MemoryFolder::failing_at(alloc, 1));
+    put_all(&rt, alloc, &mut MemoryFolder::new(alloc));
 }

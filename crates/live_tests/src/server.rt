@@ -1,13 +1,14 @@
 //! Servers for tests: one answers requests by what a table says of their first line, one by a script.
-use std::alloc::{AllocError, Global};
+use std::alloc::Global;
 use std::io::{Read, Write};
-use std::net::{TcpListener, TcpStream};
+use std::net::TcpListener;
+use std::process::Abort;
 
 /// The front of a request's text, and what is answered to such a request.
 pub(crate) type Answered = (&'static str, &'static str);
 
 // The text of one request, up to its empty line, and what came with that; shorter where the peer ends or fails.
-fn read_request<S: Read>(alloc: Global, stream: &mut S) -> Result<Vec<u8>, AllocError> {
+fn read_request<S: Read>(rt: &impl Abort, alloc: Global, stream: &mut S) -> Vec<u8> {
     let mut text = Vec::new(alloc);
     let mut room = [0u8; 1024];
     for _ in 0..1000 {
@@ -15,11 +16,11 @@ fn read_request<S: Read>(alloc: Global, stream: &mut S) -> Result<Vec<u8>, Alloc
             break;
         }
         match stream.read(&mut room) {
-            Ok(n) if n > 0 => text.extend_from_slice(&room[..n])?,
+            Ok(n) if n > 0 => text.extend_from_slice(&room[..n]).expect(rt, "memory"),
             _ => break,
         }
     }
-    Ok(text)
+    text
 }
 
 // The bytes that answer a request.
@@ -32,72 +33,88 @@ fn answer_to(table: &[Answered], request: &[u8]) -> &'static [u8] {
     b"HTTP/1.1 404 Not Found\r\nContent-Length: 0\r\n\r\n"
 }
 
+// Answers the request of a connection, and notes it. Whether one came.
+fn answer<S: Read + Write>(
+    rt: &impl Abort,
+    alloc: Global,
+    stream: &mut S,
+    table: &[Answered],
+    requests: &mut Vec<Vec<u8>>,
+) -> bool {
+    let request = read_request(rt, alloc, stream);
+    if request.is_empty() {
+        return false;
+    }
+    // A peer that has gone needs no answer.
+    let _ = stream.write_all(answer_to(table, &request));
+    requests.push(request).expect(rt, "memory");
+    true
+}
+
 /// Answers connections one after another until one brings no request, and gives the texts of the requests that came.
 pub(crate) fn serve(
+    rt: &impl Abort,
     alloc: Global,
     listener: &TcpListener,
     table: &[Answered],
-) -> Result<Vec<Vec<u8>>, AllocError> {
+) -> Vec<Vec<u8>> {
     let mut requests = Vec::new(alloc);
     for stream in listener.incoming() {
         let Ok(mut stream) = stream else {
             continue;
         };
-        let request = read_request(alloc, &mut stream)?;
-        if request.is_empty() {
+        if !answer(rt, alloc, &mut stream, table, &mut requests) {
             break;
         }
-        // A peer that has gone needs no answer.
-        let _ = stream.write_all(answer_to(table, &request));
-        requests.push(request)?;
     }
-    Ok(requests)
+    requests
 }
 
 // What is answered to a request of a script, by its letter: its path, that with a second answer behind it, a byte, or nothing.
-fn scripted(alloc: Global, letter: u8, path: char) -> Result<String, AllocError> {
+fn scripted(rt: &impl Abort, alloc: Global, letter: u8, path: char) -> String {
     let head = "HTTP/1.1 200 OK\r\nContent-Length: 1\r\n\r\n";
-    match letter {
+    let text = match letter {
         b'a' => format!(in alloc; "{head}{path}"),
         b'b' => format!(in alloc; "{head}{path}{head}x"),
         b'h' => String::from_str(alloc, "H"),
         _ => Ok(String::new(alloc)),
-    }
+    };
+    text.expect(rt, "memory")
 }
 
 // Answers the requests of one connection, and closes it behind the last or where no more come. Notes each with the connection's
 // number. Whether one came.
-fn follow_word(
+fn follow_word<S: Read + Write>(
+    rt: &impl Abort,
     alloc: Global,
-    stream: &mut TcpStream,
+    stream: &mut S,
     word: &str,
     number: usize,
     log: &mut String,
-) -> Result<bool, AllocError> {
+) -> bool {
     let mut some = false;
     for letter in word.bytes() {
-        let request = read_request(alloc, stream)?;
+        let request = read_request(rt, alloc, stream);
         let Some(path) = request.get(5) else {
             break;
         };
         let path = char::from(*path);
-        let entry = format!(in alloc; " {number}/{path}")?;
-        log.push_str(entry.as_str())?;
-        let answer = scripted(alloc, letter, path)?;
-        let _ = stream.write_all(answer.as_bytes());
+        write!(log, " {number}/{path}").expect(rt, "memory");
+        let _ = stream.write_all(scripted(rt, alloc, letter, path).as_bytes());
         some = true;
     }
-    Ok(some)
+    some
 }
 
 /// Answers connections one after another by a script, which has a word for each of them and a letter for each of its requests,
 /// until one brings no request. Gives the requests that came, each as the number of its connection and the one letter of its path,
 /// with a blank before.
 pub(crate) fn follow(
+    rt: &impl Abort,
     alloc: Global,
     listener: &TcpListener,
     script: &str,
-) -> Result<String, AllocError> {
+) -> String {
     let mut log = String::new(alloc);
     let mut words = script.split(',');
     for (number, stream) in listener.incoming().enumerate() {
@@ -105,9 +122,9 @@ pub(crate) fn follow(
             continue;
         };
         let word = words.next().unwrap_or("-");
-        if !follow_word(alloc, &mut stream, word, number, &mut log)? {
+        if !follow_word(rt, alloc, &mut stream, word, number, &mut log) {
             break;
         }
     }
-    Ok(log)
+    log
 }

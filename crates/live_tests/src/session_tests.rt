@@ -2,7 +2,7 @@
 ghost use Rattle.std.specs.Prelude.{◌≡◌, vec_len};
 
 use crate::memory_tests::stored;
-use crate::texts::{behind, status_of, text_of, words_of};
+use crate::texts::{behind, is_written, text_of, words_of};
 use address::{Address, Origin};
 use answer_notes::{Noted, Recording};
 use fetcher::{Answer, Ask, Fetcher};
@@ -15,19 +15,19 @@ use robots_rules::RuleSet;
 use site_records::RecordedSite;
 use std::alloc::{AllocError, Global};
 use std::process::Abort;
+use std::sync::Wait;
 use std::sync::atomic::{AtomicU64, Ordering};
-use std::sync::{Arc, Wait};
 use std::thread::Threads;
 
 /// Counts the pages that it is asked for, and finds no memory once they are so many.
 #[derive(Drop)]
-struct Counting<C: Connect> {
+struct Counting<'a, C: Connect> {
     inner: HttpFetcher<C>,
-    asked: Arc<AtomicU64>,
+    asked: &'a AtomicU64,
     most: u64,
 }
 
-impl<C: Connect> Fetcher for Counting<C> {
+impl<C: Connect> Fetcher for Counting<'_, C> {
     ghost use Rattle.std.specs.Prelude.{⊤};
 
     ghost Site = { Unit {0} };
@@ -56,7 +56,7 @@ impl<C: Connect> Fetcher for Counting<C> {
     }
 }
 
-impl<C: Connect> Recording for Counting<C> {
+impl<C: Connect> Recording for Counting<'_, C> {
     ghost noted = { λ f. f.inner.notes };
 
     fn notes(&self) -> &[Noted] {
@@ -64,24 +64,18 @@ impl<C: Connect> Recording for Counting<C> {
     }
 }
 
-/// The count of pages that were asked for, before any was.
-fn none_asked(rt: &impl Abort, alloc: Global) -> Arc<AtomicU64> {
-    Arc::new(alloc, AtomicU64::new(0)).expect(rt, "memory")
-}
-
 /// One fetcher over such connections, which finds no memory once it was asked for so many pages.
-fn lone<C: Connect>(
+fn lone<'a, C: Connect>(
     rt: &impl Abort,
     alloc: Global,
     connect: C,
     robots: bool,
-    asked: &Arc<AtomicU64>,
+    asked: &'a AtomicU64,
     most: u64,
-) -> Vec<Counting<C>>
+) -> Vec<Counting<'a, C>>
     ensures { vec_len result ≡ 1 }
 {
     let inner = HttpFetcher::recording(alloc, connect, robots);
-    let asked = Arc::try_clone(asked).expect(rt, "memory");
     let mut fetchers = Vec::new(alloc);
     let Ok(()) = fetchers.push(Counting { inner, asked, most }) else {
         panic!(rt; "memory");
@@ -103,7 +97,7 @@ fn session<R: Abort + Threads + Wait + Sync>(
     words: &str,
     record: &[u8],
     answers: &[StoredAnswer],
-    asked: &Arc<AtomicU64>,
+    asked: &AtomicU64,
     most: u64,
     report: &mut Vec<u8>,
     saved: &mut Vec<u8>,
@@ -177,14 +171,12 @@ fn comes_out<R: Abort + Threads + Wait + Sync>(rt: &R, alloc: Global, text: &str
         behind(text, "$"),
         &text_of(rt, alloc, text, "<", "none"),
         &[],
-        &none_asked(rt, alloc),
+        &AtomicU64::new(0),
         9,
         &mut report,
         &mut saved,
     );
-    report == text_of(rt, alloc, text, ">", "none")
-        && saved == text_of(rt, alloc, text, "!", "none")
-        && status == status_of(text)
+    is_written(rt, alloc, text, &report, status) && saved == text_of(rt, alloc, text, "!", "none")
 }
 
 #[test]
@@ -211,42 +203,59 @@ const SIX: &str = "$ -r -l 3 -e robots=off http://h/
 > fetched 6 kept 6 refused 0 failed 0
 = 0";
 
+/// Whether a first session stops where it finds no memory, behind two pages. Gives the record that it leaves.
+fn stops<R: Abort + Threads + Wait + Sync>(
+    rt: &R,
+    alloc: Global,
+    answers: &[StoredAnswer],
+    saved: &mut Vec<u8>,
+) -> bool {
+    let mut report: Vec<u8> = Vec::new(alloc);
+    let status = session(
+        rt,
+        alloc,
+        behind(SIX, "$"),
+        b"wgetr-record 2\n",
+        answers,
+        &AtomicU64::new(0),
+        2,
+        &mut report,
+        saved,
+    );
+    report.as_slice() == b"stopped memory\n".as_slice() && status == 1
+}
+
+/// Goes on behind such a record: the other four pages are asked for, and the record grows.
+fn go_on<R: Abort + Threads + Wait + Sync>(
+    rt: &R,
+    alloc: Global,
+    answers: &[StoredAnswer],
+    record: &[u8],
+) {
+    let asked = AtomicU64::new(0);
+    let mut report: Vec<u8> = Vec::new(alloc);
+    let mut saved: Vec<u8> = Vec::new(alloc);
+    let status = session(
+        rt,
+        alloc,
+        behind(SIX, "$"),
+        record,
+        answers,
+        &asked,
+        9,
+        &mut report,
+        &mut saved,
+    );
+    assert!(rt; is_written(rt, alloc, SIX, &report, status));
+    assert!(rt; asked.load(Ordering::SeqCst) == 4);
+    assert!(rt; saved.starts_with(record));
+}
+
 #[test]
 fn a_stopped_session_goes_on_and_asks_for_the_rest(rt: HostRuntime) {
     let alloc = rt.alloc();
     let answers = stored(&rt, alloc, SIX);
-    let words = behind(SIX, "$");
-    let mut report: Vec<u8> = Vec::new(alloc);
-    let mut first: Vec<u8> = Vec::new(alloc);
-    let asked = none_asked(&rt, alloc);
-    let none = b"wgetr-record 2\n";
-    let status = session(
-        &rt,
-        alloc,
-        words,
-        none,
-        &answers,
-        &asked,
-        2,
-        &mut report,
-        &mut first,
-    );
-    assert!(rt; report.as_slice() == b"stopped memory\n".as_slice() && status == 1);
-    report.clear();
-    let mut second: Vec<u8> = Vec::new(alloc);
-    let asked = none_asked(&rt, alloc);
-    let status = session(
-        &rt,
-        alloc,
-        words,
-        &first,
-        &answers,
-        &asked,
-        9,
-        &mut report,
-        &mut second,
-    );
-    assert!(rt; report == text_of(&rt, alloc, SIX, ">", "none") && status == status_of(SIX));
-    assert!(rt; asked.load(Ordering::SeqCst) == 4);
-    assert!(rt; second.starts_with(&first));
+    let mut record: Vec<u8> = Vec::new(alloc);
+    assert!(rt; stops(&rt, alloc, &answers, &mut record));
+    go_on(&rt, alloc, &answers, &record);
 }

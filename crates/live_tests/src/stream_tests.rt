@@ -1,5 +1,5 @@
 //! Runs over readers and writers that are interrupted, or fail at one of their calls and would work afterwards.
-use crate::memory_tests::{SITE, WHOLE, has_front, live_alone, stored};
+use crate::memory_tests::{SITE, WHOLE, has_front, live_by, stored};
 use local_tree::MemoryFolder;
 use memory_connect::StoredAnswer;
 use retriever::run;
@@ -12,7 +12,7 @@ use std::thread::Threads;
 use streams::{ReadFault, read_input};
 
 /// What befalls the calls of a stream.
-#[derive(Clone, Copy, Debug, PartialEq, Eq)]
+#[derive(Clone, Copy, Debug)]
 enum Trouble {
     /// Each is interrupted before it is answered, until so many were.
     Interrupts(u32),
@@ -199,8 +199,16 @@ fn tells<R: Abort + Threads + Wait + Sync>(
 ) -> bool {
     let mut folder = MemoryFolder::failing_at(alloc, 2);
     let mut writer = writer_with(alloc, 10, trouble);
-    let words = "-r http://h/";
-    let ended = live_alone(rt, alloc, words, answers, &[], &mut folder, &mut writer);
+    let ended = live_by(
+        rt,
+        alloc,
+        1,
+        "-r http://h/",
+        answers,
+        &[],
+        &mut folder,
+        &mut writer,
+    );
     has_told(&writer, call, text, ended, 3) && has_front(&folder, 2)
 }
 

@@ -43,14 +43,14 @@ fn over_tcp<'a, R: Abort + Net + Wait + Clock>(
     ensures { vec_len result ≡ 2 }
 {
     let mut fetchers = Vec::new(alloc);
-    let one = TcpConnect::new(rt, alloc, hosts);
-    let Ok(()) = fetchers.push(HttpFetcher::new(alloc, one, robots)) else {
-        panic!(rt; "memory");
-    };
-    let other = TcpConnect::new(rt, alloc, hosts);
-    let Ok(()) = fetchers.push(HttpFetcher::new(alloc, other, robots)) else {
-        panic!(rt; "memory");
-    };
+    for _ in 0..2u8 {
+        let connect = TcpConnect::new(rt, alloc, hosts);
+        let fetcher = HttpFetcher::new(alloc, connect, robots);
+        fetchers.push(fetcher).expect(rt, "memory");
+    }
+    if fetchers.len() != 2 {
+        panic!(rt; "not two workers");
+    }
     fetchers
 }
 
@@ -105,19 +105,41 @@ fn report(rt: &impl Abort, alloc: Global, port: u16) -> String {
     text.expect(rt, "memory")
 }
 
+/// Looks at what was retrieved of the site at a port, and asked for.
+fn check_retrieved(
+    rt: &impl Abort,
+    alloc: Global,
+    port: u16,
+    folder: &MemoryFolder,
+    written: &[u8],
+    requests: &[Vec<u8>],
+) {
+    assert!(rt; written == report(rt, alloc, port).as_bytes());
+    for (file, body) in [
+        ("index.html", "<a href=a><a href=moved>"),
+        ("a", "a"),
+        ("b", "b"),
+    ] {
+        assert!(rt; has_file(rt, alloc, folder, port, file, body), "{file}");
+    }
+    assert!(rt; requests.len() == 5);
+    for path in ["", "a", "b", "moved", "robots.txt"] {
+        assert!(rt; is_requested(rt, alloc, requests, port, path), "{path}");
+    }
+}
+
 #[test]
 fn a_live_site_is_retrieved_into_a_folder(rt: HostRuntime) {
     let alloc = rt.alloc();
     let listener = TcpListener::bind(&rt, "127.0.0.1:0").expect(&rt, "a port");
     let here = listener.local_addr().expect(&rt, "its address");
-    let port = here.port();
-    let order = order_of(&rt, alloc, port);
+    let order = order_of(&rt, alloc, here.port());
     let mut folder = MemoryFolder::new(alloc);
     let mut written: Vec<u8> = Vec::new(alloc);
     let hosts = Hosts::new(alloc);
     let (requests, status) = join(
         &rt,
-        || serve(alloc, &listener, SITE),
+        || serve(&rt, alloc, &listener, SITE),
         || {
             let fetchers = over_tcp(&rt, alloc, &hosts, order.plan.robots);
             let status = live(&rt, alloc, &order, fetchers, &mut folder, &mut written);
@@ -126,21 +148,9 @@ fn a_live_site_is_retrieved_into_a_folder(rt: HostRuntime) {
             status
         },
     );
-    let requests = requests.expect(&rt, "memory");
-    let wanted = report(&rt, alloc, port);
-    assert!(rt; written.as_slice() == wanted.as_bytes());
+    drop(order);
     assert!(rt; status == 0);
-    for (file, body) in [
-        ("index.html", "<a href=a><a href=moved>"),
-        ("a", "a"),
-        ("b", "b"),
-    ] {
-        assert!(rt; has_file(&rt, alloc, &folder, port, file, body), "{file}");
-    }
-    assert!(rt; requests.len() == 5);
-    for path in ["", "a", "b", "moved", "robots.txt"] {
-        assert!(rt; is_requested(&rt, alloc, &requests, port, path), "{path}");
-    }
+    check_retrieved(&rt, alloc, here.port(), &folder, &written, &requests);
 }
 
 #[test]
@@ -155,9 +165,9 @@ fn nobody_listens_where_a_live_site_should_be(rt: HostRuntime) {
     let hosts = Hosts::new(alloc);
     let fetchers = over_tcp(&rt, alloc, &hosts, order.plan.robots);
     let status = live(&rt, alloc, &order, fetchers, &mut folder, &mut written);
+    drop(order);
     let wanted = format!(in alloc;
         "0 connect http://127.0.0.1:{port}/ -\nfetched 1 kept 0 refused 0 failed 1\n"
     ).expect(&rt, "memory");
-    assert!(rt; written.as_slice() == wanted.as_bytes());
-    assert!(rt; status == 4);
+    assert!(rt; written.as_slice() == wanted.as_bytes() && status == 4);
 }

@@ -53,6 +53,18 @@ pub(crate) fn text_of(
     text
 }
 
+/// Whether what was written is the text of a run, and the status that of the run.
+pub(crate) fn is_written(
+    rt: &impl Abort,
+    alloc: Global,
+    run: &str,
+    written: &[u8],
+    status: u8,
+) -> bool {
+    let wanted = text_of(rt, alloc, run, ">", "none");
+    written == wanted.as_slice() && status == status_of(run)
+}
+
 /// The words of a line, behind those of the option for the workers, where these are counted.
 pub(crate) fn words_of<'a>(
     rt: &impl Abort,
@@ -62,8 +74,8 @@ pub(crate) fn words_of<'a>(
 ) -> Vec<&'a str> {
     let mut words = Vec::new(alloc);
     if !workers.is_empty() {
-        words.push("--workers").expect(rt, "memory");
-        words.push(workers).expect(rt, "memory");
+        let option = ["--workers", workers];
+        words.extend_from_slice(&option).expect(rt, "memory");
     }
     for word in line.split(' ') {
         let word = if word == "''" { "" } else { word };
