@@ -2,7 +2,7 @@
 use crate::part_threads::PartThreads;
 use crate::shared_failures::SharedFailures;
 use harvest::Harvest;
-use local_tree::{Close, DiskFolder, Folder, FolderFault, WriteFault};
+use local_tree::{DiskFolder, Folder, FolderFault, WriteFault};
 use record_journal::SavedFile;
 use std::fs::Files;
 use std::io;
@@ -10,6 +10,7 @@ use std::io::{ErrorKind, Write};
 use std::net::Net;
 use std::sync::Wait;
 use std::thread::Threads;
+use streams::Close;
 use tcp_connect::Kept;
 
 /// The folder of a run's pages. Before one is put the connections that wait are ended, since a file needs a descriptor too. Those

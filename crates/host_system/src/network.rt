@@ -5,10 +5,10 @@ use crate::over_tcp::OverTcp;
 use crate::part_threads::PartThreads;
 use crate::shared_failures::SharedFailures;
 use http_fetcher::HttpFetcher;
-use local_tree::{Close, DiskFolder};
+use live_system::{HoldFault, System};
+use local_tree::DiskFolder;
 use progress::{Progress, Watched};
 use record_journal::{HoldFault as Held, Journaled, Lock, Pen, SavedFile, Saving};
-use retriever::{HoldFault, System};
 use std::alloc::{AllocError, Global};
 use std::fs::Files;
 use std::net::Net;
@@ -16,7 +16,7 @@ use std::sync::Wait;
 use std::sync::atomic::AtomicUsize;
 use std::thread::Threads;
 use std::time::Clock;
-use streams::ReadFault;
+use streams::{Close, ReadFault};
 use tcp_connect::{Hosts, Kept, TcpConnect};
 
 /// The network and the disk, by the program's handle.

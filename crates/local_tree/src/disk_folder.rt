@@ -4,7 +4,6 @@ ghost use Rattle.std.specs.IoError.{error_kind};
 ghost use Rattle.local_tree.specs.Folders.{CountsRefusedPut, opened_at, untold};
 ghost use Rattle.local_tree.specs.SiteFiles.{IsTornBy};
 
-use crate::close::Close;
 use crate::folder::{Folder, FolderFault};
 use crate::local_name::is_local_name;
 use crate::parts::{Batch, Naming, Part, PartCrew, write_new};
@@ -15,6 +14,7 @@ use std::fs::Files;
 use std::io::{Error, ErrorKind};
 use std::marker::Model;
 use std::{fs, io, mem};
+use streams::Close;
 
 /// What the file is called, directly below the folder, that is written before it gets its name; a
 /// number follows. No host has a `%` (URL Standard, section 3.1), so no page has a name that begins so.

@@ -13,7 +13,6 @@
 //! Its tests stand in `retrieval_tests`.
 #![tactic(auto)]
 
-pub use crate::close::Close;
 pub use crate::disk_folder::DiskFolder;
 pub use crate::folder::{Folder, FolderFault};
 pub use crate::local_name::is_local_name;
@@ -22,8 +21,8 @@ pub use crate::naming::{ascend, names};
 pub use crate::parts::{Naming, Part, PartCrew};
 pub use crate::plain_name::MAX_SEGMENT;
 pub use crate::site_files::{WriteFault, write_site};
+pub use streams::Close;
 
-mod close;
 mod disk_folder;
 mod folder;
 mod free_name;

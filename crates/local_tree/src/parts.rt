@@ -1,9 +1,9 @@
 //! Parts: files that are written under other names, and get their own when they are whole.
-use crate::close::Close;
 use std::alloc::Global;
 use std::fs::{File, Files};
 use std::io;
 use std::io::{ErrorKind, Write};
+use streams::Close;
 
 /// A file that is made ready before its turn.
 #[derive(Drop)]

@@ -3,12 +3,12 @@ ghost use Rattle.std.specs.Prelude.{None};
 
 use crate::disk_journal::DiskJournal;
 use crate::held_journal::look_for_file;
-use local_tree::Close;
 use std::alloc::{AllocError, Global};
 use std::fs::{File, Files, OpenFile};
 use std::io;
 use std::io::{Error, ErrorKind, Write};
 use std::sync::Wait;
+use streams::Close;
 
 /// How many bytes a record may have that is to be read again.
 const MAX_READ: u64 = 1_073_741_824;

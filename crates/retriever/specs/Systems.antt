@@ -19,7 +19,7 @@ use Rattle.retriever.specs.Resuming.{IsUnresumed}
 use Rattle.retriever.specs.Saving.{LivesResumed, outside_saved, resumes, resuming_means, resuming_of}
 use Rattle.retriever.specs.declared.resume_fault.ResumeFault.{ResumeFault}
 use Rattle.retriever.specs.declared.resume_fault.ResumeFault.TheVariants.{Read, Input, Refused}
-use Rattle.retriever.specs.declared.system.System.{Ghosts as Systems}
+use Rattle.live_system.specs.declared.system.System.{Ghosts as Systems}
 
 -- a system, and what its fetchers, its folders and the writers of its records mean
 pub record Means (S F D V : Type 0) : Type 1 where

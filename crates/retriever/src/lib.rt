@@ -8,7 +8,7 @@ pub use crate::input_run::{run, run_of_order};
 pub use crate::live_run::live;
 pub use crate::program::run_program;
 pub use crate::saved_run::live_resumed;
-pub use crate::system::{HoldFault, System};
+pub use live_system::{HoldFault, System};
 
 mod copies;
 mod fault;
@@ -18,5 +18,4 @@ mod live_run;
 mod program;
 mod resume_fault;
 mod saved_run;
-mod system;
 mod told;

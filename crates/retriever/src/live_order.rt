@@ -10,7 +10,7 @@ use crate::input_run::{MAX_INPUT, deliver};
 use crate::live_run::live_shown;
 use crate::resume_fault::{ResumeFault, resume_status, resume_text};
 use crate::saved_run::{live_saved, resuming};
-use crate::system::{HoldFault, System};
+use live_system::{HoldFault, System};
 use options::Order;
 use site_inputs::InputFault;
 use site_records::RecordedSite;

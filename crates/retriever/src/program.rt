@@ -14,7 +14,7 @@ ghost use Rattle.streams.specs.Streams.{AppendsFront};
 use crate::fault::{Fault, fault_text};
 use crate::input_run::{deliver, refuse, run_of_order};
 use crate::live_order::live_order;
-use crate::system::System;
+use live_system::System;
 use options::{Order, Source, advice_text, no_text_advice, read_order};
 use std::alloc::{AllocError, Global};
 use std::env::Args;

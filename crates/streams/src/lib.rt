@@ -3,11 +3,13 @@
 //! a reader gives and a writer holds stands in `specs/Streams.antt`. Its tests stand in `live_tests`.
 #![tactic(auto)]
 
+mod close;
 mod input;
 mod interruption;
 mod output;
 mod pieces;
 
+pub use close::Close;
 pub use input::{ReadFault, read_input};
 pub use output::{WriteFailed, write_text};
 pub use pieces::Pieces;
