@@ -1,5 +1,5 @@
-//! What a live run takes of the network and the disk, by a handle of the system. No clause speaks of what these do.
-//! Its tests stand in `live_tests`.
+//! What a live run takes of the network and the disk, by a handle of the system. No clause speaks of what these do, and no test
+//! alone: those of the whole program, `bench/check-main` and `bench/hostile`, go through it.
 #![tactic(auto)]
 
 mod asking;

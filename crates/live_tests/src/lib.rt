@@ -2,8 +2,8 @@
 //! over connections in memory that fail where they are told to, and over TCP to a server in a thread of the test; of
 //! `retriever::live_resumed` in sessions; and that as many workers retrieve as are ordered, live and from a map. Of connections
 //! over a network that isn't there: how hosts are looked up, which addresses are tried, how a connection ends and why it is lost,
-//! what a fault of a stream is to a wire, and what a person sees of it on a terminal and is told at the end. And of connections
-//! over TCP that are kept. They stand above the program's crates, so that the program isn't proved once more with them.
+//! what a fault of a stream is to a wire, and what a person sees of it on a terminal. And of connections over TCP that are kept.
+//! They stand above the program's crates, so that the program isn't proved once more with them.
 #![tactic(auto)]
 
 #[cfg(test)]

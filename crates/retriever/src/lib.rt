@@ -9,6 +9,7 @@ pub use crate::live_run::live;
 pub use crate::program::run_program;
 pub use crate::saved_run::live_resumed;
 pub use live_system::{HoldFault, System};
+pub use streams::{ReadFault, read_input};
 
 mod copies;
 mod fault;

@@ -5,7 +5,7 @@
 //! failures.lose(LossKind::Refused, address)?; // 1 connection refused, first http://h/x
 //! ```
 //!
-//! Its tests stand in `live_tests`.
+//! Its tests stand in `live_tests` and `retrieval_tests`, through what stands above it.
 #![tactic(auto)]
 
 mod failures;
