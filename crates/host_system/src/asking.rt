@@ -1,5 +1,4 @@
 //! What asks the site for one worker.
-use crate::over_tcp::OverTcp;
 use crate::shared_failures::SharedFailures;
 use address::{Address, Origin};
 use answer_notes::{Noted, Recording};
@@ -13,6 +12,7 @@ use std::fs::Files;
 use std::net::Net;
 use std::sync::Wait;
 use std::time::Clock;
+use tcp_fetcher::OverTcp;
 
 /// Asks over TCP, shows on the terminal what comes of it, hands what is told to the journal of the run, and keeps why a
 /// connection was lost.
@@ -53,13 +53,13 @@ impl<'a, R: Net + Wait + Files + Clock + Eprint> Fetcher for Asking<'a, R> {
 
     ghost Site = { Bool };
 
-    ghost site = { λ f. f.inner.inner.inner.robots };
+    ghost site = { λ f. f.inner.inner.robots };
 
     ghost says = { MayAnswer };
 
     ghost rules = { MayRule };
 
-    ghost log = { λ f. f.inner.inner.inner.asks };
+    ghost log = { λ f. f.inner.inner.asks };
 
     fn ask(&mut self, at: &Address) -> Result<Answer, AllocError> {
         let answer = self.inner.ask(at)?;

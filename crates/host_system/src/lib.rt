@@ -5,13 +5,12 @@
 mod asking;
 mod disk;
 mod network;
-mod over_tcp;
 mod part_threads;
 mod shared_failures;
 
 pub use crate::asking::Asking;
 pub use crate::disk::{Disk, Saved};
 pub use crate::network::Network;
-pub use crate::over_tcp::OverTcp;
 pub use crate::part_threads::PartThreads;
 pub use crate::shared_failures::SharedFailures;
+pub use tcp_fetcher::OverTcp;

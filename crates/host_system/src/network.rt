@@ -1,13 +1,11 @@
 //! What a live run has of the system: fetchers over TCP, and folders and records on the disk.
 use crate::asking::Asking;
 use crate::disk::{Disk, Saved};
-use crate::over_tcp::OverTcp;
 use crate::part_threads::PartThreads;
 use crate::shared_failures::SharedFailures;
-use http_fetcher::HttpFetcher;
 use live_system::{HoldFault, System};
 use local_tree::DiskFolder;
-use progress::{Progress, Watched};
+use progress::Progress;
 use record_journal::{HoldFault as Held, Journaled, Lock, Pen, SavedFile, Saving};
 use std::alloc::{AllocError, Global};
 use std::fs::Files;
@@ -17,7 +15,8 @@ use std::sync::atomic::AtomicUsize;
 use std::thread::Threads;
 use std::time::Clock;
 use streams::{Close, ReadFault};
-use tcp_connect::{Hosts, Kept, TcpConnect};
+use tcp_connect::{Hosts, Kept};
+use tcp_fetcher::OverTcp;
 
 /// The network and the disk, by the program's handle.
 #[derive(Drop)]
@@ -63,21 +62,22 @@ impl<'a, R: Net + Wait + Files + Clock + Eprint> Network<'a, R> {
     }
 
     // What asks over TCP, and keeps connections where so many to a server may stand at a time.
-    fn http_fetcher(
-        &self,
-        robots: bool,
-        kept: Option<u32>,
-    ) -> HttpFetcher<Watched<'a, TcpConnect<'a, R>, R>>
+    fn over_tcp(&self, robots: bool, kept: Option<u32>) -> OverTcp<'a, R>
         ensures robots { result.robots ≡ robots }
         ensures keeps { result.keeps ≡ is_some kept }
     {
-        let connect = TcpConnect::new(self.rt, self.alloc, self.hosts);
+        let (rt, alloc) = (self.rt, self.alloc);
         match kept {
-            Some(most) => {
-                let connect = Watched::new(connect.keeping(self.kept, most), self.progress);
-                HttpFetcher::new(self.alloc, connect, robots).keeping()
-            }
-            None => HttpFetcher::new(self.alloc, Watched::new(connect, self.progress), robots),
+            Some(most) => OverTcp::keeping(
+                rt,
+                alloc,
+                self.hosts,
+                self.progress,
+                robots,
+                self.kept,
+                most,
+            ),
+            None => OverTcp::new(rt, alloc, self.hosts, self.progress, robots),
         }
     }
 }
@@ -96,7 +96,7 @@ where
 
     type Record = Saved<'a, R>;
 
-    ghost makes = { λ network robots is_recording kept fetcher. (fetcher.inner.inner.inner.robots ≡ robots) × (fetcher.inner.inner.inner.keeps ≡ is_some kept) × (fetcher.inner.is_recording ≡ is_recording) };
+    ghost makes = { λ network robots is_recording kept fetcher. (fetcher.inner.inner.robots ≡ robots) × (fetcher.inner.inner.keeps ≡ is_some kept) × (fetcher.inner.is_recording ≡ is_recording) };
 
     ghost opens = { λ network path folder. folder.inner ≡ opened_at path };
 
@@ -105,9 +105,7 @@ where
     ghost names = { λ network path saved. ⊤ };
 
     fn fetcher(&self, robots: bool, is_recording: bool, kept: Option<u32>) -> Asking<'a, R> {
-        let fetcher = OverTcp {
-            inner: self.http_fetcher(robots, kept),
-        };
+        let fetcher = self.over_tcp(robots, kept);
         let pen = Pen::new(self.rt, self.saving);
         Asking {
             inner: Journaled::new(self.alloc, fetcher, pen, is_recording),

@@ -8,7 +8,7 @@ use Rattle.response_reader.specs.declared.wire.Wire.{Ghosts as Wires}
 use Rattle.fetcher.specs.declared.answer.Answer.{Answer}
 use Rattle.fetcher.specs.declared.outcome.Outcome.{Outcome}
 use Rattle.answer_notes.specs.HopChains.{HopValue}
-use Rattle.http_fetcher.specs.declared.connect.Connect.{Ghosts as Connects}
+use Rattle.connect.specs.declared.connect.Connect.{Ghosts as Connects}
 use Rattle.http_fetcher.specs.declared.chain.Hop.{Hop}
 use Rattle.http_fetcher.specs.declared.chain.Hop.TheVariants.{Next, Last}
 use Rattle.http_fetcher.specs.Chains.{IsChain, SaysHop}

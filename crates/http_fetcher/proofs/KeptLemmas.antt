@@ -5,8 +5,8 @@ use Rattle.response_reader.specs.Wire.{counted}
 use Rattle.response_reader.specs.declared.wire.Wire.{Ghosts as Wires}
 use Rattle.address.specs.Address.{AddressText, OriginText, origin_of}
 use Rattle.fetcher.specs.declared.answer.Answer.{Answer}
-use Rattle.http_fetcher.specs.declared.connect.Connect.{Ghosts as Connects}
-use Rattle.http_fetcher.specs.Connects.{Stays}
+use Rattle.connect.specs.declared.connect.Connect.{Ghosts as Connects}
+use Rattle.connect.specs.Connects.{Stays}
 use Rattle.http_fetcher.specs.Fetching.{ComesOver, Fetching, IsKeptAfter, IsToldAnew, IsToldByTries, IsUnmade, IsUntold, LeavesUsable, Question, StandsBy, StandsBehind, question_of}
 
 pub if_ok_some_map : {T E : Type 0} (r : Result (Option T) E) (P Q : T → Type 0) → IfOk r (λ o. IfSome o P) → ((a : T) → P a → Q a) → IfOk r (λ o. IfSome o Q)

@@ -5,7 +5,7 @@ use Rattle.robots_rules.specs.Access.{RuleSetValue}
 use Rattle.response_reader.specs.declared.wire.Wire.{Ghosts as Wires}
 use Rattle.fetcher.specs.declared.answer.Answer.{Answer}
 use Rattle.fetcher.specs.declared.outcome.Outcome.{Outcome}
-use Rattle.http_fetcher.specs.declared.connect.Connect.{Ghosts as Connects}
+use Rattle.connect.specs.declared.connect.Connect.{Ghosts as Connects}
 use Rattle.http_fetcher.specs.Chains.{IsChain}
 use Rattle.http_fetcher.specs.Fetching.{AnswersBytes, ComesOver, Fetching, IsGiven, IsToldAnew, IsToldByTries, Question, question_of}
 use Rattle.http_fetcher.specs.Meanings.{MayAnswer}

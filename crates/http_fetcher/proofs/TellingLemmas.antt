@@ -12,7 +12,7 @@ use Rattle.answer_notes.specs.RobotsAnswers.{all_allowed, rules_by_status}
 use Rattle.answer_notes.specs.Tellings.{outcome_told, body_told}
 use Rattle.answer_notes.specs.declared.told.Told.{Told}
 use Rattle.answer_notes.specs.declared.told.Told.TheVariants.{Whole, Fault}
-use Rattle.http_fetcher.specs.declared.connect.Connect.{Ghosts as Connects}
+use Rattle.connect.specs.declared.connect.Connect.{Ghosts as Connects}
 use Rattle.http_fetcher.specs.declared.chain.Hop.{Hop}
 use Rattle.http_fetcher.specs.declared.chain.Hop.TheVariants.{Next, Last}
 use Rattle.http_fetcher.specs.Chains.{SaysHop}

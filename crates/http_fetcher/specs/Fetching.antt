@@ -21,7 +21,7 @@ use Rattle.answer_notes.specs.declared.noted.Noted.{Noted}
 use Rattle.answer_notes.specs.declared.told.Told.{Told}
 use Rattle.response_answer.specs.Digests.{digest_of, kept_body}
 use Rattle.response_answer.specs.KindsOfFaults.{kind_of_fault}
-use Rattle.http_fetcher.specs.declared.connect.Connect.{Ghosts as Connects}
+use Rattle.connect.specs.declared.connect.Connect.{Ghosts as Connects}
 
 -- what makes its connections, whether robots rules are honoured and connections are kept, what was asked, whether notes are taken, and these
 pub record Fetching (C : Type 0) : Type 0 where

@@ -1,4 +1,3 @@
-pub mod Connects
 pub mod Chains
 pub mod Notes
 pub mod Fetching

@@ -13,15 +13,15 @@ ghost use Rattle.answer_notes.specs.Tellings.{outcome_told, body_told};
 ghost use Rattle.answer_notes.specs.HopChains.{rules_of_hops};
 ghost use Rattle.answer_notes.specs.declared.told.Told.TheVariants as told;
 ghost use Rattle.http_fetcher.specs.Chains.{CountsHops, IsChain};
-ghost use Rattle.http_fetcher.specs.Connects.{Stays};
+ghost use Rattle.connect.specs.Connects.{Stays};
 ghost use Rattle.http_fetcher.specs.Fetching.{AnswersBytes, ComesOver, IsGiven, IsSilentOn, IsToldAgain, IsToldAnew, IsToldByTries, IsUntold, LeavesUsable, StandsBehind, StandsBy, answer_told, question_of, request_by};
 ghost use Rattle.http_fetcher.specs.Notes.{NotesPage, NotesChain};
 ghost use Rattle.http_fetcher.specs.Meanings.{MayAnswer, MayRule};
 
 use crate::chain::{Hop, read_hop};
-use crate::connect::{Connect, ConnectFault};
 use address::{Address, Origin};
 use answer_notes::{Given, Hops, Noted, Recording, Telling, Told};
+use connect::{Connect, ConnectFault};
 use fetcher::{Answer, Ask, FaultKind, Fetcher};
 use response_answer::kind_of_fault;
 use response_reader::{

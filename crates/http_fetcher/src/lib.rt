@@ -4,8 +4,7 @@
 #![tactic(auto)]
 
 mod chain;
-mod connect;
 mod http_fetcher;
 
+pub use crate::http_fetcher::HttpFetcher;
 pub use connect::{Connect, ConnectFault};
-pub use http_fetcher::HttpFetcher;

@@ -4,13 +4,13 @@ ghost use Rattle.std.specs.Io.{ReadsAtMost, WritesAtMost};
 ghost use Rattle.std.specs.Io.KnownBytes.{IsAtEnd, ReadConsumes, WriteAppends, Keeps};
 ghost use Rattle.response_reader.specs.Request.{request_text, kept_request_text};
 ghost use Rattle.response_reader.specs.Wire.{CountsFault, NotesLoss, counted};
-ghost use Rattle.http_fetcher.specs.Connects.{CountsRefusal, Stays, StaysWith};
+ghost use Rattle.connect.specs.Connects.{CountsRefusal, Stays, StaysWith};
 ghost use Rattle.memory_connect.specs.Talks.{talk_after_read, talk_after_write, answer_to, asks_for, talk_called, dies, is_death, rested, talk_erred, planned_fault_at, fresh, given_of, grown, is_call, is_connect, is_connection_refused, planned_for, planned_place, talk_settled};
 ghost use Rattle.response_reader.specs.declared.wire.WireFault.TheVariants as wire_fault;
-ghost use Rattle.http_fetcher.specs.declared.connect.ConnectFault.TheVariants as connect_fault;
+ghost use Rattle.connect.specs.declared.connect.ConnectFault.TheVariants as connect_fault;
 
 use address::{Address, Origin};
-use http_fetcher::{Connect, ConnectFault};
+use connect::{Connect, ConnectFault};
 use response_reader::{
     MemoryWire, PlannedFault, Wire, WireFault, write_kept_request, write_request,
 };

@@ -1,11 +1,11 @@
 //! Connections that are counted.
 ghost use Rattle.std.specs.Prelude.{◌≡◌};
 ghost use Rattle.response_reader.specs.Wire.{CountsFault, NotesLoss, counted};
-ghost use Rattle.http_fetcher.specs.Connects.{CountsRefusal};
+ghost use Rattle.connect.specs.Connects.{CountsRefusal};
 
 use crate::progress::Progress;
 use address::Origin;
-use http_fetcher::{Connect, ConnectFault};
+use connect::{Connect, ConnectFault};
 use response_reader::{Wire, WireFault};
 use std::marker::Model;
 use std::time::Clock;

@@ -1,5 +1,5 @@
 //! What the system may lack for a connection, and how long it is waited for.
-use http_fetcher::ConnectFault;
+use connect::ConnectFault;
 use run_failures::LossKind;
 use std::alloc::{AllocError, Global};
 use std::io::{Error, ErrorKind};

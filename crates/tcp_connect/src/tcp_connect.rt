@@ -1,14 +1,14 @@
 //! Connections over TCP.
 ghost use Rattle.std.specs.Prelude.{◌≡◌, ⊤};
 ghost use Rattle.response_reader.specs.Wire.{CountsFault, counted};
-ghost use Rattle.http_fetcher.specs.Connects.{CountsRefusal, refused_by};
+ghost use Rattle.connect.specs.Connects.{CountsRefusal, refused_by};
 
 use crate::connection::Connection;
 use crate::hosts::{Host, Hosts, Known, has};
 use crate::kept::{Entered, Kept, MOST, Waiting, is_fresh, is_quiet};
 use crate::lacks::{Lack, OpenFault, Patience, lack_of, loss_of};
 use address::Origin;
-use http_fetcher::{Connect, ConnectFault};
+use connect::{Connect, ConnectFault};
 use response_reader::TcpWire;
 use run_failures::LossKind;
 use std::alloc::{AllocError, Global};

@@ -1,8 +1,8 @@
 -- How calls that make connections are counted, and which connections stand behind a call.
 use Rattle.std.specs.Prelude.{◌≡◌, ◌⊎◌, ℕ, List, Result, Ok, Err}
 use Rattle.response_reader.specs.Wire.{counted}
-use Rattle.http_fetcher.specs.declared.connect.ConnectFault.{ConnectFault}
-use Rattle.http_fetcher.specs.declared.connect.ConnectFault.TheVariants.{Failed, Memory}
+use Rattle.connect.specs.declared.connect.ConnectFault.{ConnectFault}
+use Rattle.connect.specs.declared.connect.ConnectFault.TheVariants.{Failed, Memory}
 
 -- the count after a call that made no connection: want of memory isn't counted
 abbrev pub refused_by : ℕ → ConnectFault → ℕ

@@ -2,7 +2,7 @@
 ghost use Rattle.std.specs.Prelude.{◌≡◌, ℕ, List, IfOk, IfSome, MatchOption};
 ghost use Rattle.std.specs.Io.KnownBytes.{IsAtEnd};
 ghost use Rattle.response_reader.specs.Wire.{CountsFault, counted};
-ghost use Rattle.http_fetcher.specs.Connects.{CountsRefusal, Stays, StaysWith};
+ghost use Rattle.connect.specs.Connects.{CountsRefusal, Stays, StaysWith};
 
 use address::Origin;
 use response_reader::Wire;
