@@ -20,16 +20,16 @@ use Rattle.url.proofs.PathLemmas.{no_segments, push_valid, root_only, IsNoSlash}
 use Rattle.percent_encoding.specs.AsciiSet.{should_percent_encode}
 use Rattle.percent_encoding.specs.Percent.{IsKept, percent_encode}
 use Rattle.address.specs.declared.address.TheConstants.{MAX_ADDRESS}
-use Rattle.address.specs.Address.{text_of, origin_of, address_against, join_address, HaveSameOrigin, port_text}
+use Rattle.address.specs.Address.{url_text_of, origin_of, address_against, join_address, HaveSameOrigin, port_text}
 use Rattle.address.specs.Layout.{IsHttp}
-use Rattle.address.proofs.UrlLemmas.{http_kind, url_of-text_of, reads_url, address_of-http, origin_of-text_of, authority_of-text_of, host_of-text_of, port_of-text_of}
+use Rattle.address.proofs.UrlLemmas.{http_kind, url_of-url_text_of, reads_url, address_of-http, origin_of-url_text_of, authority_of-url_text_of, host_of-url_text_of, port_of-url_text_of}
 use Rattle.address.proofs.PartsLemmas.{http_url, normal, authority_is, authority_text, origin_text, own_port, short_port, text_split}
 
 -- a path at the same origin
 abbrev pub at_path : Parts → List ℕ → Parts
 at_path url path = record url { path = path; query = None }
 
-pub text_at_path : (url : Parts) (path : List ℕ) → IsHttp url → text_of (at_path url path) ≡ text_between url BeforeScheme AfterPort ++ path
+pub text_at_path : (url : Parts) (path : List ℕ) → IsHttp url → url_text_of (at_path url path) ≡ text_between url BeforeScheme AfterPort ++ path
 text_at_path url path http =
     text_split (at_path url path) (authority_is url http) http.fragment
     ∙ ap (λ p. text_between url BeforeScheme AfterPort ++ p) (append-nil path)
@@ -95,25 +95,25 @@ pub robots_is : (url : Parts) → IsHttp url → IsHttp (at_path url (codes "/ro
 robots_is url http = IsHttp-at_path url (codes "/robots.txt") http robots_list (lit< tt) (lit≤ tt)
 
 -- the text of a path at an origin begins with that origin
-pub text_at_origin : (url : Parts) (path : List ℕ) → IsHttp url → text_of (at_path url path) ≡ origin_of (text_of url) ++ path
-text_at_origin url path http = text_at_path url path http ∙ ap (λ front. front ++ path) (sym (origin_of-text_of url http))
+pub text_at_origin : (url : Parts) (path : List ℕ) → IsHttp url → url_text_of (at_path url path) ≡ origin_of (url_text_of url) ++ path
+text_at_origin url path http = text_at_path url path http ∙ ap (λ front. front ++ path) (sym (origin_of-url_text_of url http))
 
 -- what joining gives, once the parser has given that path
-joins : (url : Parts) (text path : List ℕ) → IsHttp url → IsHttp (at_path url path) → length text ≤ MAX_ADDRESS → parse_url (Some url) text ≡ Ok (at_path url path) → join_address (text_of url) text ≡ Ok (origin_of (text_of url) ++ path)
+joins : (url : Parts) (text path : List ℕ) → IsHttp url → IsHttp (at_path url path) → length text ≤ MAX_ADDRESS → parse_url (Some url) text ≡ Ok (at_path url path) → join_address (url_text_of url) text ≡ Ok (origin_of (url_text_of url) ++ path)
 joins url text path http there short parsed =
-    ap (λ (base : Parts). address_against (Some base) text) (url_of-text_of url http)
+    ap (λ (base : Parts). address_against (Some base) text) (url_of-url_text_of url http)
     ∙ reads_url (Some url) text (at_path url path) short parsed
     ∙ address_of-http (at_path url path) there
     ∙ ap Ok (text_at_origin url path http)
 
-pub join_root : (url : Parts) → IsHttp url → join_address (text_of url) (codes "/") ≡ Ok (origin_of (text_of url) ++ codes "/")
+pub join_root : (url : Parts) → IsHttp url → join_address (url_text_of url) (codes "/") ≡ Ok (origin_of (url_text_of url) ++ codes "/")
 join_root url http =
     let parts = normal url http in
     let parsed = joined_root parts.host url.port url.path url.query in
     joins url (codes "/") (codes "/") http (root_is url http) (lit≤ tt)
     (ap (λ (base : Parts). parse_url (Some base) (codes "/")) parts.same ∙ parsed ∙ ap (λ (u : Parts). Ok (at_path u (codes "/"))) (sym parts.same))
 
-pub join_robots : (url : Parts) → IsHttp url → join_address (text_of url) (codes "/robots.txt") ≡ Ok (origin_of (text_of url) ++ codes "/robots.txt")
+pub join_robots : (url : Parts) → IsHttp url → join_address (url_text_of url) (codes "/robots.txt") ≡ Ok (origin_of (url_text_of url) ++ codes "/robots.txt")
 join_robots url http =
     let parts = normal url http in
     let parsed = joined_robots parts.host url.port url.path url.query in
@@ -121,11 +121,11 @@ join_robots url http =
     (ap (λ (base : Parts). parse_url (Some base) (codes "/robots.txt")) parts.same ∙ parsed ∙ ap (λ (u : Parts). Ok (at_path u (codes "/robots.txt"))) (sym parts.same))
 
 -- and it has the same origin
-pub same_origin : (url : Parts) (path : List ℕ) → IsHttp url → IsHttp (at_path url path) → HaveSameOrigin (origin_of (text_of url) ++ path) (text_of url)
+pub same_origin : (url : Parts) (path : List ℕ) → IsHttp url → IsHttp (at_path url path) → HaveSameOrigin (origin_of (url_text_of url) ++ path) (url_text_of url)
 same_origin url path http there =
-    subst (λ t. HaveSameOrigin t (text_of url)) (text_at_origin url path http) (record {
-      origin = origin_of-text_of (at_path url path) there ∙ sym (origin_of-text_of url http);
-      authority = authority_of-text_of (at_path url path) there ∙ sym (authority_of-text_of url http);
-      host = host_of-text_of (at_path url path) there ∙ sym (host_of-text_of url http);
-      port = port_of-text_of (at_path url path) there ∙ sym (port_of-text_of url http);
+    subst (λ t. HaveSameOrigin t (url_text_of url)) (text_at_origin url path http) (record {
+      origin = origin_of-url_text_of (at_path url path) there ∙ sym (origin_of-url_text_of url http);
+      authority = authority_of-url_text_of (at_path url path) there ∙ sym (authority_of-url_text_of url http);
+      host = host_of-url_text_of (at_path url path) there ∙ sym (host_of-url_text_of url http);
+      port = port_of-url_text_of (at_path url path) there ∙ sym (port_of-url_text_of url http);
     })

@@ -27,7 +27,7 @@ use Rattle.url.proofs.SetLemmas.{outside_pass, passes_from_kept, All_kept_differ
 use Rattle.url.proofs.SetterLemmas.{own_host}
 use Rattle.url.proofs.TextLemmas.{All-concat, All_one, All_part}
 use Rattle.url.proofs.ValidLemmas.{special_has_authority, base_from_authority, hierarchical, segment_list_kept}
-use Rattle.address.specs.Address.{text_of, port_text, IsOwnPort, IsAddressByte}
+use Rattle.address.specs.Address.{url_text_of, port_text, IsOwnPort, IsAddressByte}
 use Rattle.address.specs.Layout.{IsHttp}
 use Rattle.address.proofs.UrlLemmas.{http_kind}
 
@@ -103,8 +103,8 @@ plain_port (Some n) valid =
 plain_all : (xs : List ℕ) → list_all is_address_byte xs ≡ true → All IsAddressByte xs
 plain_all xs all = All-weaker (Passes is_address_byte) IsAddressByte address_byte xs (All_from_list_all is_address_byte xs all)
 
-pub plain_text : (host : Host (List ℕ)) (port : Option ℕ) (path : List ℕ) (query : Option (List ℕ)) → IsHostOf SpecialNotFile host → IfSome port IsOwnPort → All (IsKept PATH) path → IfSome query (All (IsKept SPECIAL_QUERY)) → All IsAddressByte (text_of (http_url host port path query))
-unfolding text_of
+pub plain_text : (host : Host (List ℕ)) (port : Option ℕ) (path : List ℕ) (query : Option (List ℕ)) → IsHostOf SpecialNotFile host → IfSome port IsOwnPort → All (IsKept PATH) path → IfSome query (All (IsKept SPECIAL_QUERY)) → All IsAddressByte (url_text_of (http_url host port path query))
+unfolding url_text_of
 plain_text host port path query is_host is_port is_path is_query =
     let P = IsAddressByte in
     let none = All-nil P in
@@ -113,8 +113,8 @@ plain_text host port path query is_host is_port is_path is_query =
 -- ---- the path and the query
 
 -- the text is scheme, host and port, and path and query
-pub text_split : (url : Parts) → has_authority url ≡ true → url.fragment ≡ None → text_of url ≡ text_between url BeforeScheme AfterPort ++ text_between url BeforePath AfterQuery
-unfolding text_of
+pub text_split : (url : Parts) → has_authority url ≡ true → url.fragment ≡ None → url_text_of url ≡ text_between url BeforeScheme AfterPort ++ text_between url BeforePath AfterQuery
+unfolding url_text_of
 text_split url authority fragment =
     concat-split (pieces url) 9 ∙ ap (λ tail. text_between url BeforeScheme AfterPort ++ tail) (rw (authority, fragment) (simp append-nil))
 

@@ -5,7 +5,7 @@ use Rattle.std.specs.Prelude.{codes}
 use Rattle.url.proofs.OnLiterals.{url_on_literals}
 use Rattle.address.specs.declared.address.TheConstants.{MAX_ADDRESS, MAX_HOST}
 use Rattle.address.specs.declared.fault.AddressFault.TheVariants.{NotUrl, NotHttp, UserInfo}
-use Rattle.address.specs.Address.{read_address, join_address, address_against, address_of_parsed, address_of, text_of, url_of, origin_of, authority_of, host_of, port_of, path_query_of, dir_of, file_of, query_of, is_robots_file}
+use Rattle.address.specs.Address.{read_address, join_address, address_against, address_of_parsed, address_of, url_text_of, url_of, origin_of, authority_of, host_of, port_of, path_query_of, dir_of, file_of, query_of, is_robots_file}
 
 limits : (MAX_ADDRESS ≡ 8192) × (MAX_HOST ≡ 255)
 limits = (refl, refl)
@@ -22,7 +22,7 @@ texts : (read_address (codes "HTTP://H:80/a/../b#f") ≡ Ok (codes "http://h/b")
     × (read_address (codes "https://u@h/") ≡ Err NotHttp)
     × (read_address (codes "http://u@h/") ≡ Err UserInfo)
     × (read_address (codes "http://:p@h/") ≡ Err UserInfo)
-unfolding address_against address_of_parsed address_of text_of url_on_literals
+unfolding address_against address_of_parsed address_of url_text_of url_on_literals
 texts = (refl, refl, refl, refl, refl, refl, refl, refl, refl, refl, refl, refl)
 
 links : (join_address (codes "http://a/b/c/d;p?q") (codes "../g?y#s") ≡ Ok (codes "http://a/b/g?y"))
@@ -30,7 +30,7 @@ links : (join_address (codes "http://a/b/c/d;p?q") (codes "../g?y#s") ≡ Ok (co
     × (join_address (codes "http://a/b/c/d;p?q") (codes "?y") ≡ Ok (codes "http://a/b/c/d;p?y"))
     × (join_address (codes "http://a/b/c/d;p?q") (codes "") ≡ Ok (codes "http://a/b/c/d;p?q"))
     × (join_address (codes "http://a/b") (codes "https://h/") ≡ Err NotHttp)
-unfolding address_against address_of_parsed address_of text_of url_of url_on_literals
+unfolding address_against address_of_parsed address_of url_text_of url_of url_on_literals
 links = (refl, refl, refl, refl, refl)
 
 parts : (origin_of (codes "http://h:81/a/b.html?u=/c") ≡ codes "http://h:81")

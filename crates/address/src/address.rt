@@ -1,7 +1,7 @@
 //! Addresses: http URLs without user name, password and fragment (URL Standard, section 4.1).
 ghost use Rattle.std.specs.Prelude.{◌≡◌, ◌<◌, IsAscii, IfOk, MatchResult, Ok, Err, length, unwrap_or};
 ghost use Rattle.address.specs.declared.fault.AddressFault.TheVariants.{TooLong, Memory};
-ghost use Rattle.address.specs.Address.{Gives, text_of, address_of, is_robots_file, IsAddress, IsOrigin, read_address, join_address, origin_of, host_of, port_of, authority_of, dir_of, file_of, path_query_of};
+ghost use Rattle.address.specs.Address.{Gives, url_text_of, address_of, is_robots_file, IsAddress, IsOrigin, read_address, join_address, origin_of, host_of, port_of, authority_of, dir_of, file_of, path_query_of};
 ghost use Rattle.address.specs.Layout.{IsHttp};
 
 use crate::{AddressFault, http_url};
@@ -31,12 +31,12 @@ pub struct Address {
 // Contracts see an address as its text.
 impl Model for Address {
     ghost use Rattle.std.specs.Arc.{arc_value};
-    ghost use Rattle.address.specs.Address.{AddressText, text_of};
+    ghost use Rattle.address.specs.Address.{AddressText, url_text_of};
     ghost use Rattle.address.specs.Layout.{IsHttp};
 
     ghost Value = { AddressText };
 
-    ghost view = { λ a. text_of (arc_value a.url) };
+    ghost view = { λ a. url_text_of (arc_value a.url) };
 
     ghost invariant = { λ a. IsHttp (arc_value a.url) };
 }
@@ -85,7 +85,7 @@ impl Address {
     // The address of a URL that keeps the rules. The error is that memory is wanting.
     fn sharing(alloc: Global, url: Url) -> Result<Address, AddressFault>
         requires { IsHttp url }
-        ensures { MatchResult result (λ address. address ≡ text_of url) (λ fault. fault ≡ Memory) }
+        ensures { MatchResult result (λ address. address ≡ url_text_of url) (λ fault. fault ≡ Memory) }
     {
         match Arc::new(alloc, url) {
             Ok(url) => Ok(Address { url, alloc }),
@@ -95,7 +95,7 @@ impl Address {
 
     // The URL that this address and its copies share.
     fn url(&self) -> &Url
-        ensures text { text_of result.now ≡ self.now }
+        ensures text { url_text_of result.now ≡ self.now }
         ensures http { IsHttp result.now }
     {
         &*self.url

@@ -3,7 +3,7 @@ ghost use Rattle.std.specs.Prelude.{◌≡◌, ◌≤◌, Ok, length, IsAscii};
 ghost use Rattle.url.specs.Host.{host_text};
 ghost use Rattle.url.specs.Parts.{IsValid, has_credentials, host_or_empty};
 ghost use Rattle.url.specs.Parser as parser;
-ghost use Rattle.address.specs.Address.{text_of, without_fragment, is_too_long, dir_len};
+ghost use Rattle.address.specs.Address.{url_text_of, without_fragment, is_too_long, dir_len};
 
 use crate::{MAX_ADDRESS, MAX_HOST};
 use url::{ParseResult, Position, Url};
@@ -23,9 +23,9 @@ pub(crate) fn has_credentials(url: &Url) -> bool
     !url.username().is_empty() || url.password().is_some()
 }
 
-#[tactic(auto, unfolding(crate::specs::Address::text_of))]
+#[tactic(auto, unfolding(crate::specs::Address::url_text_of))]
 pub(crate) fn text(url: &Url) -> &str
-    ensures value { result.now ≡ text_of url.now }
+    ensures value { result.now ≡ url_text_of url.now }
     ensures ascii { IsAscii result.now }
     ensures valid { IsValid url.now }
 {

@@ -1,6 +1,7 @@
 //! The table of labels: addresses with the least depth offered, numbered in order of discovery.
 ghost use Rattle.std.specs.Prelude.{◌≡◌, ◌↔◌, ◌<◌, ◌≤◌, ◌^◌, ℕ, false, [], ◌∷◌, ◌++◌, Some, None, length, slice_get, position, map, bytes_eq, IfOk, OnOk, OnErr, IsOk, IsSome, IsTrue};
-ghost use Rattle.depth_labels.specs.Depths.{Text, depth_at, after_offer, lowered_at, lesser};
+ghost use Rattle.address.specs.Address.{AddressText};
+ghost use Rattle.depth_labels.specs.Depths.{depth_at, after_offer, lowered_at, lesser};
 ghost use Rattle.depth_labels.specs.Offers.{offer_of};
 
 use address::Address;
@@ -71,7 +72,7 @@ impl Labels {
 
         // The address is then held at the lesser depth, and each other one as before.
         ensures least { OnOk result (depth_at self.new.depths address.now ≡ Some (lesser (depth_at self.old.depths address.now) depth)) }
-        ensures others { (other : Text) → bytes_eq other address.now ≡ false → depth_at self.new.depths other ≡ depth_at self.old.depths other }
+        ensures others { (other : AddressText) → bytes_eq other address.now ≡ false → depth_at self.new.depths other ≡ depth_at self.old.depths other }
 
         ensures full { (result ≡ Err LabelFault.Full) ↔ ((depth_at self.old.depths address.now ≡ None) × (length self.old.depths ≡ self.old.most)) }
         ensures held { IsSome (depth_at self.old.depths address.now) → IsOk result }

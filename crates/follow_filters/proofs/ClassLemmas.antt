@@ -5,7 +5,7 @@ use Rattle.std.proofs.lemmas.Bool.{cases_Bool}
 use Rattle.follow_filters.specs.declared.class.Range.{Range}
 use Rattle.follow_filters.specs.declared.elements.ElementFault.{ElementFault}
 use Rattle.follow_filters.specs.ClassValues.{ClassValue}
-use Rattle.follow_filters.specs.Classes.{class_of, class_with, ranges_of, range, then_range}
+use Rattle.follow_filters.specs.Classes.{bracketed_class, class_with, ranges_of, range, then_range}
 use Rattle.follow_filters.specs.Elements.{IsFaultOf}
 
 -- what is read so far, and what is still to be read
@@ -52,20 +52,20 @@ bad_range first others crossed =
 -- ---- a class
 
 -- with a `!` in front
-pub class_of-negated : (inner : List ℕ) → 1 ≤ length inner → get_or inner 0 0 ≡ 33 → class_of inner ≡ class_with true (ranges_of (drop 1 inner))
-class_of-negated [] some bang = absurd (omega arith)
-class_of-negated (x ∷ items) some bang = ap (λ b. if b then class_with true (ranges_of items) else class_with false (ranges_of (x ∷ items))) ((Decides-eqb x 33).1 bang)
+pub bracketed_class-negated : (inner : List ℕ) → 1 ≤ length inner → get_or inner 0 0 ≡ 33 → bracketed_class inner ≡ class_with true (ranges_of (drop 1 inner))
+bracketed_class-negated [] some bang = absurd (omega arith)
+bracketed_class-negated (x ∷ items) some bang = ap (λ b. if b then class_with true (ranges_of items) else class_with false (ranges_of (x ∷ items))) ((Decides-eqb x 33).1 bang)
 
 -- and with none
-pub class_of-plain : (inner : List ℕ) → (length inner < 1) ⊎ (get_or inner 0 0 ≢ 33) → class_of inner ≡ class_with false (ranges_of inner)
-class_of-plain [] other = refl
-class_of-plain (x ∷ items) (inl short) = absurd (omega arith)
-class_of-plain (x ∷ items) (inr other) =
+pub bracketed_class-plain : (inner : List ℕ) → (length inner < 1) ⊎ (get_or inner 0 0 ≢ 33) → bracketed_class inner ≡ class_with false (ranges_of inner)
+bracketed_class-plain [] other = refl
+bracketed_class-plain (x ∷ items) (inl short) = absurd (omega arith)
+bracketed_class-plain (x ∷ items) (inr other) =
     let differs : (x == 33) ≡ false = ⊎_elim (λ yes. absurd (other ((Decides-eqb x 33).0 yes))) (λ f. f) (cases_Bool (x == 33)) in
     ap (λ b. if b then class_with true (ranges_of items) else class_with false (ranges_of (x ∷ items))) differs
 
-pub class_fault : (inner items : List ℕ) (is_negated : Bool) (fault : ElementFault) → class_of inner ≡ class_with is_negated (ranges_of items)
-    → IsFaultOf (ranges_of items) fault → IsFaultOf (class_of inner) fault
+pub class_fault : (inner items : List ℕ) (is_negated : Bool) (fault : ElementFault) → bracketed_class inner ≡ class_with is_negated (ranges_of items)
+    → IsFaultOf (ranges_of items) fault → IsFaultOf (bracketed_class inner) fault
 class_fault inner items is_negated fault is (inl bad) = inl (bad.0, is ∙ ap (class_with is_negated) bad.1)
 class_fault inner items is_negated fault is (inr memory) = inr memory
 

@@ -18,9 +18,9 @@ use Rattle.follow_filters.specs.declared.rule.Rule.TheVariants as rule
 use Rattle.follow_filters.specs.Texts.{BeginsWith, EndsIn}
 use Rattle.follow_filters.specs.Domains.{IsInDomain, is_in_domain}
 use Rattle.follow_filters.specs.Directories.{IsInDirectory, is_in_directory}
-use Rattle.follow_filters.specs.Exempt.{IsExempt, is_exempt}
+use Rattle.follow_filters.specs.Exempt.{IsExempt, is_exempt_file}
 use Rattle.follow_filters.specs.Patterns.{MatchesFile, is_file_match, matches_read, read_pattern, is_run, takes}
-use Rattle.follow_filters.specs.Rules.{rules, Meets, Passes, IsFirstUnmet, is_absent, meets, first_unmet, passes_of, verdict_from, verdict_of, keeps_of, keeps_name, Keeps, kept_name}
+use Rattle.follow_filters.specs.Rules.{rules, Meets, Passes, IsFirstUnmet, is_absent, meets, first_unmet, passes_of, verdict_from, verdict_of, keeps_of, keeps_name, KeepsPage, kept_name}
 
 -- ---- fronts and backs of texts
 
@@ -46,8 +46,8 @@ is_in_directory-Decides : (element dir : List ℕ) → Decides (is_in_directory 
 unfolding is_in_directory
 is_in_directory-Decides element dir = starts_with-Decides dir (element ++ codes "/")
 
-is_exempt-Decides : (file : List ℕ) → Decides (is_exempt file) (IsExempt file)
-is_exempt-Decides file =
+is_exempt_file-Decides : (file : List ℕ) → Decides (is_exempt_file file) (IsExempt file)
+is_exempt_file-Decides file =
     Decides-or _ _ (bytes_eq-Decides file []) (Decides-or _ _ (ends_with-Decides file (codes ".htm")) (ends_with-Decides file (codes ".html")))
 
 matches_read-Decides : (read : Option (List Part)) (file : List ℕ) → Decides (matches_read read file) ((parts : List Part) × (read ≡ Some parts) × Matches is_run takes parts file)
@@ -110,9 +110,9 @@ meets-Decides rule.NotIncluded plan address =
     unless_fact _ _ (is_absent-Decides plan.include_dirs) (any-Decides _ _ (λ d. is_in_directory-Decides d (dir_of address)) plan.include_dirs)
 meets-Decides rule.Excluded plan address = Decides-not _ (any-Decides _ _ (λ d. is_in_directory-Decides d (dir_of address)) plan.exclude_dirs)
 meets-Decides rule.NotAccepted plan address =
-    unless_facts _ _ _ (is_exempt-Decides (file_of address)) (is_absent-Decides plan.accept) (any-Decides _ _ (λ p. is_file_match-Decides p (file_of address)) plan.accept)
+    unless_facts _ _ _ (is_exempt_file-Decides (file_of address)) (is_absent-Decides plan.accept) (any-Decides _ _ (λ p. is_file_match-Decides p (file_of address)) plan.accept)
 meets-Decides rule.Rejected plan address =
-    unless_fact _ _ (is_exempt-Decides (file_of address)) (Decides-not _ (any-Decides _ _ (λ p. is_file_match-Decides p (file_of address)) plan.reject))
+    unless_fact _ _ (is_exempt_file-Decides (file_of address)) (Decides-not _ (any-Decides _ _ (λ p. is_file_match-Decides p (file_of address)) plan.reject))
 
 -- ---- all rules
 
@@ -210,14 +210,14 @@ told plan address answer is = (
 
 -- ---- which pages are kept
 
-pub keeps_of-is : (plan : Plan) (address : List ℕ) → Decides (keeps_of plan address) (Keeps plan address)
+pub keeps_of-is : (plan : Plan) (address : List ℕ) → Decides (keeps_of plan address) (KeepsPage plan address)
 unfolding keeps_of
 keeps_of-is plan address =
     Decides-and _ _
     (unless_fact _ _ (is_absent-Decides plan.accept) (any-Decides _ _ (λ p. is_file_match-Decides p (kept_name address)) plan.accept))
     (Decides-not _ (any-Decides _ _ (λ p. is_file_match-Decides p (kept_name address)) plan.reject))
 
-pub kept : (plan : Plan) (address name : List ℕ) (answer : Bool) → answer ≡ keeps_name plan name → name ≡ kept_name address → (answer ≡ keeps_of plan address) × (IsTrue answer ↔ Keeps plan address)
+pub kept : (plan : Plan) (address name : List ℕ) (answer : Bool) → answer ≡ keeps_name plan name → name ≡ kept_name address → (answer ≡ keeps_of plan address) × (IsTrue answer ↔ KeepsPage plan address)
 unfolding keeps_of
 kept plan address name answer is named =
     let value : answer ≡ keeps_of plan address = is ∙ ap (keeps_name plan) named in

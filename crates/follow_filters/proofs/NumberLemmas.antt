@@ -6,7 +6,7 @@ use Rattle.std.specs.List.{list_all}
 use Rattle.std.specs.Char.{digit_value}
 use Rattle.std.specs.Str.Parse.{AllDigits, ParsesUnsigned, digits_value, without_leading_plus}
 use Rattle.std.proofs.lemmas.Bool.{and_parts}
-use Rattle.follow_filters.specs.Levels.{is_number, number_in}
+use Rattle.follow_filters.specs.Levels.{is_level_number, number_in}
 
 digits_pass : (ds : List ℕ) → AllDigits 10 ds → list_all (λ d. nat_lt (digit_value d) 10) ds ≡ true
 digits_pass [] all = refl
@@ -21,9 +21,9 @@ unfolding number_in
 number_read text (Ok n) h =
     let ds = without_leading_plus text in
     rw (lt-ltb 0 (length ds) h.0.0.0, digits_pass ds h.0.0.1, lt-ltb (digits_value 10 ds) (2 ^ 32) h.0.1) (ap Some h.1)
-number_read text (Err e) h = go (is_number (without_leading_plus text)) refl
+number_read text (Err e) h = go (is_level_number (without_leading_plus text)) refl
   where
-    go : (b : Bool) → is_number (without_leading_plus text) ≡ b → None ≡ number_in text
+    go : (b : Bool) → is_level_number (without_leading_plus text) ≡ b → None ≡ number_in text
     go false t = rw t refl
     go true t =
         let outer = and_parts _ _ t in

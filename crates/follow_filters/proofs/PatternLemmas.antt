@@ -6,7 +6,7 @@ use Rattle.part_match.specs.Cuts.{is_match}
 use Rattle.follow_filters.specs.declared.pattern.Part.{Part}
 use Rattle.follow_filters.specs.declared.pattern.Part.TheVariants as part
 use Rattle.follow_filters.specs.Wildcards.{is_wildcard}
-use Rattle.follow_filters.specs.Patterns.{is_run, takes, matches_read, is_file_match, read_pattern, first_part, parts_within, parts_of}
+use Rattle.follow_filters.specs.Patterns.{is_run, takes, matches_read, is_file_match, read_pattern, first_part, parts_within, parts_spelled}
 use Rattle.follow_filters.proofs.ClassLemmas.{behind, behind-more, behind-nothing}
 
 -- what an element matches is what its parts match
@@ -24,15 +24,15 @@ parts_within-more (suc m) front first rest p after within is shorter = (
       ∙ ap (λ split. behind front (option_and_then (λ s. option_map (λ ps. s.0 ∷ ps) (parts_within m s.1)) split)) (sym is),
 )
 
-pub parts_of-within : (text : List ℕ) → behind [] (parts_within (length text) text) ≡ parts_of text
-unfolding parts_of
-parts_of-within text = behind-nothing (parts_within (length text) text)
+pub parts_spelled-within : (text : List ℕ) → behind [] (parts_within (length text) text) ≡ parts_spelled text
+unfolding parts_spelled
+parts_spelled-within text = behind-nothing (parts_within (length text) text)
 
 -- an element with a wildcard, and one without
-pub read_pattern-spelled : (element : List ℕ) → list_any is_wildcard element ≡ true → read_pattern element ≡ parts_of element
+pub read_pattern-spelled : (element : List ℕ) → list_any is_wildcard element ≡ true → read_pattern element ≡ parts_spelled element
 unfolding read_pattern
-read_pattern-spelled element has = ap (λ b. if b then parts_of element else Some (part.Run ∷ map (λ b. part.Byte b) element)) has
+read_pattern-spelled element has = ap (λ b. if b then parts_spelled element else Some (part.Run ∷ map (λ b. part.Byte b) element)) has
 
 pub read_pattern-suffix : (element : List ℕ) → list_any is_wildcard element ≡ false → read_pattern element ≡ Some (part.Run ∷ map (λ b. part.Byte b) element)
 unfolding read_pattern
-read_pattern-suffix element none = ap (λ b. if b then parts_of element else Some (part.Run ∷ map (λ b. part.Byte b) element)) none
+read_pattern-suffix element none = ap (λ b. if b then parts_spelled element else Some (part.Run ∷ map (λ b. part.Byte b) element)) none

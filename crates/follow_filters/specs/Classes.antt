@@ -42,8 +42,8 @@ class_with is_negated (Some []) = None
 class_with is_negated (Some (first ∷ others)) = Some (record { is_negated = is_negated; ranges = first ∷ others })
 
 -- the class whose brackets stand around these bytes: a `!` where one comes first, and items
-abbrev pub class_of : List ℕ → Option ClassValue
-class_of [] = None
-class_of (first ∷ inner) =
+abbrev pub bracketed_class : List ℕ → Option ClassValue
+bracketed_class [] = None
+bracketed_class (first ∷ inner) =
     if first == 33 then class_with true (ranges_of inner)
     else class_with false (ranges_of (first ∷ inner))

@@ -8,5 +8,5 @@ abbrev pub IsExempt : List ℕ → Type 0
 IsExempt file = (file ≡ []) ⊎ EndsIn file (codes ".htm") ⊎ EndsIn file (codes ".html")
 
 -- the same as a test
-abbrev pub is_exempt : List ℕ → Bool
-is_exempt file = bytes_eq file [] || (ends_with nat_eq file (codes ".htm") || ends_with nat_eq file (codes ".html"))
+abbrev pub is_exempt_file : List ℕ → Bool
+is_exempt_file file = bytes_eq file [] || (ends_with nat_eq file (codes ".htm") || ends_with nat_eq file (codes ".html"))

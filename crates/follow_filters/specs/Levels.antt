@@ -8,15 +8,15 @@ use Rattle.follow_filters.specs.declared.limit.Limit.TheVariants.{AtMost, Unlimi
 use Rattle.follow_filters.specs.declared.limit.TheConstants.{MAX_LEVEL}
 
 -- one or more decimal digits, whose number fits 32 bits
-abbrev pub is_number : List ℕ → Bool
-is_number digits =
+abbrev pub is_level_number : List ℕ → Bool
+is_level_number digits =
     nat_lt 0 (length digits) && list_all (λ d. nat_lt (digit_value d) 10) digits
     && nat_lt (digits_value 10 digits) (2 ^ 32)
 
 -- the number that a text is: decimal digits, perhaps behind a `+`
 unfoldable pub number_in : List ℕ → Option ℕ
 number_in text =
-    if is_number (without_leading_plus text) then Some (digits_value 10 (without_leading_plus text))
+    if is_level_number (without_leading_plus text) then Some (digits_value 10 (without_leading_plus text))
     else None
 
 -- the limit of a level: 0 is none, and a level has a most

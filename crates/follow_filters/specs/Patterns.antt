@@ -6,7 +6,7 @@ use Rattle.part_match.specs.Cuts.{Matches, is_match}
 use Rattle.follow_filters.specs.declared.pattern.Part.{Part}
 use Rattle.follow_filters.specs.declared.pattern.Part.TheVariants as part
 use Rattle.follow_filters.specs.Wildcards.{is_wildcard}
-use Rattle.follow_filters.specs.Classes.{class_takes, class_of}
+use Rattle.follow_filters.specs.Classes.{class_takes, bracketed_class}
 
 -- the part matches any run of bytes
 abbrev pub is_run : Part → Bool
@@ -33,7 +33,7 @@ is_end byte = byte == 93
 -- the class whose `]` stands at this place of the text, and what stands behind it; none where the class is bad or has no `]`
 abbrev pub class_to : List ℕ → Option ℕ → Option (Part × List ℕ)
 class_to text None = None
-class_to text (Some end) = option_map (λ class. (part.Class class, drop (end + 1) text)) (class_of (take end text))
+class_to text (Some end) = option_map (λ class. (part.Class class, drop (end + 1) text)) (bracketed_class (take end text))
 
 -- the part that a byte and the text behind it begin with, and what stands behind that part: a `[` begins a class, which goes
 -- to the next `]`
@@ -48,13 +48,13 @@ parts_within (suc most) (byte ∷ text) =
     option_and_then (λ split. option_map (λ parts. split.0 ∷ parts) (parts_within most split.1)) (first_part byte text)
 
 -- the parts that a text spells, none where it is bad
-unfoldable pub parts_of : List ℕ → Option (List Part)
-parts_of text = parts_within (length text) text
+unfoldable pub parts_spelled : List ℕ → Option (List Part)
+parts_spelled text = parts_within (length text) text
 
 -- the parts of an element: those that it spells, or where none of its bytes is a wildcard any run and its bytes
 unfoldable pub read_pattern : List ℕ → Option (List Part)
 read_pattern element =
-    if list_any is_wildcard element then parts_of element
+    if list_any is_wildcard element then parts_spelled element
     else Some (part.Run ∷ map (λ b. part.Byte b) element)
 
 -- the text, where it is an element: then contracts see the pattern as it

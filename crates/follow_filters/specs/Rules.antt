@@ -8,7 +8,7 @@ use Rattle.follow_filters.specs.declared.rule.Rule.TheVariants as rule
 use Rattle.follow_filters.specs.Texts.{BeginsWith}
 use Rattle.follow_filters.specs.Domains.{IsInDomain, is_in_domain}
 use Rattle.follow_filters.specs.Directories.{IsInDirectory, is_in_directory}
-use Rattle.follow_filters.specs.Exempt.{IsExempt, is_exempt}
+use Rattle.follow_filters.specs.Exempt.{IsExempt, is_exempt_file}
 use Rattle.follow_filters.specs.Patterns.{MatchesFile, is_file_match}
 
 -- the rules, in the order in which they are asked
@@ -85,8 +85,8 @@ meets rule.ExcludedDomain plan address = not (is_in_some_domain plan.exclude_dom
 meets rule.NotIncluded plan address = is_absent plan.include_dirs || is_in_some_directory plan.include_dirs (dir_of address)
 meets rule.Excluded plan address = not (is_in_some_directory plan.exclude_dirs (dir_of address))
 meets rule.NotAccepted plan address =
-    is_exempt (file_of address) || is_absent plan.accept || matches_some plan.accept (file_of address)
-meets rule.Rejected plan address = is_exempt (file_of address) || not (matches_some plan.reject (file_of address))
+    is_exempt_file (file_of address) || is_absent plan.accept || matches_some plan.accept (file_of address)
+meets rule.Rejected plan address = is_exempt_file (file_of address) || not (matches_some plan.reject (file_of address))
 
 -- the first rule that the address doesn't meet
 unfoldable pub first_unmet : Plan → List ℕ → Option Rule
@@ -112,8 +112,8 @@ abbrev pub kept_name : List ℕ → List ℕ
 kept_name address = if length (file_of address) == 0 then codes "index.html" else file_of address
 
 -- a page of this address is kept: its name meets the accept and the reject list; no name is exempt
-abbrev pub Keeps : Plan → List ℕ → Type 0
-Keeps plan address =
+abbrev pub KeepsPage : Plan → List ℕ → Type 0
+KeepsPage plan address =
     (plan.accept ≢ [] → Any (λ p. MatchesFile p (kept_name address)) plan.accept)
     × (¬ Any (λ p. MatchesFile p (kept_name address)) plan.reject)
 

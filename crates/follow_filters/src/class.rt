@@ -1,6 +1,6 @@
 //! Classes of bytes in a pattern, as `[a-c]` (GNU Wget manual, section Types of Files).
 ghost use Rattle.std.specs.Prelude.{◌≡◌, ◌<◌, [], length, Some, MatchOption, MatchResult};
-ghost use Rattle.follow_filters.specs.Classes.{class_of, class_with, ranges_of, then_range};
+ghost use Rattle.follow_filters.specs.Classes.{bracketed_class, class_with, ranges_of, then_range};
 ghost use Rattle.follow_filters.specs.Elements.{IsFaultOf};
 
 use crate::elements::ElementFault;
@@ -41,13 +41,13 @@ impl Range {
 }
 
 impl Class {
-    ghost use Rattle.follow_filters.specs.Classes.{class_names, class_takes, class_of};
+    ghost use Rattle.follow_filters.specs.Classes.{class_names, class_takes, bracketed_class};
     ghost use Rattle.follow_filters.specs.Elements.{ReadsElement};
 
     /// Reads what stands between the brackets of a class: a `!` where one comes first, and one or
     /// more items; `Bad` where there is none, or where one has its greater byte first.
     pub(crate) fn read(alloc: Global, inner: &[u8]) -> Result<Class, ElementFault>
-        ensures { ReadsElement result (class_of inner.now) }
+        ensures { ReadsElement result (bracketed_class inner.now) }
     {
         let (is_negated, items) = split_negation(inner);
         let ranges = read_ranges(alloc, items)?;
@@ -76,7 +76,7 @@ impl Class {
 
 // Whether a `!` comes first, and the items of the class.
 fn split_negation(inner: &[u8]) -> (bool, &[u8])
-    ensures { class_of inner.now ≡ class_with result.0 (ranges_of result.1.now) }
+    ensures { bracketed_class inner.now ≡ class_with result.0 (ranges_of result.1.now) }
 {
     match inner {
         [b'!', items @ ..] => (true, items),

@@ -4,7 +4,7 @@ ghost use Rattle.std.specs.List.{starts_with, list_any};
 ghost use Rattle.follow_filters.specs.Domains.{is_in_domain};
 ghost use Rattle.follow_filters.specs.Directories.{is_in_directory};
 ghost use Rattle.follow_filters.specs.Patterns.{is_file_match};
-ghost use Rattle.follow_filters.specs.Exempt.{is_exempt};
+ghost use Rattle.follow_filters.specs.Exempt.{is_exempt_file};
 
 use crate::directory::Directory;
 use crate::domain::Domain;
@@ -23,7 +23,7 @@ fn begins(text: &str, front: &str) -> bool
 
 // Whether a file name meets the accept and reject lists in any case.
 fn is_exempt(file: &str) -> bool
-    ensures { result ≡ is_exempt file.now }
+    ensures { result ≡ is_exempt_file file.now }
 {
     let file = file.as_bytes();
     file.is_empty() || file.ends_with(b".htm") || file.ends_with(b".html")
@@ -68,7 +68,7 @@ fn kept_name(address: &Address) -> &str
 
 impl Plan {
     ghost use Rattle.std.specs.Prelude.{◌↔◌, MatchResult, None, IsTrue, find, is_ok};
-    ghost use Rattle.follow_filters.specs.Rules.{meets, first_unmet, verdict_of, passes_of, rules, has_start_host, Passes, IsFirstUnmet, keeps_name, keeps_of, Keeps};
+    ghost use Rattle.follow_filters.specs.Rules.{meets, first_unmet, verdict_of, passes_of, rules, has_start_host, Passes, IsFirstUnmet, keeps_name, keeps_of, KeepsPage};
 
     // Whether the address has the start's host.
     fn has_start_host(&self, address: &Address) -> bool
@@ -169,7 +169,7 @@ impl Plan {
     /// meets the accept and the reject list. Takes no memory.
     pub fn keeps(&self, address: &Address) -> bool
         ensures value { result ≡ keeps_of self.now address.now }
-        ensures means { IsTrue result ↔ Keeps self.now address.now }
+        ensures means { IsTrue result ↔ KeepsPage self.now address.now }
     {
         self.keeps_name(kept_name(address))
     }

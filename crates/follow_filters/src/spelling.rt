@@ -2,7 +2,7 @@
 ghost use Rattle.std.specs.Prelude.{◌≡◌, ◌≤◌, ◌∷◌, map, length, Some, IfOk, IfSome, ◌<◌, position, MatchResult};
 ghost use Rattle.follow_filters.specs.Elements.{IsFaultOf};
 ghost use Rattle.follow_filters.specs.declared.pattern.Part.TheVariants as part;
-ghost use Rattle.follow_filters.specs.Patterns.{is_end, first_part, parts_of, read_pattern};
+ghost use Rattle.follow_filters.specs.Patterns.{is_end, first_part, parts_spelled, read_pattern};
 
 use crate::class::Class;
 use crate::elements::ElementFault;
@@ -36,7 +36,7 @@ fn suffix_parts(alloc: Global, suffix: &[u8]) -> Result<Vec<Part>, AllocError>
 
 // The parts that a text spells.
 fn spelled_parts(alloc: Global, text: &[u8]) -> Result<Vec<Part>, ElementFault>
-    ensures { MatchResult result (λ v. parts_of text.now ≡ Some v.items) (IsFaultOf (parts_of text.now)) }
+    ensures { MatchResult result (λ v. parts_spelled text.now ≡ Some v.items) (IsFaultOf (parts_spelled text.now)) }
 {
     let mut parts = Vec::new(alloc);
     let mut rest = text;

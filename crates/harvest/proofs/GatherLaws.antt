@@ -13,8 +13,8 @@ use Rattle.harvest.specs.Pages.{IsKept}
 use Rattle.robots_rules.specs.Access.{RuleSetValue}
 use Rattle.fetcher.specs.declared.outcome.Outcome.{Outcome}
 use Rattle.frontier_core.specs.Tables.{Text, keys, IsOnce}
-use Rattle.frontier_core.specs.Machine.{State, Slot, OriginRules, outcome_in, rules_in}
-use Rattle.frontier_core.specs.Readers.{Entry as Held, entry_of, record_of, ruled_of, item_entry}
+use Rattle.frontier_core.specs.Machine.{State, Slot, OriginRules, outcome_in, known_rules_in}
+use Rattle.frontier_core.specs.Readers.{HeldEntry, entry_of, record_of, ruled_of, item_entry}
 use Rattle.frontier_core.specs.declared.condition.Condition.{Condition}
 use Rattle.address.specs.declared.address.Address.{Address}
 use Rattle.std.specs.Borrow.{Bor}
@@ -48,7 +48,7 @@ seen_each (one ∷ held) = ap (λ (rest : List Seen). seen_lent one ∷ rest) (s
 
 -- what is lent of all addresses is to be said of the state
 pub seen_held : (s : State) (held : List Lent) → map item_entry held ≡ map entry_of s.entries → map seen_lent held ≡ seen_in s
-seen_held s held all = seen_each held ∙ ap (λ (x : List Held). map seen_of x) all ∙ seen_is s
+seen_held s held all = seen_each held ∙ ap (λ (x : List HeldEntry). map seen_of x) all ∙ seen_is s
 
 -- the addresses of entries, by what they say
 named_by : (entries : List Entry) → map (λ entry. entry.address) entries ≡ map (λ (seen : Seen). seen.0) (map said_by entries)
@@ -107,9 +107,9 @@ once_records (entry ∷ entries) once = go (once_records entries once.1) (outcom
 -- whose rules are known was asked for
 pub ruled_asked : (origins : List (Text × OriginRules)) (o : Text) → Contains (ruled_origins (filter_map ruled_of origins)) o → Contains (keys origins) o
 ruled_asked [] o among = among
-ruled_asked (origin ∷ origins) o among = go (λ later. contains_tail origin.0 o (keys origins) (ruled_asked origins o later)) (rules_in (Some origin.1)) refl among
+ruled_asked (origin ∷ origins) o among = go (λ later. contains_tail origin.0 o (keys origins) (ruled_asked origins o later)) (known_rules_in (Some origin.1)) refl among
   where
-    go : (Contains (ruled_origins (filter_map ruled_of origins)) o → Contains (keys (origin ∷ origins)) o) → (r : Option RuleSetValue) → rules_in (Some origin.1) ≡ r
+    go : (Contains (ruled_origins (filter_map ruled_of origins)) o → Contains (keys (origin ∷ origins)) o) → (r : Option RuleSetValue) → known_rules_in (Some origin.1) ≡ r
         → Contains (ruled_origins (filter_map ruled_of (origin ∷ origins))) o → Contains (keys (origin ∷ origins)) o
     go later None is here = later (rw is at here)
     go later (Some x) is here = elim (contains_cases origin.0 o (ruled_origins (filter_map ruled_of origins)) (rw is at here)) [
@@ -120,9 +120,9 @@ ruled_asked (origin ∷ origins) o among = go (λ later. contains_tail origin.0 
 -- no origin's rules are known twice
 pub once_rules : (origins : List (Text × OriginRules)) → IsOnce (keys origins) → IsOnce (ruled_origins (filter_map ruled_of origins))
 once_rules [] once = tt
-once_rules (origin ∷ origins) once = go (once_rules origins once.1) (rules_in (Some origin.1)) refl
+once_rules (origin ∷ origins) once = go (once_rules origins once.1) (known_rules_in (Some origin.1)) refl
   where
-    go : IsOnce (ruled_origins (filter_map ruled_of origins)) → (r : Option RuleSetValue) → rules_in (Some origin.1) ≡ r
+    go : IsOnce (ruled_origins (filter_map ruled_of origins)) → (r : Option RuleSetValue) → known_rules_in (Some origin.1) ≡ r
         → IsOnce (ruled_origins (filter_map ruled_of (origin ∷ origins)))
     go rest None is = rw is rest
     go rest (Some x) is = rw is ((λ among. once.0 (ruled_asked origins origin.0 among)), rest)

@@ -3,7 +3,7 @@ use Rattle.std.specs.Prelude.{◌≡◌, ℕ, Bool, true, false, List, map, Opti
 use Rattle.fetcher.specs.declared.outcome.Outcome.{Outcome}
 use Rattle.frontier_core.specs.Tables.{Text}
 use Rattle.frontier_core.specs.Machine.{State}
-use Rattle.frontier_core.specs.Readers.{Entry as Held, Recorded, Ruled, entry_of}
+use Rattle.frontier_core.specs.Readers.{HeldEntry, Recorded, Ruled, entry_of}
 use Rattle.frontier_core.specs.declared.condition.Condition.{Condition}
 use Rattle.frontier_core.specs.declared.condition.Condition.TheVariants.{Parked, Waiting, Out, Answered, Refused}
 use Rattle.harvest.specs.declared.entry.Entry.{Entry}
@@ -21,7 +21,7 @@ is_refused Answered = false
 is_refused Refused = true
 
 -- what is to be said of a held address
-abbrev pub seen_of : Held → Seen
+abbrev pub seen_of : HeldEntry → Seen
 seen_of held = (held.0, held.1, is_refused held.2)
 
 -- what is to be said of the addresses that a state holds, in order of discovery

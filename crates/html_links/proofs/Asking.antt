@@ -6,7 +6,7 @@ use Rattle.std.specs.Option.{option_or}
 use Rattle.std.specs.Str.{bytes_eq}
 use Rattle.std.specs.List.{flat_map}
 use Rattle.html_links.specs.Pieces.{Attribute, Tag}
-use Rattle.html_links.specs.Values.{text_of, written, value_of}
+use Rattle.html_links.specs.Values.{value_text_of, written, value_of}
 use Rattle.html_links.specs.declared.links.LinkKind.{LinkKind}
 use Rattle.html_links.specs.Links.{Links, link_attribute, link_with, link_in, links_of, base_of, is_nofollow, first_base, any_nofollow, with_tags}
 use Rattle.html_links.specs.Asked.{is_asked_element, is_asked_attribute, asked_attributes, asked}
@@ -28,7 +28,7 @@ written_asked name (a ∷ others) h = go (is_asked_attribute a.name) refl (writt
   go false e g = rw (other_name name a.name h e) g
 
 value_asked : (name : List ℕ) (all : List Attribute) → is_asked_attribute name ≡ true → value_of name (asked_attributes all) ≡ value_of name all
-value_asked name all h = ap (option_map text_of) (written_asked name all h)
+value_asked name all h = ap (option_map value_text_of) (written_asked name all h)
 
 abbrev kept : Tag → Tag
 kept tag = record { name = tag.name; attributes = asked_attributes tag.attributes }

@@ -9,7 +9,7 @@ use Rattle.std.specs.Ordering.{nat_cmp, is_lt, ordering_then, ordering_reverse}
 use Rattle.std.specs.declared.cmp.Ordering.{Ordering}
 use Rattle.std.specs.declared.cmp.Ordering.TheVariants.{Less, Equal, Greater}
 use denote.Ref.{Bor}
-use Rattle.local_tree.specs.Names.{numbered}
+use Rattle.local_tree.specs.Names.{numbered_name}
 use Rattle.local_tree.specs.inner.Taken.{lent_text, AreLeast, IsPast}
 use Rattle.local_tree.proofs.NamingLaws.{IsBehind}
 use Rattle.local_tree.proofs.OrderLaws.{texts_equal, before_trans}
@@ -23,7 +23,7 @@ front_not_less (x ∷ own) rest = ap (λ o. is_lt (ordering_then o (slice_cmp na
 pub itself_not_less : (own : List ℕ) → is_lt (slice_cmp nat_cmp own own) ≡ false
 itself_not_less own = ap is_lt (tied_itself nat_list_cmp_total own)
 
-numbered_not_less : (own : List ℕ) (k : ℕ) → is_lt (slice_cmp nat_cmp (numbered own k) own) ≡ false
+numbered_not_less : (own : List ℕ) (k : ℕ) → is_lt (slice_cmp nat_cmp (numbered_name own k) own) ≡ false
 numbered_not_less own k =
     cond_both (k == 0) own (own ++ 46 ∷ decimal k) (λ name. is_lt (slice_cmp nat_cmp name own) ≡ false) (λ e. itself_not_less own) (λ e. front_not_less own (46 ∷ decimal k))
 

@@ -9,7 +9,7 @@ use Rattle.std.proofs.Math.Seq.{take-suc}
 use Rattle.std.specs.Fmt.{decimal, digits, digits_onto, digit_glyph}
 use Rattle.std.specs.Str.{bytes_eq}
 use Rattle.local_tree.specs.PlainNames.{slash}
-use Rattle.local_tree.specs.Names.{IsDirectoryOf, IsDirectory, numbered, IsFree, IsFirstFree, IsNaming, AreDistinct, AreApart}
+use Rattle.local_tree.specs.Names.{IsDirectoryOf, IsDirectory, numbered_name, IsFree, IsFirstFree, IsNaming, AreDistinct, AreApart}
 use Rattle.local_tree.specs.inner.Taken.{remembered, HasSameNames}
 
 -- ---- distinct
@@ -34,7 +34,7 @@ first_free_sole plain given own name other a b =
       | inl less ↦ absurd (b.first a.number less (subst (IsFree plain given) a.is a.free))
       | inr more ↦ elim (cases_lt b.number a.number) [
         | inl less ↦ absurd (a.first b.number less (subst (IsFree plain given) b.is b.free))
-        | inr same ↦ (let equal : a.number ≡ b.number = omega arith in a.is ∙ ap (numbered own) equal ∙ sym b.is)
+        | inr same ↦ (let equal : a.number ≡ b.number = omega arith in a.is ∙ ap (numbered_name own) equal ∙ sym b.is)
       ]
     ]
 
@@ -93,7 +93,7 @@ unfolding digits
 NoSlash-decimal n = NoSlash-digits_onto 64 10 n [] tt
 
 -- the directories of a numbered name are those of the plain one
-directory_of_numbered : (own : List ℕ) (number : ℕ) (directory : List ℕ) → IsDirectoryOf (numbered own number) directory → IsDirectoryOf own directory
+directory_of_numbered : (own : List ℕ) (number : ℕ) (directory : List ℕ) → IsDirectoryOf (numbered_name own number) directory → IsDirectoryOf own directory
 directory_of_numbered own number directory =
     cond_both (number == 0) own (own ++ 46 ∷ decimal number) (λ name. IsDirectoryOf name directory → IsDirectoryOf own directory)
     (λ e h. h)
@@ -106,37 +106,37 @@ IsNaming-apart plain names naming name other (i, within, here) (j, within', ther
     let at' = naming.each j (omega arith) in
     let read : (k : ℕ) (x : List ℕ) → k < length names → get_or names k x ≡ x → x ≡ get_or names k [] = λ k x below e. get_or_read names k x below (sym e) [] in
     let own : name ≡ get_or names i [] = read i name within here in
-    let others : other ≡ numbered (get_or plain j []) at'.number = read j other within' there ∙ at'.is in
+    let others : other ≡ numbered_name (get_or plain j []) at'.number = read j other within' there ∙ at'.is in
     let found : IsDirectoryOf (get_or plain j []) name = directory_of_numbered (get_or plain j []) at'.number name (subst (λ o. IsDirectoryOf o name) others inside) in
     (at.free).no_directory (subst (IsDirectory plain) own (get_or plain j [], Contains-get_or plain j [] (omega arith), found))
 
 -- ---- numbered names
 
-pub numbered-suc : (own : List ℕ) (n : ℕ) → numbered own (suc n) ≡ own ++ 46 ∷ decimal (suc n)
-numbered-suc own n = cond-false (suc n == 0) own (own ++ 46 ∷ decimal (suc n)) (ne_eqb (suc n) 0 (λ e. omega (arith, e)))
+pub numbered_name-suc : (own : List ℕ) (n : ℕ) → numbered_name own (suc n) ≡ own ++ 46 ∷ decimal (suc n)
+numbered_name-suc own n = cond-false (suc n == 0) own (own ++ 46 ∷ decimal (suc n)) (ne_eqb (suc n) 0 (λ e. omega (arith, e)))
 
-longer : (own : List ℕ) (n : ℕ) → own ≡ numbered own (suc n) → ⊥
-longer own n same = let e = ap length (same ∙ numbered-suc own n) in let l = length-append own (46 ∷ decimal (suc n)) in omega arith
+longer : (own : List ℕ) (n : ℕ) → own ≡ numbered_name own (suc n) → ⊥
+longer own n same = let e = ap length (same ∙ numbered_name-suc own n) in let l = length-append own (46 ∷ decimal (suc n)) in omega arith
 
-pub numbered-injective : (own : List ℕ) (m n : ℕ) → m < 2 ^ 64 → n < 2 ^ 64 → numbered own m ≡ numbered own n → m ≡ n
-numbered-injective own zero zero small small' same = refl
-numbered-injective own zero (suc n) small small' same = absurd (longer own n same)
-numbered-injective own (suc m) zero small small' same = absurd (longer own m (sym same))
-numbered-injective own (suc m) (suc n) small small' same =
-    let tails : (46 ∷ decimal (suc m)) ≡ (46 ∷ decimal (suc n)) = append_cancel_left own (46 ∷ decimal (suc m)) (46 ∷ decimal (suc n)) (sym (numbered-suc own m) ∙ same ∙ numbered-suc own n) in
+pub numbered_name-injective : (own : List ℕ) (m n : ℕ) → m < 2 ^ 64 → n < 2 ^ 64 → numbered_name own m ≡ numbered_name own n → m ≡ n
+numbered_name-injective own zero zero small small' same = refl
+numbered_name-injective own zero (suc n) small small' same = absurd (longer own n same)
+numbered_name-injective own (suc m) zero small small' same = absurd (longer own m (sym same))
+numbered_name-injective own (suc m) (suc n) small small' same =
+    let tails : (46 ∷ decimal (suc m)) ≡ (46 ∷ decimal (suc n)) = append_cancel_left own (46 ∷ decimal (suc m)) (46 ∷ decimal (suc n)) (sym (numbered_name-suc own m) ∙ same ∙ numbered_name-suc own n) in
     decimal_injective (suc m) (suc n) small small' (let e : decimal (suc m) ≡ decimal (suc n) = cc in e)
 
 -- ---- the names that were given so far
 
 -- no page from this place on asks for the name
 abbrev pub IsBehind : List (List ℕ) → ℕ → List ℕ → Type 0
-IsBehind plain i name = (j k : ℕ) → i ≤ j → j < length plain → numbered (get_or plain j []) k ≢ name
+IsBehind plain i name = (j k : ℕ) → i ≤ j → j < length plain → numbered_name (get_or plain j []) k ≢ name
 
 -- the first names, and beside each that may be asked for again and some plain names a number below which all its numbered names are taken
 pub record Assigned (plain names : List (List ℕ)) (next : List ℕ → Option ℕ) : Type 0 where
   pub each : (k : ℕ) → k < length names → IsFirstFree plain (take k names) (get_or plain k []) (get_or names k [])
   pub held : (d : List ℕ) → Contains names d → IsSome (next d) ⊎ IsBehind plain (length names) d
-  pub passed : (q : List ℕ) (v : ℕ) → next q ≡ Some v → (0 < v) × ((k : ℕ) → k < v → IsDirectory plain (numbered q k) ⊎ Contains names (numbered q k))
+  pub passed : (q : List ℕ) (v : ℕ) → next q ≡ Some v → (0 < v) × ((k : ℕ) → k < v → IsDirectory plain (numbered_name q k) ⊎ Contains names (numbered_name q k))
 
 pub Assigned-first : (plain : List (List ℕ)) (next : List ℕ → Option ℕ) → ((q : List ℕ) → next q ≡ None) → Assigned plain [] next
 Assigned-first plain next none =
@@ -155,19 +155,19 @@ pub taken_names : (plain names : List (List ℕ)) (next : List ℕ → Option �
 taken_names plain names next so q taken = elim taken [ inl inside ↦ inl inside | inr has ↦ entry_is_taken plain names next so q (next q) refl has ]
 
 -- a name that the next page asks for is held
-asked_is_held : (plain names : List (List ℕ)) (next : List ℕ → Option ℕ) → Assigned plain names next → (own : List ℕ) (k : ℕ) → own ≡ get_or plain (length names) [] → length names < length plain → Contains names (numbered own k) → IsSome (next (numbered own k))
-asked_is_held plain names next so own k place inside given = elim (so.held (numbered own k) given) [
+asked_is_held : (plain names : List (List ℕ)) (next : List ℕ → Option ℕ) → Assigned plain names next → (own : List ℕ) (k : ℕ) → own ≡ get_or plain (length names) [] → length names < length plain → Contains names (numbered_name own k) → IsSome (next (numbered_name own k))
+asked_is_held plain names next so own k place inside given = elim (so.held (numbered_name own k) given) [
   | inl has ↦ has
-  | inr behind ↦ absurd (behind (length names) k (omega arith) inside (ap (λ x. numbered x k) (sym place)))
+  | inr behind ↦ absurd (behind (length names) k (omega arith) inside (ap (λ x. numbered_name x k) (sym place)))
 ]
 
 -- where to begin
-start_by : (plain names : List (List ℕ)) (next : List ℕ → Option ℕ) → Assigned plain names next → (q : List ℕ) → q ≡ get_or plain (length names) [] → length names < length plain → (o : Option ℕ) (start : ℕ) → next q ≡ o → start ≡ unwrap_or o 0 → (k : ℕ) → k < start → IsDirectory plain (numbered q k) ⊎ IsSome (next (numbered q k))
+start_by : (plain names : List (List ℕ)) (next : List ℕ → Option ℕ) → Assigned plain names next → (q : List ℕ) → q ≡ get_or plain (length names) [] → length names < length plain → (o : Option ℕ) (start : ℕ) → next q ≡ o → start ≡ unwrap_or o 0 → (k : ℕ) → k < start → IsDirectory plain (numbered_name q k) ⊎ IsSome (next (numbered_name q k))
 start_by plain names next so q place inside None start e is k below = absurd (omega arith)
 start_by plain names next so q place inside (Some v) start e is k below =
     elim ((so.passed q v e).1 k (omega arith)) [ inl under ↦ inl under | inr given ↦ inr (asked_is_held plain names next so q k place inside given) ]
 
-pub Assigned-start : (plain names : List (List ℕ)) (next : List ℕ → Option ℕ) → Assigned plain names next → (q : List ℕ) → q ≡ get_or plain (length names) [] → length names < length plain → (start : ℕ) → start ≡ unwrap_or (next q) 0 → (k : ℕ) → k < start → IsDirectory plain (numbered q k) ⊎ IsSome (next (numbered q k))
+pub Assigned-start : (plain names : List (List ℕ)) (next : List ℕ → Option ℕ) → Assigned plain names next → (q : List ℕ) → q ≡ get_or plain (length names) [] → length names < length plain → (start : ℕ) → start ≡ unwrap_or (next q) 0 → (k : ℕ) → k < start → IsDirectory plain (numbered_name q k) ⊎ IsSome (next (numbered_name q k))
 Assigned-start plain names next so q place inside start is = start_by plain names next so q place inside (next q) start refl is
 
 -- the same directories of the same names
@@ -205,20 +205,20 @@ which true false false n v o e = inr (inr e)
 which false b true n v o e = inr (inl (refl, cc))
 which false b false n v o e = inr (inr e)
 
-pub Assigned-step : (plain names : List (List ℕ)) (next next' : List ℕ → Option ℕ) (own name : List ℕ) (number : ℕ) → Assigned plain names next → own ≡ get_or plain (length names) [] → length names < length plain → name ≡ numbered own number → ¬ (IsDirectory plain name ⊎ IsSome (next name)) → ((k : ℕ) → k < number → IsDirectory plain (numbered own k) ⊎ IsSome (next (numbered own k))) → ((q : List ℕ) → next' q ≡ remembered next own name number q) ⊎ (IsBehind plain (length names + 1) name × ((q : List ℕ) → next' q ≡ next q)) → Assigned plain (names ++ name ∷ []) next'
+pub Assigned-step : (plain names : List (List ℕ)) (next next' : List ℕ → Option ℕ) (own name : List ℕ) (number : ℕ) → Assigned plain names next → own ≡ get_or plain (length names) [] → length names < length plain → name ≡ numbered_name own number → ¬ (IsDirectory plain name ⊎ IsSome (next name)) → ((k : ℕ) → k < number → IsDirectory plain (numbered_name own k) ⊎ IsSome (next (numbered_name own k))) → ((q : List ℕ) → next' q ≡ remembered next own name number q) ⊎ (IsBehind plain (length names + 1) name × ((q : List ℕ) → next' q ≡ next q)) → Assigned plain (names ++ name ∷ []) next'
 Assigned-step plain names next next' own name number so place inside is free before new =
     let this : IsFirstFree plain names own name = record {
       number = number;
       is = is;
       free = record { no_directory = λ inside. free (inl inside); not_given = λ given. free (inr (subst (λ x. IsSome (next x)) (sym is) (asked_is_held plain names next so own number place inside (subst (Contains names) is given)))) };
-      first = λ k less loose. elim (taken_names plain names next so (numbered own k) (before k less)) [ inl inside ↦ loose.no_directory inside | inr given ↦ loose.not_given given ];
+      first = λ k less loose. elim (taken_names plain names next so (numbered_name own k) (before k less)) [ inl inside ↦ loose.no_directory inside | inr given ↦ loose.not_given given ];
     } in
     let more : (q : List ℕ) → IsDirectory plain q ⊎ Contains names q → IsDirectory plain q ⊎ Contains (names ++ name ∷ []) q =
     λ q taken. elim taken [ inl inside ↦ inl inside | inr given ↦ inr (Contains-append_left names (name ∷ []) q given) ] in
-    let own_taken : (k : ℕ) → k < number + 1 → IsDirectory plain (numbered own k) ⊎ Contains (names ++ name ∷ []) (numbered own k) =
+    let own_taken : (k : ℕ) → k < number + 1 → IsDirectory plain (numbered_name own k) ⊎ Contains (names ++ name ∷ []) (numbered_name own k) =
     λ k below. elim (cases_lt k number) [
-      | inl less ↦ more (numbered own k) (taken_names plain names next so (numbered own k) (before k less))
-      | inr last ↦ (let at : number ≡ k = omega arith in inr (subst (Contains (names ++ name ∷ [])) (is ∙ ap (numbered own) at) (Contains-push names name)))
+      | inl less ↦ more (numbered_name own k) (taken_names plain names next so (numbered_name own k) (before k less))
+      | inr last ↦ (let at : number ≡ k = omega arith in inr (subst (Contains (names ++ name ∷ [])) (is ∙ ap (numbered_name own) at) (Contains-push names name)))
     ] in
     record {
       each = λ k below.
@@ -255,16 +255,16 @@ Assigned-step plain names next next' own name number so place inside is free bef
           ];
       passed = λ q v e. elim new [
         | inl put ↦ elim (which (nat_lt 0 number) (bytes_eq own q) (bytes_eq name q) (number + 1) v (next q) (sym (put q) ∙ e)) [
-          | inl (same, is_next) ↦ (omega arith, λ k below. subst (λ x. IsDirectory plain (numbered x k) ⊎ Contains (names ++ name ∷ []) (numbered x k)) ((bytes_eq-Decides own q).0 same) (own_taken k (omega arith)))
+          | inl (same, is_next) ↦ (omega arith, λ k below. subst (λ x. IsDirectory plain (numbered_name x k) ⊎ Contains (names ++ name ∷ []) (numbered_name x k)) ((bytes_eq-Decides own q).0 same) (own_taken k (omega arith)))
           | inr (inl (same, is_one)) ↦ (
             omega arith,
             λ k below.
                 let at : k ≡ 0 = omega arith in
-                inr (subst (λ j. Contains (names ++ name ∷ []) (numbered q j)) (sym at) (subst (Contains (names ++ name ∷ [])) ((bytes_eq-Decides name q).0 same) (Contains-push names name))),
+                inr (subst (λ j. Contains (names ++ name ∷ []) (numbered_name q j)) (sym at) (subst (Contains (names ++ name ∷ [])) ((bytes_eq-Decides name q).0 same) (Contains-push names name))),
           )
-          | inr (inr old) ↦ (let at = so.passed q v old in (at.0, λ k below. more (numbered q k) (at.1 k below)))
+          | inr (inr old) ↦ (let at = so.passed q v old in (at.0, λ k below. more (numbered_name q k) (at.1 k below)))
         ]
-        | inr (past, kept) ↦ (let at = so.passed q v (sym (kept q) ∙ e) in (at.0, λ k below. more (numbered q k) (at.1 k below)))
+        | inr (past, kept) ↦ (let at = so.passed q v (sym (kept q) ∙ e) in (at.0, λ k below. more (numbered_name q k) (at.1 k below)))
       ];
     }
 

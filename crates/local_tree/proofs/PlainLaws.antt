@@ -11,9 +11,9 @@ use Rattle.std.specs.List.{slice_split, flat_map, join_with_byte}
 use Rattle.std.specs.Str.{IsUtf8}
 use Rattle.address.specs.Address.{AddressText, IsAddress, IsAddressByte, authority_of, host_of, port_of, port_text, origin_of, path_query_of, dir_of, file_of, query_of}
 use Rattle.local_tree.specs.PlainNames.{slash, is_slash, local_segment, dir_segments, last_segment, segments_of, plain_name_of}
-use Rattle.local_tree.specs.Names.{numbered, IsNaming}
+use Rattle.local_tree.specs.Names.{numbered_name, IsNaming}
 use Rattle.local_tree.specs.LocalNames.{IsInner, StaysInside, IsVisible, IsShort, HasShortSegments}
-use Rattle.local_tree.proofs.NamingLaws.{numbered-suc}
+use Rattle.local_tree.proofs.NamingLaws.{numbered_name-suc}
 use Rattle.local_tree.proofs.SegmentLaws.{IsSegmentByte, IsRaw, IsSegment, all_left, all_right, split_joined, joined_by_one, joined_onto_last, joined_visible, local_segment_is, local_segment_short, dir_segments_are_raw, last_segment_is_raw, appended_is_present, numbered_segment_is}
 
 -- ---- as the code writes it
@@ -144,7 +144,7 @@ onto_end first last suffix mids all ends =
     (All-append IsSegment mids ((last ++ suffix) ∷ []) (all_left IsSegment mids (last ∷ []) (All-tail IsSegment first (mids ++ last ∷ []) all))
     (All-cons IsSegment (last ++ suffix) [] ends (All-nil IsSegment)))
 
-pub numbered_made : (page : AddressText) (number : ℕ) → IsAddress page → IsMade (numbered (plain_name_of page) number)
+pub numbered_made : (page : AddressText) (number : ℕ) → IsAddress page → IsMade (numbered_name (plain_name_of page) number)
 unfolding plain_name_of segments_of
 numbered_made page zero is = plain_made page is
 numbered_made page (suc k) is =
@@ -159,14 +159,14 @@ numbered_made page (suc k) is =
     record {
       first = first;
       rest = mids ++ (last ++ suffix) ∷ [];
-      is = numbered-suc (plain_name_of page) k ∙ ap (λ rest. join_with_byte slash (first ∷ rest) ++ suffix) apart ∙ joined_onto_last first mids last suffix;
+      is = numbered_name-suc (plain_name_of page) k ∙ ap (λ rest. join_with_byte slash (first ∷ rest) ++ suffix) apart ∙ joined_onto_last first mids last suffix;
       all = onto_end first last suffix mids all (numbered_segment_is last (suc k) ends);
     }
 
 -- ---- all names of a list
 
 -- what each numbered plain name of an address has, the names have
-pub all_names : (P : List ℕ → Type 0) (pages : List AddressText) (names : List (List ℕ)) → IsNaming (map plain_name_of pages) names → All IsAddress pages → ((page : AddressText) (number : ℕ) → IsAddress page → P (numbered (plain_name_of page) number)) → All P names
+pub all_names : (P : List ℕ → Type 0) (pages : List AddressText) (names : List (List ℕ)) → IsNaming (map plain_name_of pages) names → All IsAddress pages → ((page : AddressText) (number : ℕ) → IsAddress page → P (numbered_name (plain_name_of page) number)) → All P names
 all_names P pages names naming addresses each i d below =
     let long = length-map pages plain_name_of in
     let count = naming.count in
@@ -174,7 +174,7 @@ all_names P pages names naming addresses each i d below =
     let at = naming.each i (omega arith) in
     let page = get_or pages i [] in
     let own : get_or (map plain_name_of pages) i [] ≡ plain_name_of page = get_or-map plain_name_of pages i [] [] within in
-    let name : get_or names i d ≡ numbered (plain_name_of page) at.number = same_read names i d [] below ∙ at.is ∙ ap (λ o. numbered o at.number) own in
+    let name : get_or names i d ≡ numbered_name (plain_name_of page) at.number = same_read names i d [] below ∙ at.is ∙ ap (λ o. numbered_name o at.number) own in
     subst P (sym name) (each page at.number (addresses i [] within))
   where
     same_read : (xs : List (List ℕ)) (k : ℕ) (a b : List ℕ) → k < length xs → get_or xs k a ≡ get_or xs k b
@@ -182,5 +182,5 @@ all_names P pages names naming addresses each i d below =
     same_read (x ∷ xs) zero a b below = refl
     same_read (x ∷ xs) (suc k) a b below = same_read xs k a b (omega arith)
 
-pub numbered_short : (page : AddressText) (number : ℕ) → IsAddress page → HasShortSegments (numbered (plain_name_of page) number)
+pub numbered_short : (page : AddressText) (number : ℕ) → IsAddress page → HasShortSegments (numbered_name (plain_name_of page) number)
 numbered_short page number is = record { plain = plain_name_of page; number = number; is = refl; short = plain_short page is }

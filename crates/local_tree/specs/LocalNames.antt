@@ -2,7 +2,7 @@
 use Rattle.std.specs.Prelude.{◌≡◌, ◌≢◌, ℕ, ◌≤◌, List, [], length, codes, All}
 use Rattle.std.specs.List.{slice_split}
 use Rattle.local_tree.specs.PlainNames.{is_slash}
-use Rattle.local_tree.specs.Names.{numbered}
+use Rattle.local_tree.specs.Names.{numbered_name}
 use Rattle.local_tree.specs.declared.plain_name.TheConstants.{MAX_SEGMENT}
 
 -- a segment that names something within its directory
@@ -23,7 +23,7 @@ IsShort segment = length segment ≤ MAX_SEGMENT
 pub record HasShortSegments (name : List ℕ) : Type 0 where
   pub plain : List ℕ
   pub number : ℕ
-  pub is : name ≡ numbered plain number
+  pub is : name ≡ numbered_name plain number
   pub short : All IsShort (slice_split is_slash plain)
 
 -- a visible ASCII byte: no NUL, no control, no space

@@ -13,8 +13,8 @@ abbrev pub IsDirectory : List (List ℕ) → List ℕ → Type 0
 IsDirectory names directory = (name : List ℕ) × Contains names name × IsDirectoryOf name directory
 
 -- f, f.1, f.2, ..
-abbrev pub numbered : List ℕ → ℕ → List ℕ
-numbered plain number = if number == 0 then plain else plain ++ 46 ∷ decimal number
+abbrev pub numbered_name : List ℕ → ℕ → List ℕ
+numbered_name plain number = if number == 0 then plain else plain ++ 46 ∷ decimal number
 
 -- it is no directory of any page's plain name, and no earlier page has it
 pub record IsFree (plain given : List (List ℕ)) (name : List ℕ) : Type 0 where
@@ -24,9 +24,9 @@ pub record IsFree (plain given : List (List ℕ)) (name : List ℕ) : Type 0 whe
 -- the first of f, f.1, f.2, .. that is free
 pub record IsFirstFree (plain given : List (List ℕ)) (own name : List ℕ) : Type 0 where
   pub number : ℕ
-  pub is : name ≡ numbered own number
+  pub is : name ≡ numbered_name own number
   pub free : IsFree plain given name
-  pub first : (k : ℕ) → k < number → ¬ IsFree plain given (numbered own k)
+  pub first : (k : ℕ) → k < number → ¬ IsFree plain given (numbered_name own k)
 
 -- the names of the pages with these plain names, each in its place
 pub record IsNaming (plain names : List (List ℕ)) : Type 0 where

@@ -6,7 +6,7 @@ ghost use Rattle.std.specs.Ordering.{nat_cmp};
 ghost use Rattle.std.specs.declared.cmp.Ordering.TheVariants.{Less, Greater};
 ghost use Rattle.std.specs.List.Sorted.{IsSorted};
 ghost use Rattle.local_tree.specs.PlainNames.{slash};
-ghost use Rattle.local_tree.specs.Names.{IsDirectory, numbered};
+ghost use Rattle.local_tree.specs.Names.{IsDirectory, numbered_name};
 ghost use Rattle.local_tree.specs.inner.Taken.{lent_text, text_cmp, below_order, IsNameTaken};
 
 use std::alloc::{AllocError, Global};
@@ -15,7 +15,7 @@ use std::collections::BTreeMap;
 
 // The plain name with this number: `f`, `f.1`, `f.2`, ..
 fn numbered(alloc: Global, plain: &str, number: u64) -> Result<String, AllocError>
-    ensures { IfOk result (λ name. string_bytes name ≡ numbered plain.now number) }
+    ensures { IfOk result (λ name. string_bytes name ≡ numbered_name plain.now number) }
 {
     if number == 0 {
         String::from_str(alloc, plain)
@@ -112,11 +112,11 @@ fn first_free_from(
 ) -> Result<(String, u64), AllocError>
     requires sorted { IsSorted text_cmp sorted.now }
     requires few { length sorted.now < 2 ^ 63 }
-    requires start { (k : ℕ) → k < start → IsNameTaken (map lent_text sorted.now) next.now (numbered plain.now k) }
+    requires start { (k : ℕ) → k < start → IsNameTaken (map lent_text sorted.now) next.now (numbered_name plain.now k) }
     ensures small { IfOk result (λ found. found.1 < 2 ^ 64 - 1) }
-    ensures name { IfOk result (λ found. string_bytes found.0 ≡ numbered plain.now found.1) }
+    ensures name { IfOk result (λ found. string_bytes found.0 ≡ numbered_name plain.now found.1) }
     ensures free { IfOk result (λ found. ¬ IsNameTaken (map lent_text sorted.now) next.now (string_bytes found.0)) }
-    ensures before { IfOk result (λ found. (k : ℕ) → k < found.1 → IsNameTaken (map lent_text sorted.now) next.now (numbered plain.now k)) }
+    ensures before { IfOk result (λ found. (k : ℕ) → k < found.1 → IsNameTaken (map lent_text sorted.now) next.now (numbered_name plain.now k)) }
 {
     // Each entry and each plain name takes one numbered name at most, so one more is free.
     let end = (next.len() + sorted.len()) as u64 + 1;
@@ -143,11 +143,11 @@ pub(crate) fn first_free(
 ) -> Result<(String, u64), AllocError>
     requires sorted { IsSorted text_cmp sorted.now }
     requires few { length sorted.now < 2 ^ 63 }
-    requires passed { (v k : ℕ) → get_by_text next.now plain.now ≡ Some v → k < v → IsNameTaken (map lent_text sorted.now) next.now (numbered plain.now k) }
+    requires passed { (v k : ℕ) → get_by_text next.now plain.now ≡ Some v → k < v → IsNameTaken (map lent_text sorted.now) next.now (numbered_name plain.now k) }
     ensures small { IfOk result (λ found. found.1 < 2 ^ 64 - 1) }
-    ensures name { IfOk result (λ found. string_bytes found.0 ≡ numbered plain.now found.1) }
+    ensures name { IfOk result (λ found. string_bytes found.0 ≡ numbered_name plain.now found.1) }
     ensures free { IfOk result (λ found. ¬ IsNameTaken (map lent_text sorted.now) next.now (string_bytes found.0)) }
-    ensures before { IfOk result (λ found. (k : ℕ) → k < found.1 → IsNameTaken (map lent_text sorted.now) next.now (numbered plain.now k)) }
+    ensures before { IfOk result (λ found. (k : ℕ) → k < found.1 → IsNameTaken (map lent_text sorted.now) next.now (numbered_name plain.now k)) }
 {
     if let Some(number) = next.get(plain) {
         return first_free_from(alloc, sorted, next, plain, near, *number);

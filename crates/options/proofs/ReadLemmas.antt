@@ -15,7 +15,7 @@ use Rattle.options.specs.declared.fault.LineFault.TheVariants as fault
 use Rattle.options.specs.Line.{rows, refusals}
 use Rattle.follow_filters.specs.declared.limit.Limit.{Limit}
 use Rattle.options.specs.Given.{level_of}
-use Rattle.options.specs.Order.{Counts, start_of, started_at, are_good, counts_of, patterns_of, directories_of, domains_of, order_of_rows, order_of, are_taken, words_refused, Answers, without_kind, ordered}
+use Rattle.options.specs.Order.{Counts, start_of, started_at, are_good, counts_of, patterns_of, directories_of, domains_of, order_of_rows, order_of, are_taken, words_refused, AnswersOrder, without_kind, ordered}
 use Rattle.options.specs.inner.Order.{Both, StartsAt, FailsToStart, FailsToFilter, fault_of_kind}
 
 pub starts-at : (found : List Row) (start : List ℕ) → start_of found ≡ Ok start → is_robots_file start ≡ false → StartsAt found start
@@ -103,8 +103,8 @@ started found read (Err f) gives page =
     page
 
 -- what a parse that succeeds answers
-pub answers-taken : (words : List Text) (found : List Row) (r : Result Order LineFault) → refusals words ≡ [] → found ≡ rows words → Answers r (order_of_rows found) → Answers r (order_of words)
-answers-taken words found r none same says = subst (Answers r) (sym (order_of-taken words found none same)) says
+pub answers-taken : (words : List Text) (found : List Row) (r : Result Order LineFault) → refusals words ≡ [] → found ≡ rows words → AnswersOrder r (order_of_rows found) → AnswersOrder r (order_of words)
+answers-taken words found r none same says = subst (AnswersOrder r) (sym (order_of-taken words found none same)) says
 
 -- the fault of a kind
 fault_kind : (kind : ErrorKind) → (without_kind (fault_of_kind kind) ≡ words_refused) ⊎ (kind ≡ kinds.OutOfMemory)

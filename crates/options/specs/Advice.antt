@@ -88,14 +88,14 @@ correction_text words wrong hint accepted =
     codes "wgetr: " ++ wrong ++ hint ++ codes ", in:" ++ flat_map word_text words ++ codes "\n" ++ accepted ++ codes "\n"
 
 -- the lines of what is told of these words, with what was likely meant
-abbrev pub said : List (List ℕ) → List ℕ → Told → List ℕ
-said words hint Help = help_text
-said words hint Version = version_text
-said words hint (Correction wrong accepted) = correction_text words wrong hint accepted
+abbrev pub told_lines : List (List ℕ) → List ℕ → Told → List ℕ
+told_lines words hint Help = help_text
+told_lines words hint Version = version_text
+told_lines words hint (Correction wrong accepted) = correction_text words wrong hint accepted
 
 -- the lines on words that are no order, none where memory ran out
 abbrev pub advice_text : List (List ℕ) → LineFault → List ℕ
-advice_text words wrong = option_map_or (said words (hint_on wrong words)) (told_on wrong) []
+advice_text words wrong = option_map_or (told_lines words (hint_on wrong words)) (told_on wrong) []
 
 -- the lines on a word that is no text, beside these words
 abbrev pub no_text_advice : List (List ℕ) → List ℕ

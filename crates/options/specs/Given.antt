@@ -18,13 +18,13 @@ level_of found = option_map_or read_level (first_of (codes "level") found) (Some
 -- ---- numbers
 
 -- the number, from 1 to the most
-abbrev pub within : ℕ → Option ℕ → Option ℕ
-within most None = None
-within most (Some n) = if nat_lt 0 n && nat_le n most then Some n else None
+abbrev pub number_within : ℕ → Option ℕ → Option ℕ
+number_within most None = None
+number_within most (Some n) = if nat_lt 0 n && nat_le n most then Some n else None
 
 -- the number that an option gives, or the default where it isn't given; none where it is no number from 1 to the most
-unfoldable pub number_of : Text → ℕ → ℕ → List Row → Option ℕ
-number_of id most default found = option_map_or (λ text. within most (number_in text)) (first_of id found) (Some default)
+unfoldable pub number_given : Text → ℕ → ℕ → List Row → Option ℕ
+number_given id most default found = option_map_or (λ text. number_within most (number_in text)) (first_of id found) (Some default)
 
 -- what the elements of an option's list read as; an option that isn't given has none
 unfoldable pub list_of : {X : Type 0} → (Text → Option X) → Text → List Row → Option (List X)

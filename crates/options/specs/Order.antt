@@ -19,7 +19,7 @@ use Rattle.options.specs.declared.order.Order.{Order}
 use Rattle.options.specs.declared.fault.LineFault.{LineFault}
 use Rattle.options.specs.declared.fault.LineFault.TheVariants as fault
 use Rattle.options.specs.Line.{rows, refusals}
-use Rattle.options.specs.Given.{is_set, level_of, number_of, list_of}
+use Rattle.options.specs.Given.{is_set, level_of, number_given, list_of}
 
 -- ---- words that `clap` takes and that are refused all the same
 
@@ -100,7 +100,7 @@ pub record Counts : Type 0 where
 unfoldable pub counts_of : List Row → Option Counts
 counts_of found =
     option_and_then (λ w. option_and_then (λ p. option_map (λ u. record { workers = w; per_host = p; max_urls = u })
-    (number_of (codes "max-urls") MAX_URLS DEFAULT_MAX_URLS found)) (number_of (codes "per-host") MAX_PER_HOST DEFAULT_PER_HOST found)) (number_of (codes "workers") MAX_WORKERS DEFAULT_WORKERS found)
+    (number_given (codes "max-urls") MAX_URLS DEFAULT_MAX_URLS found)) (number_given (codes "per-host") MAX_PER_HOST DEFAULT_PER_HOST found)) (number_given (codes "workers") MAX_WORKERS DEFAULT_WORKERS found)
 
 -- the start, or why it is no address
 unfoldable pub start_of : List Row → Result (List ℕ) AddressFault
@@ -194,8 +194,8 @@ order_of words = if are_taken (refusals words) then order_of_rows (rows words) e
 -- ---- what `read_order` answers
 
 -- what an order says
-abbrev pub said_by : Order → Ordered
-said_by order = record {
+abbrev pub ordered_by : Order → Ordered
+ordered_by order = record {
   start = order.plan.start;
   limit = order.plan.limit;
   span_hosts = order.plan.span_hosts;
@@ -229,6 +229,6 @@ without_kind (fault.Words kind) = words_refused
 without_kind other = other
 
 -- the result is the expected order, or the expected fault, unless memory ran out
-abbrev pub Answers : Result Order LineFault → Result Ordered LineFault → Type 0
-Answers result expected =
-    MatchResult result (λ order. expected ≡ Ok (said_by order)) (λ f. (expected ≡ Err (without_kind f)) ⊎ (f ≡ fault.Memory))
+abbrev pub AnswersOrder : Result Order LineFault → Result Ordered LineFault → Type 0
+AnswersOrder result expected =
+    MatchResult result (λ order. expected ≡ Ok (ordered_by order)) (λ f. (expected ≡ Err (without_kind f)) ⊎ (f ≡ fault.Memory))

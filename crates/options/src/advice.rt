@@ -2,7 +2,7 @@
 //! the version that they ask for.
 ghost use Rattle.std.specs.Prelude.{◌≡◌, ◌++◌, IfOk, codes, map, option_map, string_bytes};
 ghost use Rattle.std.specs.List.{flat_map};
-ghost use Rattle.options.specs.Advice.{advice_text, correction_text, no_text_advice, wrong_start, told_of_asked, told_of_kind, told_on, said, word_text};
+ghost use Rattle.options.specs.Advice.{advice_text, correction_text, no_text_advice, wrong_start, told_of_asked, told_of_kind, told_on, told_lines, word_text};
 ghost use Rattle.options.specs.inner.Advice.{told_by};
 
 use crate::fault::LineFault;
@@ -116,7 +116,7 @@ fn correction_text(
 
 // The lines of an advice on these words, with what was likely meant.
 fn said(alloc: Global, advice: Advice, hint: &str, words: &[&str]) -> Result<String, AllocError>
-    ensures { IfOk result (λ text. string_bytes text ≡ said (map (λ word. word.now) words.now) hint.now (told_by advice)) }
+    ensures { IfOk result (λ text. string_bytes text ≡ told_lines (map (λ word. word.now) words.now) hint.now (told_by advice)) }
 {
     match advice {
         Advice::Help => help_text(alloc),

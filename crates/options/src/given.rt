@@ -4,7 +4,7 @@ ghost use Rattle.clap.specs.Words.{found_of, rows_of, first_of};
 ghost use Rattle.follow_filters.specs.Elements.{ReadsElement};
 ghost use Rattle.follow_filters.specs.Levels.{number_in};
 ghost use Rattle.follow_filters.specs.Limits.{is_in_range};
-ghost use Rattle.options.specs.Given.{is_set, within, number_of, level_of, list_of};
+ghost use Rattle.options.specs.Given.{is_set, number_within, number_given, level_of, list_of};
 
 use clap::ArgMatches;
 use follow_filters::{Element, ElementFault, Elements, Limit};
@@ -32,7 +32,7 @@ fn number_in(text: &str) -> Option<u32>
 }
 
 fn within(most: u32, number: Option<u32>) -> Option<u32>
-    ensures value { result ≡ within most number }
+    ensures value { result ≡ number_within most number }
     ensures bounds { IfSome result (λ n. (0 < n) × (n ≤ most)) }
 {
     match number {
@@ -42,10 +42,10 @@ fn within(most: u32, number: Option<u32>) -> Option<u32>
 }
 
 /// The number that an option gives, from 1 to the most, or the default where it isn't given.
-#[tactic(auto, unfolding(crate::specs::Given::number_of))]
+#[tactic(auto, unfolding(crate::specs::Given::number_given))]
 pub(crate) fn number(matches: &ArgMatches, id: &str, most: u32, default: u32) -> Option<u32>
     requires { (0 < default) × (default ≤ most) }
-    ensures value { result ≡ number_of id.now most default (rows_of (found_of matches.now)) }
+    ensures value { result ≡ number_given id.now most default (rows_of (found_of matches.now)) }
     ensures bounds { IfSome result (λ n. (0 < n) × (n ≤ most)) }
 {
     match given(matches, id) {

@@ -11,7 +11,7 @@ ghost use Rattle.follow_filters.specs.declared.plan.TheConstants.{MAX_PER_HOST, 
 ghost use Rattle.options.specs.declared.order.TheConstants.{MAX_WORKERS};
 ghost use Rattle.follow_filters.specs.declared.limit.Limit.TheVariants.{AtMost};
 ghost use Rattle.options.specs.Given.{level_of, list_of};
-ghost use Rattle.options.specs.Order.{Answers, order_of, order_of_rows, are_good, is_parent_value, is_robots_value, both, counts_of, patterns_of, directories_of, domains_of, start_of, source_of, has_no_parent, has_robots_off, honours_robots, limit_within, ordered, said_by, folder_of, prefix_of};
+ghost use Rattle.options.specs.Order.{AnswersOrder, order_of, order_of_rows, are_good, is_parent_value, is_robots_value, both, counts_of, patterns_of, directories_of, domains_of, start_of, source_of, has_no_parent, has_robots_off, honours_robots, limit_within, ordered, ordered_by, folder_of, prefix_of};
 ghost use Rattle.options.specs.inner.Order.{StartsAt, FailsToStart, FailsToFilter, fault_of_kind};
 
 use crate::fault::LineFault;
@@ -299,7 +299,7 @@ fn fault_of(error: &Error) -> LineFault
 
 // The order of what is found for each option, or the lowest fault.
 fn order_of_matches(alloc: Global, matches: &ArgMatches) -> Result<Order, LineFault>
-    ensures { Answers result (order_of_rows (rows_of (found_of matches.now))) }
+    ensures { AnswersOrder result (order_of_rows (rows_of (found_of matches.now))) }
 {
     if let Some(kind) = word_fault(matches) {
         return Err(LineFault::Words(kind));
@@ -343,7 +343,7 @@ fn filled(
     requires prefix { paths.prefix ≡ prefix_of (rows_of (found_of matches.now)) }
     requires resume { paths.resume ≡ first_of (codes "resume") (rows_of (found_of matches.now)) }
     requires save { paths.save ≡ first_of (codes "save") (rows_of (found_of matches.now)) }
-    ensures { said_by result ≡ ordered (rows_of (found_of matches.now)) (record { workers = counts.workers; per_host = counts.per_host; max_urls = counts.max_urls })
+    ensures { ordered_by result ≡ ordered (rows_of (found_of matches.now)) (record { workers = counts.workers; per_host = counts.per_host; max_urls = counts.max_urls })
         level (filters.names.given, filters.names.excluded) (filters.places.given, filters.places.excluded) (filters.hosts.given, filters.hosts.excluded) start }
 {
     let Filters {
@@ -443,7 +443,7 @@ fn read_paths(alloc: Global, matches: &ArgMatches) -> Result<Paths, AllocError>
 /// Reads the words of a command line, without the program's name. Of several faults the lowest is
 /// named, in the order of `LineFault`, want of memory aside.
 pub fn read_order(alloc: Global, words: &[&str]) -> Result<Order, LineFault>
-    ensures { Answers result (order_of (map (λ w. w.now) words.now)) }
+    ensures { AnswersOrder result (order_of (map (λ w. w.now) words.now)) }
 {
     match parse(alloc, words) {
         Ok(matches) => order_of_matches(alloc, &matches),

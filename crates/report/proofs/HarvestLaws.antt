@@ -17,7 +17,7 @@ use Rattle.harvest.specs.Harvests.{Harvested}
 use Rattle.address.specs.AddressOrder.{IsBefore}
 use Rattle.harvest.specs.declared.entry.Entry.{Entry}
 use Rattle.report.specs.Report.{Line, Fate, Asked, Refused, AreAscending}
-use Rattle.report.specs.Entries.{fate_at, name_among, line_with, line_at, lines_of}
+use Rattle.report.specs.Entries.{fate_at, name_among, line_with, line_at, harvest_lines_of}
 use Rattle.report.proofs.ListLaws.{to_map, from_map, pairs_map, from_given, pairs_given, length-given}
 use Rattle.report.proofs.TableLaws.{found_entry}
 
@@ -114,15 +114,15 @@ line_is h names e (Some fate) line is =
       name = ap (λ (u : Text). name_among h.kept names u) (sym address) ∙ ap (λ (l : Line). l.name) same;
     }
 
-pub ascending_lines : (h : Harvested) (names : List (List ℕ)) → AreEntries h → AreAscending (lines_of h names)
+pub ascending_lines : (h : Harvested) (names : List (List ℕ)) → AreEntries h → AreAscending (harvest_lines_of h names)
 ascending_lines h names are =
     pairs_given (λ (e f : Entry). IsBefore e.address f.address) (λ (l m : Line). IsBefore l.address m.address) (line_at h names)
     (λ e f l m before left right.
     subst (λ (u : Text). IsBefore l.address u) (line_is h names f _ m right).address (subst (λ (u : Text). IsBefore u f.address) (line_is h names e _ l left).address before))
     h.entries (pairs_map (λ (e : Entry). e.address) IsBefore h.entries are.ascending)
 
-pub length-lines_of : (h : Harvested) (names : List (List ℕ)) → AreEntries h → length (lines_of h names) ≤ length h.state.entries
-length-lines_of h names are =
+pub length-harvest_lines_of : (h : Harvested) (names : List (List ℕ)) → AreEntries h → length (harvest_lines_of h names) ≤ length h.state.entries
+length-harvest_lines_of h names are =
     omega (
       arith,
       length-given (line_at h names) h.entries,

@@ -20,7 +20,7 @@ use Rattle.harvest.specs.Gathered.{AreEntries, AreRecords, ArePages}
 use Rattle.harvest.specs.Harvests.{Harvested}
 use Rattle.harvest.specs.Pages.{IsKept, is_success}
 use Rattle.harvest.specs.declared.entry.Entry.{Entry}
-use Rattle.report.specs.Entries.{fate_at, name_among, line_with, line_at, lines_of}
+use Rattle.report.specs.Entries.{fate_at, name_among, line_with, line_at, harvest_lines_of}
 use Rattle.report.specs.Named.{has_succeeded, is_to_keep, named_pages, names_in}
 use Rattle.report.specs.Report.{Line, Fate, Asked, Refused}
 use Rattle.report.proofs.HarvestLaws.{Holds, held, answered, unanswered, FateOf, fate_from, by_rules, by_record, line_is, ascending_lines}
@@ -147,7 +147,7 @@ answered_slot s u x is = go (lookup s.entries u) refl is
 
 -- what was answered has a line
 answered_line : (h : Harvested) (names : List (List ℕ)) → AreEntries h → AreRecords h → (u : Text) (x : Outcome) → (answers h.state).outcome u ≡ Some x
-    → (line : Line) × Contains (lines_of h names) line × (line.address ≡ u)
+    → (line : Line) × Contains (harvest_lines_of h names) line × (line.address ≡ u)
 answered_line h names are records u x is =
     let (slot, found, outcome) = answered_slot h.state u x is in
     let seen = Contains-permutation (seen_in h.state) (map said_by h.entries) (u, slot.depth, is_refused (condition_of slot.progress)) are.same
@@ -164,15 +164,15 @@ answered_line h names are records u x is =
     )
 
 -- a kept page has a line
-kept_line : (h : Harvested) (names : List (List ℕ)) → AreEntries h → AreRecords h → ArePages h → (u : Text) → Contains h.kept u → (line : Line) × Contains (lines_of h names) line × (line.address ≡ u)
+kept_line : (h : Harvested) (names : List (List ℕ)) → AreEntries h → AreRecords h → ArePages h → (u : Text) → Contains h.kept u → (line : Line) × Contains (harvest_lines_of h names) line × (line.address ≡ u)
 kept_line h names are records pages u held = go h.plan pages.kept
   where
-    go : (plan : Option Plan) → MatchOption plan (h.kept ≡ []) (λ plan. (v : Text) → Contains h.kept v ↔ IsKept plan (answers h.state) v) → (line : Line) × Contains (lines_of h names) line × (line.address ≡ u)
+    go : (plan : Option Plan) → MatchOption plan (h.kept ≡ []) (λ plan. (v : Text) → Contains h.kept v ↔ IsKept plan (answers h.state) v) → (line : Line) × Contains (harvest_lines_of h names) line × (line.address ≡ u)
     go None none = let (k, lt, at) = subst (λ (pages : List Text). Contains pages u) none held in absurd (omega arith)
     go (Some plan) so = let kept = (so u).0 held in answered_line h names are records u kept.0 kept.1
 
 -- the name of a line is that of its page among the kept ones
-named_among : (h : Harvested) (names : List (List ℕ)) (line : Line) → Contains (lines_of h names) line → name_among h.kept names line.address ≡ line.name
+named_among : (h : Harvested) (names : List (List ℕ)) (line : Line) → Contains (harvest_lines_of h names) line → name_among h.kept names line.address ≡ line.name
 named_among h names line among = let (e, there, is) = from_given (line_at h names) h.entries line among in (line_is h names e _ line is).name
 
 same_name : (o : Option (List ℕ)) → o ≡ option_map (λ name. name) o
@@ -180,19 +180,19 @@ same_name None = refl
 same_name (Some name) = refl
 
 -- the names of the lines are those that were handed in
-pub names_of_lines : (h : Harvested) (names : List (List ℕ)) → AreEntries h → AreRecords h → ArePages h → length names ≡ length h.kept → names_in (lines_of h names) ≡ names
+pub names_of_lines : (h : Harvested) (names : List (List ℕ)) → AreEntries h → AreRecords h → ArePages h → length names ≡ length h.kept → names_in (harvest_lines_of h names) ≡ names
 names_of_lines h names are records pages long =
-    given_alike (λ (line : Line). line.name) (of_name (λ (line : Line). line.address) (λ page name. name) h.kept names) (lines_of h names)
+    given_alike (λ (line : Line). line.name) (of_name (λ (line : Line). line.address) (λ page name. name) h.kept names) (harvest_lines_of h names)
     (λ line among. sym (named_among h names line among) ∙ same_name (name_among h.kept names line.address))
-    ∙ along (λ (line : Line). line.address) (λ page name. name) (lines_of h names) h.kept names (ascending_lines h names are) pages.ascending long (kept_line h names are records pages)
+    ∙ along (λ (line : Line). line.address) (λ page name. name) (harvest_lines_of h names) h.kept names (ascending_lines h names are) pages.ascending long (kept_line h names are records pages)
     ∙ paired_names h.kept names long
 
 -- the pages of the lines that have one are the kept pages
-pub pages_of_lines : (h : Harvested) (names : List (List ℕ)) → AreEntries h → AreRecords h → ArePages h → length names ≡ length h.kept → named_pages (lines_of h names) ≡ h.kept
+pub pages_of_lines : (h : Harvested) (names : List (List ℕ)) → AreEntries h → AreRecords h → ArePages h → length names ≡ length h.kept → named_pages (harvest_lines_of h names) ≡ h.kept
 pages_of_lines h names are records pages long =
-    given_alike (λ (line : Line). option_map (λ name. line.address) line.name) (of_name (λ (line : Line). line.address) (λ page name. page) h.kept names) (lines_of h names)
+    given_alike (λ (line : Line). option_map (λ name. line.address) line.name) (of_name (λ (line : Line). line.address) (λ page name. page) h.kept names) (harvest_lines_of h names)
     (λ line among. ap (option_map (λ name. line.address)) (sym (named_among h names line among)))
-    ∙ along (λ (line : Line). line.address) (λ page name. page) (lines_of h names) h.kept names (ascending_lines h names are) pages.ascending long (kept_line h names are records pages)
+    ∙ along (λ (line : Line). line.address) (λ page name. page) (harvest_lines_of h names) h.kept names (ascending_lines h names are) pages.ascending long (kept_line h names are records pages)
     ∙ paired_pages h.kept names long
 
 -- ---- which lines have a name
@@ -241,7 +241,7 @@ unnamed plan s kept names u kept_is none = has_no_name kept names u (λ held. le
 
 -- just the lines have a name whose page is to be kept
 pub line_to_keep : (plan : Plan) (h : Harvested) (names : List (List ℕ)) → AreEntries h → AreRecords h → IsOnce (keys h.state.entries) → length names ≡ length h.kept
-    → ((u : Text) → Contains h.kept u ↔ IsKept plan (answers h.state) u) → (line : Line) → Contains (lines_of h names) line → is_some line.name ≡ is_to_keep plan line
+    → ((u : Text) → Contains h.kept u ↔ IsKept plan (answers h.state) u) → (line : Line) → Contains (harvest_lines_of h names) line → is_some line.name ≡ is_to_keep plan line
 line_to_keep plan h names are records once long kept line among =
     let (e, there, is) = from_given (line_at h names) h.entries line among in
     let said = line_is h names e _ line is in

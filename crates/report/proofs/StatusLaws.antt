@@ -15,7 +15,7 @@ use Rattle.harvest.specs.Entries.{Seen, seen_of, seen_in, said_by, is_refused, r
 use Rattle.harvest.specs.Gathered.{AreEntries, AreRecords}
 use Rattle.harvest.specs.Harvests.{Harvested}
 use Rattle.harvest.specs.declared.entry.Entry.{Entry}
-use Rattle.report.specs.Entries.{fate_at, line_with, line_at, lines_of}
+use Rattle.report.specs.Entries.{fate_at, line_with, line_at, harvest_lines_of}
 use Rattle.report.specs.ExitStatus.{is_network_fault, exit_status, outcome_of, outcomes_in}
 use Rattle.report.specs.Report.{Line, Fate, Asked, Refused, is_failed}
 use Rattle.report.proofs.HarvestLaws.{Answers, answered, unanswered, at_place, fate_from, by_rules, by_record, line_is}
@@ -50,9 +50,9 @@ status_alike xs ys there back =
 -- ---- the outcomes of a harvest
 
 -- what a line tells was recorded
-told_recorded : (h : Harvested) (names : List (List ℕ)) → AreEntries h → (x : Outcome) → Contains (outcomes_in (lines_of h names)) x → Contains (map (λ (recorded : Recorded). recorded.1) h.records) x
+told_recorded : (h : Harvested) (names : List (List ℕ)) → AreEntries h → (x : Outcome) → Contains (outcomes_in (harvest_lines_of h names)) x → Contains (map (λ (recorded : Recorded). recorded.1) h.records) x
 told_recorded h names are x among =
-    let (line, there, is) = from_given (λ (line : Line). outcome_of line.fate) (lines_of h names) x among in
+    let (line, there, is) = from_given (λ (line : Line). outcome_of line.fate) (harvest_lines_of h names) x among in
     let (e, stands, gives) = from_given (line_at h names) h.entries line there in
     let said = line_is h names e _ line gives in
     let (k, lt, at) = stands in
@@ -78,7 +78,7 @@ recorded_fate h records once u x among false (Some i) free (y, is) =
     rw is (ap (λ (z : Outcome). Some (Asked z)) same)
 
 -- what is recorded is told by a line
-recorded_told : (h : Harvested) (names : List (List ℕ)) → AreEntries h → AreRecords h → IsOnce (keys h.state.entries) → (u : Text) (x : Outcome) → Contains h.records (u, x) → Contains (outcomes_in (lines_of h names)) x
+recorded_told : (h : Harvested) (names : List (List ℕ)) → AreEntries h → AreRecords h → IsOnce (keys h.state.entries) → (u : Text) (x : Outcome) → Contains h.records (u, x) → Contains (outcomes_in (harvest_lines_of h names)) x
 recorded_told h names are records once u x among =
     let said = answered h records once u x among in
     let seen = Contains-permutation (seen_in h.state) (map said_by h.entries) (u, said.slot.depth, is_refused (condition_of said.slot.progress)) are.same
@@ -88,7 +88,7 @@ recorded_told h names are records once u x among =
     let (k, lt, at) = there in
     let placed = subst (λ (v : Text). IsPlaceOf h.records v e.answer) named (subst (λ (z : Entry). IsPlaceOf h.records z.address z.answer) at (are.places k e lt)) in
     let fate = recorded_fate h records once u x among e.refused e.answer (free said (ap (λ (z : Seen). z.2) says)) placed in
-    to_given (λ (line : Line). outcome_of line.fate) (lines_of h names) (line_with h names e (Asked x)) x
+    to_given (λ (line : Line). outcome_of line.fate) (harvest_lines_of h names) (line_with h names e (Asked x)) x
     (to_given (line_at h names) h.entries e _ there (rw fate refl)) refl
   where
     free : {refused : Bool} → (said : Answers h.state u x) → refused ≡ is_refused (condition_of said.slot.progress) → refused ≡ false
@@ -100,9 +100,9 @@ recorded_told h names are records once u x among =
 
 -- the exit status is the same by the records as by the lines
 pub same_status : (h : Harvested) (names : List (List ℕ)) → AreEntries h → AreRecords h → IsOnce (keys h.state.entries)
-    → exit_status (map (λ recorded. recorded.1) h.records) ≡ exit_status (outcomes_in (lines_of h names))
+    → exit_status (map (λ recorded. recorded.1) h.records) ≡ exit_status (outcomes_in (harvest_lines_of h names))
 same_status h names are records once =
-    status_alike (map (λ (recorded : Recorded). recorded.1) h.records) (outcomes_in (lines_of h names))
+    status_alike (map (λ (recorded : Recorded). recorded.1) h.records) (outcomes_in (harvest_lines_of h names))
     (λ x among. let (r, there, is) = from_map (λ (recorded : Recorded). recorded.1) h.records x among in
-    subst (λ (z : Outcome). Contains (outcomes_in (lines_of h names)) z) is (recorded_told h names are records once r.0 r.1 there))
+    subst (λ (z : Outcome). Contains (outcomes_in (harvest_lines_of h names)) z) is (recorded_told h names are records once r.0 r.1 there))
     (told_recorded h names are)

@@ -29,5 +29,5 @@ abbrev pub line_at : Harvested → List (List ℕ) → Entry → Option Line
 line_at harvest names entry = option_map (line_with harvest names entry) (fate_at harvest.records entry.refused entry.answer)
 
 -- the lines of a harvest whose kept pages have these names, in the order of its entries
-abbrev pub lines_of : Harvested → List (List ℕ) → List Line
-lines_of harvest names = filter_map (line_at harvest names) harvest.entries
+abbrev pub harvest_lines_of : Harvested → List (List ℕ) → List Line
+harvest_lines_of harvest names = filter_map (line_at harvest names) harvest.entries

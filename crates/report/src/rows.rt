@@ -3,7 +3,7 @@ ghost use Rattle.std.specs.Prelude.{◌≡◌, ◌<◌, List, [], IsTrue, length
 ghost use Rattle.address.specs.AddressOrder.{IsAscending};
 ghost use Rattle.report.specs.inner.Fates.{fate_of};
 ghost use Rattle.harvest.specs.Gathered.{AreEntries, AreRecords};
-ghost use Rattle.report.specs.Entries.{name_among, fate_at, line_with, lines_of};
+ghost use Rattle.report.specs.Entries.{name_among, fate_at, line_with, harvest_lines_of};
 
 use address::Address;
 use fetcher::Outcome;
@@ -106,7 +106,7 @@ pub(crate) fn rows_of<'a>(
     names: &'a [String],
 ) -> Result<Vec<Row<'a>>, AllocError>
     requires { length names.now ≡ length harvest.now.kept }
-    ensures rows { IfOk result (λ rows. rows.items ≡ lines_of harvest.now (map string_bytes names.now)) }
+    ensures rows { IfOk result (λ rows. rows.items ≡ harvest_lines_of harvest.now (map string_bytes names.now)) }
     ensures entries { AreEntries harvest.now }
     ensures records { AreRecords harvest.now }
 {

@@ -3,7 +3,7 @@ ghost use Rattle.std.specs.Prelude.{◌≡◌, ◌++◌, IfOk, OnOk, length, map
 ghost use Rattle.harvest.specs.Gathered.{AreEntries, AreRecords};
 ghost use Rattle.report.specs.Report.{outcome_word, is_failed, fate_word, was_asked, was_refused, has_failed, is_kept, report_text, counts_text, line_text, count_of, count_kept};
 ghost use Rattle.report.specs.inner.Fates.{fate_of};
-ghost use Rattle.report.specs.Entries.{lines_of};
+ghost use Rattle.report.specs.Entries.{harvest_lines_of};
 ghost use Rattle.report.specs.inner.OutcomeWord.{word_bytes};
 
 use crate::rows::{Fate, Row, rows_of};
@@ -201,7 +201,7 @@ pub(crate) fn push_report(text: &mut String, rows: &[Row<'_>]) -> Result<(), All
 /// `fetched A kept B refused C failed D`. The error is that memory is wanting.
 pub fn report_text(alloc: Global, harvest: &Harvest, names: &[String]) -> Result<String, AllocError>
     requires { length names.now ≡ length harvest.now.kept }
-    ensures text { IfOk result (λ text. string_bytes text ≡ report_text (lines_of harvest.now (map string_bytes names.now))) }
+    ensures text { IfOk result (λ text. string_bytes text ≡ report_text (harvest_lines_of harvest.now (map string_bytes names.now))) }
     ensures entries { AreEntries harvest.now }
     ensures records { AreRecords harvest.now }
 {

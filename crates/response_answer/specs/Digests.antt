@@ -75,14 +75,14 @@ base_or at None = at
 base_or at (Some base) = base
 
 -- the base of a document: what its first `base` names, or its own address (HTML Standard, section 2.4.3)
-abbrev pub base_of : AddressText → Option (List ℕ) → AddressText
-base_of at None = at
-base_of at (Some text) = base_or at (address_or_none (join_address at text))
+abbrev pub document_base : AddressText → Option (List ℕ) → AddressText
+document_base at None = at
+document_base at (Some text) = base_or at (address_or_none (join_address at text))
 
 -- the edges of a page: none where robots rules are honoured and it asks that its links aren't followed
 abbrev pub page_edges : Bool → AddressText → Links → List Edge
 page_edges robots at found =
-    if robots && found.nofollow then [] else edges_from (base_of at found.base) found.links
+    if robots && found.nofollow then [] else edges_from (document_base at found.base) found.links
 
 -- what a body that isn't a redirect's answers
 abbrev pub page_or_leaf : Bool → AddressText → ResponseParts → Outcome

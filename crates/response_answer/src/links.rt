@@ -1,7 +1,7 @@
 //! The edges of a page, from what a scan of its body found (HTML Standard, section 2.4.3).
 ghost use Rattle.std.specs.Prelude.{◌≡◌, ◌++◌, ◌&&◌, IfOk, OnOk, option_map, string_bytes};
 ghost use Rattle.html_links.specs.Scanning.{scanned};
-ghost use Rattle.response_answer.specs.Digests.{address_or_none, named_from, edge_kind, edges_from, base_of, base_or, page_edges};
+ghost use Rattle.response_answer.specs.Digests.{address_or_none, named_from, edge_kind, edges_from, document_base, base_or, page_edges};
 
 use address::{Address, AddressFault};
 use fetcher::{Edge, EdgeKind, Edges};
@@ -69,7 +69,7 @@ fn edges_from(alloc: Global, base: &Address, links: &[Found]) -> Result<Vec<Edge
 
 // What the first `base` of a document names from its address, where it has one.
 fn named_base(at: &Address, base: &Option<String>) -> Result<Option<Address>, AllocError>
-    ensures { IfOk result (λ b. base_or at.now b ≡ base_of at.now (option_map string_bytes base.now)) }
+    ensures { IfOk result (λ b. base_or at.now b ≡ document_base at.now (option_map string_bytes base.now)) }
 {
     match base {
         Some(text) => joined(at, text.as_str()),

@@ -28,7 +28,7 @@ use Rattle.workers.specs.Retrieval.{IsRetrieved, IsPartRetrieved, IsStopped}
 use Rattle.workers.specs.Sites.{Fits, IsCompleteFor}
 use Rattle.local_tree.specs.Names.{IsNaming}
 use Rattle.local_tree.specs.PlainNames.{plain_name_of}
-use Rattle.report.specs.Entries.{lines_of}
+use Rattle.report.specs.Entries.{harvest_lines_of}
 use Rattle.report.specs.ExitStatus.{exit_status, outcomes_in}
 use Rattle.report.specs.Named.{named_pages}
 use Rattle.report.proofs.NamedLaws.{names_of_lines, pages_of_lines, line_to_keep}
@@ -36,7 +36,7 @@ use Rattle.report.proofs.StatusLaws.{same_status}
 use Rattle.workers.specs.Crews.{AllFit}
 use Rattle.workers.specs.declared.retrieval.Halt.{Halt}
 use Rattle.retriever.specs.Parts.{shown_of}
-use Rattle.retriever.specs.inner.Parts.{IsOutputOf, IsToldOf, IsRead, is_borne_out}
+use Rattle.retriever.specs.inner.Parts.{IsOutputOf, IsRetrievalTold, IsRead, is_borne_out}
 use Rattle.retriever.specs.Retrieved.{IsPartOf, AreEventsOf, AreShown, HasStopped, Retrieved, Stopped, Finishes}
 use Rattle.retriever.specs.declared.told.Output.{Output}
 use Rattle.std.specs.declared.alloc.AllocError.{AllocError}
@@ -70,19 +70,19 @@ none_shown false trace is = refl
 
 -- the lines of a harvest have the names of its kept pages
 pub are_named : (plan : Plan) (h : Harvested) (names : List (List ℕ)) → AreEntries h → AreRecords h → ArePages h → h.plan ≡ Some plan → IsOnce (keys h.state.entries)
-    → IsNaming (map plain_name_of h.kept) names → AreNamed plan (lines_of h names)
+    → IsNaming (map plain_name_of h.kept) names → AreNamed plan (harvest_lines_of h names)
 are_named plan h names are records pages follows once naming =
     let long : length names ≡ length h.kept = naming.count ∙ length-map h.kept plain_name_of in
     let kept = subst (λ (o : Option Plan). MatchOption o (h.kept ≡ []) (λ plan. (u : Text) → Contains h.kept u ↔ IsKept plan (answers h.state) u)) follows pages.kept in
     record {
-      kept = λ k d lt. line_to_keep plan h names are records once long kept _ (Contains-get_or (lines_of h names) k d lt);
-      names = subst (λ (given : List (List ℕ)). IsNaming (map plain_name_of (named_pages (lines_of h names))) given) (sym (names_of_lines h names are records pages long))
+      kept = λ k d lt. line_to_keep plan h names are records once long kept _ (Contains-get_or (harvest_lines_of h names) k d lt);
+      names = subst (λ (given : List (List ℕ)). IsNaming (map plain_name_of (named_pages (harvest_lines_of h names))) given) (sym (names_of_lines h names are records pages long))
           (subst (λ (kept : List Text). IsNaming (map plain_name_of kept) names) (sym (pages_of_lines h names are records pages long)) naming);
     }
 
 pub retrieved : (order : Order) (may_say : Text → Outcome → List ℕ → Type 0) (may_rule : Text → RuleSetValue → Type 0) (whole : Answers) (asks : List Ask) (h : Harvested) (names : List (List ℕ))
     → Fits may_say may_rule whole → IsRetrieved may_say may_rule order.plan asks h → IsRead h → IsCompleteFor (policy order.plan) whole h.state → AreByCrew order.workers h.trace → IsNaming (map plain_name_of h.kept) names
-    → Finishes order whole (shown_of order.trace h.trace) (Retrieved (lines_of h names))
+    → Finishes order whole (shown_of order.trace h.trace) (Retrieved (harvest_lines_of h names))
 retrieved order may_say may_rule whole asks h names fits is read complete by_one naming =
     let sound = subst (λ (o : Option Plan). IfSome o (λ plan. IsSound (policy plan) h.state)) is.follows read.3 in (
       are_lines (policy order.plan) whole h names read.0 read.1 sound.addresses sound.few complete is.quiet,
@@ -91,7 +91,7 @@ retrieved order may_say may_rule whole asks h names fits is read complete by_one
     )
 
 -- the exit status of a report is that of its lines
-pub status_of : (order : Order) (h : Harvested) (names : List (List ℕ)) → IsRead h → h.plan ≡ Some order.plan → exit_status (map (λ recorded. recorded.1) h.records) ≡ exit_status (outcomes_in (lines_of h names))
+pub status_of : (order : Order) (h : Harvested) (names : List (List ℕ)) → IsRead h → h.plan ≡ Some order.plan → exit_status (map (λ recorded. recorded.1) h.records) ≡ exit_status (outcomes_in (harvest_lines_of h names))
 status_of order h names read follows =
     same_status h names read.0 read.1 (subst (λ (o : Option Plan). IfSome o (λ plan. IsSound (policy plan) h.state)) follows read.3).addresses
 
@@ -128,12 +128,12 @@ pub told_finishes : (order : Order) (may_say : Text → Outcome → List ℕ →
     → IfErr r (λ halt. halt.cause ≢ why.Mismatch → IsStopped may_say may_rule order.plan asks halt.cause halt.harvest)
     → IfErr r (λ halt. halt.cause ≡ why.Full → HasTooMany (policy order.plan) whole) → (order.workers ≡ 1 → IfErr r (λ halt. halt.cause ≢ why.Mismatch))
     → IfOk r (λ h. AreByCrew order.workers h.trace) × IfErr r (λ halt. halt.cause ≢ why.Mismatch → AreByCrew order.workers halt.harvest.trace)
-    → IfOk result (λ output. IsToldOf order.trace r (string_bytes output.text) output.status) → IfOk result (λ output. IsOutputOf order whole (string_bytes output.text) output.status)
+    → IfOk result (λ output. IsRetrievalTold order.trace r (string_bytes output.text) output.status) → IfOk result (λ output. IsOutputOf order whole (string_bytes output.text) output.status)
 told_finishes order may_say may_rule whole asks (Ok h) (Ok output) fits is complete stop many never by told =
     let (read, names, naming, text, status) = told in
     record {
       shown = shown_of order.trace h.trace;
-      finish = Retrieved (lines_of h names);
+      finish = Retrieved (harvest_lines_of h names);
       finishes = retrieved order may_say may_rule whole asks h names fits is read complete by.0 naming;
       text_is = text;
       status_is = status ∙ status_of order h names read is.follows;

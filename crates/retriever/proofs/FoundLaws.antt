@@ -7,7 +7,7 @@ use Rattle.std.proofs.lemmas.List.Elements.{Contains-get_or}
 use Rattle.std.proofs.lemmas.List.Sorted.{Contains-permutation}
 use Rattle.fetcher.specs.declared.outcome.Outcome.{Outcome}
 use Rattle.frontier_core.specs.Tables.{Text, lookup, keys, IsOnce}
-use Rattle.frontier_core.specs.Routes.{Policy, Answers, IsDepth, is_open}
+use Rattle.frontier_core.specs.Routes.{Policy, Answers, IsDepth, is_open_address}
 use Rattle.frontier_core.specs.Machine.{State, Slot, Progress, Parked, Waiting, Out, Answered, Due, Offered, answers, slot_outcome, outcome_in, is_done, IsQuiet}
 use Rattle.frontier_core.specs.Machine as progress
 use Rattle.frontier_core.specs.Readers.{Recorded, entry_of, record_of}
@@ -18,11 +18,11 @@ use Rattle.harvest.specs.Harvests.{Harvested}
 use Rattle.workers.specs.Sites.{IsCompleteFor}
 use Rattle.harvest.specs.declared.entry.Entry.{Entry}
 use Rattle.report.specs.Report.{Line, Fate, Asked, Refused}
-use Rattle.report.specs.Entries.{fate_at, name_among, line_at, lines_of}
+use Rattle.report.specs.Entries.{fate_at, name_among, line_at, harvest_lines_of}
 use Rattle.retriever.specs.Site.{IsFate, AreLines}
 use Rattle.report.proofs.TableLaws.{found_stands}
 use Rattle.report.proofs.ListLaws.{to_map, from_map, to_given, from_given}
-use Rattle.report.proofs.HarvestLaws.{Holds, held, answered, unanswered, fate_from, by_rules, by_record, line_is, ascending_lines, length-lines_of}
+use Rattle.report.proofs.HarvestLaws.{Holds, held, answered, unanswered, fate_from, by_rules, by_record, line_is, ascending_lines, length-harvest_lines_of}
 
 some_of : {X : Type 0} (o : Option X) → IsSome o → (x : X) × (o ≡ Some x)
 some_of None h = absurd (false≢true h)
@@ -54,7 +54,7 @@ fate_refused : (p : Policy) (s : State) (whole : Answers) → IsCompleteFor p wh
     → IsFate p whole u Refused
 fate_refused p s whole complete u e found is =
     let none : (answers s).outcome u ≡ None = ap slot_outcome found ∙ is in
-    not_true (is_open p whole u) (λ opens.
+    not_true (is_open_address p whole u) (λ opens.
     (let there : IsSome ((answers s).outcome u) = (complete.wanted u).1 ((complete.candidates u).0 (some_is _ e found), opens) in
     false≢true (subst IsSome none there)))
 
@@ -69,7 +69,7 @@ fate_asked p s whole complete u e x found is =
 
 -- what a line says is so of the whole site
 line_true : (p : Policy) (whole : Answers) (h : Harvested) (names : List (List ℕ)) → AreEntries h → AreRecords h → IsOnce (keys h.state.entries) → IsCompleteFor p whole h.state
-    → (line : Line) → Contains (lines_of h names) line → IsDepth p whole line.address line.depth × IsFate p whole line.address line.fate
+    → (line : Line) → Contains (harvest_lines_of h names) line → IsDepth p whole line.address line.depth × IsFate p whole line.address line.fate
 line_true p whole h names are records once complete line among =
     let (e, there, is) = from_given (line_at h names) h.entries line among in
     let said = line_is h names e _ line is in
@@ -93,7 +93,7 @@ line_true p whole h names are records once complete line among =
 
 -- an entry of which something became has a line
 has_line : (h : Harvested) (names : List (List ℕ)) (e : Entry) (fate : Fate) → Contains h.entries e → fate_at h.records e.refused e.answer ≡ Some fate
-    → Contains (lines_of h names) (record { address = e.address; depth = e.depth; fate = fate; name = name_among h.kept names e.address })
+    → Contains (harvest_lines_of h names) (record { address = e.address; depth = e.depth; fate = fate; name = name_among h.kept names e.address })
 has_line h names e fate there is = to_given (line_at h names) h.entries e _ there (rw is refl)
 
 -- something became of each entry of a quiet frontier
@@ -117,7 +117,7 @@ something h are records e there slot found refusal done =
 
 -- a candidate of the whole site has a line
 candidate_line : (p : Policy) (whole : Answers) (h : Harvested) (names : List (List ℕ)) → AreEntries h → AreRecords h → IsOnce (keys h.state.entries) → IsCompleteFor p whole h.state → IsQuiet h.state
-    → (u : Text) (slot : Slot) → lookup h.state.entries u ≡ Some slot → (line : Line) × Contains (lines_of h names) line × (line.address ≡ u)
+    → (u : Text) (slot : Slot) → lookup h.state.entries u ≡ Some slot → (line : Line) × Contains (harvest_lines_of h names) line × (line.address ≡ u)
 candidate_line p whole h names are records once complete quiet u slot found =
     let stands = found_stands h.state.entries u slot found in
     let seen = Contains-permutation (seen_in h.state) (map said_by h.entries) (u, slot.depth, is_refused (condition_of slot.progress)) are.same
@@ -130,14 +130,14 @@ candidate_line p whole h names are records once complete quiet u slot found =
     (record { address = e.address; depth = e.depth; fate = fate; name = name_among h.kept names e.address }, has_line h names e fate there became, named)
 
 pub are_lines : (p : Policy) (whole : Answers) (h : Harvested) (names : List (List ℕ)) → AreEntries h → AreRecords h → IsOnce (keys h.state.entries) → length h.state.entries ≤ p.max_urls
-    → IsCompleteFor p whole h.state → IsQuiet h.state → AreLines p whole (lines_of h names)
+    → IsCompleteFor p whole h.state → IsQuiet h.state → AreLines p whole (harvest_lines_of h names)
 are_lines p whole h names are records once few complete quiet = record {
   ascending = ascending_lines h names are;
-  each = λ k d lt. line_true p whole h names are records once complete _ (Contains-get_or (lines_of h names) k d lt);
+  each = λ k d lt. line_true p whole h names are records once complete _ (Contains-get_or (harvest_lines_of h names) k d lt);
   all = λ u candidate.
       let (slot, found) = some_of (lookup h.state.entries u) ((complete.candidates u).1 candidate) in
       let (line, there, named) = candidate_line p whole h names are records once complete quiet u slot found in
       let (k, lt, at) = there in
       (k, line, lt, at, named);
-  few = omega (arith, length-lines_of h names are, few);
+  few = omega (arith, length-harvest_lines_of h names are, few);
 }

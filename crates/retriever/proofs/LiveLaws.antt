@@ -27,11 +27,11 @@ use Rattle.local_tree.specs.Folders.{Holding}
 use Rattle.local_tree.specs.Names.{IsNaming}
 use Rattle.local_tree.specs.PlainNames.{plain_name_of}
 use Rattle.local_tree.specs.SiteFiles.{IsWhole, IsTorn}
-use Rattle.report.specs.Entries.{lines_of}
+use Rattle.report.specs.Entries.{harvest_lines_of}
 use Rattle.report.specs.Named.{names_in}
 use Rattle.report.specs.Report.{report_text}
 use Rattle.report.proofs.NamedLaws.{names_of_lines, pages_of_lines}
-use Rattle.retriever.specs.Found.{Crew, crew_of, MaySay, MayRule, asks_of, EndsFound, Finds, Outside, LiveEnd, Finished, Torn, live_text, live_status, torn_line}
+use Rattle.retriever.specs.Found.{Crew, crew_of, MaySay, MaySayRules, asks_of, EndsFound, Finds, Outside, LiveEnd, Finished, Torn, live_text, live_status, torn_line}
 use Rattle.retriever.specs.Live.{AreOfCrew, IsRetrievedLive, IsStoppedLive, EndsLive, Lives}
 use Rattle.retriever.specs.Parts.{shown_of}
 use Rattle.retriever.specs.Retrieved.{Retrieved, Stopped}
@@ -55,8 +55,8 @@ complete_for p s complete = record {
 
 -- ---- a harvest
 
-retrieved : {F : Type 0} (crew : Crew F) (plan : Plan) (h : Harvested) (names : List (List ℕ)) → IsRetrieved (MaySay crew) (MayRule crew) plan (asks_of crew) h → IsRead h
-    → IsNaming (map plain_name_of h.kept) names → AreOfCrew crew h.trace → IsRetrievedLive crew plan h.trace (lines_of h names) h.bodies
+retrieved : {F : Type 0} (crew : Crew F) (plan : Plan) (h : Harvested) (names : List (List ℕ)) → IsRetrieved (MaySay crew) (MaySayRules crew) plan (asks_of crew) h → IsRead h
+    → IsNaming (map plain_name_of h.kept) names → AreOfCrew crew h.trace → IsRetrievedLive crew plan h.trace (harvest_lines_of h names) h.bodies
 retrieved crew plan h names is read naming by =
     let sound = subst (λ (o : Option Plan). IfSome o (λ plan. IsSound (policy plan) h.state)) is.follows read.3 in
     let long : length names ≡ length h.kept = naming.count ∙ length-map h.kept plain_name_of in
@@ -66,7 +66,7 @@ retrieved crew plan h names is read naming by =
       by = by;
       quiet = is.quiet;
       found = record {
-        asked = are_asked (MaySay crew) (MayRule crew) plan (asks_of crew) h.state is.once is.recorded is.complete is.told;
+        asked = are_asked (MaySay crew) (MaySayRules crew) plan (asks_of crew) h.state is.once is.recorded is.complete is.told;
         reported = are_lines (policy plan) (answers h.state) h names read.0 read.1 sound.addresses sound.few (complete_for (policy plan) h.state is.complete) is.quiet;
         named = are_named plan h names read.0 read.1 read.2 is.follows sound.addresses naming;
         kept = subst (λ (pages : List Text). AllZip (IsBodyOf (MaySay crew) (answers h.state)) pages h.bodies) (sym (pages_of_lines h names read.0 read.1 read.2 long)) is.bodies;
@@ -74,10 +74,10 @@ retrieved crew plan h names is read naming by =
     }
 
 -- the names in the lines of a harvest are those that were given
-given : (h : Harvested) (names : List (List ℕ)) → IsRead h → IsNaming (map plain_name_of h.kept) names → names ≡ names_in (lines_of h names)
+given : (h : Harvested) (names : List (List ℕ)) → IsRead h → IsNaming (map plain_name_of h.kept) names → names ≡ names_in (harvest_lines_of h names)
 given h names read naming = sym (names_of_lines h names read.0 read.1 read.2 (naming.count ∙ length-map h.kept plain_name_of))
 
-part_retrieved : {F : Type 0} (crew : Crew F) (plan : Plan) (cause : Cause) (h : Harvested) → IsPartRetrieved (MaySay crew) (MayRule crew) plan (asks_of crew) cause h
+part_retrieved : {F : Type 0} (crew : Crew F) (plan : Plan) (cause : Cause) (h : Harvested) → IsPartRetrieved (MaySay crew) (MaySayRules crew) plan (asks_of crew) cause h
     → (cause ≡ why.Full → HasTooMany (policy plan) (answers h.state)) → AreOfCrew crew h.trace → IsStoppedLive crew plan cause h.trace
 part_retrieved crew plan cause h part many by = record {
   state = h.state;
@@ -101,10 +101,10 @@ module _ {F : Type 0} (crew : Crew F) (order : Order) (old new : Holding) (IsTol
   abbrev pub EndsTold : Type 0
   EndsTold = (shown : List Event) × (ending : LiveEnd) × EndsLive crew order old new shown ending × IsTold (trace_text shown ++ live_text ending) (live_status ending)
 
-  ended : (h : Harvested) → IsRetrieved (MaySay crew) (MayRule crew) order.plan (asks_of crew) h → AreOfCrew crew h.trace → IsPutOf IsTold order.trace (Ok h) old new → EndsTold
+  ended : (h : Harvested) → IsRetrieved (MaySay crew) (MaySayRules crew) order.plan (asks_of crew) h → AreOfCrew crew h.trace → IsPutOf IsTold order.trace (Ok h) old new → EndsTold
   ended h is by (inl (same, told)) = ([], Finished (Stopped why.Memory), (made_once (asks_of crew) is.once, inl refl, inl same), told)
   ended h is by (inr (read, names, naming, inl (whole, quiet, told))) =
-      let lines = lines_of h names in (
+      let lines = harvest_lines_of h names in (
         shown_of order.trace h.trace,
         Finished (Retrieved lines),
         (
@@ -117,7 +117,7 @@ module _ {F : Type 0} (crew : Crew F) (order : Order) (old new : Holding) (IsTol
         subst (λ (wanted : ℕ). IsTold (trace_text (shown_of order.trace h.trace) ++ report_text lines) wanted) (status_of order h names read is.follows) told,
       )
   ended h is by (inr (read, names, naming, inr (whole, torn, inl told))) =
-      let lines = lines_of h names in (
+      let lines = harvest_lines_of h names in (
         shown_of order.trace h.trace,
         Torn lines whole,
         (
@@ -137,7 +137,7 @@ module _ {F : Type 0} (crew : Crew F) (order : Order) (old new : Holding) (IsTol
       inl refl,
       inr (
         h.trace,
-        lines_of h names,
+        harvest_lines_of h names,
         h.bodies,
         whole,
         retrieved crew order.plan h names is read naming by,
@@ -148,12 +148,12 @@ module _ {F : Type 0} (crew : Crew F) (order : Order) (old new : Holding) (IsTol
   )
 
   -- a stop whose trace there was memory for
-  part_stopped : (cause : Cause) (h : Harvested) → IsStopped (MaySay crew) (MayRule crew) order.plan (asks_of crew) cause h → (cause ≡ why.Full → HasTooMany (policy order.plan) (answers h.state))
+  part_stopped : (cause : Cause) (h : Harvested) → IsStopped (MaySay crew) (MaySayRules crew) order.plan (asks_of crew) cause h → (cause ≡ why.Full → HasTooMany (policy order.plan) (answers h.state))
       → AreOfCrew crew h.trace → (shown_of order.trace h.trace ≡ []) ⊎ ((events : List Event) × IsStoppedLive crew order.plan cause events × (shown_of order.trace h.trace ≡ shown_of order.trace events))
   part_stopped cause h (inl part) many by = inr (h.trace, part_retrieved crew order.plan cause h part many by, refl)
   part_stopped cause h (inr empty) many by = inl (none_shown order.trace h.trace empty.trace)
 
-  stopped : (cause : Cause) (h : Harvested) → (cause ≢ why.Mismatch → IsStopped (MaySay crew) (MayRule crew) order.plan (asks_of crew) cause h) → (cause ≡ why.Full → HasTooMany (policy order.plan) (answers h.state))
+  stopped : (cause : Cause) (h : Harvested) → (cause ≢ why.Mismatch → IsStopped (MaySay crew) (MaySayRules crew) order.plan (asks_of crew) cause h) → (cause ≡ why.Full → HasTooMany (policy order.plan) (answers h.state))
       → (length crew.first ≡ 1 → cause ≢ why.Mismatch) → (cause ≢ why.Mismatch → AreOfCrew crew h.trace) → new ≡ old → IsHaltTold IsTold order.trace (record { cause = cause; harvest = h }) → EndsTold
   stopped why.Full h stop many one by same (inl told) =
       elim (stop (λ is. cc)) [
@@ -161,15 +161,15 @@ module _ {F : Type 0} (crew : Crew F) (order : Order) (old new : Holding) (IsTol
         | inr empty ↦ (let memory = empty.memory in cc)
       ]
   stopped why.Full h stop many one by same (inr told) =
-      ([], Finished (Stopped why.Memory), (stopped_once (MaySay crew) (MayRule crew) order.plan (asks_of crew) why.Full h (stop (λ is. cc)), inl refl, inl same), told)
+      ([], Finished (Stopped why.Memory), (stopped_once (MaySay crew) (MaySayRules crew) order.plan (asks_of crew) why.Full h (stop (λ is. cc)), inl refl, inl same), told)
   stopped why.Memory h stop many one by same (inl told) = (
     shown_of order.trace h.trace,
     Finished (Stopped why.Memory),
-    (stopped_once (MaySay crew) (MayRule crew) order.plan (asks_of crew) why.Memory h (stop (λ is. cc)), part_stopped why.Memory h (stop (λ is. cc)) many (by (λ is. cc)), inl same),
+    (stopped_once (MaySay crew) (MaySayRules crew) order.plan (asks_of crew) why.Memory h (stop (λ is. cc)), part_stopped why.Memory h (stop (λ is. cc)) many (by (λ is. cc)), inl same),
     told,
   )
   stopped why.Memory h stop many one by same (inr told) =
-      ([], Finished (Stopped why.Memory), (stopped_once (MaySay crew) (MayRule crew) order.plan (asks_of crew) why.Memory h (stop (λ is. cc)), inl refl, inl same), told)
+      ([], Finished (Stopped why.Memory), (stopped_once (MaySay crew) (MaySayRules crew) order.plan (asks_of crew) why.Memory h (stop (λ is. cc)), inl refl, inl same), told)
   stopped why.Mismatch h stop many one by same (inl told) = ([], Finished (Stopped why.Mismatch), ((λ is. one is refl), refl, same), told)
   stopped why.Mismatch h stop many one by same (inr told) = ([], Finished (Stopped why.Mismatch), ((λ is. one is refl), refl, same), told)
 
@@ -177,8 +177,8 @@ module _ {F : Type 0} (crew : Crew F) (order : Order) (old new : Holding) (IsTol
 
 module _ {F : Type 0} (crew : Crew F) where
   -- what is put and told of what a crew retrieved is an end, by what is known of its fetchers
-  pub crew_ends : (order : Order) (r : Result Harvested Halt) (old new : Holding) (IsTold : List ℕ → ℕ → Type 0) → IfOk r (IsRetrieved (MaySay crew) (MayRule crew) order.plan (asks_of crew))
-      → IfErr r (λ halt. halt.cause ≢ why.Mismatch → IsStopped (MaySay crew) (MayRule crew) order.plan (asks_of crew) halt.cause halt.harvest)
+  pub crew_ends : (order : Order) (r : Result Harvested Halt) (old new : Holding) (IsTold : List ℕ → ℕ → Type 0) → IfOk r (IsRetrieved (MaySay crew) (MaySayRules crew) order.plan (asks_of crew))
+      → IfErr r (λ halt. halt.cause ≢ why.Mismatch → IsStopped (MaySay crew) (MaySayRules crew) order.plan (asks_of crew) halt.cause halt.harvest)
       → IfErr r (λ halt. halt.cause ≡ why.Full → HasTooMany (policy order.plan) (answers halt.harvest.state) × IsOverfull (policy order.plan) halt.harvest.state)
       → (length crew.first ≡ 1 → IfErr r (λ halt. halt.cause ≢ why.Mismatch))
       → IfOk r (λ h. AreOfCrew crew h.trace) × IfErr r (λ halt. halt.cause ≢ why.Mismatch → AreOfCrew crew halt.harvest.trace)

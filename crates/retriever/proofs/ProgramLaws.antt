@@ -3,7 +3,7 @@ use Rattle.std.proofs.Common.{◌≡◌, ◌≢◌, ◌∙◌, ℕ, Bool, true, 
 use Rattle.std.specs.Prelude.{Result, Ok, Err, OnOk, OnErr}
 use Rattle.std.specs.Io.KnownBytes.{Appends}
 use Rattle.std.proofs.KnownBytes.{Appends-nil}
-use Rattle.options.specs.Order.{Ordered, order_of, said_by}
+use Rattle.options.specs.Order.{Ordered, order_of, ordered_by}
 use Rattle.options.specs.declared.fault.LineFault.{LineFault}
 use Rattle.options.specs.declared.fault.LineFault.TheVariants as line
 use Rattle.options.specs.declared.order.Order.{Order}
@@ -11,8 +11,8 @@ use Rattle.options.specs.declared.order.Source.{Source}
 use Rattle.options.specs.declared.order.Source.TheVariants as source
 use Rattle.retriever.specs.Advice.{said_of}
 use Rattle.retriever.specs.Order.{IsRefused}
-use Rattle.retriever.specs.Parts.{IsRefusal}
-use Rattle.retriever.specs.Program.{Outputs, IsExplained, IsTold}
+use Rattle.retriever.specs.Parts.{IsFaultDelivered}
+use Rattle.retriever.specs.Program.{Outputs, IsExplained, IsFaultTold}
 use Rattle.retriever.specs.inner.Program.{Streams, Starts}
 use Rattle.retriever.specs.Run.{Runs}
 use Rattle.streams.specs.Streams.{AppendsFront}
@@ -56,17 +56,17 @@ is_live source.Recorded never = absurd (never record_is_not_live)
 
 -- ---- want of memory before a run
 
-pub runs_memory : (words : List (List ℕ)) (known old new : Option (List ℕ)) (status : ℕ) → IsRefusal old new fault.Memory status → Runs words known old new status
+pub runs_memory : (words : List (List ℕ)) (known old new : Option (List ℕ)) (status : ℕ) → IsFaultDelivered old new fault.Memory status → Runs words known old new status
 runs_memory words known old new status refusal = runs_refused words known old new fault.Memory status (ends_memory words known) refusal
 
-pub told_memory : {E : Type 0} (words : List (List ℕ)) (before after : Outputs E) (status : ℕ) → after.errors ≡ before.errors → IsRefusal before.written after.written fault.Memory status
-    → IsTold words before after status
+pub told_memory : {E : Type 0} (words : List (List ℕ)) (before after : Outputs E) (status : ℕ) → after.errors ≡ before.errors → IsFaultDelivered before.written after.written fault.Memory status
+    → IsFaultTold words before after status
 told_memory words before after status same (inl delivered) = (fault.Line line.Memory, inr refl, inr (delivered, same))
 told_memory words before after status same (inr delivered) = (fault.Line line.Memory, inr refl, inr (delivered, same))
 
 -- words whose fault is explained are refused
 refusal_of : {E : Type 0} (words : List (List ℕ)) (wrong : Fault) (before after : Outputs E) (status : ℕ) → IsExplained words wrong before after status
-    → IsRefusal before.written after.written wrong status
+    → IsFaultDelivered before.written after.written wrong status
 refusal_of words wrong before after status (inl told) = inl told.0
 refusal_of words wrong before after status (inr told) = inr told.0
 
@@ -75,7 +75,7 @@ refusal_of words wrong before after status (inr told) = inr told.0
 module _ {R E : Type 0} (Lives : List (List ℕ) → Type 0) (before after : Streams R E) (status : ℕ) where
   -- want of memory before the words are read
   pub starts_memory : after.reader ≡ before.reader → after.outputs.errors ≡ before.outputs.errors → (words : List (List ℕ)) → Lives words
-      → IsRefusal before.outputs.written after.outputs.written fault.Memory status → Starts Lives before after status words
+      → IsFaultDelivered before.outputs.written after.outputs.written fault.Memory status → Starts Lives before after status words
   starts_memory unread quiet words lives refusal = record {
     runs = λ not. runs_memory words before.remaining before.outputs.written after.outputs.written status refusal;
     lives = λ live. lives;
@@ -89,23 +89,23 @@ module _ {R E : Type 0} (Lives : List (List ℕ) → Type 0) (before after : Str
   starts_as given words same starts = subst (λ (w : List (List ℕ)). Starts Lives before after status w) same starts
 
   -- words that order something: of a site on the network, or of one that the input tells
-  pub starts_order : after.outputs.errors ≡ before.outputs.errors → (words : List (List ℕ)) (order : Order) → order_of words ≡ Ok (said_by order)
+  pub starts_order : after.outputs.errors ≡ before.outputs.errors → (words : List (List ℕ)) (order : Order) → order_of words ≡ Ok (ordered_by order)
       → (order.source ≢ source.Live → Runs words before.remaining before.outputs.written after.outputs.written status) → (order.source ≡ source.Live → Lives words)
       → (order.source ≡ source.Live → after.reader ≡ before.reader) → Starts Lives before after status words
   starts_order quiet words order says runs lives unread = record {
-    runs = λ not. runs (λ is. not (said_by order, says, is));
+    runs = λ not. runs (λ is. not (ordered_by order, says, is));
     lives = λ live.
         let (ordered, said, is) = live in
-        let same : ordered ≡ said_by order = cc in
+        let same : ordered ≡ ordered_by order = cc in
         lives (sym (ap (λ (o : Ordered). o.source) same) ∙ is);
     unread = λ no. unread (is_live order.source (λ not. no (order, (says, not))));
-    told = λ no none. absurd (none (said_by order, says, is_live order.source (λ not. no (order, (says, not)))));
+    told = λ no none. absurd (none (ordered_by order, says, is_live order.source (λ not. no (order, (says, not)))));
     quiet = λ either. quiet;
   }
 
   -- words that order nothing, or for which there is no memory
   pub starts_wrong : after.reader ≡ before.reader → (words : List (List ℕ)) (wrong : LineFault) → IsRefused words (fault.Line wrong)
-      → (IsRefusal before.outputs.written after.outputs.written fault.Memory status → Lives words) → IsExplained words (fault.Line wrong) before.outputs after.outputs status
+      → (IsFaultDelivered before.outputs.written after.outputs.written fault.Memory status → Lives words) → IsExplained words (fault.Line wrong) before.outputs after.outputs status
       → (said_of words (fault.Line wrong) ≡ [] → after.outputs.errors ≡ before.outputs.errors) → Starts Lives before after status words
   starts_wrong unread words wrong refused lives told quiet =
       let refusal = refusal_of words (fault.Line wrong) before.outputs after.outputs status told in record {
@@ -113,11 +113,11 @@ module _ {R E : Type 0} (Lives : List (List ℕ) → Type 0) (before after : Str
             runs_refused words before.remaining before.outputs.written after.outputs.written (fault.Line wrong) status (ends_refused words before.remaining (fault.Line wrong) refused) refusal;
         lives = λ live.
             let (ordered, says, is) = live in
-            lives (subst (λ (w : LineFault). IsRefusal before.outputs.written after.outputs.written (fault.Line w) status) (only_memory words ordered wrong says refused) refusal);
+            lives (subst (λ (w : LineFault). IsFaultDelivered before.outputs.written after.outputs.written (fault.Line w) status) (only_memory words ordered wrong says refused) refusal);
         unread = λ no. unread;
         told = λ no none. (fault.Line wrong, refused, told);
         quiet = λ either. elim either [
-          | inl input ↦ (let (order, ordered) = input in quiet (ap (λ (w : LineFault). said_of words (fault.Line w)) (only_memory words (said_by order) wrong ordered.0 refused)))
+          | inl input ↦ (let (order, ordered) = input in quiet (ap (λ (w : LineFault). said_of words (fault.Line w)) (only_memory words (ordered_by order) wrong ordered.0 refused)))
           | inr live ↦ (let (ordered, says, is) = live in quiet (ap (λ (w : LineFault). said_of words (fault.Line w)) (only_memory words ordered wrong says refused)))
         ];
       }

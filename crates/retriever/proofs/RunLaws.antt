@@ -5,15 +5,15 @@ use Rattle.frontier_core.specs.Machine.{IsQuiet}
 use Rattle.frontier_core.specs.Routes.{Answers}
 use Rattle.frontier_core.specs.declared.event.Cause.TheVariants as cause
 use Rattle.frontier_core.specs.declared.event.Event.{Event}
-use Rattle.options.specs.Order.{order_of, said_by}
+use Rattle.options.specs.Order.{order_of, ordered_by}
 use Rattle.options.specs.declared.fault.LineFault.TheVariants as line
 use Rattle.options.specs.declared.order.Order.{Order}
 use Rattle.options.specs.declared.order.Source.{Source}
 use Rattle.options.specs.declared.order.Source.TheVariants as source
 use Rattle.report.specs.Trace.{trace_text}
 use Rattle.retriever.specs.InputFound.{Form, TellsFault, IsFoundOf, FindsIn}
-use Rattle.retriever.specs.Order.{IsOrdered, IsRefused}
-use Rattle.retriever.specs.Parts.{IsDelivered, IsRefusal}
+use Rattle.retriever.specs.Order.{IsInputOrder, IsRefused}
+use Rattle.retriever.specs.Parts.{IsDelivered, IsFaultDelivered}
 use Rattle.retriever.specs.inner.Parts.{IsOutput, IsUnfit}
 use Rattle.retriever.specs.Retrieved.{Finish, Retrieved, Stopped, Finishes, AreShown, AreEventsOf, HasStopped}
 use Rattle.retriever.specs.Run.{Comes, Ending, EndsFor, Failed, Ended, Runs, ending_text, ending_status}
@@ -60,7 +60,7 @@ ends_refused words known wrong refused = let (input, is) = some_input known in (
 
 -- ---- the input
 
-pub ends_input : (words : List (List ℕ)) (known : Option (List ℕ)) (order : Order) (wrong : Fault) → IsOrdered words order → TellsFault (IsWrongBy order.source order.plan.robots) known wrong
+pub ends_input : (words : List (List ℕ)) (known : Option (List ℕ)) (order : Order) (wrong : Fault) → IsInputOrder words order → TellsFault (IsWrongBy order.source order.plan.robots) known wrong
     → EndsFor words known (Failed wrong)
 ends_input words known order (fault.Line w) ordered told = absurd told
 ends_input words known order fault.NotText ordered told = absurd told
@@ -72,8 +72,8 @@ ends_input words known order (fault.Input w) ordered (input, is, within, bad) = 
 ends_input words known order fault.Memory ordered told = ends_memory words known
 
 -- what an order and the reader come to instead of a retrieval is the run's
-pub ends_unfit : (words : List (List ℕ)) (known : Option (List ℕ)) (order : Order) (wrong : Fault) → order_of words ≡ Ok (said_by order) → IsUnfit order known wrong → EndsFor words known (Failed wrong)
-ends_unfit words known order wrong says (inl (live, is)) = let (input, among) = some_input known in (input, among, subst (λ (w : Fault). Comes words input w) (sym is) (said_by order, says, live))
+pub ends_unfit : (words : List (List ℕ)) (known : Option (List ℕ)) (order : Order) (wrong : Fault) → order_of words ≡ Ok (ordered_by order) → IsUnfit order known wrong → EndsFor words known (Failed wrong)
+ends_unfit words known order wrong says (inl (live, is)) = let (input, among) = some_input known in (input, among, subst (λ (w : Fault). Comes words input w) (sym is) (ordered_by order, says, live))
 ends_unfit words known order wrong says (inr (not, told)) = ends_input words known order wrong (says, not) told
 
 -- ---- the retrieval
@@ -83,7 +83,7 @@ told_not_live : (order : Order) (known : Option (List ℕ)) (text : List ℕ) (s
 told_not_live order known text status (site, (input, is, within, told), output) = λ live. subst (λ (s : Source). IsToldBy s order.plan.robots input site) live told
 
 -- what is told of the retrieval is the text of its ending
-pub ends_output : (words : List (List ℕ)) (known : Option (List ℕ)) (order : Order) (text : List ℕ) (status : ℕ) → order_of words ≡ Ok (said_by order)
+pub ends_output : (words : List (List ℕ)) (known : Option (List ℕ)) (order : Order) (text : List ℕ) (status : ℕ) → order_of words ≡ Ok (ordered_by order)
     → IsOutput (IsToldBy order.source order.plan.robots) order known text status
     → (ending : Ending) × EndsFor words known ending × (text ≡ ending_text ending) × (status ≡ ending_status ending)
 ends_output words known order text status says (site, (input, is, within, told), output) = (
@@ -99,14 +99,14 @@ delivered : (before after : Option (List ℕ)) (text : List ℕ) (wanted status 
 delivered before after text wanted status ending is is_status told =
     subst (λ (n : ℕ). IsDelivered before after (ending_text ending) n status) is_status (subst (λ (t : List ℕ). IsDelivered before after t wanted status) is told)
 
-pub runs_output : (words : List (List ℕ)) (known before after : Option (List ℕ)) (order : Order) (text : List ℕ) (wanted status : ℕ) → order_of words ≡ Ok (said_by order)
+pub runs_output : (words : List (List ℕ)) (known before after : Option (List ℕ)) (order : Order) (text : List ℕ) (wanted status : ℕ) → order_of words ≡ Ok (ordered_by order)
     → IsOutput (IsToldBy order.source order.plan.robots) order known text wanted → IsDelivered before after text wanted status → Runs words known before after status
 runs_output words known before after order text wanted status says output told =
     let (ending, ends, is, is_status) = ends_output words known order text wanted says output in
     record { ending = ending; ends = ends; written = delivered before after text wanted status ending is is_status told }
 
 -- the line of a fault is a run's that comes to it
-pub runs_refused : (words : List (List ℕ)) (known before after : Option (List ℕ)) (wrong : Fault) (status : ℕ) → EndsFor words known (Failed wrong) → IsRefusal before after wrong status
+pub runs_refused : (words : List (List ℕ)) (known before after : Option (List ℕ)) (wrong : Fault) (status : ℕ) → EndsFor words known (Failed wrong) → IsFaultDelivered before after wrong status
     → Runs words known before after status
 runs_refused words known before after wrong status ends (inl told) = record { ending = Failed wrong; ends = ends; written = told }
 runs_refused words known before after wrong status ends (inr told) = record { ending = Failed fault.Memory; ends = ends_memory words known; written = told }
@@ -145,7 +145,7 @@ module _ (form : Form) (order : Order) (known before after : Option (List ℕ)) 
     written = delivered before after text wanted status (Ended (trace_text output.shown) output.finish) output.text_is output.status_is told;
   }
 
-  finds_fault : (wrong : Fault) (status : ℕ) → TellsFault form.has_fault known wrong → IsRefusal before after wrong status → FindsIn form order known before after status
+  finds_fault : (wrong : Fault) (status : ℕ) → TellsFault form.has_fault known wrong → IsFaultDelivered before after wrong status → FindsIn form order known before after status
   finds_fault wrong status tells (inl told) = record { ending = Failed wrong; ends = tells; written = told }
   finds_fault wrong status tells (inr told) = record { ending = Failed fault.Memory; ends = tt; written = told }
 
@@ -162,7 +162,7 @@ finds_told s order known before after text wanted status is output told =
     (subst (λ (x : Source). IsOutput (IsToldBy x order.plan.robots) order known text wanted) is output) told
 
 pub finds_unfit : (s : Source) (order : Order) (known before after : Option (List ℕ)) (wrong : Fault) (status : ℕ) → order.source ≡ s → (s ≢ source.Live) → IsUnfit order known wrong
-    → IsRefusal before after wrong status → FindsIn (form_by s order.plan.robots) order known before after status
+    → IsFaultDelivered before after wrong status → FindsIn (form_by s order.plan.robots) order known before after status
 finds_unfit s order known before after wrong status is other (inl (live, none)) told = absurd (other (sym is ∙ live))
 finds_unfit s order known before after wrong status is other (inr (not, tells)) told =
     finds_fault (form_by s order.plan.robots) order known before after wrong status

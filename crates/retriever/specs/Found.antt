@@ -44,8 +44,8 @@ abbrev pub MaySay : {F : Type 0} → Crew F → Text → Outcome → List ℕ �
 MaySay crew = SomeSays crew.means crew.first crew.left
 
 -- some fetcher that was asked for the origin's rules may say that they are these
-abbrev pub MayRule : {F : Type 0} → Crew F → Text → RuleSetValue → Type 0
-MayRule crew = SomeRules crew.means crew.first crew.left
+abbrev pub MaySayRules : {F : Type 0} → Crew F → Text → RuleSetValue → Type 0
+MaySayRules crew = SomeRules crew.means crew.first crew.left
 
 -- what the fetchers were asked between, all together
 abbrev pub asks_of : {F : Type 0} → Crew F → List Ask
@@ -56,7 +56,7 @@ asks_of crew = all_gained crew.means crew.first crew.left
 -- Just this is recorded of what the fetchers were asked, each ask made once. The lines are those of the breadth-first retrieval of
 -- what is recorded, and the bodies those of the pages with names, each one that the fetchers may have answered.
 pub record IsFound {F : Type 0} (crew : Crew F) (plan : Plan) (recorded_as : Answers) (lines : List Line) (bodies : List (List ℕ)) : Type 0 where
-  pub asked : AreAsked (MaySay crew) (MayRule crew) plan (asks_of crew) recorded_as
+  pub asked : AreAsked (MaySay crew) (MaySayRules crew) plan (asks_of crew) recorded_as
   pub reported : AreLines (policy plan) recorded_as lines
   pub named : AreNamed plan lines
   pub kept : AllZip (IsBodyOf (MaySay crew) recorded_as) (named_pages lines) bodies
@@ -67,7 +67,7 @@ pub record IsPartFound {F : Type 0} (crew : Crew F) (plan : Plan) (recorded_as :
   pub once : AreMadeOnce (asks_of crew)
   pub wanted : (u : Text) → Contains (asks_of crew) (ask.Page u) → IsWanted (policy plan) recorded_as u
   pub needed : (o : Text) → Contains (asks_of crew) (ask.Rules o) → IsNeeded (policy plan) recorded_as o
-  pub told : IsTold (MaySay crew) (MayRule crew) recorded_as
+  pub told : IsTold (MaySay crew) (MaySayRules crew) recorded_as
 
 -- ---- what it comes to
 

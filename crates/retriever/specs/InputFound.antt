@@ -33,8 +33,8 @@ abbrev pub record_form : Bool → Form
 record_form robots = record { tells = IsRecordOf robots; has_fault = IsFaultOfRecord robots }
 
 -- what the reader has left tells this site
-abbrev pub TellsOf : (List ℕ → SiteAnswers → Type 0) → Option (List ℕ) → SiteAnswers → Type 0
-TellsOf IsOf known site = (input : List ℕ) × IsInput known input × (length input ≤ MAX_INPUT) × IsOf input site
+abbrev pub TellsSite : (List ℕ → SiteAnswers → Type 0) → Option (List ℕ) → SiteAnswers → Type 0
+TellsSite IsOf known site = (input : List ℕ) × IsInput known input × (length input ≤ MAX_INPUT) × IsOf input site
 
 -- what the reader has left comes to this fault
 abbrev pub TellsFault : (List ℕ → InputFault → Type 0) → Option (List ℕ) → Fault → Type 0
@@ -59,7 +59,7 @@ IsFoundOf order whole (Stopped cause.Mismatch) = order.workers ≢ 1
 abbrev pub EndsOn : Form → Order → Option (List ℕ) → Ending → Type 0
 EndsOn form order known (Failed wrong) = TellsFault form.has_fault known wrong
 EndsOn form order known (Ended trace finish) =
-    (order.trace ≡ false → trace ≡ []) × (site : SiteAnswers) × TellsOf form.tells known site × IsFoundOf order (whole_of site) finish
+    (order.trace ≡ false → trace ≡ []) × (site : SiteAnswers) × TellsSite form.tells known site × IsFoundOf order (whole_of site) finish
 
 -- A run by an order, of an input of a form: it comes to an ending, whose text the writer gained, or a front of it where it failed.
 pub record FindsIn (form : Form) (order : Order) (known old new : Option (List ℕ)) (status : ℕ) : Type 0 where

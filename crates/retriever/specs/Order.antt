@@ -1,6 +1,6 @@
 -- What the words of a run order of a site that its input tells, or what is wrong with them.
 use Rattle.std.specs.Prelude.{◌≡◌, ◌≢◌, ◌⊎◌, ℕ, List, Ok, Err}
-use Rattle.options.specs.Order.{Ordered, order_of, said_by, without_kind}
+use Rattle.options.specs.Order.{Ordered, order_of, ordered_by, without_kind}
 use Rattle.options.specs.declared.fault.LineFault.TheVariants as line
 use Rattle.options.specs.declared.order.Order.{Order}
 use Rattle.options.specs.declared.order.Source.TheVariants as source
@@ -8,16 +8,16 @@ use Rattle.retriever.specs.declared.fault.Fault.{Fault}
 use Rattle.retriever.specs.declared.fault.Fault.TheVariants as fault
 
 -- the words order just this, of a site that isn't on the network
-abbrev pub IsOrdered : List (List ℕ) → Order → Type 0
-IsOrdered words order = (order_of words ≡ Ok (said_by order)) × (order.source ≢ source.Live)
+abbrev pub IsInputOrder : List (List ℕ) → Order → Type 0
+IsInputOrder words order = (order_of words ≡ Ok (ordered_by order)) × (order.source ≢ source.Live)
 
 -- the words order something of a site that the input tells
 abbrev pub AreForInput : List (List ℕ) → Type 0
-AreForInput words = (order : Order) × IsOrdered words order
+AreForInput words = (order : Order) × IsInputOrder words order
 
 -- the words order just this, of a site on the network
 abbrev pub IsLiveOrder : List (List ℕ) → Order → Type 0
-IsLiveOrder words order = (order_of words ≡ Ok (said_by order)) × (order.source ≡ source.Live)
+IsLiveOrder words order = (order_of words ≡ Ok (ordered_by order)) × (order.source ≡ source.Live)
 
 -- the words order something of a site on the network
 abbrev pub AreForLive : List (List ℕ) → Type 0

@@ -11,8 +11,8 @@ abbrev pub IsDelivered : Option (List ℕ) → Option (List ℕ) → List ℕ �
 IsDelivered old new text wanted status = ((status ≡ wanted) × Appends old new text) ⊎ ((status ≡ 1) × AppendsFront old new text)
 
 -- the line of the fault is delivered with its status, or that of want of memory
-abbrev pub IsRefusal : Option (List ℕ) → Option (List ℕ) → Fault → ℕ → Type 0
-IsRefusal old new wrong status =
+abbrev pub IsFaultDelivered : Option (List ℕ) → Option (List ℕ) → Fault → ℕ → Type 0
+IsFaultDelivered old new wrong status =
     IsDelivered old new (fault_words wrong ++ codes "\n") (fault_status wrong) status
     ⊎ IsDelivered old new (codes "stopped memory\n") 1 status
 

@@ -5,7 +5,7 @@ use Rattle.std.specs.declared.io.ErrorKind.TheVariants.{OutOfMemory}
 use Rattle.retriever.specs.Advice.{said_of}
 use Rattle.options.specs.declared.order.Order.{Order}
 use Rattle.retriever.specs.Order.{IsLiveOrder, IsRefused}
-use Rattle.retriever.specs.Parts.{IsDelivered, IsRefusal}
+use Rattle.retriever.specs.Parts.{IsDelivered, IsFaultDelivered}
 use Rattle.retriever.specs.Run.{fault_words, fault_status}
 use Rattle.retriever.specs.Systems.{Means, LivesIn}
 use Rattle.streams.specs.Streams.{AppendsFront}
@@ -39,12 +39,12 @@ IsExplained words wrong before after status =
     ⊎ (IsDelivered before.written after.written (codes "stopped memory\n") 1 status × (after.errors ≡ before.errors))
 
 -- what is wrong with the words is told, in its line and to a person
-abbrev pub IsTold : {E : Type 0} → List (List ℕ) → Outputs E → Outputs E → ℕ → Type 0
-IsTold words before after status = (wrong : Fault) × IsRefused words wrong × IsExplained words wrong before after status
+abbrev pub IsFaultTold : {E : Type 0} → List (List ℕ) → Outputs E → Outputs E → ℕ → Type 0
+IsFaultTold words before after status = (wrong : Fault) × IsRefused words wrong × IsExplained words wrong before after status
 
 -- ---- a site on the network
 
 -- the live retrieval that the words order, or the line of want of memory before it
 abbrev pub LivesFor : {S F D V : Type 0} → Means S F D V → Option (List ℕ) → Option (List ℕ) → ℕ → List (List ℕ) → Type 0
 LivesFor m before after status words =
-    ((order : Order) × IsLiveOrder words order × LivesIn m order before after status) ⊎ IsRefusal before after fault.Memory status
+    ((order : Order) × IsLiveOrder words order × LivesIn m order before after status) ⊎ IsFaultDelivered before after fault.Memory status

@@ -13,7 +13,7 @@ use Rattle.options.specs.declared.fault.LineFault.{LineFault}
 use Rattle.options.specs.declared.fault.LineFault.TheVariants as line
 use Rattle.options.specs.declared.order.Order.{Order}
 use Rattle.retriever.specs.declared.input_run.TheConstants.{MAX_INPUT}
-use Rattle.retriever.specs.Order.{IsOrdered, AreForInput, AreForLive}
+use Rattle.retriever.specs.Order.{IsInputOrder, AreForInput, AreForLive}
 use Rattle.report.specs.ExitStatus.{exit_status, outcomes_in}
 use Rattle.report.specs.Report.{report_text}
 use Rattle.retriever.specs.Retrieved.{Finish, Retrieved, Stopped, Finishes}
@@ -35,7 +35,7 @@ Comes words input (fault.Read reading.Long) = AreForInput words × (MAX_INPUT < 
 Comes words input (fault.Read reading.Failed) = AreForInput words
 Comes words input (fault.Read reading.Memory) = Unit {0}
 Comes words input (fault.Input wrong) =
-    (order : Order) × IsOrdered words order × (length input ≤ MAX_INPUT) × IsWrongBy order.source order.plan.robots input wrong
+    (order : Order) × IsInputOrder words order × (length input ≤ MAX_INPUT) × IsWrongBy order.source order.plan.robots input wrong
 Comes words input fault.Memory = Unit {0}
 
 -- ---- texts and statuses
@@ -132,7 +132,7 @@ FinishesOn order input shown finish =
 -- the words and the input come to this ending
 abbrev pub Ends : List (List ℕ) → List ℕ → Ending → Type 0
 Ends words input (Failed wrong) = Comes words input wrong
-Ends words input (Ended trace finish) = (order : Order) × IsOrdered words order × (shown : List Event) × (trace ≡ trace_text shown) × FinishesOn order input shown finish
+Ends words input (Ended trace finish) = (order : Order) × IsInputOrder words order × (shown : List Event) × (trace ≡ trace_text shown) × FinishesOn order input shown finish
 
 -- the words and what the reader has left come to this ending
 abbrev pub EndsFor : List (List ℕ) → Option (List ℕ) → Ending → Type 0

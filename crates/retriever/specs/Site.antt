@@ -2,14 +2,14 @@
 use Rattle.std.specs.Prelude.{◌≡◌, ◌≤◌, ℕ, Bool, false, List, Some, All, Any, IsTrue, is_some, length, map}
 use Rattle.fetcher.specs.Sites.{SiteAnswers}
 use Rattle.site_maps.specs.Lines.{Statement}
-use Rattle.site_maps.specs.Maps.{lines_of, IsMap, answers_of, rules_of, says_of, IsFault as IsFaultOfMap}
+use Rattle.site_maps.specs.Maps.{text_lines_of, IsMap, answers_of, rules_of, says_of, IsFault as IsFaultOfMap}
 use Rattle.site_inputs.specs.declared.input_fault.InputFault.{InputFault}
 use Rattle.site_records.specs.Entries.{Entry}
 use Rattle.site_records.specs.Records.{RecordedAnswers, IsRecord, answers_of as recorded_answers, rules_of as recorded_rules, says_of as record_says, IsFault as IsFaultOfRecord}
 use Rattle.options.specs.declared.order.Source.{Source}
 use Rattle.options.specs.declared.order.Source.TheVariants as source
 use Rattle.frontier_core.specs.Tables.{Text}
-use Rattle.frontier_core.specs.Routes.{Policy, Answers, IsCandidate, IsDepth, is_open}
+use Rattle.frontier_core.specs.Routes.{Policy, Answers, IsCandidate, IsDepth, is_open_address}
 use Rattle.follow_filters.specs.declared.plan.Plan.{Plan}
 use Rattle.local_tree.specs.Names.{IsNaming}
 use Rattle.local_tree.specs.PlainNames.{plain_name_of}
@@ -32,7 +32,7 @@ site_recorded said = without_bodies (record_says (recorded_answers said) (record
 
 -- the input is a map, of this site
 abbrev pub IsMapOf : List ℕ → SiteAnswers → Type 0
-IsMapOf input site = (said : List Statement) × IsMap (lines_of input) said × (site ≡ site_told said)
+IsMapOf input site = (said : List Statement) × IsMap (text_lines_of input) said × (site ≡ site_told said)
 
 -- the input is a record, of this site; where robots are honoured, a page that forbids it isn't followed
 abbrev pub IsRecordOf : Bool → List ℕ → SiteAnswers → Type 0
@@ -59,8 +59,8 @@ whole_of site = record { outcome = λ u. Some (site.outcome u); rules = λ o. So
 -- what becomes of a candidate: it is asked for, with the site's outcome, unless its origin's robots rules refuse it
 -- (RFC 9309, section 2.2.2)
 abbrev pub IsFate : Policy → Answers → Text → Fate → Type 0
-IsFate p m u (Asked x) = IsTrue (is_open p m u) × (m.outcome u ≡ Some x)
-IsFate p m u Refused = is_open p m u ≡ false
+IsFate p m u (Asked x) = IsTrue (is_open_address p m u) × (m.outcome u ≡ Some x)
+IsFate p m u Refused = is_open_address p m u ≡ false
 
 -- The lines of what is known of a site: one for each candidate, in the order of the addresses' texts, with its least
 -- depth and what becomes of it (GNU Wget manual, Recursive Download); no more than the plan lets be held.

@@ -4,11 +4,11 @@ ghost use Rattle.site_maps.specs.Maps.{says_of, IsFault as IsFaultOfMap};
 ghost use Rattle.site_records.specs.Records.{says_of as record_says, IsFault as IsFaultOfRecord};
 ghost use Rattle.frontier_core.specs.Routes.{Answers};
 ghost use Rattle.workers.specs.Sites.{Fits};
-ghost use Rattle.options.specs.Order.{order_of, said_by};
+ghost use Rattle.options.specs.Order.{order_of, ordered_by};
 ghost use Rattle.retriever.specs.Order.{AreForInput};
-ghost use Rattle.retriever.specs.InputFound.{TellsOf, TellsFault, FindsIn, map_form, record_form};
+ghost use Rattle.retriever.specs.InputFound.{TellsSite, TellsFault, FindsIn, map_form, record_form};
 ghost use Rattle.retriever.specs.Site.{IsMapOf, IsRecordOf, IsToldBy, without_bodies};
-ghost use Rattle.retriever.specs.Parts.{IsDelivered, IsRefusal};
+ghost use Rattle.retriever.specs.Parts.{IsDelivered, IsFaultDelivered};
 ghost use Rattle.retriever.specs.inner.Parts.{IsOutput, IsOutputOf, IsUnfit};
 ghost use Rattle.retriever.specs.Run.{Runs};
 
@@ -29,7 +29,7 @@ pub(crate) const MAX_INPUT: usize = 1_073_741_824;
 
 // The site of the map that is the input.
 fn map_of<R: Read>(alloc: Global, reader: &mut R) -> Result<MapSite, Fault>
-    ensures ok { IfOk result (λ site. TellsOf IsMapOf (R.remaining reader.old) (says_of site.answers site.rules)) }
+    ensures ok { IfOk result (λ site. TellsSite IsMapOf (R.remaining reader.old) (says_of site.answers site.rules)) }
     ensures err { IfErr result (TellsFault IsFaultOfMap (R.remaining reader.old)) }
 {
     let input = read_input(alloc, reader, MAX_INPUT)?;
@@ -38,7 +38,7 @@ fn map_of<R: Read>(alloc: Global, reader: &mut R) -> Result<MapSite, Fault>
 
 // The site of the record that is the input, by whether robots are honoured. The record's own bytes are dropped.
 fn record_of<R: Read>(alloc: Global, reader: &mut R, robots: bool) -> Result<RecordedSite, Fault>
-    ensures ok { IfOk result (λ site. TellsOf (IsRecordOf robots) (R.remaining reader.old) (without_bodies (record_says site.answers site.rules))) }
+    ensures ok { IfOk result (λ site. TellsSite (IsRecordOf robots) (R.remaining reader.old) (without_bodies (record_says site.answers site.rules))) }
     ensures err { IfErr result (TellsFault (IsFaultOfRecord robots) (R.remaining reader.old)) }
 {
     let input = read_input(alloc, reader, MAX_INPUT)?;
@@ -119,7 +119,7 @@ pub(crate) fn deliver<W: Write>(writer: &mut W, text: &[u8], status: u8) -> u8
 
 /// Writes the line of a fault, and gives its status; where memory runs out, the line of that.
 pub(crate) fn refuse<W: Write>(alloc: Global, fault: Fault, writer: &mut W) -> u8
-    ensures { IsRefusal (W.contents writer.old) (W.contents writer.new) fault result }
+    ensures { IsFaultDelivered (W.contents writer.old) (W.contents writer.new) fault result }
 {
     match fault_text(alloc, fault) {
         Ok(text) => deliver(writer, text.as_bytes(), fault.status()),
@@ -147,7 +147,7 @@ pub fn run_of_order<H: Threads + Wait + Sync, R: Read, W: Write>(
         → FindsIn (record_form order.now.plan.robots) order.now (R.remaining reader.old) (W.contents writer.old) (W.contents writer.new) result }
 
     // By the words that order it, with the events that led there.
-    ensures runs { (words : List (List ℕ)) → order_of words ≡ Ok (said_by order.now)
+    ensures runs { (words : List (List ℕ)) → order_of words ≡ Ok (ordered_by order.now)
         → Runs words (R.remaining reader.old) (W.contents writer.old) (W.contents writer.new) result }
     ensures unread { order.now.source ≡ Source.Live → reader.new ≡ reader.old }
 {

@@ -2,10 +2,10 @@
 ghost use Rattle.std.specs.Prelude.{◌≡◌, ◌≢◌, ◌⊎◌, ◌++◌, ℕ, List, [], codes, IfOk, IfErr, Ok, drop, map, string_bytes};
 ghost use Rattle.std.specs.IoError.{error_kind};
 ghost use Rattle.std.specs.Vec.Iter.{into_iter_items};
-ghost use Rattle.options.specs.Order.{order_of, said_by};
+ghost use Rattle.options.specs.Order.{order_of, ordered_by};
 ghost use Rattle.retriever.specs.Advice.{said_of};
 ghost use Rattle.retriever.specs.Order.{AreForInput, AreForLive};
-ghost use Rattle.retriever.specs.Program.{IsExplained, IsTold, LivesFor, outputs, words_behind, words_fault};
+ghost use Rattle.retriever.specs.Program.{IsExplained, IsFaultTold, LivesFor, outputs, words_behind, words_fault};
 ghost use Rattle.retriever.specs.inner.Program.{Starts, all_streams};
 ghost use Rattle.retriever.specs.Run.{Runs, fault_words};
 ghost use Rattle.retriever.specs.Systems.{means};
@@ -131,9 +131,9 @@ fn run_order<H: Threads + Wait + Sync, S: System, R: Read, W: Write>(
     reader: &mut R,
     writer: &mut W,
 ) -> u8
-    ensures runs { order.now.source ≢ Source.Live → (words : List (List ℕ)) → order_of words ≡ Ok (said_by order.now)
+    ensures runs { order.now.source ≢ Source.Live → (words : List (List ℕ)) → order_of words ≡ Ok (ordered_by order.now)
         → Runs words (R.remaining reader.old) (W.contents writer.old) (W.contents writer.new) result }
-    ensures lives { order.now.source ≡ Source.Live → (words : List (List ℕ)) → order_of words ≡ Ok (said_by order.now)
+    ensures lives { order.now.source ≡ Source.Live → (words : List (List ℕ)) → order_of words ≡ Ok (ordered_by order.now)
         → LivesFor (means S.System system.now S.Fetcher.Fetcher S.Fetcher.noted S.Folder.Folder S.Record.Write) (W.contents writer.old) (W.contents writer.new) result words }
     ensures unread { order.now.source ≡ Source.Live → reader.new ≡ reader.old }
 {
@@ -227,7 +227,7 @@ pub fn run_program<H: Threads + Wait + Sync, S: System, R: Read, W: Write, E: Wr
         → LivesFor (means S.System system.now S.Fetcher.Fetcher S.Fetcher.noted S.Folder.Folder S.Record.Write) (W.contents writer.old) (W.contents writer.new) result (words_behind (into_iter_items all))) }
     ensures unread { IfOk args (λ all. ¬ AreForInput (words_behind (into_iter_items all)) → reader.new ≡ reader.old) }
     ensures told { IfOk args (λ all. ¬ AreForInput (words_behind (into_iter_items all)) → ¬ AreForLive (words_behind (into_iter_items all))
-        → IsTold (words_behind (into_iter_items all)) (outputs E.contents (W.contents writer.old) errors.old) (outputs E.contents (W.contents writer.new) errors.new) result) }
+        → IsFaultTold (words_behind (into_iter_items all)) (outputs E.contents (W.contents writer.old) errors.old) (outputs E.contents (W.contents writer.new) errors.new) result) }
     ensures quiet { IfOk args (λ all. AreForInput (words_behind (into_iter_items all)) ⊎ AreForLive (words_behind (into_iter_items all)) → errors.new ≡ errors.old) }
     ensures refused { IfErr args (λ error. IsExplained [] (words_fault (error_kind error)) (outputs E.contents (W.contents writer.old) errors.old)
         (outputs E.contents (W.contents writer.new) errors.new) result) }

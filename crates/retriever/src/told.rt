@@ -2,10 +2,10 @@
 ghost use Rattle.std.specs.Prelude.{◌≡◌, ◌++◌, ◌&&◌, IfOk, OnOk, length, map, string_bytes};
 ghost use Rattle.local_tree.specs.Names.{AreDistinct, IsNaming};
 ghost use Rattle.local_tree.specs.PlainNames.{plain_name_of};
-ghost use Rattle.report.specs.Entries.{lines_of};
+ghost use Rattle.report.specs.Entries.{harvest_lines_of};
 ghost use Rattle.report.specs.Report.{report_text};
 ghost use Rattle.retriever.specs.Parts.{shown_of};
-ghost use Rattle.retriever.specs.inner.Parts.{IsRead, IsToldOf, is_borne_out};
+ghost use Rattle.retriever.specs.inner.Parts.{IsRead, IsRetrievalTold, is_borne_out};
 ghost use Rattle.retriever.specs.Retrieved.{Stopped};
 ghost use Rattle.retriever.specs.Run.{finish_text};
 ghost use Rattle.report.specs.Trace.{trace_text};
@@ -51,7 +51,7 @@ pub(crate) fn telling_of(
     ensures count { IfOk result (λ telling. length telling.names.items ≡ length harvest.now.kept) }
     ensures distinct { IfOk result (λ telling. AreDistinct (map string_bytes telling.names.items)) }
     ensures text { IfOk result (λ telling. string_bytes telling.text
-        ≡ trace_text (shown_of is_shown harvest.now.trace) ++ report_text (lines_of harvest.now (map string_bytes telling.names.items))) }
+        ≡ trace_text (shown_of is_shown harvest.now.trace) ++ report_text (harvest_lines_of harvest.now (map string_bytes telling.names.items))) }
     ensures read { IfOk result (λ telling. IsRead harvest.now) }
 {
     let trace = harvest.trace();
@@ -91,7 +91,7 @@ pub(crate) fn told_of(
     is_shown: bool,
     retrieved: &Result<Harvest, Halt>,
 ) -> Result<Output, AllocError>
-    ensures { IfOk result (λ output. IsToldOf is_shown retrieved.now (string_bytes output.text) output.status) }
+    ensures { IfOk result (λ output. IsRetrievalTold is_shown retrieved.now (string_bytes output.text) output.status) }
 {
     match retrieved {
         Ok(harvest) => {

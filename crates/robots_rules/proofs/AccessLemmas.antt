@@ -9,7 +9,7 @@ use Rattle.std.specs.List.{list_any}
 use Rattle.part_match.specs.Cuts.{is_match}
 use Rattle.part_match.proofs.Decided.{is_match-cuts}
 use Rattle.robots_rules.specs.Octets.{normal_path}
-use Rattle.robots_rules.specs.Patterns.{is_run, takes, parts_of}
+use Rattle.robots_rules.specs.Patterns.{is_run, takes, matching_parts}
 use Rattle.robots_rules.specs.Access.{RuleValue, RuleSetValue, Applies, RulesAllow, IsLongest, IsAllowed, applies, is_longest, rules_allow, is_allowed}
 
 -- a rule that matches and has so many octets
@@ -108,20 +108,20 @@ RulesAllow_from text rules longest answer so = (
 -- ---- the definitions as values
 
 -- a rule with a pattern applies where its parts match
-pub applies_by_value : (text : List ℕ) (rule : RuleValue) (b : Bool) → 1 ≤ length rule.pattern → b ≡ is_match is_run takes (parts_of rule.pattern) text → IsTrue b ↔ Applies text rule
+pub applies_by_value : (text : List ℕ) (rule : RuleValue) (b : Bool) → 1 ≤ length rule.pattern → b ≡ is_match is_run takes (matching_parts rule.pattern) text → IsTrue b ↔ Applies text rule
 applies_by_value text rule b some is =
-    let cut = is_match-cuts is_run takes (parts_of rule.pattern) text in
+    let cut = is_match-cuts is_run takes (matching_parts rule.pattern) text in
     (λ e. record { nonempty = some; matches = cut.0 (sym is ∙ e) }, λ (a : Applies text rule). is ∙ cut.1 a.matches)
 
 -- the same for every text with a front
-pub applies_if : (answer : Option Bool) (parts front : List ℕ) (rule : RuleValue) → 1 ≤ length rule.pattern → parts ≡ parts_of rule.pattern
+pub applies_if : (answer : Option Bool) (parts front : List ℕ) (rule : RuleValue) → 1 ≤ length rule.pattern → parts ≡ matching_parts rule.pattern
     → IfSome answer (λ b. (rest : List ℕ) → b ≡ is_match is_run takes parts (front ++ rest)) → IfSome answer (λ b. (rest : List ℕ) → IsTrue b ↔ Applies (front ++ rest) rule)
 applies_if None parts front rule some whole h = tt
 applies_if (Some b) parts front rule some whole h = λ rest. applies_by_value (front ++ rest) rule b some (h rest ∙ ap (λ ps. is_match is_run takes ps (front ++ rest)) whole)
 
 pub applies-is : (text : List ℕ) (rule : RuleValue) → IsTrue (applies text rule) ↔ Applies text rule
 applies-is text rule =
-    let cut = is_match-cuts is_run takes (parts_of rule.pattern) text in (
+    let cut = is_match-cuts is_run takes (matching_parts rule.pattern) text in (
       λ e. let both = and_parts _ _ e in record { nonempty = leb-true _ _ both.0; matches = cut.0 both.1 },
       λ (a : Applies text rule). and_from _ _ (le-leb _ _ a.nonempty) (cut.1 a.matches),
     )

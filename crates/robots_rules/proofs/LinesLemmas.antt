@@ -9,7 +9,7 @@ use Rattle.std.proofs.lemmas.Iterator.Consumers.{YieldsList-end}
 use Rattle.std.specs.Iterator.{Yields}
 use Rattle.std.specs.Prelude.{position, nat_lt}
 use Rattle.std.specs.List.{list_any, position_or_len, before_first, after_first, cons_option, filter_map}
-use Rattle.robots_rules.specs.Lines.{Line as Value, line_of, line_by, uncommented, trimmed}
+use Rattle.robots_rules.specs.Lines.{LineValue, line_of, line_by, uncommented, without_blanks}
 
 further : {X : Type 0} (p : X → Bool) (x : X) (xs : List X) (b : Bool) → p x ≡ b → length (x ∷ xs) ≤ position_or_len p (x ∷ xs) → (length xs ≤ position_or_len p xs) × (b ≡ false)
 further p x xs true e h = (let here : position_or_len p (x ∷ xs) ≡ 0 = ap (λ b. cond (not b) (1 + position_or_len p xs) 0) e in absurd (omega arith))
@@ -32,25 +32,25 @@ no_colon text whole is none =
     let past : nat_lt (position_or_len p text) (length text) ≡ false = (place_of p text (nat_lt (position_or_len p text) (length text)) (position_or_len p text) None none).0 refl in
     cond-false _ _ _ (sym (ap (list_any p) is) ∙ list_any-not_found p text (ltb-false _ _ past))
 
-pub at_colon : (text whole : List ℕ) (i : ℕ) → text ≡ uncommented whole → position (λ octet. octet == 58) text ≡ Some i → line_of whole ≡ line_by (trimmed (take i text)) (trimmed (drop (i + 1) text))
+pub at_colon : (text whole : List ℕ) (i : ℕ) → text ≡ uncommented whole → position (λ octet. octet == 58) text ≡ Some i → line_of whole ≡ line_by (without_blanks (take i text)) (without_blanks (drop (i + 1) text))
 unfolding line_of
 at_colon text whole i is found =
     let p : ℕ → Bool = λ octet. octet == 58 in
     let at : position_or_len p text ≡ i = (place_of p text (nat_lt (position_or_len p text) (length text)) (position_or_len p text) (Some i) found).1 i refl in
     let place = position-Some p text i 0 found in
     cond-true _ _ _ (sym (ap (list_any p) is) ∙ list_any_at p text i 0 place.0 place.1)
-    ∙ ap (λ t. line_by (trimmed (before_first p t)) (trimmed (after_first p t))) (sym is)
-    ∙ ap (λ k. line_by (trimmed (take k text)) (trimmed (drop (k + 1) text))) at
+    ∙ ap (λ t. line_by (without_blanks (before_first p t)) (without_blanks (after_first p t))) (sym is)
+    ∙ ap (λ k. line_by (without_blanks (take k text)) (without_blanks (drop (k + 1) text))) at
 
 -- one more line
-pub said_more : {B : Type 0} (h : B → Option Value) (value : Value) (lines : List Value) (yielded : List B) (text : B) → lines ≡ filter_map h yielded → h text ≡ Some value → lines ++ value ∷ [] ≡ filter_map h (yielded ++ text ∷ [])
+pub said_more : {B : Type 0} (h : B → Option LineValue) (value : LineValue) (lines : List LineValue) (yielded : List B) (text : B) → lines ≡ filter_map h yielded → h text ≡ Some value → lines ++ value ∷ [] ≡ filter_map h (yielded ++ text ∷ [])
 said_more h value lines yielded text so is = ap (λ xs. xs ++ value ∷ []) so ∙ sym (filter_map-append h yielded (text ∷ []) ∙ ap (λ o. filter_map h yielded ++ cons_option o []) is)
 
 -- a line that says nothing
-pub said_nothing : {B : Type 0} (h : B → Option Value) (lines : List Value) (yielded : List B) (text : B) → lines ≡ filter_map h yielded → h text ≡ None → lines ≡ filter_map h (yielded ++ text ∷ [])
+pub said_nothing : {B : Type 0} (h : B → Option LineValue) (lines : List LineValue) (yielded : List B) (text : B) → lines ≡ filter_map h yielded → h text ≡ None → lines ≡ filter_map h (yielded ++ text ∷ [])
 said_nothing h lines yielded text so is = so ∙ sym (filter_map-append h yielded (text ∷ []) ∙ ap (λ o. filter_map h yielded ++ cons_option o []) is ∙ append-nil (filter_map h yielded))
 
-pub filter_map-map : {A B : Type 0} (f : A → B) (h : B → Option Value) (xs : List A) → filter_map (λ x. h (f x)) xs ≡ filter_map h (map f xs)
+pub filter_map-map : {A B : Type 0} (f : A → B) (h : B → Option LineValue) (xs : List A) → filter_map (λ x. h (f x)) xs ≡ filter_map h (map f xs)
 filter_map-map f h [] = refl
 filter_map-map f h (x ∷ xs) = ap (cons_option (h (f x))) (filter_map-map f h xs)
 

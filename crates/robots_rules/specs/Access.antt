@@ -3,7 +3,7 @@ use Rattle.std.specs.Prelude.{◌≡◌, ℕ, ◌≤◌, ◌⊎◌, Bool, true, 
 use Rattle.std.specs.List.{list_any, list_all}
 use Rattle.part_match.specs.Cuts.{Matches, is_match}
 use Rattle.robots_rules.specs.Octets.{normal_path}
-use Rattle.robots_rules.specs.Patterns.{is_run, takes, parts_of}
+use Rattle.robots_rules.specs.Patterns.{is_run, takes, matching_parts}
 
 -- a rule: whether it allows, and its pattern in normal form
 pub record RuleValue : Type 0 where
@@ -18,7 +18,7 @@ pub record RuleSetValue : Type 0 where
 -- the rule speaks of the text: the parts of its pattern match it; an empty pattern speaks of none
 pub record Applies (text : List ℕ) (rule : RuleValue) : Type 0 where
   pub nonempty : 1 ≤ length rule.pattern
-  pub matches : Matches is_run takes (parts_of rule.pattern) text
+  pub matches : Matches is_run takes (matching_parts rule.pattern) text
 
 -- the rule applies, and no rule that applies has more octets
 pub record IsLongest (rules : List RuleValue) (text : List ℕ) (rule : RuleValue) : Type 0 where
@@ -40,7 +40,7 @@ IsAllowed set path = (set.closed ≡ false) × RulesAllow set.rules (normal_path
 
 -- whether the rule applies
 abbrev pub applies : List ℕ → RuleValue → Bool
-applies text rule = nat_le 1 (length rule.pattern) && is_match is_run takes (parts_of rule.pattern) text
+applies text rule = nat_le 1 (length rule.pattern) && is_match is_run takes (matching_parts rule.pattern) text
 
 -- whether the rule applies and none that does has more octets
 abbrev pub is_longest : List RuleValue → List ℕ → RuleValue → Bool

@@ -4,7 +4,7 @@ use Rattle.std.specs.List.{before_first, list_any, flat_map}
 use Rattle.std.specs.Bool.{beq}
 use Rattle.std.specs.Str.{bytes_eq}
 use Rattle.std.specs.Char.{is_ascii_alphabetic}
-use Rattle.robots_rules.specs.Lines.{Line, agent, rule, RuleLine, lines_in, is_blank, is_word}
+use Rattle.robots_rules.specs.Lines.{LineValue, agent, rule, RuleLine, lines_in, is_blank, is_word}
 use Rattle.robots_rules.specs.Patterns.{normal_of}
 use Rattle.robots_rules.specs.Access.{RuleValue, RuleSetValue}
 
@@ -21,23 +21,23 @@ pub record Groups : Type 0 where
   pub groups : List Group
 
 -- the user agent added to the first group
-unfoldable pub joined : List ℕ → List Group → List Group
-joined name [] = record { agents = name ∷ []; rules = [] } ∷ []
-joined name (first ∷ others) = record { agents = name ∷ first.agents; rules = first.rules } ∷ others
+unfoldable pub agent_joined : List ℕ → List Group → List Group
+agent_joined name [] = record { agents = name ∷ []; rules = [] } ∷ []
+agent_joined name (first ∷ others) = record { agents = name ∷ first.agents; rules = first.rules } ∷ others
 
 -- a user agent before the rest: it joins the first group where no rule stands between, else it begins a group
-unfoldable pub with_agent : List ℕ → List Line → Groups → Groups
-with_agent name (agent next ∷ lines) rest = record { strays = []; groups = joined name rest.groups }
+unfoldable pub with_agent : List ℕ → List LineValue → Groups → Groups
+with_agent name (agent next ∷ lines) rest = record { strays = []; groups = agent_joined name rest.groups }
 with_agent name lines rest = record { strays = []; groups = record { agents = name ∷ []; rules = rest.strays } ∷ rest.groups }
 
 -- the groups of a file's lines, read from the last line
-unfoldable pub groups_of : List Line → Groups
+unfoldable pub groups_of : List LineValue → Groups
 groups_of [] = record { strays = []; groups = [] }
 groups_of (agent name ∷ lines) = with_agent name lines (groups_of lines)
 groups_of (rule stated ∷ lines) = let rest = groups_of lines in record { strays = stated ∷ rest.strays; groups = rest.groups }
 
 -- the lines of a group: its user agents, and then its rules
-abbrev pub lines_of_group : Group → List Line
+abbrev pub lines_of_group : Group → List LineValue
 lines_of_group group = map agent group.agents ++ map rule group.rules
 
 -- each group has a user agent, and each but the last has a rule
@@ -47,7 +47,7 @@ EachStands (group ∷ []) = 1 ≤ length group.agents
 EachStands (group ∷ next ∷ groups) = (1 ≤ length group.agents) × (1 ≤ length group.rules) × EachStands (next ∷ groups)
 
 -- the lines are rules in no group, and then one group after another (section 2.2, robotstxt)
-pub record AreGroups (lines : List Line) (read : Groups) : Type 0 where
+pub record AreGroups (lines : List LineValue) (read : Groups) : Type 0 where
   pub whole : lines ≡ map rule read.strays ++ flat_map lines_of_group read.groups
   pub stand : EachStands read.groups
 

@@ -24,8 +24,8 @@ used file =
     else without_mark file
 
 -- the texts of the lines; between CR and LF stands an empty one, which says nothing
-abbrev pub texts_of : List ℕ → List (List ℕ)
-texts_of file = slice_split is_line_end (used file)
+abbrev pub line_texts_of : List ℕ → List (List ℕ)
+line_texts_of file = slice_split is_line_end (used file)
 
 -- ---- what a line says
 
@@ -46,8 +46,8 @@ abbrev pub trim_end : List ℕ → List ℕ
 trim_end text = take (length text - suffix_len is_blank text) text
 
 -- without the blanks at both ends
-abbrev pub trimmed : List ℕ → List ℕ
-trimmed text = trim_end (trim_start text)
+abbrev pub without_blanks : List ℕ → List ℕ
+without_blanks text = trim_end (trim_start text)
 
 -- the text is the word, without regard to case
 abbrev pub is_word : List ℕ → List ℕ → Bool
@@ -59,12 +59,12 @@ pub record RuleLine : Type 0 where
   pub pattern : List ℕ
 
 -- a line that says something: it names a user agent (startgroupline), or states a rule
-pub data Line : Type 0 where
-  agent : List ℕ → Line
-  rule : RuleLine → Line
+pub data LineValue : Type 0 where
+  agent : List ℕ → LineValue
+  rule : RuleLine → LineValue
 
 -- what a line with this key and this value says; with any other key it says nothing
-unfoldable pub line_by : List ℕ → List ℕ → Option Line
+unfoldable pub line_by : List ℕ → List ℕ → Option LineValue
 line_by key value =
     if is_word (codes "user-agent") key then Some (agent value)
     else (if is_word (codes "allow") key then Some (rule (record { allows = true; pattern = value }))
@@ -72,13 +72,13 @@ line_by key value =
     else None))
 
 -- the key stands before the first `:` and the value behind it; a line without a `:` says nothing
-unfoldable pub line_of : List ℕ → Option Line
+unfoldable pub line_of : List ℕ → Option LineValue
 line_of line =
     let text = uncommented line in
     if list_any (λ octet. octet == 58) text
-    then line_by (trimmed (before_first (λ octet. octet == 58) text)) (trimmed (after_first (λ octet. octet == 58) text))
+    then line_by (without_blanks (before_first (λ octet. octet == 58) text)) (without_blanks (after_first (λ octet. octet == 58) text))
     else None
 
 -- the lines of a file that say something, in their order
-unfoldable pub lines_in : List ℕ → List Line
-lines_in file = filter_map line_of (texts_of file)
+unfoldable pub lines_in : List ℕ → List LineValue
+lines_in file = filter_map line_of (line_texts_of file)

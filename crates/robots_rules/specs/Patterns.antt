@@ -23,5 +23,5 @@ abbrev pub takes : ℕ → ℕ → Bool
 takes wanted octet = octet == wanted
 
 -- the parts that match a whole text, an octet each: a pattern without a last `$` matches what begins the text, so any run may follow
-abbrev pub parts_of : List ℕ → List ℕ
-parts_of pattern = if ends_text pattern then front pattern else pattern ++ 42 ∷ []
+abbrev pub matching_parts : List ℕ → List ℕ
+matching_parts pattern = if ends_text pattern then front pattern else pattern ++ 42 ∷ []

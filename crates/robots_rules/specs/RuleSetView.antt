@@ -5,7 +5,7 @@ use Rattle.robots_rules.specs.declared.rule_set.Kept.{Kept}
 use Rattle.robots_rules.specs.declared.rule_set.Kept.TheVariants as kept
 
 -- the rule set as the definitions have it
-abbrev pub value_of : Kept → RuleSetValue
-value_of kept.All = record { closed = false; rules = [] }
-value_of kept.Nothing = record { closed = true; rules = [] }
-value_of (kept.Rules rules) = record { closed = false; rules = rules.items }
+abbrev pub rule_set_value_of : Kept → RuleSetValue
+rule_set_value_of kept.All = record { closed = false; rules = [] }
+rule_set_value_of kept.Nothing = record { closed = true; rules = [] }
+rule_set_value_of (kept.Rules rules) = record { closed = false; rules = rules.items }

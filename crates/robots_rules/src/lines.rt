@@ -1,7 +1,7 @@
 //! The lines of a robots file (RFC 9309, section 2.2).
 ghost use Rattle.std.specs.Prelude.{◌≡◌, ◌==◌, position, map, IfOk};
 ghost use Rattle.std.specs.List.{before_last};
-ghost use Rattle.robots_rules.specs.Lines.{is_line_end, is_blank, without_mark, used, trim_start, trim_end, trimmed, uncommented, line_by, line_of, lines_in, is_word};
+ghost use Rattle.robots_rules.specs.Lines.{is_line_end, is_blank, without_mark, used, trim_start, trim_end, without_blanks, uncommented, line_by, line_of, lines_in, is_word};
 ghost use Rattle.robots_rules.specs.inner.LineView.{line_value};
 ghost use Rattle.std.specs.Char.{to_ascii_lowercase};
 ghost use Rattle.std.specs.Option.{option_map};
@@ -134,7 +134,7 @@ pub(crate) fn is_word(word: &[u8], text: &[u8]) -> bool
 
 /// The text without the blanks at both ends.
 fn trimmed(text: &[u8]) -> &[u8]
-    ensures { result.now ≡ trimmed text.now }
+    ensures { result.now ≡ without_blanks text.now }
 {
     trim_end(trim_start(text))
 }

@@ -28,11 +28,11 @@ enum Kept {
 // Contracts see a rule set as whether all is refused, and its rules in the order of the file.
 impl Model for RuleSet {
     ghost use Rattle.robots_rules.specs.Access.{RuleSetValue};
-    ghost use Rattle.robots_rules.specs.RuleSetView.{value_of};
+    ghost use Rattle.robots_rules.specs.RuleSetView.{rule_set_value_of};
 
     ghost Value = { RuleSetValue };
 
-    ghost view = { λ set. value_of set.kept };
+    ghost view = { λ set. rule_set_value_of set.kept };
 }
 
 /// What a robots file says to this agent, `wget` (RFC 9309, section 2.2). Only the first 512,000 bytes of the file are used; where it is longer and they do

@@ -37,12 +37,12 @@ words_of kind.Broken = codes "broken"
 words_of kind.Other = codes "failed"
 
 -- the loss is of this kind
-abbrev pub is_of : LossKind → Loss → Bool
-is_of kind loss = is_kind loss.kind kind
+abbrev pub is_loss_of : LossKind → Loss → Bool
+is_loss_of kind loss = is_kind loss.kind kind
 
 -- what was lost of a kind; nothing of some
 abbrev pub lost : List Loss → LossKind → Option Loss
-lost losses kind = find (is_of kind) losses
+lost losses kind = find (is_loss_of kind) losses
 
 -- one more was lost of the loss's kind; the count stays at the largest number, and the first address is kept
 abbrev pub raised : Loss → Loss
@@ -62,18 +62,18 @@ abbrev pub noun_of : ℕ → List ℕ
 noun_of count = if count == 1 then codes "connection" else codes "connections"
 
 -- the line of what was lost of a kind, as `3 connections refused, first http://h/x`
-abbrev pub line_of : LossKind → Loss → List ℕ
-line_of kind loss = decimal loss.count ++ codes " " ++ noun_of loss.count ++ codes " " ++ words_of kind ++ codes ", first " ++ loss.first ++ codes "\n"
+abbrev pub loss_line_of : LossKind → Loss → List ℕ
+loss_line_of kind loss = decimal loss.count ++ codes " " ++ noun_of loss.count ++ codes " " ++ words_of kind ++ codes ", first " ++ loss.first ++ codes "\n"
 
 -- the line of a kind, where any was lost
-abbrev pub line_by : LossKind → Option Loss → List ℕ
-line_by kind None = []
-line_by kind (Some loss) = line_of kind loss
+abbrev pub loss_line_by : LossKind → Option Loss → List ℕ
+loss_line_by kind None = []
+loss_line_by kind (Some loss) = loss_line_of kind loss
 
 -- the line of a kind of these losses
 abbrev pub line_for : List Loss → LossKind → List ℕ
-line_for losses kind = line_by kind (lost losses kind)
+line_for losses kind = loss_line_by kind (lost losses kind)
 
 -- a line for each kind of which any was lost
-abbrev pub lines_of : List Loss → List ℕ
-lines_of losses = flat_map (line_for losses) KINDS
+abbrev pub loss_lines_of : List Loss → List ℕ
+loss_lines_of losses = flat_map (line_for losses) KINDS

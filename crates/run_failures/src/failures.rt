@@ -2,7 +2,7 @@
 ghost use Rattle.std.specs.Prelude.{◌≡◌, ◌++◌, [], ◌∷◌, IfOk, OnOk, OnErr, string_bytes};
 ghost use Rattle.std.specs.List.{flat_map};
 ghost use Rattle.run_failures.specs.Files.{fault_line};
-ghost use Rattle.run_failures.specs.Losses.{LosesOne, lines_of};
+ghost use Rattle.run_failures.specs.Losses.{LosesOne, loss_lines_of};
 
 use crate::file_fault::FileFault;
 use crate::loss_kind::LossKind;
@@ -72,7 +72,7 @@ impl Failures {
     /// The lines that tell a person: one for each file, and one for each kind of lost connection with its count and first address.
     /// It is empty where nothing failed.
     pub fn text(&self) -> Result<String, AllocError>
-        ensures { IfOk result (λ text. string_bytes text ≡ flat_map fault_line self.now.files ++ lines_of self.now.losses) }
+        ensures { IfOk result (λ text. string_bytes text ≡ flat_map fault_line self.now.files ++ loss_lines_of self.now.losses) }
     {
         let mut text = String::new(self.alloc);
         push_files(&mut text, self.files.as_slice())?;

@@ -1,7 +1,7 @@
 //! The lost connections of a run.
 ghost use Rattle.std.specs.Prelude.{◌≡◌, ◌++◌, [], OnOk, OnErr, option_map, position, string_bytes};
 ghost use Rattle.std.specs.List.{flat_map};
-ghost use Rattle.run_failures.specs.Losses.{LosesOne, is_of, line_of, line_for, lines_of, lost, noun_of};
+ghost use Rattle.run_failures.specs.Losses.{LosesOne, is_loss_of, loss_line_of, line_for, loss_lines_of, lost, noun_of};
 
 use crate::loss_kind::{KINDS, LossKind};
 use address::Address;
@@ -38,7 +38,7 @@ impl Model for Losses {
 
 // Where the loss of this kind stands.
 fn place_of(each: &[Loss], kind: LossKind) -> Option<usize>
-    ensures { result ≡ position (is_of kind) each.now }
+    ensures { result ≡ position (is_loss_of kind) each.now }
 {
     each.iter().position(|loss| loss.kind.is(kind))
 }
@@ -56,7 +56,7 @@ fn noun_of(count: u64) -> &'static str
 
 // Adds the line of what was lost of a kind.
 fn push_line(text: &mut String, kind: LossKind, loss: &Loss) -> Result<(), AllocError>
-    ensures ok { OnOk result (string_bytes text.new ≡ string_bytes text.old ++ line_of kind loss.now) }
+    ensures ok { OnOk result (string_bytes text.new ≡ string_bytes text.old ++ loss_line_of kind loss.now) }
 {
     let count = loss.count;
     let noun = noun_of(count);
@@ -123,7 +123,7 @@ impl Losses {
 
     /// Adds a line for each kind of which any was lost.
     pub(crate) fn push_lines(&self, text: &mut String) -> Result<(), AllocError>
-        ensures ok { OnOk result (string_bytes text.new ≡ string_bytes text.old ++ lines_of self.now) }
+        ensures ok { OnOk result (string_bytes text.new ≡ string_bytes text.old ++ loss_lines_of self.now) }
     {
         self.push_kinds(text, &KINDS)
     }

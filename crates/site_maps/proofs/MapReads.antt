@@ -9,7 +9,7 @@ use Rattle.site_inputs.specs.declared.input_fault.InputLineFault.{InputLineFault
 use Rattle.site_inputs.specs.declared.input_fault.InputLineFault.TheVariants.{Line, Address, Memory}
 use Rattle.site_inputs.specs.Faults.{numbered}
 use Rattle.site_maps.specs.Lines.{Statement, HasForm}
-use Rattle.site_maps.specs.Maps.{lines_of, IsGood, IsMap, IsFault}
+use Rattle.site_maps.specs.Maps.{text_lines_of, IsGood, IsMap, IsFault}
 use Rattle.site_maps.specs.inner.Readings.{IsBad}
 
 forms_push : (lines : List (List ℕ)) (said : List Statement) (line : List ℕ) (s : Statement) → AllZip HasForm lines said → HasForm line s → AllZip HasForm (lines ++ line ∷ []) (said ++ s ∷ [])
@@ -48,8 +48,8 @@ map_push lines said line s m form good = record {
 }
 
 -- a line that is bad below the lines before it is the first bad one
-pub first_bad : (text : List ℕ) (k : ℕ) (line : List ℕ) (above : List Statement) (f : InputLineFault) → slice_get (lines_of text) k ≡ Some line
-    → IsMap (take k (lines_of text)) above → IsBad above line f → IsFault text (numbered f (k + 1))
+pub first_bad : (text : List ℕ) (k : ℕ) (line : List ℕ) (above : List Statement) (f : InputLineFault) → slice_get (text_lines_of text) k ≡ Some line
+    → IsMap (take k (text_lines_of text)) above → IsBad above line f → IsFault text (numbered f (k + 1))
 first_bad text k line above Line at m bad = (k, refl, line, at, above, m, bad)
 first_bad text k line above Address at m bad = (k, refl, line, at, above, m, bad)
 first_bad text k line above Memory at m bad = inl (k + 1, (k, refl, line, at, above, m, bad))

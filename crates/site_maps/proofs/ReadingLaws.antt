@@ -27,7 +27,7 @@ use Rattle.site_maps.specs.RuleLines.{file_head, file_line}
 use Rattle.site_maps.specs.Lines.{Statement, skipped, page, edge, moved, leaf, fault, robots, closed, rule}
 use Rattle.site_inputs.specs.Names.{named, IsNamed}
 use Rattle.site_maps.specs.Maps.{edges_below, answers_of, file_below, rules_of, is_between, is_ruling, HasAbove, HasRobots, IsPage, IsRobots, IsInPlace, IsAtRoot, IsRepeated, IsGood, texts_of}
-use Rattle.site_maps.specs.inner.Readings.{opened, opened_rules, answers_in, all_rules, IsFresh, TellsAnswers, TellsRules, TellsAbove, IsWrong, IsTaken, Closes, Adds, Takes}
+use Rattle.site_maps.specs.inner.Readings.{opened_answer, opened_rules, answers_in, all_rules, IsFresh, TellsAnswers, TellsRules, TellsAbove, IsWrong, IsTaken, Closes, Adds, Takes}
 use Rattle.site_inputs.proofs.NameLaws.{names}
 use Rattle.site_maps.proofs.MapLaws.{snoc_same, edges_below-go, answers_of-append, answers_of-skipped, answers_of-open, file_below-go, file_below-skipped, rules_of-append, rules_of-skipped, rules_of-open, head_above, still_above, was_above, ends_above, page_apart, robots_apart}
 
@@ -125,7 +125,7 @@ not_repeated_bare above s bare empty (inr h) = let k = rw empty at h.1 in cc
 -- ---- one more line: the answers
 
 -- no page is open
-no_answer : (o : Option Open) → ((p : OpenPage) → o ≢ Some (Page p)) → opened o ≡ []
+no_answer : (o : Option Open) → ((p : OpenPage) → o ≢ Some (Page p)) → opened_answer o ≡ []
 no_answer None h = refl
 no_answer (Some (Page p)) h = absurd (h p refl)
 no_answer (Some (Robots r)) h = refl
@@ -151,7 +151,7 @@ took_page old new above status text p t reads none same bare is kept = record {
   stated =
       let e = names text p.address reads in
       let a = answers_of-append above (page status text) [] refl in
-      let b = ap opened is in
+      let b = ap opened_answer is in
       let c = e.1 in
       let d = t.stated in
       cc;
@@ -187,7 +187,7 @@ took_edge old new above kind text target p q t reads was is address status edges
           let now = ap answers_of (ap (λ l. l ++ edge kind text ∷ []) e ∙ append_assoc higher (head ∷ between) (edge kind text ∷ [])) in
           let below = last_page higher st owner (between ++ edge kind text ∷ []) head line more in
           let go = edges_below-go between (edge kind text ∷ []) all in
-          let before = sym (last_page higher st owner between head line all) ∙ sym (ap answers_of e) ∙ t.stated ∙ ap (λ o. old.answers.entries ++ opened o) was in
+          let before = sym (last_page higher st owner between head line all) ∙ sym (ap answers_of e) ∙ t.stated ∙ ap (λ o. old.answers.entries ++ opened_answer o) was in
           let ends = snoc_same (answers_of higher) old.answers.entries (named owner, outcome.Page st (edges_below between)) (p.address, outcome.Page p.status p.edges.items) before in
           let one : Edge = record { target = named text; kind = kind } in
           let owned : named owner ≡ p.address = ap (λ a. a.0) ends.1 in
@@ -203,7 +203,7 @@ took_edge old new above kind text target p q t reads was is address status edges
           ∙ ap (λ n. old.answers.entries ++ (p.address, outcome.Page n q.edges.items) ∷ []) (sym status)
           ∙ ap (λ a. old.answers.entries ++ (a, outcome.Page q.status q.edges.items) ∷ []) (sym address)
           ∙ ap (λ front. front ++ (q.address, outcome.Page q.status q.edges.items) ∷ []) (sym kept)
-          ∙ ap (λ o. new.answers.entries ++ opened o) (sym is);
+          ∙ ap (λ o. new.answers.entries ++ opened_answer o) (sym is);
       above_open = λ h. still_above IsPage is_between above (edge kind text) refl there;
       open_below = λ h. (q, is);
       fresh = λ r e. let k : q ≡ r = (let both = sym is ∙ e in cc) in rw (← k, address, kept) (t.fresh p was);
@@ -577,7 +577,7 @@ takes_rule old new above kind rest r q t was is origin file answers rules = (
   record {
     answers =
         took_answers old new above (rule kind rest) [] refl (λ k. let e = k.2 in cc) refl t.answers (λ p e. let k = sym is ∙ e in cc)
-        (answers ∙ sym (append-nil old.answers.entries) ∙ ap (λ o. old.answers.entries ++ opened o) (sym was) ∙ sym (append-nil (answers_in old)));
+        (answers ∙ sym (append-nil old.answers.entries) ∙ ap (λ o. old.answers.entries ++ opened_answer o) (sym was) ∙ sym (append-nil (answers_in old)));
     rules = took_rule old new above kind rest r q t.rules was is origin file rules;
   },
 )
@@ -597,7 +597,7 @@ none_above IsHead passes (s ∷ above, head, between, e, is, all) = cc
 pub tells_nothing : (r : Reading) → r.open ≡ None → r.answers.entries ≡ [] → r.rules.entries ≡ [] → TellsAbove r []
 tells_nothing r none bare empty = record {
   answers = record {
-    stated = sym (ap (λ l. l ++ opened r.open) bare ∙ ap opened none);
+    stated = sym (ap (λ l. l ++ opened_answer r.open) bare ∙ ap opened_answer none);
     above_open = λ h. absurd (no_page r none h.0 h.1);
     open_below = λ h. absurd (none_above IsPage is_between h);
     fresh = λ p e. absurd (no_page r none p e);

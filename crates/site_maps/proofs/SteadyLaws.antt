@@ -11,7 +11,7 @@ use Rattle.fetcher.specs.declared.status.TheConstants.{NOT_FOUND}
 use Rattle.fetcher.specs.Outcomes.{is_fault}
 use Rattle.fetcher.specs.Sites.{SiteAnswers, GivesOutcome, unless_fault, without_faults}
 use Rattle.site_maps.specs.MapSites.{has_fault}
-use Rattle.site_maps.specs.Maps.{outcome_in}
+use Rattle.site_maps.specs.Maps.{outcome_in_map}
 
 -- of two tests that one is true neither is, where that is false
 or_parts : (a b : Bool) → (a || b) ≡ false → (a ≡ false) × (b ≡ false)
@@ -32,7 +32,7 @@ never_at test (a ∷ more) h =
     first false x rest here later = later
 
 -- no address has a fault
-pub never_fails : (answers : List (List ℕ × Outcome)) → has_fault answers ≡ false → (at : List ℕ) → is_fault (outcome_in answers at) ≡ false
+pub never_fails : (answers : List (List ℕ × Outcome)) → has_fault answers ≡ false → (at : List ℕ) → is_fault (outcome_in_map answers at) ≡ false
 never_fails answers h at = never_at (bytes_eq at) answers h
 
 -- an outcome that is no fault stays

@@ -19,8 +19,8 @@ use Rattle.site_maps.specs.RuleLines.{file_head, file_line}
 use Rattle.site_maps.specs.Lines.{Statement, skipped, page, edge, moved, leaf, fault, robots, closed, rule, HasForm}
 
 -- the lines of a text: what stands between its line feeds
-abbrev pub lines_of : List ℕ → List (List ℕ)
-lines_of text = slice_split (λ b. b == 10) text
+abbrev pub text_lines_of : List ℕ → List (List ℕ)
+text_lines_of text = slice_split (λ b. b == 10) text
 
 -- ---- what is stated
 
@@ -55,12 +55,12 @@ rules_of (closed text ∷ more) = (origin_of (named text), record { closed = tru
 rules_of (other ∷ more) = rules_of more
 
 -- what a map of these answers says of an address: what it states, and not found of an address that it doesn't name
-abbrev pub outcome_in : List (List ℕ × Outcome) → List ℕ → Outcome
-outcome_in answers at = unwrap_or (lookup (bytes_eq at) answers) (Leaf NOT_FOUND)
+abbrev pub outcome_in_map : List (List ℕ × Outcome) → List ℕ → Outcome
+outcome_in_map answers at = unwrap_or (lookup (bytes_eq at) answers) (Leaf NOT_FOUND)
 
 -- what a map of these answers and these rule sets says
 abbrev pub says_of : List (List ℕ × Outcome) → List (List ℕ × RuleSetValue) → SiteAnswers
-says_of answers rules = record { outcome = outcome_in answers; rules = rules_at rules }
+says_of answers rules = record { outcome = outcome_in_map answers; rules = rules_at rules }
 
 -- ---- which lines are good
 
@@ -162,8 +162,8 @@ abbrev pub IsBadAddress : List Statement → List ℕ → Type 0
 IsBadAddress above line = (s : Statement) × HasForm line s × IsInPlace above s × ¬ All IsNamed (texts_of s)
 
 -- the line has its form and its place: memory may run out over it, and over no other
-abbrev pub IsPlaced : List Statement → List ℕ → Type 0
-IsPlaced above line = (s : Statement) × HasForm line s × IsInPlace above s
+abbrev pub IsPlacedLine : List Statement → List ℕ → Type 0
+IsPlacedLine above line = (s : Statement) × HasForm line s × IsInPlace above s
 
 -- the lines before number n, counted from 1, are a map, and this is true of line n below what they say
 abbrev pub FirstBad : List (List ℕ) → ℕ → (List Statement → List ℕ → Type 0) → Type 0
@@ -173,6 +173,6 @@ FirstBad lines n IsBad =
 
 -- the fault of a text: its first bad line, and what is wrong with it; or memory ran out, over a line below a map, or behind the last
 abbrev pub IsFault : List ℕ → InputFault → Type 0
-IsFault text (Line n) = FirstBad (lines_of text) n IsBadLine
-IsFault text (Address n) = FirstBad (lines_of text) n IsBadAddress
-IsFault text Memory = ((n : ℕ) × FirstBad (lines_of text) n IsPlaced) ⊎ ((said : List Statement) × IsMap (lines_of text) said)
+IsFault text (Line n) = FirstBad (text_lines_of text) n IsBadLine
+IsFault text (Address n) = FirstBad (text_lines_of text) n IsBadAddress
+IsFault text Memory = ((n : ℕ) × FirstBad (text_lines_of text) n IsPlacedLine) ⊎ ((said : List Statement) × IsMap (text_lines_of text) said)

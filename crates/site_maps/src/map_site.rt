@@ -41,7 +41,7 @@ impl MapSite {
     ghost use Rattle.std.specs.Prelude.{◌≡◌, [], true, false, List, IfOk, IfErr};
     ghost use Rattle.site_maps.specs.MapSites.{has_fault};
     ghost use Rattle.site_maps.specs.Lines.{Statement};
-    ghost use Rattle.site_maps.specs.Maps.{lines_of, IsMap, answers_of, rules_of, outcome_in, IsFault};
+    ghost use Rattle.site_maps.specs.Maps.{text_lines_of, IsMap, answers_of, rules_of, outcome_in_map, IsFault};
     ghost use Rattle.site_inputs.specs.Tables.{rules_at};
     ghost use Rattle.site_maps.specs.inner.Readings.{IsFresh, answers_in, all_rules};
 
@@ -50,7 +50,7 @@ impl MapSite {
     /// rule lines give rules to the origin above them, for every agent (RFC 9309, section 2.2).
     /// The error names the first bad line, or says that memory ran out.
     pub fn read(alloc: Global, text: &[u8]) -> Result<MapSite, InputFault>
-        ensures map { IfOk result (λ m. (said : List Statement) × IsMap (lines_of text.now) said × (m ≡ record { answers = answers_of said; rules = rules_of said; asks = [] })) }
+        ensures map { IfOk result (λ m. (said : List Statement) × IsMap (text_lines_of text.now) said × (m ≡ record { answers = answers_of said; rules = rules_of said; asks = [] })) }
         ensures fault { IfErr result (λ f. IsFault text.now f) }
     {
         let mut reading = Reading::new(alloc);
@@ -127,7 +127,7 @@ impl MapSite {
 
     // What the map says of an address.
     fn outcome(&self, at: &Address) -> Result<Outcome, AllocError>
-        ensures { IfOk result (λ x. x ≡ outcome_in self.now.answers at.now) }
+        ensures { IfOk result (λ x. x ≡ outcome_in_map self.now.answers at.now) }
     {
         match self.stated.answers.get(at) {
             Some(outcome) => outcome.try_clone(),

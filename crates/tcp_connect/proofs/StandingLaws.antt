@@ -8,7 +8,7 @@ use Rattle.std.proofs.lemmas.List.{length_push, get_or-set_same, get_or-set_othe
 use Rattle.std.proofs.Math.ListN.{length-set}
 use Rattle.std.proofs.lemmas.Option.{slice_get_within, get_or_from_slice_get}
 use Rattle.std.proofs.lemmas.Bool.{ne_eqb, cases_eq, cases_lt}
-use Rattle.tcp_connect.specs.Standing.{Stand, IsPool, NonePasses, has_number}
+use Rattle.tcp_connect.specs.Standing.{Stand, IsStandPool, NonePasses, has_number}
 use Rattle.tcp_connect.specs.declared.standing.TheConstants.{MOST}
 
 -- their numbers differ
@@ -16,8 +16,8 @@ abbrev pub Differ : {W : Type 0} → Stand W → Stand W → Type 0
 Differ one other = one.number ≢ other.number
 
 -- one goes
-pub IsPool-remove : {W : Type 0} (stands : List (Stand W)) (entered at : ℕ) → IsPool (record { stands = stands; entered = entered }) → at < length stands → IsPool (record { stands = remove stands at; entered = entered })
-IsPool-remove stands entered at was within =
+pub IsStandPool-remove : {W : Type 0} (stands : List (Stand W)) (entered at : ℕ) → IsStandPool (record { stands = stands; entered = entered }) → at < length stands → IsStandPool (record { stands = remove stands at; entered = entered })
+IsStandPool-remove stands entered at was within =
     let shorter = length-remove stands at within in
     record {
       few = omega (arith, was.few);
@@ -41,9 +41,9 @@ same_number stands at was now there same k d within =
     (cases_eq k at)
 
 -- one changes, and keeps its number
-pub IsPool-set : {W : Type 0} (stands : List (Stand W)) (entered at : ℕ) (was now : Stand W) → IsPool (record { stands = stands; entered = entered })
-    → slice_get stands at ≡ Some was → now.number ≡ was.number → IsPool (record { stands = slice_set stands at now; entered = entered })
-IsPool-set stands entered at was now pool there same =
+pub IsStandPool-set : {W : Type 0} (stands : List (Stand W)) (entered at : ℕ) (was now : Stand W) → IsStandPool (record { stands = stands; entered = entered })
+    → slice_get stands at ≡ Some was → now.number ≡ was.number → IsStandPool (record { stands = slice_set stands at now; entered = entered })
+IsStandPool-set stands entered at was now pool there same =
     let long = length-set stands at now in
     record {
       few = omega (arith, pool.few);
@@ -81,13 +81,13 @@ beside stands at was distinct there k d within =
     (cases_lt k at)
 
 -- one goes to the end, and keeps its number
-pub IsPool-move : {W : Type 0} (stands : List (Stand W)) (entered at : ℕ) (was now : Stand W) → IsPool (record { stands = stands; entered = entered })
-    → slice_get stands at ≡ Some was → now.number ≡ was.number → IsPool (record { stands = remove stands at ++ now ∷ []; entered = entered })
-IsPool-move stands entered at was now pool there same =
+pub IsStandPool-move : {W : Type 0} (stands : List (Stand W)) (entered at : ℕ) (was now : Stand W) → IsStandPool (record { stands = stands; entered = entered })
+    → slice_get stands at ≡ Some was → now.number ≡ was.number → IsStandPool (record { stands = remove stands at ++ now ∷ []; entered = entered })
+IsStandPool-move stands entered at was now pool there same =
     let inside : at < length stands = slice_get_within stands at was there in
     let shorter = length-remove stands at inside in
     let longer = length_push (remove stands at) now in
-    let without = IsPool-remove stands entered at pool inside in
+    let without = IsStandPool-remove stands entered at pool inside in
     let read : (get_or stands at was).number ≡ was.number = ap (λ s. s.number) (get_or_from_slice_get stands at was was there) in
     let given : (get_or stands at was).number < entered = pool.given at was inside in
     record {
@@ -98,8 +98,8 @@ IsPool-move stands entered at was now pool there same =
     }
 
 -- one comes, by the next number
-pub IsPool-add : {W : Type 0} (stands : List (Stand W)) (entered : ℕ) (stand : Stand W) → IsPool (record { stands = stands; entered = entered }) → length stands < MOST → stand.number ≡ entered → IsPool (record { stands = stands ++ stand ∷ []; entered = entered + 1 })
-IsPool-add stands entered stand was room next =
+pub IsStandPool-add : {W : Type 0} (stands : List (Stand W)) (entered : ℕ) (stand : Stand W) → IsStandPool (record { stands = stands; entered = entered }) → length stands < MOST → stand.number ≡ entered → IsStandPool (record { stands = stands ++ stand ∷ []; entered = entered + 1 })
+IsStandPool-add stands entered stand was room next =
     let longer = length_push stands stand in
     record {
       few = omega arith;
@@ -111,7 +111,7 @@ IsPool-add stands entered stand was room next =
     }
 
 -- none has the next number
-pub next_is_fresh : {W : Type 0} (stands : List (Stand W)) (entered : ℕ) → IsPool (record { stands = stands; entered = entered }) → NonePasses (has_number entered) stands
+pub next_is_fresh : {W : Type 0} (stands : List (Stand W)) (entered : ℕ) → IsStandPool (record { stands = stands; entered = entered }) → NonePasses (has_number entered) stands
 next_is_fresh stands entered was = λ k stand there.
     let same : (get_or stands k stand).number ≡ stand.number = ap (λ s. s.number) (get_or_from_slice_get stands k stand stand there) in
     let given : (get_or stands k stand).number < entered = was.given k stand (slice_get_within stands k stand there) in

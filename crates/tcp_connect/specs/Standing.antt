@@ -14,7 +14,7 @@ pub record Pool (W : Type 0) : Type 0 where
   pub entered : ℕ
 
 -- no more stand than may, each by a number that was given, and that no other has
-pub record IsPool {W : Type 0} (pool : Pool W) : Type 0 where
+pub record IsStandPool {W : Type 0} (pool : Pool W) : Type 0 where
   pub few : length pool.stands ≤ MOST
   pub given : All (λ stand. stand.number < pool.entered) pool.stands
   pub distinct : AllPairs (λ one other. one.number ≢ other.number) pool.stands
@@ -50,7 +50,7 @@ pub record IsFirst {W : Type 0} (test : Stand W → Bool) (stands : List (Stand 
   pub first : (k : ℕ) (other : Stand W) → k < at → slice_get stands k ≡ Some other → test other ≡ false
 
 -- the one there is the last of those that pass
-pub record IsLast {W : Type 0} (test : Stand W → Bool) (stands : List (Stand W)) (at : ℕ) (stand : Stand W) : Type 0 where
+pub record IsLastStand {W : Type 0} (test : Stand W → Bool) (stands : List (Stand W)) (at : ℕ) (stand : Stand W) : Type 0 where
   pub there : slice_get stands at ≡ Some stand
   pub passes : test stand ≡ true
   pub last : (k : ℕ) (other : Stand W) → at < k → slice_get stands k ≡ Some other → test other ≡ false
@@ -67,10 +67,10 @@ EndsFirst {W} test old ended new =
     (λ waited. (at : ℕ) × (stand : Stand W) × IsFirst test old.stands at stand × (stand.waiting ≡ Some waited) × (new ≡ record old { stands = remove old.stands at }))
 
 -- the last of those that wait for this origin is in use from now on, by its number; none where none waits for it
-abbrev pub Takes : {W : Type 0} → List ℕ → Pool W → Option (ℕ × W) → Pool W → Type 0
-Takes {W} of old taken new =
+abbrev pub TakesStand : {W : Type 0} → List ℕ → Pool W → Option (ℕ × W) → Pool W → Type 0
+TakesStand {W} of old taken new =
     MatchOption taken (NonePasses (waits_for of) old.stands × (new ≡ old))
-    (λ one. (at : ℕ) × (stand : Stand W) × IsLast (waits_for of) old.stands at stand × (stand.number ≡ one.0) × (stand.waiting ≡ Some one.1)
+    (λ one. (at : ℕ) × (stand : Stand W) × IsLastStand (waits_for of) old.stands at stand × (stand.number ≡ one.0) × (stand.waiting ≡ Some one.1)
     × (new ≡ record old { stands = slice_set old.stands at (record stand { waiting = None }) }))
 
 -- where a new one to this origin finds no room, of which so many may stand, one that waits goes for it: to this origin where that is full, else any
@@ -80,16 +80,16 @@ pub record MakesRoom {W : Type 0} (of : List ℕ) (most : ℕ) (old : Pool W) (e
   pub room : count_to old.stands of < most → length old.stands < MOST → (ended ≡ None) × (new ≡ old)
 
 -- one more to this origin may stand, of which so many may, and there is a number for it
-pub record HasRoom {W : Type 0} (of : List ℕ) (most : ℕ) (pool : Pool W) : Type 0 where
+pub record HasStandRoom {W : Type 0} (of : List ℕ) (most : ℕ) (pool : Pool W) : Type 0 where
   pub origin : count_to pool.stands of < most
   pub whole : length pool.stands < MOST
   pub number : pool.entered + 1 < 2 ^ 64
 
 -- where there is room, one more stands, in use, by the next number, which no other has; else nothing changed
-abbrev pub Adds : {W : Type 0} → List ℕ → ℕ → Pool W → Option ℕ → Pool W → Type 0
-Adds {W} of most old place new =
-    MatchOption place (¬ HasRoom of most old × (new ≡ old))
-    (λ number. HasRoom of most old × (number ≡ old.entered) × NonePasses (has_number number) old.stands
+abbrev pub AddsStand : {W : Type 0} → List ℕ → ℕ → Pool W → Option ℕ → Pool W → Type 0
+AddsStand {W} of most old place new =
+    MatchOption place (¬ HasStandRoom of most old × (new ≡ old))
+    (λ number. HasStandRoom of most old × (number ≡ old.entered) × NonePasses (has_number number) old.stands
     × (new ≡ record { stands = old.stands ++ record { number = number; of = of; waiting = None } ∷ []; entered = old.entered + 1 }))
 
 -- the one of this number waits from now on, and is the last to have been put down; where none has it, what was to wait comes back

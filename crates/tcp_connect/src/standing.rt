@@ -1,6 +1,6 @@
 //! The connections that stand: how many to each server and in all, and which of them waits longest.
 ghost use Rattle.std.specs.Prelude.{◌≡◌, ◌+◌, ◌<◌, ◌≤◌, ℕ, true, false, is_some, length, MatchOption, IfSome, IfNone, IfOk, None, Some, slice_get, slice_set, remove, ◌++◌, ◌∷◌, [], ◌↔◌, IsTrue, OnErr, Option, option_copied, string_bytes};
-ghost use Rattle.tcp_connect.specs.Standing.{Stand, Pool, waits, is_to, waits_for, has_number, count_to, NonePasses, IsFirst, IsLast, HasRoom, Removes, EndsFirst, Takes, MakesRoom, Adds, PutsDown, Leaves};
+ghost use Rattle.tcp_connect.specs.Standing.{Stand, Pool, waits, is_to, waits_for, has_number, count_to, NonePasses, IsFirst, IsLastStand, HasStandRoom, Removes, EndsFirst, TakesStand, MakesRoom, AddsStand, PutsDown, Leaves};
 
 use std::alloc::{AllocError, Global};
 use std::marker::Model;
@@ -105,7 +105,7 @@ fn first_waiting_for<W>(places: &[Place<W>], of: &str) -> Option<usize>
 
 // The last of those that wait for this origin.
 fn last_waiting_for<W>(places: &[Place<W>], of: &str) -> Option<usize>
-    ensures { MatchOption result (NonePasses (waits_for of.now) places.now) (λ at. (stand : Stand W) × IsLast (waits_for of.now) places.now at stand) }
+    ensures { MatchOption result (NonePasses (waits_for of.now) places.now) (λ at. (stand : Stand W) × IsLastStand (waits_for of.now) places.now at stand) }
 {
     places.iter().rposition(|it| it.waits_for(of))
 }
@@ -141,13 +141,13 @@ pub(crate) struct Standing<W> {
 // Contracts see what stands, and how many were entered. Of every value it holds that no more stand than may, each by a number of
 // its own.
 impl<W> Model for Standing<W> {
-    ghost use Rattle.tcp_connect.specs.Standing.{Pool, IsPool};
+    ghost use Rattle.tcp_connect.specs.Standing.{Pool, IsStandPool};
 
     ghost Value = { Pool W };
 
     ghost view = { λ s. record { stands = s.places.items; entered = s.entered } };
 
-    ghost invariant = { λ s. IsPool (record { stands = s.places.items; entered = s.entered }) };
+    ghost invariant = { λ s. IsStandPool (record { stands = s.places.items; entered = s.entered }) };
 }
 
 impl<W> Standing<W> {
@@ -163,7 +163,7 @@ impl<W> Standing<W> {
 
     // The one to this origin that was put down last, which is in use from now on.
     pub(crate) fn take(&mut self, of: &str) -> Option<(u64, W)>
-        ensures { Takes of.now self.old result self.new }
+        ensures { TakesStand of.now self.old result self.new }
     {
         let at = last_waiting_for(&self.places, of)?;
         let place = &mut self.places[at];
@@ -182,7 +182,7 @@ impl<W> Standing<W> {
 
     // Whether one more to this origin may stand, of which so many may.
     fn has_room(&self, of: &str, most: usize) -> bool
-        ensures { IsTrue result ↔ HasRoom of.now most self.now }
+        ensures { IsTrue result ↔ HasStandRoom of.now most self.now }
     {
         self.places.len() < MOST && count(&self.places, of) < most && self.entered < u64::MAX
     }
@@ -191,7 +191,7 @@ impl<W> Standing<W> {
     fn add(&mut self, of: String, most: usize) -> Result<Option<u64>, AllocError>
     where
         W: Drop,
-        ensures ok { IfOk result (λ place. Adds (string_bytes of) most self.old place self.new) }
+        ensures ok { IfOk result (λ place. AddsStand (string_bytes of) most self.old place self.new) }
         ensures err { OnErr result (self.new ≡ self.old) }
         ensures whole { length self.new.stands ≤ MOST }
     {
@@ -245,7 +245,7 @@ impl<W: Drop> Standing<W> {
 
     // A place for a new one to an origin, of which so many may stand. One that waits goes for it where there is no room.
     pub(crate) fn enter(&mut self, of: String, most: usize) -> Result<Entered<W>, AllocError>
-        ensures ok { IfOk result (λ entered. (left : Pool W) × MakesRoom (string_bytes of) most self.old entered.ended left × Adds (string_bytes of) most left entered.place self.new) }
+        ensures ok { IfOk result (λ entered. (left : Pool W) × MakesRoom (string_bytes of) most self.old entered.ended left × AddsStand (string_bytes of) most left entered.place self.new) }
         ensures err { OnErr result ((ended : Option W) × MakesRoom (string_bytes of) most self.old ended self.new) }
         ensures origin { IfOk result (λ entered. IfSome entered.place (λ _. count_to self.new.stands (string_bytes of) ≤ most)) }
         ensures whole { length self.new.stands ≤ MOST }

@@ -7,9 +7,10 @@ use Rattle.std.proofs.lemmas.Bool.{eq-eqb}
 use Rattle.std.proofs.lemmas.Slice.Eq.{bytes_eq-Decides}
 use Rattle.std.proofs.lemmas.Option.{slice_get_within, get_or_from_slice_get}
 use Rattle.std.proofs.lemmas.List.Sums.{sum_by-cons, sum_by-set, sum_by_push, get_or-le-sum_by, count_by-le-length}
+use Rattle.address.specs.Address.{OriginText}
 use Rattle.work_queues.specs.Queues.{Seat, seats, numbers_of, queued_of}
-use Rattle.work_queues.specs.Tasks.{Text, Item, is_out, out_count}
-use Rattle.work_queues.specs.Lists.{key_at, item_of, items_of, hosts_in, host_seat, host_out, IsSeated, IsKept}
+use Rattle.work_queues.specs.Tasks.{Item, is_out, out_count}
+use Rattle.work_queues.specs.Lists.{key_at, item_of, items_of, hosts_in, host_seat, host_out, IsSeated, AreListsKept}
 use Rattle.work_queues.specs.inner.Lists.{one}
 use Rattle.work_queues.specs.declared.lists.Job.{Job}
 use Rattle.work_queues.specs.declared.lists.Lists.{Lists}
@@ -35,7 +36,7 @@ taken (x ∷ xs) zero i lt = absurd (omega arith)
 taken (x ∷ xs) (suc n) zero lt = refl
 taken (x ∷ xs) (suc n) (suc i) lt = taken xs n i (omega arith)
 
-pub contained : (xs : List Text) (i : ℕ) (x : Text) → slice_get xs i ≡ Some x → Contains xs x
+pub contained : (xs : List OriginText) (i : ℕ) (x : OriginText) → slice_get xs i ≡ Some x → Contains xs x
 contained xs i x at = (i, slice_get_within xs i x at, get_or_from_slice_get xs i x x at)
 
 -- ---- jobs and items
@@ -52,10 +53,10 @@ item_at lists number job at = mapped (item_of lists.hosts.entries) lists.jobs.it
 one-cons : (test : Job → Bool) (job : Job) (jobs : List Job) → count_by test (job ∷ jobs) ≡ one (test job) + count_by test jobs
 one-cons test job jobs = sum_by-cons (λ (j : Job). one (test j)) job jobs
 
-out-cons : (origin : Text) (item : Item) (items : List Item) → out_count (item ∷ items) origin ≡ one (is_out item.task && bytes_eq item.origin origin) + out_count items origin
+out-cons : (origin : OriginText) (item : Item) (items : List Item) → out_count (item ∷ items) origin ≡ one (is_out item.task && bytes_eq item.origin origin) + out_count items origin
 out-cons origin item items = sum_by-cons (λ (i : Item). one (is_out i.task && bytes_eq i.origin origin)) item items
 
-same_origin : (hosts : List (Text × ℕ)) (a b : ℕ) → (key_at hosts a ≡ key_at hosts b → a ≡ b) → bytes_eq (key_at hosts a) (key_at hosts b) ≡ (a == b)
+same_origin : (hosts : List (OriginText × ℕ)) (a b : ℕ) → (key_at hosts a ≡ key_at hosts b → a ≡ b) → bytes_eq (key_at hosts a) (key_at hosts b) ≡ (a == b)
 same_origin hosts a b distinct =
     elim (eqb_tells a b) [
       | inl h ↦ (let yes : bytes_eq (key_at hosts a) (key_at hosts b) ≡ true = (bytes_eq-Decides (key_at hosts a) (key_at hosts b)).1 (ap (λ z. key_at hosts z) h.1) in yes ∙ sym h.0)
@@ -67,7 +68,7 @@ same_origin hosts a b distinct =
     go unlike differ false e = e ∙ sym unlike
 
 -- the permits of a host's text are those of the host
-pub out_is : (hosts : List (Text × ℕ)) (host : ℕ) → host < length hosts → ((a b : ℕ) → a < length hosts → b < length hosts → key_at hosts a ≡ key_at hosts b → a ≡ b)
+pub out_is : (hosts : List (OriginText × ℕ)) (host : ℕ) → host < length hosts → ((a b : ℕ) → a < length hosts → b < length hosts → key_at hosts a ≡ key_at hosts b → a ≡ b)
     → (jobs : List Job) → ((number : ℕ) (job : Job) → slice_get jobs number ≡ Some job → job.host < length hosts) → out_count (map (item_of hosts) jobs) (key_at hosts host) ≡ host_out jobs host
 out_is hosts host lt distinct [] within = refl
 out_is hosts host lt distinct (job ∷ jobs) within =
@@ -104,7 +105,7 @@ pub seated : (here : Pool) (test : Job → Bool) (jobs : List Job) (count number
 seated here test jobs count number job is at = ap (λ z. slice_get z number) is.seats ∙ mapped (host_seat test) jobs number job at
 
 -- a job that is in has its host among those that are
-pub host_in : (here : Pool) (test : Job → Bool) (jobs : List Job) (hosts : List (Text × ℕ)) (number : ℕ) (job : Job) → IsSeated here test jobs (length hosts) → job.host < length hosts
+pub host_in : (here : Pool) (test : Job → Bool) (jobs : List Job) (hosts : List (OriginText × ℕ)) (number : ℕ) (job : Job) → IsSeated here test jobs (length hosts) → job.host < length hosts
     → slice_get jobs number ≡ Some job → test job ≡ true → Contains (hosts_in hosts here) (key_at hosts job.host)
 host_in here test jobs hosts number job is within at passes =
     let long = is.hosts in
@@ -135,7 +136,7 @@ host_in here test jobs hosts number job is within at passes =
         found (seat ∙ ap (λ z. Some (record { queue = 0; is_queued = z })) yes_some)
 
 -- the host at a place has the number that is first in its queue
-pub number_in : (here : Pool) (test : Job → Bool) (jobs : List Job) (hosts : List (Text × ℕ)) (place number host : ℕ) → IsSeated here test jobs (length hosts)
+pub number_in : (here : Pool) (test : Job → Bool) (jobs : List Job) (hosts : List (OriginText × ℕ)) (place number host : ℕ) → IsSeated here test jobs (length hosts)
     → place < length (hosts_in hosts here) → slice_get (numbers_of here.hosts.queues.items 0) place ≡ Some host → slice_get (seats here.numbers) number ≡ Some (record { queue = host; is_queued = true })
     → (job : Job) × (slice_get jobs number ≡ Some job) × (test job ≡ true) × (slice_get (hosts_in hosts here) place ≡ Some (key_at hosts job.host))
 number_in here test jobs hosts place number host is lt at seat =
@@ -158,9 +159,9 @@ number_in here test jobs hosts place number host is lt at seat =
 
 -- ---- a count as code reads it
 
-pub count_read : (lists : Lists) (host count : ℕ) → IsKept lists → slice_get (map (λ entry. entry.1) lists.hosts.entries) host ≡ Some count → count ≡ host_out lists.jobs.items host
+pub count_read : (lists : Lists) (host count : ℕ) → AreListsKept lists → slice_get (map (λ entry. entry.1) lists.hosts.entries) host ≡ Some count → count ≡ host_out lists.jobs.items host
 count_read lists host count kept at =
-    let entry = unmapped (λ (e : Text × ℕ). e.1) lists.hosts.entries host count at in
+    let entry = unmapped (λ (e : OriginText × ℕ). e.1) lists.hosts.entries host count at in
     entry.2 ∙ kept.out host entry.0 entry.1
 
 pub out_some : (jobs : List Job) (number : ℕ) (job : Job) → slice_get jobs number ≡ Some job → is_out job.task ≡ true → 0 < host_out jobs job.host

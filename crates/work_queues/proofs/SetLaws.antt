@@ -10,11 +10,12 @@ use Rattle.std.proofs.lemmas.List.{length-map, map-set, get_or_append_left}
 use Rattle.std.specs.List.{position_or_len}
 use Rattle.std.proofs.lemmas.List.Sums.{sum_by-cons, fails_before_first}
 use Rattle.std.proofs.Math.Seq.{get_or-append_seam}
+use Rattle.address.specs.Address.{OriginText}
 use Rattle.indexmap.specs.IndexMap.{set_value_at, insert_entry}
 use Rattle.work_queues.specs.Queues.{Seat, seats, IsPlaced}
 use Rattle.work_queues.specs.Pools.{IsPool}
-use Rattle.work_queues.specs.Tasks.{Text, Item, is_parked, is_waiting, is_out, is_due}
-use Rattle.work_queues.specs.Lists.{texts, key_at, item_of, items_of, host_seat, host_out, IsSeated, IsKept}
+use Rattle.work_queues.specs.Tasks.{Item, is_parked, is_waiting, is_out, is_due}
+use Rattle.work_queues.specs.Lists.{texts, key_at, item_of, items_of, host_seat, host_out, IsSeated, AreListsKept}
 use Rattle.work_queues.specs.inner.Lists.{one}
 use Rattle.work_queues.specs.declared.lists.Job.{Job}
 use Rattle.work_queues.specs.declared.lists.Lists.{Lists}
@@ -26,22 +27,22 @@ use Rattle.work_queues.proofs.ListLaws.{job_of, out-set, out-append}
 
 -- ---- a count that is written
 
-texts-write : (hosts : List (Text × ℕ)) (host count : ℕ) → texts (set_value_at hosts host count) ≡ texts hosts
+texts-write : (hosts : List (OriginText × ℕ)) (host count : ℕ) → texts (set_value_at hosts host count) ≡ texts hosts
 texts-write [] host count = refl
 texts-write (first ∷ others) zero count = refl
 texts-write (first ∷ others) (suc host) count = ap (λ z. first.0 ∷ z) (texts-write others host count)
 
-length-write : (hosts : List (Text × ℕ)) (host count : ℕ) → length (set_value_at hosts host count) ≡ length hosts
+length-write : (hosts : List (OriginText × ℕ)) (host count : ℕ) → length (set_value_at hosts host count) ≡ length hosts
 length-write [] host count = refl
 length-write (first ∷ others) zero count = refl
 length-write (first ∷ others) (suc host) count = ap suc (length-write others host count)
 
-written_same : (hosts : List (Text × ℕ)) (host count : ℕ) (entry : Text × ℕ) → slice_get (set_value_at hosts host count) host ≡ Some entry → entry.1 ≡ count
+written_same : (hosts : List (OriginText × ℕ)) (host count : ℕ) (entry : OriginText × ℕ) → slice_get (set_value_at hosts host count) host ≡ Some entry → entry.1 ≡ count
 written_same [] host count entry at = cc
 written_same (first ∷ others) zero count entry at = let is : (first.0, count) ≡ entry = cc in ap (λ z. z.1) (sym is)
 written_same (first ∷ others) (suc host) count entry at = written_same others host count entry at
 
-written_other : (hosts : List (Text × ℕ)) (host other count : ℕ) → other ≢ host → slice_get (set_value_at hosts host count) other ≡ slice_get hosts other
+written_other : (hosts : List (OriginText × ℕ)) (host other count : ℕ) → other ≢ host → slice_get (set_value_at hosts host count) other ≡ slice_get hosts other
 written_other [] host other count differ = refl
 written_other (first ∷ others) zero zero count differ = absurd (differ refl)
 written_other (first ∷ others) zero (suc other) count differ = refl
@@ -85,8 +86,8 @@ and_false : (b c : Bool) → c ≡ false → one (b && c) ≡ 0
 and_false true c is = ap one is
 and_false false c is = refl
 
-changed_out : (old new : Lists) (number : ℕ) (job : Job) (task : Task) (count : ℕ) → IsKept old → IsChanged old new number job task count
-    → (host : ℕ) (entry : Text × ℕ) → slice_get new.hosts.entries host ≡ Some entry → entry.1 ≡ host_out new.jobs.items host
+changed_out : (old new : Lists) (number : ℕ) (job : Job) (task : Task) (count : ℕ) → AreListsKept old → IsChanged old new number job task count
+    → (host : ℕ) (entry : OriginText × ℕ) → slice_get new.hosts.entries host ≡ Some entry → entry.1 ≡ host_out new.jobs.items host
 changed_out old new number job task count kept is host entry at =
     go (eqb_tells job.host host)
   where
@@ -116,7 +117,7 @@ changed_out old new number job task count kept is host entry at =
         let was = kept.out host entry (sym (written_other old.hosts.entries job.host host count (λ e. h.1 (sym e))) ∙ here) in
         was ∙ sym (jobs_out ∙ omega (arith, change, before, now))
 
-pub changed_keeps : (old new : Lists) (number : ℕ) (job : Job) (task : Task) (count : ℕ) → IsKept old → IsChanged old new number job task count → IsKept new
+pub changed_keeps : (old new : Lists) (number : ℕ) (job : Job) (task : Task) (count : ℕ) → AreListsKept old → IsChanged old new number job task count → AreListsKept new
 changed_keeps old new number job task count kept is =
     record {
       within = within;
@@ -185,14 +186,14 @@ still_seated : (old new : Pool) (test : Job → Bool) (jobs : List Job) (count :
 still_seated old new test jobs count is pool same more = record { pool = pool; seats = same ∙ is.seats; hosts = let long = is.hosts in omega (arith, long, more) }
 
 -- the lists stay as they are but for room, and for hosts that the pools have more
-pub room_keeps : (old new : Lists) → IsKept old → new.hosts.entries ≡ old.hosts.entries → new.jobs.items ≡ old.jobs.items
+pub room_keeps : (old new : Lists) → AreListsKept old → new.hosts.entries ≡ old.hosts.entries → new.jobs.items ≡ old.jobs.items
     → IsPool new.waiting → seats new.waiting.numbers ≡ seats old.waiting.numbers → vec_len old.waiting.numbers.queues ≤ vec_len new.waiting.numbers.queues
     → IsPool new.parked → seats new.parked.numbers ≡ seats old.parked.numbers → vec_len old.parked.numbers.queues ≤ vec_len new.parked.numbers.queues
-    → IsPlaced new.due → seats new.due ≡ seats old.due → vec_len new.due.queues ≡ vec_len old.due.queues → IsKept new
+    → IsPlaced new.due → seats new.due ≡ seats old.due → vec_len new.due.queues ≡ vec_len old.due.queues → AreListsKept new
 room_keeps old new kept hosts jobs waiting waiting_seats waiting_more parked parked_seats parked_more due due_seats due_queues =
     record {
       within = λ number job at. subst (λ z. job.host < length z) (sym hosts) (kept.within number job (ap (λ z. slice_get z number) (sym jobs) ∙ at));
-      distinct = subst (λ (z : List (Text × ℕ)). (a b : ℕ) → a < length z → b < length z → key_at z a ≡ key_at z b → a ≡ b) (sym hosts) kept.distinct;
+      distinct = subst (λ (z : List (OriginText × ℕ)). (a b : ℕ) → a < length z → b < length z → key_at z a ≡ key_at z b → a ≡ b) (sym hosts) kept.distinct;
       out = λ host entry at. kept.out host entry (ap (λ z. slice_get z host) (sym hosts) ∙ at) ∙ ap (λ z. host_out z host) (sym jobs);
       waiting = subst (λ z. IsSeated new.waiting (λ j. is_waiting j.task) z (length new.hosts.entries)) (sym jobs)
           (subst (λ z. IsSeated new.waiting (λ j. is_waiting j.task) old.jobs.items (length z)) (sym hosts)
@@ -221,13 +222,13 @@ added_seated old new test jobs count job is pool out added queues =
       hosts = let long = is.hosts in omega (arith, long, queues);
     }
 
-pub appended_keeps : (old new : Lists) (job : Job) → IsKept old → new.hosts ≡ old.hosts → new.jobs.items ≡ old.jobs.items ++ job ∷ [] → job.host < length old.hosts.entries
+pub appended_keeps : (old new : Lists) (job : Job) → AreListsKept old → new.hosts ≡ old.hosts → new.jobs.items ≡ old.jobs.items ++ job ∷ [] → job.host < length old.hosts.entries
     → is_out job.task ≡ false → is_waiting job.task ≡ false → is_parked job.task ≡ false → is_due job.task ≡ false
     → IsPool new.waiting → seats new.waiting.numbers ≡ seats old.waiting.numbers ++ record { queue = job.host; is_queued = false } ∷ []
     → vec_len new.waiting.numbers.queues ≡ vec_len old.waiting.numbers.queues
     → IsPool new.parked → seats new.parked.numbers ≡ seats old.parked.numbers ++ record { queue = job.host; is_queued = false } ∷ []
     → vec_len new.parked.numbers.queues ≡ vec_len old.parked.numbers.queues
-    → IsPlaced new.due → seats new.due ≡ seats old.due ++ record { queue = 0; is_queued = false } ∷ [] → vec_len new.due.queues ≡ vec_len old.due.queues → IsKept new
+    → IsPlaced new.due → seats new.due ≡ seats old.due ++ record { queue = 0; is_queued = false } ∷ [] → vec_len new.due.queues ≡ vec_len old.due.queues → AreListsKept new
 appended_keeps old new job kept hosts jobs in_hosts out waits parks dues waiting waiting_seats waiting_queues parked parked_seats parked_queues due due_seats due_queues =
     record {
       within = within;
@@ -275,21 +276,21 @@ none_out (job ∷ jobs) host within =
       | inr h ↦ (let none = and_false (is_out job.task) (job.host == host) h.0 in omega (arith, cons, none, rest))
     ]
 
-pub key-append : (hosts : List (Text × ℕ)) (origin : Text) (count host : ℕ) → host < length hosts → key_at (hosts ++ (origin, count) ∷ []) host ≡ key_at hosts host
+pub key-append : (hosts : List (OriginText × ℕ)) (origin : OriginText) (count host : ℕ) → host < length hosts → key_at (hosts ++ (origin, count) ∷ []) host ≡ key_at hosts host
 key-append hosts origin count host lt =
-    ap (λ z. get_or z host []) (map-append (λ (e : Text × ℕ). e.0) hosts (origin, count)) ∙ get_or_append_left (texts hosts) (origin ∷ []) [] host (simp length-map lt)
+    ap (λ z. get_or z host []) (map-append (λ (e : OriginText × ℕ). e.0) hosts (origin, count)) ∙ get_or_append_left (texts hosts) (origin ∷ []) [] host (simp length-map lt)
 
-pub key-append_last : (hosts : List (Text × ℕ)) (origin : Text) (count : ℕ) → key_at (hosts ++ (origin, count) ∷ []) (length hosts) ≡ origin
+pub key-append_last : (hosts : List (OriginText × ℕ)) (origin : OriginText) (count : ℕ) → key_at (hosts ++ (origin, count) ∷ []) (length hosts) ≡ origin
 key-append_last hosts origin count =
     let long : length (texts hosts) ≡ length hosts = simp length-map in
-    ap (λ z. get_or z (length hosts) []) (map-append (λ (e : Text × ℕ). e.0) hosts (origin, count))
+    ap (λ z. get_or z (length hosts) []) (map-append (λ (e : OriginText × ℕ). e.0) hosts (origin, count))
     ∙ ap (λ z. get_or (texts hosts ++ origin ∷ []) z []) (sym long)
     ∙ get_or-append_seam (texts hosts) origin [] []
 
-pub opened_keeps : (old new : Lists) (origin : Text) → IsKept old → new.hosts.entries ≡ old.hosts.entries ++ (origin, 0) ∷ [] → new.jobs ≡ old.jobs → new.due ≡ old.due
+pub opened_keeps : (old new : Lists) (origin : OriginText) → AreListsKept old → new.hosts.entries ≡ old.hosts.entries ++ (origin, 0) ∷ [] → new.jobs ≡ old.jobs → new.due ≡ old.due
     → ((host : ℕ) → host < length old.hosts.entries → key_at old.hosts.entries host ≢ origin)
     → IsPool new.waiting → seats new.waiting.numbers ≡ seats old.waiting.numbers → vec_len new.waiting.numbers.queues ≡ vec_len old.waiting.numbers.queues + 1
-    → IsPool new.parked → seats new.parked.numbers ≡ seats old.parked.numbers → vec_len new.parked.numbers.queues ≡ vec_len old.parked.numbers.queues + 1 → IsKept new
+    → IsPool new.parked → seats new.parked.numbers ≡ seats old.parked.numbers → vec_len new.parked.numbers.queues ≡ vec_len old.parked.numbers.queues + 1 → AreListsKept new
 opened_keeps old new origin kept hosts jobs due absent waiting waiting_seats waiting_queues parked parked_seats parked_queues =
     record {
       within = λ number job at. (let was = kept.within number job (ap (λ z. slice_get z.items number) (sym jobs) ∙ at) in omega (arith, was, more));
@@ -337,7 +338,7 @@ opened_keeps old new origin kept hosts jobs due absent waiting waiting_seats wai
               ])
         ]
 
-    out : (host : ℕ) (entry : Text × ℕ) → slice_get new.hosts.entries host ≡ Some entry → entry.1 ≡ host_out new.jobs.items host
+    out : (host : ℕ) (entry : OriginText × ℕ) → slice_get new.hosts.entries host ≡ Some entry → entry.1 ≡ host_out new.jobs.items host
     out host entry at =
         elim (get-append_cases old.hosts.entries (origin, 0) host entry (ap (λ z. slice_get z host) (sym hosts) ∙ at)) [
           | inl h ↦ kept.out host entry h ∙ ap (λ z. host_out z.items host) (sym jobs)
@@ -345,7 +346,7 @@ opened_keeps old new origin kept hosts jobs due absent waiting waiting_seats wai
         ]
 
 -- the items when only a host is added
-pub opened_items : (old new : Lists) (origin : Text) → IsKept old → new.hosts.entries ≡ old.hosts.entries ++ (origin, 0) ∷ [] → new.jobs ≡ old.jobs → items_of new ≡ items_of old
+pub opened_items : (old new : Lists) (origin : OriginText) → AreListsKept old → new.hosts.entries ≡ old.hosts.entries ++ (origin, 0) ∷ [] → new.jobs ≡ old.jobs → items_of new ≡ items_of old
 opened_items old new origin kept hosts jobs =
     ap (λ z. map (item_of new.hosts.entries) z.items) jobs ∙ ap (λ z. map (item_of z) old.jobs.items) hosts ∙ go old.jobs.items kept.within
   where
@@ -360,7 +361,7 @@ opened_items old new origin kept hosts jobs =
 
 -- ---- an origin that isn't there
 
-pub none_at : (xs : List Text) (test : Text → Bool) → None ≡ position test xs → (k : ℕ) → k < length xs → test (get_or xs k []) ≡ false
+pub none_at : (xs : List OriginText) (test : OriginText → Bool) → None ≡ position test xs → (k : ℕ) → k < length xs → test (get_or xs k []) ≡ false
 none_at xs test none k lt = go (nat_lt (position_or_len test xs) (length xs)) refl none
   where
     go : (b : Bool) → nat_lt (position_or_len test xs) (length xs) ≡ b → None ≡ cond b (Some (position_or_len test xs)) None → test (get_or xs k []) ≡ false
@@ -369,13 +370,13 @@ none_at xs test none k lt = go (nat_lt (position_or_len test xs) (length xs)) re
         let past : length xs ≤ position_or_len test xs = grind (arith, nat_tests) in
         fails_before_first test xs k [] (omega (arith, past, lt))
 
-pub inserted_last : (hosts : List (Text × ℕ)) (origin : Text) (count : ℕ) → ((k : ℕ) → k < length (texts hosts) → bytes_eq origin (key_at hosts k) ≡ false)
+pub inserted_last : (hosts : List (OriginText × ℕ)) (origin : OriginText) (count : ℕ) → ((k : ℕ) → k < length (texts hosts) → bytes_eq origin (key_at hosts k) ≡ false)
     → insert_entry bytes_eq hosts origin count ≡ hosts ++ (origin, count) ∷ []
 inserted_last [] origin count absent = refl
 inserted_last (first ∷ others) origin count absent =
     rw (absent 0 (omega arith)) (ap (λ z. first ∷ z) (inserted_last others origin count (λ k lt. absent (suc k) (omega arith))))
 
-pub key_differs : (a b : Text) → bytes_eq a b ≡ false → b ≢ a
+pub key_differs : (a b : OriginText) → bytes_eq a b ≡ false → b ≢ a
 key_differs a b unlike is = let yes_same : bytes_eq a b ≡ true = (bytes_eq-Decides a b).1 (sym is) in cc (unlike, yes_same)
 
 pub set-append_last : {X : Type 0} (xs : List X) (old new : X) → set (xs ++ old ∷ []) (length xs) new ≡ xs ++ new ∷ []

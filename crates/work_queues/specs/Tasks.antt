@@ -1,23 +1,20 @@
 -- What is left to do for each number, in order of the numbers.
 use Rattle.std.specs.Prelude.{ℕ, Bool, true, false, ◌&&◌, List, count_by}
 use Rattle.std.specs.Str.{bytes_eq}
+use Rattle.address.specs.Address.{OriginText}
 use Rattle.work_queues.specs.declared.task.Task.{Task}
 use Rattle.work_queues.specs.declared.task.Task.TheVariants.{Parked, Waiting, Out, Due, Done}
 
--- an origin by its bytes
-abbrev pub Text : Type 0
-Text = List ℕ
-
 -- a number's origin, and what is left to do for it
 pub record Item : Type 0 where
-  pub origin : Text
+  pub origin : OriginText
   pub task : Task
 
 -- the items by their numbers, and the origins of which a number waits or is parked
 pub record Listing : Type 0 where
   pub items : List Item
-  pub waiting : List Text
-  pub parked : List Text
+  pub waiting : List OriginText
+  pub parked : List OriginText
 
 -- its origin's rules have to be known first
 abbrev pub is_parked : Task → Bool
@@ -52,5 +49,5 @@ is_due Due = true
 is_due Done = false
 
 -- how many permits are out of the origin
-abbrev pub out_count : List Item → Text → ℕ
+abbrev pub out_count : List Item → OriginText → ℕ
 out_count items origin = count_by (λ item. is_out item.task && bytes_eq item.origin origin) items

@@ -24,13 +24,13 @@ pub struct Agenda {
 
 impl Model for Agenda {
     ghost use Rattle.work_queues.specs.Tasks.{Listing};
-    ghost use Rattle.work_queues.specs.Lists.{IsKept, items_of, waiting_of, parked_of};
+    ghost use Rattle.work_queues.specs.Lists.{AreListsKept, items_of, waiting_of, parked_of};
 
     ghost Value = { Listing };
 
     ghost view = { λ agenda. record { items = items_of agenda.lists; waiting = waiting_of agenda.lists; parked = parked_of agenda.lists } };
 
-    ghost invariant = { λ agenda. IsKept agenda.lists };
+    ghost invariant = { λ agenda. AreListsKept agenda.lists };
 }
 
 impl Agenda {

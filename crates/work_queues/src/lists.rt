@@ -1,6 +1,6 @@
 //! The lists behind an agenda, numbers by host, counted and queued, and how they grow by a number.
 ghost use Rattle.std.specs.Prelude.{◌≡◌, ◌<◌, [], ◌∷◌, ◌++◌, length, OnOk, IfOk};
-ghost use Rattle.work_queues.specs.Lists.{IsKept, items_of, key_at};
+ghost use Rattle.work_queues.specs.Lists.{AreListsKept, items_of, key_at};
 ghost use Rattle.work_queues.specs.inner.Lists.{HasSpace};
 
 use crate::pool::Pool;
@@ -30,8 +30,8 @@ pub(crate) struct Lists {
 impl Lists {
     /// The place of an origin among the hosts, where it is put if it isn't there. The error is want of memory.
     pub(crate) fn host_of(&mut self, alloc: Global, origin: Origin) -> Result<usize, AllocError>
-        requires { IsKept self.old }
-        ensures kept { IsKept self.new }
+        requires { AreListsKept self.old }
+        ensures kept { AreListsKept self.new }
         ensures items { items_of self.new ≡ items_of self.old }
         ensures ok { IfOk result (λ host. (host < length self.new.hosts.entries) × (key_at self.new.hosts.entries host ≡ origin)) }
     {
@@ -47,9 +47,9 @@ impl Lists {
 
     /// Makes room for one number more of this host.
     pub(crate) fn reserve(&mut self, host: usize) -> Result<(), AllocError>
-        requires kept { IsKept self.old }
+        requires kept { AreListsKept self.old }
         requires host { host < length self.old.hosts.entries }
-        ensures kept { IsKept self.new }
+        ensures kept { AreListsKept self.new }
         ensures items { items_of self.new ≡ items_of self.old }
         ensures hosts { self.new.hosts ≡ self.old.hosts }
         ensures room { OnOk result (HasSpace self.new host) }
@@ -63,10 +63,10 @@ impl Lists {
 
     /// One number more of this host, for which nothing is left to do. Takes no memory.
     pub(crate) fn append(&mut self, host: usize)
-        requires kept { IsKept self.old }
+        requires kept { AreListsKept self.old }
         requires host { host < length self.old.hosts.entries }
         requires room { HasSpace self.old host }
-        ensures kept { IsKept self.new }
+        ensures kept { AreListsKept self.new }
         ensures items { items_of self.new ≡ items_of self.old ++ record { origin = key_at self.old.hosts.entries host; task = Task.Done } ∷ [] }
     {
         self.jobs.push_reserved(Job {

@@ -15,7 +15,7 @@ use Rattle.std.specs.declared.cmp.Ordering.TheVariants.{Less, Equal, Greater}
 use Rattle.std.proofs.lemmas.List.Elements.{All-nil, All-cons, All-weaker}
 use Rattle.std.proofs.lemmas.List.Kept.{AllPairs-cons}
 use Rattle.frontier_core.specs.Tables.{Text, keys, lookup, IsOnce}
-use Rattle.frontier_core.specs.Machine.{Slot, OriginRules, slot_outcome, outcome_in, rules_in}
+use Rattle.frontier_core.specs.Machine.{Slot, OriginRules, slot_outcome, outcome_in, known_rules_in}
 use Rattle.frontier_core.specs.Readers.{record_of, ruled_of}
 use Rattle.frontier_core.proofs.TableLaws.{same, other, compare_texts}
 use Rattle.frontier_core.proofs.RouteLaws.{contains_tail, contains_cases}
@@ -50,18 +50,18 @@ recorded_among (entry ∷ entries) u some = elim (compare_texts entry.0 u) [
     later (Some x) is among = rw is (contains_tail entry.0 u (recorded_addresses (filter_map record_of entries)) among)
 
 -- an origin whose rules stand in the table is among the known ones
-pub ruled_among : (origins : List (Text × OriginRules)) (o : Text) → IsSome (rules_in (lookup origins o)) → Contains (ruled_origins (filter_map ruled_of origins)) o
+pub ruled_among : (origins : List (Text × OriginRules)) (o : Text) → IsSome (known_rules_in (lookup origins o)) → Contains (ruled_origins (filter_map ruled_of origins)) o
 ruled_among [] o some = absurd (false≢true some)
 ruled_among (origin ∷ origins) o some = elim (compare_texts origin.0 o) [
-  | same h t ↦ here h (rules_in (Some origin.1)) refl (rw t at some)
-  | other h t ↦ later (rules_in (Some origin.1)) refl (ruled_among origins o (rw t at some))
+  | same h t ↦ here h (known_rules_in (Some origin.1)) refl (rw t at some)
+  | other h t ↦ later (known_rules_in (Some origin.1)) refl (ruled_among origins o (rw t at some))
 ]
   where
-    here : origin.0 ≡ o → (r : Option RuleSetValue) → rules_in (Some origin.1) ≡ r → IsSome (rules_in (Some origin.1)) → Contains (ruled_origins (filter_map ruled_of (origin ∷ origins))) o
+    here : origin.0 ≡ o → (r : Option RuleSetValue) → known_rules_in (Some origin.1) ≡ r → IsSome (known_rules_in (Some origin.1)) → Contains (ruled_origins (filter_map ruled_of (origin ∷ origins))) o
     here h None is known = absurd (false≢true (rw is at known))
     here h (Some x) is known = rw is (zero, omega arith, h)
 
-    later : (r : Option RuleSetValue) → rules_in (Some origin.1) ≡ r → Contains (ruled_origins (filter_map ruled_of origins)) o → Contains (ruled_origins (filter_map ruled_of (origin ∷ origins))) o
+    later : (r : Option RuleSetValue) → known_rules_in (Some origin.1) ≡ r → Contains (ruled_origins (filter_map ruled_of origins)) o → Contains (ruled_origins (filter_map ruled_of (origin ∷ origins))) o
     later None is among = rw is among
     later (Some x) is among = rw is (contains_tail origin.0 o (ruled_origins (filter_map ruled_of origins)) among)
 
@@ -85,18 +85,18 @@ stands_recorded (entry ∷ entries) u once among = elim (compare_texts entry.0 u
     ]
 
 -- an origin among the known ones has rules in the table, where no origin is asked for twice
-pub stands_ruled : (origins : List (Text × OriginRules)) (o : Text) → IsOnce (keys origins) → Contains (ruled_origins (filter_map ruled_of origins)) o → IsSome (rules_in (lookup origins o))
+pub stands_ruled : (origins : List (Text × OriginRules)) (o : Text) → IsOnce (keys origins) → Contains (ruled_origins (filter_map ruled_of origins)) o → IsSome (known_rules_in (lookup origins o))
 stands_ruled [] o once (k, lt, is) = absurd (omega (arith, lt))
 stands_ruled (origin ∷ origins) o once among = elim (compare_texts origin.0 o) [
-  | same h t ↦ rw t (here h (rules_in (Some origin.1)) refl among)
-  | other h t ↦ rw t (later h (λ rest. stands_ruled origins o once.1 rest) (rules_in (Some origin.1)) refl among)
+  | same h t ↦ rw t (here h (known_rules_in (Some origin.1)) refl among)
+  | other h t ↦ rw t (later h (λ rest. stands_ruled origins o once.1 rest) (known_rules_in (Some origin.1)) refl among)
 ]
   where
-    here : origin.0 ≡ o → (r : Option RuleSetValue) → rules_in (Some origin.1) ≡ r → Contains (ruled_origins (filter_map ruled_of (origin ∷ origins))) o → IsSome (rules_in (Some origin.1))
+    here : origin.0 ≡ o → (r : Option RuleSetValue) → known_rules_in (Some origin.1) ≡ r → Contains (ruled_origins (filter_map ruled_of (origin ∷ origins))) o → IsSome (known_rules_in (Some origin.1))
     here h None is there = absurd (once.0 (subst (λ (w : Text). Contains (keys origins) w) (sym h) (ruled_asked origins o (rw is at there))))
     here h (Some x) is there = rw is refl
 
-    later : origin.0 ≢ o → (Contains (ruled_origins (filter_map ruled_of origins)) o → IsSome (rules_in (lookup origins o))) → (r : Option RuleSetValue) → rules_in (Some origin.1) ≡ r → Contains (ruled_origins (filter_map ruled_of (origin ∷ origins))) o → IsSome (rules_in (lookup origins o))
+    later : origin.0 ≢ o → (Contains (ruled_origins (filter_map ruled_of origins)) o → IsSome (known_rules_in (lookup origins o))) → (r : Option RuleSetValue) → known_rules_in (Some origin.1) ≡ r → Contains (ruled_origins (filter_map ruled_of (origin ∷ origins))) o → IsSome (known_rules_in (lookup origins o))
     later h others None is there = others (rw is at there)
     later h others (Some x) is there = elim (contains_cases origin.0 o (ruled_origins (filter_map ruled_of origins)) (rw is at there)) [
       | inl first ↦ absurd (h first)

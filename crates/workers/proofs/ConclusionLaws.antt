@@ -20,7 +20,7 @@ use Rattle.workers.specs.OneWorker.{worker_of, only_worker, AreByOne, AreByCrew}
 use Rattle.workers.specs.declared.note.PageNote.{PageNote}
 use Rattle.workers.specs.declared.note.RulesNote.{RulesNote}
 use Rattle.harvest.specs.declared.page.KeptPage.{KeptPage}
-use Rattle.workers.specs.Asks.{pages_asked, origins_asked, AreOnce, AreRecordedOrLost, IsLost, HasLostRules}
+use Rattle.workers.specs.Asks.{pages_asked, origins_asked, AreOnce, AreRecordedOrLost}
 use Rattle.workers.specs.inner.Concluded.{HasBody}
 use Rattle.workers.specs.inner.Noted.{AreNoted, Agrees, StandsPage, StandsRules, page_of}
 use Rattle.workers.specs.inner.Notes.{IsToldPage, IsToldRules, addresses, origins}
@@ -106,11 +106,11 @@ module _ (may_say : Text → Outcome → List ℕ → Type 0) (may_rule : Text �
   rules_noted asks notes sets noted P all o among = found_note (λ (note : RulesNote). note.origin) P sets o all (Contains-permutation _ _ o noted.rules among)
 
   -- what stands in the table is recorded or was given up
-  stands_as : (s : State) (u : Text) (told : Option Outcome) → MatchOption told (IsGivenUp s u) (λ x. (answers s).outcome u ≡ Some x) → IsSome ((answers s).outcome u) ⊎ IsLost s u
+  stands_as : (s : State) (u : Text) (told : Option Outcome) → MatchOption told (IsGivenUp s u) (λ x. (answers s).outcome u ≡ Some x) → IsSome ((answers s).outcome u) ⊎ IsGivenUp s u
   stands_as s u None lost = inr lost
   stands_as s u (Some x) recorded = inl (ap is_some recorded)
 
-  rules_stand_as : (s : State) (o : Text) (told : Option RuleSetValue) → MatchOption told (AreRulesGivenUp s o) (λ r. (answers s).rules o ≡ Some r) → IsSome ((answers s).rules o) ⊎ HasLostRules s o
+  rules_stand_as : (s : State) (o : Text) (told : Option RuleSetValue) → MatchOption told (AreRulesGivenUp s o) (λ r. (answers s).rules o ≡ Some r) → IsSome ((answers s).rules o) ⊎ AreRulesGivenUp s o
   rules_stand_as s o None lost = inr lost
   rules_stand_as s o (Some x) recorded = inl (ap is_some recorded)
 
@@ -118,10 +118,10 @@ module _ (may_say : Text → Outcome → List ℕ → Type 0) (may_rule : Text �
   recorded_or_lost asks notes sets s noted agrees = record {
     recorded = λ u some. Contains-permutation _ _ u (IsPermutation-sym _ _ noted.pages) (agrees.recorded u some);
     pages = λ u among. (let (note, is, stands) = page_noted asks notes sets noted (StandsPage s) agrees.stand u among in
-        subst (λ (w : Text). IsSome ((answers s).outcome w) ⊎ IsLost s w) is (stands_as s note.address note.told stands));
+        subst (λ (w : Text). IsSome ((answers s).outcome w) ⊎ IsGivenUp s w) is (stands_as s note.address note.told stands));
     ruled = λ o some. Contains-permutation _ _ o (IsPermutation-sym _ _ noted.rules) (agrees.ruled o some);
     origins = λ o among. (let (note, is, stands) = rules_noted asks notes sets noted (StandsRules s) agrees.stand_rules o among in
-        subst (λ (w : Text). IsSome ((answers s).rules w) ⊎ HasLostRules s w) is (rules_stand_as s note.origin note.told stands));
+        subst (λ (w : Text). IsSome ((answers s).rules w) ⊎ AreRulesGivenUp s w) is (rules_stand_as s note.origin note.told stands));
   }
 
 -- ---- the pages that are kept

@@ -13,7 +13,7 @@ use Rattle.fetcher.specs.declared.fetcher.Fetcher.{Ghosts as Meaning}
 use Rattle.fetcher.specs.declared.outcome.Outcome.{Outcome}
 use Rattle.frontier_core.specs.Tables.{Text, lookup}
 use Rattle.frontier_core.specs.Plans.{policy}
-use Rattle.frontier_core.specs.Machine.{State, Slot, answers, IsQuiet, is_done, is_known, slot, slot_outcome, Out, Nobody, OriginRules, Asked, rules_in}
+use Rattle.frontier_core.specs.Machine.{State, Slot, answers, IsQuiet, is_done, is_known, slot, slot_outcome, Out, Nobody, OriginRules, Asked, known_rules_in}
 use Rattle.frontier_core.specs.Lines.{IsReplay}
 use Rattle.frontier_core.specs.Invariants.{IsComplete, IsGivenUp, AreRulesGivenUp}
 use Rattle.frontier_core.specs.Routes.{Answers}
@@ -89,7 +89,7 @@ module _ (may_say : Text → Outcome → List ℕ → Type 0) (may_rule : Text �
   ruled_at s note o r is found stands told = go note.told stands told
     where
       go : (t : Option RuleSetValue) → MatchOption t (AreRulesGivenUp s note.origin) (λ y. (answers s).rules note.origin ≡ Some y) → IfSome t (λ y. may_rule note.origin y) → may_rule o r
-      go None lost h = absurd (let gone : (answers s).rules note.origin ≡ None = ap rules_in lost in let here : (answers s).rules note.origin ≡ Some r = ap (λ (w : Text). (answers s).rules w) is ∙ found in cc)
+      go None lost h = absurd (let gone : (answers s).rules note.origin ≡ None = ap known_rules_in lost in let here : (answers s).rules note.origin ≡ Some r = ap (λ (w : Text). (answers s).rules w) is ∙ found in cc)
       go (Some y) stood h =
           let here : (answers s).rules note.origin ≡ Some r = ap (λ (w : Text). (answers s).rules w) is ∙ found in
           let at : y ≡ r = cc in
@@ -128,7 +128,7 @@ module _ (may_say : Text → Outcome → List ℕ → Type 0) (may_rule : Text �
   known_some s o None lost = ap is_some lost
   known_some s o (Some r) known = go (lookup s.origins o) known
     where
-      go : (q : Option OriginRules) → rules_in q ≡ Some r → IsSome q
+      go : (q : Option OriginRules) → known_rules_in q ≡ Some r → IsSome q
       go None h = cc
       go (Some q) h = refl
 

@@ -1,5 +1,6 @@
 -- What the counters of the tables say: how many permits are out to workers, and how much is left to do.
-use Rattle.std.specs.Prelude.{◌≡◌, ℕ, ◌+◌, ◌<◌, ◌≤◌, ◌^◌, Bool, false, not, cond, List, length, count_by}
+use Rattle.std.specs.Prelude.{◌≡◌, ◌+◌, ◌<◌, ◌≤◌, ◌^◌, Bool, false, not, List, length, count_by}
+use Rattle.work_queues.specs.inner.Lists.{one}
 use Rattle.frontier_core.specs.Tables.{Text}
 use Rattle.frontier_core.specs.Machine.{Slot, Progress, OriginRules, is_done, is_known}
 use Rattle.frontier_core.specs.Owed.{is_out_to_worker, is_asked}
@@ -13,10 +14,6 @@ is_left q = not (is_done q)
 -- the rules are asked for, and not known
 abbrev pub is_unknown : OriginRules → Bool
 is_unknown rules = not (is_known rules)
-
--- one where it is so
-abbrev pub one : Bool → ℕ
-one b = cond b 1 0
 
 -- what an address adds
 abbrev pub share_of : Progress → Share

@@ -3,7 +3,7 @@ ghost use Rattle.std.specs.Prelude.{◌≡◌, ℕ, ◌<◌, ◌+◌, ◌^◌, l
 ghost use Rattle.frontier_core.specs.Tables.{Text, lookup};
 ghost use Rattle.frontier_core.specs.Routes.{admits};
 ghost use Rattle.address.specs.Address.{origin_of};
-ghost use Rattle.frontier_core.specs.Machine.{Slot as Held, slot_outcome, Parked, Waiting, slot, arrival, rules_in, asked_count, IsDue, IsQuiet, HasRoom};
+ghost use Rattle.frontier_core.specs.Machine.{Slot as Held, slot_outcome, Parked, Waiting, slot, arrival, known_rules_in, asked_count, IsDue, IsQuiet, HasRoom};
 ghost use Rattle.frontier_core.specs.Invariants.{IsOverfull, IsStuck, IsGivenUp, AreRulesGivenUp};
 ghost use Rattle.frontier_core.specs.Owed.{owed};
 ghost use Rattle.frontier_core.specs.inner.TableCalls.{key_numbered};
@@ -55,7 +55,7 @@ impl Board {
 
     /// The robots rules of an origin, where they are known.
     pub fn rules_of(&self, origin: &Origin) -> Option<&RuleSet>
-        ensures { MatchOption result (rules_in (lookup self.now.origins origin.now) ≡ None) (λ rules. rules_in (lookup self.now.origins origin.now) ≡ Some rules.now) }
+        ensures { MatchOption result (known_rules_in (lookup self.now.origins origin.now) ≡ None) (λ rules. known_rules_in (lookup self.now.origins origin.now) ≡ Some rules.now) }
     {
         self.robots_of(origin)?.rules()
     }

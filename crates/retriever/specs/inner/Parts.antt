@@ -15,10 +15,10 @@ use Rattle.harvest.specs.Harvests.{Harvested}
 use Rattle.workers.specs.declared.retrieval.Halt.{Halt}
 use Rattle.local_tree.specs.Names.{IsNaming}
 use Rattle.local_tree.specs.PlainNames.{plain_name_of}
-use Rattle.report.specs.Entries.{lines_of as harvest_lines}
+use Rattle.report.specs.Entries.{harvest_lines_of}
 use Rattle.report.specs.ExitStatus.{exit_status}
 use Rattle.report.specs.Report.{report_text}
-use Rattle.retriever.specs.InputFound.{TellsOf, TellsFault}
+use Rattle.retriever.specs.InputFound.{TellsSite, TellsFault}
 use Rattle.retriever.specs.Retrieved.{Finish, Stopped, Finishes}
 use Rattle.retriever.specs.Run.{finish_text, finish_status}
 use Rattle.retriever.specs.Site.{IsWrongBy, whole_of}
@@ -38,7 +38,7 @@ pub record IsOutputOf (order : Order) (whole : Answers) (text : List ℕ) (statu
 
 -- what the reader has left tells a site, and its retrieval comes to this text and this status
 abbrev pub IsOutput : (List ℕ → SiteAnswers → Type 0) → Order → Option (List ℕ) → List ℕ → ℕ → Type 0
-IsOutput IsOf order known text status = (site : SiteAnswers) × TellsOf IsOf known site × IsOutputOf order (whole_of site) text status
+IsOutput IsOf order known text status = (site : SiteAnswers) × TellsSite IsOf known site × IsOutputOf order (whole_of site) text status
 
 -- what the order and the reader come to instead of a retrieval: a site on the network isn't one that an input tells
 abbrev pub IsUnfit : Order → Option (List ℕ) → Fault → Type 0
@@ -69,9 +69,9 @@ IsRead h = AreEntries h × AreRecords h × ArePages h × IfSome h.plan (λ plan.
 -- what is told of a retrieval: its report, in which the kept pages have their names, and the status of its records, of a
 -- harvest that was read, or the cause for which it stopped; before either what is shown of its trace, which is nothing where a
 -- check failed
-abbrev pub IsToldOf : Bool → Result Harvested Halt → List ℕ → ℕ → Type 0
-IsToldOf is_shown (Ok h) text status =
-    IsRead h × (names : List (List ℕ)) × IsNaming (map plain_name_of h.kept) names × (text ≡ trace_text (shown_of is_shown h.trace) ++ report_text (harvest_lines h names))
+abbrev pub IsRetrievalTold : Bool → Result Harvested Halt → List ℕ → ℕ → Type 0
+IsRetrievalTold is_shown (Ok h) text status =
+    IsRead h × (names : List (List ℕ)) × IsNaming (map plain_name_of h.kept) names × (text ≡ trace_text (shown_of is_shown h.trace) ++ report_text (harvest_lines_of h names))
     × (status ≡ exit_status (map (λ recorded. recorded.1) h.records))
-IsToldOf is_shown (Err halt) text status =
+IsRetrievalTold is_shown (Err halt) text status =
     (text ≡ trace_text (shown_of (is_borne_out halt.cause && is_shown) halt.harvest.trace) ++ finish_text (Stopped halt.cause)) × (status ≡ 1)

@@ -11,7 +11,7 @@ use Rattle.local_tree.specs.PlainNames.{plain_name_of}
 use Rattle.local_tree.specs.SiteFiles.{IsWhole, IsTorn}
 use Rattle.local_tree.specs.declared.site_files.WriteFault.{WriteFault}
 use Rattle.local_tree.specs.declared.site_files.WriteFault.TheVariants.{Device}
-use Rattle.report.specs.Entries.{lines_of}
+use Rattle.report.specs.Entries.{harvest_lines_of}
 use Rattle.report.specs.ExitStatus.{exit_status}
 use Rattle.report.specs.Report.{report_text}
 use Rattle.retriever.specs.inner.Live.{IsTornTold}
@@ -45,7 +45,7 @@ IsPutAndTold IsTold names bodies (text, wanted) old new =
 
 -- the text of a harvest whose kept pages have these names
 abbrev pub harvest_text : Bool → Harvested → List (List ℕ) → List ℕ
-harvest_text is_shown h names = trace_text (shown_of is_shown h.trace) ++ report_text (lines_of h names)
+harvest_text is_shown h names = trace_text (shown_of is_shown h.trace) ++ report_text (harvest_lines_of h names)
 
 -- what is put and told of what was retrieved: the kept pages and the report of a harvest that was read, or the line of the
 -- cause for which it stopped; or there is no memory for it, and nothing is put

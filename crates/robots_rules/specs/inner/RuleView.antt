@@ -1,7 +1,7 @@
 -- What the code's own form of a rule stands for.
 use Rattle.std.specs.Prelude.{◌≡◌, ℕ, Bool, List, [], ◌∷◌, ◌++◌, if◌then◌else◌, Vec}
 use Rattle.robots_rules.specs.Access.{RuleValue}
-use Rattle.robots_rules.specs.Patterns.{ends_text, front, parts_of}
+use Rattle.robots_rules.specs.Patterns.{ends_text, front, matching_parts}
 
 -- the pattern that has these parts and a last `$` or not
 abbrev pub pattern_with : Bool → List ℕ → List ℕ
@@ -10,7 +10,7 @@ pattern_with ends parts = if ends then parts ++ 36 ∷ [] else front parts
 -- these are the parts of that pattern, and it ends so
 pub record AreParts (ends : Bool) (parts : List ℕ) : Type 0 where
   pub ending : ends_text (pattern_with ends parts) ≡ ends
-  pub whole : parts_of (pattern_with ends parts) ≡ parts
+  pub whole : matching_parts (pattern_with ends parts) ≡ parts
 
 -- the rule that a key tells
 abbrev pub rule_by : {Z : Type 0} → Bool × Vec ℕ Z → RuleValue

@@ -17,14 +17,14 @@ use Rattle.site_maps.specs.declared.reading.Reading.{Reading}
 use Rattle.site_maps.specs.RuleLines.{file_head}
 use Rattle.site_maps.specs.Lines.{Statement, robots, HasForm}
 use Rattle.site_inputs.specs.Names.{named, IsNamed}
-use Rattle.site_maps.specs.Maps.{answers_of, file_below, rules_of, is_ruling, HasPage, HasRobots, IsInPlace, IsAtRoot, IsRepeated, IsGood, IsBadLine, IsBadAddress, IsPlaced, texts_of}
+use Rattle.site_maps.specs.Maps.{answers_of, file_below, rules_of, is_ruling, HasPage, HasRobots, IsInPlace, IsAtRoot, IsRepeated, IsGood, IsBadLine, IsBadAddress, IsPlacedLine, texts_of}
 
 -- ---- what is kept
 
 -- the answer of a page whose edge lines may still follow
-abbrev pub opened : Option Open → List (List ℕ × Outcome)
-opened (Some (Page page)) = (page.address, outcome.Page page.status page.edges.items) ∷ []
-opened other = []
+abbrev pub opened_answer : Option Open → List (List ℕ × Outcome)
+opened_answer (Some (Page page)) = (page.address, outcome.Page page.status page.edges.items) ∷ []
+opened_answer other = []
 
 -- the rules of an origin whose rule lines may still follow
 abbrev pub opened_rules : Option Open → List (List ℕ × RuleSetValue)
@@ -33,7 +33,7 @@ opened_rules other = []
 
 -- the answers so far, that of the open page last
 abbrev pub answers_in : Reading → List (List ℕ × Outcome)
-answers_in r = r.answers.entries ++ opened r.open
+answers_in r = r.answers.entries ++ opened_answer r.open
 
 -- the rule sets so far, that of the open origin last
 abbrev pub all_rules : Reading → List (List ℕ × RuleSetValue)
@@ -146,7 +146,7 @@ Takes old s result new =
 abbrev pub IsBad : List Statement → List ℕ → InputLineFault → Type 0
 IsBad above line Line = IsBadLine above line
 IsBad above line Address = IsBadAddress above line
-IsBad above line Memory = IsPlaced above line
+IsBad above line Memory = IsPlacedLine above line
 
 -- the bytes are a line that is taken below the lines so far, or are refused for what is wrong with them
 abbrev pub Reads : {U : Type 0} → Reading → List ℕ → Result U InputLineFault → Reading → Type 0

@@ -1,12 +1,12 @@
 use Rattle.std.proofs.Common.{◌≡◌, ◌∙◌, ◌≤◌, ◌∷◌, length, sym, ap, subst, arith}
 use Rattle.follow_filters.specs.Patterns.{parts_within}
 use Rattle.follow_filters.proofs.ClassLemmas.{behind}
-use Rattle.follow_filters.proofs.PatternLemmas.{parts_within-more, parts_of-within}
+use Rattle.follow_filters.proofs.PatternLemmas.{parts_within-more, parts_spelled-within}
 use Rattle.follow_filters.proofs.spelling.spelled_parts.Goals as goal
 
 pub loop-first-init : goal.loop-first-init
 loop-first-init c =
-    (length c.args.text.now, omega arith, ap (λ front. behind front (parts_within (length c.args.text.now) c.args.text.now)) c.new-parts.ensures.items ∙ parts_of-within c.args.text.now)
+    (length c.args.text.now, omega arith, ap (λ front. behind front (parts_within (length c.args.text.now) c.args.text.now)) c.new-parts.ensures.items ∙ parts_spelled-within c.args.text.now)
 
 pub loop-first-preserved : goal.loop-first-preserved
 loop-first-preserved c =

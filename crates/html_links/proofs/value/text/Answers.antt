@@ -1,7 +1,7 @@
-use Rattle.html_links.specs.Values.{text_of}
+use Rattle.html_links.specs.Values.{value_text_of}
 use Rattle.html_links.proofs.Referencing.{plain}
 use Rattle.html_links.proofs.value.text.Goals as goal
 
 pub returns-in-None : goal.returns-in-None
-unfolding text_of
+unfolding value_text_of
 returns-in-None c = rw (plain c.args.value.now c.in-None.ensures) c.decoded.ensures

@@ -2,7 +2,7 @@ use Rattle.std.proofs.Common.{◌≡◌, ◌+◌, ◌<◌, ◌⊎◌, ℕ, List,
 use Rattle.std.proofs.lemmas.List.{get_or-map, length-map, length_push}
 use Rattle.std.specs.BTreeMap.{get_by_text}
 use Rattle.std.specs.String.{string_bytes}
-use Rattle.local_tree.specs.Names.{IsDirectory, numbered}
+use Rattle.local_tree.specs.Names.{IsDirectory, numbered_name}
 use Rattle.local_tree.specs.inner.Taken.{lent_text, remembered, HasSameNames, AreLeast, IsPast}
 use Rattle.local_tree.proofs.NamingLaws.{Assigned, IsBehind, Assigned-start, Assigned-step, IsNaming_from, same_directories, map_push}
 use Rattle.local_tree.proofs.LeastLaws.{behind_from_past}
@@ -23,7 +23,7 @@ first_free-requires-clause-passed c =
     ∙ ap (λ i. get_or plain i []) (sym long) in
     let same : HasSameNames plain (map lent_text c.deref.result.now) = subst (λ xs. HasSameNames plain (map lent_text xs)) (sym c.deref.ensures.value) c.in_ok-sorted.ensures.same in
     λ v k held below. elim (Assigned-start plain names next c.loop-i.invariant.assigned own place (omega (arith, long, all)) v (sym (ap (λ o. unwrap_or o 0) held)) k below) [
-      | inl inside ↦ inl ((same_directories plain (map lent_text c.deref.result.now) same (numbered own k)).0 inside)
+      | inl inside ↦ inl ((same_directories plain (map lent_text c.deref.result.now) same (numbered_name own k)).0 inside)
       | inr has ↦ inr has
     ]
 
@@ -47,8 +47,8 @@ loop-i-preserved c =
       | inl inside ↦ inl ((same_directories plain (map lent_text c.deref.result.now) same name).0 inside)
       | inr has ↦ inr has
     ]) in
-    let before : (k : ℕ) → k < number → IsDirectory plain (numbered own k) ⊎ IsSome (next (numbered own k)) = λ k less. elim (c.in_ok-name.ensures.before k less) [
-      | inl inside ↦ inl ((same_directories plain (map lent_text c.deref.result.now) same (numbered own k)).1 inside)
+    let before : (k : ℕ) → k < number → IsDirectory plain (numbered_name own k) ⊎ IsSome (next (numbered_name own k)) = λ k less. elim (c.in_ok-name.ensures.before k less) [
+      | inl inside ↦ inl ((same_directories plain (map lent_text c.deref.result.now) same (numbered_name own k)).1 inside)
       | inr has ↦ inr has
     ] in
     let least = c.deref-in-loop-i.result.now in

@@ -2,7 +2,7 @@ use Rattle.std.proofs.Common.{map, All, ap, sym, ◌∙◌, subst}
 use Rattle.std.proofs.lemmas.List.{length-map}
 use Rattle.std.specs.String.{string_bytes}
 use Rattle.local_tree.specs.PlainNames.{plain_name_of}
-use Rattle.local_tree.specs.Names.{numbered, IsNaming}
+use Rattle.local_tree.specs.Names.{numbered_name, IsNaming}
 use Rattle.local_tree.specs.LocalNames.{StaysInside, HasShortSegments, IsVisible}
 use Rattle.local_tree.proofs.NamingLaws.{IsNaming-sole, IsNaming-distinct, IsNaming-apart}
 use Rattle.local_tree.proofs.PlainLaws.{all_names, numbered_made, made_stays_inside, made_visible, numbered_short}
@@ -21,7 +21,7 @@ returns c =
       count = sym (length-map c.in_ok-assign.field-0.items string_bytes) ∙ naming.count ∙ length-map pages plain_name_of;
       distinct = IsNaming-distinct plain names naming;
       apart = IsNaming-apart plain names naming;
-      inside = all_names StaysInside pages names naming addresses (λ page k is. made_stays_inside (numbered (plain_name_of page) k) (numbered_made page k is));
+      inside = all_names StaysInside pages names naming addresses (λ page k is. made_stays_inside (numbered_name (plain_name_of page) k) (numbered_made page k is));
       short = all_names HasShortSegments pages names naming addresses numbered_short;
-      visible = all_names (All IsVisible) pages names naming addresses (λ page k is. made_visible (numbered (plain_name_of page) k) (numbered_made page k is));
+      visible = all_names (All IsVisible) pages names naming addresses (λ page k is. made_visible (numbered_name (plain_name_of page) k) (numbered_made page k is));
     }

@@ -1,6 +1,6 @@
 use Rattle.std.proofs.Common.{◌≡◌, ℕ, ◌∙◌, [], false, List, refl, sym, ap, map, subst}
 use Rattle.std.specs.Prelude.{fold}
-use Rattle.robots_rules.specs.Lines.{Line as Said, lines_in}
+use Rattle.robots_rules.specs.Lines.{LineValue, lines_in}
 use Rattle.robots_rules.specs.inner.LineView.{line_value}
 use Rattle.robots_rules.specs.Octets.{normal_path}
 use Rattle.robots_rules.specs.Access.{RuleValue, RuleSetValue, RulesAllow}
@@ -15,7 +15,7 @@ returns-clause-rules c =
     let set : List RuleValue → RuleSetValue = λ rules. record { closed = false; rules = rules } in
     ap set
     (c.in_ok-rules.ensures
-    ∙ ap (fold with_rule []) (c.in_ok-stated.ensures ∙ ap (λ (lines : List Said). map rule_of (rules_for_us (groups_of lines).groups)) (ap (map line_value) c.deref.ensures.value ∙ c.in_ok-lines.ensures)))
+    ∙ ap (fold with_rule []) (c.in_ok-stated.ensures ∙ ap (λ (lines : List LineValue). map rule_of (rules_for_us (groups_of lines).groups)) (ap (map line_value) c.deref.ensures.value ∙ c.in_ok-lines.ensures)))
 
 pub returns-clause-stated : goal.returns-clause-stated
 unfolding stated_in
@@ -25,7 +25,7 @@ returns-clause-stated c =
     let text = normal_path path in
     let kept : c.in_ok-rules.rules.items ≡ fold with_rule [] stated =
     c.in_ok-rules.ensures
-    ∙ ap (fold with_rule []) (c.in_ok-stated.ensures ∙ ap (λ (lines : List Said). map rule_of (rules_for_us (groups_of lines).groups)) (ap (map line_value) c.deref.ensures.value ∙ c.in_ok-lines.ensures)) in
+    ∙ ap (fold with_rule []) (c.in_ok-stated.ensures ∙ ap (λ (lines : List LineValue). map rule_of (rules_for_us (groups_of lines).groups)) (ap (map line_value) c.deref.ensures.value ∙ c.in_ok-lines.ensures)) in
     let same = kept-answers stated text in (
       λ allow. same.0 (subst (λ (rules : List RuleValue). RulesAllow rules text) kept allow.1),
       λ allow. (refl, subst (λ (rules : List RuleValue). RulesAllow rules text) (sym kept) (same.1 allow)),

@@ -1,5 +1,5 @@
 use Rattle.std.proofs.Common.{inl, ap, sym, ◌∙◌, Ok}
-use Rattle.address.specs.Address.{text_of, is_too_long}
+use Rattle.address.specs.Address.{url_text_of, is_too_long}
 use Rattle.address.proofs.UrlLemmas.{is_other_scheme, refused_scheme, refused_user, refused_length, accepted, IsHttp-from_rules, Ok_same, gives_shared}
 use Rattle.address.proofs.address.Address.from_url.Goals as goal
 
@@ -30,4 +30,4 @@ returns c =
     let http = ap is_other_scheme (sym c.scheme.ensures.value) ∙ sym c.ne.ensures ∙ c.if-ne.false in
     let none = sym c.has_credentials.ensures ∙ c.if-has_credentials.false in
     let same = Ok_same c.in_ok-url.ensures in
-    gives_shared _ _ _ (accepted c.args.url http none (ap is_too_long same ∙ sym c.is_too_long.ensures.value ∙ c.if-is_too_long.false) ∙ ap (λ u. Ok (text_of u)) same) c.sharing.ensures
+    gives_shared _ _ _ (accepted c.args.url http none (ap is_too_long same ∙ sym c.is_too_long.ensures.value ∙ c.if-is_too_long.false) ∙ ap (λ u. Ok (url_text_of u)) same) c.sharing.ensures

@@ -8,7 +8,7 @@ use Rattle.std.proofs.lemmas.List.Splits.{length-slice_split}
 use Rattle.std.proofs.lemmas.List.Sums.{count_by-le-length}
 use Rattle.std.proofs.lemmas.Option.{slice_get-get_or}
 use Rattle.std.proofs.lemmas.Result.{err_from_is_err_and}
-use Rattle.site_maps.specs.Maps.{lines_of}
+use Rattle.site_maps.specs.Maps.{text_lines_of}
 use Rattle.site_maps.proofs.MapReads.{map_push, first_bad}
 use Rattle.site_maps.proofs.ReadingLaws.{fresh_of}
 use Rattle.site_maps.proofs.map_site.MapSite.read.Goals as goal
@@ -33,7 +33,7 @@ returns-in-Err-clause-fault c =
     (λ x b q k. search (rules, tests)))) c.loop-line.yielded _ c.loop-line.yielded_by in
     let (_, _, count, told) = c.loop-line.invariant in
     let (above, m, t) = told in
-    let lines = lines_of c.args.text.now in
+    let lines = text_lines_of c.args.text.now in
     let k = length c.loop-line.yielded in
     let line = c.in-Some.line.now in
     let at : slice_get lines k ≡ Some line = slice_get-get_or lines k line turn.0 ∙ ap Some (sym turn.1) in

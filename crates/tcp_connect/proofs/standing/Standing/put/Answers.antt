@@ -2,7 +2,7 @@ use Rattle.std.proofs.Common.{◌≡◌, ◌∙◌, List, [], ◌∷◌, ◌++�
 use Rattle.std.specs.Prelude.{remove}
 use Rattle.std.proofs.lemmas.Option.{get_or_from_slice_get}
 use Rattle.tcp_connect.specs.Standing.{Stand, Pool}
-use Rattle.tcp_connect.proofs.StandingLaws.{IsPool-move}
+use Rattle.tcp_connect.proofs.StandingLaws.{IsStandPool-move}
 use Rattle.tcp_connect.proofs.standing.Standing.put.Goals as goal
 
 pub invariant_of-self : goal.invariant_of-self
@@ -18,7 +18,7 @@ invariant_of-self g c =
     let pushed : c.push.new.self.items ≡ c.remove-place.new.self.items ++ c.put.new.self ∷ [] =
     c.push.ensures.items ∙ ap (λ b. cond b (c.remove-place.new.self.items ++ c.put.new.self ∷ []) c.remove-place.new.self.items) fits in
     rw (pushed, c.remove-place.ensures.items)
-    (IsPool-move c.self.inside.places.items c.self.inside.entered at stand c.put.new.self c.self.invariant there (ap (λ s. s.number) c.put.ensures ∙ ap (λ s. s.number) same))
+    (IsStandPool-move c.self.inside.places.items c.self.inside.entered at stand c.put.new.self c.self.invariant there (ap (λ s. s.number) c.put.ensures ∙ ap (λ s. s.number) same))
 
 pub returns : goal.returns
 returns g c =

@@ -1,7 +1,7 @@
 use Rattle.std.proofs.Common.{ap, ◌∙◌, ◌≡◌, None, Some, get_or, slice_get, slice_set}
 use Rattle.std.proofs.lemmas.Option.{get_or_from_slice_get}
 use Rattle.tcp_connect.specs.Standing.{Stand, Pool}
-use Rattle.tcp_connect.proofs.StandingLaws.{IsPool-set}
+use Rattle.tcp_connect.proofs.StandingLaws.{IsStandPool-set}
 use Rattle.tcp_connect.proofs.standing.Standing.take.Goals as goal
 
 pub invariant_of-self-2 : goal.invariant_of-self-2
@@ -13,7 +13,7 @@ invariant_of-self-2 g c =
     let there : slice_get c.self.inside.places.items at ≡ Some stand = cc last.there in
     let read : get_or c.self.inside.places.items at taken ≡ stand = get_or_from_slice_get c.self.inside.places.items at stand taken there in
     let same : taken ≡ stand = cc c.index_mut-place.ensures.value in
-    IsPool-set c.self.inside.places.items c.self.inside.entered at stand c.take.new.self c.self.invariant there (ap (λ s. s.number) c.take.ensures.after ∙ ap (λ s. s.number) same)
+    IsStandPool-set c.self.inside.places.items c.self.inside.entered at stand c.take.new.self c.self.invariant there (ap (λ s. s.number) c.take.ensures.after ∙ ap (λ s. s.number) same)
 
 pub returns : goal.returns
 returns g c =
