@@ -1,1 +1,2 @@
 pub mod HopLemmas
+pub mod StandardFacts

@@ -16,5 +16,6 @@ pub use given::Given;
 pub use hops::Hops;
 pub use noted::Noted;
 pub use recording::Recording;
+pub use robots_answer::MAX_REDIRECTS;
 pub use telling::Telling;
 pub use told::Told;

@@ -6,6 +6,15 @@ use fetcher::is_successful;
 use robots_rules::{RuleSet, parse};
 use std::alloc::{AllocError, Global};
 
+/// How many redirects of a robots file are followed (RFC 9309, section 2.3.1.2).
+pub const MAX_REDIRECTS: u32 = 5;
+
+/// The first status that says that the server failed (RFC 9110, section 15.6).
+const FIRST_SERVER_ERROR: u16 = 500;
+
+/// The last of these.
+const LAST_SERVER_ERROR: u16 = 599;
+
 /// The rules by the status and the body of the last answer.
 #[tactic(auto, unfolding(crate::specs::RobotsAnswers::rules_by_status))]
 pub(crate) fn rules_by_status(
@@ -18,7 +27,7 @@ pub(crate) fn rules_by_status(
     if is_successful(status) {
         return parse(alloc, file);
     }
-    if 500 <= status && status <= 599 {
+    if FIRST_SERVER_ERROR <= status && status <= LAST_SERVER_ERROR {
         return Ok(RuleSet::none());
     }
     Ok(RuleSet::all())

@@ -16,7 +16,7 @@ use Rattle.connect.specs.declared.connect.Connect.{Ghosts as Connects}
 use Rattle.http_fetcher.specs.declared.chain.Hop.{Hop}
 use Rattle.http_fetcher.specs.declared.chain.Hop.TheVariants.{Next, Last}
 use Rattle.http_fetcher.specs.Chains.{SaysHop}
-use Rattle.http_fetcher.specs.inner.Chains.{TellsHop}
+use Rattle.http_fetcher.specs.inner.Chains.{IsHopTold}
 use Rattle.http_fetcher.specs.Fetching.{Fetching, IsToldByTries, answer_told}
 
 or_split : (x y : Bool) → (x || y) ≡ true → (x ≡ true) ⊎ (y ≡ true)
@@ -72,7 +72,7 @@ plain_says robots at r left rules is = by (is_document r.head) refl
 
 -- what a whole response says of a hop
 whole_says : (robots : Bool) (at : AddressText) (r : ResponseParts) (left : ℕ) (hop : Hop) (target : Option AddressText) → target_of at r.head ≡ target
-    → TellsHop at (Whole r) left hop → SaysHop (digest_of robots at r) (kept_body r.head.status r.body) left hop
+    → IsHopTold at (Whole r) left hop → SaysHop (digest_of robots at r) (kept_body r.head.status r.body) left hop
 whole_says robots at r left (Next next) None is h = let some = h.1 in absurd cc
 whole_says robots at r left (Next next) (Some target) is h = let some = h.1 in rw is (h.0, cc)
 whole_says robots at r left (Last rules) None is h = rw is (plain_says robots at r left rules h.1)
@@ -80,15 +80,15 @@ whole_says robots at r zero (Last rules) (Some target) is h = rw is (refl, h.1 �
 whole_says robots at r (suc left) (Last rules) (Some target) is h = let none = h.0 in absurd cc
 
 -- what was told of an address says of a hop what its answer says
-pub tells_says : (robots : Bool) (at : AddressText) (told : Told) (left : ℕ) (hop : Hop) → TellsHop at told left hop
+pub tells_says : (robots : Bool) (at : AddressText) (told : Told) (left : ℕ) (hop : Hop) → IsHopTold at told left hop
     → SaysHop (outcome_told robots at told) (body_told told) left hop
 tells_says robots at (Whole r) left hop h = whole_says robots at r left hop (target_of at r.head) refl h
 tells_says robots at (Fault kind) left (Next next) h = let some = h.1 in absurd cc
 tells_says robots at (Fault kind) left (Last rules) h = (tt, h.1)
 
 -- what was told says of the hop that it was read as
-pub tells_of : (at : AddressText) (told : Told) (left : ℕ) (hop read : Hop) → hop ≡ read → TellsHop at told left hop → TellsHop at told left read
-tells_of at told left hop read is tells = subst (λ h. TellsHop at told left h) is tells
+pub tells_of : (at : AddressText) (told : Told) (left : ℕ) (hop read : Hop) → hop ≡ read → IsHopTold at told left hop → IsHopTold at told left read
+tells_of at told left hop read is tells = subst (λ h. IsHopTold at told left h) is tells
 
 -- an answer that says what was told over a connection was told over it
 pub told_by_answer : {C W : Type 0} (connects : Connects C W) (wires : Wires W) (old now new : Fetching C) (at : AddressText) (told : Told) (answer : Answer)

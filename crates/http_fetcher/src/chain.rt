@@ -1,6 +1,6 @@
 //! What one answer of a robots file says: where it leads, or which rules these are (RFC 9309, section 2.3.1).
 ghost use Rattle.std.specs.Prelude.{◌≡◌, IfOk};
-ghost use Rattle.http_fetcher.specs.inner.Chains.{TellsHop};
+ghost use Rattle.http_fetcher.specs.inner.Chains.{IsHopTold};
 
 use address::Address;
 use answer_notes::Told;
@@ -23,7 +23,7 @@ pub(crate) fn read_hop(
     told: &Told,
     left: u32,
 ) -> Result<Hop, AllocError>
-    ensures { IfOk result (λ hop. TellsHop at.now told.now left hop) }
+    ensures { IfOk result (λ hop. IsHopTold at.now told.now left hop) }
 {
     if left == 0 {
         return Ok(Hop::Last(told.rules(alloc)?));

@@ -20,7 +20,7 @@ ghost use Rattle.http_fetcher.specs.Meanings.{MayAnswer, MayRule};
 
 use crate::chain::{Hop, read_hop};
 use address::{Address, Origin};
-use answer_notes::{Given, Hops, Noted, Recording, Telling, Told};
+use answer_notes::{Given, Hops, MAX_REDIRECTS, Noted, Recording, Telling, Told};
 use connect::{Connect, ConnectFault};
 use fetcher::{Answer, Ask, FaultKind, Fetcher};
 use response_answer::kind_of_fault;
@@ -31,9 +31,6 @@ use response_reader::{
 use robots_rules::RuleSet;
 use std::alloc::{AllocError, Global};
 use std::marker::Model;
-
-/// How many redirects of a robots file are followed (RFC 9309, section 2.3.1.2).
-const MAX_REDIRECTS: u32 = 5;
 
 /// Asks a site over connections: a new one for each page and for each hop of a robots file, or one that served before and was
 /// kept. What such a site tells is unknown, so an answer is what some bytes say, or that none came, and rules stand at the end

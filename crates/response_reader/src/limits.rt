@@ -14,6 +14,3 @@ pub const MAX_BODY: usize = 16_777_216;
 
 /// Most bytes of a response.
 pub const MAX_RESPONSE: usize = 67_108_864;
-
-/// At so many interrupted reads a response is given up, and at so many interrupted writes a request.
-pub const MAX_INTERRUPTED: u32 = 1000;

@@ -6,11 +6,17 @@ ghost use Rattle.response_reader.specs.inner.Request.{WritesGiveUp};
 ghost use Rattle.response_reader.specs.Wire.{HasRisen, counted};
 ghost use Rattle.response_reader.specs.inner.Wire.{tally, GoesOn};
 
-use crate::limits::MAX_INTERRUPTED;
 use crate::wire::{Wire, WireFault};
-use address::Address;
+use address::{Address, MAX_ADDRESS};
 use arrayvec::ArrayVec;
+use streams::MAX_INTERRUPTED;
 use thiserror::Error;
+
+/// Most bytes of a field about the connection.
+const MAX_CLOSING: usize = 32;
+
+/// Most bytes of a request: those of any address, and room for the lines around it.
+const MAX_REQUEST: usize = MAX_ADDRESS + 128;
 
 /// Why a request wasn't written.
 #[derive(Clone, Copy, Debug, PartialEq, Eq, Error)]
@@ -58,7 +64,7 @@ pub fn write_kept_request<W: Wire>(wire: &mut W, address: &Address) -> Result<()
 
 /// Writes the request for an address with this field about the connection, or none.
 fn write_with<W: Wire>(wire: &mut W, address: &Address, closing: &[u8]) -> Result<(), RequestFault>
-    requires { length closing.now ≤ 32 }
+    requires { length closing.now ≤ MAX_CLOSING }
     ensures written { OnOk result (Appends (W.outgoing wire.old) (W.outgoing wire.new) (request_with address.now closing.now)) }
     ensures part { OnErr result (SendsFront (W.outgoing wire.old) (W.outgoing wire.new) (request_with address.now closing.now)) }
     ensures device { OnErr result (HasRisen (W.failed wire.old) (W.failed wire.new)) }
@@ -77,11 +83,11 @@ fn write_with<W: Wire>(wire: &mut W, address: &Address, closing: &[u8]) -> Resul
 }
 
 /// The text of a request, in room for that of any address.
-type RequestText = ArrayVec<u8, 8320>;
+type RequestText = ArrayVec<u8, MAX_REQUEST>;
 
 /// Adds bytes to a text that has room for them.
 fn put(text: &mut RequestText, bytes: &[u8])
-    requires { length text.old.items + length bytes.now ≤ 8320 }
+    requires { length text.old.items + length bytes.now ≤ MAX_REQUEST }
     ensures { text.new.items ≡ text.old.items ++ bytes.now }
 {
     match text.try_extend_from_slice(bytes) {
@@ -93,7 +99,7 @@ fn put(text: &mut RequestText, bytes: &[u8])
 /// Puts the request for an address, with this field about the connection or none, into an empty text.
 fn put_request(text: &mut RequestText, address: &Address, closing: &[u8])
     requires empty { text.old.items ≡ [] }
-    requires short { length closing.now ≤ 32 }
+    requires short { length closing.now ≤ MAX_CLOSING }
     ensures { text.new.items ≡ request_with address.now closing.now }
 {
     // Every address is short enough.

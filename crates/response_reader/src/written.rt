@@ -5,6 +5,7 @@ ghost use Rattle.response_reader.specs.Whole.{response_parts};
 ghost use Rattle.response_reader.specs.Written.{field_line, field_of_value, field_of_coding, field_of_len, written_fields, head_text};
 
 use crate::response::Response;
+use crate::status::has_no_body;
 use std::alloc::AllocError;
 
 // A number in decimal digits.
@@ -50,7 +51,7 @@ fn push_coding(text: &mut Vec<u8>, coded: bool) -> Result<(), AllocError>
 fn push_len(text: &mut Vec<u8>, status: u16, len: usize) -> Result<(), AllocError>
     ensures { OnOk result (text.new.items ≡ text.old.items ++ flat_map field_line (field_of_len status len)) }
 {
-    if status == 204 || status == 304 {
+    if has_no_body(status) {
         return Ok(());
     }
     let alloc = *text.allocator();

@@ -7,11 +7,12 @@ ghost use Rattle.site_records.specs.EntryLines.{Statement, is_length, length_of,
 ghost use Rattle.site_records.specs.inner.Said.{said};
 
 use crate::version::Version;
+use answer_notes::MAX_REDIRECTS;
 use fetcher::FaultKind;
 use site_inputs::first_field;
 
-/// How many hops a chain may have: one, and one for each redirect that may be followed (RFC 9309, section 2.3.1.2).
-pub(crate) const MAX_HOPS: usize = 6;
+/// How many hops a chain may have: one, and one for each redirect that may be followed.
+pub(crate) const MAX_HOPS: usize = MAX_REDIRECTS as usize + 1;
 
 /// What a line of a record says. Addresses are texts of the line, not read yet.
 #[derive(Drop)]

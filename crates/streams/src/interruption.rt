@@ -5,7 +5,7 @@ ghost use Rattle.std.specs.IoError.{error_kind};
 use std::io::{Error, ErrorKind};
 
 /// The number of interrupted calls at which a stream counts as failed.
-pub(crate) const MAX_INTERRUPTED: u32 = 1_000;
+pub const MAX_INTERRUPTED: u32 = 1_000;
 
 /// The number of interrupted calls with this one, where it was interrupted and may be made again.
 pub(crate) fn count_interrupted(error: &Error, interrupted: u32) -> Option<u32>

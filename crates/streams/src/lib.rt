@@ -11,5 +11,6 @@ mod pieces;
 
 pub use close::Close;
 pub use input::{ReadFault, read_input};
+pub use interruption::MAX_INTERRUPTED;
 pub use output::{WriteFailed, write_text};
 pub use pieces::Pieces;

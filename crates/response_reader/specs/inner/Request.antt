@@ -2,7 +2,7 @@
 use Rattle.std.specs.Prelude.{◌≡◌, ℕ, IsTrue}
 use Rattle.std.specs.Io.KnownBytes.{Keeps}
 use Rattle.response_reader.specs.Wire.{HasRisen, counted}
-use Rattle.response_reader.specs.declared.limits.TheConstants.{MAX_INTERRUPTED}
+use Rattle.streams.specs.declared.interruption.TheConstants.{MAX_INTERRUPTED}
 use Rattle.response_reader.specs.inner.Wire.{IsAllInterrupted, Tally}
 
 -- writes that gave up: a call failed, without `Failed` there were as many interruptions as may be, and nothing was read

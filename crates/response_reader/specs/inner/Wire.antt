@@ -1,8 +1,7 @@
 -- What proofs alone need beside `Wire`.
-use Rattle.std.specs.Prelude.{Bool, IsTrue, ◌≡◌, ℕ, ◌-◌, ◌<◌, List, Option}
+use Rattle.std.specs.Prelude.{Bool, IsTrue, ◌≡◌, ℕ, ◌<◌, List, Option}
 use Rattle.std.specs.Io.KnownBytes.{Keeps}
-use Rattle.response_reader.specs.declared.limits.TheConstants.{MAX_INTERRUPTED}
-use Rattle.response_reader.specs.declared.wire.WireFault.TheVariants.{Failed}
+use Rattle.streams.specs.declared.interruption.TheConstants.{MAX_INTERRUPTED}
 use Rattle.response_reader.specs.Wire.{counted, HasRisen}
 
 -- how reads of a response, or writes of a request, went so far: how many calls failed, how many of these

@@ -5,7 +5,7 @@ use Rattle.response_reader.specs.declared.fault.ReadFault.TheVariants.{Device}
 use Rattle.response_reader.specs.inner.Reads.{FaultCounts}
 use Rattle.response_reader.specs.inner.Wire.{tally, GivesUp}
 use Rattle.response_reader.specs.Gathered.{HasGathered}
-use Rattle.response_reader.specs.Wire.{counted, OfBytes}
+use Rattle.response_reader.specs.Wire.{OfBytes}
 use Rattle.response_reader.specs.Response.{ResponseParts, IsResponse, HandsOn}
 use Rattle.response_reader.proofs.CountLemmas.{few_of_counts}
 use Rattle.response_reader.proofs.ReadLemmas.{nothing_unread, told_memory}

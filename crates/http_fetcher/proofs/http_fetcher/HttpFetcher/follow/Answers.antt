@@ -1,7 +1,7 @@
 -- Each redirect makes the chain and the hops longer by one answer, and the last answer ends them.
 use Rattle.std.proofs.Common.{◌∙◌, ◌<◌, ◌-◌, ◌++◌, [], ◌∷◌, arith, refl, sym, ap, subst, append_assoc}
 use Rattle.answer_notes.specs.HopChains.{IsAdmitted, rules_of_hops}
-use Rattle.http_fetcher.specs.inner.Chains.{TellsHop}
+use Rattle.http_fetcher.specs.inner.Chains.{IsHopTold}
 use Rattle.http_fetcher.specs.declared.chain.Hop.TheVariants.{Next, Last}
 use Rattle.http_fetcher.specs.Fetching.{answer_told}
 use Rattle.http_fetcher.proofs.KeptLemmas.{stands_more}
@@ -12,7 +12,7 @@ use Rattle.http_fetcher.proofs.http_fetcher.HttpFetcher.follow.Goals as goal
 
 pub hops-preserved : goal.hops-preserved
 hops-preserved g c =
-    let tells : TellsHop c.hops.at c.in_ok-told.told c.hops.left (Next c.in-Next.next) = tells_of c.hops.at c.in_ok-told.told c.hops.left _ _ c.in-Next.is c.in_ok-rules.ensures in
+    let tells : IsHopTold c.hops.at c.in_ok-told.told c.hops.left (Next c.in-Next.next) = tells_of c.hops.at c.in_ok-told.told c.hops.left _ _ c.in-Next.is c.in_ok-rules.ensures in
     let some : 0 < c.hops.left = tells.0 in
     record {
       asks = c.in_ok-told.ensures.asks ∙ c.hops.invariant.asks;
@@ -35,7 +35,7 @@ hops-preserved g c =
 
 pub new-requires : goal.new-requires
 new-requires g c =
-    let tells : TellsHop c.hops.at c.in_ok-told.told c.hops.left (Last c.in-Last.rules) = tells_of c.hops.at c.in_ok-told.told c.hops.left _ _ c.in-Last.is c.in_ok-rules.ensures in
+    let tells : IsHopTold c.hops.at c.in_ok-told.told c.hops.left (Last c.in-Last.rules) = tells_of c.hops.at c.in_ok-told.told c.hops.left _ _ c.in-Last.is c.in_ok-rules.ensures in
     subst (λ o. IsAdmitted o c.push.new.self.items) (sym c.hops.invariant.origin)
     (subst (λ l. IsAdmitted c.args.of.now l) (sym c.in_ok-push-in-Last.ensures.items)
     (c.hops.invariant.admitted ((c.hops.at, c.in_ok-told.told) ∷ []) (hop_ends c.hops.left c.hops.at c.in_ok-told.told tells.0)))
@@ -45,12 +45,12 @@ returns-in-Last-clause-of g c = c.new.ensures.of ∙ c.hops.invariant.origin
 
 pub returns-in-Last-clause-rules : goal.returns-in-Last-clause-rules
 returns-in-Last-clause-rules g c =
-    let tells : TellsHop c.hops.at c.in_ok-told.told c.hops.left (Last c.in-Last.rules) = tells_of c.hops.at c.in_ok-told.told c.hops.left _ _ c.in-Last.is c.in_ok-rules.ensures in
+    let tells : IsHopTold c.hops.at c.in_ok-told.told c.hops.left (Last c.in-Last.rules) = tells_of c.hops.at c.in_ok-told.told c.hops.left _ _ c.in-Last.is c.in_ok-rules.ensures in
     tells.1 ∙ sym (ap rules_of_hops (c.new.ensures.hops ∙ c.in_ok-push-in-Last.ensures.items) ∙ rules_behind c.hops.hops.items (c.hops.at, c.in_ok-told.told) [])
 
 pub returns-in-Last-clause-chain : goal.returns-in-Last-clause-chain
 returns-in-Last-clause-chain g c =
-    let tells : TellsHop c.hops.at c.in_ok-told.told c.hops.left (Last c.in-Last.rules) = tells_of c.hops.at c.in_ok-told.told c.hops.left _ _ c.in-Last.is c.in_ok-rules.ensures in
+    let tells : IsHopTold c.hops.at c.in_ok-told.told c.hops.left (Last c.in-Last.rules) = tells_of c.hops.at c.in_ok-told.told c.hops.left _ _ c.in-Last.is c.in_ok-rules.ensures in
     c.hops.invariant.chain _ (chain_ends _ c.hops.left _ _ _ _
     (given_by g.C.Connect g.C.Wire.Wire c.args.self.now c.hops.self c.exchange.new.self c.hops.at (answer_told c.hops.self.robots c.hops.at c.in_ok-told.told) c.hops.invariant.robots c.hops.invariant.keeps c.in_ok-told.ensures.told)
     (tells_says c.hops.self.robots c.hops.at c.in_ok-told.told c.hops.left (Last c.in-Last.rules) tells))
@@ -61,7 +61,7 @@ returns-in-Last-clause-hops g c none =
 
 pub returns-in-Last-clause-count : goal.returns-in-Last-clause-count
 returns-in-Last-clause-count g c none =
-    let tells : TellsHop c.hops.at c.in_ok-told.told c.hops.left (Last c.in-Last.rules) = tells_of c.hops.at c.in_ok-told.told c.hops.left _ _ c.in-Last.is c.in_ok-rules.ensures in (
+    let tells : IsHopTold c.hops.at c.in_ok-told.told c.hops.left (Last c.in-Last.rules) = tells_of c.hops.at c.in_ok-told.told c.hops.left _ _ c.in-Last.is c.in_ok-rules.ensures in (
       c.hops.hops.items ++ (c.hops.at, c.in_ok-told.told) ∷ [],
       c.hops.invariant.admitted ((c.hops.at, c.in_ok-told.told) ∷ []) (hop_ends c.hops.left c.hops.at c.in_ok-told.told tells.0),
       tells.1 ∙ sym (rules_behind c.hops.hops.items (c.hops.at, c.in_ok-told.told) []),
