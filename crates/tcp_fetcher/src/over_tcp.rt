@@ -28,7 +28,7 @@ impl<'a, R: Net + Wait + Clock + Eprint> Model for OverTcp<'a, R> {
 }
 
 impl<'a, R: Net + Wait + Clock + Eprint> OverTcp<'a, R> {
-    ghost use Rattle.std.specs.Prelude.{◌≡◌, []};
+    ghost use Rattle.std.specs.Prelude.{◌≡◌, true, false, []};
 
     /// By this handle, with what the run knows of hosts, and the line that counts what comes. Each question has a connection of its
     /// own. Where robots rules are honoured, a page that asks that its links aren't followed has none. Takes no memory.
