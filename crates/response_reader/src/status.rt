@@ -2,15 +2,6 @@
 ghost use Rattle.std.specs.Prelude.{◌≡◌};
 ghost use Rattle.response_reader.specs.Fields.{has_no_body};
 
-/// The first status of an interim head; none is below it (RFC 9110, section 15.2).
-pub(crate) const FIRST_INTERIM: u16 = 100;
-
-/// The status of a connection that goes over to another protocol, which was not asked for (RFC 9110, section 15.2.2).
-pub(crate) const SWITCHING_PROTOCOLS: u16 = 101;
-
-/// The first status of a head that is the last (RFC 9110, section 15.3).
-pub(crate) const FIRST_FINAL: u16 = 200;
-
 /// The status of a success without a body (RFC 9110, section 15.3.5).
 pub(crate) const NO_CONTENT: u16 = 204;
 
