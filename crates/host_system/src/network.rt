@@ -33,8 +33,6 @@ pub struct Network<'a, R: Net + Wait + Files + Clock + Eprint> {
 }
 
 impl<'a, R: Net + Wait + Files + Clock + Eprint> Network<'a, R> {
-    ghost use Rattle.std.specs.Prelude.{◌≡◌, is_some};
-
     /// By this handle, with what the run knows of hosts and keeps of connections, the line that counts them, where it saves, what
     /// writes parts of files and what keeps why something failed, for the process of this number. Takes no memory.
     pub fn new(
@@ -58,26 +56,6 @@ impl<'a, R: Net + Wait + Files + Clock + Eprint> Network<'a, R> {
             crew,
             failures,
             process,
-        }
-    }
-
-    // What asks over TCP, and keeps connections where so many to a server may stand at a time.
-    fn over_tcp(&self, robots: bool, kept: Option<u32>) -> OverTcp<'a, R>
-        ensures robots { result.robots ≡ robots }
-        ensures keeps { result.keeps ≡ is_some kept }
-    {
-        let (rt, alloc) = (self.rt, self.alloc);
-        match kept {
-            Some(most) => OverTcp::keeping(
-                rt,
-                alloc,
-                self.hosts,
-                self.progress,
-                robots,
-                self.kept,
-                most,
-            ),
-            None => OverTcp::new(rt, alloc, self.hosts, self.progress, robots),
         }
     }
 }
@@ -105,7 +83,15 @@ where
     ghost names = { λ network path saved. ⊤ };
 
     fn fetcher(&self, robots: bool, is_recording: bool, kept: Option<u32>) -> Asking<'a, R> {
-        let fetcher = self.over_tcp(robots, kept);
+        let fetcher = OverTcp::new(
+            self.rt,
+            self.alloc,
+            self.hosts,
+            self.kept,
+            self.progress,
+            robots,
+            kept,
+        );
         let pen = Pen::new(self.rt, self.saving);
         Asking {
             inner: Journaled::new(self.alloc, fetcher, pen, is_recording),

@@ -28,44 +28,35 @@ impl<'a, R: Net + Wait + Clock + Eprint> Model for OverTcp<'a, R> {
 }
 
 impl<'a, R: Net + Wait + Clock + Eprint> OverTcp<'a, R> {
-    ghost use Rattle.std.specs.Prelude.{◌≡◌, true, false, []};
+    ghost use Rattle.std.specs.Prelude.{◌≡◌, is_some, []};
 
-    /// By this handle, with what the run knows of hosts, and the line that counts what comes. Each question has a connection of its
-    /// own. Where robots rules are honoured, a page that asks that its links aren't followed has none. Takes no memory.
+    /// By this handle, with what the run knows of hosts and keeps of connections, and the line that counts what comes. Where robots
+    /// rules are honoured, a page that asks that its links aren't followed has none. Connections are kept among those of the run
+    /// where it is said how many to a server may stand at a time; else each question has one of its own. Takes no memory.
     pub fn new(
         rt: &'a R,
         alloc: Global,
         hosts: &'a Hosts,
-        progress: &'a Progress<'a, R>,
-        robots: bool,
-    ) -> OverTcp<'a, R>
-        ensures robots { result.robots ≡ robots }
-        ensures keeps { result.keeps ≡ false }
-        ensures asks { result.asks ≡ [] }
-    {
-        let connect = Watched::new(TcpConnect::new(rt, alloc, hosts), progress);
-        OverTcp {
-            inner: HttpFetcher::new(alloc, connect, robots),
-        }
-    }
-
-    /// The same, which keeps connections among those of the run: so many to a server at most stand at any time.
-    pub fn keeping(
-        rt: &'a R,
-        alloc: Global,
-        hosts: &'a Hosts,
-        progress: &'a Progress<'a, R>,
-        robots: bool,
         kept: &'a Kept<R::Stream>,
-        most: u32,
+        progress: &'a Progress<'a, R>,
+        robots: bool,
+        most: Option<u32>,
     ) -> OverTcp<'a, R>
         ensures robots { result.robots ≡ robots }
-        ensures keeps { result.keeps ≡ true }
+        ensures keeps { result.keeps ≡ is_some most }
         ensures asks { result.asks ≡ [] }
     {
-        let connect = TcpConnect::new(rt, alloc, hosts).keeping(kept, most);
-        OverTcp {
-            inner: HttpFetcher::new(alloc, Watched::new(connect, progress), robots).keeping(),
+        let connect = TcpConnect::new(rt, alloc, hosts);
+        match most {
+            Some(most) => {
+                let connect = Watched::new(connect.keeping(kept, most), progress);
+                OverTcp {
+                    inner: HttpFetcher::new(alloc, connect, robots).keeping(),
+                }
+            }
+            None => OverTcp {
+                inner: HttpFetcher::new(alloc, Watched::new(connect, progress), robots),
+            },
         }
     }
 
