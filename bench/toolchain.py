@@ -1,9 +1,11 @@
 """The toolchain's command `rt` as a module, so that a script can use its parts."""
+import functools
 import importlib.machinery
 import importlib.util
 import os
 import shutil
 import sys
+import threading
 
 
 def load():
@@ -16,4 +18,25 @@ def load():
     loader = importlib.machinery.SourceFileLoader("rt_parts", os.path.realpath(program))
     module = importlib.util.module_from_spec(importlib.util.spec_from_loader("rt_parts", loader))
     loader.exec_module(module)
+    module.rtlib.Crate.stamp = each_once(module.rtlib.Crate.stamp)
     return module
+
+
+def each_once(stamp):
+    """The stamp of a crate, for which each crate below is read once. The toolchain reads it anew for each way that leads down to it,
+    and there are thousands."""
+    here = threading.local()
+
+    @functools.wraps(stamp)
+    def stamped(crate):
+        if hasattr(here, "found"):
+            if crate.folder not in here.found:
+                here.found[crate.folder] = stamp(crate)
+            return here.found[crate.folder]
+        here.found = {}
+        try:
+            return stamp(crate)
+        finally:
+            del here.found
+
+    return stamped
