@@ -74,7 +74,7 @@ where
 
     type Record = Saved<'a, R>;
 
-    ghost makes = { λ network robots is_recording kept fetcher. (fetcher.inner.inner.robots ≡ robots) × (fetcher.inner.inner.keeps ≡ is_some kept) × (fetcher.inner.is_recording ≡ is_recording) };
+    ghost makes = { λ network robots is_recording kept fetcher. (fetcher.inner.inner.robots ≡ robots) × (fetcher.inner.inner.keeps ≡ is_some kept) × (fetcher.inner.inner.most ≡ kept) × (fetcher.inner.is_recording ≡ is_recording) };
 
     ghost opens = { λ network path folder. folder.inner ≡ opened_at path };
 

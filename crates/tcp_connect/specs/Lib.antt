@@ -1,1 +1,2 @@
+pub mod Connecting
 pub mod Standing

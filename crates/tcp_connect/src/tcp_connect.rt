@@ -1,5 +1,5 @@
 //! Connections over TCP.
-ghost use Rattle.std.specs.Prelude.{◌≡◌, ⊤};
+ghost use Rattle.std.specs.Prelude.{◌≡◌, ⊤, None, Some};
 ghost use Rattle.response_reader.specs.Wire.{CountsFault, counted};
 ghost use Rattle.connect.specs.Connects.{CountsRefusal, refused_by};
 
@@ -25,6 +25,13 @@ const STREAM_TIMEOUT: u64 = 900;
 /// The most milliseconds that the server is waited for at the end of a connection.
 const CLOSE_TIMEOUT: u64 = 100;
 
+// What a run keeps of connections, and how many may stand to a server.
+#[derive(Drop)]
+struct Keeping<'a, S: Drop> {
+    kept: &'a Kept<S>,
+    most: usize,
+}
+
 /// Makes connections over TCP, for one worker. A host is looked up once for a run, by whoever needs it first, and a lookup
 /// that failed isn't made again; its addresses are tried from the one that took a connection last, and a server that didn't
 /// answer within the system's time limit isn't tried again. There is no limit on the time of a lookup, nor of a connection's
@@ -37,9 +44,8 @@ pub struct TcpConnect<'a, R: Net + Wait + Clock> {
     hosts: &'a Hosts,
     // The servers that were late to close the last connection that this worker had to them.
     late: Vec<SocketAddr>,
-    // What is kept for the run, and how many connections may stand to a server.
-    kept: Option<&'a Kept<R::Stream>>,
-    most: usize,
+    // Where connections are kept; none where each ends behind its question.
+    keeping: Option<Keeping<'a, R::Stream>>,
     made: u64,
     taken: u64,
     failed: u64,
@@ -48,14 +54,13 @@ pub struct TcpConnect<'a, R: Net + Wait + Clock> {
     loss: Option<LossKind>,
 }
 
-// Contracts see how many connections were asked for, how many calls answered an error, how many of these `Failed`, and how many
-// connections that were kept were taken.
 impl<'a, R: Net + Wait + Clock> Model for TcpConnect<'a, R> {
-    ghost use Rattle.std.specs.Prelude.{ℕ};
+    ghost use Rattle.std.specs.Option.{option_map};
+    ghost use Rattle.tcp_connect.specs.Connecting.{Connecting};
 
-    ghost Value = { ℕ × ℕ × ℕ × ℕ };
+    ghost Value = { Connecting };
 
-    ghost view = { λ c. (c.made, c.failed, c.refused, c.taken) };
+    ghost view = { λ c. record { made = c.made; failed = c.failed; refused = c.refused; taken = c.taken; most = option_map (λ k. k.most) c.keeping } };
 }
 
 // A connection to the first of the addresses that takes one, and that address. Else it is lost for what the first of them
@@ -170,15 +175,14 @@ fn end<R: Net + Wait>(rt: &R, hosts: &Hosts, late: &mut Vec<SocketAddr>, mut str
 impl<'a, R: Net + Wait + Clock> TcpConnect<'a, R> {
     /// Makes connections by this handle, with what the run knows of hosts. Takes no memory.
     pub fn new(rt: &'a R, alloc: Global, hosts: &'a Hosts) -> TcpConnect<'a, R>
-        ensures { result ≡ (0, 0, 0, 0) }
+        ensures { result ≡ record { made = 0; failed = 0; refused = 0; taken = 0; most = None } }
     {
         TcpConnect {
             rt,
             alloc,
             hosts,
             late: Vec::new(alloc),
-            kept: None,
-            most: 0,
+            keeping: None,
             made: 0,
             taken: 0,
             failed: 0,
@@ -195,21 +199,27 @@ impl<'a, R: Net + Wait + Clock> TcpConnect<'a, R> {
 
     /// The same, which keeps connections among those of the run: so many to a server at most stand at any time.
     pub fn keeping(self, kept: &'a Kept<R::Stream>, most: u32) -> TcpConnect<'a, R>
-        ensures { result ≡ self.entry }
+        ensures { result ≡ record self.entry { most = Some most } }
     {
+        let most = most as usize;
         TcpConnect {
-            kept: Some(kept),
-            most: most as usize,
+            keeping: Some(Keeping { kept, most }),
             ..self
         }
     }
 
+    // Where connections are kept.
+    fn kept(&self) -> Option<&'a Kept<R::Stream>> {
+        let keeping = self.keeping.as_ref()?;
+        Some(keeping.kept)
+    }
+
     // A place for a new connection to an origin, where connections are kept. One that waited may have to go for it.
     fn enter(&self, of: &Origin) -> Result<Option<u64>, AllocError> {
-        let Some(kept) = self.kept else {
+        let Some(Keeping { kept, most }) = &self.keeping else {
             return Ok(None);
         };
-        let Entered { place, ended } = kept.enter(self.rt, of.as_str(), self.most)?;
+        let Entered { place, ended } = kept.enter(self.rt, of.as_str(), *most)?;
         if ended.is_some() {
             self.hosts.note_end();
         }
@@ -219,7 +229,7 @@ impl<'a, R: Net + Wait + Clock> TcpConnect<'a, R> {
 
     // The connection of this place stands no longer.
     fn leave(&self, place: Option<u64>) {
-        if let (Some(kept), Some(number)) = (self.kept, place) {
+        if let (Some(kept), Some(number)) = (self.kept(), place) {
             kept.leave(self.rt, number);
         }
     }
@@ -251,7 +261,7 @@ impl<'a, R: Net + Wait + Clock> TcpConnect<'a, R> {
 
     // Ends the one that waits longest, and says whether there was one.
     fn end_oldest(&self) -> bool {
-        let Some(kept) = self.kept else {
+        let Some(kept) = self.kept() else {
             return false;
         };
         match kept.take_oldest(self.rt) {
@@ -337,10 +347,7 @@ impl<'a, R: Net + Wait + Clock> TcpConnect<'a, R> {
 
     // Counts a fault.
     fn note(&mut self, fault: ConnectFault)
-        ensures made { self.new.0 ≡ self.old.0 }
-        ensures counted { self.new.1 ≡ counted self.old.1 1 }
-        ensures refused { self.new.2 ≡ refused_by self.old.2 fault }
-        ensures taken { self.new.3 ≡ self.old.3 }
+        ensures { self.new ≡ record self.old { failed = counted self.old.failed 1; refused = refused_by self.old.refused fault } }
     {
         self.failed = self.failed.saturating_add(1);
         match fault {
@@ -360,13 +367,13 @@ impl<'a, R: Net + Wait + Clock> Connect for TcpConnect<'a, R> {
 
     ghost again = { λ _ _. ⊤ };
 
-    ghost made = { λ c. c.0 };
+    ghost made = { λ c. c.made };
 
-    ghost failed = { λ c. c.1 };
+    ghost failed = { λ c. c.failed };
 
-    ghost refused = { λ c. c.2 };
+    ghost refused = { λ c. c.refused };
 
-    ghost taken = { λ c. c.3 };
+    ghost taken = { λ c. c.taken };
 
     fn connect(&mut self, of: &Origin) -> Result<TcpWire<Connection<R::Stream>>, ConnectFault> {
         self.made = self.made.saturating_add(1);
@@ -383,7 +390,7 @@ impl<'a, R: Net + Wait + Clock> Connect for TcpConnect<'a, R> {
     }
 
     fn take(&mut self, of: &Origin) -> Option<TcpWire<Connection<R::Stream>>> {
-        let kept = self.kept?;
+        let kept = self.kept()?;
         let connection = self.next_kept(kept, of)?;
         self.taken = self.taken.saturating_add(1);
         self.loss = None;
@@ -393,7 +400,7 @@ impl<'a, R: Net + Wait + Clock> Connect for TcpConnect<'a, R> {
     // One that failed, or that has no place, isn't kept.
     fn give_back(&mut self, _of: &Origin, wire: TcpWire<Connection<R::Stream>>) {
         let connection = wire.into_stream();
-        let (Some(kept), Some(number)) = (self.kept, connection.place()) else {
+        let (Some(kept), Some(number)) = (self.kept(), connection.place()) else {
             return self.end_wire(TcpWire::new(connection));
         };
         self.end_stale(kept);

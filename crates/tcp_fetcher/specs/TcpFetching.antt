@@ -1,9 +1,10 @@
 -- What contracts see of a fetcher over TCP.
-use Rattle.std.specs.Prelude.{Bool, List}
+use Rattle.std.specs.Prelude.{ℕ, Bool, List, Option}
 use Rattle.fetcher.specs.declared.fetcher.Ask.{Ask}
 
--- whether it honours robots rules, whether it keeps connections, and what it asked for, in order
+-- whether it honours robots rules, whether it keeps connections, how many may then stand to a server, and what it asked for, in order
 pub record TcpFetching : Type 0 where
   pub robots : Bool
   pub keeps : Bool
+  pub most : Option ℕ
   pub asks : List Ask

@@ -1,9 +1,10 @@
 //! What asks over TCP for one worker.
+use crate::watched_tcp::WatchedTcp;
 use address::{Address, Origin};
 use answer_notes::{Hops, Telling, Told};
 use fetcher::{Answer, Ask, Fetcher};
 use http_fetcher::HttpFetcher;
-use progress::{Progress, Watched};
+use progress::Progress;
 use robots_rules::RuleSet;
 use run_failures::LossKind;
 use std::alloc::{AllocError, Global};
@@ -11,12 +12,18 @@ use std::marker::Model;
 use std::net::Net;
 use std::sync::Wait;
 use std::time::Clock;
-use tcp_connect::{Hosts, Kept, TcpConnect};
+use tcp_connect::{Hosts, Kept};
 
 /// Asks over TCP, and shows on the terminal what comes of it.
-#[derive(Drop)]
 pub struct OverTcp<'a, R: Net + Wait + Clock + Eprint> {
-    inner: HttpFetcher<Watched<'a, TcpConnect<'a, R>, R>>,
+    inner: HttpFetcher<WatchedTcp<'a, R>>,
+}
+
+// By hand: who drops one proves a call, and nothing of what it holds.
+impl<'a, R: Net + Wait + Clock + Eprint> Drop for OverTcp<'a, R> {
+    fn drop(self) {
+        let OverTcp { inner: _inner } = self;
+    }
 }
 
 impl<'a, R: Net + Wait + Clock + Eprint> Model for OverTcp<'a, R> {
@@ -24,7 +31,7 @@ impl<'a, R: Net + Wait + Clock + Eprint> Model for OverTcp<'a, R> {
 
     ghost Value = { TcpFetching };
 
-    ghost view = { λ f. record { robots = f.inner.robots; keeps = f.inner.keeps; asks = f.inner.asks } };
+    ghost view = { λ f. record { robots = f.inner.robots; keeps = f.inner.keeps; most = f.inner.connect.most; asks = f.inner.asks } };
 }
 
 impl<'a, R: Net + Wait + Clock + Eprint> OverTcp<'a, R> {
@@ -44,25 +51,22 @@ impl<'a, R: Net + Wait + Clock + Eprint> OverTcp<'a, R> {
     ) -> OverTcp<'a, R>
         ensures robots { result.robots ≡ robots }
         ensures keeps { result.keeps ≡ is_some most }
+        ensures most { result.most ≡ most }
         ensures asks { result.asks ≡ [] }
     {
-        let connect = TcpConnect::new(rt, alloc, hosts);
+        let connect = WatchedTcp::new(rt, alloc, hosts, kept, progress, most);
+        let fetcher = HttpFetcher::new(alloc, connect, robots);
         match most {
-            Some(most) => {
-                let connect = Watched::new(connect.keeping(kept, most), progress);
-                OverTcp {
-                    inner: HttpFetcher::new(alloc, connect, robots).keeping(),
-                }
-            }
-            None => OverTcp {
-                inner: HttpFetcher::new(alloc, Watched::new(connect, progress), robots),
+            Some(_) => OverTcp {
+                inner: fetcher.keeping(),
             },
+            None => OverTcp { inner: fetcher },
         }
     }
 
     /// Why the last connection was lost, where it was.
     pub fn loss(&self) -> Option<LossKind> {
-        self.inner.connect().inner().loss()
+        self.inner.connect().loss()
     }
 }
 

@@ -1,8 +1,46 @@
-use Rattle.std.proofs.Common.{ap, ◌∙◌, ◌≡◌, None, Some, get_or, slice_get, slice_set}
+use Rattle.std.proofs.Common.{ap, sym, refl, ◌∙◌, ◌≡◌, ℕ, List, None, Some, true, false, get_or, slice_get, slice_set}
 use Rattle.std.proofs.lemmas.Option.{get_or_from_slice_get}
-use Rattle.tcp_connect.specs.Standing.{Stand, Pool}
+use Rattle.tcp_connect.specs.Standing.{Stand, Pool, IsStandPool, waits_for}
 use Rattle.tcp_connect.proofs.StandingLaws.{IsStandPool-set}
 use Rattle.tcp_connect.proofs.standing.Standing.take.Goals as goal
+
+-- what stands where one was taken has its number
+IsStandPool-take : {W : Type 0} (stands : List (Stand W)) (entered at : ℕ) (stand taken left : Stand W) → IsStandPool (record { stands = stands; entered = entered })
+    → slice_get stands at ≡ Some stand → taken ≡ stand → left ≡ record taken { waiting = None } → IsStandPool (record { stands = slice_set stands at left; entered = entered })
+IsStandPool-take stands entered at stand taken left was there same after =
+    IsStandPool-set stands entered at stand left was there (ap (λ s. s.number) after ∙ ap (λ s. s.number) same)
+
+pub returns-in_err-at : goal.returns-in_err-at
+returns-in_err-at g c =
+    let now = c.args.self.now in
+    let opened : c.self.inside.places.items ≡ now.stands = ap (λ p. p.stands) c.self.view_is in
+    let lent : now.stands ≡ c.deref.result.now = cc in
+    rw (c.from_residual.ensures, lent) (c.in_err-at.ensures, refl)
+
+pub invariant_of-self : goal.invariant_of-self
+invariant_of-self g c =
+    let stand = c.in_ok-at.ensures.0 in
+    let last = c.in_ok-at.ensures.1 in
+    let at = c.in_ok-at.at in
+    let taken = c.index_mut-place.result.now in
+    let there : slice_get c.self.inside.places.items at ≡ Some stand = cc last.there in
+    let read : get_or c.self.inside.places.items at taken ≡ stand = get_or_from_slice_get c.self.inside.places.items at stand taken there in
+    let same : taken ≡ stand = cc c.index_mut-place.ensures.value in
+    IsStandPool-take c.self.inside.places.items c.self.inside.entered at stand taken c.take.new.self c.self.invariant there same c.take.ensures.after
+
+pub returns-in_err-waiting : goal.returns-in_err-waiting
+returns-in_err-waiting g c =
+    let stand = c.in_ok-at.ensures.0 in
+    let last = c.in_ok-at.ensures.1 in
+    let at = c.in_ok-at.at in
+    let taken = c.index_mut-place.result.now in
+    let read : get_or c.deref.result.now at taken ≡ stand = get_or_from_slice_get c.deref.result.now at stand taken last.there in
+    let opened : c.self.inside.places.items ≡ c.args.self.now.stands = ap (λ p. p.stands) c.self.view_is in
+    let same : taken ≡ stand = cc c.index_mut-place.ensures.value in
+    let none : stand.waiting ≡ None = cc (ap (λ s. s.waiting) same, c.take.ensures.value, c.in_err-waiting.was) in
+    let idle : waits_for c.args.of.now stand ≡ false = rw none refl in
+    let never : true ≡ false = sym last.passes ∙ idle in
+    cc
 
 pub invariant_of-self-2 : goal.invariant_of-self-2
 invariant_of-self-2 g c =
@@ -13,7 +51,7 @@ invariant_of-self-2 g c =
     let there : slice_get c.self.inside.places.items at ≡ Some stand = cc last.there in
     let read : get_or c.self.inside.places.items at taken ≡ stand = get_or_from_slice_get c.self.inside.places.items at stand taken there in
     let same : taken ≡ stand = cc c.index_mut-place.ensures.value in
-    IsStandPool-set c.self.inside.places.items c.self.inside.entered at stand c.take.new.self c.self.invariant there (ap (λ s. s.number) c.take.ensures.after ∙ ap (λ s. s.number) same)
+    IsStandPool-take c.self.inside.places.items c.self.inside.entered at stand taken c.take.new.self c.self.invariant there same c.take.ensures.after
 
 pub returns : goal.returns
 returns g c =

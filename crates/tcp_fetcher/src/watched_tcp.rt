@@ -1,0 +1,176 @@
+//! Connections over TCP that the line on a terminal counts.
+ghost use Rattle.std.specs.Prelude.{◌≡◌};
+ghost use Rattle.response_reader.specs.Wire.{CountsFault, NotesLoss, counted};
+ghost use Rattle.connect.specs.Connects.{CountsRefusal};
+
+use address::Origin;
+use connect::{Connect, ConnectFault};
+use progress::{Progress, Watched, WatchedWire};
+use response_reader::{TcpWire, Wire, WireFault};
+use run_failures::LossKind;
+use std::alloc::Global;
+use std::io::{Read, Write};
+use std::marker::Model;
+use std::net::Net;
+use std::sync::Wait;
+use std::time::Clock;
+use tcp_connect::{Connection, Hosts, Kept, TcpConnect};
+
+// Makes connections over TCP for one worker, and counts what comes over them.
+pub(crate) struct WatchedTcp<'a, R: Net + Wait + Clock + Eprint> {
+    inner: Watched<'a, TcpConnect<'a, R>, R>,
+}
+
+// By hand: who drops one proves a call, and nothing of what it holds.
+impl<'a, R: Net + Wait + Clock + Eprint> Drop for WatchedTcp<'a, R> {
+    fn drop(self) {
+        let WatchedTcp { inner: _inner } = self;
+    }
+}
+
+// One of them.
+pub(crate) struct WatchedTcpWire<S: Read + Write + Drop> {
+    inner: WatchedWire<TcpWire<Connection<S>>>,
+}
+
+// By hand: who drops one proves a call, and nothing of what it holds.
+impl<S: Read + Write + Drop> Drop for WatchedTcpWire<S> {
+    fn drop(self) {
+        let WatchedTcpWire { inner: _inner } = self;
+    }
+}
+
+impl<'a, R: Net + Wait + Clock + Eprint> Model for WatchedTcp<'a, R> {
+    ghost use Rattle.tcp_connect.specs.Connecting.{Connecting};
+
+    ghost Value = { Connecting };
+
+    ghost view = { λ c. c.inner };
+}
+
+// Contracts see how many calls answered an error, and whether one lost the connection.
+impl<S: Read + Write + Drop> Model for WatchedTcpWire<S> {
+    ghost use Rattle.std.specs.Prelude.{ℕ, Bool};
+
+    ghost Value = { ℕ × Bool };
+
+    ghost view = { λ w. w.inner };
+}
+
+impl<'a, R: Net + Wait + Clock + Eprint> WatchedTcp<'a, R> {
+    ghost use Rattle.std.specs.Prelude.{◌≡◌};
+
+    // Connections are kept where it is said how many to a server may stand at a time. Takes no memory.
+    pub(crate) fn new(
+        rt: &'a R,
+        alloc: Global,
+        hosts: &'a Hosts,
+        kept: &'a Kept<R::Stream>,
+        progress: &'a Progress<'a, R>,
+        most: Option<u32>,
+    ) -> WatchedTcp<'a, R>
+        ensures { result ≡ record { made = 0; failed = 0; refused = 0; taken = 0; most = most } }
+    {
+        let connect = TcpConnect::new(rt, alloc, hosts);
+        match most {
+            Some(most) => WatchedTcp {
+                inner: Watched::new(connect.keeping(kept, most), progress),
+            },
+            None => WatchedTcp {
+                inner: Watched::new(connect, progress),
+            },
+        }
+    }
+
+    // Why the last connection was lost, where it was.
+    pub(crate) fn loss(&self) -> Option<LossKind> {
+        self.inner.inner().loss()
+    }
+}
+
+impl<S: Read + Write + Drop> WatchedTcpWire<S> {
+    ghost use Rattle.std.specs.Prelude.{◌≡◌};
+
+    fn into_inner(self) -> WatchedWire<TcpWire<Connection<S>>>
+        ensures { result ≡ self }
+    {
+        let WatchedTcpWire { inner } = self;
+        inner
+    }
+}
+
+impl<'a, R: Net + Wait + Clock + Eprint> Connect for WatchedTcp<'a, R> {
+    ghost use Rattle.std.specs.Prelude.{⊤};
+
+    type Wire = WatchedTcpWire<R::Stream>;
+
+    ghost gives = { λ _ _ _. ⊤ };
+
+    ghost stands = { λ _ _ _. ⊤ };
+
+    ghost again = { λ _ _. ⊤ };
+
+    ghost made = { λ c. c.made };
+
+    ghost failed = { λ c. c.failed };
+
+    ghost refused = { λ c. c.refused };
+
+    ghost taken = { λ c. c.taken };
+
+    fn connect(&mut self, of: &Origin) -> Result<WatchedTcpWire<R::Stream>, ConnectFault> {
+        match self.inner.connect(of) {
+            Ok(inner) => Ok(WatchedTcpWire { inner }),
+            Err(fault) => Err(fault),
+        }
+    }
+
+    fn take(&mut self, of: &Origin) -> Option<WatchedTcpWire<R::Stream>> {
+        match self.inner.take(of) {
+            Some(inner) => Some(WatchedTcpWire { inner }),
+            None => None,
+        }
+    }
+
+    fn give_back(&mut self, of: &Origin, wire: WatchedTcpWire<R::Stream>) {
+        self.inner.give_back(of, wire.into_inner());
+    }
+
+    fn close(&mut self, wire: WatchedTcpWire<R::Stream>) {
+        self.inner.close(wire.into_inner());
+    }
+
+    fn failures(&self) -> u64 {
+        self.inner.failures()
+    }
+}
+
+impl<S: Read + Write + Drop> Wire for WatchedTcpWire<S> {
+    ghost use Rattle.std.specs.Prelude.{None, false};
+
+    ghost incoming = { λ _. None };
+
+    ghost outgoing = { λ _. None };
+
+    ghost failed = { λ w. w.0 };
+
+    ghost lost = { λ w. w.1 };
+
+    ghost reads_never_fail = { λ _. false };
+
+    ghost writes_never_fail = { λ _. false };
+
+    ghost never_errs = { λ _. false };
+
+    fn read(&mut self, room: &mut [u8]) -> Result<usize, WireFault> {
+        self.inner.read(room)
+    }
+
+    fn write(&mut self, bytes: &[u8]) -> Result<usize, WireFault> {
+        self.inner.write(bytes)
+    }
+
+    fn failures(&self) -> u64 {
+        self.inner.failures()
+    }
+}
