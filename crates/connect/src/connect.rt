@@ -66,8 +66,8 @@ pub trait Connect: Drop {
 
     /// A connection to an origin that was kept, where there is one, over which nothing came since. It is
     /// kept no longer.
-    fn take(&mut self, of: &Origin) -> Option<Self::Wire>
-        ensures given { IfSome result (λ wire. stands self.old of.now wire) }
+    fn take(&mut self, _of: &Origin) -> Option<Self::Wire>
+        ensures given { IfSome result (λ wire. stands self.old _of.now wire) }
         ensures quiet { IfSome result (λ wire. IsAtEnd (Self.Wire.incoming wire)) }
         ensures made { made self.new ≡ made self.old }
         ensures failed { failed self.new ≡ failed self.old }
@@ -76,19 +76,17 @@ pub trait Connect: Drop {
         ensures stands { Stays (stands self.old) (stands self.new) }
         ensures gives { Stays (gives self.old) (gives self.new) }
     {
-        let _ = of;
         None
     }
 
     /// Keeps a connection to an origin, behind a response that leaves it usable, or ends it.
-    fn give_back(&mut self, of: &Origin, wire: Self::Wire)
+    fn give_back(&mut self, _of: &Origin, wire: Self::Wire)
         ensures made { made self.new ≡ made self.old }
         ensures failed { failed self.new ≡ failed self.old }
         ensures refused { refused self.new ≡ refused self.old }
         ensures taken { taken self.new ≡ taken self.old }
-        ensures stands { StaysWith (stands self.old) (stands self.new) of.now (again wire) }
+        ensures stands { StaysWith (stands self.old) (stands self.new) _of.now (again wire) }
     {
-        let _ = of;
         self.close(wire);
     }
 
