@@ -2,7 +2,7 @@
 use Rattle.std.specs.Prelude.{ℕ, ◌&&◌, nat_le, Bool, true, false, List, [], if◌then◌else◌}
 use Rattle.robots_rules.specs.Access.{RuleSetValue}
 use Rattle.robots_rules.specs.Groups.{rules_in}
-use Rattle.response_answer.specs.Digests.{is_successful}
+use Rattle.fetcher.specs.Statuses.{is_successful}
 use Rattle.answer_notes.specs.declared.robots_answer.TheConstants.{MAX_REDIRECTS, FIRST_SERVER_ERROR, LAST_SERVER_ERROR}
 
 -- everything is allowed

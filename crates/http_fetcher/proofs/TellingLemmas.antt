@@ -7,7 +7,8 @@ use Rattle.response_reader.specs.Response.{ResponseParts}
 use Rattle.response_reader.specs.Fields.{HeadParts}
 use Rattle.response_reader.specs.declared.wire.Wire.{Ghosts as Wires}
 use Rattle.fetcher.specs.declared.answer.Answer.{Answer}
-use Rattle.response_answer.specs.Digests.{is_redirect, is_successful, is_document, digest_of, kept_body, target_of, page_or_leaf}
+use Rattle.fetcher.specs.Statuses.{is_redirect, is_successful}
+use Rattle.response_answer.specs.Digests.{is_document, digest_of, kept_body, target_of, page_or_leaf}
 use Rattle.answer_notes.specs.RobotsAnswers.{all_allowed, rules_by_status}
 use Rattle.answer_notes.specs.Tellings.{outcome_told, body_told}
 use Rattle.answer_notes.specs.declared.told.Told.{Told}

@@ -4,7 +4,8 @@ use Rattle.std.proofs.lemmas.Bool.Decides.{nat_tests}
 use Rattle.response_reader.specs.Fields.{HeadParts}
 use Rattle.response_answer.specs.declared.stage.Stage.{Stage}
 use Rattle.response_answer.specs.declared.stage.Stage.TheVariants.{Fresh, Redirect, Page, Leaf}
-use Rattle.response_answer.specs.Digests.{is_successful, is_redirect, is_document, kept_body}
+use Rattle.fetcher.specs.Statuses.{is_successful, is_redirect}
+use Rattle.response_answer.specs.Digests.{is_document, kept_body}
 use Rattle.response_answer.specs.Digesting.{IsStageOf, has_head}
 
 nothing_kept : (b : Bool) (xs : List ℕ) → xs ≡ [] → (if b then xs else []) ≡ []

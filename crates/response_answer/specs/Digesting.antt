@@ -5,7 +5,8 @@ use Rattle.html_links.specs.Scanning.{StandsFor}
 use Rattle.response_reader.specs.Fields.{HeadParts}
 use Rattle.response_answer.specs.declared.stage.Stage.{Stage}
 use Rattle.response_answer.specs.declared.stage.Stage.TheVariants.{Fresh, Redirect, Page, Leaf}
-use Rattle.response_answer.specs.Digests.{target_of, named_from, is_document, is_successful, kept_body}
+use Rattle.response_answer.specs.Digests.{target_of, named_from, is_document, kept_body}
+use Rattle.fetcher.specs.Statuses.{is_successful}
 
 -- the address that was asked and whether robots rules are honoured, what the head says, the body that is kept, and whether memory ran out
 pub record Digesting : Type 0 where

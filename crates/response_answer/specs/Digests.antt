@@ -10,7 +10,7 @@ use Rattle.html_links.specs.declared.links.LinkKind.{LinkKind}
 use Rattle.html_links.specs.declared.links.LinkKind.TheVariants as link
 use Rattle.response_reader.specs.Fields.{HeadParts}
 use Rattle.response_reader.specs.Response.{ResponseParts}
-pub use Rattle.fetcher.specs.Statuses.{is_redirect, is_successful}
+use Rattle.fetcher.specs.Statuses.{is_redirect, is_successful}
 use Rattle.fetcher.specs.declared.edge.Edge.{Edge}
 use Rattle.fetcher.specs.declared.edge.EdgeKind.{EdgeKind}
 use Rattle.fetcher.specs.declared.edge.EdgeKind.TheVariants as edge

@@ -1,7 +1,8 @@
 //! How far a response is digested: what its head says, and what was found in its body so far.
 ghost use Rattle.std.specs.Prelude.{◌≡◌, ℕ, List, [], ◌++◌, ◌||◌, true, IfOk, OnOk};
 ghost use Rattle.response_reader.specs.Fields.{HeadParts};
-ghost use Rattle.response_answer.specs.Digests.{digest_of, is_successful};
+ghost use Rattle.response_answer.specs.Digests.{digest_of};
+ghost use Rattle.fetcher.specs.Statuses.{is_successful};
 ghost use Rattle.response_answer.specs.Digesting.{IsStageOf, has_head};
 ghost use Rattle.response_answer.specs.inner.HeadKinds.{kind_parts};
 

@@ -1,6 +1,6 @@
 -- What is kept grows by the piece where the status is one of success.
 use Rattle.std.proofs.Common.{◌≡◌, ◌∙◌, ◌++◌, ℕ, List, Some, true, false, sym, ap, subst}
-use Rattle.response_answer.specs.Digests.{is_successful}
+use Rattle.fetcher.specs.Statuses.{is_successful}
 use Rattle.response_answer.specs.Digesting.{Digesting, HasTaken}
 use Rattle.response_answer.proofs.DigestLemmas.{kept_more, kept_none}
 use Rattle.response_answer.proofs.digester.Digester.take_piece.Goals as goal
