@@ -170,7 +170,11 @@ pub fn run<H: Threads + Wait + Sync, R: Read, W: Write>(
     ensures unread { ¬ AreForInput (map (λ word. word.now) words.now) → reader.new ≡ reader.old }
 {
     match read_order(alloc, words) {
-        Ok(order) => run_of_order(rt, alloc, &order, reader, writer),
+        Ok(order) => {
+            let status = run_of_order(rt, alloc, &order, reader, writer);
+            drop(order);
+            status
+        }
         Err(wrong) => refuse(alloc, Fault::Line(wrong), writer),
     }
 }

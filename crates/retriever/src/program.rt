@@ -159,7 +159,11 @@ fn run_texts<H: Threads + Wait + Sync, S: System, R: Read, W: Write, E: Write>(
         (map (λ word. word.now) words.now) }
 {
     match read_order(alloc, words) {
-        Ok(order) => run_order(rt, alloc, system, &order, reader, writer),
+        Ok(order) => {
+            let status = run_order(rt, alloc, system, &order, reader, writer);
+            drop(order);
+            status
+        }
         Err(wrong) => explain(alloc, Fault::Line(wrong), words, writer, errors),
     }
 }

@@ -7,8 +7,8 @@ use Rattle.retriever.proofs.input_run.run.Goals as goal
 
 pub returns-in-Ok : goal.returns-in-Ok
 returns-in-Ok g c = record {
-  runs = c.run_of_order.ensures.runs _ c.in-Ok.ensures;
-  unread = λ no. c.run_of_order.ensures.unread (is_live c.in-Ok.order.source (λ not. no (c.in-Ok.order, (c.in-Ok.ensures, not))));
+  runs = c.run_of_order-status.ensures.runs _ c.in-Ok.ensures;
+  unread = λ no. c.run_of_order-status.ensures.unread (is_live c.in-Ok.order.source (λ not. no (c.in-Ok.order, (c.in-Ok.ensures, not))));
 }
 
 pub returns-in-Err : goal.returns-in-Err
