@@ -20,12 +20,21 @@ pub const MAX_HOST: usize = 255;
 /// of at most [`MAX_HOST`]. Equality, order and hash are those of its text, by bytes.
 ///
 /// Copies share one URL, so that a copy takes no memory. Threads may share an address.
-#[derive(Drop)]
 pub struct Address {
     // Nothing writes to the URL once it is shared.
     url: Arc<Url>,
     // For what is joined. It has no size.
     alloc: Global,
+}
+
+// By hand: who drops one proves a call, and nothing of what it holds.
+impl Drop for Address {
+    fn drop(self) {
+        let Address {
+            url: _url,
+            alloc: _alloc,
+        } = self;
+    }
 }
 
 // Contracts see an address as its text.
@@ -202,20 +211,5 @@ impl Address {
         ensures { result ≡ is_robots_file self.now }
     {
         self.path_query() == "/robots.txt"
-    }
-}
-
-#[cfg(test)]
-mod tests {
-    use super::*;
-    use std::test::Fail;
-
-    #[test]
-    fn a_copy_shares_the_url(rt: HostRuntime) -> Result<(), Fail> {
-        let page = Address::read(rt.alloc(), "http://h/a")?;
-        assert!(rt; Arc::strong_count(&page.url) == 1);
-        let copy = page.try_clone()?;
-        assert!(rt; Arc::strong_count(&copy.url) == 2);
-        Ok(())
     }
 }

@@ -56,9 +56,15 @@ impl Clone for Edge {
 
 /// The edges of a page in document order, doubles kept. Copies share them, so that a copy takes no
 /// memory. Contracts see a list of edges.
-#[derive(Drop)]
 pub struct Edges {
     items: Arc<Vec<Edge>>,
+}
+
+// By hand: who drops one proves a call, and nothing of what it holds.
+impl Drop for Edges {
+    fn drop(self) {
+        let Edges { items: _items } = self;
+    }
 }
 
 impl Model for Edges {

@@ -36,9 +36,15 @@ impl<T: Drop> From<AllocFailed<T>> for ElementFault {
 }
 
 /// The elements of a list. A list without elements counts as not given.
-#[derive(Drop)]
 pub struct Elements<T> {
     items: Vec<T>,
+}
+
+// By hand: who drops one proves a call, and nothing of what it holds.
+impl<T: Drop> Drop for Elements<T> {
+    fn drop(self) {
+        let Elements { items: _items } = self;
+    }
 }
 
 // Contracts see the elements as a list.

@@ -18,12 +18,23 @@ use tcp_fetcher::OverTcp;
 /// connection was lost.
 // A type of its own, as what it asks, since a call at a type that names all these parts costs its proof more than the checker
 // allows.
-#[derive(Drop)]
 pub struct Asking<'a, R: Net + Wait + Files + Clock + Eprint> {
     pub(crate) inner: Journaled<OverTcp<'a, R>, Pen<'a, R, R>>,
     pub(crate) rt: &'a R,
     pub(crate) progress: &'a Progress<'a, R>,
     pub(crate) failures: &'a SharedFailures,
+}
+
+// By hand: who drops one proves a call, and nothing of what it holds.
+impl<'a, R: Net + Wait + Files + Clock + Eprint> Drop for Asking<'a, R> {
+    fn drop(self) {
+        let Asking {
+            inner: _inner,
+            rt: _rt,
+            progress: _progress,
+            failures: _failures,
+        } = self;
+    }
 }
 
 impl<'a, R: Net + Wait + Files + Clock + Eprint> Asking<'a, R> {

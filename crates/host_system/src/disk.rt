@@ -15,13 +15,25 @@ use tcp_connect::Kept;
 
 /// The folder of a run's pages. Before one is put the connections that wait are ended, since a file needs a descriptor too. Those
 /// of a site are made ready in threads.
-#[derive(Drop)]
 pub struct Disk<'a, R: Net + Files + Wait> {
     pub(crate) inner: DiskFolder<'a, R>,
     pub(crate) rt: &'a R,
     pub(crate) kept: &'a Kept<R::Stream>,
     pub(crate) crew: &'a PartThreads<'a, R>,
     pub(crate) failures: &'a SharedFailures,
+}
+
+// By hand: who drops one proves a call, and nothing of what it holds.
+impl<'a, R: Net + Files + Wait> Drop for Disk<'a, R> {
+    fn drop(self) {
+        let Disk {
+            inner: _inner,
+            rt: _rt,
+            kept: _kept,
+            crew: _crew,
+            failures: _failures,
+        } = self;
+    }
 }
 
 impl<'a, R: Net + Files + Wait> Disk<'a, R>
@@ -72,7 +84,6 @@ where
 }
 
 /// The record of a run. Before it is written the connections that wait are ended, too.
-#[derive(Drop)]
 pub struct Saved<'a, R: Net + Wait + Eprint + Files> {
     pub(crate) inner: SavedFile<'a, R, R>,
     pub(crate) rt: &'a R,
@@ -81,6 +92,20 @@ pub struct Saved<'a, R: Net + Wait + Eprint + Files> {
     pub(crate) path: String,
     // Whether it is kept that it can't be put.
     pub(crate) is_lost: bool,
+}
+
+// By hand: who drops one proves a call, and nothing of what it holds.
+impl<'a, R: Net + Wait + Eprint + Files> Drop for Saved<'a, R> {
+    fn drop(self) {
+        let Saved {
+            inner: _inner,
+            rt: _rt,
+            kept: _kept,
+            failures: _failures,
+            path: _path,
+            is_lost: _is_lost,
+        } = self;
+    }
 }
 
 impl<'a, R: Net + Wait + Eprint + Files> Saved<'a, R> {

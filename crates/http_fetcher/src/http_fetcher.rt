@@ -35,7 +35,6 @@ use std::marker::Model;
 /// Asks a site over connections: a new one for each page and for each hop of a robots file, or one that served before and was
 /// kept. What such a site tells is unknown, so an answer is what some bytes say, or that none came, and rules stand at the end
 /// of a chain of such answers.
-#[derive(Drop)]
 pub struct HttpFetcher<C: Connect> {
     alloc: Global,
     connect: C,
@@ -46,6 +45,22 @@ pub struct HttpFetcher<C: Connect> {
     notes: Vec<Noted>,
     // Responses are read by way of it, one after another.
     room: Room,
+}
+
+// By hand: who drops one proves a call, and nothing of what it holds.
+impl<C: Connect> Drop for HttpFetcher<C> {
+    fn drop(self) {
+        let HttpFetcher {
+            alloc: _alloc,
+            connect: _connect,
+            robots: _robots,
+            keeps: _keeps,
+            asks: _asks,
+            is_recording: _is_recording,
+            notes: _notes,
+            room: _room,
+        } = self;
+    }
 }
 
 impl<C: Connect> Model for HttpFetcher<C> {
@@ -125,7 +140,7 @@ impl<C: Connect> HttpFetcher<C> {
             is_recording,
             notes,
             room,
-            ..
+            keeps: _keeps,
         } = self;
         HttpFetcher {
             alloc,

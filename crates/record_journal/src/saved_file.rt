@@ -22,7 +22,6 @@ const FIRST_LEN: u64 = 15;
 /// one at any moment, and an answer is in the file or in the journal. Where a call fails, the old file and the journal stay.
 ///
 /// A link, a directory or a device isn't replaced.
-#[derive(Drop)]
 pub struct SavedFile<'a, R: Wait + Eprint, D: Files> {
     rt: &'a R,
     disk: &'a D,
@@ -32,6 +31,21 @@ pub struct SavedFile<'a, R: Wait + Eprint, D: Files> {
     // Whether a write failed for good.
     is_lost: bool,
     journal: Option<&'a DiskJournal<D>>,
+}
+
+// By hand: who drops one proves a call, and nothing of what it holds.
+impl<'a, R: Wait + Eprint, D: Files> Drop for SavedFile<'a, R, D> {
+    fn drop(self) {
+        let SavedFile {
+            rt: _rt,
+            disk: _disk,
+            path: _path,
+            part: _part,
+            file: _file,
+            is_lost: _is_lost,
+            journal: _journal,
+        } = self;
+    }
 }
 
 // Makes a new file. What a killed run left there is taken away first; a link isn't followed.

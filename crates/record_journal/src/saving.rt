@@ -31,11 +31,20 @@ pub enum HoldFault {
 }
 
 /// Where a run saves its answers: nowhere, until it holds the file of a record. All its workers share it.
-#[derive(Drop)]
 pub struct Saving<D: Files> {
     journal: OnceLock<DiskJournal<D>>,
     // What the journal had that is resumed, until it is taken: a record, or nothing where there was no journal.
     left: Mutex<Option<Vec<u8>>>,
+}
+
+// By hand: who drops one proves a call, and nothing of what it holds.
+impl<D: Files> Drop for Saving<D> {
+    fn drop(self) {
+        let Saving {
+            journal: _journal,
+            left: _left,
+        } = self;
+    }
 }
 
 // What stands in a journal, from its beginning.

@@ -1,5 +1,5 @@
 -- What a text is read as is kept for it, and for no other text.
-use Rattle.std.proofs.Common.{◌≡◌, ℕ, Bool, true, false, List, Bor, Ok, Some, cond, refl, sym, ap, ◌∙◌, subst}
+use Rattle.std.proofs.Common.{◌≡◌, ℕ, Bool, true, false, List, Ok, Some, cond, refl, sym, ap, ◌∙◌, subst}
 use Rattle.std.specs.Option.{IfSome}
 use Rattle.std.specs.declared.option.Option.{Option}
 use Rattle.std.specs.Cmp.Lexicographic.{bytes_decides}

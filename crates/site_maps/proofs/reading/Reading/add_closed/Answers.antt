@@ -30,3 +30,8 @@ returns c = λ above t.
     let put = insert_entry-new bytes_eq c.claim_origin.new.self.rules origin nothing (rw closes.rules none) in
     takes_closed c.args.self.now _ above c.args.text.now origin t named root is none closes.closed closes.answers
     (rw (c.new.ensures, c.none.ensures.value) at c.in_ok-insert.ensures.entries ∙ put ∙ ap (λ l. l ++ (origin, nothing) ∷ []) closes.rules)
+
+pub returns-in_err-insert : goal.returns-in_err-insert
+returns-in_err-insert c = λ above t.
+    let p = err_from_is_err_and c.from_residual-in_err-insert.result c.from_residual-in_err-insert.ensures.1 in
+    rw (p.1, p.2) tt
