@@ -1,11 +1,11 @@
 -- Names of several lists of which none stands twice, and how a search in order finds that one is absent.
-use Rattle.std.proofs.Common.{◌≡◌, ℕ, ◌+◌, ◌-◌, ◌<◌, ◌≤◌, inl, inr, true, false, List, [], ◌∷◌, ◌++◌, length, get_or, drop, take, map, zero, suc, Result, Ok, Err, refl, sym, ap, ◌∙◌, subst, arith}
+use Rattle.std.proofs.Common.{◌≡◌, ℕ, ◌+◌, ◌<◌, inl, inr, true, false, List, [], ◌∷◌, ◌++◌, length, get_or, map, zero, suc, Result, Ok, Err, refl, sym, ap, ◌∙◌, subst, arith}
 use Rattle.std.specs.Prelude.{All, Contains, IsPermutation}
 use Rattle.std.specs.List.{AllZip}
 use Rattle.std.specs.Result.{is_ok}
 use Rattle.std.proofs.lemmas.Bool.{false≢true, cases_lt}
-use Rattle.std.proofs.lemmas.List.{length-map, get_or-map, map-append, take_all}
-use Rattle.std.proofs.lemmas.List.Elements.{All-cons, All-take, All-drop, Contains-append_cases}
+use Rattle.std.proofs.lemmas.List.{length-map, get_or-map, map-append}
+use Rattle.std.proofs.lemmas.List.Elements.{All-cons, Contains-append_cases}
 use Rattle.std.proofs.lemmas.List.Sorted.{searchable_from_sorted, IsPermutation-append, IsPermutation-map, IsPermutation-refl, IsPermutation-sym}
 use Rattle.std.specs.declared.cmp.Ordering.{Ordering}
 use Rattle.std.specs.declared.cmp.Ordering.TheVariants.{Less, Equal, Greater}
@@ -101,11 +101,6 @@ once_both (u ∷ us) vs first second apart = (
 
 -- ---- seats
 
--- a list by its first element
-by_first : {X : Type 0} (xs : List X) (x : X) → 1 ≤ length xs → x ≡ get_or xs 0 x → xs ≡ x ∷ take (length xs - 1) (drop 1 xs)
-by_first [] x some is = absurd (omega arith)
-by_first (y ∷ ys) x some is = ap (λ z. z ∷ ys) (sym is) ∙ ap (λ zs. x ∷ zs) (sym (take_all (length (y ∷ ys) - 1) ys (omega arith)))
-
 module _ {F : Type 0} where
   pub order_first : (seat : Seat F) (seats : List (Seat F)) → AreInOrder seat.notes → All (λ (s : Seat F). AreInOrder s.notes) seats → All (λ (s : Seat F). AreInOrder s.notes) (seat ∷ seats)
   order_first seat seats first rest = All-cons (λ (s : Seat F). AreInOrder s.notes) seat seats first rest
@@ -130,33 +125,29 @@ module _ {F : Type 0} where
   rules_once seat seats order once apart = subst IsOnce (sym (map-append (λ (note : RulesNote). note.origin) seat.notes.rules.items (rules_notes seats)))
       (once_both (origins seat.notes.rules.items) (origins (rules_notes seats)) (once_ascending (origins seat.notes.rules.items) order.rules) once apart)
 
-  pub pages_apart_first : (names : List Text) (seats : List (Seat F)) (seat : Seat F) → 1 ≤ length seats → seat ≡ get_or seats 0 seat → AreNotedApart names (addresses seat.notes.pages.items)
-      → AreNotedApart names (addresses (page_notes (take (length seats - 1) (drop 1 seats)))) → AreNotedApart names (addresses (page_notes seats))
-  pages_apart_first names seats seat some is first rest =
-      subst (λ (ss : List (Seat F)). AreNotedApart names (addresses (page_notes ss))) (sym (by_first seats seat some is)) (pages_apart names seat (take (length seats - 1) (drop 1 seats)) first rest)
+  -- where the first of the seats and the others are apart from the names, all are
+  pub pages_apart_first : (names : List Text) (seat : Seat F) (others seats : List (Seat F)) → seat ∷ others ≡ seats → AreNotedApart names (addresses seat.notes.pages.items)
+      → AreNotedApart names (addresses (page_notes others)) → AreNotedApart names (addresses (page_notes seats))
+  pages_apart_first names seat others seats is first rest =
+      subst (λ (ss : List (Seat F)). AreNotedApart names (addresses (page_notes ss))) is (pages_apart names seat others first rest)
 
-  pub rules_apart_first : (names : List Text) (seats : List (Seat F)) (seat : Seat F) → 1 ≤ length seats → seat ≡ get_or seats 0 seat → AreNotedApart names (origins seat.notes.rules.items)
-      → AreNotedApart names (origins (rules_notes (take (length seats - 1) (drop 1 seats)))) → AreNotedApart names (origins (rules_notes seats))
-  rules_apart_first names seats seat some is first rest =
-      subst (λ (ss : List (Seat F)). AreNotedApart names (origins (rules_notes ss))) (sym (by_first seats seat some is)) (rules_apart names seat (take (length seats - 1) (drop 1 seats)) first rest)
+  pub rules_apart_first : (names : List Text) (seat : Seat F) (others seats : List (Seat F)) → seat ∷ others ≡ seats → AreNotedApart names (origins seat.notes.rules.items)
+      → AreNotedApart names (origins (rules_notes others)) → AreNotedApart names (origins (rules_notes seats))
+  rules_apart_first names seat others seats is first rest =
+      subst (λ (ss : List (Seat F)). AreNotedApart names (origins (rules_notes ss))) is (rules_apart names seat others first rest)
 
-  pub first_order : (seats : List (Seat F)) (seat : Seat F) → 1 ≤ length seats → seat ≡ get_or seats 0 seat → All (λ (s : Seat F). AreInOrder s.notes) seats → AreInOrder seat.notes
-  first_order seats seat some is order = subst (λ (s : Seat F). AreInOrder s.notes) (sym is) (order 0 seat (omega arith))
+  first_order : (seat : Seat F) (others seats : List (Seat F)) → seat ∷ others ≡ seats → All (λ (s : Seat F). AreInOrder s.notes) seats → AreInOrder seat.notes
+  first_order seat others seats is order = subst (λ (ss : List (Seat F)). All (λ (s : Seat F). AreInOrder s.notes) ss) (sym is) order 0 seat (omega arith)
 
-  -- so are those of the other seats
-  pub rest_order : (seats : List (Seat F)) (n : ℕ) → All (λ (s : Seat F). AreInOrder s.notes) seats → All (λ (s : Seat F). AreInOrder s.notes) (take n (drop 1 seats))
-  rest_order seats n order =
-      All-take (λ (s : Seat F). AreInOrder s.notes) n (drop 1 seats) (All-drop (λ (s : Seat F). AreInOrder s.notes) 1 seats order)
+  pub pages_once_first : (seat : Seat F) (others seats : List (Seat F)) → seat ∷ others ≡ seats → All (λ (s : Seat F). AreInOrder s.notes) seats → IsOnce (addresses (page_notes others))
+      → AreNotedApart (addresses seat.notes.pages.items) (addresses (page_notes others)) → IsOnce (addresses (page_notes seats))
+  pages_once_first seat others seats is order once apart =
+      subst (λ (ss : List (Seat F)). IsOnce (addresses (page_notes ss))) is (pages_once seat others (first_order seat others seats is order) once apart)
 
-  pub pages_once_first : (seats : List (Seat F)) (seat : Seat F) → 1 ≤ length seats → seat ≡ get_or seats 0 seat → All (λ (s : Seat F). AreInOrder s.notes) seats
-      → IsOnce (addresses (page_notes (take (length seats - 1) (drop 1 seats)))) → AreNotedApart (addresses seat.notes.pages.items) (addresses (page_notes (take (length seats - 1) (drop 1 seats)))) → IsOnce (addresses (page_notes seats))
-  pages_once_first seats seat some is order once apart =
-      subst (λ (ss : List (Seat F)). IsOnce (addresses (page_notes ss))) (sym (by_first seats seat some is)) (pages_once seat (take (length seats - 1) (drop 1 seats)) (first_order seats seat some is order) once apart)
-
-  pub rules_once_first : (seats : List (Seat F)) (seat : Seat F) → 1 ≤ length seats → seat ≡ get_or seats 0 seat → All (λ (s : Seat F). AreInOrder s.notes) seats
-      → IsOnce (origins (rules_notes (take (length seats - 1) (drop 1 seats)))) → AreNotedApart (origins seat.notes.rules.items) (origins (rules_notes (take (length seats - 1) (drop 1 seats)))) → IsOnce (origins (rules_notes seats))
-  rules_once_first seats seat some is order once apart =
-      subst (λ (ss : List (Seat F)). IsOnce (origins (rules_notes ss))) (sym (by_first seats seat some is)) (rules_once seat (take (length seats - 1) (drop 1 seats)) (first_order seats seat some is order) once apart)
+  pub rules_once_first : (seat : Seat F) (others seats : List (Seat F)) → seat ∷ others ≡ seats → All (λ (s : Seat F). AreInOrder s.notes) seats → IsOnce (origins (rules_notes others))
+      → AreNotedApart (origins seat.notes.rules.items) (origins (rules_notes others)) → IsOnce (origins (rules_notes seats))
+  rules_once_first seat others seats is order once apart =
+      subst (λ (ss : List (Seat F)). IsOnce (origins (rules_notes ss))) is (rules_once seat others (first_order seat others seats is order) once apart)
 
   pub same_fetchers : (ss ts : List (Seat F)) → AllZip IsOrdered ss ts → fetchers_of ts ≡ fetchers_of ss
   same_fetchers [] [] all = refl

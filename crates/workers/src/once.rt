@@ -83,7 +83,7 @@ fn is_apart<F>(notes: &Notes, seats: &[Seat<F>]) -> bool
     ensures pages { IsTrue result → AreNotedApart (addresses notes.now.pages.items) (addresses (page_notes seats.now)) }
     ensures rules { IsTrue result → AreNotedApart (origins notes.now.rules.items) (origins (rules_notes seats.now)) }
 {
-    let [seat, others @ ..] = seats else {
+    let Some((seat, others)) = seats.split_first() else {
         return true;
     };
     if !are_pages_apart(&notes.pages, &seat.notes.pages) {
@@ -101,7 +101,7 @@ fn are_apart<F>(seats: &[Seat<F>]) -> bool
     ensures pages { IsTrue result → IsOnce (addresses (page_notes seats.now)) }
     ensures rules { IsTrue result → IsOnce (origins (rules_notes seats.now)) }
 {
-    let [seat, others @ ..] = seats else {
+    let Some((seat, others)) = seats.split_first() else {
         return true;
     };
     if !is_apart(&seat.notes, others) {
