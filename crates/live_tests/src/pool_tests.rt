@@ -106,6 +106,13 @@ ended 8
 ended 70
 give 1
 take 1
+make 1
+give 1
+give 1
+take 1
+take 1
+none 1
+give 1
 give 1";
 
 /// The server, and its ends of the connections in the order in which they were made.
