@@ -1,14 +1,15 @@
 -- What stays so of those that stand where one comes, goes or changes.
-use Rattle.std.proofs.Common.{◌≡◌, ◌≢◌, ◌<◌, ◌≤◌, ◌+◌, ◌∙◌, ℕ, List, Some, ap, sym, subst, ⊎_elim, [], ◌∷◌, ◌++◌, length, get_or, set, take, drop, suc, arith}
-use Rattle.std.specs.Prelude.{AllPairs, remove, slice_get, slice_set}
+use Rattle.std.proofs.Common.{◌≡◌, ◌≢◌, ◌<◌, ◌≤◌, ◌+◌, ◌∙◌, ℕ, Bool, true, false, ◌&&◌, List, Option, None, Some, ap, sym, refl, subst, ⊎_elim, [], ◌∷◌, ◌++◌, length, get_or, set, take, drop, suc, arith}
+use Rattle.std.specs.Prelude.{AllPairs, MatchOption, remove, slice_get, slice_set}
+use Rattle.std.specs.List.{AllWithin, HoldsAt}
 use Rattle.std.proofs.lemmas.List.Elements.{All-push, All-append, All-take, All-drop, All-weaker}
 use Rattle.std.proofs.lemmas.List.Quantifiers.{all_pairs_push, all_pairs_remove}
 use Rattle.std.proofs.lemmas.List.Edits.{length-remove, get_or-remove_below, get_or-remove_above}
 use Rattle.std.proofs.lemmas.List.{length_push, get_or-set_same, get_or-set_other}
 use Rattle.std.proofs.Math.ListN.{length-set}
-use Rattle.std.proofs.lemmas.Option.{slice_get_within, get_or_from_slice_get}
+use Rattle.std.proofs.lemmas.Option.{slice_get_within, get_or_from_slice_get, slice_get-get_or}
 use Rattle.std.proofs.lemmas.Bool.{ne_eqb, cases_eq, cases_lt}
-use Rattle.tcp_connect.specs.Standing.{Stand, IsStandPool, NonePasses, has_number}
+use Rattle.tcp_connect.specs.Standing.{Stand, Pool, IsStandPool, NonePasses, IsFirst, Removes, EndsFirst, MakesRoom, has_number, waits, waits_for, count_to}
 use Rattle.tcp_connect.specs.declared.standing.TheConstants.{MOST}
 
 -- their numbers differ
@@ -116,3 +117,70 @@ next_is_fresh stands entered was = λ k stand there.
     let same : (get_or stands k stand).number ≡ stand.number = ap (λ s. s.number) (get_or_from_slice_get stands k stand stand there) in
     let given : (get_or stands k stand).number < entered = was.given k stand (slice_get_within stands k stand there) in
     ne_eqb stand.number entered (λ equal. omega arith)
+
+first_true : (a b : Bool) → (a && b) ≡ true → a ≡ true
+first_true true b both = refl
+first_true false b both = both
+
+-- the first of those that pass was taken away, and it waited
+pub EndsFirst-removes : {W : Type 0} (test : Stand W → Bool) (old new : Pool W) (at : ℕ) (stand : Stand W) (ended : Option W)
+    → IsFirst test old.stands at stand → waits stand ≡ true → Removes at old ended new → EndsFirst test old ended new
+EndsFirst-removes test old new at stand None first waiting gone =
+    let same : gone.0 ≡ stand = cc (gone.1, first.there) in
+    let none : stand.waiting ≡ None = sym (ap (λ s. s.waiting) same) ∙ sym gone.2 in
+    let idle : waits stand ≡ false = rw none refl in
+    let never : true ≡ false = sym waiting ∙ idle in
+    absurd cc
+EndsFirst-removes test old new at stand (Some waited) first waiting gone =
+    let same : gone.0 ≡ stand = cc (gone.1, first.there) in
+    (at, stand, first, sym (ap (λ s. s.waiting) same) ∙ sym gone.2, gone.3)
+
+-- where the origin is full, the first that waits for it goes
+pub MakesRoom-full : {W : Type 0} (of : List ℕ) (most : ℕ) (old new : Pool W) (ended : Option W)
+    → most ≤ count_to old.stands of → EndsFirst (waits_for of) old ended new → MakesRoom of most old ended new
+MakesRoom-full of most old new ended many ends =
+    record { full = λ _. ends; whole = λ few _. absurd (omega arith); room = λ few _. absurd (omega arith) }
+
+-- where all that may stand, the first that waits goes
+pub MakesRoom-whole : {W : Type 0} (of : List ℕ) (most : ℕ) (old new : Pool W) (ended : Option W)
+    → count_to old.stands of < most → MOST ≤ length old.stands → EndsFirst waits old ended new → MakesRoom of most old ended new
+MakesRoom-whole of most old new ended few many ends =
+    record { full = λ full. absurd (omega arith); whole = λ _ _. ends; room = λ _ room. absurd (omega arith) }
+
+-- where there is room, none goes
+pub MakesRoom-none : {W : Type 0} (of : List ℕ) (most : ℕ) (old : Pool W)
+    → count_to old.stands of < most → length old.stands < MOST → MakesRoom of most old None old
+MakesRoom-none of most old few room =
+    record { full = λ full. absurd (omega arith); whole = λ _ whole. absurd (omega arith); room = λ _ _. (refl, refl) }
+
+-- the first that waits for an origin was taken away
+pub EndsFirst-waits_for : {W : Type 0} (of : List ℕ) (old new : Pool W) (at : ℕ) (stand : Stand W) (ended : Option W)
+    → IsFirst (waits_for of) old.stands at stand → Removes at old ended new → EndsFirst (waits_for of) old ended new
+EndsFirst-waits_for of old new at stand ended first gone =
+    EndsFirst-removes (waits_for of) old new at stand ended first (first_true _ _ first.passes) gone
+
+-- what stands at a place within
+there_within : {X : Type 0} (xs : List X) (at : ℕ) → at < length xs → (x : X) × (slice_get xs at ≡ Some x)
+there_within [] at within = absurd (omega arith)
+there_within (x ∷ xs) at within = (get_or (x ∷ xs) at x, slice_get-get_or (x ∷ xs) at x within)
+
+-- the first that passes, from what each was tested to be
+pub first_from_tests : {W : Type 0} (test : Stand W → Bool) (stands : List (Stand W)) (answer : Option ℕ)
+    → MatchOption answer (AllWithin (λ stand. test stand ≡ false) stands 0 (length stands))
+    (λ at. (at < length stands) × HoldsAt (λ stand. test stand ≡ true) stands at × AllWithin (λ stand. test stand ≡ false) stands 0 at)
+    → MatchOption answer (NonePasses test stands) (λ at. (stand : Stand W) × IsFirst test stands at stand)
+first_from_tests test stands None none = λ k stand there.
+    let read : get_or stands k stand ≡ stand = get_or_from_slice_get stands k stand stand there in
+    subst (λ s. test s ≡ false) read (none k stand (omega arith) (slice_get_within stands k stand there))
+first_from_tests test stands (Some at) found =
+    let (stand, there) = there_within stands at found.0 in
+    let read : get_or stands at stand ≡ stand = get_or_from_slice_get stands at stand stand there in (
+      stand,
+      record {
+        there = there;
+        passes = subst (λ s. test s ≡ true) read (found.1 stand);
+        first = λ k other sooner before.
+            let here : get_or stands k other ≡ other = get_or_from_slice_get stands k other other before in
+            subst (λ s. test s ≡ false) here (found.2 k other (omega arith) sooner);
+      },
+    )

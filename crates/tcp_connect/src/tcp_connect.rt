@@ -74,13 +74,16 @@ fn stream_to<R: Net + Wait>(
     let mut loss = None;
     let mut fault = OpenFault::Failed(LossKind::Unknown);
     for address in &known.addresses {
-        match stream_at(rt, hosts, *address, port) {
+        let unmade = match stream_at(rt, hosts, *address, port) {
             Ok(stream) => return Ok((stream, *address)),
-            Err(OpenFault::Lacking(Lack::Port)) if known.took != Some(*address) => {
+            Err(unmade) => unmade,
+        };
+        match unmade {
+            OpenFault::Lacking(Lack::Port) if known.took != Some(*address) => {
                 fault = OpenFault::Lacking(Lack::Address);
             }
-            Err(OpenFault::Failed(kind)) => loss = loss.or(Some(kind)),
-            Err(lacking) => return Err(lacking),
+            OpenFault::Failed(kind) => loss = loss.or(Some(kind)),
+            lacking => return Err(lacking),
         }
     }
     match loss {
@@ -107,11 +110,16 @@ fn stream_at<R: Net + Wait>(
             if e.kind() == ErrorKind::TimedOut {
                 hosts.note_silent(rt, server);
             }
-            match lack_of(&e) {
-                Some(lack) => Err(OpenFault::Lacking(lack)),
-                None => Err(OpenFault::Failed(loss_of(&e))),
-            }
+            Err(fault_of(&e))
         }
+    }
+}
+
+// Why a connection wasn't made, by what the system answered.
+fn fault_of(e: &io::Error) -> OpenFault {
+    match lack_of(e) {
+        Some(lack) => OpenFault::Lacking(lack),
+        None => OpenFault::Failed(loss_of(e)),
     }
 }
 
@@ -291,12 +299,17 @@ impl<'a, R: Net + Wait + Clock> TcpConnect<'a, R> {
         place: Option<u64>,
     ) -> Result<TcpWire<Connection<R::Stream>>, OpenFault> {
         let host = self.hosts.host(self.rt, of.host())?;
+        wire_of(self.stream(&host, of)?, place)
+    }
+
+    // A connection to the host of an origin. The host knows from then on which address took it.
+    fn stream(&self, host: &Host, of: &Origin) -> Result<R::Stream, OpenFault> {
         let known = host.known(self.rt, self.alloc, of.host())?;
         let (stream, took) = stream_to(self.rt, self.hosts, &known, of.port())?;
         if known.took != Some(took) {
             host.took(self.rt, took);
         }
-        wire_of(stream, place)
+        Ok(stream)
     }
 
     // A connection to an origin. What the system lacks is waited for.

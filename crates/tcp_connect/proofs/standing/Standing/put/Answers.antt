@@ -1,6 +1,6 @@
-use Rattle.std.proofs.Common.{◌≡◌, ◌∙◌, List, [], ◌∷◌, ◌++◌, Some, ap, cond, get_or, slice_get, arith, IsOk}
+use Rattle.std.proofs.Common.{◌≡◌, ◌∙◌, List, [], ◌∷◌, ◌++◌, Some, ap, cond, get_or, slice_get, arith, refl, IsOk}
 use Rattle.std.specs.Prelude.{remove}
-use Rattle.std.proofs.lemmas.Option.{get_or_from_slice_get}
+use Rattle.std.proofs.lemmas.Option.{get_or_from_slice_get, slice_get_within}
 use Rattle.tcp_connect.specs.Standing.{Stand, Pool}
 use Rattle.tcp_connect.proofs.StandingLaws.{IsStandPool-move}
 use Rattle.tcp_connect.proofs.standing.Standing.put.Goals as goal
@@ -42,3 +42,12 @@ returns g c =
     let with : List (Stand g.row.W.Denot) → Pool g.row.W.Denot = λ stands. record { stands = stands; entered = c.self.inside.entered } in
     let put_at : Pool g.row.W.Denot → Pool g.row.W.Denot = λ p. record { stands = behind (remove p.stands at) (waiting stand); entered = p.entered } in
     (at, stand, rw lent first, ap with stands ∙ ap put_at c.self.view_is)
+
+pub returns-in_default : goal.returns-in_default
+returns-in_default g c =
+    let lent : c.deref.result.now ≡ c.args.self.now.stands = c.deref.ensures.value ∙ ap (λ p. p.stands) c.self.view_is in
+    (refl, rw (← lent) c.in_default.ensures, refl)
+
+pub remove-place-requires : goal.remove-place-requires
+remove-place-requires g c =
+    rw (← c.deref.ensures.len) (slice_get_within c.deref.result.now c.in-Some.at c.in-Some.ensures.0 c.in-Some.ensures.1.there)

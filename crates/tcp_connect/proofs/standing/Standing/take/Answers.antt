@@ -1,5 +1,5 @@
 use Rattle.std.proofs.Common.{ap, sym, refl, ◌∙◌, ◌≡◌, ℕ, List, None, Some, true, false, get_or, slice_get, slice_set}
-use Rattle.std.proofs.lemmas.Option.{get_or_from_slice_get}
+use Rattle.std.proofs.lemmas.Option.{get_or_from_slice_get, slice_get_within}
 use Rattle.tcp_connect.specs.Standing.{Stand, Pool, IsStandPool, waits_for}
 use Rattle.tcp_connect.proofs.StandingLaws.{IsStandPool-set}
 use Rattle.tcp_connect.proofs.standing.Standing.take.Goals as goal
@@ -13,9 +13,8 @@ IsStandPool-take stands entered at stand taken left was there same after =
 pub returns-in_err-at : goal.returns-in_err-at
 returns-in_err-at g c =
     let now = c.args.self.now in
-    let opened : c.self.inside.places.items ≡ now.stands = ap (λ p. p.stands) c.self.view_is in
-    let lent : now.stands ≡ c.deref.result.now = cc in
-    rw (c.from_residual.ensures, lent) (c.in_err-at.ensures, refl)
+    let lent : c.deref.result.now ≡ now.stands = c.deref.ensures.value ∙ ap (λ p. p.stands) c.self.view_is in
+    rw (c.from_residual.ensures, ← lent) (c.in_err-at.ensures, refl)
 
 pub invariant_of-self : goal.invariant_of-self
 invariant_of-self g c =
@@ -23,9 +22,9 @@ invariant_of-self g c =
     let last = c.in_ok-at.ensures.1 in
     let at = c.in_ok-at.at in
     let taken = c.index_mut-place.result.now in
-    let there : slice_get c.self.inside.places.items at ≡ Some stand = cc last.there in
+    let there : slice_get c.self.inside.places.items at ≡ Some stand = rw (← c.deref.ensures.value) last.there in
     let read : get_or c.self.inside.places.items at taken ≡ stand = get_or_from_slice_get c.self.inside.places.items at stand taken there in
-    let same : taken ≡ stand = cc c.index_mut-place.ensures.value in
+    let same : taken ≡ stand = c.index_mut-place.ensures.value ∙ read in
     IsStandPool-take c.self.inside.places.items c.self.inside.entered at stand taken c.take.new.self c.self.invariant there same c.take.ensures.after
 
 pub returns-in_err-waiting : goal.returns-in_err-waiting
@@ -34,13 +33,13 @@ returns-in_err-waiting g c =
     let last = c.in_ok-at.ensures.1 in
     let at = c.in_ok-at.at in
     let taken = c.index_mut-place.result.now in
-    let read : get_or c.deref.result.now at taken ≡ stand = get_or_from_slice_get c.deref.result.now at stand taken last.there in
-    let opened : c.self.inside.places.items ≡ c.args.self.now.stands = ap (λ p. p.stands) c.self.view_is in
-    let same : taken ≡ stand = cc c.index_mut-place.ensures.value in
-    let none : stand.waiting ≡ None = cc (ap (λ s. s.waiting) same, c.take.ensures.value, c.in_err-waiting.was) in
+    let there : slice_get c.self.inside.places.items at ≡ Some stand = rw (← c.deref.ensures.value) last.there in
+    let read : get_or c.self.inside.places.items at taken ≡ stand = get_or_from_slice_get c.self.inside.places.items at stand taken there in
+    let same : taken ≡ stand = c.index_mut-place.ensures.value ∙ read in
+    let none : stand.waiting ≡ None = sym (ap (λ s. s.waiting) same) ∙ sym c.take.ensures.value ∙ c.in_err-waiting.was in
     let idle : waits_for c.args.of.now stand ≡ false = rw none refl in
     let never : true ≡ false = sym last.passes ∙ idle in
-    cc
+    absurd cc
 
 pub invariant_of-self-2 : goal.invariant_of-self-2
 invariant_of-self-2 g c =
@@ -48,9 +47,9 @@ invariant_of-self-2 g c =
     let last = c.in_ok-at.ensures.1 in
     let at = c.in_ok-at.at in
     let taken = c.index_mut-place.result.now in
-    let there : slice_get c.self.inside.places.items at ≡ Some stand = cc last.there in
+    let there : slice_get c.self.inside.places.items at ≡ Some stand = rw (← c.deref.ensures.value) last.there in
     let read : get_or c.self.inside.places.items at taken ≡ stand = get_or_from_slice_get c.self.inside.places.items at stand taken there in
-    let same : taken ≡ stand = cc c.index_mut-place.ensures.value in
+    let same : taken ≡ stand = c.index_mut-place.ensures.value ∙ read in
     IsStandPool-take c.self.inside.places.items c.self.inside.entered at stand taken c.take.new.self c.self.invariant there same c.take.ensures.after
 
 pub returns : goal.returns
@@ -60,13 +59,17 @@ returns g c =
     let at = c.in_ok-at.at in
     let taken = c.index_mut-place.result.now in
     let now = c.args.self.now in
-    let opened : c.self.inside.places.items ≡ now.stands = ap (λ p. p.stands) c.self.view_is in
-    let lent : now.stands ≡ c.deref.result.now = cc in
-    let read : get_or c.deref.result.now at taken ≡ stand = get_or_from_slice_get c.deref.result.now at stand taken last.there in
-    let same : taken ≡ stand = cc c.index_mut-place.ensures.value in
-    let number : stand.number ≡ c.number-number.result = cc (ap (λ s. s.number) same, c.number-number.ensures) in
-    let waiting : stand.waiting ≡ Some c.in_ok-waiting.waiting = cc (ap (λ s. s.waiting) same, c.take.ensures.value, c.in_ok-waiting.was) in
+    let lent : c.deref.result.now ≡ now.stands = c.deref.ensures.value ∙ ap (λ p. p.stands) c.self.view_is in
+    let there : slice_get c.self.inside.places.items at ≡ Some stand = rw (← c.deref.ensures.value) last.there in
+    let read : get_or c.self.inside.places.items at taken ≡ stand = get_or_from_slice_get c.self.inside.places.items at stand taken there in
+    let same : taken ≡ stand = c.index_mut-place.ensures.value ∙ read in
+    let number : stand.number ≡ c.number-number.result = sym (ap (λ s. s.number) same) ∙ sym c.number-number.ensures in
+    let waiting : stand.waiting ≡ Some c.in_ok-waiting.waiting = sym (ap (λ s. s.waiting) same) ∙ sym c.take.ensures.value ∙ c.in_ok-waiting.was in
     let idle : Stand g.row.W.Denot → Stand g.row.W.Denot = λ s. record s { waiting = None } in
     let left : c.take.new.self ≡ idle stand = c.take.ensures.after ∙ ap idle same in
     let set_at : Stand g.row.W.Denot → Pool g.row.W.Denot → Pool g.row.W.Denot = λ s p. record { stands = slice_set p.stands at s; entered = p.entered } in
-    (at, stand, rw lent last, number, waiting, ap (set_at c.take.new.self) c.self.view_is ∙ ap (λ s. set_at s now) left)
+    (at, stand, rw (← lent) last, number, waiting, ap (set_at c.take.new.self) c.self.view_is ∙ ap (λ s. set_at s now) left)
+
+pub index_mut-place-requires : goal.index_mut-place-requires
+index_mut-place-requires g c =
+    rw (← c.deref.ensures.len) (slice_get_within c.deref.result.now c.in_ok-at.at c.in_ok-at.ensures.0 c.in_ok-at.ensures.1.there)

@@ -1,0 +1,17 @@
+use Rattle.std.proofs.Common.{◌≡◌, true, false, rules, tests}
+use Rattle.std.proofs.lemmas.Iterator.{IsFirst-from_position, YieldsList-from_slice}
+use Rattle.tcp_connect.specs.Standing.{has_number}
+use Rattle.tcp_connect.proofs.StandingLaws.{first_from_tests}
+use Rattle.tcp_connect.proofs.standing.numbered.Goals as goal
+
+pub position-requires-clause-can : goal.position-requires-clause-can
+position-requires-clause-can g c = tt
+
+pub position-requires-clause-finite : goal.position-requires-clause-finite
+position-requires-clause-finite g c = tt
+
+pub returns : goal.returns
+returns g c =
+    let found = IsFirst-from_position _ _ _ (λ it. has_number c.args.number it ≡ true) (λ it. has_number c.args.number it ≡ false) c.position.ensures.ran (YieldsList-from_slice c.args.places.now cc)
+    (λ x q k. search (rules, tests)) (λ x q k. search (rules, tests)) in
+    first_from_tests (has_number c.args.number) c.args.places.now c.position.result found
