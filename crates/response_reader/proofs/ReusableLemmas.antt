@@ -1,5 +1,5 @@
 -- What was used of a wire, all of it and nothing behind it.
-use Rattle.std.proofs.Common.{◌≡◌, Bool, false, ℕ, ◌+◌, ◌-◌, ◌≤◌, List, [], ◌++◌, length, refl, sym, ap, ◌∙◌, subst, arith, append_assoc, append-nil, length-append, Option, Some, None}
+use Rattle.std.proofs.Common.{◌≡◌, Bool, IsFalse, ℕ, ◌+◌, ◌-◌, ◌≤◌, List, [], ◌++◌, length, refl, sym, ap, ◌∙◌, subst, arith, append_assoc, append-nil, length-append, Option, Some, None}
 use Rattle.std.specs.Prelude.{not, ◌&&◌, ◌==◌}
 use Rattle.std.specs.Io.KnownBytes.{Consumes, IsAtEnd, prepend_known}
 use Rattle.response_reader.specs.declared.fields.Framing.{Framing}
@@ -137,8 +137,8 @@ pub told_first : (a b : Option (List ℕ)) (P : List ℕ → Type 0) → Consume
 told_first a b P same told = told_before a b [] P P same (λ tail p. p) told
 
 -- where the first read gave nothing, there was nothing
-pub ends_first : (old new : List ℕ) (known left : Option (List ℕ)) (most : ℕ) → Fills old new known left most false → IsAtEnd known
-ends_first old new known left most f = at_end known left f.got f.bytes (f.none refl) (f.end refl)
+pub ends_first : (old new : List ℕ) (known left : Option (List ℕ)) (most : ℕ) (more : Bool) → IsFalse more → Fills old new known left most more → IsAtEnd known
+ends_first old new known left most more ended f = at_end known left f.got f.bytes (f.none ended) (f.end ended)
   where
     at_end : (known left : Option (List ℕ)) (got : List ℕ) → Consumes known left got → got ≡ [] → IsAtEnd left → IsAtEnd known
     at_end None left got c none end = tt

@@ -1,36 +1,102 @@
-use Rattle.std.proofs.Common.{◌≡◌, inr}
+use Rattle.std.proofs.Common.{◌≡◌, [], Some, None, refl, inl, inr}
 use Rattle.std.proofs.lemmas.Result.{err_from_is_err_and}
 use Rattle.std.specs.Io.KnownBytes.{prepend_known}
 use Rattle.response_reader.specs.declared.fault.ReadFault.TheVariants.{Device}
 use Rattle.response_reader.specs.inner.Wire.{tally}
-use Rattle.response_reader.proofs.CountLemmas.{fault_counts_after}
+use Rattle.response_reader.specs.ReadFaults.{IsReadFault}
+use Rattle.response_reader.specs.Response.{HandsOn}
+use Rattle.response_reader.proofs.CountLemmas.{fault_counts_after, kept_by_fault}
 use Rattle.response_reader.proofs.ReadLemmas.{told_memory}
-use Rattle.response_reader.proofs.ReusableLemmas.{ahead_first, reusable_first, none_counted, risen_of}
+use Rattle.response_reader.proofs.ReusableLemmas.{ahead_first, ends_first, told_first, reusable_first, none_counted, risen_of}
+use Rattle.response_reader.proofs.WireLemmas.{keeps_same, keeps_none, keeps_trans}
 use Rattle.response_reader.proofs.response.read_if_any.Goals as goal
 
-pub returns-in_err-incoming-clause-fault : goal.returns-in_err-incoming-clause-fault
-returns-in_err-incoming-clause-fault g c =
+pub returns-in_err-incoming : goal.returns-in_err-incoming
+returns-in_err-incoming g c =
     let p = err_from_is_err_and c.from_residual.result c.from_residual.ensures.1 in
-    rw (p.1, p.2) (told_memory (g.W.Wire.incoming c.args.wire.now))
+    rw (p.1, p.2) record {
+      silent = tt;
+      ends = tt;
+      untouched = tt;
+      response = tt;
+      reusable = tt;
+      fault = told_memory (g.W.Wire.incoming c.args.wire.now);
+      device = λ is. absurd cc;
+      purpose = refl;
+      written = keeps_same (g.W.Wire.outgoing c.args.wire.now);
+    }
 
-pub returns-in_err-reusable-in-Ok-true-clause-device : goal.returns-in_err-reusable-in-Ok-true-clause-device
-returns-in_err-reusable-in-Ok-true-clause-device g c is =
+pub returns-in_err-reusable-in-Ok-true : goal.returns-in_err-reusable-in-Ok-true
+returns-in_err-reusable-in-Ok-true g c =
     let p = err_from_is_err_and c.from_residual-in_err-reusable-in-Ok-true.result c.from_residual-in_err-reusable-in-Ok-true.ensures.1 in
-    let device : c.in_err-reusable-in-Ok-true.field-0.0 ≡ Device = cc in
-    risen_of (g.W.Wire.failed c.args.wire.now)
-    (tally (g.W.Wire.failed c.args.wire.now) (g.W.Wire.reads_never_fail c.args.wire.now) (g.W.Wire.never_errs c.args.wire.now) (g.W.Wire.outgoing c.args.wire.now) (g.W.Wire.lost c.args.wire.now) c.in_ok-incoming.incoming.interrupted)
-    (tally (g.W.Wire.failed c.read_through.new.wire) (g.W.Wire.reads_never_fail c.read_through.new.wire) (g.W.Wire.never_errs c.read_through.new.wire) (g.W.Wire.outgoing c.read_through.new.wire) (g.W.Wire.lost c.read_through.new.wire) c.read_through.new.incoming.interrupted)
-    c.in_err-reusable-in-Ok-true.field-0.0 (none_counted _ _ c.in_ok-incoming.ensures.uninterrupted)
-    (fault_counts_after c.in_err-reusable-in-Ok-true.field-0.0 _ _ _ c.in-Ok-true.ensures.counts c.in_err-reusable-in-Ok-true.ensures.counts) device
+    let f = c.in_err-reusable-in-Ok-true.field-0.0 in
+    let e = c.in_err-reusable-in-Ok-true.ensures in
+    let first = c.in-Ok-true.ensures in
+    let old = tally (g.W.Wire.failed c.args.wire.now) (g.W.Wire.reads_never_fail c.args.wire.now) (g.W.Wire.never_errs c.args.wire.now) (g.W.Wire.outgoing c.args.wire.now) (g.W.Wire.lost c.args.wire.now) c.in_ok-incoming.incoming.interrupted in
+    let new = tally (g.W.Wire.failed c.read_through.new.wire) (g.W.Wire.reads_never_fail c.read_through.new.wire) (g.W.Wire.never_errs c.read_through.new.wire) (g.W.Wire.outgoing c.read_through.new.wire) (g.W.Wire.lost c.read_through.new.wire) c.read_through.new.incoming.interrupted in
+    let counts = fault_counts_after f old (tally (g.W.Wire.failed c.fill.new.wire) (g.W.Wire.reads_never_fail c.fill.new.wire) (g.W.Wire.never_errs c.fill.new.wire) (g.W.Wire.outgoing c.fill.new.wire) (g.W.Wire.lost c.fill.new.wire) c.fill.new.self.interrupted) new first.counts e.counts in
+    rw (p.1, p.2) record {
+      silent = tt;
+      ends = tt;
+      untouched = tt;
+      response = tt;
+      reusable = tt;
+      fault = told_first (g.W.Wire.incoming c.args.wire.now) (prepend_known c.fill.new.self.unread (g.W.Wire.incoming c.fill.new.wire)) (IsReadFault f)
+          (ahead_first c.in_ok-incoming.incoming.unread c.fill.new.self.unread (g.W.Wire.incoming c.args.wire.now) (g.W.Wire.incoming c.fill.new.wire) _ _ c.in_ok-incoming.ensures.none first.fills) e.fault;
+      device = λ is.
+          let device : f ≡ Device = cc in
+          risen_of (g.W.Wire.failed c.args.wire.now) old new f (none_counted _ _ c.in_ok-incoming.ensures.uninterrupted) counts device;
+      purpose = e.purpose;
+      written = kept_by_fault f old new counts;
+    }
 
-pub returns-in_ok-reusable-in-Ok-true-clause-reusable : goal.returns-in_ok-reusable-in-Ok-true-clause-reusable
-returns-in_ok-reusable-in-Ok-true-clause-reusable g c =
-    reusable_first _ (prepend_known c.fill.new.self.unread (g.W.Wire.incoming c.fill.new.wire)) _ _
-    (ahead_first _ _ _ _ _ _ c.in_ok-incoming.ensures.none c.in-Ok-true.ensures.fills) c.in_ok-reusable-in-Ok-true.ensures.reusable
+pub returns-in_ok-reusable-in-Ok-true : goal.returns-in_ok-reusable-in-Ok-true
+returns-in_ok-reusable-in-Ok-true g c =
+    let e = c.in_ok-reusable-in-Ok-true.ensures in
+    let first = c.in-Ok-true.ensures in
+    let known = g.W.Wire.incoming c.args.wire.now in
+    let ahead = prepend_known c.fill.new.self.unread (g.W.Wire.incoming c.fill.new.wire) in
+    let same = ahead_first c.in_ok-incoming.incoming.unread c.fill.new.self.unread known (g.W.Wire.incoming c.fill.new.wire) _ _ c.in_ok-incoming.ensures.none first.fills in
+    record {
+      silent = tt;
+      ends = tt;
+      untouched = tt;
+      response = told_first known ahead (HandsOn (λ r. g.S.Sink.took c.args.sink.now None [] → g.S.Sink.took c.read_through.new.sink (Some r.head) r.body)) same e.response;
+      reusable = reusable_first known ahead (g.W.Wire.incoming c.read_through.new.wire) c.in_ok-reusable-in-Ok-true.reusable same e.reusable;
+      fault = tt;
+      device = λ is. absurd cc;
+      purpose = e.purpose;
+      written = keeps_trans (g.W.Wire.outgoing c.args.wire.now) (g.W.Wire.outgoing c.fill.new.wire) (g.W.Wire.outgoing c.read_through.new.wire) first.counts.kept e.counts.kept;
+    }
 
-pub returns-in-Err-clause-ends : goal.returns-in-Err-clause-ends
-returns-in-Err-clause-ends g c =
-    inr (risen_of (g.W.Wire.failed c.args.wire.now)
-    (tally (g.W.Wire.failed c.args.wire.now) (g.W.Wire.reads_never_fail c.args.wire.now) (g.W.Wire.never_errs c.args.wire.now) (g.W.Wire.outgoing c.args.wire.now) (g.W.Wire.lost c.args.wire.now) c.in_ok-incoming.incoming.interrupted)
-    (tally (g.W.Wire.failed c.fill.new.wire) (g.W.Wire.reads_never_fail c.fill.new.wire) (g.W.Wire.never_errs c.fill.new.wire) (g.W.Wire.outgoing c.fill.new.wire) (g.W.Wire.lost c.fill.new.wire) c.fill.new.self.interrupted)
-    c.in-Err.field-0 (none_counted _ _ c.in_ok-incoming.ensures.uninterrupted) c.in-Err.ensures.counts c.in-Err.ensures.device)
+pub returns-in-Ok-false : goal.returns-in-Ok-false
+returns-in-Ok-false g c =
+    let e = c.in-Ok-false.ensures in
+    record {
+      silent = keeps_none (g.W.Wire.incoming c.args.wire.now) (g.W.Wire.incoming c.fill.new.wire) e.fills.got e.fills.bytes (e.fills.none c.in-Ok-false.field-0-test);
+      ends = inl (ends_first c.in_ok-incoming.incoming.unread c.fill.new.self.unread (g.W.Wire.incoming c.args.wire.now) (g.W.Wire.incoming c.fill.new.wire) _ _ c.in-Ok-false.field-0-test e.fills);
+      untouched = refl;
+      response = tt;
+      reusable = tt;
+      fault = tt;
+      device = λ is. absurd cc;
+      purpose = refl;
+      written = e.counts.kept;
+    }
+
+pub returns-in-Err : goal.returns-in-Err
+returns-in-Err g c =
+    let e = c.in-Err.ensures in
+    let old = tally (g.W.Wire.failed c.args.wire.now) (g.W.Wire.reads_never_fail c.args.wire.now) (g.W.Wire.never_errs c.args.wire.now) (g.W.Wire.outgoing c.args.wire.now) (g.W.Wire.lost c.args.wire.now) c.in_ok-incoming.incoming.interrupted in
+    let new = tally (g.W.Wire.failed c.fill.new.wire) (g.W.Wire.reads_never_fail c.fill.new.wire) (g.W.Wire.never_errs c.fill.new.wire) (g.W.Wire.outgoing c.fill.new.wire) (g.W.Wire.lost c.fill.new.wire) c.fill.new.self.interrupted in
+    record {
+      silent = e.same;
+      ends = inr (risen_of (g.W.Wire.failed c.args.wire.now) old new c.in-Err.field-0 (none_counted _ _ c.in_ok-incoming.ensures.uninterrupted) e.counts e.device);
+      untouched = refl;
+      response = tt;
+      reusable = tt;
+      fault = tt;
+      device = λ is. absurd cc;
+      purpose = refl;
+      written = kept_by_fault c.in-Err.field-0 old new e.counts;
+    }
