@@ -67,10 +67,8 @@ told_more hops i h within is short was now =
     (All-push (λ (h : HopValue). IsToldOf h.0 h.1) (take i hops) h was (now (one_short hops i h within is short)))
 
 -- the pieces of a chain
-pub chain_text : (pieces line made all root count of : List ℕ) (hops : List HopValue) → root ≡ of ++ codes "/" → count ≡ decimal (length hops)
-    → line ≡ line_of_three (codes "chain") root count ++ 10 ∷ [] → made ≡ pieces ++ line → all ≡ made ++ flat_map hop_entry hops → list_all (λ (h : HopValue). is_short h.1) hops ≡ true
-    → all ≡ pieces ++ written_note (Chain (record { of = of; hops = hops }))
-chain_text pieces line made all root count of hops o n l m a short =
-    let text : line ≡ chain_line of (length hops) = l ∙ ap (λ t. line_of_three (codes "chain") t count ++ 10 ∷ []) o ∙ ap (λ t. line_of_three (codes "chain") (of ++ codes "/") t ++ 10 ∷ []) n in
-    a ∙ ap (λ t. t ++ flat_map hop_entry hops) (m ∙ ap (λ t. pieces ++ t) text) ∙ append_assoc pieces (chain_line of (length hops)) (flat_map hop_entry hops)
+pub chain_text : (pieces line made all of : List ℕ) (hops : List HopValue) → line ≡ chain_line of (length hops) → made ≡ pieces ++ line → all ≡ made ++ flat_map hop_entry hops
+    → list_all (λ (h : HopValue). is_short h.1) hops ≡ true → all ≡ pieces ++ written_note (Chain (record { of = of; hops = hops }))
+chain_text pieces line made all of hops l m a short =
+    a ∙ ap (λ t. t ++ flat_map hop_entry hops) (m ∙ ap (λ t. pieces ++ t) l) ∙ append_assoc pieces (chain_line of (length hops)) (flat_map hop_entry hops)
     ∙ ap (λ t. pieces ++ cond t (chain_line of (length hops) ++ flat_map hop_entry hops) []) (sym short)

@@ -11,7 +11,7 @@ use Rattle.fetcher.specs.declared.fetcher.Ask.{Ask}
 use Rattle.fetcher.specs.declared.outcome.Outcome.{Outcome}
 use Rattle.fetcher.specs.Logs.{GainedAtMost}
 use Rattle.fetcher.specs.Sites.{SiteAnswers, AreAnswers}
-use Rattle.site_records.specs.Resumption.{Resumption, SaysOr, RulesOr, IsUnstated, IsSpared, AreOf}
+use Rattle.site_records.specs.Resumption.{Resumption, Resuming, resumption_of, SaysOr, RulesOr, IsUnstated, IsSpared, AreOf}
 
 -- whatever a call gives, the log has gained at most its ask
 pub gained : {T E : Type 0} {old new : List Ask} (ask : Ask) (r : Result T E) → OnOk r (new ≡ old ++ ask ∷ []) → OnErr r (GainedAtMost old new ask) → GainedAtMost old new ask
@@ -30,10 +30,48 @@ spared_more {answers} {rules} {since} {old} {new} ask h u (inr e) =
       unstated = subst (All (IsUnstated answers rules)) (sym (drop-append-le since old (ask ∷ []) h.within)) (All-push (IsUnstated answers rules) (drop since old) ask h.unstated u);
     })
 
+-- where a call's error is given, and where its value is
+pub on_err : {T E P : Type 0} (r : Result T E) → P → OnErr r P
+on_err (Ok x) p = tt
+on_err (Err e) p = p
+
+pub on_ok : {T E P : Type 0} (r : Result T E) → P → OnOk r P
+on_ok (Ok x) p = p
+on_ok (Err e) p = tt
+
 -- what had been asked before stays what it is
 pub before_stays : {since : ℕ} {old new : List Ask} (ask : Ask) → since ≤ length old → GainedAtMost old new ask → take since new ≡ take since old
 before_stays {since} ask le (inl e) = ap (take since) e
 before_stays {since} {old} {new} ask le (inr e) = ap (take since) e ∙ take-append-le since old (ask ∷ []) le
+
+-- the ask that is pushed stands behind the others
+pub logged : {F : Type 0} {r now : Resuming F} {new : List Ask} {x y : Ask} → r ≡ now → new ≡ r.asks ++ x ∷ [] → x ≡ y → new ≡ now.asks ++ y ∷ []
+logged {F} {r} {now} {new} {x} {y} view put is = put ∙ ap (λ (a : Ask). r.asks ++ a ∷ []) is ∙ ap (λ (r : Resuming F). r.asks ++ y ∷ []) view
+
+-- the site depends on the fetcher's site and on what this had been asked before
+pub same_site : {F S : Type 0} (site : F → S) (log : F → List Ask) (r : Resuming F) (inner : F) (asks : List Ask) → site inner ≡ site r.inner
+    → take r.since (log inner) ≡ take r.since (log r.inner) → resumption_of site log (record r { inner = inner; asks = asks }) ≡ resumption_of site log r
+same_site {F} {S} site log r inner asks is before =
+    let with : S → List Ask → Resumption S = λ s l. record { answers = r.recorded.answers; rules = r.recorded.rules; inner = s; before = l } in
+    ap (λ s. with s (take r.since (log inner))) is ∙ ap (with (site r.inner)) before
+
+-- an answer that is stated, and one of the fetcher where none is
+pub says_stated : {S : Type 0} (says : S → List ℕ → Outcome → List ℕ → Type 0) (site : Resumption S) (at : List ℕ) (a : Answer)
+    → lookup (bytes_eq at) site.answers ≡ Some a → SaysOr says site at a.outcome a.body
+says_stated says site at a is = subst (λ o. MatchOption o (says site.inner at a.outcome a.body) (λ (b : Answer). (a.outcome ≡ b.outcome) × (a.body ≡ b.body))) (sym is) (refl, refl)
+
+pub says_inner : {S : Type 0} (says : S → List ℕ → Outcome → List ℕ → Type 0) (site : Resumption S) (at : List ℕ) (x : Outcome) (body : List ℕ)
+    → lookup (bytes_eq at) site.answers ≡ None → says site.inner at x body → SaysOr says site at x body
+says_inner says site at x body is h = subst (λ o. MatchOption o (says site.inner at x body) (λ (b : Answer). (x ≡ b.outcome) × (body ≡ b.body))) (sym is) h
+
+-- the same of rule sets
+pub rules_stated : {S : Type 0} (rules : S → List ℕ → RuleSetValue → Type 0) (site : Resumption S) (of : List ℕ) (r : RuleSetValue)
+    → lookup (bytes_eq of) site.rules ≡ Some r → RulesOr rules site of r
+rules_stated rules site of r is = subst (λ o. MatchOption o (rules site.inner of r) (λ stated. r ≡ stated)) (sym is) refl
+
+pub rules_inner : {S : Type 0} (rules : S → List ℕ → RuleSetValue → Type 0) (site : Resumption S) (of : List ℕ) (r : RuleSetValue)
+    → lookup (bytes_eq of) site.rules ≡ None → rules site.inner of r → RulesOr rules site of r
+rules_inner rules site of r is h = subst (λ o. MatchOption o (rules site.inner of r) (λ stated. r ≡ stated)) (sym is) h
 
 -- ---- a steady site
 

@@ -1,12 +1,12 @@
 //! The entry that is written of a note, in version 2 of records.
-ghost use Rattle.std.specs.Prelude.{◌≡◌, ◌≤◌, ◌++◌, ◌∷◌, [], true, false, All, IfOk, MatchOption, OnOk, flat_map, if◌then◌else◌, length};
+ghost use Rattle.std.specs.Prelude.{◌≡◌, ◌≤◌, ◌++◌, ◌∷◌, [], true, false, All, IfOk, MatchOption, OnOk, decimal, flat_map, if◌then◌else◌, length};
 ghost use Rattle.std.specs.List.{list_all};
 ghost use Rattle.response_reader.specs.declared.limits.TheConstants.{MAX_HEADS};
 ghost use Rattle.response_reader.specs.Response.{CanBeGiven};
 ghost use Rattle.response_reader.specs.Written.{head_text, response_text};
 ghost use Rattle.answer_notes.specs.HopChains.{HopValue};
 ghost use Rattle.answer_notes.specs.declared.noted.Noted.TheVariants.{Chain};
-ghost use Rattle.site_records.specs.WrittenEntries.{line_of_three, counted_entry, told_head, is_short, told_text, hop_entry, has_short_heads, written_note, IsToldOf, IsNote};
+ghost use Rattle.site_records.specs.WrittenEntries.{line_of_three, chain_line, counted_entry, told_head, is_short, told_text, hop_entry, has_short_heads, written_note, IsToldOf, IsNote};
 
 use address::Address;
 use answer_notes::{Given, Hops, Noted, Told};
@@ -30,6 +30,14 @@ fn line_of_three(
     line.extend_from_slice(third)?;
     line.extend_from_slice(b"\n")?;
     Ok(line)
+}
+
+// A line of a word, a text and a number.
+fn counted_line(alloc: Global, word: &[u8], text: &str, count: usize) -> Result<Vec<u8>, AllocError>
+    ensures { IfOk result (λ line. line.items ≡ line_of_three word.now text.now (decimal count) ++ 10 ∷ []) }
+{
+    let digits = format!(in alloc; "{count}")?;
+    line_of_three(alloc, word, text.as_bytes(), digits.as_bytes())
 }
 
 // The head that is written of what was told, unless it is too long to be read again.
@@ -62,8 +70,7 @@ fn push_whole<'a>(
 {
     let body = given.response().body.as_slice();
     let len = head.len() + body.len();
-    let count = format!(in alloc; "{len}")?;
-    let mut front = line_of_three(alloc, word, at.as_str().as_bytes(), count.as_bytes())?;
+    let mut front = counted_line(alloc, word, at.as_str(), len)?;
     front.extend_from_slice(head)?;
     pieces.push_made(front)?;
     pieces.push_lent(body)?;
@@ -123,6 +130,14 @@ fn push_hops<'a>(
     Ok(())
 }
 
+// The line of a chain.
+fn chain_line(alloc: Global, chain: &Hops) -> Result<Vec<u8>, AllocError>
+    ensures { IfOk result (λ line. line.items ≡ chain_line chain.now.of (length chain.now.hops)) }
+{
+    let root = chain.of().address()?;
+    counted_line(alloc, b"chain", root.as_str(), chain.hops().len())
+}
+
 // Adds a chain; nothing where a hop of it couldn't be read again.
 fn push_chain<'a>(alloc: Global, pieces: &mut Pieces<'a>, chain: &'a Hops) -> Result<(), AllocError>
     ensures text { OnOk result (pieces.new ≡ pieces.old ++ written_note (Chain chain.now)) }
@@ -134,11 +149,7 @@ fn push_chain<'a>(alloc: Global, pieces: &mut Pieces<'a>, chain: &'a Hops) -> Re
     }
     // What every origin is holds of this one.
     let _text = chain.of().as_str();
-    let root = chain.of().address()?;
-    let len = hops.len();
-    let count = format!(in alloc; "{len}")?;
-    let line = line_of_three(alloc, b"chain", root.as_str().as_bytes(), count.as_bytes())?;
-    pieces.push_made(line)?;
+    pieces.push_made(chain_line(alloc, chain)?)?;
     push_hops(alloc, pieces, hops)
 }
 

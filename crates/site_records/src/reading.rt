@@ -2,6 +2,7 @@
 ghost use Rattle.std.specs.Prelude.{◌≡◌, ◌≤◌, ◌+◌, ◌++◌, ◌∷◌, [], IfOk, MatchResult, None, OnOk, if◌then◌else◌, length};
 ghost use Rattle.std.specs.Map.{lookup};
 ghost use Rattle.std.specs.Str.{bytes_eq};
+ghost use Rattle.answer_notes.specs.declared.noted.Noted.TheVariants.{Chain};
 ghost use Rattle.site_inputs.specs.inner.Tables.{IsVacant};
 ghost use Rattle.site_records.specs.EntryLines.{page, fault, file, free, closed, chain, IsHopCount};
 ghost use Rattle.site_records.specs.inner.Said.{said};
@@ -12,11 +13,12 @@ use crate::entry_line::EntryLine;
 use crate::first_line::{counted, first_text_line};
 use crate::first_version::{closed_chain, file_chain, free_chain};
 use crate::hop_row::{read_chain, told_of};
+use crate::recorded_site::Stated;
 use crate::replayed::no_response;
 use crate::taken::Taken;
 use crate::version::Version;
 use address::{Address, Origin};
-use answer_notes::{Noted, Told};
+use answer_notes::{Hops, Noted, Told};
 use fetcher::{Answer, FaultKind};
 use indexmap::IndexMap;
 use robots_rules::{RuleSet, parse};
@@ -24,7 +26,6 @@ use site_inputs::{InputLineFault, KeptRules, read_address, read_origin};
 use std::alloc::{AllocError, Global};
 
 /// What the entries read so far state.
-#[derive(Drop)]
 pub(crate) struct Reading {
     pub(crate) alloc: Global,
     pub(crate) robots: bool,
@@ -33,6 +34,21 @@ pub(crate) struct Reading {
     pub(crate) notes: Vec<Noted>,
     pub(crate) answers: IndexMap<Address, Answer>,
     pub(crate) rules: IndexMap<Origin, KeptRules>,
+}
+
+// By hand: who drops one proves a call, and nothing of what it holds.
+impl Drop for Reading {
+    fn drop(self) {
+        let Reading {
+            alloc: _alloc,
+            robots: _robots,
+            version: _version,
+            keeps_notes: _keeps_notes,
+            notes: _notes,
+            answers: _answers,
+            rules: _rules,
+        } = self;
+    }
 }
 
 impl Reading {
@@ -98,6 +114,18 @@ impl Reading {
         self.note(noted)
     }
 
+    // Keeps the rules of an origin for which none are kept, and a note of its chain. The error is want of memory.
+    fn keep_rules(&mut self, origin: Origin, rules: RuleSet, hops: Hops) -> Result<(), AllocError>
+        requires { lookup (bytes_eq origin) self.old.rules.entries ≡ None }
+        ensures kept { self.new ≡ record self.old { rules = self.new.rules; notes = self.new.notes } }
+        ensures rules { OnOk result (self.new.rules.entries ≡ self.old.rules.entries ++ (origin, rules) ∷ []) }
+        ensures notes { OnOk result (self.new.notes.items ≡ (if self.old.keeps_notes then self.old.notes.items ++ Chain hops ∷ [] else self.old.notes.items)) }
+    {
+        self.rules
+            .insert(origin, KeptRules::new(self.alloc, rules))?;
+        self.note(Noted::Chain(hops))
+    }
+
     // Takes a line with an address's response, which has so many bytes.
     fn add_page<'a>(
         &mut self,
@@ -151,9 +179,7 @@ impl Reading {
         };
         let rules = parse(self.alloc, bytes)?;
         let hops = file_chain(self.alloc, &origin, bytes)?;
-        self.rules
-            .insert(origin, KeptRules::new(self.alloc, rules))?;
-        self.note(Noted::Chain(hops))?;
+        self.keep_rules(origin, rules, hops)?;
         Ok(after)
     }
 
@@ -164,9 +190,7 @@ impl Reading {
         let origin = read_origin(self.alloc, text)?;
         self.unruled(&origin)?;
         let hops = free_chain(self.alloc, &origin)?;
-        self.rules
-            .insert(origin, KeptRules::new(self.alloc, RuleSet::all()))?;
-        self.note(Noted::Chain(hops))?;
+        self.keep_rules(origin, RuleSet::all(), hops)?;
         Ok(behind)
     }
 
@@ -177,9 +201,7 @@ impl Reading {
         let origin = read_origin(self.alloc, text)?;
         self.unruled(&origin)?;
         let hops = closed_chain(self.alloc, &origin)?;
-        self.rules
-            .insert(origin, KeptRules::new(self.alloc, RuleSet::none()))?;
-        self.note(Noted::Chain(hops))?;
+        self.keep_rules(origin, RuleSet::none(), hops)?;
         Ok(behind)
     }
 
@@ -197,9 +219,7 @@ impl Reading {
         self.unruled(&origin)?;
         let (hops, after) = read_chain(self.alloc, &origin, count, behind)?;
         let rules = hops.rules(self.alloc)?;
-        self.rules
-            .insert(origin, KeptRules::new(self.alloc, rules))?;
-        self.note(Noted::Chain(hops))?;
+        self.keep_rules(origin, rules, hops)?;
         let lines = count + 1;
         Ok(Taken { lines, after })
     }
@@ -235,5 +255,27 @@ impl Reading {
             return Err(EntryFault::Own(InputLineFault::Line));
         }
         self.add(line, behind)
+    }
+
+    /// What the entries read so far state, alone.
+    pub(crate) fn stated(self) -> Stated
+        ensures answers { result.answers.entries ≡ self.answers.entries }
+        ensures rules { result.rules.entries ≡ self.rules.entries }
+        ensures notes { result.notes.items ≡ self.notes.items }
+    {
+        let Reading {
+            answers,
+            rules,
+            notes,
+            alloc: _,
+            robots: _,
+            version: _,
+            keeps_notes: _,
+        } = self;
+        Stated {
+            answers,
+            rules,
+            notes,
+        }
     }
 }

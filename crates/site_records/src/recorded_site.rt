@@ -114,25 +114,10 @@ impl RecordedSite {
     pub(crate) fn of(reading: Reading) -> Result<RecordedSite, AllocError>
         ensures { IfOk result (λ m. m ≡ record { answers = reading.answers.entries; rules = reading.rules.entries; notes = reading.notes.items; asks = [] }) }
     {
-        let Reading {
-            alloc,
-            answers,
-            rules,
-            notes,
-            robots: _,
-            version: _,
-            keeps_notes: _,
-        } = reading;
+        let alloc = reading.alloc;
         Ok(RecordedSite {
             alloc,
-            stated: Arc::new(
-                alloc,
-                Stated {
-                    answers,
-                    rules,
-                    notes,
-                },
-            )?,
+            stated: Arc::new(alloc, reading.stated())?,
             asks: Vec::new(alloc),
         })
     }

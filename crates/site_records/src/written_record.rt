@@ -77,6 +77,21 @@ fn add_notes<'a>(
     Ok(())
 }
 
+// Adds the notes of each part. The error is want of memory.
+fn add_parts<'a>(
+    alloc: Global,
+    text: &mut Pieces<'a>,
+    named: &mut Named<'a>,
+    parts: &[&'a [Noted]],
+) -> Result<(), AllocError>
+    ensures { OnOk result (IsDraft text.old named.old [] → IsDraft text.new named.new (all_noted parts.now)) }
+{
+    for part in parts {
+        add_notes(alloc, text, named, part)?;
+    }
+    Ok(())
+}
+
 // The text of the record of these notes. The error is want of memory.
 fn text_of<'a>(alloc: Global, notes: &[&'a [Noted]]) -> Result<Pieces<'a>, AllocError>
     ensures { IfOk result (λ text. (named : Named) × IsDraft text named (all_noted notes.now)) }
@@ -84,9 +99,7 @@ fn text_of<'a>(alloc: Global, notes: &[&'a [Noted]]) -> Result<Pieces<'a>, Alloc
     let mut text = Pieces::new(alloc);
     text.push_lent(SECOND_VERSION_LINE)?;
     let mut named = Named::new(alloc);
-    for part in notes {
-        add_notes(alloc, &mut text, &mut named, part)?;
-    }
+    add_parts(alloc, &mut text, &mut named, notes)?;
     Ok(text)
 }
 

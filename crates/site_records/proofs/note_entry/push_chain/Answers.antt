@@ -1,8 +1,7 @@
 -- The pieces are an entry with the hops behind its line; of a chain with a long head nothing is said.
-use Rattle.std.proofs.Common.{◌≡◌, ◌++◌, ◌∙◌, true, length, sym, ap, arith, rules}
-use Rattle.std.specs.Prelude.{codes, decimal, flat_map}
+use Rattle.std.proofs.Common.{◌≡◌, ◌++◌, ◌∙◌, true, sym, ap}
+use Rattle.std.specs.Prelude.{flat_map}
 use Rattle.std.specs.List.{list_all}
-use Rattle.std.proofs.lemmas.Grind.{common_steps}
 use Rattle.answer_notes.specs.HopChains.{HopValue}
 use Rattle.site_records.specs.WrittenEntries.{is_short, hop_entry}
 use Rattle.site_records.proofs.EntryTextLaws.{on_ok, chain_text}
@@ -17,16 +16,9 @@ returns-then-not-branch-clause-note c = λ short.
 
 pub returns-clause-text : goal.returns-clause-text
 returns-clause-text c =
-    let count : c.as_bytes-2.result.now ≡ decimal (length c.args.chain.now.hops) =
-    let digits = c.in_ok-count.ensures.ok in
-    let bytes = c.as_bytes-2.ensures.value in
-    let are = c.hops-hops.ensures.value in
-    first_of (search (rules, digits, bytes, are), grind (arith, common_steps, digits, bytes, are)) in
-    let root : c.as_bytes.result.now ≡ c.in_ok-root.root = c.as_bytes.ensures.value ∙ c.as_str.ensures.value in
-    let of = c.in_ok-root.ensures ∙ ap (λ t. t ++ codes "/") c.of-2.ensures in
     let short : list_all (λ (h : HopValue). is_short h.1) c.args.chain.now.hops ≡ true =
     ap (list_all (λ (h : HopValue). is_short h.1)) (sym c.hops-hops.ensures.value) ∙ sym c.in_ok-are_short.ensures ∙ c.if-not-branch.false in
     on_ok c.push_hops.result
-    (λ all. chain_text c.args.pieces.now _ _ _ c.as_bytes.result.now c.as_bytes-2.result.now c.args.chain.now.of c.args.chain.now.hops (root ∙ of) count c.in_ok-line.ensures c.in_ok-push_made.ensures.ok
+    (λ all. chain_text c.args.pieces.now _ _ _ c.args.chain.now.of c.args.chain.now.hops c.in_ok-chain_line.ensures c.in_ok-push_made.ensures.ok
     (all ∙ ap (λ t. c.push_made.new.self ++ flat_map hop_entry t) c.hops-hops.ensures.value) short)
     c.push_hops.ensures.text

@@ -1,8 +1,6 @@
 -- The rules at the end of a chain go behind the others.
 use Rattle.std.proofs.Common.{◌∙◌, ◌++◌, ◌∷◌, [], refl, ap}
-use Rattle.std.specs.Str.{bytes_eq}
 use Rattle.std.proofs.lemmas.Result.{err_from_is_err_and}
-use Rattle.indexmap.proofs.CallerLemmas.{insert_entry-new}
 use Rattle.site_records.specs.EntryLines.{chain}
 use Rattle.site_records.proofs.EntryLaws.{unrooted, ruled_before, takes_chain}
 use Rattle.site_records.proofs.NoteLaws.{note_added, chain_says}
@@ -25,11 +23,10 @@ pub returns : goal.returns
 returns c =
     let (named, root, is) = c.in_ok-origin.ensures in
     let (are, long, same, admitted) = c.in_ok-hops.ensures in
-    let kept = c.in_ok-note.ensures.kept in
+    let kept = c.in_ok-keep_rules.ensures.kept in
     let vacant = c.in_ok-unruled.ensures in
-    let put = insert_entry-new bytes_eq c.args.self.now.rules c.in_ok-origin.origin c.in_ok-rules.rules vacant in
     takes_chain c.args.self.now _ c.args.text.now c.args.count c.args.behind.now _ c.in_ok-origin.origin c.in_ok-hops.hops.hops named root is are long admitted vacant
-    (ap (λ (r : Reading). r.rules.entries) kept ∙ rw c.new.ensures at c.in_ok-insert.ensures.entries ∙ put ∙ ap (λ r. c.args.self.now.rules.entries ++ (c.in_ok-origin.origin, r) ∷ []) c.in_ok-rules.ensures)
+    (c.in_ok-keep_rules.ensures.rules ∙ ap (λ r. c.args.self.now.rules.entries ++ (c.in_ok-origin.origin, r) ∷ []) c.in_ok-rules.ensures)
     (ap (λ (r : Reading). r.answers.entries) kept) (ap (λ (r : Reading). r.robots) kept) (ap (λ (r : Reading). r.version) kept) (ap (λ (r : Reading). r.keeps_notes) kept)
-    (note_added c.args.self.now.keeps_notes c.args.self.now.robots c.args.self.now.notes.items _ _ (chained c.in_ok-origin.origin c.in_ok-hops.hops.hops) c.in_ok-note.ensures.notes
+    (note_added c.args.self.now.keeps_notes c.args.self.now.robots c.args.self.now.notes.items _ _ (chained c.in_ok-origin.origin c.in_ok-hops.hops.hops) c.in_ok-keep_rules.ensures.notes
     (chain_says c.args.self.now.robots c.in_ok-hops.hops c.in_ok-origin.origin same)) refl

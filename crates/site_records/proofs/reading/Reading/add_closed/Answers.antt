@@ -1,8 +1,6 @@
 -- Nothing is allowed there.
-use Rattle.std.proofs.Common.{◌∙◌, [], true, refl, sym, ap}
-use Rattle.std.specs.Str.{bytes_eq}
+use Rattle.std.proofs.Common.{[], true, refl, sym, ap}
 use Rattle.std.proofs.lemmas.Result.{err_from_is_err_and}
-use Rattle.indexmap.proofs.CallerLemmas.{insert_entry-new}
 use Rattle.robots_rules.specs.Access.{RuleSetValue}
 use Rattle.site_records.specs.EntryLines.{closed}
 use Rattle.site_records.specs.Entries.{ruled}
@@ -25,13 +23,12 @@ returns-in_err-unruled c =
 pub returns : goal.returns
 returns c =
     let (named, root, is) = c.in_ok-origin.ensures in
-    let kept = c.in_ok-note.ensures.kept in
+    let kept = c.in_ok-keep_rules.ensures.kept in
     let none = c.in_ok-unruled.ensures in
     let r : RuleSetValue = record { closed = true; rules = [] } in
-    let put = insert_entry-new bytes_eq c.args.self.now.rules c.in_ok-origin.origin r none in
     takes_rules c.args.self.now _ (closed c.args.text.now) c.args.behind.now c.args.behind.now c.in_ok-origin.origin r named root
     (refl, ap (λ o. ruled o r) (sym is))
-    none (ap (λ (r : Reading). r.rules.entries) kept ∙ rw (c.new.ensures, c.none.ensures.value) at c.in_ok-insert.ensures.entries ∙ put) (ap (λ (r : Reading). r.answers.entries) kept) (ap (λ (r : Reading). r.robots) kept) (ap (λ (r : Reading). r.version) kept)
+    none (rw c.none.ensures.value at c.in_ok-keep_rules.ensures.rules) (ap (λ (r : Reading). r.answers.entries) kept) (ap (λ (r : Reading). r.robots) kept) (ap (λ (r : Reading). r.version) kept)
     (ap (λ (r : Reading). r.keeps_notes) kept)
-    (note_added c.args.self.now.keeps_notes c.args.self.now.robots c.args.self.now.notes.items _ _ (ruled c.in_ok-origin.origin r) c.in_ok-note.ensures.notes
+    (note_added c.args.self.now.keeps_notes c.args.self.now.robots c.args.self.now.notes.items _ _ (ruled c.in_ok-origin.origin r) c.in_ok-keep_rules.ensures.notes
     (rules_say c.args.self.now.robots c.in_ok-hops.hops c.in_ok-origin.origin r c.in_ok-hops.ensures.of (c.in_ok-hops.ensures.rules)))

@@ -1,8 +1,6 @@
 -- The rules of a robots file go behind the others.
 use Rattle.std.proofs.Common.{◌∙◌, sym, ap, arith, rules}
-use Rattle.std.specs.Str.{bytes_eq}
 use Rattle.std.proofs.lemmas.Result.{err_from_is_err_and}
-use Rattle.indexmap.proofs.CallerLemmas.{insert_entry-new}
 use Rattle.site_records.specs.EntryLines.{file}
 use Rattle.site_records.specs.Entries.{HasBytes, ruled}
 use Rattle.site_records.proofs.EntryLaws.{unrooted, ruled_before, without_bytes, takes_rules, file_states}
@@ -31,12 +29,11 @@ returns c =
     let a = c.in-Some.bytes-is in
     let b = c.in-Some.after-is in
     let has : HasBytes c.args.behind.now c.args.count c.in-Some.bytes.now c.in-Some.after.now = first_of (assumption h, search (rules, h), grind (arith, h, a, b)) in
-    let kept = c.in_ok-note.ensures.kept in
+    let kept = c.in_ok-keep_rules.ensures.kept in
     let none = c.in_ok-unruled.ensures in
-    let put = insert_entry-new bytes_eq c.args.self.now.rules c.in_ok-origin.origin c.in_ok-rules.rules none in
     takes_rules c.args.self.now _ (file c.args.text.now c.args.count) c.args.behind.now c.in-Some.after.now c.in_ok-origin.origin c.in_ok-rules.rules named root
     (file_states c.args.self.now.robots c.args.text.now c.args.count c.args.behind.now c.in-Some.bytes.now c.in-Some.after.now c.in_ok-origin.origin c.in_ok-rules.rules has c.in_ok-rules.ensures.rules is)
-    none (ap (λ (r : Reading). r.rules.entries) kept ∙ rw c.new.ensures at c.in_ok-insert.ensures.entries ∙ put) (ap (λ (r : Reading). r.answers.entries) kept) (ap (λ (r : Reading). r.robots) kept) (ap (λ (r : Reading). r.version) kept)
+    none c.in_ok-keep_rules.ensures.rules (ap (λ (r : Reading). r.answers.entries) kept) (ap (λ (r : Reading). r.robots) kept) (ap (λ (r : Reading). r.version) kept)
     (ap (λ (r : Reading). r.keeps_notes) kept)
-    (note_added c.args.self.now.keeps_notes c.args.self.now.robots c.args.self.now.notes.items _ _ (ruled c.in_ok-origin.origin c.in_ok-rules.rules) c.in_ok-note.ensures.notes
+    (note_added c.args.self.now.keeps_notes c.args.self.now.robots c.args.self.now.notes.items _ _ (ruled c.in_ok-origin.origin c.in_ok-rules.rules) c.in_ok-keep_rules.ensures.notes
     (rules_say c.args.self.now.robots c.in_ok-hops.hops c.in_ok-origin.origin c.in_ok-rules.rules c.in_ok-hops.ensures.of (c.in_ok-hops.ensures.rules ∙ sym c.in_ok-rules.ensures.rules)))
