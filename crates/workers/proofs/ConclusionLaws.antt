@@ -1,5 +1,5 @@
 -- From the notes and the table to what was retrieved, or was until the stop.
-use Rattle.std.proofs.Common.{◌≡◌, ◌⊎◌, ℕ, inl, inr, true, false, Bool, ◌&&◌, List, [], ◌∷◌, map, zero, suc, Some, None, Option, Result, Ok, Err, refl, sym, ap, ◌∙◌, subst, arith}
+use Rattle.std.proofs.Common.{◌≡◌, ◌≢◌, ◌⊎◌, ℕ, inl, inr, true, false, Bool, ◌&&◌, List, [], ◌∷◌, map, zero, suc, Some, None, Option, Result, Ok, Err, refl, sym, ap, ◌∙◌, subst, arith}
 use Rattle.std.specs.Prelude.{◌<◌, All, Contains, IsSome, IfSome, IsPermutation, MatchOption, IfOk, IfErr, OnOk, IsOk}
 use Rattle.std.specs.List.{filter_map}
 use Rattle.std.specs.Option.{is_some}
@@ -15,6 +15,8 @@ use Rattle.frontier_core.specs.Tables.{Text, IsOnce}
 use Rattle.frontier_core.specs.Machine.{State, answers, slot_outcome}
 use Rattle.frontier_core.specs.Invariants.{IsGivenUp, AreRulesGivenUp}
 use Rattle.frontier_core.proofs.RouteLaws.{contains_tail, contains_cases}
+use Rattle.frontier_core.specs.declared.event.Cause.{Cause}
+use Rattle.frontier_core.specs.declared.event.Cause.TheVariants as why
 use Rattle.frontier_core.specs.declared.event.Event.{Event}
 use Rattle.workers.specs.OneWorker.{worker_of, only_worker, AreByOne, AreByCrew}
 use Rattle.workers.specs.declared.note.PageNote.{PageNote}
@@ -200,6 +202,10 @@ kept_is plan s notes sets agrees bodies u = (
     holds note (Some y) has stands x found success keeps = (let same : y ≡ x = cc in has ∙ rw (keeps, same, success) refl)
 
 -- ---- by how it was left
+
+-- what stopped for one cause didn't stop for another
+pub not_full : (cause : Cause) → cause ≡ why.Mismatch → cause ≢ why.Full
+not_full cause is full = (let other : why.Mismatch ≡ why.Full = sym is ∙ full in cc)
 
 pub if_ok : {X E : Type 0} (r : Result X E) (A B : X → Type 0) → ((x : X) → A x → B x) → IfOk r A → IfOk r B
 if_ok (Ok x) A B f h = f x h

@@ -1,9 +1,9 @@
 use Rattle.std.proofs.Common.{map, ◌≡◌, ◌≢◌, ◌⊎◌, inl, inr, sym, ap, ◌∙◌, subst, List, Some, Err}
 use Rattle.std.specs.Prelude.{All, IsOk}
 use Rattle.std.proofs.lemmas.List.Sorted.{All-permutation, IsPermutation-map, IsPermutation-sym}
-use Rattle.frontier_core.specs.Machine.{answers}
+use Rattle.frontier_core.specs.Machine.{answers, IsQuiet}
 use Rattle.frontier_core.specs.Plans.{policy}
-use Rattle.frontier_core.specs.Invariants.{IsOverfull}
+use Rattle.frontier_core.specs.Invariants.{IsComplete, IsOverfull}
 use Rattle.frontier_core.specs.Routes.{HasTooMany}
 use Rattle.workers.specs.declared.retrieval.Halt.{Halt}
 use Rattle.frontier_core.specs.declared.event.Cause.TheVariants as why
@@ -18,7 +18,7 @@ use Rattle.workers.specs.inner.Takers.{AreNotedBy}
 use Rattle.harvest.specs.Gathered.{IsHarvestOf}
 use Rattle.harvest.specs.Harvests.{Harvested}
 use Rattle.workers.specs.inner.Turns.{IsNothing}
-use Rattle.workers.proofs.ConclusionLaws.{once_permutation, kept_once, kept_is, if_ok, if_err, on_err, by_nobody}
+use Rattle.workers.proofs.ConclusionLaws.{once_permutation, kept_once, kept_is, if_ok, if_err, on_ok, on_err, by_nobody}
 use Rattle.workers.proofs.TakerLaws.{noted_by_none}
 use Rattle.workers.proofs.conclusion.conclude.Goals as goal
 
@@ -33,6 +33,29 @@ finish-requires-clause-kept c u =
     let bodies : All (HasBody c.args.frontier.plan) borne.sorted =
     subst (λ (plan : Plan). All (HasBody plan) borne.sorted) (sym borne.follows) (All-permutation (HasBody c.args.plan.now) _ _ borne.moved c.requires) in
     rw borne.kept (kept_is c.args.frontier.plan c.args.frontier.state _ _ borne.agrees bodies u)
+
+pub returns-in-Ok-clause-ok : goal.returns-in-Ok-clause-ok
+returns-in-Ok-clause-ok c =
+    let borne = c.in-Ok.ensures.ok in
+    let A : Harvested → Type 0 = λ h. IsOk c.end_of-ended.result × IsHarvestOf c.args.frontier c.in-Ok.pages.items h in
+    let B : Harvested → Type 0 = λ h. IsConcluded c.args.plan.now c.args.frontier c.args.notes.pages.items c.args.notes.rules.items h
+    × IsQuiet c.args.frontier.state × IsComplete (policy c.args.frontier.plan) c.args.frontier.state in
+    let turn : (h : Harvested) → A h → B h = λ h both.
+    let left = on_ok c.end_of-ended.result _ c.end_of-ended.ensures.quiet both.0 in (
+      record {
+        sorted = borne.sorted;
+        sorted_sets = borne.sorted_sets;
+        moved = borne.moved;
+        moved_sets = borne.moved_sets;
+        follows = borne.follows;
+        replay = borne.replay;
+        agrees = borne.agrees;
+        harvest = subst (λ (pages : List KeptPage). IsHarvestOf c.args.frontier pages h) borne.kept both.1;
+      },
+      left.0,
+      left.1,
+    ) in
+    if_ok c.finish.result A B turn c.finish.ensures.ok
 
 pub returns-in-Ok-clause-err : goal.returns-in-Ok-clause-err
 returns-in-Ok-clause-err c =
@@ -72,6 +95,12 @@ returns-in-Ok-clause-full c =
       | inr both ↦ c.end_of-ended.ensures.full (both.0 ∙ ap (λ cause. Err cause) is)
     ] in
     if_err c.finish.result A B turn c.finish.ensures.err
+
+pub returns-in-Err-clause-ok : goal.returns-in-Err-clause-ok
+returns-in-Err-clause-ok c = tt
+
+pub returns-in-Err-clause-full : goal.returns-in-Err-clause-full
+returns-in-Err-clause-full c is = absurd (c.in-Err.ensures.full is)
 
 pub returns-in-Err-clause-err : goal.returns-in-Err-clause-err
 returns-in-Err-clause-err c other = inl (c.in-Err.ensures.err other)

@@ -1,4 +1,4 @@
-use Rattle.std.proofs.Common.{◌≡◌, ◌≢◌, ◌++◌, length, take, drop, sym, subst, arith}
+use Rattle.std.proofs.Common.{◌≡◌, ◌≢◌, length, drop, sym, subst, arith}
 use Rattle.std.specs.Prelude.{IfOk, IfErr}
 use Rattle.frontier_core.specs.declared.event.Cause.TheVariants as why
 use Rattle.workers.specs.Takers.{AreOwn}
