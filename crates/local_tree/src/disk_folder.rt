@@ -85,12 +85,17 @@ impl<'a, R: Files> Model for DiskFolder<'a, R> {
     ghost view = { λ f. record { path = string_bytes f.prefix; failed = f.failed } };
 }
 
+// Makes a path that of this name below it.
+fn push_name(path: &mut String, name: &str) -> Result<(), AllocError> {
+    path.push_str("/")?;
+    path.push_str(name)
+}
+
 // The path of a name below another.
-fn path_below(alloc: Global, folder: &str, name: &str) -> io::Result<String> {
+fn path_below(alloc: Global, folder: &str, name: &str) -> Result<String, AllocError> {
     let mut path = String::new(alloc);
     path.push_str(folder)?;
-    path.push_str("/")?;
-    path.push_str(name)?;
+    push_name(&mut path, name)?;
     Ok(path)
 }
 
@@ -121,20 +126,24 @@ fn make_dir<R: Files>(rt: &R, path: &str) -> io::Result<bool> {
 
 // Makes the directory of this name below a path, which leads to it from then on. Whether it was made here.
 fn descend<R: Files>(rt: &R, path: &mut String, name: &str) -> io::Result<bool> {
-    path.push_str("/")?;
-    path.push_str(name)?;
+    push_name(path, name)?;
     make_dir(rt, path.as_str())
 }
 
-// Finds or makes a folder, and these directories below it, from the top down. Whether the last was made here.
+// Makes these directories below a path, from the top down; it leads to the last from then on. Whether that was made here.
+fn descend_all<R: Files>(rt: &R, path: &mut String, dirs: &str) -> io::Result<bool> {
+    let mut is_new = false;
+    for segment in dirs.split('/') {
+        is_new = descend(rt, path, segment)?;
+    }
+    Ok(is_new)
+}
+
+// Finds or makes a folder, and these directories below it. Whether the last was made here.
 fn make_dirs_below<R: Files>(rt: &R, alloc: Global, folder: &str, dirs: &str) -> io::Result<bool> {
     fs::create_dir_all(rt, folder)?;
     let mut path = String::from_str(alloc, folder)?;
-    let mut is_new = false;
-    for segment in dirs.split('/') {
-        is_new = descend(rt, &mut path, segment)?;
-    }
-    Ok(is_new)
+    descend_all(rt, &mut path, dirs)
 }
 
 // The same, unless these directories were the last that were found or made; they are from then on.
