@@ -1,6 +1,6 @@
 //! Faults of a run: the line that is written in place of a report, and the status.
 ghost use Rattle.std.specs.Prelude.{◌≡◌, ◌++◌, IfOk, codes, string_bytes};
-ghost use Rattle.retriever.specs.Run.{start_words, line_words, reading_words, fault_words};
+ghost use Rattle.retriever.specs.Run.{start_words, line_words, reading_words, input_words, fault_words};
 
 use address::AddressFault;
 use options::LineFault;
@@ -84,20 +84,30 @@ fn reading_words(wrong: ReadFault) -> &'static str
     }
 }
 
+// The line of what is wrong with an input.
+fn input_text(alloc: Global, wrong: InputFault) -> Result<String, AllocError>
+    ensures { IfOk result (λ text. string_bytes text ≡ input_words wrong ++ codes "\n") }
+{
+    match wrong {
+        InputFault::Line(number) => format!(in alloc; "input line {number}\n"),
+        InputFault::Address(number) => format!(in alloc; "input address {number}\n"),
+        InputFault::Memory => with_newline(alloc, "stopped memory"),
+    }
+}
+
 /// The line of a fault.
 pub(crate) fn fault_text(alloc: Global, fault: Fault) -> Result<String, AllocError>
     ensures { IfOk result (λ text. string_bytes text ≡ fault_words fault ++ codes "\n") }
 {
-    match fault {
-        Fault::Line(wrong) => with_newline(alloc, line_words(wrong)),
-        Fault::NotText => with_newline(alloc, "line words"),
-        Fault::NoSite => with_newline(alloc, "line no-site"),
-        Fault::Read(wrong) => with_newline(alloc, reading_words(wrong)),
-        Fault::Input(InputFault::Line(number)) => format!(in alloc; "input line {number}\n"),
-        Fault::Input(InputFault::Address(number)) => format!(in alloc; "input address {number}\n"),
-        Fault::Input(InputFault::Memory) => with_newline(alloc, "stopped memory"),
-        Fault::Memory => with_newline(alloc, "stopped memory"),
-    }
+    let words = match fault {
+        Fault::Line(wrong) => line_words(wrong),
+        Fault::NotText => "line words",
+        Fault::NoSite => "line no-site",
+        Fault::Read(wrong) => reading_words(wrong),
+        Fault::Input(wrong) => return input_text(alloc, wrong),
+        Fault::Memory => "stopped memory",
+    };
+    with_newline(alloc, words)
 }
 
 // One line of words.

@@ -1,5 +1,6 @@
 -- The fetchers, the folder and the record's writer are the system's, each fetcher behind the record, whose notes are saved first.
-use Rattle.std.proofs.Common.{◌∙◌, ℕ, List, inl, sym, subst}
+use Rattle.std.proofs.Common.{◌∙◌, ℕ, List, inl, refl, sym, subst}
+use Rattle.std.proofs.lemmas.Result.{err_from_is_err_and}
 use Rattle.answer_notes.specs.declared.noted.Noted.{Noted}
 use Rattle.local_tree.specs.Folders.{holding}
 use Rattle.site_records.specs.Resumption.{Resuming}
@@ -30,3 +31,26 @@ returns-clause-lives g c =
       record_left = c.live_saved-status.new.saved;
       lives = inl (subst (λ (all : List (Resuming _)). lives c.args.recorded.now.notes all) c.in_ok-resumed.ensures.resuming of_record);
     }
+
+pub returns-clause-unwritten : goal.returns-clause-unwritten
+returns-clause-unwritten g c = tt
+
+pub returns-in_err-fetchers : goal.returns-in_err-fetchers
+returns-in_err-fetchers g c =
+    let p = err_from_is_err_and c.from_residual.result c.from_residual.ensures.1 in
+    rw p.1 (record { lives = tt; unwritten = refl })
+
+pub returns-in_err-resumed : goal.returns-in_err-resumed
+returns-in_err-resumed g c =
+    let p = err_from_is_err_and c.from_residual-in_err-resumed.result c.from_residual-in_err-resumed.ensures.1 in
+    rw p.1 (record { lives = tt; unwritten = refl })
+
+pub returns-in_err-folder : goal.returns-in_err-folder
+returns-in_err-folder g c =
+    let p = err_from_is_err_and c.from_residual-in_err-folder.result c.from_residual-in_err-folder.ensures.1 in
+    rw p.1 (record { lives = tt; unwritten = refl })
+
+pub returns-in_err-saved : goal.returns-in_err-saved
+returns-in_err-saved g c =
+    let p = err_from_is_err_and c.from_residual-in_err-saved.result c.from_residual-in_err-saved.ensures.1 in
+    rw p.1 (record { lives = tt; unwritten = refl })

@@ -1,5 +1,20 @@
--- The arguments that were given.
+-- The arguments are those that were given, or why there are none is explained.
+use Rattle.std.proofs.Common.{refl}
 use Rattle.retriever.proofs.program.run_program.Goals as goal
 
-pub returns-in-Ok-clause-lives : goal.returns-in-Ok-clause-lives
-returns-in-Ok-clause-lives g c = rw c.in-Ok.is c.run_args.ensures.lives
+pub returns-in-Ok : goal.returns-in-Ok
+returns-in-Ok g c =
+    let run = c.run_args.ensures in
+    rw c.in-Ok.is (record { runs = run.runs; lives = run.lives; unread = run.unread; told = run.told; quiet = run.quiet; refused = tt; untouched = tt })
+
+pub returns-in-Err : goal.returns-in-Err
+returns-in-Err g c =
+    rw c.in-Err.is (record {
+      runs = tt;
+      lives = tt;
+      unread = tt;
+      told = tt;
+      quiet = tt;
+      refused = rw (← c.words_fault.ensures) c.explain.ensures.explained;
+      untouched = refl;
+    })
