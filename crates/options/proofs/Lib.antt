@@ -2,3 +2,4 @@ pub mod StandardFacts
 pub mod LineLemmas
 pub mod ReadLemmas
 pub mod HintLemmas
+pub mod TextLemmas

@@ -1,6 +1,6 @@
 //! What is said to a person of words that are refused: what is wrong, what was likely meant and what is accepted, or the help or
 //! the version that they ask for.
-ghost use Rattle.std.specs.Prelude.{◌≡◌, ◌++◌, IfOk, codes, map, option_map, string_bytes};
+ghost use Rattle.std.specs.Prelude.{◌≡◌, ◌++◌, IfOk, OnOk, codes, map, option_map, string_bytes};
 ghost use Rattle.std.specs.List.{flat_map};
 ghost use Rattle.options.specs.Advice.{advice_text, correction_text, no_text_advice, wrong_start, told_of_asked, told_of_kind, told_on, told_lines, word_text};
 ghost use Rattle.options.specs.inner.Advice.{told_by};
@@ -95,6 +95,16 @@ fn advice_on(wrong: LineFault) -> Option<Advice>
     }
 }
 
+// Adds these words, each behind a space.
+fn push_words(text: &mut String, words: &[&str]) -> Result<(), AllocError>
+    ensures ok { OnOk result (string_bytes text.new ≡ string_bytes text.old ++ flat_map (λ word. word_text word.now) words.now) }
+{
+    for word in words {
+        write!(text, " {word}")?;
+    }
+    Ok(())
+}
+
 // The lines of a correction: what is wrong, what was likely meant, in these words, and what is accepted.
 fn correction_text(
     alloc: Global,
@@ -107,9 +117,7 @@ fn correction_text(
         ++ flat_map (λ word. word_text word.now) words.now ++ codes "\n" ++ accepted.now ++ codes "\n") }
 {
     let mut text = format!(in alloc; "wgetr: {wrong}{hint}, in:")?;
-    for word in words {
-        write!(text, " {word}")?;
-    }
+    push_words(&mut text, words)?;
     writeln!(text, "\n{accepted}")?;
     Ok(text)
 }

@@ -1,7 +1,7 @@
 //! The help: what the program is for, its usage, and a line for each option (GNU Wget manual, chapter Invoking).
 ghost use Rattle.std.specs.Prelude.{◌≡◌, ◌++◌, IfOk, OnOk, codes, map, option_map, replicate, string_bytes};
 ghost use Rattle.std.specs.Fmt.{decimal};
-ghost use Rattle.options.specs.Help.{help_text, in_columns, left_text, row_text, rows_text, short_text, usual_text, value_name};
+ghost use Rattle.options.specs.Help.{help_text, in_columns, left_text, row_text, rows_text, short_text, usual_text, value_name, value_text};
 ghost use Rattle.options.specs.inner.Table.{kind_in, row_in};
 
 use crate::table::{Kind, Row, option_rows};
@@ -66,18 +66,37 @@ fn value_name(kind: &Kind<&'static str>) -> Option<&'static str>
     }
 }
 
+// Adds what stands behind an option.
+fn push_value(text: &mut String, name: Option<&str>) -> Result<(), AllocError>
+    ensures ok { OnOk result (string_bytes text.new ≡ string_bytes text.old ++ value_text (option_map (λ name. name.now) name.entry)) }
+{
+    match name {
+        Some(name) => {
+            text.push_str("=")?;
+            text.push_str(name)
+        }
+        None => Ok(()),
+    }
+}
+
+// Adds the forms of an option, the short one as it is shown, with what stands behind it.
+fn push_forms(text: &mut String, short: &str, row: &Row<&'static str>) -> Result<(), AllocError>
+    ensures ok { OnOk result (string_bytes text.new ≡ string_bytes text.old ++ in_columns 7 short.now ++ codes "--" ++ (row_in row.now).name
+        ++ value_text (value_name (row_in row.now).kind)) }
+{
+    push_column(text, short, 7)?;
+    text.push_str("--")?;
+    text.push_str(row.name)?;
+    push_value(text, value_name(&row.kind))
+}
+
 // The forms of an option, with what stands behind it.
 fn left_text(alloc: Global, row: &Row<&'static str>) -> Result<String, AllocError>
     ensures { IfOk result (λ text. string_bytes text ≡ left_text (row_in row.now)) }
 {
+    let short = short_text(alloc, row.short)?;
     let mut text = String::new(alloc);
-    push_column(&mut text, short_text(alloc, row.short)?.as_str(), 7)?;
-    text.push_str("--")?;
-    text.push_str(row.name)?;
-    if let Some(name) = value_name(&row.kind) {
-        text.push_str("=")?;
-        text.push_str(name)?;
-    }
+    push_forms(&mut text, short.as_str(), row)?;
     Ok(text)
 }
 
@@ -93,23 +112,28 @@ fn usual_text(alloc: Global, kind: &Kind<&'static str>) -> Result<String, AllocE
     }
 }
 
-// A number in decimal.
-fn number_text(alloc: Global, number: u32) -> Result<String, AllocError>
-    ensures { IfOk result (λ text. string_bytes text ≡ decimal number) }
-{
-    format!(in alloc; "{number}")
-}
-
 // The range of a number, and what counts where it isn't given.
 fn range_text(alloc: Global, most: u32, usual: u32) -> Result<String, AllocError>
     ensures { IfOk result (λ text. string_bytes text ≡ codes ", 1 to " ++ decimal most ++ codes " (" ++ decimal usual ++ codes ")") }
 {
-    let mut text = String::from_str(alloc, ", 1 to ")?;
-    text.push_str(number_text(alloc, most)?.as_str())?;
-    text.push_str(" (")?;
-    text.push_str(number_text(alloc, usual)?.as_str())?;
-    text.push_str(")")?;
-    Ok(text)
+    format!(in alloc; ", 1 to {most} ({usual})")
+}
+
+// Adds the line of an option, behind its heading, with its forms and what counts where it isn't given.
+fn push_line(
+    text: &mut String,
+    row: &Row<&'static str>,
+    left: &str,
+    usual: &str,
+) -> Result<(), AllocError>
+    ensures ok { OnOk result (string_bytes text.new ≡ string_bytes text.old ++ ((row_in row.now).heading ++ in_columns 35 left.now ++ (row_in row.now).says
+        ++ usual.now ++ codes "\n")) }
+{
+    text.push_str(row.heading)?;
+    push_column(text, left, 35)?;
+    text.push_str(row.says)?;
+    text.push_str(usual)?;
+    text.push_str("\n")
 }
 
 // Adds the line of an option, behind its heading.
@@ -121,11 +145,7 @@ fn push_row(alloc: Global, text: &mut String, row: &Row<&'static str>) -> Result
     }
     let left = left_text(alloc, row)?;
     let usual = usual_text(alloc, &row.kind)?;
-    text.push_str(row.heading)?;
-    push_column(text, left.as_str(), 35)?;
-    text.push_str(row.says)?;
-    text.push_str(usual.as_str())?;
-    text.push_str("\n")
+    push_line(text, row, left.as_str(), usual.as_str())
 }
 
 // Adds the lines of these options.

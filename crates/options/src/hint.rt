@@ -132,12 +132,7 @@ fn nearest(
 fn meant_text(alloc: Global, form: &str, name: &str) -> Result<String, AllocError>
     ensures { IfOk result (λ text. string_bytes text ≡ codes ": " ++ form.now ++ codes " (did you mean --" ++ name.now ++ codes "?)") }
 {
-    let mut text = String::from_str(alloc, ": ")?;
-    text.push_str(form)?;
-    text.push_str(" (did you mean --")?;
-    text.push_str(name)?;
-    text.push_str("?)")?;
-    Ok(text)
+    format!(in alloc; ": {form} (did you mean --{name}?)")
 }
 
 // What is said of a form that isn't known: what may have been meant by it.
