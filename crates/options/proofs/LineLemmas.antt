@@ -1,15 +1,17 @@
 -- The command is one whose matches and refusals are functions of the words.
-use Rattle.std.proofs.Common.{◌≡◌, ◌∙◌, List, [], ◌∷◌, Ok, Err, true, false, refl, ap, sym, subst, map}
-use Rattle.std.specs.Prelude.{All, Result, IfOk, MatchResult, fold}
+use Rattle.std.proofs.Common.{◌≡◌, ◌∙◌, List, [], ◌∷◌, Ok, Err, Some, None, Bool, true, false, if◌then◌else◌, refl, ap, sym, subst, map}
+use Rattle.std.specs.Prelude.{All, Result, IfOk, MatchResult, bytes_eq, fold}
 use Rattle.std.proofs.lemmas.List.Elements.{All-head, All-tail}
 use Rattle.std.proofs.lemmas.Bool.{and_parts}
-use Rattle.clap.specs.Words.{AddsArg, AddsInTurn, App, FailsBy, HasKind, HasMatchesOf, Text, fault_of, found_of, is_simple, is_simple_and_free, app_of, matches_of, rows_of, rule_of, with_rule}
+use Rattle.clap.specs.Words.{AddsArg, AddsInTurn, App, FailsBy, HasKind, HasMatchesOf, Rule, Text, fault_of, found_of, is_simple, is_simple_and_free, app_of, matches_of, new_rule, rows_of, rule_of, with_rule}
 use Rattle.clap.specs.declared.Error.{Error}
 use Rattle.clap.specs.declared.builder.arg.Arg.{Arg}
 use Rattle.clap.specs.declared.builder.command.Command.{Command}
 use Rattle.clap.specs.declared.parser.matches.ArgMatches.{ArgMatches}
 use Rattle.clap.proofs.OnLiterals.{clap_on_literals}
-use Rattle.options.specs.Line.{line, line_rules, no_options, refusals, rows}
+use Rattle.options.specs.Line.{letter_of, line, line_rules, no_options, option_rule, refusals, rows, with_kind, with_letter}
+use Rattle.options.specs.inner.Line.{long_form, with_long_form}
+use Rattle.options.specs.declared.table.Row.{Row}
 use Rattle.options.specs.Table.{table}
 
 pub line_is_simple : is_simple_and_free line ≡ true
@@ -28,6 +30,14 @@ parsed (Ok m) words same matches kinds = (
 )
 parsed (Err e) words same matches kinds =
     subst (λ app. HasKind (fault_of app words) e) same (kinds (ap is_simple_and_free same ∙ line_is_simple))
+
+-- an option's rule, from its forms
+long_of : (b : Bool) (name : Text) (rule : Rule) → with_long_form (if b then None else Some name) rule ≡ (if b then rule else record rule { long = Some name })
+long_of true name rule = refl
+long_of false name rule = refl
+
+pub option_of : (row : Row Text) → with_long_form (long_form row.name row.short) (with_letter (letter_of row.short) (with_kind row.kind (new_rule row.name))) ≡ option_rule row
+option_of row = long_of (bytes_eq row.name row.short) row.name (with_letter (letter_of row.short) (with_kind row.kind (new_rule row.name)))
 
 -- a command that takes arguments in turn has their rules
 pub record Gives (args : List Arg) : Type 0 where

@@ -1,4 +1,5 @@
 -- Definitions that proofs alone need: no public clause cites them.
 pub mod Table
+pub mod Line
 pub mod Order
 pub mod Advice

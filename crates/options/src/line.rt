@@ -1,7 +1,8 @@
 //! The command line as `clap` reads it: the table's options, and what words match (GNU Wget manual, chapter Invoking).
-ghost use Rattle.std.specs.Prelude.{◌≡◌, false, All, IfOk, MatchResult, map, []};
+ghost use Rattle.std.specs.Prelude.{◌≡◌, false, All, IfOk, MatchResult, map, option_map, []};
 ghost use Rattle.clap.specs.Words.{app_of, found_of, new_rule, rows_of, rule_of, HasKind};
-ghost use Rattle.options.specs.Line.{letter_of, line, line_rules, no_options, number_rule, option_rule, refusals, rows, start_rule, with_kind, with_letter, with_long};
+ghost use Rattle.options.specs.Line.{letter_of, line, line_rules, no_options, number_rule, option_rule, refusals, rows, start_rule, with_kind, with_letter};
+ghost use Rattle.options.specs.inner.Line.{long_form, with_long_form};
 ghost use Rattle.options.specs.inner.Table.{kind_in, row_in};
 
 use crate::help::VERSION;
@@ -50,25 +51,32 @@ fn with_letter<'a>(arg: Arg<'a>, letter: Option<char>) -> Arg<'a>
     }
 }
 
+// The long form of an option of this name, unless the name is the short form.
+fn long_form<'a>(name: &'a str, short: &str) -> Option<&'a str>
+    ensures { option_map (λ name. name.now) result ≡ long_form name.entry.now short.now }
+{
+    if name == short { None } else { Some(name) }
+}
+
 // The argument with its long form, where it has one.
-fn with_long<'a>(arg: Arg<'a>, row: &Row<&'static str>) -> Arg<'a>
-    ensures rule { rule_of result ≡ with_long (row_in row.now) (rule_of arg.entry) }
+fn with_long<'a>(arg: Arg<'a>, name: Option<&'a str>) -> Arg<'a>
+    ensures rule { rule_of result ≡ with_long_form (option_map (λ name. name.now) name.entry) (rule_of arg.entry) }
     ensures own { result.global ≡ arg.entry.global }
 {
-    if row.name == row.short {
-        arg
-    } else {
-        arg.long(row.name)
+    match name {
+        Some(name) => arg.long(name),
+        None => arg,
     }
 }
 
-// The option of a row.
-fn option<'a>(alloc: Global, row: &Row<&'static str>) -> Arg<'a>
-    ensures rule { rule_of result ≡ option_rule (row_in row.now) }
+// An option of these forms. It takes a row's parts, since an argument made of a whole row is dear to prove.
+fn option<'a>(alloc: Global, short: &str, name: &'a str, kind: &Kind<&'static str>) -> Arg<'a>
+    ensures rule { rule_of result ≡ with_long_form (long_form name.entry.now short.now)
+        (with_letter (letter_of short.now) (with_kind (kind_in kind.now) (new_rule name.entry.now))) }
     ensures own { result.global ≡ false }
 {
-    let arg = of_kind(alloc, row.name, &row.kind);
-    with_long(with_letter(arg, letter(row.short)), row)
+    let arg = with_letter(of_kind(alloc, name, kind), letter(short));
+    with_long(arg, long_form(name, short))
 }
 
 // The arguments of these rows.
@@ -78,7 +86,7 @@ fn arguments_of<'a>(alloc: Global, rows: &[Row<&'static str>]) -> Result<Vec<Arg
 {
     let mut args = Vec::new(alloc);
     for row in rows {
-        args.push(option(alloc, row))?;
+        args.push(option(alloc, row.short, row.name, &row.kind))?;
     }
     Ok(args)
 }
