@@ -112,7 +112,8 @@ fn arguments<'a>(alloc: Global) -> Result<Vec<Arg<'a>>, AllocError>
 fn command<'a>(alloc: Global) -> Result<Command<'a>, AllocError>
     ensures { IfOk result (λ c. app_of c ≡ line) }
 {
-    empty_command(alloc).args(arguments(alloc)?)
+    let arguments = arguments(alloc)?;
+    empty_command(alloc).args(arguments)
 }
 
 fn empty_command<'a>(alloc: Global) -> Command<'a>
