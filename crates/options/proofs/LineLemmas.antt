@@ -1,11 +1,15 @@
 -- The command is one whose matches and refusals are functions of the words.
-use Rattle.std.proofs.Common.{◌≡◌, ◌∙◌, List, [], ◌∷◌, Ok, Err, Some, None, Bool, true, false, if◌then◌else◌, refl, ap, sym, subst, map}
-use Rattle.std.specs.Prelude.{All, Result, IfOk, MatchResult, bytes_eq, fold}
+use Rattle.std.proofs.Common.{◌≡◌, ◌∙◌, ◌<◌, ◌^◌, ℕ, List, [], ◌∷◌, arith, Ok, Err, Option, Some, None, Bool, true, false, if◌then◌else◌, refl, ap, sym, subst, map}
+use Rattle.std.specs.Prelude.{All, Result, IfOk, MatchResult, ℤ, pos, bytes_eq, fold}
+use Rattle.std.specs.Int.{cast_signed, cast_unsigned, int_min, w64}
+use Rattle.std.proofs.lemmas.Int.{clamps, ints, to_z_pos}
 use Rattle.std.proofs.lemmas.List.Elements.{All-head, All-tail}
 use Rattle.std.proofs.lemmas.Bool.{and_parts}
-use Rattle.clap.specs.Words.{AddsArg, AddsInTurn, App, FailsBy, HasKind, HasMatchesOf, Rule, Text, fault_of, found_of, is_simple, is_simple_and_free, app_of, matches_of, new_rule, rows_of, rule_of, with_rule}
+use Rattle.clap.specs.Words.{AddsArg, AddsInTurn, App, FailsBy, HasKind, HasMatchesOf, NarrowsTo, Rule, Text, fault_of, found_of, is_simple, is_simple_and_free, app_of, matches_of, new_rule, rows_of, rule_of, signed_between, with_rule}
 use Rattle.clap.specs.declared.Error.{Error}
 use Rattle.clap.specs.declared.builder.arg.Arg.{Arg}
+use Rattle.clap.specs.declared.builder.ValueParser.{ValueParser}
+use Rattle.clap.specs.declared.builder.ValueParser.TheVariants as value
 use Rattle.clap.specs.declared.builder.command.Command.{Command}
 use Rattle.clap.specs.declared.parser.matches.ArgMatches.{ArgMatches}
 use Rattle.clap.proofs.OnLiterals.{clap_on_literals}
@@ -38,6 +42,23 @@ long_of false name rule = refl
 
 pub option_of : (row : Row Text) → with_long_form (long_form row.name row.short) (with_letter (letter_of row.short) (with_kind row.kind (new_rule row.name))) ≡ option_rule row
 option_of row = long_of (bytes_eq row.name row.short) row.name (with_letter (letter_of row.short) (with_kind row.kind (new_rule row.name)))
+
+-- the parser of a number from 1 to the most
+pub from_one : (most : ℕ) (whole parser : ValueParser) (given least last : ℤ) → most < 2 ^ 32 → whole ≡ value.Signed (pos 0) (pos 4294967295) → given ≡ pos most → least ≡ pos 1
+    → last ≡ cast_signed w64 (cast_unsigned w64 given) → NarrowsTo whole (Some least) (Some last) parser → parser ≡ value.Signed (pos 1) (pos most)
+from_one most whole parser given least last fits all same low high narrows =
+    let below : most < 2 ^ 63 = omega arith in
+    let lower : int_min (pos 4294967295) (pos most) ≡ pos most = omega (arith, ints, clamps) in
+    let end : last ≡ pos most = high ∙ ap (λ z. cast_signed w64 (cast_unsigned w64 z)) same ∙ to_z_pos w64 most below in
+    subst (λ l. NarrowsTo (value.Signed (pos 0) (pos 4294967295)) (Some (pos 1)) (Some l) parser) end
+    (subst (λ l. NarrowsTo (value.Signed (pos 0) (pos 4294967295)) (Some l) (Some last) parser) low (subst (λ w. NarrowsTo w (Some least) (Some last) parser) all narrows))
+    ∙ ap (signed_between (pos 1)) lower
+
+-- the rule of an argument that was given a parser
+pub with_parser : (plain parsed : Arg) (parser : ValueParser) (name : Text) → parsed ≡ record plain { value_parser = parsed.value_parser } → parsed.value_parser ≡ Some parser → rule_of plain ≡ new_rule name
+    → rule_of parsed ≡ record (new_rule name) { parser = Some parser }
+with_parser plain parsed parser name others given rule =
+    ap rule_of others ∙ ap (λ (r : Rule). record r { parser = parsed.value_parser }) rule ∙ ap (λ (p : Option ValueParser). record (new_rule name) { parser = p }) given
 
 -- a command that takes arguments in turn has their rules
 pub record Gives (args : List Arg) : Type 0 where
