@@ -1,5 +1,5 @@
 -- How a chain of redirects grows.
-use Rattle.std.proofs.Common.{◌≡◌, ◌∙◌, ◌<◌, ◌+◌, ◌++◌, ℕ, zero, suc, List, [], ◌∷◌, inl, inr, arith, ap, subst, sym, length}
+use Rattle.std.proofs.Common.{◌≡◌, ◌∙◌, ◌<◌, ◌≤◌, ◌+◌, ◌++◌, ℕ, zero, suc, List, [], ◌∷◌, inl, inr, arith, ap, subst, sym, length}
 use Rattle.std.proofs.lemmas.List.{length-append}
 use Rattle.address.specs.Address.{AddressText}
 use Rattle.robots_rules.specs.Access.{RuleSetValue}
@@ -51,3 +51,7 @@ pub one_more : (first before after : ℕ) (old new : List HopValue) (hop : HopVa
 one_more first before after old new hop is one more =
     let longer : length new ≡ length old + 1 = ap length more ∙ length-append old (hop ∷ []) in
     omega arith
+
+-- one connection more, where so many redirects could still be followed
+pub few_more : (before left first most now : ℕ) → before + left ≤ first + most → now ≤ before + 1 → now ≤ first + (most + 1)
+few_more before left first most now few one = omega arith

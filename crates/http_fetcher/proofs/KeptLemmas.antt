@@ -62,3 +62,13 @@ module _ {C W : Type 0} (connects : Connects C W) (wires : Wires W) where
           → connects.stands old.connect of wire ⊎ ((at : AddressText) × IsKeptAfter connects wires (question_of old at) of wire)
       go (inl stood) = before of wire stood
       go (inr kept) = inr (at, subst (λ q. IsKeptAfter connects wires q of wire) (same_question old mid at robots keeps) kept)
+
+  -- what stands behind the same question put twice
+  pub stands_twice : (old mid new : Fetching C) (at : AddressText) → mid.robots ≡ old.robots → mid.keeps ≡ old.keeps
+      → StandsBy connects wires old mid at → StandsBy connects wires mid new at → StandsBy connects wires old new at
+  stands_twice old mid new at robots keeps before by of wire stands = go (by of wire stands)
+    where
+      go : connects.stands mid.connect of wire ⊎ IsKeptAfter connects wires (question_of mid at) of wire
+          → connects.stands old.connect of wire ⊎ IsKeptAfter connects wires (question_of old at) of wire
+      go (inl stood) = before of wire stood
+      go (inr kept) = inr (subst (λ q. IsKeptAfter connects wires q of wire) (same_question old mid at robots keeps) kept)

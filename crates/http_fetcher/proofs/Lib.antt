@@ -2,3 +2,4 @@ pub mod ChainLemmas
 pub mod TellingLemmas
 pub mod MeaningLaws
 pub mod KeptLemmas
+pub mod ExitLemmas

@@ -1,7 +1,102 @@
+-- Behind the exchange the notes alone change.
+use Rattle.std.proofs.Common.{◌≡◌, ◌∙◌, ◌≤◌, ◌+◌, ◌++◌, [], ◌∷◌, inl, refl, sym, ap, subst, le-add_right}
+use Rattle.std.proofs.lemmas.Result.{err_from_is_err_and}
+use Rattle.response_reader.specs.Wire.{counted}
+use Rattle.address.specs.Address.{AddressText}
+use Rattle.answer_notes.specs.Tellings.{outcome_told}
+use Rattle.answer_notes.specs.declared.noted.Noted.TheVariants.{Page}
+use Rattle.http_fetcher.specs.Fetching.{Fetching, StandsBy}
 use Rattle.http_fetcher.proofs.TellingLemmas.{told_by_answer}
 use Rattle.http_fetcher.proofs.http_fetcher.HttpFetcher.ask_and_note.Goals as goal
 
-pub returns-clause-told : goal.returns-clause-told
-returns-clause-told g c =
-    told_by_answer g.C.Connect g.C.Wire.Wire c.args.self.now _ _ c.args.at.now c.in_ok-told.told c.in_ok-answer.answer c.self.view_is c.in_ok-told.ensures.robots
-    c.in_ok-answer.ensures.outcome c.in_ok-answer.ensures.body c.in_ok-told.ensures.told
+pub returns-in_err-name : goal.returns-in_err-name
+returns-in_err-name g c =
+    let p = err_from_is_err_and c.from_residual.result c.from_residual.ensures.1 in
+    rw p.1 (record {
+      asks = refl;
+      robots = refl;
+      keeps = refl;
+      is_recording = refl;
+      one = λ none. tt;
+      most = le-add_right _ _;
+      told = tt;
+      stands = λ of wire stood. inl stood;
+      noted = tt;
+      unnoted = refl;
+    })
+
+pub returns-in_err-told : goal.returns-in_err-told
+returns-in_err-told g c =
+    let p = err_from_is_err_and c.from_residual-in_err-told.result c.from_residual-in_err-told.ensures.1 in
+    let after = c.exchange.ensures in
+    rw p.1 (record {
+      asks = after.asks;
+      robots = after.robots;
+      keeps = after.keeps;
+      is_recording = after.is_recording;
+      one = λ none. tt;
+      most = after.most;
+      told = tt;
+      stands = after.stands;
+      noted = tt;
+      unnoted = after.notes;
+    })
+
+pub returns-in_err-answer : goal.returns-in_err-answer
+returns-in_err-answer g c =
+    let p = err_from_is_err_and c.from_residual-in_err-answer.result c.from_residual-in_err-answer.ensures.1 in
+    let after = c.in_ok-told.ensures in
+    rw p.1 (record {
+      asks = after.asks;
+      robots = after.robots;
+      keeps = after.keeps;
+      is_recording = after.is_recording;
+      one = λ none. tt;
+      most = after.most;
+      told = tt;
+      stands = after.stands;
+      noted = tt;
+      unnoted = after.notes;
+    })
+
+pub returns-in_err-push : goal.returns-in_err-push
+returns-in_err-push g c =
+    let p = err_from_is_err_and c.from_residual-in_err-push.result c.from_residual-in_err-push.ensures.1 in
+    let after = c.in_ok-told.ensures in
+    rw p.1 (record {
+      asks = ap (λ (f : Fetching _). f.asks) c.self.view_is ∙ after.asks;
+      robots = ap (λ (f : Fetching _). f.robots) c.self.view_is ∙ after.robots;
+      keeps = ap (λ (f : Fetching _). f.keeps) c.self.view_is ∙ after.keeps;
+      is_recording = ap (λ (f : Fetching _). f.is_recording) c.self.view_is ∙ after.is_recording;
+      one = λ none. tt;
+      most = subst (λ (f : Fetching _). g.C.Connect.made f.connect ≤ g.C.Connect.made c.args.self.now.connect + 1) (sym c.self.view_is) after.most;
+      told = tt;
+      stands = subst (λ (f : Fetching _). StandsBy g.C.Connect g.C.Wire.Wire c.args.self.now f c.args.at.now) (sym c.self.view_is) after.stands;
+      noted = tt;
+      unnoted = c.in_err-push.ensures.items ∙ ap (λ (f : Fetching _). f.notes) c.self.view_is ∙ after.notes;
+    })
+
+pub returns : goal.returns
+returns g c =
+    let after = c.in_ok-told.ensures in
+    let told = c.in_ok-told.told in
+    let robots : c.self.inside.robots ≡ c.args.self.now.robots = ap (λ (f : Fetching _). f.robots) c.self.view_is ∙ after.robots in
+    record {
+      asks = ap (λ (f : Fetching _). f.asks) c.self.view_is ∙ after.asks;
+      robots = robots;
+      keeps = ap (λ (f : Fetching _). f.keeps) c.self.view_is ∙ after.keeps;
+      is_recording = ap (λ (f : Fetching _). f.is_recording) c.self.view_is ∙ after.is_recording;
+      one = λ none. subst (λ (f : Fetching _). g.C.Connect.made f.connect ≡ counted (g.C.Connect.made c.args.self.now.connect) 1) (sym c.self.view_is) (after.one none);
+      most = subst (λ (f : Fetching _). g.C.Connect.made f.connect ≤ g.C.Connect.made c.args.self.now.connect + 1) (sym c.self.view_is) after.most;
+      told = told_by_answer g.C.Connect g.C.Wire.Wire c.args.self.now _ _ c.args.at.now told c.in_ok-answer.answer c.self.view_is after.robots
+          c.in_ok-answer.ensures.outcome c.in_ok-answer.ensures.body after.told;
+      stands = subst (λ (f : Fetching _). StandsBy g.C.Connect g.C.Wire.Wire c.args.self.now f c.args.at.now) (sym c.self.view_is) after.stands;
+      noted = (
+        told,
+        c.in_ok-push.ensures.items ∙ ap (λ (at : AddressText). c.self.inside.notes.items ++ Page at told ∷ []) c.in_ok-name.ensures
+            ∙ ap (λ ns. ns ++ Page c.args.at.now told ∷ []) (ap (λ (f : Fetching _). f.notes) c.self.view_is ∙ after.notes),
+        c.in_ok-answer.ensures.outcome ∙ ap (λ b. outcome_told b c.args.at.now told) robots,
+        c.in_ok-answer.ensures.body,
+      );
+      unnoted = tt;
+    }

@@ -1,14 +1,78 @@
-use Rattle.std.proofs.Common.{subst}
+-- An answer over a connection that was kept, or else over a new one.
+use Rattle.std.proofs.Common.{◌∙◌, inl, refl, sym, subst, le-add_right, true≢false}
+use Rattle.std.proofs.lemmas.Result.{err_from_is_err_and}
+use Rattle.std.specs.Prelude.{◌≡◌, ◌≤◌, ◌+◌, OnOk}
+use Rattle.response_reader.specs.Wire.{counted}
 use Rattle.http_fetcher.specs.Fetching.{IsToldByTries, answer_told}
-use Rattle.http_fetcher.proofs.KeptLemmas.{if_ok_on, told_second}
+use Rattle.http_fetcher.proofs.ExitLemmas.{none_made}
+use Rattle.http_fetcher.proofs.KeptLemmas.{if_ok_on, stands_twice, told_second}
 use Rattle.http_fetcher.proofs.http_fetcher.HttpFetcher.exchange.Goals as goal
 
-pub returns-clause-told : goal.returns-clause-told
-returns-clause-told g c =
+pub returns-in_err-origin : goal.returns-in_err-origin
+returns-in_err-origin g c =
+    let p = err_from_is_err_and c.from_residual.result c.from_residual.ensures.1 in
+    rw p.1 (record {
+      asks = refl;
+      robots = refl;
+      keeps = refl;
+      is_recording = refl;
+      notes = refl;
+      one = λ none. tt;
+      most = le-add_right _ _;
+      told = tt;
+      stands = λ of wire stood. inl stood;
+    })
+
+pub returns-in_err-told : goal.returns-in_err-told
+returns-in_err-told g c =
+    let p = err_from_is_err_and c.from_residual-in_err-told.result c.from_residual-in_err-told.ensures.1 in
+    let after = c.ask_again.ensures in
+    rw p.1 (record {
+      asks = after.asks;
+      robots = after.robots;
+      keeps = after.keeps;
+      is_recording = after.is_recording;
+      notes = after.notes;
+      one = λ none. tt;
+      most = none_made _ _ after.made;
+      told = tt;
+      stands = after.stands;
+    })
+
+pub returns-in-Some : goal.returns-in-Some
+returns-in-Some g c =
+    let after = c.in_ok-told.ensures in
+    let told = rw c.in-Some.is at after.told in
+    record {
+      asks = after.asks;
+      robots = after.robots;
+      keeps = after.keeps;
+      is_recording = after.is_recording;
+      notes = after.notes;
+      one = λ none. absurd (true≢false (sym told.2 ∙ none));
+      most = none_made _ _ after.made;
+      told = inl told;
+      stands = after.stands;
+    }
+
+pub returns : goal.returns
+returns g c =
     let old = c.args.self.now in
     let before = c.in_ok-told.ensures in
+    let mid = c.ask_again.new.self in
+    let after = c.ask_anew.ensures in
     let new = c.ask_anew.new.self in
-    if_ok_on c.ask_anew.result _ _ _ c.ask_anew.ensures.one c.ask_anew.ensures.told
-    (λ one t told. subst (λ b. IsToldByTries g.C.Connect g.C.Wire.Wire old new c.args.at.now (answer_told b c.args.at.now t)) before.robots
-    (told_second g.C.Connect g.C.Wire.Wire old c.ask_again.new.self new c.args.at.now (answer_told c.ask_again.new.self.robots c.args.at.now t) before.made before.refused before.robots before.keeps
-    (rw c.in-None.is at before.gives) (rw c.in-None.is at before.silent) c.ask_anew.ensures.taken one told))
+    record {
+      asks = after.asks ∙ before.asks;
+      robots = after.robots ∙ before.robots;
+      keeps = after.keeps ∙ before.keeps;
+      is_recording = after.is_recording ∙ before.is_recording;
+      notes = after.notes ∙ before.notes;
+      one = λ none. subst (λ n. OnOk c.ask_anew.result (g.C.Connect.made new.connect ≡ counted n 1)) before.made after.one;
+      most = subst (λ n. g.C.Connect.made new.connect ≤ n + 1) before.made after.most;
+      told = if_ok_on c.ask_anew.result _ _ _ after.one after.told
+          (λ one t told. subst (λ b. IsToldByTries g.C.Connect g.C.Wire.Wire old new c.args.at.now (answer_told b c.args.at.now t)) before.robots
+          (told_second g.C.Connect g.C.Wire.Wire old mid new c.args.at.now (answer_told mid.robots c.args.at.now t) before.made before.refused before.robots before.keeps
+          (rw c.in-None.is at before.gives) (rw c.in-None.is at before.silent) after.taken one told));
+      stands = stands_twice g.C.Connect g.C.Wire.Wire old mid new c.args.at.now before.robots before.keeps before.stands after.stands;
+    }

@@ -1,11 +1,12 @@
 -- Each redirect makes the chain and the hops longer by one answer, and the last answer ends them.
-use Rattle.std.proofs.Common.{◌∙◌, ◌<◌, ◌-◌, ◌++◌, [], ◌∷◌, arith, refl, sym, ap, subst, append_assoc}
+use Rattle.std.proofs.Common.{◌∙◌, ◌<◌, ◌-◌, ◌++◌, [], ◌∷◌, inl, arith, refl, sym, ap, subst, append_assoc, le-add_right}
+use Rattle.std.proofs.lemmas.Result.{err_from_is_err_and}
 use Rattle.answer_notes.specs.HopChains.{IsAdmitted, rules_of_hops}
 use Rattle.http_fetcher.specs.inner.Chains.{IsHopTold}
 use Rattle.http_fetcher.specs.declared.chain.Hop.TheVariants.{Next, Last}
 use Rattle.http_fetcher.specs.Fetching.{answer_told}
 use Rattle.http_fetcher.proofs.KeptLemmas.{stands_more}
-use Rattle.http_fetcher.proofs.ChainLemmas.{chain_ends, chain_goes_on, given_by, one_more}
+use Rattle.http_fetcher.proofs.ChainLemmas.{chain_ends, chain_goes_on, few_more, given_by, one_more}
 use Rattle.answer_notes.proofs.HopLemmas.{hop_goes_on, hop_ends, rules_behind}
 use Rattle.http_fetcher.proofs.TellingLemmas.{tells_of, tells_says}
 use Rattle.http_fetcher.proofs.http_fetcher.HttpFetcher.follow.Goals as goal
@@ -40,46 +41,145 @@ new-requires g c =
     (subst (λ l. IsAdmitted c.args.of.now l) (sym c.in_ok-push-in-Last.ensures.items)
     (c.hops.invariant.admitted ((c.hops.at, c.in_ok-told.told) ∷ []) (hop_ends c.hops.left c.hops.at c.in_ok-told.told tells.0)))
 
-pub returns-in-Last-clause-of : goal.returns-in-Last-clause-of
-returns-in-Last-clause-of g c = c.new.ensures.of ∙ c.hops.invariant.origin
-
-pub returns-in-Last-clause-rules : goal.returns-in-Last-clause-rules
-returns-in-Last-clause-rules g c =
+pub returns-in-Last : goal.returns-in-Last
+returns-in-Last g c =
     let tells : IsHopTold c.hops.at c.in_ok-told.told c.hops.left (Last c.in-Last.rules) = tells_of c.hops.at c.in_ok-told.told c.hops.left _ _ c.in-Last.is c.in_ok-rules.ensures in
-    tells.1 ∙ sym (ap rules_of_hops (c.new.ensures.hops ∙ c.in_ok-push-in-Last.ensures.items) ∙ rules_behind c.hops.hops.items (c.hops.at, c.in_ok-told.told) [])
+    let was = c.hops.invariant in
+    let after = c.in_ok-told.ensures in
+    record {
+      asks = after.asks ∙ was.asks;
+      robots = after.robots ∙ was.robots;
+      keeps = after.keeps ∙ was.keeps;
+      is_recording = after.is_recording ∙ was.is_recording;
+      notes = after.notes ∙ was.notes;
+      few = few_more _ _ _ _ _ was.few after.most;
+      stands = stands_more g.C.Connect g.C.Wire.Wire c.args.self.now c.hops.self c.exchange.new.self c.hops.at was.robots was.keeps was.stands after.stands;
+      count = λ none. (
+        c.hops.hops.items ++ (c.hops.at, c.in_ok-told.told) ∷ [],
+        was.admitted ((c.hops.at, c.in_ok-told.told) ∷ []) (hop_ends c.hops.left c.hops.at c.in_ok-told.told tells.0),
+        tells.1 ∙ sym (rules_behind c.hops.hops.items (c.hops.at, c.in_ok-told.told) []),
+        one_more _ _ _ c.hops.hops.items _ (c.hops.at, c.in_ok-told.told) (was.count none) (after.one (was.keeps ∙ none)) refl,
+      );
+      hops = λ none. one_more _ _ _ c.hops.hops.items _ (c.hops.at, c.in_ok-told.told) (was.count none) (after.one (was.keeps ∙ none)) (c.new.ensures.hops ∙ c.in_ok-push-in-Last.ensures.items);
+      of = c.new.ensures.of ∙ was.origin;
+      rules = tells.1 ∙ sym (ap rules_of_hops (c.new.ensures.hops ∙ c.in_ok-push-in-Last.ensures.items) ∙ rules_behind c.hops.hops.items (c.hops.at, c.in_ok-told.told) []);
+      chain = was.chain _ (chain_ends _ c.hops.left _ _ _ _
+          (given_by g.C.Connect g.C.Wire.Wire c.args.self.now c.hops.self c.exchange.new.self c.hops.at (answer_told c.hops.self.robots c.hops.at c.in_ok-told.told) was.robots was.keeps after.told)
+          (tells_says c.hops.self.robots c.hops.at c.in_ok-told.told c.hops.left (Last c.in-Last.rules) tells));
+    }
 
-pub returns-in-Last-clause-chain : goal.returns-in-Last-clause-chain
-returns-in-Last-clause-chain g c =
-    let tells : IsHopTold c.hops.at c.in_ok-told.told c.hops.left (Last c.in-Last.rules) = tells_of c.hops.at c.in_ok-told.told c.hops.left _ _ c.in-Last.is c.in_ok-rules.ensures in
-    c.hops.invariant.chain _ (chain_ends _ c.hops.left _ _ _ _
-    (given_by g.C.Connect g.C.Wire.Wire c.args.self.now c.hops.self c.exchange.new.self c.hops.at (answer_told c.hops.self.robots c.hops.at c.in_ok-told.told) c.hops.invariant.robots c.hops.invariant.keeps c.in_ok-told.ensures.told)
-    (tells_says c.hops.self.robots c.hops.at c.in_ok-told.told c.hops.left (Last c.in-Last.rules) tells))
+pub returns-in_err-origin : goal.returns-in_err-origin
+returns-in_err-origin g c =
+    let p = err_from_is_err_and c.from_residual.result c.from_residual.ensures.1 in
+    rw p.1 (record {
+      asks = refl;
+      robots = refl;
+      keeps = refl;
+      is_recording = refl;
+      notes = refl;
+      few = le-add_right _ _;
+      stands = λ of wire stood. inl stood;
+      count = λ none. tt;
+      hops = λ none. tt;
+      of = tt;
+      rules = tt;
+      chain = tt;
+    })
 
-pub returns-in-Last-clause-hops : goal.returns-in-Last-clause-hops
-returns-in-Last-clause-hops g c none =
-    one_more _ _ _ c.hops.hops.items _ (c.hops.at, c.in_ok-told.told) (c.hops.invariant.count none) (c.in_ok-told.ensures.one (c.hops.invariant.keeps ∙ none)) (c.new.ensures.hops ∙ c.in_ok-push-in-Last.ensures.items)
+pub returns-in_err-at : goal.returns-in_err-at
+returns-in_err-at g c =
+    let p = err_from_is_err_and c.from_residual-in_err-at.result c.from_residual-in_err-at.ensures.1 in
+    rw p.1 (record {
+      asks = refl;
+      robots = refl;
+      keeps = refl;
+      is_recording = refl;
+      notes = refl;
+      few = le-add_right _ _;
+      stands = λ of wire stood. inl stood;
+      count = λ none. tt;
+      hops = λ none. tt;
+      of = tt;
+      rules = tt;
+      chain = tt;
+    })
 
-pub returns-in-Last-clause-count : goal.returns-in-Last-clause-count
-returns-in-Last-clause-count g c none =
-    let tells : IsHopTold c.hops.at c.in_ok-told.told c.hops.left (Last c.in-Last.rules) = tells_of c.hops.at c.in_ok-told.told c.hops.left _ _ c.in-Last.is c.in_ok-rules.ensures in (
-      c.hops.hops.items ++ (c.hops.at, c.in_ok-told.told) ∷ [],
-      c.hops.invariant.admitted ((c.hops.at, c.in_ok-told.told) ∷ []) (hop_ends c.hops.left c.hops.at c.in_ok-told.told tells.0),
-      tells.1 ∙ sym (rules_behind c.hops.hops.items (c.hops.at, c.in_ok-told.told) []),
-      one_more _ _ _ c.hops.hops.items _ (c.hops.at, c.in_ok-told.told) (c.hops.invariant.count none) (c.in_ok-told.ensures.one (c.hops.invariant.keeps ∙ none)) refl,
-    )
+pub returns-in_err-told : goal.returns-in_err-told
+returns-in_err-told g c =
+    let p = err_from_is_err_and c.from_residual-in_err-told.result c.from_residual-in_err-told.ensures.1 in
+    let was = c.hops.invariant in
+    let after = c.exchange.ensures in
+    rw p.1 (record {
+      asks = after.asks ∙ was.asks;
+      robots = after.robots ∙ was.robots;
+      keeps = after.keeps ∙ was.keeps;
+      is_recording = after.is_recording ∙ was.is_recording;
+      notes = after.notes ∙ was.notes;
+      few = few_more _ _ _ _ _ was.few after.most;
+      stands = stands_more g.C.Connect g.C.Wire.Wire c.args.self.now c.hops.self c.exchange.new.self c.hops.at was.robots was.keeps was.stands after.stands;
+      count = λ none. tt;
+      hops = λ none. tt;
+      of = tt;
+      rules = tt;
+      chain = tt;
+    })
 
-pub returns-in-Last-clause-stands : goal.returns-in-Last-clause-stands
-returns-in-Last-clause-stands g c =
-    stands_more g.C.Connect g.C.Wire.Wire c.args.self.now c.hops.self c.exchange.new.self c.hops.at c.hops.invariant.robots c.hops.invariant.keeps c.hops.invariant.stands c.in_ok-told.ensures.stands
+pub returns-in_err-rules : goal.returns-in_err-rules
+returns-in_err-rules g c =
+    let p = err_from_is_err_and c.from_residual-in_err-rules.result c.from_residual-in_err-rules.ensures.1 in
+    let was = c.hops.invariant in
+    let after = c.in_ok-told.ensures in
+    rw p.1 (record {
+      asks = after.asks ∙ was.asks;
+      robots = after.robots ∙ was.robots;
+      keeps = after.keeps ∙ was.keeps;
+      is_recording = after.is_recording ∙ was.is_recording;
+      notes = after.notes ∙ was.notes;
+      few = few_more _ _ _ _ _ was.few after.most;
+      stands = stands_more g.C.Connect g.C.Wire.Wire c.args.self.now c.hops.self c.exchange.new.self c.hops.at was.robots was.keeps was.stands after.stands;
+      count = λ none. tt;
+      hops = λ none. tt;
+      of = tt;
+      rules = tt;
+      chain = tt;
+    })
 
-pub returns-in_err-rules-clause-stands : goal.returns-in_err-rules-clause-stands
-returns-in_err-rules-clause-stands g c =
-    stands_more g.C.Connect g.C.Wire.Wire c.args.self.now c.hops.self c.exchange.new.self c.hops.at c.hops.invariant.robots c.hops.invariant.keeps c.hops.invariant.stands c.in_ok-told.ensures.stands
+pub returns-in_err-push-in-Last : goal.returns-in_err-push-in-Last
+returns-in_err-push-in-Last g c =
+    let p = err_from_is_err_and c.from_residual-in_err-push-in-Last.result c.from_residual-in_err-push-in-Last.ensures.1 in
+    let was = c.hops.invariant in
+    let after = c.in_ok-told.ensures in
+    rw p.1 (record {
+      asks = after.asks ∙ was.asks;
+      robots = after.robots ∙ was.robots;
+      keeps = after.keeps ∙ was.keeps;
+      is_recording = after.is_recording ∙ was.is_recording;
+      notes = after.notes ∙ was.notes;
+      few = few_more _ _ _ _ _ was.few after.most;
+      stands = stands_more g.C.Connect g.C.Wire.Wire c.args.self.now c.hops.self c.exchange.new.self c.hops.at was.robots was.keeps was.stands after.stands;
+      count = λ none. tt;
+      hops = λ none. tt;
+      of = tt;
+      rules = tt;
+      chain = tt;
+    })
 
-pub returns-in_err-push-in-Last-clause-stands : goal.returns-in_err-push-in-Last-clause-stands
-returns-in_err-push-in-Last-clause-stands g c =
-    stands_more g.C.Connect g.C.Wire.Wire c.args.self.now c.hops.self c.exchange.new.self c.hops.at c.hops.invariant.robots c.hops.invariant.keeps c.hops.invariant.stands c.in_ok-told.ensures.stands
-
-pub returns-in_err-push-in-Next-clause-stands : goal.returns-in_err-push-in-Next-clause-stands
-returns-in_err-push-in-Next-clause-stands g c =
-    stands_more g.C.Connect g.C.Wire.Wire c.args.self.now c.hops.self c.exchange.new.self c.hops.at c.hops.invariant.robots c.hops.invariant.keeps c.hops.invariant.stands c.in_ok-told.ensures.stands
+pub returns-in_err-push-in-Next : goal.returns-in_err-push-in-Next
+returns-in_err-push-in-Next g c =
+    let p = err_from_is_err_and c.from_residual-in_err-push-in-Next.result c.from_residual-in_err-push-in-Next.ensures.1 in
+    let was = c.hops.invariant in
+    let after = c.in_ok-told.ensures in
+    rw p.1 (record {
+      asks = after.asks ∙ was.asks;
+      robots = after.robots ∙ was.robots;
+      keeps = after.keeps ∙ was.keeps;
+      is_recording = after.is_recording ∙ was.is_recording;
+      notes = after.notes ∙ was.notes;
+      few = few_more _ _ _ _ _ was.few after.most;
+      stands = stands_more g.C.Connect g.C.Wire.Wire c.args.self.now c.hops.self c.exchange.new.self c.hops.at was.robots was.keeps was.stands after.stands;
+      count = λ none. tt;
+      hops = λ none. tt;
+      of = tt;
+      rules = tt;
+      chain = tt;
+    })

@@ -1,0 +1,25 @@
+-- What holds at an exit of a call that may ask for a connection.
+use Rattle.std.proofs.Common.{◌≡◌, ◌≤◌, ◌+◌, ℕ, Result, Ok, Err, arith}
+use Rattle.std.specs.Prelude.{OnOk, OnErr}
+use Rattle.response_reader.specs.Wire.{counted, HasRisen}
+
+-- what holds whatever is returned
+pub on_ok : {T E : Type 0} (r : Result T E) {P : Type 0} → P → OnOk r P
+on_ok (Ok a) p = p
+on_ok (Err e) p = tt
+
+pub on_err : {T E : Type 0} (r : Result T E) {P : Type 0} → P → OnErr r P
+on_err (Ok a) p = tt
+on_err (Err e) p = p
+
+-- the count where no connection was asked for
+pub none_made : (old new : ℕ) → new ≡ old → new ≤ old + 1
+none_made old new same = omega arith
+
+-- where one was
+pub one_made : (old new : ℕ) → new ≡ counted old 1 → new ≤ old + 1
+one_made old new same = omega arith
+
+-- a counted failure
+pub risen : (old new : ℕ) → new ≡ counted old 1 → HasRisen old new
+risen old new same = grind arith
