@@ -276,7 +276,25 @@ impl<D: Files> Saving<D> {
         saved: &str,
         is_resumed: bool,
     ) -> Result<(), HoldFault> {
-        let mut text = text_of(rt, alloc, &mut held)?;
+        let whole = self.take_left(rt, alloc, &mut held, saved, is_resumed)?;
+        let journal = held.begin(rt, alloc, whole);
+        if !journal.is_open(rt) {
+            journal.tell_closed(rt);
+        }
+        let _ = self.journal.try_set(journal);
+        Ok(())
+    }
+
+    // Keeps what is left in a journal, where it is resumed. Gives how many bytes of it stay there.
+    fn take_left<R: Wait + Eprint>(
+        &self,
+        rt: &R,
+        alloc: Global,
+        held: &mut HeldJournal<D>,
+        saved: &str,
+        is_resumed: bool,
+    ) -> Result<u64, HoldFault> {
+        let mut text = text_of(rt, alloc, held)?;
         let front = front_of(rt, alloc, held.path(), text.as_slice())?;
         if front.site.entry_count() > 0 && !is_resumed {
             let path = held.path();
@@ -291,12 +309,7 @@ impl<D: Files> Saving<D> {
             }
             *self.left.lock(rt) = Some(text);
         }
-        let journal = held.begin(rt, alloc, front.len as u64);
-        if !journal.is_open(rt) {
-            journal.tell_closed(rt);
-        }
-        let _ = self.journal.try_set(journal);
-        Ok(())
+        Ok(front.len as u64)
     }
 
     /// The record at a path, of at most so many bytes, with what the journal beside it has: of two answers of one address, or of
