@@ -95,6 +95,7 @@ impl<F: Telling, J: Journal> Journaled<F, J> {
         ensures err { OnErr result (self.new.kept ≡ self.old.kept) }
     {
         if is_taken(self.alloc, &mut self.journal, &note) {
+            drop(note);
             return Ok(());
         }
         self.kept.push(note)?;

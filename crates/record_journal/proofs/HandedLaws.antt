@@ -1,0 +1,39 @@
+-- What a fetcher with a journal hands over, seen from before and behind its calls.
+use Rattle.std.proofs.Common.{◌≡◌, ◌∙◌, ◌⊎◌, ℕ, Bool, List, [], ◌∷◌, ◌++◌, Option, Result, Ok, Err, OnErr, sym, ap, subst, inl, inr}
+use Rattle.std.specs.Io.KnownBytes.{Appends}
+use Rattle.streams.specs.Streams.{AppendsFront}
+use Rattle.address.specs.Address.{AddressText}
+use Rattle.fetcher.specs.declared.answer.Answer.{Answer}
+use Rattle.fetcher.specs.declared.outcome.Outcome.{Outcome}
+use Rattle.fetcher.specs.Logs.{GainedAtMost}
+use Rattle.answer_notes.specs.Tellings.{outcome_told, body_told}
+use Rattle.answer_notes.specs.declared.told.Told.{Told}
+use Rattle.answer_notes.specs.declared.noted.Noted.{Noted}
+use Rattle.site_records.specs.WrittenEntries.{written_note}
+use Rattle.record_journal.specs.Handed.{Journaling, IsHanded}
+
+-- what is so holds of a call that failed
+pub on_err : {T E P : Type 0} (r : Result T E) → P → OnErr r P
+on_err (Ok x) p = tt
+on_err (Err e) p = p
+
+-- the log gained as much over what is the same before
+pub gained_over : {A : Type 0} {was old new : List A} (ask : A) → was ≡ old → GainedAtMost was new ask → GainedAtMost old new ask
+gained_over {new = new} ask same gained = subst (λ log. GainedAtMost log new ask) same gained
+
+-- a note is handed over from what is the same before, and so is one that is equal
+pub is_handed : {F J : Type 0} (contents : J → Option (List ℕ)) {n m : Noted} {j : J} {kept : List Noted} (old new : Journaling F J) → j ≡ old.journal → kept ≡ old.kept → n ≡ m
+    → (Appends (contents j) (contents new.journal) (written_note n) × (new.kept ≡ kept)) ⊎ (AppendsFront (contents j) (contents new.journal) (written_note n) × (new.kept ≡ kept ++ n ∷ []))
+    → IsHanded contents m old new
+is_handed contents {n} {m} {j} {kept} old new same before note (inl (taken, still)) =
+    inl (subst (λ k. Appends (contents k) (contents new.journal) (written_note m)) same (subst (λ x. Appends (contents j) (contents new.journal) (written_note x)) note taken), still ∙ before)
+is_handed contents {n} {m} {j} {kept} old new same before note (inr (refused, more)) =
+    inr (
+      subst (λ k. AppendsFront (contents k) (contents new.journal) (written_note m)) same (subst (λ x. AppendsFront (contents j) (contents new.journal) (written_note x)) note refused),
+      more ∙ ap (λ ns. ns ++ n ∷ []) before ∙ ap (λ x. old.kept ++ x ∷ []) note,
+    )
+
+-- what was told says the answer that was made of it
+pub says_told : {S : Type 0} (says : S → AddressText → Outcome → List ℕ → Type 0) {was old : S} {honours robots : Bool} {at : AddressText} (told : Told) (a : Answer) → was ≡ old → robots ≡ honours
+    → a.outcome ≡ outcome_told robots at told → a.body ≡ body_told told → says was at (outcome_told honours at told) (body_told told) → says old at a.outcome a.body
+says_told says told a site robots outcome body said = rw (outcome, body, robots, sym site) said
