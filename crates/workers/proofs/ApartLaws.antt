@@ -125,19 +125,30 @@ module _ {F : Type 0} where
   rules_once seat seats order once apart = subst IsOnce (sym (map-append (λ (note : RulesNote). note.origin) seat.notes.rules.items (rules_notes seats)))
       (once_both (origins seat.notes.rules.items) (origins (rules_notes seats)) (once_ascending (origins seat.notes.rules.items) order.rules) once apart)
 
-  -- where the first of the seats and the others are apart from the names, all are
-  pub pages_apart_first : (names : List Text) (seat : Seat F) (others seats : List (Seat F)) → seat ∷ others ≡ seats → AreNotedApart names (addresses seat.notes.pages.items)
-      → AreNotedApart names (addresses (page_notes others)) → AreNotedApart names (addresses (page_notes seats))
-  pages_apart_first names seat others seats is first rest =
-      subst (λ (ss : List (Seat F)). AreNotedApart names (addresses (page_notes ss))) is (pages_apart names seat others first rest)
+  -- where what each of the seats noted is apart from the names, all that they noted is
+  pub pages_apart_each : (names : List Text) (seats : List (Seat F)) → ((k : ℕ) (d : Seat F) → k < length seats → AreNotedApart names (addresses (get_or seats k d).notes.pages.items))
+      → AreNotedApart names (addresses (page_notes seats))
+  pages_apart_each names [] all = apart_none names
+  pages_apart_each names (seat ∷ seats) all = pages_apart names seat seats (all zero seat (omega arith)) (pages_apart_each names seats (λ k d lt. all (suc k) d (omega (arith, lt))))
 
-  pub rules_apart_first : (names : List Text) (seat : Seat F) (others seats : List (Seat F)) → seat ∷ others ≡ seats → AreNotedApart names (origins seat.notes.rules.items)
-      → AreNotedApart names (origins (rules_notes others)) → AreNotedApart names (origins (rules_notes seats))
-  rules_apart_first names seat others seats is first rest =
-      subst (λ (ss : List (Seat F)). AreNotedApart names (origins (rules_notes ss))) is (rules_apart names seat others first rest)
+  pub rules_apart_each : (names : List Text) (seats : List (Seat F)) → ((k : ℕ) (d : Seat F) → k < length seats → AreNotedApart names (origins (get_or seats k d).notes.rules.items))
+      → AreNotedApart names (origins (rules_notes seats))
+  rules_apart_each names [] all = apart_none names
+  rules_apart_each names (seat ∷ seats) all = rules_apart names seat seats (all zero seat (omega arith)) (rules_apart_each names seats (λ k d lt. all (suc k) d (omega (arith, lt))))
 
   first_order : (seat : Seat F) (others seats : List (Seat F)) → seat ∷ others ≡ seats → All (λ (s : Seat F). AreInOrder s.notes) seats → AreInOrder seat.notes
   first_order seat others seats is order = subst (λ (ss : List (Seat F)). All (λ (s : Seat F). AreInOrder s.notes) ss) (sym is) order 0 seat (omega arith)
+
+  pub rest_order : (seat : Seat F) (others seats : List (Seat F)) → seat ∷ others ≡ seats → All (λ (s : Seat F). AreInOrder s.notes) seats → All (λ (s : Seat F). AreInOrder s.notes) others
+  rest_order seat others seats is order k d lt = subst (λ (ss : List (Seat F)). All (λ (s : Seat F). AreInOrder s.notes) ss) (sym is) order (suc k) d (omega (arith, lt))
+
+  pub pages_once_none : (seats : List (Seat F)) → length seats ≡ 0 → IsOnce (addresses (page_notes seats))
+  pages_once_none [] none = tt
+  pages_once_none (seat ∷ seats) none = absurd (omega (arith, none))
+
+  pub rules_once_none : (seats : List (Seat F)) → length seats ≡ 0 → IsOnce (origins (rules_notes seats))
+  rules_once_none [] none = tt
+  rules_once_none (seat ∷ seats) none = absurd (omega (arith, none))
 
   pub pages_once_first : (seat : Seat F) (others seats : List (Seat F)) → seat ∷ others ≡ seats → All (λ (s : Seat F). AreInOrder s.notes) seats → IsOnce (addresses (page_notes others))
       → AreNotedApart (addresses seat.notes.pages.items) (addresses (page_notes others)) → IsOnce (addresses (page_notes seats))

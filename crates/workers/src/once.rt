@@ -76,23 +76,30 @@ fn are_rules_apart(notes: &[RulesNote], others: &[RulesNote]) -> bool
     true
 }
 
+// Whether nothing of these notes was noted among the others, which are in order.
+fn are_notes_apart(notes: &Notes, others: &Notes) -> bool
+    requires { AreInOrder others.now }
+    ensures pages { IsTrue result → AreNotedApart (addresses notes.now.pages.items) (addresses others.now.pages.items) }
+    ensures rules { IsTrue result → AreNotedApart (origins notes.now.rules.items) (origins others.now.rules.items) }
+{
+    if !are_pages_apart(&notes.pages, &others.pages) {
+        return false;
+    }
+    are_rules_apart(&notes.rules, &others.rules)
+}
+
 // Whether nothing of these notes was noted at the seats, whose notes are in order.
-#[tactic(auto, using(crate::proofs::ApartLaws::apart_none))]
 fn is_apart<F>(notes: &Notes, seats: &[Seat<F>]) -> bool
     requires { All (λ seat. AreInOrder seat.notes) seats.now }
     ensures pages { IsTrue result → AreNotedApart (addresses notes.now.pages.items) (addresses (page_notes seats.now)) }
     ensures rules { IsTrue result → AreNotedApart (origins notes.now.rules.items) (origins (rules_notes seats.now)) }
 {
-    let Some((seat, others)) = seats.split_first() else {
-        return true;
-    };
-    if !are_pages_apart(&notes.pages, &seat.notes.pages) {
-        return false;
+    for seat in seats {
+        if !are_notes_apart(notes, &seat.notes) {
+            return false;
+        }
     }
-    if !are_rules_apart(&notes.rules, &seat.notes.rules) {
-        return false;
-    }
-    is_apart(notes, others)
+    true
 }
 
 // Whether nothing was noted at two of the seats, whose notes are in order.
