@@ -160,6 +160,13 @@ module _ {F : Type 0} where
   rules_once_first seat others seats is order once apart =
       subst (λ (ss : List (Seat F)). IsOnce (origins (rules_notes ss))) is (rules_once seat others (first_order seat others seats is order) once apart)
 
+  pub ordered_none : (seats : List (Seat F)) → length seats ≡ 0 → AllZip IsOrdered seats seats
+  ordered_none [] none = tt
+  ordered_none (seat ∷ seats) none = absurd (omega (arith, none))
+
+  pub ordered_first : (seat seat' : Seat F) (others others' seats : List (Seat F)) → seat ∷ others ≡ seats → IsOrdered seat seat' → AllZip IsOrdered others others' → AllZip IsOrdered seats (seat' ∷ others')
+  ordered_first seat seat' others others' seats is first rest = subst (λ (ss : List (Seat F)). AllZip IsOrdered ss (seat' ∷ others')) is (first, rest)
+
   pub same_fetchers : (ss ts : List (Seat F)) → AllZip IsOrdered ss ts → fetchers_of ts ≡ fetchers_of ss
   same_fetchers [] [] all = refl
   same_fetchers [] (t ∷ ts) all = absurd all

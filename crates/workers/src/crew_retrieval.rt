@@ -16,7 +16,7 @@ use crate::conclusion::conclude;
 use crate::crew::run_crew;
 use crate::note::Notes;
 use crate::once::is_once_in_place;
-use crate::retrieval::{Halt, retrieve_noting};
+use crate::retrieval::{Halt, open, retrieve_noting};
 use crate::seats::{Left, leave_all, leave_bare, note_room, seat_all};
 use crate::worker::Seat;
 use fetcher::Fetcher;
@@ -106,7 +106,7 @@ impl<F: Drop> Room<F> {
         let seats = Vec::with_capacity(alloc, count)?;
         let fetchers = Vec::with_capacity(alloc, count)?;
         // Made last: at each exit behind it all that a frontier holds would be dropped, and each is proved.
-        let frontier = Frontier::open(alloc, plan.try_clone()?)?;
+        let frontier = open(alloc, plan)?;
         Ok(Room {
             frontier,
             seats,
