@@ -2,7 +2,7 @@
 use Rattle.std.proofs.Common.{◌≡◌, ◌≤◌, ◌<◌, ◌+◌, ℕ, suc, List, [], ◌∷◌, ◌++◌, length, get_or, map, drop, drop-cons, add-one, refl, ap, sym, ◌∙◌, append_assoc, append-nil, length-append, inl, inr, subst, arith}
 use Rattle.std.specs.List.{flat_map}
 use Rattle.std.proofs.lemmas.Bool.{cases_lt}
-use Rattle.std.proofs.lemmas.List.{map-append, get_or_append_left, get_or-append-add}
+use Rattle.std.proofs.lemmas.List.{length-drop, map-append, get_or_append_left, get_or-append-add}
 use Rattle.std.proofs.lemmas.Grind.{flat_map-append}
 use Rattle.workers.specs.declared.worker.Seat.{Seat}
 use Rattle.workers.specs.inner.Seats.{AreNumbered}
@@ -32,6 +32,12 @@ pub piece_counted : {X Y : Type 0} (xs : List X) (i : ℕ) (x : X) (f : X → Li
 piece_counted {X = X} xs i x f done piece new all within here long is whole =
     let cut : drop i xs ≡ x ∷ drop (i + 1) xs = rw add-one (drop-cons xs i x within ∙ ap (λ (y : X). y ∷ drop (suc i) xs) (sym here)) in
     omega (arith, whole, is, long, ap (λ (ys : List X). length (flat_map f ys)) cut, length-append (f x) (flat_map f (drop (i + 1) xs)))
+
+-- at the end, what was counted is the whole
+pub all_counted : {X Y : Type 0} (xs : List X) (i : ℕ) (f : X → List Y) (done all : ℕ) → length xs ≤ i → done + length (flat_map f (drop i xs)) ≡ all → done ≡ all
+all_counted {X = X} xs i f done all end whole =
+    let none : drop i xs ≡ [] = none_left (drop i xs) (omega (arith, end, length-drop i xs)) in
+    omega (arith, whole, ap (λ (ys : List X). length (flat_map f ys)) none)
 
 -- where nothing is listed, and the next one adds nothing, nothing is listed
 pub none_added : {X Y : Type 0} (xs new : List X) (x : X) (f : X → List Y) → new ≡ xs ++ x ∷ [] → f x ≡ [] → flat_map f xs ≡ [] → flat_map f new ≡ []

@@ -118,7 +118,6 @@ fn are_apart<F>(seats: &[Seat<F>]) -> bool
 }
 
 /// Whether nothing was noted twice. The notes of each seat are left in order. Takes no memory.
-#[tactic(auto, using(crate::proofs::ApartLaws::pages_once_before, crate::proofs::ApartLaws::rules_once_before))]
 pub fn is_once_in_place<F>(seats: &mut [Seat<F>]) -> bool
     ensures ordered { AllZip IsOrdered seats.old seats.new }
     ensures pages { IsTrue result → IsOnce (addresses (page_notes seats.old)) }

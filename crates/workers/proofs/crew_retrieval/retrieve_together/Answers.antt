@@ -1,4 +1,4 @@
-use Rattle.std.proofs.Common.{◌≡◌, ◌≢◌, ℕ, rules, subst}
+use Rattle.std.proofs.Common.{◌≡◌, ◌≢◌, ℕ, rules, arith, subst}
 use Rattle.std.specs.Prelude.{IfOk, IfErr}
 use Rattle.frontier_core.specs.declared.event.Cause.TheVariants as why
 use Rattle.workers.specs.OneWorker.{AreByCrew}
@@ -100,3 +100,21 @@ returns-in-Once-clause-own g c = (tt, λ other. own_none g.F.Fetcher c.args.fetc
 
 pub returns-in-Twice-clause-own : goal.returns-in-Twice-clause-own
 returns-in-Twice-clause-own g c = (tt, λ other. absurd (other c.mismatch.ensures))
+
+pub work_all-fetchers-requires-clause-most : goal.work_all-fetchers-requires-clause-most
+work_all-fetchers-requires-clause-most g c κs within = c.requires.most
+
+pub work_all-fetchers-requires-clause-seats : goal.work_all-fetchers-requires-clause-seats
+work_all-fetchers-requires-clause-seats g c κs within = (c.in-Ok.ensures.empty.0, omega (arith, c.in-Ok.ensures.seats))
+
+pub work_all-fetchers-requires-clause-room : goal.work_all-fetchers-requires-clause-room
+work_all-fetchers-requires-clause-room g c κs within = (c.in-Ok.ensures.empty.1, omega (arith, c.in-Ok.ensures.fetchers))
+
+pub returns-in_default-clause-ok : goal.returns-in_default-clause-ok
+returns-in_default-clause-ok g c = tt
+
+pub returns-in-Once-clause-ok : goal.returns-in-Once-clause-ok
+returns-in-Once-clause-ok g c = tt
+
+pub returns-in-Twice-clause-ok : goal.returns-in-Twice-clause-ok
+returns-in-Twice-clause-ok g c = tt

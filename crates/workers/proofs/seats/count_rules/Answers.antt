@@ -1,6 +1,6 @@
 -- Each turn counts the notes of one seat.
 use Rattle.std.proofs.Common.{◌≡◌, ◌∙◌, length, vec_len, arith}
-use Rattle.workers.proofs.MoveLaws.{piece_counted}
+use Rattle.workers.proofs.MoveLaws.{piece_counted, all_counted}
 use Rattle.workers.proofs.seats.count_rules.Goals as goal
 
 pub loop-seat-preserved : goal.loop-seat-preserved
@@ -9,3 +9,9 @@ loop-seat-preserved g c =
     let listed : vec_len c.seat-item.result.notes.rules ≡ length c.seat-item.result.notes.rules.items = omega arith in
     piece_counted c.args.seats.now at.seat-index c.seat-item.result (λ seat. seat.notes.rules.items) at.count c.len.result c.in_ok-count.count _ c.loop-seat-test.true c.seat-item.is (c.len.ensures ∙ listed) c.in_ok-count.ensures.1
     at.invariant
+
+pub loop-seat-init : goal.loop-seat-init
+loop-seat-init g c = omega arith
+
+pub returns : goal.returns
+returns g c = all_counted c.args.seats.now c.loop-seat.seat-index (λ seat. seat.notes.rules.items) c.loop-seat.count _ (omega arith) c.loop-seat.invariant
