@@ -110,8 +110,8 @@ pub(crate) fn fault_text(alloc: Global, fault: Fault) -> Result<String, AllocErr
     with_newline(alloc, words)
 }
 
-// One line of words.
-fn with_newline(alloc: Global, words: &str) -> Result<String, AllocError>
+/// One line of words.
+pub(crate) fn with_newline(alloc: Global, words: &str) -> Result<String, AllocError>
     ensures { IfOk result (λ text. string_bytes text ≡ words.now ++ codes "\n") }
 {
     format!(in alloc; "{words}\n")

@@ -1,7 +1,9 @@
 //! Why a record can't be resumed, or none may be saved: the line that is written in place of a report, and the status.
 ghost use Rattle.std.specs.Prelude.{◌≡◌, ◌++◌, IfOk, codes, string_bytes};
 ghost use Rattle.retriever.specs.Resuming.{resume_status, resume_words};
+ghost use Rattle.retriever.specs.declared.resume_fault.ResumeFault.TheVariants.{Input, Read};
 
+use crate::fault::with_newline;
 use site_inputs::InputFault;
 use std::alloc::{AllocError, Global};
 use streams::ReadFault;
@@ -32,21 +34,38 @@ pub(crate) fn resume_status(fault: ResumeFault) -> u8
     }
 }
 
+// The words for a file that can't be had.
+fn reading_words(wrong: ReadFault) -> &'static str
+    ensures { result.now ≡ resume_words (Read wrong) }
+{
+    match wrong {
+        ReadFault::Failed => "resume read",
+        ReadFault::Long => "resume long",
+        ReadFault::Memory => "stopped memory",
+    }
+}
+
+// The line of what is wrong with a record.
+fn record_text(alloc: Global, wrong: InputFault) -> Result<String, AllocError>
+    ensures { IfOk result (λ text. string_bytes text ≡ resume_words (Input wrong) ++ codes "\n") }
+{
+    match wrong {
+        InputFault::Line(number) => format!(in alloc; "resume line {number}\n"),
+        InputFault::Address(number) => format!(in alloc; "resume address {number}\n"),
+        InputFault::Memory => with_newline(alloc, "stopped memory"),
+    }
+}
+
 /// The line of a fault.
 pub(crate) fn resume_text(alloc: Global, fault: ResumeFault) -> Result<String, AllocError>
     ensures { IfOk result (λ text. string_bytes text ≡ resume_words fault ++ codes "\n") }
 {
-    match fault {
-        ResumeFault::Read(ReadFault::Failed) => format!(in alloc; "resume read\n"),
-        ResumeFault::Read(ReadFault::Long) => format!(in alloc; "resume long\n"),
-        ResumeFault::Read(ReadFault::Memory) => format!(in alloc; "stopped memory\n"),
-        ResumeFault::Input(InputFault::Line(number)) => format!(in alloc; "resume line {number}\n"),
-        ResumeFault::Input(InputFault::Address(number)) => {
-            format!(in alloc; "resume address {number}\n")
-        }
-        ResumeFault::Input(InputFault::Memory) => format!(in alloc; "stopped memory\n"),
-        ResumeFault::Refused => format!(in alloc; "record not written\n"),
-    }
+    let words = match fault {
+        ResumeFault::Read(wrong) => reading_words(wrong),
+        ResumeFault::Input(wrong) => return record_text(alloc, wrong),
+        ResumeFault::Refused => "record not written",
+    };
+    with_newline(alloc, words)
 }
 
 impl From<ReadFault> for ResumeFault {
