@@ -1,15 +1,20 @@
 -- A record that is read is the one that the order resumes, and what the order says is done with it.
-use Rattle.std.proofs.Common.{◌≡◌, ℕ, Bool, true, false, List, Option, Some, None, sym, subst}
+use Rattle.std.proofs.Common.{◌≡◌, ℕ, Bool, true, false, List, All, Option, Some, None, length, map, sym, subst}
 use Rattle.std.specs.Prelude.{Result, Ok, Err, IfOk, IfErr, is_some}
 use Rattle.std.specs.declared.alloc.AllocError.{AllocError}
+use Rattle.options.specs.Order.{kept_of}
 use Rattle.options.specs.declared.order.Order.{Order}
 use Rattle.site_inputs.specs.declared.input_fault.InputFault.{InputFault}
 use Rattle.site_inputs.specs.declared.input_fault.InputFault.TheVariants as input
 use Rattle.site_records.specs.RecordSites.{RecordValue}
 use Rattle.site_records.specs.Records.{IsFault}
+use Rattle.site_records.specs.Resumption.{Resuming}
 use Rattle.streams.specs.declared.input.ReadFault.TheVariants as reading
-use Rattle.retriever.specs.Systems.{Means, IsNotRead, IsNotResumed, IsRecordRead, IsResumed, LivesAgain, LivesBy, LivesPlainly, LivesSaving, LivesWith}
-use Rattle.retriever.specs.inner.Systems.{is_plain}
+use Rattle.retriever.specs.Found.{outside}
+use Rattle.retriever.specs.Live.{Lives}
+use Rattle.retriever.specs.Saving.{resuming_means, resuming_of}
+use Rattle.retriever.specs.Systems.{Means, IsNotRead, IsNotResumed, IsRecordRead, IsResumed, LivesAgain, LivesBy, LivesPlainly, LivesSaving, LivesWith, held}
+use Rattle.retriever.specs.inner.Systems.{AreResuming, LivesInto, is_plain}
 use Rattle.retriever.specs.declared.resume_fault.ResumeFault.{ResumeFault}
 use Rattle.retriever.specs.declared.resume_fault.ResumeFault.TheVariants.{Read, Input, Refused}
 
@@ -40,7 +45,35 @@ module _ {S F D V : Type 0} (m : Means S F D V) (order : Order) where
   read_not_resumed path given (Err (Input (input.Address n))) is same (bytes, held, bad) =
       (path, is, (bytes, subst (λ (p : List ℕ). m.gives.holds m.system p bytes) same held, bad))
 
+  -- fetchers of the system that are put behind a record
+  pub are_resuming : {T : Type 0} (r : Result T AllocError) (items : T → List (Resuming F)) (is_recording : Bool) (recorded : RecordValue) (fetchers : List F)
+      → All (m.gives.makes m.system order.plan.robots is_recording (kept_of order)) fetchers → length fetchers ≡ order.workers
+      → IfOk r (λ all. items all ≡ map (resuming_of m.fetchers.log recorded) fetchers) → IfOk r (λ all. AreResuming m order is_recording recorded (items all))
+  are_resuming (Ok all) items is_recording recorded fetchers made count are = record { fetchers = fetchers; made = made; count = count; are = are }
+  are_resuming (Err wrong) items is_recording recorded fetchers made count are = are
+
   module _ (before after : Option (List ℕ)) where
+    -- a retrieval by fetchers of the system
+    pub plainly_into : (r : Result ℕ AllocError) (fetchers : List F) → All (m.gives.makes m.system order.plan.robots false (kept_of order)) fetchers → length fetchers ≡ order.workers
+        → IfOk r (LivesInto m order m.fetchers fetchers before after) → IfOk r (LivesPlainly m order before after)
+    plainly_into (Ok status) fetchers made count into =
+        record { fetchers = fetchers; folder = into.folder; given = record { made = made; count = count; opened = into.opened }; left = into.left; lives = into.lives }
+    plainly_into (Err wrong) fetchers made count into = into
+
+    -- one by such fetchers behind the record
+    pub again_into : (r : Result ℕ AllocError) (recorded : RecordValue) (all : List (Resuming F)) → IsResumed m order recorded → AreResuming m order false recorded all
+        → IfOk r (LivesInto m order (resuming_means m.fetchers) all before after) → IfOk r (LivesAgain m order before after)
+    again_into (Ok status) recorded all resumed those into = record {
+      recorded = recorded;
+      resumed = resumed;
+      fetchers = those.fetchers;
+      folder = into.folder;
+      given = record { made = those.made; count = those.count; opened = into.opened };
+      left = into.left;
+      lives = subst (λ (fs : List (Resuming F)). Lives (resuming_means m.fetchers) order fs (outside (held m into.folder) before) (outside (held m into.left) after) status) those.are into.lives;
+    }
+    again_into (Err wrong) recorded all resumed those into = into
+
     -- a retrieval that is saved at the order's path
     pub saves : (path given : List ℕ) (r : Result ℕ AllocError) → order.save ≡ Some path → given ≡ path → IfOk r (LivesSaving m order given before after)
         → IfOk r (LivesWith m order.save order before after)

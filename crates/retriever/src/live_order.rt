@@ -1,19 +1,20 @@
 //! A live order: what it names is taken from the system, a record is read and written where it says so, and its site is retrieved.
-ghost use Rattle.std.specs.Prelude.{◌≡◌, ◌≢◌, ◌⊎◌, ℕ, List, All, IfOk, IfErr, OnErr, codes, is_some, vec_len};
+ghost use Rattle.std.specs.Prelude.{◌≡◌, ◌≢◌, ◌<◌, ◌≤◌, ◌⊎◌, ℕ, List, All, IfOk, IfErr, OnErr, codes, is_some, vec_len};
 ghost use Rattle.options.specs.Order.{kept_of};
 ghost use Rattle.site_records.specs.Records.{IsFault};
 ghost use Rattle.retriever.specs.Resuming.{IsUnresumed};
 ghost use Rattle.retriever.specs.Systems.{IsNotRead, IsNotResumed, IsRecordRead, IsResumed, LivesAgain, LivesBy, LivesIn, LivesPlainly, LivesSaving, LivesWith, means};
-ghost use Rattle.retriever.specs.inner.Systems.{goes_on_from, is_plain};
+ghost use Rattle.retriever.specs.inner.Systems.{AreResuming, LivesInto, goes_on_from, is_plain};
 
 use crate::input_run::{MAX_INPUT, deliver};
 use crate::live_run::live_shown;
 use crate::resume_fault::{ResumeFault, resume_status, resume_text};
 use crate::saved_run::{live_saved, resuming};
+use fetcher::Fetcher;
 use live_system::{HoldFault, System};
 use options::Order;
 use site_inputs::InputFault;
-use site_records::RecordedSite;
+use site_records::{RecordedSite, Resumed};
 use std::alloc::{AllocError, Global};
 use std::io::Write;
 use std::mem;
@@ -48,6 +49,27 @@ fn keep_to_the_end(retrieved: Result<Harvest, Halt>) {
     mem::forget(retrieved);
 }
 
+// Retrieves the live site that the order says, by these fetchers, into a folder of the system.
+fn live_into<H: Threads + Wait + Sync, S: System, F: Fetcher + Send, W: Write>(
+    rt: &H,
+    alloc: Global,
+    system: &S,
+    order: &Order,
+    fetchers: Vec<F>,
+    writer: &mut W,
+) -> Result<u8, AllocError>
+    requires some { 0 < vec_len fetchers }
+    requires most { vec_len fetchers ≤ 64 }
+    ensures lives { IfOk result (LivesInto (means S.System system.now S.Fetcher.Fetcher S.Fetcher.noted S.Folder.Folder S.Record.Write) order.now F.Fetcher fetchers.items (W.contents writer.old) (W.contents writer.new)) }
+    ensures unwritten { OnErr result (writer.new ≡ writer.old) }
+{
+    let mut folder = system.folder(order.prefix.as_str())?;
+    let waiting = system.waiting();
+    let (status, retrieved) = live_shown(rt, alloc, order, fetchers, &mut folder, writer, waiting);
+    keep_to_the_end(retrieved);
+    Ok(status)
+}
+
 // Retrieves the live site that the order says, by fetchers of the system, into its folder.
 fn live_plainly<H: Threads + Wait + Sync, S: System, W: Write>(
     rt: &H,
@@ -60,14 +82,25 @@ fn live_plainly<H: Threads + Wait + Sync, S: System, W: Write>(
     ensures unwritten { OnErr result (writer.new ≡ writer.old) }
 {
     let fetchers = fetchers_of(alloc, system, order, false)?;
-    let mut folder = system.folder(order.prefix.as_str())?;
-    let waiting = system.waiting();
-    let (status, retrieved) = live_shown(rt, alloc, order, fetchers, &mut folder, writer, waiting);
-    keep_to_the_end(retrieved);
-    Ok(status)
+    live_into(rt, alloc, system, order, fetchers, writer)
 }
 
-// The same by fetchers that ask those of the system for what the record doesn't state.
+// Fetchers for the order's workers that ask those of the system for what the record doesn't state.
+fn resumed_of<S: System>(
+    alloc: Global,
+    system: &S,
+    order: &Order,
+    recorded: &RecordedSite,
+    is_recording: bool,
+) -> Result<Vec<Resumed<S::Fetcher>>, AllocError>
+    ensures count { IfOk result (λ all. vec_len all ≡ order.now.workers) }
+    ensures resumed { IfOk result (λ all. AreResuming (means S.System system.now S.Fetcher.Fetcher S.Fetcher.noted S.Folder.Folder S.Record.Write) order.now is_recording recorded.now all.items) }
+{
+    let fetchers = fetchers_of(alloc, system, order, is_recording)?;
+    resuming(alloc, recorded, fetchers)
+}
+
+// The same by such fetchers.
 fn live_again<H: Threads + Wait + Sync, S: System, W: Write>(
     rt: &H,
     alloc: Global,
@@ -80,13 +113,8 @@ fn live_again<H: Threads + Wait + Sync, S: System, W: Write>(
     ensures lives { IfOk result (LivesAgain (means S.System system.now S.Fetcher.Fetcher S.Fetcher.noted S.Folder.Folder S.Record.Write) order.now (W.contents writer.old) (W.contents writer.new)) }
     ensures unwritten { OnErr result (writer.new ≡ writer.old) }
 {
-    let fetchers = fetchers_of(alloc, system, order, false)?;
-    let resumed = resuming(alloc, recorded, fetchers)?;
-    let mut folder = system.folder(order.prefix.as_str())?;
-    let waiting = system.waiting();
-    let (status, retrieved) = live_shown(rt, alloc, order, resumed, &mut folder, writer, waiting);
-    keep_to_the_end(retrieved);
-    Ok(status)
+    let resumed = resumed_of(alloc, system, order, recorded, false)?;
+    live_into(rt, alloc, system, order, resumed, writer)
 }
 
 // The same, and what the record says and these fetchers note is saved at the path.
@@ -103,8 +131,7 @@ fn live_saving<H: Threads + Wait + Sync, S: System, W: Write>(
     ensures lives { IfOk result (LivesSaving (means S.System system.now S.Fetcher.Fetcher S.Fetcher.noted S.Folder.Folder S.Record.Write) order.now path.now (W.contents writer.old) (W.contents writer.new)) }
     ensures unwritten { OnErr result (writer.new ≡ writer.old) }
 {
-    let fetchers = fetchers_of(alloc, system, order, true)?;
-    let resumed = resuming(alloc, recorded, fetchers)?;
+    let resumed = resumed_of(alloc, system, order, recorded, true)?;
     let mut folder = system.folder(order.prefix.as_str())?;
     let mut saved = system.record(path)?;
     let (status, retrieved) = live_saved(
@@ -240,7 +267,9 @@ fn live_in<H: Threads + Wait + Sync, S: System, W: Write>(
     }
     hold(system, order)?;
     let recorded = resumption_of(alloc, system, order)?;
-    Ok(live_with(rt, alloc, system, order, &recorded, writer)?)
+    let lived = live_with(rt, alloc, system, order, &recorded, writer);
+    drop(recorded);
+    Ok(lived?)
 }
 
 // Writes the line of a fault, and gives its status; where memory runs out, the line of that.

@@ -1,27 +1,19 @@
 -- The fetchers are the system's, each behind the record.
-use Rattle.std.proofs.Common.{◌∙◌, ℕ, List, sym, subst}
-use Rattle.local_tree.specs.Folders.{holding}
-use Rattle.site_records.specs.Resumption.{Resuming}
-use Rattle.retriever.specs.Found.{outside}
-use Rattle.retriever.specs.Live.{Lives}
-use Rattle.retriever.specs.Saving.{resuming_means}
+use Rattle.std.proofs.Common.{refl}
+use Rattle.std.proofs.lemmas.Result.{err_from_is_err_and}
+use Rattle.retriever.specs.Systems.{means}
+use Rattle.retriever.proofs.ResumeLaws.{again_into}
 use Rattle.retriever.proofs.live_order.live_again.Goals as goal
 
-pub returns-clause-lives : goal.returns-clause-lives
-returns-clause-lives g c =
-    let D = g.S.Folder.Folder in
+pub returns : goal.returns
+returns g c =
+    let m = means g.S.System c.args.system.now g.S.Fetcher.Fetcher g.S.Fetcher.Recording.noted g.S.Folder.Folder g.S.Record.Write in
     record {
-      recorded = c.args.recorded.now;
-      resumed = c.requires.resumed;
-      fetchers = c.in_ok-fetchers.fetchers.items;
-      folder = c.in_ok-folder.folder;
-      given = record {
-        made = c.in_ok-fetchers.ensures.made;
-        count = sym c.in_ok-fetchers.fetchers.ok.0 ∙ c.in_ok-fetchers.ensures.count;
-        opened = subst (λ (path : List ℕ). g.S.System.opens c.args.system.now path c.in_ok-folder.folder) c.as_str.ensures c.in_ok-folder.ensures;
-      };
-      left = c.live_shown-status.new.folder;
-      lives = subst (λ (all : List (Resuming _)). Lives (resuming_means g.S.Fetcher.Fetcher) c.args.order.now all (outside (holding D.files D.failed c.in_ok-folder.folder) (g.W.Write.contents c.args.writer.now))
-          (outside (holding D.files D.failed c.live_shown-status.new.folder) (g.W.Write.contents c.live_shown-status.new.writer)) c.live_shown-status.result.0)
-          c.in_ok-resumed.ensures.resuming c.live_shown-status.ensures.lives;
+      lives = again_into m c.args.order.now _ _ c.live_into.result c.args.recorded.now c.in_ok-resumed.resumed.items c.requires.resumed c.in_ok-resumed.ensures.resumed c.live_into.ensures.lives;
+      unwritten = c.live_into.ensures.unwritten;
     }
+
+pub returns-in_err-resumed : goal.returns-in_err-resumed
+returns-in_err-resumed g c =
+    let p = err_from_is_err_and c.from_residual.result c.from_residual.ensures.1 in
+    rw p.1 (record { lives = tt; unwritten = refl })

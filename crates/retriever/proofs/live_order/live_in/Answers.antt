@@ -12,4 +12,4 @@ returns-then-is_plain-clause-lives g c =
 pub returns-clause-lives : goal.returns-clause-lives
 returns-clause-lives g c =
     let m = means g.S.System c.args.system.now g.S.Fetcher.Fetcher g.S.Fetcher.Recording.noted g.S.Folder.Folder g.S.Record.Write in
-    not_plainly m c.args.order.now (g.W.Write.contents c.args.writer.now) (g.W.Write.contents c.live_with.new.writer) _ _ _ (sym c.is_plain.ensures ∙ c.if-is_plain.false) c.in_ok-live_with.ensures.lives
+    not_plainly m c.args.order.now (g.W.Write.contents c.args.writer.now) (g.W.Write.contents c.live_with-lived.new.writer) _ _ _ (sym c.is_plain.ensures ∙ c.if-is_plain.false) c.in_ok-lived.ensures.lives

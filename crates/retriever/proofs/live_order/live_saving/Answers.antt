@@ -1,5 +1,5 @@
 -- The fetchers, the folder and the record's writer are the system's, each fetcher behind the record, whose notes are saved first.
-use Rattle.std.proofs.Common.{◌∙◌, ℕ, List, inl, refl, sym, subst}
+use Rattle.std.proofs.Common.{ℕ, List, inl, refl, subst}
 use Rattle.std.proofs.lemmas.Result.{err_from_is_err_and}
 use Rattle.answer_notes.specs.declared.noted.Noted.{Noted}
 use Rattle.local_tree.specs.Folders.{holding}
@@ -11,6 +11,7 @@ pub returns-clause-lives : goal.returns-clause-lives
 returns-clause-lives g c =
     let D = g.S.Folder.Folder in
     let V = g.S.Record.Write in
+    let those = c.in_ok-resumed.ensures.resumed in
     let lives = λ (given : List Noted) (all : List (Resuming _)). LivesSaved (notes_of (resuming_means g.S.Fetcher.Fetcher) (noted_within g.S.Fetcher.Recording.noted) given) c.args.order.now all
     (outside_saved (holding D.files D.failed c.in_ok-folder.folder) (g.W.Write.contents c.args.writer.now) (V.contents c.in_ok-saved.saved))
     (outside_saved (holding D.files D.failed c.live_saved-status.new.folder) (g.W.Write.contents c.live_saved-status.new.writer) (V.contents c.live_saved-status.new.saved)) c.live_saved-status.result.0 in
@@ -18,31 +19,26 @@ returns-clause-lives g c =
     record {
       recorded = c.args.recorded.now;
       resumed = c.requires.resumed;
-      fetchers = c.in_ok-fetchers.fetchers.items;
+      fetchers = those.fetchers;
       folder = c.in_ok-folder.folder;
       given = record {
-        made = c.in_ok-fetchers.ensures.made;
-        count = sym c.in_ok-fetchers.fetchers.ok.0 ∙ c.in_ok-fetchers.ensures.count;
+        made = those.made;
+        count = those.count;
         opened = subst (λ (path : List ℕ). g.S.System.opens c.args.system.now path c.in_ok-folder.folder) c.as_str.ensures c.in_ok-folder.ensures;
       };
       left = c.live_saved-status.new.folder;
       record_begun = c.in_ok-saved.saved;
       named = c.in_ok-saved.ensures;
       record_left = c.live_saved-status.new.saved;
-      lives = inl (subst (λ (all : List (Resuming _)). lives c.args.recorded.now.notes all) c.in_ok-resumed.ensures.resuming of_record);
+      lives = inl (subst (λ (all : List (Resuming _)). lives c.args.recorded.now.notes all) those.are of_record);
     }
 
 pub returns-clause-unwritten : goal.returns-clause-unwritten
 returns-clause-unwritten g c = tt
 
-pub returns-in_err-fetchers : goal.returns-in_err-fetchers
-returns-in_err-fetchers g c =
-    let p = err_from_is_err_and c.from_residual.result c.from_residual.ensures.1 in
-    rw p.1 (record { lives = tt; unwritten = refl })
-
 pub returns-in_err-resumed : goal.returns-in_err-resumed
 returns-in_err-resumed g c =
-    let p = err_from_is_err_and c.from_residual-in_err-resumed.result c.from_residual-in_err-resumed.ensures.1 in
+    let p = err_from_is_err_and c.from_residual.result c.from_residual.ensures.1 in
     rw p.1 (record { lives = tt; unwritten = refl })
 
 pub returns-in_err-folder : goal.returns-in_err-folder
