@@ -58,7 +58,9 @@ fn retrieve<H: Threads + Wait + Sync, F: Copied>(
     let (retrieved, copies) = workers::retrieve_shown(rt, alloc, &order.plan, copies, None);
     // They are dropped before a report is made.
     drop(copies);
-    told_of(alloc, order.trace, &retrieved)
+    let told = told_of(alloc, order.trace, &retrieved);
+    drop(retrieved);
+    told
 }
 
 // What is told of the retrieval of the map that is the input.
@@ -72,7 +74,9 @@ fn output_of_map<H: Threads + Wait + Sync, R: Read>(
     ensures err { IfErr result (TellsFault IsFaultOfMap (R.remaining reader.old)) }
 {
     let site = map_of(alloc, reader)?;
-    Ok(retrieve(rt, alloc, order, &site)?)
+    let told = retrieve(rt, alloc, order, &site);
+    drop(site);
+    Ok(told?)
 }
 
 // What is told of the retrieval of the record that is the input.
@@ -86,7 +90,9 @@ fn output_of_record<H: Threads + Wait + Sync, R: Read>(
     ensures err { IfErr result (TellsFault (IsFaultOfRecord order.now.plan.robots) (R.remaining reader.old)) }
 {
     let site = record_of(alloc, reader, order.plan.robots)?;
-    Ok(retrieve(rt, alloc, order, &site)?)
+    let told = retrieve(rt, alloc, order, &site);
+    drop(site);
+    Ok(told?)
 }
 
 // What is told of the retrieval of the input, which is what the order's source says. No byte is read for a site on the network.

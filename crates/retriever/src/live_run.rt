@@ -230,6 +230,7 @@ pub fn live<H: Threads + Wait + Sync, F: Fetcher + Send, D: Folder, W: Write>(
     ensures lives { Lives F.Fetcher order.now fetchers.items (outside (holding D.files D.failed folder.old) (W.contents writer.old))
         (outside (holding D.files D.failed folder.new) (W.contents writer.new)) result }
 {
-    let (status, _retrieved) = live_shown(rt, alloc, order, fetchers, folder, writer, None);
+    let (status, retrieved) = live_shown(rt, alloc, order, fetchers, folder, writer, None);
+    drop(retrieved);
     status
 }

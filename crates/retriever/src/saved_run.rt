@@ -154,7 +154,7 @@ pub fn live_resumed<H: Threads + Wait + Sync, F: Recording + Send, D: Folder, W:
 {
     match resuming(alloc, recorded, fetchers) {
         Ok(resuming) => {
-            let (status, _retrieved) = live_saved(
+            let (status, retrieved) = live_saved(
                 rt,
                 alloc,
                 order,
@@ -165,6 +165,7 @@ pub fn live_resumed<H: Threads + Wait + Sync, F: Recording + Send, D: Folder, W:
                 saved,
                 None,
             );
+            drop(retrieved);
             status
         }
         Err(_) => deliver(writer, b"stopped memory\n", 1),

@@ -16,4 +16,4 @@ returns g c = λ whole fits.
     let fit = copies_fit F whole c.args.site.now c.args.order.now.workers copies c.in_ok-copies.ensures.equal fits in
     let by = subst (λ n. IfOk r (λ h. AreByCrew n h.trace) × IfErr r (λ halt. halt.cause ≢ why.Mismatch → AreByCrew n halt.harvest.trace)) c.in_ok-copies.ensures.count crew.numbered in
     told_finishes c.args.order.now _ _ whole _ r _ (crew_fits F copies c.retrieve_shown-retrieved.result.1.items whole fit) crew.ok (crew.whole_site whole fit) crew.err
-    (crew.full_site whole fit) (λ one. crew.one (c.in_ok-copies.ensures.count ∙ one)) by c.told_of.ensures
+    (crew.full_site whole fit) (λ one. crew.one (c.in_ok-copies.ensures.count ∙ one)) by c.told_of-told.ensures

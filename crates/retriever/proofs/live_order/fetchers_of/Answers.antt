@@ -1,6 +1,7 @@
-use Rattle.std.proofs.Common.{[], ◌∷◌, All, length, sym, ap, ◌∙◌, subst, arith}
+use Rattle.std.proofs.Common.{◌≡◌, [], ◌∷◌, All, length, sym, ap, ◌∙◌, subst, arith}
 use Rattle.std.proofs.lemmas.List.{length-append}
 use Rattle.std.proofs.lemmas.List.Elements.{All-append, All-cons, All-nil}
+use Rattle.std.proofs.lemmas.Result.{IfOk-from_err}
 use Rattle.options.specs.Order.{kept_of}
 use Rattle.retriever.proofs.live_order.fetchers_of.Goals as goal
 
@@ -14,3 +15,13 @@ loop-preserved g c =
       count = omega (arith, ap length items ∙ length-append c.loop.fetchers.items (c.fetcher.result ∷ []), c.loop.invariant.count);
       made = subst (All Made) (sym items) (All-append Made c.loop.fetchers.items (c.fetcher.result ∷ []) c.loop.invariant.made (All-cons Made c.fetcher.result [] here (All-nil Made)));
     }
+
+pub returns : goal.returns
+returns g c =
+    let last : c.loop.counter ≡ c.args.order.now.workers = omega (arith, c.loop-test.false, c.loop.auto.counter-end) in
+    record { count = c.loop.fetchers.ok.0 ∙ c.loop.invariant.count ∙ last; made = c.loop.invariant.made }
+
+pub returns-in_err-push : goal.returns-in_err-push
+returns-in_err-push g c =
+    let failed = c.from_residual.ensures.0 in
+    record { count = IfOk-from_err _ _ failed; made = IfOk-from_err _ _ failed }
