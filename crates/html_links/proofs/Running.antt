@@ -1,5 +1,6 @@
 -- What is taken from the front of a text many bytes at a time.
-use Rattle.std.proofs.Common.{◌≡◌, ℕ, ◌<◌, zero, suc, Bool, true, false, List, [], ◌∷◌, ◌++◌, length, take, drop, drop-cons, take-suc, get_or, if◌then◌else◌, ◌==◌, refl, sym, ◌∙◌, ap, arith, append_assoc, append-nil}
+use Rattle.std.proofs.Common.{◌≡◌, ℕ, ◌<◌, ◌≤◌, zero, suc, Bool, true, false, List, [], ◌∷◌, ◌++◌, length, take, drop, drop-cons, take-suc, get_or, if◌then◌else◌, ◌==◌, refl, sym, ◌∙◌, ap, arith, append_assoc, append-nil}
+use Rattle.std.proofs.lemmas.List.{take_all, drop_all}
 use Rattle.memchr.specs.Find.{Nowhere, is_byte, Passes}
 use Rattle.html_links.specs.Pieces.{until, from, beyond, lower, is, ends_tag_name, ends_attribute_name, ends_bare_value}
 use Rattle.html_links.specs.Markup.{Value, beyond_comment, start_tag, attributes, value_behind}
@@ -112,6 +113,12 @@ pub passed_until : (stops : ℕ → Bool) (text : List ℕ) (i : ℕ) → i < le
 passed_until stops text i h e f =
     f ∙ ap (λ xs. take i text ++ until stops xs) (drop_at text i h) ∙ ap (λ xs. take i text ++ xs) (until_go stops (get_or text i 0) (drop (suc i) text) e)
     ∙ sym (append_assoc (take i text) (get_or text i 0 ∷ []) (until stops (drop (suc i) text))) ∙ ap (λ xs. xs ++ until stops (drop (suc i) text)) (sym (take-suc text i 0 h))
+
+pub ended_until : (stops : ℕ → Bool) (text : List ℕ) (i : ℕ) → length text ≤ i → until stops text ≡ take i text ++ until stops (drop i text) → text ≡ until stops text
+ended_until stops text i h f = let whole = rw (take_all i text h, drop_all i text h) at f in sym (whole ∙ append-nil text)
+
+pub ended_from : (stops : ℕ → Bool) (text : List ℕ) (i : ℕ) → length text ≤ i → from stops text ≡ from stops (drop i text) → [] ≡ from stops text
+ended_from stops text i h f = sym (f ∙ ap (from stops) (drop_all i text h))
 
 pub passed_from : (stops : ℕ → Bool) (text : List ℕ) (i : ℕ) → i < length text → stops (get_or text i 0) ≡ false
     → from stops text ≡ from stops (drop i text) → from stops text ≡ from stops (drop (suc i) text)
