@@ -199,6 +199,17 @@ is_allowed-is set path =
       λ (opened, allow). and_from _ _ (ap not opened) (rules.1 allow),
     )
 
+pub allowed_by_value : (set : RuleSetValue) (path : List ℕ) (b : Bool) → b ≡ is_allowed set path → IsTrue b ↔ IsAllowed set path
+allowed_by_value set path b is = rw is (is_allowed-is set path)
+
+pub closed_value : (set : RuleSetValue) (path : List ℕ) → set.closed ≡ true → false ≡ is_allowed set path
+closed_value set path closed = rw closed refl
+
+-- where it isn't closed, its rules say what is allowed
+pub opened_value : (set : RuleSetValue) (path : List ℕ) (rules : List RuleValue) (text : List ℕ) (b : Bool) → set.closed ≡ false → b ≡ rules_allow rules text → rules ≡ set.rules → text ≡ normal_path path
+    → b ≡ is_allowed set path
+opened_value set path rules text b opened is same normal = rw opened (is ∙ ap (λ rs. rules_allow rs text) same ∙ ap (rules_allow set.rules) normal)
+
 -- where nothing is stated every path is allowed
 pub nothing_stated : (closed : Bool) (rules : List RuleValue) (text : List ℕ) → closed ≡ false → (length rules == 0) ≡ true → true ≡ (not closed && rules_allow rules text)
 unfolding rules_allow
