@@ -4,7 +4,6 @@ use Rattle.std.proofs.lemmas.Bool.Decides.{nat_tests, Decides-eqb}
 use Rattle.std.proofs.lemmas.Bool.{cases_Bool}
 use Rattle.follow_filters.specs.declared.class.Range.{Range}
 use Rattle.follow_filters.specs.declared.elements.ElementFault.{ElementFault}
-use Rattle.follow_filters.specs.ClassValues.{ClassValue}
 use Rattle.follow_filters.specs.Classes.{bracketed_class, class_with, ranges_of, range, then_range}
 use Rattle.follow_filters.specs.Elements.{IsFaultOf}
 

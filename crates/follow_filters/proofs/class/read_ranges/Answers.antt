@@ -1,7 +1,7 @@
 use Rattle.std.proofs.lemmas.Result.{err_from_is_err_and}
-use Rattle.std.proofs.Common.{◌∙◌, ap, sym, refl, inl, inr}
+use Rattle.std.proofs.Common.{◌∙◌, ap, sym, refl, inl, inr, Some, append-nil}
 use Rattle.follow_filters.specs.Classes.{ranges_of}
-use Rattle.follow_filters.proofs.ClassLemmas.{behind, ranges_of-more, bad_range}
+use Rattle.follow_filters.proofs.ClassLemmas.{behind, behind-nothing, ranges_of-more, bad_range}
 use Rattle.follow_filters.proofs.class.read_ranges.Goals as goal
 
 pub loop-range-preserved : goal.loop-range-preserved
@@ -17,3 +17,12 @@ pub returns-in_err-push : goal.returns-in_err-push
 returns-in_err-push c =
     let p = err_from_is_err_and c.from_residual.result c.from_residual.ensures.1 in
     rw (p.1, p.2) (inr refl)
+
+pub loop-range-init : goal.loop-range-init
+loop-range-init c = rw c.new-ranges.ensures.items (behind-nothing (ranges_of c.args.items.now))
+
+pub loop-range-smaller : goal.loop-range-smaller
+loop-range-smaller c = c.in-Some.ensures.1
+
+pub returns : goal.returns
+returns c = sym c.loop-range.invariant ∙ ap (λ rest. behind c.loop-range.ranges.items (ranges_of rest)) c.in_default.ensures ∙ ap Some (append-nil c.loop-range.ranges.items)
