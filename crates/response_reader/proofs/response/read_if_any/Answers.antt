@@ -1,11 +1,10 @@
-use Rattle.std.proofs.Common.{◌≡◌, [], Some, None, refl, inl, inr}
+use Rattle.std.proofs.Common.{[], Some, None, refl, inl, inr}
 use Rattle.std.proofs.lemmas.Result.{err_from_is_err_and}
 use Rattle.std.specs.Io.KnownBytes.{prepend_known}
-use Rattle.response_reader.specs.declared.fault.ReadFault.TheVariants.{Device}
 use Rattle.response_reader.specs.inner.Wire.{tally}
 use Rattle.response_reader.specs.ReadFaults.{IsReadFault}
 use Rattle.response_reader.specs.Response.{HandsOn}
-use Rattle.response_reader.proofs.CountLemmas.{fault_counts_after, kept_by_fault}
+use Rattle.response_reader.proofs.CountLemmas.{fault_counts_after, fault_is, kept_by_fault, memory_is_not_device, ok_is_no_fault}
 use Rattle.response_reader.proofs.ReadLemmas.{told_memory}
 use Rattle.response_reader.proofs.ReusableLemmas.{ahead_first, ends_first, told_first, reusable_first, none_counted, risen_of}
 use Rattle.response_reader.proofs.WireLemmas.{keeps_same, keeps_none, keeps_trans}
@@ -21,7 +20,7 @@ returns-in_err-incoming g c =
       response = tt;
       reusable = tt;
       fault = told_memory (g.W.Wire.incoming c.args.wire.now);
-      device = λ is. absurd cc;
+      device = λ is. absurd (memory_is_not_device is);
       purpose = refl;
       written = keeps_same (g.W.Wire.outgoing c.args.wire.now);
     }
@@ -43,9 +42,7 @@ returns-in_err-reusable-in-Ok-true g c =
       reusable = tt;
       fault = told_first (g.W.Wire.incoming c.args.wire.now) (prepend_known c.fill.new.self.unread (g.W.Wire.incoming c.fill.new.wire)) (IsReadFault f)
           (ahead_first c.in_ok-incoming.incoming.unread c.fill.new.self.unread (g.W.Wire.incoming c.args.wire.now) (g.W.Wire.incoming c.fill.new.wire) _ _ c.in_ok-incoming.ensures.none first.fills) e.fault;
-      device = λ is.
-          let device : f ≡ Device = cc in
-          risen_of (g.W.Wire.failed c.args.wire.now) old new f (none_counted _ _ c.in_ok-incoming.ensures.uninterrupted) counts device;
+      device = λ is. risen_of (g.W.Wire.failed c.args.wire.now) old new f (none_counted _ _ c.in_ok-incoming.ensures.uninterrupted) counts (fault_is is);
       purpose = e.purpose;
       written = kept_by_fault f old new counts;
     }
@@ -64,7 +61,7 @@ returns-in_ok-reusable-in-Ok-true g c =
       response = told_first known ahead (HandsOn (λ r. g.S.Sink.took c.args.sink.now None [] → g.S.Sink.took c.read_through.new.sink (Some r.head) r.body)) same e.response;
       reusable = reusable_first known ahead (g.W.Wire.incoming c.read_through.new.wire) c.in_ok-reusable-in-Ok-true.reusable same e.reusable;
       fault = tt;
-      device = λ is. absurd cc;
+      device = λ is. absurd (ok_is_no_fault is);
       purpose = e.purpose;
       written = keeps_trans (g.W.Wire.outgoing c.args.wire.now) (g.W.Wire.outgoing c.fill.new.wire) (g.W.Wire.outgoing c.read_through.new.wire) first.counts.kept e.counts.kept;
     }
@@ -79,7 +76,7 @@ returns-in-Ok-false g c =
       response = tt;
       reusable = tt;
       fault = tt;
-      device = λ is. absurd cc;
+      device = λ is. absurd (ok_is_no_fault is);
       purpose = refl;
       written = e.counts.kept;
     }
@@ -96,7 +93,7 @@ returns-in-Err g c =
       response = tt;
       reusable = tt;
       fault = tt;
-      device = λ is. absurd cc;
+      device = λ is. absurd (ok_is_no_fault is);
       purpose = refl;
       written = kept_by_fault c.in-Err.field-0 old new e.counts;
     }

@@ -1,5 +1,6 @@
-use Rattle.std.proofs.Common.{◌≡◌, Bool, List, ℕ, Option, Some, None, [], Ok, Err, refl, subst, sym, arith}
+use Rattle.std.proofs.Common.{◌≡◌, Bool, List, ℕ, Option, Some, None, [], Ok, Err, refl, subst, sym, ap}
 use Rattle.std.proofs.lemmas.Result.{err_from_is_err_and}
+use Rattle.response_reader.specs.declared.fault.ReadFault.{ReadFault}
 use Rattle.response_reader.specs.declared.fault.ReadFault.TheVariants.{Device}
 use Rattle.response_reader.specs.inner.Wire.{tally}
 use Rattle.response_reader.specs.Gathered.{HasGathered}
@@ -7,7 +8,7 @@ use Rattle.response_reader.specs.ReadFaults.{IsReadFault}
 use Rattle.response_reader.specs.Reusable.{Reusable}
 use Rattle.response_reader.specs.Wire.{OfBytes}
 use Rattle.response_reader.specs.Response.{ResponseParts, IsResponse, HandsOn}
-use Rattle.response_reader.proofs.CountLemmas.{few_of_counts, gave_up, goes_on_unless, kept_by_fault}
+use Rattle.response_reader.proofs.CountLemmas.{fault_is, few_of_counts, gave_up, goes_on_unless, kept_by_fault, memory_is_not_device, none_failed, none_interrupted, ok_is_no_fault}
 use Rattle.response_reader.proofs.ReadLemmas.{nothing_unread, told_memory}
 use Rattle.response_reader.proofs.ReusableLemmas.{none_counted}
 use Rattle.response_reader.proofs.WireLemmas.{keeps_same}
@@ -21,10 +22,10 @@ returns-in_err-incoming g c =
       given = tt;
       reusable = tt;
       fault = told_memory (g.W.Wire.incoming c.args.wire.now);
-      device = λ is. absurd cc;
-      interrupted = λ is. absurd cc;
-      few = λ ne. omega arith;
-      unerring = λ steady is. cc;
+      device = λ is. absurd (memory_is_not_device is);
+      interrupted = λ is. absurd (memory_is_not_device is);
+      few = λ ne. none_failed (g.W.Wire.failed c.args.wire.now);
+      unerring = λ steady is. memory_is_not_device is;
       lost = λ ne. refl;
       written = keeps_same (g.W.Wire.outgoing c.args.wire.now);
     }
@@ -45,20 +46,17 @@ returns-in_err-reusable g c =
       reusable = tt;
       fault = subst (λ (o : Option (List ℕ)). OfBytes o (IsReadFault f)) same e.fault;
       device = λ is.
-          let device : f ≡ Device = cc in
-          let gave = gave_up f old new device e.counts in
+          let gave = gave_up f old new (fault_is is) e.counts in
           gave.risen before none;
       interrupted = λ is unfailing.
-          let device : f ≡ Device = cc in
-          let gave = gave_up f old new device e.counts in
+          let gave = gave_up f old new (fault_is is) e.counts in
           gave.only unfailing before none;
-      few = λ ne. few_of_counts {T = Bool} (Err f) before old new e.counts none (omega (arith, c.in_ok-incoming.ensures.uninterrupted)) (λ is. ne (cc));
+      few = λ ne. few_of_counts {T = Bool} (Err f) before old new e.counts none (none_interrupted _ c.in_ok-incoming.ensures.uninterrupted) (λ is. ne (ap (λ (e : ReadFault). Err e) (fault_is is)));
       unerring = λ steady is.
-          let device : f ≡ Device = cc in
-          let gave = gave_up f old new device e.counts in
+          let gave = gave_up f old new (fault_is is) e.counts in
           gave.erred steady;
       lost = λ ne.
-          let on = goes_on_unless f old new (λ (is : f ≡ Device). ne (cc)) e.counts in
+          let on = goes_on_unless f old new (λ (is : f ≡ Device). ne (ap (λ (e : ReadFault). Err e) is)) e.counts in
           on.lost;
       written = kept_by_fault f old new e.counts;
     }
@@ -82,10 +80,10 @@ returns g c =
       given = (told.0, (told.2.1, is));
       reusable = subst (λ (o : Option (List ℕ)). Reusable o (g.W.Wire.incoming c.read_through.new.wire) reusable) same e.reusable;
       fault = tt;
-      device = λ is. absurd cc;
-      interrupted = λ is. absurd cc;
-      few = λ ne. few_of_counts {T = Bool} (Ok reusable) before old new e.counts none (omega (arith, c.in_ok-incoming.ensures.uninterrupted)) (λ is. cc);
-      unerring = λ steady is. cc;
+      device = λ is. absurd (ok_is_no_fault is);
+      interrupted = λ is. absurd (ok_is_no_fault is);
+      few = λ ne. few_of_counts {T = Bool} (Ok reusable) before old new e.counts none (none_interrupted _ c.in_ok-incoming.ensures.uninterrupted) ok_is_no_fault;
+      unerring = λ steady is. ok_is_no_fault is;
       lost = λ ne. e.counts.lost;
       written = e.counts.kept;
     }

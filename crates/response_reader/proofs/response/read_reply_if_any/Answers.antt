@@ -1,5 +1,6 @@
 use Rattle.std.proofs.Common.{subst, sym}
 use Rattle.response_reader.specs.Response.{ResponseParts, IsResponse}
+use Rattle.response_reader.proofs.CountLemmas.{ok_is_no_fault}
 use Rattle.response_reader.proofs.ReplyLemmas.{at_some}
 use Rattle.response_reader.proofs.response.read_reply_if_any.Goals as goal
 
@@ -17,6 +18,6 @@ returns-in-Some g c =
       given = (told.0, (told.2.1, is));
       reusable = at_some _ _ _ c.in-Some.is e.reusable;
       fault = tt;
-      device = λ is. absurd cc;
+      device = λ is. absurd (ok_is_no_fault is);
       written = e.written;
     }
