@@ -1,5 +1,5 @@
 -- What a sink has gathered is a response.
-use Rattle.std.proofs.Common.{◌≡◌, ℕ, List, Option, Some, IfSome, sym, ap, ◌∙◌, subst}
+use Rattle.std.proofs.Common.{◌≡◌, ℕ, List, Option, Some, None, IfSome, IfNone, sym, ap, ◌∙◌, subst}
 use Rattle.std.specs.Prelude.{option_map}
 use Rattle.response_reader.specs.declared.sink.Head.{Head}
 use Rattle.response_reader.specs.Fields.{HeadParts}
@@ -23,3 +23,7 @@ parts_of_gathered r found head body kept is =
 -- what a clause says of the value in a Some that was found
 pub at_some : {X : Type 0} (o : Option X) (x : X) (P : X → Type 0) → o ≡ Some x → IfSome o P → P x
 at_some o x P is p = subst (λ (q : Option _). IfSome q P) is p
+
+-- and what it says where there is none
+pub at_none : {X : Type 0} (o : Option X) (P : Type 0) → o ≡ None → IfNone o P → P
+at_none o P is p = subst (λ (q : Option _). IfNone q P) is p

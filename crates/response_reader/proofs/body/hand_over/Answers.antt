@@ -1,12 +1,12 @@
 use Rattle.std.proofs.Common.{refl}
-use Rattle.std.proofs.lemmas.Result.{err_from_is_err_and}
+use Rattle.response_reader.specs.declared.fault.ReadFault.TheVariants.{Memory}
+use Rattle.response_reader.proofs.CountLemmas.{exit_is}
 use Rattle.response_reader.proofs.body.hand_over.Goals as goal
 
 pub returns-in_err-piece : goal.returns-in_err-piece
 returns-in_err-piece g c =
-    let p = err_from_is_err_and c.from_residual.result c.from_residual.ensures.1 in
     let e = c.in_err-piece.ensures in
-    rw (p.1, p.2) record {
+    rw (exit_is Memory c.from_residual.result c.from_residual.ensures.1) record {
       bound = tt;
       there = tt;
       some = tt;

@@ -1,10 +1,10 @@
 use Rattle.std.proofs.Common.{[], Some, None, refl, inl, inr}
-use Rattle.std.proofs.lemmas.Result.{err_from_is_err_and}
 use Rattle.std.specs.Io.KnownBytes.{prepend_known}
 use Rattle.response_reader.specs.inner.Wire.{tally}
 use Rattle.response_reader.specs.ReadFaults.{IsReadFault}
 use Rattle.response_reader.specs.Response.{HandsOn}
-use Rattle.response_reader.proofs.CountLemmas.{fault_counts_after, fault_is, kept_by_fault, memory_is_not_device, ok_is_no_fault}
+use Rattle.response_reader.specs.declared.fault.ReadFault.TheVariants.{Memory}
+use Rattle.response_reader.proofs.CountLemmas.{exit_is, fault_counts_after, fault_is, kept_by_fault, memory_is_not_device, ok_is_no_fault}
 use Rattle.response_reader.proofs.ReadLemmas.{told_memory}
 use Rattle.response_reader.proofs.ReusableLemmas.{ahead_first, ends_first, told_first, reusable_first, none_counted, risen_of}
 use Rattle.response_reader.proofs.WireLemmas.{keeps_same, keeps_none, keeps_trans}
@@ -12,8 +12,7 @@ use Rattle.response_reader.proofs.response.read_if_any.Goals as goal
 
 pub returns-in_err-incoming : goal.returns-in_err-incoming
 returns-in_err-incoming g c =
-    let p = err_from_is_err_and c.from_residual.result c.from_residual.ensures.1 in
-    rw (p.1, p.2) record {
+    rw (exit_is Memory c.from_residual.result c.from_residual.ensures.1) record {
       silent = tt;
       ends = tt;
       untouched = tt;
@@ -27,14 +26,13 @@ returns-in_err-incoming g c =
 
 pub returns-in_err-reusable-in-Ok-true : goal.returns-in_err-reusable-in-Ok-true
 returns-in_err-reusable-in-Ok-true g c =
-    let p = err_from_is_err_and c.from_residual-in_err-reusable-in-Ok-true.result c.from_residual-in_err-reusable-in-Ok-true.ensures.1 in
     let f = c.in_err-reusable-in-Ok-true.field-0.0 in
     let e = c.in_err-reusable-in-Ok-true.ensures in
     let first = c.in-Ok-true.ensures in
     let old = tally (g.W.Wire.failed c.args.wire.now) (g.W.Wire.reads_never_fail c.args.wire.now) (g.W.Wire.never_errs c.args.wire.now) (g.W.Wire.outgoing c.args.wire.now) (g.W.Wire.lost c.args.wire.now) c.in_ok-incoming.incoming.interrupted in
     let new = tally (g.W.Wire.failed c.read_through.new.wire) (g.W.Wire.reads_never_fail c.read_through.new.wire) (g.W.Wire.never_errs c.read_through.new.wire) (g.W.Wire.outgoing c.read_through.new.wire) (g.W.Wire.lost c.read_through.new.wire) c.read_through.new.incoming.interrupted in
     let counts = fault_counts_after f old (tally (g.W.Wire.failed c.fill.new.wire) (g.W.Wire.reads_never_fail c.fill.new.wire) (g.W.Wire.never_errs c.fill.new.wire) (g.W.Wire.outgoing c.fill.new.wire) (g.W.Wire.lost c.fill.new.wire) c.fill.new.self.interrupted) new first.counts e.counts in
-    rw (p.1, p.2) record {
+    rw (exit_is f c.from_residual-in_err-reusable-in-Ok-true.result c.from_residual-in_err-reusable-in-Ok-true.ensures.1) record {
       silent = tt;
       ends = tt;
       untouched = tt;

@@ -1,14 +1,13 @@
 use Rattle.std.proofs.Common.{◌≡◌, Bool, List, ℕ, Option, Some, None, [], Ok, Err, refl, subst, sym, ap}
-use Rattle.std.proofs.lemmas.Result.{err_from_is_err_and}
 use Rattle.response_reader.specs.declared.fault.ReadFault.{ReadFault}
-use Rattle.response_reader.specs.declared.fault.ReadFault.TheVariants.{Device}
+use Rattle.response_reader.specs.declared.fault.ReadFault.TheVariants.{Device, Memory}
 use Rattle.response_reader.specs.inner.Wire.{tally}
 use Rattle.response_reader.specs.Gathered.{HasGathered}
 use Rattle.response_reader.specs.ReadFaults.{IsReadFault}
 use Rattle.response_reader.specs.Reusable.{Reusable}
 use Rattle.response_reader.specs.Wire.{OfBytes}
 use Rattle.response_reader.specs.Response.{ResponseParts, IsResponse, HandsOn}
-use Rattle.response_reader.proofs.CountLemmas.{fault_is, few_of_counts, gave_up, goes_on_unless, kept_by_fault, memory_is_not_device, none_failed, none_interrupted, ok_is_no_fault}
+use Rattle.response_reader.proofs.CountLemmas.{exit_is, fault_is, few_of_counts, gave_up, goes_on_unless, kept_by_fault, memory_is_not_device, none_failed, none_interrupted, ok_is_no_fault}
 use Rattle.response_reader.proofs.ReadLemmas.{nothing_unread, told_memory}
 use Rattle.response_reader.proofs.ReusableLemmas.{none_counted}
 use Rattle.response_reader.proofs.WireLemmas.{keeps_same}
@@ -16,8 +15,7 @@ use Rattle.response_reader.proofs.response.read_reply.Goals as goal
 
 pub returns-in_err-incoming : goal.returns-in_err-incoming
 returns-in_err-incoming g c =
-    let p = err_from_is_err_and c.from_residual.result c.from_residual.ensures.1 in
-    rw (p.1, p.2) record {
+    rw (exit_is Memory c.from_residual.result c.from_residual.ensures.1) record {
       response = tt;
       given = tt;
       reusable = tt;
@@ -32,7 +30,6 @@ returns-in_err-incoming g c =
 
 pub returns-in_err-reusable : goal.returns-in_err-reusable
 returns-in_err-reusable g c =
-    let p = err_from_is_err_and c.from_residual-in_err-reusable.result c.from_residual-in_err-reusable.ensures.1 in
     let f = c.in_err-reusable.field-0.0 in
     let e = c.in_err-reusable.ensures in
     let before = g.W.Wire.failed c.args.wire.now in
@@ -40,7 +37,7 @@ returns-in_err-reusable g c =
     let new = tally (g.W.Wire.failed c.read_through.new.wire) (g.W.Wire.reads_never_fail c.read_through.new.wire) (g.W.Wire.never_errs c.read_through.new.wire) (g.W.Wire.outgoing c.read_through.new.wire) (g.W.Wire.lost c.read_through.new.wire) c.read_through.new.incoming.interrupted in
     let same = nothing_unread c.in_ok-incoming.incoming.unread (g.W.Wire.incoming c.args.wire.now) c.in_ok-incoming.ensures.none in
     let none = none_counted before _ c.in_ok-incoming.ensures.uninterrupted in
-    rw (p.1, p.2) record {
+    rw (exit_is f c.from_residual-in_err-reusable.result c.from_residual-in_err-reusable.ensures.1) record {
       response = tt;
       given = tt;
       reusable = tt;

@@ -2,11 +2,10 @@ use Rattle.std.proofs.Common.{◌≡◌, ◌∙◌, ◌+◌, ◌<◌, List, ℕ,
 use Rattle.std.proofs.lemmas.Grind.{common_steps}
 use Rattle.std.specs.Prelude.{◌==◌}
 use Rattle.std.specs.List.{list_any}
-use Rattle.std.proofs.lemmas.Result.{err_from_is_err_and}
 use Rattle.std.specs.Io.KnownBytes.{prepend_known}
 use Rattle.response_reader.specs.inner.Fills.{HasNoLineEnd, line_end}
 use Rattle.response_reader.specs.inner.Wire.{tally}
-use Rattle.response_reader.proofs.CountLemmas.{fault_counts_after}
+use Rattle.response_reader.proofs.CountLemmas.{exit_is, fault_counts_after}
 use Rattle.response_reader.proofs.FillsLemmas.{open_more, open_same}
 use Rattle.response_reader.proofs.WireLemmas.{ahead_same, consumes_same, consumes_trans, fills_ahead, goes_on_same, goes_on_trans}
 use Rattle.response_reader.proofs.incoming.Incoming.read_line.Goals as goal
@@ -94,10 +93,9 @@ returns g c =
 
 pub returns-in_err-fill : goal.returns-in_err-fill
 returns-in_err-fill g c =
-    let p = err_from_is_err_and c.from_residual.result c.from_residual.ensures.1 in
     let fault = c.in_err-fill.ensures in
     let first = c.args.self.now.unread in
-    rw (p.1, p.2) record {
+    rw (exit_is c.in_err-fill.field-0.0 c.from_residual.result c.from_residual.ensures.1) record {
       held = tt;
       grows = tt;
       more = tt;
