@@ -1,14 +1,39 @@
-use Rattle.std.proofs.Common.{◌≡◌, ◌∙◌, ◌+◌, ◌<◌, List, ℕ, [], false, length, length-append, drop, ap, subst, sym, arith}
+use Rattle.std.proofs.Common.{◌≡◌, ◌∙◌, ◌+◌, ◌-◌, ◌<◌, ◌≤◌, List, ℕ, [], false, length, length-append, drop, ap, subst, sym, arith}
 use Rattle.std.proofs.lemmas.Grind.{common_steps}
+use Rattle.std.proofs.lemmas.Bool.{false≢true}
 use Rattle.std.specs.Prelude.{◌==◌}
 use Rattle.std.specs.List.{list_any}
 use Rattle.std.specs.Io.KnownBytes.{prepend_known}
+use Rattle.response_reader.specs.declared.limits.TheConstants.{MAX_HEADS}
 use Rattle.response_reader.specs.inner.Fills.{HasNoLineEnd, line_end}
 use Rattle.response_reader.specs.inner.Wire.{tally}
 use Rattle.response_reader.proofs.CountLemmas.{exit_is, fault_counts_after}
 use Rattle.response_reader.proofs.FillsLemmas.{open_more, open_same}
 use Rattle.response_reader.proofs.WireLemmas.{ahead_same, consumes_same, consumes_trans, fills_ahead, goes_on_same, goes_on_trans}
 use Rattle.response_reader.proofs.incoming.Incoming.read_line.Goals as goal
+
+some_left : (held most : ℕ) → held < most → 0 < most - held
+some_left held most more = omega arith
+
+room_left : (len held most : ℕ) → held ≡ len → held ≤ most → most ≤ MAX_HEADS → len + (most - held) ≤ MAX_HEADS
+room_left len held most is within few = omega arith
+
+falls_by : (len got held new most : ℕ) → held ≡ len → new ≡ len + got → 0 < got → held < most → most - new < most - held
+falls_by len got held new most is grown some more = omega arith
+
+pub fill-requires : goal.fill-requires
+fill-requires g c = record {
+  some = some_left c.lines.held c.args.most c.lines-test.true;
+  room = room_left (length c.lines.self.unread) c.lines.held c.args.most c.lines.invariant.held c.lines.invariant.within c.requires.room;
+}
+
+pub lines-smaller : goal.lines-smaller
+lines-smaller g c =
+    let fills = c.in_ok-fill.ensures.fills in
+    let held = c.lines.self.unread in
+    let same : length c.unread-held-in-lines.result.now ≡ length c.fill.new.self.unread = ap (λ (l : List ℕ). length l) c.unread-held-in-lines.ensures in
+    let len : length c.fill.new.self.unread ≡ length held + length fills.got = ap (λ (l : List ℕ). length l) fills.unread ∙ length-append held fills.got in
+    falls_by (length held) (length fills.got) c.lines.held (length c.unread-held-in-lines.result.now) c.args.most c.lines.invariant.held (same ∙ len) (fills.some c.if-not-branch.false) c.lines-test.true
 
 pub lines-init : goal.lines-init
 lines-init g c =
@@ -36,7 +61,7 @@ returns-then-not-branch g c =
     record {
       held = omega (arith, len, fills.bound, before.held, before.within);
       grows = omega (arith, len, before.held, before.grows);
-      more = λ is. absurd cc;
+      more = λ is. absurd (false≢true is);
       short = λ is. omega (arith, len, none, before.held, c.lines-test.true);
       end = λ is. fills.end ended;
       bytes = consumes_trans (prepend_known first (g.W.Wire.incoming c.args.wire.now)) (prepend_known held (g.W.Wire.incoming c.lines.wire)) (prepend_known new (g.W.Wire.incoming c.fill.new.wire)) [] [] before.bytes
@@ -63,8 +88,8 @@ returns-then-contains g c =
       held = omega (arith, len, fills.bound, before.held, before.within);
       grows = omega (arith, len, before.held, before.grows);
       more = λ is. omega (arith, len, some, before.held, before.grows);
-      short = λ is. absurd cc;
-      end = λ is. absurd cc;
+      short = λ is. absurd (false≢true (sym is));
+      end = λ is. absurd (false≢true (sym is));
       bytes = consumes_trans (prepend_known first (g.W.Wire.incoming c.args.wire.now)) (prepend_known held (g.W.Wire.incoming c.lines.wire)) (prepend_known new (g.W.Wire.incoming c.fill.new.wire)) [] [] before.bytes
           (fills_ahead held new (g.W.Wire.incoming c.lines.wire) (g.W.Wire.incoming c.fill.new.wire) _ _ fills);
       counts = goes_on_trans
@@ -83,8 +108,8 @@ returns g c =
       held = omega (arith, before.held, before.within);
       grows = omega (arith, before.held, before.grows);
       more = λ is. omega (arith, before.held, c.lines-test.false, c.requires.some);
-      short = λ is. absurd cc;
-      end = λ is. absurd cc;
+      short = λ is. absurd (false≢true (sym is));
+      end = λ is. absurd (false≢true (sym is));
       bytes = before.bytes;
       counts = before.counts;
       device = tt;
