@@ -1,7 +1,6 @@
 -- How a chain grows, and when it is one that is admitted.
-use Rattle.std.proofs.Common.{◌≡◌, ◌≢◌, ℕ, zero, suc, ◌+◌, ◌<◌, ◌≤◌, ◌⊎◌, ◌++◌, ◌∙◌, Bool, false, List, [], ◌∷◌, Option, Some, None, refl, sym, ap, subst, inl, inr, length, arith}
+use Rattle.std.proofs.Common.{◌≡◌, ◌≢◌, ℕ, zero, suc, ◌+◌, ◌<◌, ◌≤◌, ◌⊎◌, ◌++◌, ◌∙◌, List, [], ◌∷◌, Option, Some, None, refl, sym, ap, subst, inl, inr, length, arith}
 use Rattle.std.specs.Prelude.{Ok, Err}
-use Rattle.std.specs.Option.{is_some}
 use Rattle.address.specs.Address.{AddressText, OriginText, read_address}
 use Rattle.site_inputs.proofs.NameLaws.{names}
 use Rattle.answer_notes.specs.RobotsAnswers.{max_redirects}
@@ -108,8 +107,3 @@ pub is_due : (from : Option AddressText) (text at : List ℕ) → read_address t
 is_due from text at reads same =
     let k = names text at reads in
     (k.0, sym k.1, same)
-
--- nothing follows where there is no address
-pub none_left : (o : Option AddressText) (b : Bool) → b ≡ is_some o → b ≡ false → o ≡ None
-none_left None b e f = refl
-none_left (Some x) b e f = absurd cc

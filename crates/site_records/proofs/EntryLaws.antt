@@ -1,12 +1,11 @@
 -- What a line that is taken, or refused, states.
-use Rattle.std.proofs.Common.{◌≡◌, ◌≢◌, ◌==◌, ℕ, ◌+◌, ◌<◌, ◌≤◌, ◌⊎◌, ◌++◌, ◌∙◌, Bool, List, [], ◌∷◌, Option, None, Result, Ok, Err, MatchResult, refl, sym, ap, subst, inl, inr, length, drop, take, arith, length-drop, length-append}
+use Rattle.std.proofs.Common.{◌≡◌, ◌≢◌, ◌==◌, ℕ, ◌+◌, ◌<◌, ◌≤◌, ◌⊎◌, ◌∙◌, Bool, true, false, cond, List, [], ◌∷◌, Option, Some, None, Result, Ok, Err, MatchResult, refl, sym, ap, subst, inl, inr, length, drop, take, arith, length-drop, length-append}
 use Rattle.std.specs.Prelude.{codes, IsSome}
-use Rattle.std.specs.Borrow.{Bor}
+use Rattle.std.specs.Option.{is_some}
 use Rattle.std.specs.Map.{lookup}
 use Rattle.std.specs.Str.{bytes_eq, IsUtf8}
-use Rattle.std.proofs.lemmas.List.{append-nil}
 use Rattle.std.proofs.lemmas.List.Quantifiers.{position-Some}
-use Rattle.address.specs.Address.{read_address, origin_of, path_query_of}
+use Rattle.address.specs.Address.{origin_of, path_query_of}
 use Rattle.robots_rules.specs.Access.{RuleSetValue}
 use Rattle.robots_rules.specs.Groups.{rules_in}
 use Rattle.fetcher.specs.declared.answer.Answer.{Answer}
@@ -14,43 +13,59 @@ use Rattle.fetcher.specs.declared.fault_kind.FaultKind.{FaultKind}
 use Rattle.site_inputs.specs.declared.input_fault.InputLineFault.{InputLineFault}
 use Rattle.site_inputs.specs.declared.input_fault.InputLineFault.TheVariants.{Line, Address, Memory}
 use Rattle.site_inputs.specs.Names.{named, IsNamed}
-use Rattle.site_inputs.proofs.NameLaws.{names}
 use Rattle.site_records.specs.declared.reading.Reading.{Reading}
 use Rattle.site_records.specs.EntryLines.{Statement, page, fault, file, free, closed, chain, IsForm, HasForm, text_of, HopStatement, hop, hopfault}
 use Rattle.site_records.specs.Entries.{Entry, answered, ruled, chained, lines_of, no_response, HasBytes, IsLine, IsReadAs, States, IsAtRoot, Begins, IsRepeated, HasItsBytes, AreHopsOf, no_hops, more_hops, IsHop, TellsHop, IsBadRow, IsBadBehind, LeadsOn}
-use Rattle.site_records.specs.inner.RecordNotes.{AddsNote}
-use Rattle.site_records.specs.inner.Readings.{Adds, AddsLines, IsWrong, IsWrongAt, IsWrongChain, IsBadHop, Takes, TakesEntry, IsAlone, IsBad, Reads, lines_to, IsCounted}
-use Rattle.address.specs.Address.{AddressText}
-use Rattle.answer_notes.specs.HopChains.{HopValue, IsAdmitted, rules_of_hops}
+use Rattle.site_records.specs.inner.Readings.{AddsLines, IsWrong, IsWrongAt, IsWrongChain, IsBadHop, IsStated, IsRuled, Keeps, TakesEntry, IsBad, Reads, lines_to, IsCounted}
+use Rattle.address.specs.Address.{AddressText, OriginText}
+use Rattle.answer_notes.specs.HopChains.{ChainValue, HopValue, IsAdmitted}
+use Rattle.answer_notes.specs.RobotsAnswers.{all_allowed, none_allowed}
 use Rattle.answer_notes.specs.declared.told.Told.{Told}
 use Rattle.site_records.specs.declared.entry_fault.EntryFault.{EntryFault}
 use Rattle.site_records.specs.declared.entry_fault.EntryFault.TheVariants.{Own, Hop}
 use Rattle.site_records.specs.declared.taken.Taken.{Taken}
 use Rattle.site_records.specs.declared.version.Version.{Version}
 
--- a line whose address isn't read
-pub unread : (old : Reading) (s : Statement) (behind : List ℕ) (f : InputLineFault) → (f ≡ Memory) ⊎ ((f ≡ Address) × ¬ IsNamed (text_of s)) → IsWrong old s behind f
-unread old s behind f (inl e) = rw e tt
-unread old s behind f (inr h) = rw h.0 h.1
+-- what wasn't found
+pub none_left : {A : Type 0} (o : Option A) (b : Bool) → b ≡ is_some o → b ≡ false → o ≡ None
+none_left None b e f = refl
+none_left (Some x) b e f = absurd cc
 
--- a line whose origin isn't read
-pub unrooted : (old : Reading) (s : Statement) (behind : List ℕ) (f : InputLineFault) → (IsAtRoot s → path_query_of (named (text_of s)) ≡ codes "/")
-    → (f ≡ Memory) ⊎ ((f ≡ Address) × ¬ IsNamed (text_of s)) ⊎ ((f ≡ Line) × IsNamed (text_of s) × (path_query_of (named (text_of s)) ≢ codes "/")) → IsWrong old s behind f
-unrooted old s behind f root (inl e) = rw e tt
-unrooted old s behind f root (inr (inl h)) = rw h.0 h.1
-unrooted old s behind f root (inr (inr h)) = rw h.0 (h.1, inl (λ k. h.2 (root k)))
+-- a text that isn't read as an address
+pub unread : (answers : List (AddressText × Answer)) (text : List ℕ) (f : InputLineFault) → (f ≡ Memory) ⊎ ((f ≡ Address) × ¬ IsNamed text) → IsStated answers text f
+unread answers text f (inl e) = rw e tt
+unread answers text f (inr h) = rw h.0 h.1
 
--- an answer goes behind the others
-pub takes_answer : (old new : Reading) (s : Statement) (behind after : List ℕ) (at : List ℕ) (a : Answer) → read_address (text_of s) ≡ Ok at
-    → IsAtRoot s → (named (text_of s) ≡ at → States old.robots s behind (answered at a) after) → lookup (bytes_eq at) old.answers.entries ≡ None
-    → new.answers.entries ≡ old.answers.entries ++ (at, a) ∷ [] → new.rules.entries ≡ old.rules.entries → new.robots ≡ old.robots → new.version ≡ old.version → new.keeps_notes ≡ old.keeps_notes
-    → AddsNote old.keeps_notes old.robots old.notes.items (answered at a) new.notes.items → Adds old s behind after new
-takes_answer old new s behind after at a reads root states none put same robots version keeps noted = record {
-  entry = answered at a;
-  is_named = (names (text_of s) at reads).0;
-  at_root = root;
-  states = states (names (text_of s) at reads).1;
-  keeps = record { answers = put; rules = same ∙ sym (append-nil old.rules.entries); robots = robots; version = version; keeps_notes = keeps; noted = noted; is_new = none };
+-- a text that isn't read as an origin
+pub unrooted : (rules : List (OriginText × RuleSetValue)) (text : List ℕ) (f : InputLineFault)
+    → (f ≡ Memory) ⊎ ((f ≡ Address) × ¬ IsNamed text) ⊎ ((f ≡ Line) × IsNamed text × (path_query_of (named text) ≢ codes "/")) → IsRuled rules text f
+unrooted rules text f (inl e) = rw e tt
+unrooted rules text f (inr (inl h)) = rw h.0 h.1
+unrooted rules text f (inr (inr h)) = rw h.0 (h.1, inl h.2)
+
+-- a line whose address isn't read, or has an answer
+pub refused_answer : (old : Reading) (s : Statement) (behind : List ℕ) (f : InputLineFault)
+    → (IsSome (lookup (bytes_eq (named (text_of s))) old.answers.entries) → IsRepeated old.answers.entries old.rules.entries s)
+    → IsStated old.answers.entries (text_of s) f → IsWrong old s behind f
+refused_answer old s behind Line to h = (h.0, inr (inl (to h.1)))
+refused_answer old s behind Address to h = h
+refused_answer old s behind Memory to h = tt
+
+-- a line whose origin isn't read, or has rules
+pub refused_rules : (old : Reading) (s : Statement) (behind : List ℕ) (f : InputLineFault) → (IsAtRoot s → path_query_of (named (text_of s)) ≡ codes "/")
+    → (IsSome (lookup (bytes_eq (origin_of (named (text_of s)))) old.rules.entries) → IsRepeated old.answers.entries old.rules.entries s)
+    → IsRuled old.rules.entries (text_of s) f → IsWrong old s behind f
+refused_rules old s behind Line root to (is, inl elsewhere) = (is, inl (λ k. elsewhere (root k)))
+refused_rules old s behind Line root to (is, inr some) = (is, inr (inl (to some)))
+refused_rules old s behind Address root to h = h
+refused_rules old s behind Memory root to h = tt
+
+-- the entry that a line states is kept
+pub takes : (old new : Reading) (s : Statement) (behind : List ℕ) (taken : Taken) (e : Entry) → IsNamed (text_of s) → IsAtRoot s → States old.robots s behind e taken.after.now → Keeps old e new
+    → taken.lines ≡ lines_of e → AddsLines old s behind taken new
+takes old new s behind taken e named_is root states keeps lines = record {
+  adds = record { entry = e; is_named = named_is; at_root = root; states = states; keeps = keeps };
+  lines = lines;
 }
 
 -- the answer of a page is what its bytes are read as
@@ -60,19 +75,6 @@ page_states robots text n behind bytes after at a has read is = (bytes, a, has, 
 
 pub fault_states : (robots : Bool) (kind : FaultKind) (text behind at : List ℕ) → named text ≡ at → States robots (fault kind text) behind (answered at (no_response kind)) behind
 fault_states robots kind text behind at is = (refl, rw is refl)
-
--- a rule set goes behind the others
-pub takes_rules : (old new : Reading) (s : Statement) (behind after : List ℕ) (of : List ℕ) (r : RuleSetValue) → IsNamed (text_of s)
-    → IsAtRoot s → States old.robots s behind (ruled of r) after → lookup (bytes_eq of) old.rules.entries ≡ None
-    → new.rules.entries ≡ old.rules.entries ++ (of, r) ∷ [] → new.answers.entries ≡ old.answers.entries → new.robots ≡ old.robots → new.version ≡ old.version → new.keeps_notes ≡ old.keeps_notes
-    → AddsNote old.keeps_notes old.robots old.notes.items (ruled of r) new.notes.items → Adds old s behind after new
-takes_rules old new s behind after of r named_is root states none put same robots version keeps noted = record {
-  entry = ruled of r;
-  is_named = named_is;
-  at_root = root;
-  states = states;
-  keeps = record { answers = same ∙ sym (append-nil old.answers.entries); rules = put; robots = robots; version = version; keeps_notes = keeps; noted = noted; is_new = none };
-}
 
 -- ---- from the line to the text
 
@@ -170,52 +172,11 @@ shorter old new (Err (Hop k f)) text line behind s is t =
 
 -- ---- a chain
 
--- a line alone that is taken is an entry of one line
-alone_takes : (old new : Reading) (s : Statement) (behind : List ℕ) (taken : Result (Bor (List ℕ)) InputLineFault) (r : Result Taken EntryFault)
-    → ((e : Entry) (after : List ℕ) → States old.robots s behind e after → lines_of e ≡ 1)
-    → Takes old s behind taken new → IsAlone taken r → TakesEntry old s behind r new
-alone_takes old new s behind (Ok after) (Ok taken) single t is =
-    let adds : Adds old s behind taken.after.now new = subst (λ a. Adds old s behind a new) (sym is.0) t in
-    record { adds = adds; lines = is.1 ∙ sym (single adds.entry taken.after.now adds.states) }
-alone_takes old new s behind (Err f) (Err wrong) single t is = subst (IsWrongAt old s behind) (sym is) t
-alone_takes old new s behind (Ok after) (Err wrong) single t is = absurd is
-alone_takes old new s behind (Err f) (Ok taken) single t is = absurd is
-
-pub alone_page : (old new : Reading) (text : List ℕ) (n : ℕ) (behind : List ℕ) (taken : Result (Bor (List ℕ)) InputLineFault) (r : Result Taken EntryFault)
-    → Takes old (page text n) behind taken new → IsAlone taken r → TakesEntry old (page text n) behind r new
-alone_page old new text n behind taken r t is = alone_takes old new (page text n) behind taken r (λ e after states. ap lines_of states.4) t is
-
-pub alone_fault : (old new : Reading) (kind : FaultKind) (text : List ℕ) (behind : List ℕ) (taken : Result (Bor (List ℕ)) InputLineFault) (r : Result Taken EntryFault)
-    → Takes old (fault kind text) behind taken new → IsAlone taken r → TakesEntry old (fault kind text) behind r new
-alone_fault old new kind text behind taken r t is = alone_takes old new (fault kind text) behind taken r (λ e after states. ap lines_of states.1) t is
-
-pub alone_file : (old new : Reading) (text : List ℕ) (n : ℕ) (behind : List ℕ) (taken : Result (Bor (List ℕ)) InputLineFault) (r : Result Taken EntryFault)
-    → Takes old (file text n) behind taken new → IsAlone taken r → TakesEntry old (file text n) behind r new
-alone_file old new text n behind taken r t is = alone_takes old new (file text n) behind taken r (λ e after states. ap lines_of states.2) t is
-
-pub alone_free : (old new : Reading) (text : List ℕ) (behind : List ℕ) (taken : Result (Bor (List ℕ)) InputLineFault) (r : Result Taken EntryFault)
-    → Takes old (free text) behind taken new → IsAlone taken r → TakesEntry old (free text) behind r new
-alone_free old new text behind taken r t is = alone_takes old new (free text) behind taken r (λ e after states. ap lines_of states.1) t is
-
-pub alone_closed : (old new : Reading) (text : List ℕ) (behind : List ℕ) (taken : Result (Bor (List ℕ)) InputLineFault) (r : Result Taken EntryFault)
-    → Takes old (closed text) behind taken new → IsAlone taken r → TakesEntry old (closed text) behind r new
-alone_closed old new text behind taken r t is = alone_takes old new (closed text) behind taken r (λ e after states. ap lines_of states.1) t is
-
--- the rules of a chain go behind the others
-pub takes_chain : (old new : Reading) (text : List ℕ) (n : ℕ) (behind : List ℕ) (taken : Taken) (of : List ℕ) (hops : List HopValue) → IsNamed text
-    → path_query_of (named text) ≡ codes "/" → origin_of (named text) ≡ of → AreHopsOf behind hops taken.after.now → length hops ≡ n → IsAdmitted of hops → lookup (bytes_eq of) old.rules.entries ≡ None
-    → new.rules.entries ≡ old.rules.entries ++ (of, rules_of_hops hops) ∷ [] → new.answers.entries ≡ old.answers.entries → new.robots ≡ old.robots → new.version ≡ old.version → new.keeps_notes ≡ old.keeps_notes
-    → AddsNote old.keeps_notes old.robots old.notes.items (chained of hops) new.notes.items → taken.lines ≡ n + 1 → AddsLines old (chain text n) behind taken new
-takes_chain old new text n behind taken of hops named_is root is are long admitted none put same robots version keeps noted lines = record {
-  adds = record {
-    entry = chained of hops;
-    is_named = named_is;
-    at_root = root;
-    states = (hops, are, long, subst (λ o. IsAdmitted o hops) (sym is) admitted, ap (λ o. chained o hops) (sym is));
-    keeps = record { answers = same ∙ sym (append-nil old.answers.entries); rules = put; robots = robots; version = version; keeps_notes = keeps; noted = noted; is_new = none };
-  };
-  lines = lines ∙ ap (λ k. k + 1) (sym long);
-}
+-- the hops behind a chain's line are its entry
+pub chain_states : (robots : Bool) (text : List ℕ) (n : ℕ) (behind after of : List ℕ) (c : ChainValue) → AreHopsOf behind c.hops after → length c.hops ≡ n → IsAdmitted of c.hops → c.of ≡ of
+    → origin_of (named text) ≡ of → States robots (chain text n) behind (chained c.of c.hops) after
+chain_states robots text n behind after of c are long admitted same is =
+    (c.hops, are, long, subst (λ o. IsAdmitted o c.hops) (sym is) admitted, ap (λ o. chained o c.hops) (same ∙ sym is))
 
 -- a chain that is refused behind its line
 pub wrong_chain : (old : Reading) (text : List ℕ) (n : ℕ) (behind : List ℕ) (of : List ℕ) (f : EntryFault) → IsNamed text → path_query_of (named text) ≡ codes "/"
@@ -228,28 +189,28 @@ wrong_chain old text n behind of (Hop k f) named_is root is none h =
 
 -- ---- lines that are refused behind their address
 
--- an address that has an answer
-pub answered_before : (old : Reading) (s : Statement) (behind at : List ℕ) (f : InputLineFault) → read_address (text_of s) ≡ Ok at
-    → (IsSome (lookup (bytes_eq (named (text_of s))) old.answers.entries) → IsRepeated old.answers.entries old.rules.entries s)
-    → (f ≡ Line) × IsSome (lookup (bytes_eq at) old.answers.entries) → IsWrong old s behind f
-answered_before old s behind at f reads to h =
-    let k = names (text_of s) at reads in
-    rw h.0 (k.0, inr (inl (to (rw k.1 h.1))))
-
--- an origin that has rules
-pub ruled_before : (old : Reading) (s : Statement) (behind of : List ℕ) (f : InputLineFault) → IsNamed (text_of s) → origin_of (named (text_of s)) ≡ of
-    → (IsSome (lookup (bytes_eq (origin_of (named (text_of s)))) old.rules.entries) → IsRepeated old.answers.entries old.rules.entries s)
-    → (f ≡ Line) × IsSome (lookup (bytes_eq of) old.rules.entries) → IsWrong old s behind f
-ruled_before old s behind of f named_is is to h = rw h.0 (named_is, inr (inl (to (rw is h.1))))
-
 -- a line whose bytes aren't there
 pub without_bytes : (old : Reading) (s : Statement) (behind : List ℕ) → IsNamed (text_of s) → ¬ HasItsBytes s behind → IsWrong old s behind Line
 without_bytes old s behind named_is none = (named_is, inr (inr (inl none)))
 
 -- the rules of an origin are those of its robots file
-pub file_states : (robots : Bool) (text : List ℕ) (n : ℕ) (behind bytes after of : List ℕ) (r : RuleSetValue) → HasBytes behind n bytes after → r ≡ rules_in bytes
-    → origin_of (named text) ≡ of → States robots (file text n) behind (ruled of r) after
-file_states robots text n behind bytes after of r has read is = (bytes, has, rw (is, read) refl)
+pub file_states : (robots : Bool) (text : List ℕ) (n : ℕ) (behind bytes after of own : List ℕ) (r : RuleSetValue) → HasBytes behind n bytes after → r ≡ rules_in bytes
+    → own ≡ of → origin_of (named text) ≡ of → States robots (file text n) behind (ruled own r) after
+file_states robots text n behind bytes after of own r has read same is = (bytes, has, rw (is, same, read) refl)
+
+-- a line by which everything is allowed, or nothing, at an origin that isn't read or has rules
+pub refused_bare : (old : Reading) (allowed : Bool) (text behind : List ℕ) (f : InputLineFault) → IsRuled old.rules.entries text f → IsWrong old (cond allowed (free text) (closed text)) behind f
+refused_bare old true text behind f h = refused_rules old (free text) behind f (λ k. k) (λ k. k) h
+refused_bare old false text behind f h = refused_rules old (closed text) behind f (λ k. k) (λ k. k) h
+
+-- or those by which everything is allowed, or nothing
+pub bare_states : (old new : Reading) (allowed : Bool) (text : List ℕ) (behind : List ℕ) (taken : Taken) (of own : List ℕ) (r : RuleSetValue) → IsNamed text → path_query_of (named text) ≡ codes "/"
+    → r ≡ cond allowed all_allowed none_allowed → own ≡ of → origin_of (named text) ≡ of → taken.after.now ≡ behind → taken.lines ≡ 1 → Keeps old (ruled own r) new
+    → AddsLines old (cond allowed (free text) (closed text)) behind taken new
+bare_states old new true text behind taken of own r named_is root rules same is after lines keeps =
+    takes old new (free text) behind taken (ruled own r) named_is root (after, rw (is, same, rules) refl) keeps lines
+bare_states old new false text behind taken of own r named_is root rules same is after lines keeps =
+    takes old new (closed text) behind taken (ruled own r) named_is root (after, rw (is, same, rules) refl) keeps lines
 
 -- the number of hops that a line counts is one that a chain may have
 pub counted_form : (fs : List (List ℕ)) (s : Statement) → IsForm fs s → IsCounted s

@@ -1,39 +1,79 @@
 -- A note says what its entry states.
-use Rattle.std.proofs.Common.{◌≡◌, ℕ, ◌++◌, Bool, true, false, cond, List, [], ◌∷◌, refl, sym, subst, inl, inr}
-use Rattle.address.specs.Address.{AddressText, OriginText}
-use Rattle.robots_rules.specs.Access.{RuleSetValue}
+use Rattle.std.proofs.Common.{◌≡◌, ℕ, ◌++◌, ◌∙◌, Bool, true, false, cond, List, [], ◌∷◌, None, refl, sym, ap, inl, inr}
+use Rattle.std.specs.Map.{lookup}
+use Rattle.std.specs.Str.{bytes_eq}
+use Rattle.std.proofs.lemmas.List.{append-nil}
+use Rattle.address.specs.Address.{AddressText}
 use Rattle.fetcher.specs.declared.answer.Answer.{Answer}
-use Rattle.fetcher.specs.declared.fault_kind.FaultKind.{FaultKind}
 use Rattle.answer_notes.specs.Tellings.{outcome_told, body_told}
 use Rattle.answer_notes.specs.HopChains.{ChainValue, rules_of_hops}
 use Rattle.answer_notes.specs.declared.told.Told.{Told}
 use Rattle.answer_notes.specs.declared.told.Told.TheVariants as told
 use Rattle.answer_notes.specs.declared.noted.Noted.{Noted}
 use Rattle.answer_notes.specs.declared.noted.Noted.TheVariants.{Page, Chain}
-use Rattle.site_records.specs.Entries.{Entry, answered, ruled, chained, no_response, IsReadAs, IsToldIn}
-use Rattle.site_records.specs.RecordNotes.{SayJust}
+use Rattle.site_records.specs.declared.reading.Reading.{Reading}
+use Rattle.site_records.specs.Entries.{ruled, chained, IsReadAs, IsToldIn}
+use Rattle.site_records.specs.Records.{answers_of}
+use Rattle.site_records.specs.WrittenEntries.{note_entry}
 use Rattle.site_records.specs.inner.RecordNotes.{AddsNote}
+use Rattle.site_records.specs.inner.Readings.{Keeps, KeepsNote}
 
 -- what bytes tell is what they answer
-pub read_as_told : (robots : Bool) (at : AddressText) (bytes : List ℕ) (t : Told) (a : Answer) → IsToldIn bytes t → a.outcome ≡ outcome_told robots at t → a.body ≡ body_told t → IsReadAs robots at bytes a
-read_as_told robots at bytes (told.Whole r) a is outcome body = inl (record { response = r; begins = is; outcome = outcome; body = body })
-read_as_told robots at bytes (told.Fault kind) a (fault, text, of, kind_is) outcome body =
-    inr (record { fault = fault; kind = kind; text = text; of_bytes = of; kind_is = kind_is; answer = λ i. record { outcome = outcome i; body = body i } })
+pub read_as_told : (robots : Bool) (at : AddressText) (bytes : List ℕ) (t : Told) → IsToldIn bytes t → IsReadAs robots at bytes (record { outcome = outcome_told robots at t; body = body_told t })
+read_as_told robots at bytes (told.Whole r) is = inl (record { response = r; begins = is; outcome = refl; body = refl })
+read_as_told robots at bytes (told.Fault kind) (fault, text, of, kind_is) = inr (record { fault = fault; kind = kind; text = text; of_bytes = of; kind_is = kind_is; answer = refl })
 
--- a note is kept where notes are
-pub note_added : (keeps robots : Bool) (old new : List Noted) (note : Noted) (e : Entry) → new ≡ cond keeps (old ++ note ∷ []) old → SayJust robots (note ∷ []) (e ∷ []) → AddsNote keeps robots old e new
-note_added true robots old new note e is says = (note, is, says)
-note_added false robots old new note e is says = is
+-- an answer is what is told where its parts are
+pub answer_is : (robots : Bool) (at : AddressText) (t : Told) (a : Answer) → a.outcome ≡ outcome_told robots at t → a.body ≡ body_told t
+    → a ≡ record { outcome = outcome_told robots at t; body = body_told t }
+answer_is robots at t a outcome body = λ i. record { outcome = outcome i; body = body i }
 
-pub page_says : (robots : Bool) (at copy : AddressText) (t : Told) (a : Answer) → copy ≡ at → a.outcome ≡ outcome_told robots at t → a.body ≡ body_told t → SayJust robots (Page copy t ∷ []) (answered at a ∷ [])
-page_says robots at copy t a same outcome body =
-    subst (λ c. SayJust robots (Page c t ∷ []) (answered at a ∷ [])) (sym same) (record { answers = λ i. (at, record { outcome = sym outcome i; body = sym body i }) ∷ []; rules = refl })
+-- a note is kept where notes are, and says its own entry
+note_added : (keeps robots : Bool) (old new : List Noted) (note : Noted) → new ≡ cond keeps (old ++ note ∷ []) old → AddsNote keeps robots old (note_entry robots note) new
+note_added true robots old new note is = (note, is, record { answers = refl; rules = refl })
+note_added false robots old new note is = is
 
-pub fault_says : (robots : Bool) (at copy : AddressText) (kind : FaultKind) → copy ≡ at → SayJust robots (Page copy (told.Fault kind) ∷ []) (answered at (no_response kind) ∷ [])
-fault_says robots at copy kind same = subst (λ c. SayJust robots (Page c (told.Fault kind) ∷ []) (answered at (no_response kind) ∷ [])) (sym same) (record { answers = refl; rules = refl })
+-- what is told of an address is kept behind the others, and then its note
+pub keeps_page : (old mid new : Reading) (at : AddressText) (t : Told) → lookup (bytes_eq at) old.answers.entries ≡ None → mid ≡ record old { answers = mid.answers }
+    → mid.answers.entries ≡ old.answers.entries ++ answers_of (note_entry old.robots (Page at t) ∷ []) → new ≡ record mid { notes = new.notes }
+    → new.notes.items ≡ cond mid.keeps_notes (mid.notes.items ++ Page at t ∷ []) mid.notes.items → KeepsNote old (Page at t) new
+keeps_page old mid new at t vacant first answers second items = record {
+  answers = ap (λ (r : Reading). r.answers.entries) second ∙ answers;
+  rules = ap (λ (r : Reading). r.rules.entries) second ∙ ap (λ (r : Reading). r.rules.entries) first ∙ sym (append-nil old.rules.entries);
+  robots = ap (λ (r : Reading). r.robots) second ∙ ap (λ (r : Reading). r.robots) first;
+  version = ap (λ (r : Reading). r.version) second ∙ ap (λ (r : Reading). r.version) first;
+  keeps_notes = ap (λ (r : Reading). r.keeps_notes) second ∙ ap (λ (r : Reading). r.keeps_notes) first;
+  noted = note_added old.keeps_notes old.robots old.notes.items new.notes.items (Page at t)
+      (items ∙ ap (λ (r : Reading). cond r.keeps_notes (r.notes.items ++ Page at t ∷ []) r.notes.items) first);
+  is_new = vacant;
+}
 
-pub rules_say : (robots : Bool) (chain : ChainValue) (of : OriginText) (r : RuleSetValue) → chain.of ≡ of → rules_of_hops chain.hops ≡ r → SayJust robots (Chain chain ∷ []) (ruled of r ∷ [])
-rules_say robots chain of r same rules = record { answers = refl; rules = λ i. (same i, rules i) ∷ [] }
+-- the rules of a chain are kept behind the others, and its note
+pub keeps_chain : (old new : Reading) (c : ChainValue) → lookup (bytes_eq c.of) old.rules.entries ≡ None → new.rules.entries ≡ old.rules.entries ++ (c.of, rules_of_hops c.hops) ∷ []
+    → new.answers.entries ≡ old.answers.entries → new.robots ≡ old.robots → new.version ≡ old.version → new.keeps_notes ≡ old.keeps_notes
+    → new.notes.items ≡ cond old.keeps_notes (old.notes.items ++ Chain c ∷ []) old.notes.items → KeepsNote old (Chain c) new
+keeps_chain old new c vacant rules answers robots version keeps items = record {
+  answers = answers ∙ sym (append-nil old.answers.entries);
+  rules = rules;
+  robots = robots;
+  version = version;
+  keeps_notes = keeps;
+  noted = note_added old.keeps_notes old.robots old.notes.items new.notes.items (Chain c) items;
+  is_new = vacant;
+}
 
-pub chain_says : (robots : Bool) (chain : ChainValue) (of : OriginText) → chain.of ≡ of → SayJust robots (Chain chain ∷ []) (chained of chain.hops ∷ [])
-chain_says robots chain of same = record { answers = refl; rules = λ i. (same i, rules_of_hops chain.hops) ∷ [] }
+-- a chain is kept as its rules are
+pub keeps_rules : (old new : Reading) (c : ChainValue) → KeepsNote old (Chain c) new → Keeps old (ruled c.of (rules_of_hops c.hops)) new
+keeps_rules old new c keeps = record {
+  answers = keeps.answers;
+  rules = keeps.rules;
+  robots = keeps.robots;
+  version = keeps.version;
+  keeps_notes = keeps.keeps_notes;
+  noted = noted old.keeps_notes old.notes.items new.notes.items keeps.noted;
+  is_new = keeps.is_new;
+}
+  where
+    noted : (b : Bool) (was now : List Noted) → AddsNote b old.robots was (chained c.of c.hops) now → AddsNote b old.robots was (ruled c.of (rules_of_hops c.hops)) now
+    noted true was now (note, is, says) = (note, is, record { answers = says.answers; rules = says.rules })
+    noted false was now is = is

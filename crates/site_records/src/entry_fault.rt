@@ -1,12 +1,9 @@
 //! What is wrong with an entry of a record, and in which of its lines.
-ghost use Rattle.site_records.specs.inner.Readings.{IsAlone};
-
-use crate::taken::Taken;
 use site_inputs::{InputFault, InputLineFault};
 use std::alloc::{AllocError, AllocFailed};
 
 /// What is wrong with an entry.
-#[derive(Clone, Copy, Debug, PartialEq, Eq)]
+#[derive(Clone, Copy)]
 pub(crate) enum EntryFault {
     /// This, in its own line.
     Own(InputLineFault),
@@ -62,15 +59,5 @@ impl From<AllocError> for EntryFault {
 
     fn from(_error: AllocError) -> EntryFault {
         EntryFault::Own(InputLineFault::Memory)
-    }
-}
-
-// What was taken of a line that is an entry alone.
-pub(crate) fn alone(taken: Result<&[u8], InputLineFault>) -> Result<Taken<'_>, EntryFault>
-    ensures { IsAlone taken.entry result }
-{
-    match taken {
-        Ok(after) => Ok(Taken { lines: 1, after }),
-        Err(fault) => Err(EntryFault::Own(fault)),
     }
 }

@@ -70,8 +70,11 @@ impl<'a> EntryLine<'a> {
                 Some(kind) => Some(EntryLine::Fault(kind, third)),
                 None => None,
             },
-            "rules" if second == "all" => Some(EntryLine::Free(third)),
-            "rules" if second == "none" => Some(EntryLine::Closed(third)),
+            "rules" => match second {
+                "all" => Some(EntryLine::Free(third)),
+                "none" => Some(EntryLine::Closed(third)),
+                _ => None,
+            },
             "chain" => match hop_count(third) {
                 Some(count) => Some(EntryLine::Chain(second, count)),
                 None => None,

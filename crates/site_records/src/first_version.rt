@@ -1,5 +1,5 @@
 //! The chains that stand in notes for what version 1 says of an origin's robots file: one hop each, with the same rules.
-ghost use Rattle.std.specs.Prelude.{◌≡◌, ◌≤◌, ◌||◌, ◌==◌, ◌++◌, [], false, length, None, IfOk, take};
+ghost use Rattle.std.specs.Prelude.{◌≡◌, ◌≤◌, ◌||◌, ◌==◌, ◌++◌, [], false, length, None, IfOk, if◌then◌else◌, take};
 ghost use Rattle.robots_rules.specs.Groups.{rules_in};
 ghost use Rattle.response_reader.specs.Response.{CanBeGiven};
 ghost use Rattle.answer_notes.specs.RobotsAnswers.{none_allowed, all_allowed};
@@ -44,11 +44,15 @@ pub(crate) fn file_chain(alloc: Global, of: &Origin, file: &[u8]) -> Result<Hops
     chain_of(alloc, of, Told::Whole(Given::new(response)))
 }
 
-/// The chain by which everything is allowed: there is no robots file (RFC 9309, section 2.3.1.3). The error is want of memory.
-pub(crate) fn free_chain(alloc: Global, of: &Origin) -> Result<Hops, AllocError>
+/// The chain by which everything is allowed, as there is no robots file (RFC 9309, section 2.3.1.3), or by which nothing is, as the
+/// file isn't to be had (section 2.3.1.4). The error is want of memory.
+pub(crate) fn bare_chain(alloc: Global, of: &Origin, allowed: bool) -> Result<Hops, AllocError>
     ensures of { IfOk result (λ hops. hops.of ≡ of.now) }
-    ensures rules { IfOk result (λ hops. rules_of_hops hops.hops ≡ all_allowed) }
+    ensures rules { IfOk result (λ hops. rules_of_hops hops.hops ≡ (if allowed then all_allowed else none_allowed)) }
 {
+    if !allowed {
+        return chain_of(alloc, of, Told::Fault(FaultKind::Device));
+    }
     let response = Response {
         status: NOT_FOUND,
         content_type: None,
@@ -57,12 +61,4 @@ pub(crate) fn free_chain(alloc: Global, of: &Origin) -> Result<Hops, AllocError>
         body: Vec::new(alloc),
     };
     chain_of(alloc, of, Told::Whole(Given::new(response)))
-}
-
-/// The chain by which nothing is allowed: the robots file isn't to be had (RFC 9309, section 2.3.1.4). The error is want of memory.
-pub(crate) fn closed_chain(alloc: Global, of: &Origin) -> Result<Hops, AllocError>
-    ensures of { IfOk result (λ hops. hops.of ≡ of.now) }
-    ensures rules { IfOk result (λ hops. rules_of_hops hops.hops ≡ none_allowed) }
-{
-    chain_of(alloc, of, Told::Fault(FaultKind::Device))
 }

@@ -17,27 +17,20 @@ use streams::Pieces;
 // A line of three fields.
 fn line_of_three(
     alloc: Global,
-    first: &[u8],
-    second: &[u8],
-    third: &[u8],
+    first: &str,
+    second: &str,
+    third: &str,
 ) -> Result<Vec<u8>, AllocError>
     ensures { IfOk result (λ line. line.items ≡ line_of_three first.now second.now third.now ++ 10 ∷ []) }
 {
-    let mut line = Vec::from_slice(alloc, first)?;
-    line.extend_from_slice(b" ")?;
-    line.extend_from_slice(second)?;
-    line.extend_from_slice(b" ")?;
-    line.extend_from_slice(third)?;
-    line.extend_from_slice(b"\n")?;
-    Ok(line)
+    Ok(format!(in alloc; "{first} {second} {third}\n")?.into_bytes())
 }
 
 // A line of a word, a text and a number.
-fn counted_line(alloc: Global, word: &[u8], text: &str, count: usize) -> Result<Vec<u8>, AllocError>
+fn counted_line(alloc: Global, word: &str, text: &str, count: usize) -> Result<Vec<u8>, AllocError>
     ensures { IfOk result (λ line. line.items ≡ line_of_three word.now text.now (decimal count) ++ 10 ∷ []) }
 {
-    let digits = format!(in alloc; "{count}")?;
-    line_of_three(alloc, word, text.as_bytes(), digits.as_bytes())
+    Ok(format!(in alloc; "{word} {text} {count}\n")?.into_bytes())
 }
 
 // The head that is written of what was told, unless it is too long to be read again.
@@ -58,7 +51,7 @@ fn short_head(alloc: Global, told: &Told) -> Result<Option<Vec<u8>>, AllocError>
 fn push_whole<'a>(
     alloc: Global,
     pieces: &mut Pieces<'a>,
-    word: &[u8],
+    word: &str,
     at: &Address,
     given: &'a Given,
     head: &[u8],
@@ -81,8 +74,8 @@ fn push_whole<'a>(
 fn push_told<'a>(
     alloc: Global,
     pieces: &mut Pieces<'a>,
-    word: &[u8],
-    fault_word: &[u8],
+    word: &str,
+    fault_word: &str,
     at: &Address,
     told: &'a Told,
 ) -> Result<(), AllocError>
@@ -92,11 +85,11 @@ fn push_told<'a>(
     let Some(head) = short_head(alloc, told)? else {
         return Ok(());
     };
-    let text = at.as_str().as_bytes();
+    let text = at.as_str();
     match told {
         Told::Whole(given) => push_whole(alloc, pieces, word, at, given, head.as_slice()),
         Told::Fault(kind) => {
-            let line = line_of_three(alloc, fault_word, kind.word().as_bytes(), text)?;
+            let line = line_of_three(alloc, fault_word, kind.word(), text)?;
             pieces.push_made(line)
         }
     }
@@ -125,7 +118,7 @@ fn push_hops<'a>(
     ensures told { OnOk result (All (λ (h : HopValue). IsToldOf h.0 h.1) hops.now) }
 {
     for hop in hops {
-        push_told(alloc, pieces, b"hop", b"hopfault", &hop.0, &hop.1)?;
+        push_told(alloc, pieces, "hop", "hopfault", &hop.0, &hop.1)?;
     }
     Ok(())
 }
@@ -135,7 +128,7 @@ fn chain_line(alloc: Global, chain: &Hops) -> Result<Vec<u8>, AllocError>
     ensures { IfOk result (λ line. line.items ≡ chain_line chain.now.of (length chain.now.hops)) }
 {
     let root = chain.of().address()?;
-    counted_line(alloc, b"chain", root.as_str(), chain.hops().len())
+    counted_line(alloc, "chain", root.as_str(), chain.hops().len())
 }
 
 // Adds a chain; nothing where a hop of it couldn't be read again.
@@ -164,7 +157,7 @@ pub fn push_note<'a>(
     ensures note { OnOk result (has_short_heads note.now ≡ true → IsNote note.now) }
 {
     match note {
-        Noted::Page(at, told) => push_told(alloc, pieces, b"page", b"fault", at, told),
+        Noted::Page(at, told) => push_told(alloc, pieces, "page", "fault", at, told),
         Noted::Chain(chain) => push_chain(alloc, pieces, chain),
     }
 }

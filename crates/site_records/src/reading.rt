@@ -1,27 +1,26 @@
 //! A record in mid-read: the answers and the rule sets that the entries so far state.
-ghost use Rattle.std.specs.Prelude.{◌≡◌, ◌≤◌, ◌+◌, ◌++◌, ◌∷◌, [], IfOk, MatchResult, None, OnOk, if◌then◌else◌, length};
+ghost use Rattle.std.specs.Prelude.{◌≡◌, ◌≤◌, ◌+◌, ◌++◌, ◌∷◌, [], MatchResult, None, OnOk, if◌then◌else◌, length};
 ghost use Rattle.std.specs.Map.{lookup};
 ghost use Rattle.std.specs.Str.{bytes_eq};
-ghost use Rattle.answer_notes.specs.declared.noted.Noted.TheVariants.{Chain};
-ghost use Rattle.site_inputs.specs.inner.Tables.{IsVacant};
+ghost use Rattle.answer_notes.specs.declared.noted.Noted.TheVariants.{Chain, Page};
 ghost use Rattle.site_records.specs.EntryLines.{page, fault, file, free, closed, chain, IsHopCount};
+ghost use Rattle.site_records.specs.Records.{answers_of};
+ghost use Rattle.site_records.specs.WrittenEntries.{note_entry};
 ghost use Rattle.site_records.specs.inner.Said.{said};
-ghost use Rattle.site_records.specs.inner.Readings.{Takes, TakesEntry, IsCounted, Reads, IsBad, lines_to};
+ghost use Rattle.site_records.specs.inner.Readings.{TakesEntry, IsCounted, NamesUnstated, NamesUnruled, KeepsNote, Reads, IsBad, lines_to};
 
-use crate::entry_fault::{EntryFault, alone};
+use crate::entry_fault::EntryFault;
 use crate::entry_line::EntryLine;
 use crate::first_line::{counted, first_text_line};
-use crate::first_version::{closed_chain, file_chain, free_chain};
+use crate::first_version::{bare_chain, file_chain};
 use crate::hop_row::{read_chain, told_of};
 use crate::recorded_site::Stated;
-use crate::replayed::no_response;
 use crate::taken::Taken;
 use crate::version::Version;
 use address::{Address, Origin};
 use answer_notes::{Hops, Noted, Told};
 use fetcher::{Answer, FaultKind};
 use indexmap::IndexMap;
-use robots_rules::{RuleSet, parse};
 use site_inputs::{InputLineFault, KeptRules, read_address, read_origin};
 use std::alloc::{AllocError, Global};
 
@@ -72,24 +71,26 @@ impl Reading {
         }
     }
 
-    // Refuses an address for which an answer is kept. Takes no memory.
-    fn unstated(&self, at: &Address) -> Result<(), InputLineFault>
-        ensures { IsVacant self.now.answers.entries at.now result }
+    // The address that a text names, for which no answer is kept.
+    fn unstated(&self, text: &str) -> Result<Address, InputLineFault>
+        ensures { NamesUnstated self.now.answers.entries text.now result }
     {
-        if self.answers.contains_key(at) {
+        let at = read_address(self.alloc, text)?;
+        if self.answers.contains_key(&at) {
             return Err(InputLineFault::Line);
         }
-        Ok(())
+        Ok(at)
     }
 
-    // Refuses an origin for which rules are kept. Takes no memory.
-    fn unruled(&self, origin: &Origin) -> Result<(), InputLineFault>
-        ensures { IsVacant self.now.rules.entries origin.now result }
+    // The origin whose `/` a text names, for which no rules are kept.
+    fn unruled(&self, text: &str) -> Result<Origin, InputLineFault>
+        ensures { NamesUnruled self.now.rules.entries text.now result }
     {
-        if self.rules.contains_key(origin) {
+        let origin = read_origin(self.alloc, text)?;
+        if self.rules.contains_key(&origin) {
             return Err(InputLineFault::Line);
         }
-        Ok(())
+        Ok(origin)
     }
 
     // Keeps a note behind the others, where notes are kept. The error is want of memory.
@@ -97,30 +98,41 @@ impl Reading {
         ensures kept { self.new ≡ record self.old { notes = self.new.notes } }
         ensures notes { OnOk result (self.new.notes.items ≡ (if self.old.keeps_notes then self.old.notes.items ++ note ∷ [] else self.old.notes.items)) }
     {
-        if self.keeps_notes {
-            self.notes.push(note)?;
+        if !self.keeps_notes {
+            drop(note);
+            return Ok(());
         }
+        self.notes.push(note)?;
         Ok(())
     }
 
-    // Keeps the answer of an address for which none is kept, and a note of it. The error is want of memory.
-    fn keep(&mut self, at: Address, answer: Answer, noted: Noted) -> Result<(), AllocError>
-        requires { lookup (bytes_eq at) self.old.answers.entries ≡ None }
-        ensures kept { self.new ≡ record self.old { answers = self.new.answers; notes = self.new.notes } }
-        ensures answers { OnOk result (self.new.answers.entries ≡ self.old.answers.entries ++ (at, answer) ∷ []) }
-        ensures notes { OnOk result (self.new.notes.items ≡ (if self.old.keeps_notes then self.old.notes.items ++ noted ∷ [] else self.old.notes.items)) }
+    // Keeps the answer that is told of an address for which none is kept. The error is want of memory.
+    fn answer(&mut self, at: &Address, told: &Told) -> Result<(), AllocError>
+        requires { lookup (bytes_eq at.now) self.old.answers.entries ≡ None }
+        ensures kept { self.new ≡ record self.old { answers = self.new.answers } }
+        ensures answers { OnOk result (self.new.answers.entries ≡ self.old.answers.entries ++ answers_of (note_entry self.old.robots (Page at.now told.now) ∷ [])) }
     {
-        self.answers.insert(at, answer)?;
-        self.note(noted)
+        let answer = told.answer(self.alloc, at, self.robots)?;
+        self.answers.insert(at.try_clone()?, answer)?;
+        Ok(())
     }
 
-    // Keeps the rules of an origin for which none are kept, and a note of its chain. The error is want of memory.
-    fn keep_rules(&mut self, origin: Origin, rules: RuleSet, hops: Hops) -> Result<(), AllocError>
-        requires { lookup (bytes_eq origin) self.old.rules.entries ≡ None }
-        ensures kept { self.new ≡ record self.old { rules = self.new.rules; notes = self.new.notes } }
-        ensures rules { OnOk result (self.new.rules.entries ≡ self.old.rules.entries ++ (origin, rules) ∷ []) }
-        ensures notes { OnOk result (self.new.notes.items ≡ (if self.old.keeps_notes then self.old.notes.items ++ Chain hops ∷ [] else self.old.notes.items)) }
+    // The same, with a note of it.
+    fn keep(&mut self, at: Address, told: Told) -> Result<(), AllocError>
+        requires { lookup (bytes_eq at) self.old.answers.entries ≡ None }
+        ensures { OnOk result (KeepsNote self.old (Page at told) self.new) }
     {
+        self.answer(&at, &told)?;
+        self.note(Noted::Page(at, told))
+    }
+
+    // Keeps the rules at the end of an origin's chain, where none are kept, and a note of the chain. The error is want of memory.
+    fn keep_chain(&mut self, origin: Origin, hops: Hops) -> Result<(), AllocError>
+        requires vacant { lookup (bytes_eq origin) self.old.rules.entries ≡ None }
+        requires of { hops.of ≡ origin }
+        ensures { OnOk result (KeepsNote self.old (Chain hops) self.new) }
+    {
+        let rules = hops.rules(self.alloc)?;
         self.rules
             .insert(origin, KeptRules::new(self.alloc, rules))?;
         self.note(Noted::Chain(hops))
@@ -132,19 +144,16 @@ impl Reading {
         text: &str,
         count: usize,
         behind: &'a [u8],
-    ) -> Result<&'a [u8], InputLineFault>
-        ensures { Takes self.old (page text.now count) behind.now result self.new }
+    ) -> Result<Taken<'a>, EntryFault>
+        ensures { TakesEntry self.old (page text.now count) behind.now result self.new }
     {
-        let at = read_address(self.alloc, text)?;
-        self.unstated(&at)?;
+        let at = self.unstated(text)?;
         let Some((bytes, after)) = counted(behind, count) else {
-            return Err(InputLineFault::Line);
+            return Err(EntryFault::Own(InputLineFault::Line));
         };
-        let copy = at.try_clone()?;
         let told = told_of(self.alloc, bytes)?;
-        let answer = told.answer(self.alloc, &at, self.robots)?;
-        self.keep(at, answer, Noted::Page(copy, told))?;
-        Ok(after)
+        self.keep(at, told)?;
+        Ok(Taken { lines: 1, after })
     }
 
     // Takes a line with the fault of an address.
@@ -153,14 +162,15 @@ impl Reading {
         kind: FaultKind,
         text: &str,
         behind: &'a [u8],
-    ) -> Result<&'a [u8], InputLineFault>
-        ensures { Takes self.old (fault kind text.now) behind.now result self.new }
+    ) -> Result<Taken<'a>, EntryFault>
+        ensures { TakesEntry self.old (fault kind text.now) behind.now result self.new }
     {
-        let at = read_address(self.alloc, text)?;
-        self.unstated(&at)?;
-        let noted = Noted::Page(at.try_clone()?, Told::Fault(kind));
-        self.keep(at, no_response(self.alloc, kind), noted)?;
-        Ok(behind)
+        let at = self.unstated(text)?;
+        self.keep(at, Told::Fault(kind))?;
+        Ok(Taken {
+            lines: 1,
+            after: behind,
+        })
     }
 
     // Takes a line with an origin's robots file, which has so many bytes.
@@ -169,40 +179,34 @@ impl Reading {
         text: &str,
         count: usize,
         behind: &'a [u8],
-    ) -> Result<&'a [u8], InputLineFault>
-        ensures { Takes self.old (file text.now count) behind.now result self.new }
+    ) -> Result<Taken<'a>, EntryFault>
+        ensures { TakesEntry self.old (file text.now count) behind.now result self.new }
     {
-        let origin = read_origin(self.alloc, text)?;
-        self.unruled(&origin)?;
+        let origin = self.unruled(text)?;
         let Some((bytes, after)) = counted(behind, count) else {
-            return Err(InputLineFault::Line);
+            return Err(EntryFault::Own(InputLineFault::Line));
         };
-        let rules = parse(self.alloc, bytes)?;
         let hops = file_chain(self.alloc, &origin, bytes)?;
-        self.keep_rules(origin, rules, hops)?;
-        Ok(after)
+        self.keep_chain(origin, hops)?;
+        Ok(Taken { lines: 1, after })
     }
 
-    // Takes a line that says that everything is allowed at an origin.
-    fn add_free<'a>(&mut self, text: &str, behind: &'a [u8]) -> Result<&'a [u8], InputLineFault>
-        ensures { Takes self.old (free text.now) behind.now result self.new }
+    // Takes a line that says that everything is allowed at an origin, or that nothing is.
+    fn add_rules<'a>(
+        &mut self,
+        allowed: bool,
+        text: &str,
+        behind: &'a [u8],
+    ) -> Result<Taken<'a>, EntryFault>
+        ensures { TakesEntry self.old (if allowed then free text.now else closed text.now) behind.now result self.new }
     {
-        let origin = read_origin(self.alloc, text)?;
-        self.unruled(&origin)?;
-        let hops = free_chain(self.alloc, &origin)?;
-        self.keep_rules(origin, RuleSet::all(), hops)?;
-        Ok(behind)
-    }
-
-    // Takes a line that says that nothing is allowed at an origin.
-    fn add_closed<'a>(&mut self, text: &str, behind: &'a [u8]) -> Result<&'a [u8], InputLineFault>
-        ensures { Takes self.old (closed text.now) behind.now result self.new }
-    {
-        let origin = read_origin(self.alloc, text)?;
-        self.unruled(&origin)?;
-        let hops = closed_chain(self.alloc, &origin)?;
-        self.keep_rules(origin, RuleSet::none(), hops)?;
-        Ok(behind)
+        let origin = self.unruled(text)?;
+        let hops = bare_chain(self.alloc, &origin, allowed)?;
+        self.keep_chain(origin, hops)?;
+        Ok(Taken {
+            lines: 1,
+            after: behind,
+        })
     }
 
     // Takes the line of an origin's chain, which has so many hops.
@@ -215,11 +219,9 @@ impl Reading {
         requires { IsHopCount count }
         ensures { TakesEntry self.old (chain text.now count) behind.now result self.new }
     {
-        let origin = read_origin(self.alloc, text)?;
-        self.unruled(&origin)?;
+        let origin = self.unruled(text)?;
         let (hops, after) = read_chain(self.alloc, &origin, count, behind)?;
-        let rules = hops.rules(self.alloc)?;
-        self.keep_rules(origin, rules, hops)?;
+        self.keep_chain(origin, hops)?;
         let lines = count + 1;
         Ok(Taken { lines, after })
     }
@@ -230,11 +232,11 @@ impl Reading {
         ensures { TakesEntry self.old (said line.entry) behind.now result self.new }
     {
         match line {
-            EntryLine::Page(text, count) => alone(self.add_page(text, count, behind)),
-            EntryLine::Fault(kind, text) => alone(self.add_fault(kind, text, behind)),
-            EntryLine::Robots(text, count) => alone(self.add_robots(text, count, behind)),
-            EntryLine::Free(text) => alone(self.add_free(text, behind)),
-            EntryLine::Closed(text) => alone(self.add_closed(text, behind)),
+            EntryLine::Page(text, count) => self.add_page(text, count, behind),
+            EntryLine::Fault(kind, text) => self.add_fault(kind, text, behind),
+            EntryLine::Robots(text, count) => self.add_robots(text, count, behind),
+            EntryLine::Free(text) => self.add_rules(true, text, behind),
+            EntryLine::Closed(text) => self.add_rules(false, text, behind),
             EntryLine::Chain(text, count) => self.add_chain(text, count, behind),
         }
     }

@@ -15,10 +15,10 @@ pub(crate) fn is_torn(version: Version, text: &[u8]) -> bool
     let Some((line, behind)) = first_text_line(text) else {
         return first_line(text).is_none();
     };
-    match EntryLine::of(line) {
-        Some(line) if line.is_of(version) => runs_out(&line, behind),
-        _ => false,
-    }
+    let Some(line) = EntryLine::of(line) else {
+        return false;
+    };
+    line.is_of(version) && runs_out(&line, behind)
 }
 
 // Whether what a line counts goes beyond the end of what is behind it.

@@ -3,7 +3,7 @@ ghost use Rattle.std.specs.Prelude.{◌≡◌, ◌++◌, MatchOption};
 ghost use Rattle.site_records.specs.Records.{version_line, HasVersion};
 
 /// Which entries a record has beside its pages and its faults.
-#[derive(Clone, Copy, Debug, PartialEq, Eq)]
+#[derive(Clone, Copy, PartialEq, Eq)]
 pub(crate) enum Version {
     /// `robots` and `rules`: the file of an origin, or its rules.
     First,

@@ -92,14 +92,24 @@ fn add_parts<'a>(
     Ok(())
 }
 
+// Adds the first line of a record, and these notes. The error is want of memory.
+fn add_record<'a>(
+    alloc: Global,
+    text: &mut Pieces<'a>,
+    notes: &[&'a [Noted]],
+) -> Result<(), AllocError>
+    ensures { OnOk result (text.old ≡ [] → (named : Named) × IsDraft text.new named (all_noted notes.now)) }
+{
+    text.push_lent(SECOND_VERSION_LINE)?;
+    add_parts(alloc, text, &mut Named::new(alloc), notes)
+}
+
 // The text of the record of these notes. The error is want of memory.
 fn text_of<'a>(alloc: Global, notes: &[&'a [Noted]]) -> Result<Pieces<'a>, AllocError>
     ensures { IfOk result (λ text. (named : Named) × IsDraft text named (all_noted notes.now)) }
 {
     let mut text = Pieces::new(alloc);
-    text.push_lent(SECOND_VERSION_LINE)?;
-    let mut named = Named::new(alloc);
-    add_parts(alloc, &mut text, &mut named, notes)?;
+    add_record(alloc, &mut text, notes)?;
     Ok(text)
 }
 

@@ -1,7 +1,11 @@
 -- A record in mid-read: what is kept, and what a line more adds to it.
-use Rattle.std.specs.Prelude.{◌≡◌, ◌≢◌, ◌⊎◌, ◌++◌, ◌+◌, ⊤, ℕ, List, [], ◌∷◌, Option, Some, None, Result, Ok, Err, MatchResult}
-use Rattle.std.specs.Borrow.{Bor}
-use Rattle.address.specs.Address.{AddressText, OriginText}
+use Rattle.std.specs.Prelude.{◌≡◌, ◌≢◌, ◌⊎◌, ◌++◌, ◌+◌, ⊤, ℕ, List, [], ◌∷◌, Option, Some, None, Result, Ok, Err, MatchResult, IsSome, codes}
+use Rattle.std.specs.Map.{lookup}
+use Rattle.std.specs.Str.{bytes_eq}
+use Rattle.address.specs.Address.{AddressText, OriginText, origin_of, path_query_of}
+use Rattle.robots_rules.specs.Access.{RuleSetValue}
+use Rattle.fetcher.specs.declared.answer.Answer.{Answer}
+use Rattle.answer_notes.specs.declared.noted.Noted.{Noted}
 use Rattle.answer_notes.specs.HopChains.{HopValue}
 use Rattle.site_inputs.specs.declared.input_fault.InputFault.{InputFault}
 use Rattle.site_inputs.specs.declared.input_fault.InputLineFault.{InputLineFault}
@@ -15,6 +19,7 @@ use Rattle.site_records.specs.declared.reading.Reading.{Reading}
 use Rattle.site_records.specs.EntryLines.{Statement, text_of, HopStatement, hop_text, chain, IsHopCount}
 use Rattle.site_records.specs.Entries.{Entry, lines_of, States, IsAtRoot, IsRepeated, IsEntry, IsNew, IsMisplaced, IsBadLine, IsBadAddress, IsFormed, HasHopBytes, TellsHop, IsBadHopLine, IsBadHopAddress, IsBadRow, IsBadBehind, LeadsOn}
 use Rattle.site_records.specs.Records.{answers_of, rules_of}
+use Rattle.site_records.specs.WrittenEntries.{note_entry}
 use Rattle.site_records.specs.inner.RecordNotes.{AddsNote}
 
 -- the entry is kept behind the others
@@ -26,6 +31,34 @@ pub record Keeps (old : Reading) (e : Entry) (new : Reading) : Type 0 where
   pub keeps_notes : new.keeps_notes ≡ old.keeps_notes
   pub noted : AddsNote old.keeps_notes old.robots old.notes.items e new.notes.items
   pub is_new : IsNew old.answers.entries old.rules.entries e
+
+-- the entry that the note is written as is kept behind the others
+abbrev pub KeepsNote : Reading → Noted → Reading → Type 0
+KeepsNote old note new = Keeps old (note_entry old.robots note) new
+
+-- the text names no address, or one for which an answer is kept
+abbrev pub IsStated : List (AddressText × Answer) → List ℕ → InputLineFault → Type 0
+IsStated answers text Line = IsNamed text × IsSome (lookup (bytes_eq (named text)) answers)
+IsStated answers text Address = ¬ IsNamed text
+IsStated answers text Memory = ⊤
+
+-- the text names an address for which no answer is kept, or is refused
+abbrev pub NamesUnstated : List (AddressText × Answer) → List ℕ → Result AddressText InputLineFault → Type 0
+NamesUnstated answers text result =
+    MatchResult result (λ at. IsNamed text × (named text ≡ at) × (lookup (bytes_eq at) answers ≡ None)) (λ f. IsStated answers text f)
+
+-- the text names no origin's `/`, or that of one for which rules are kept
+abbrev pub IsRuled : List (OriginText × RuleSetValue) → List ℕ → InputLineFault → Type 0
+IsRuled rules text Line = IsNamed text × ((path_query_of (named text) ≢ codes "/") ⊎ IsSome (lookup (bytes_eq (origin_of (named text))) rules))
+IsRuled rules text Address = ¬ IsNamed text
+IsRuled rules text Memory = ⊤
+
+-- the text names the `/` of an origin for which no rules are kept, or is refused
+abbrev pub NamesUnruled : List (OriginText × RuleSetValue) → List ℕ → Result OriginText InputLineFault → Type 0
+NamesUnruled rules text result =
+    MatchResult result
+    (λ of. IsNamed text × (path_query_of (named text) ≡ codes "/") × (origin_of (named text) ≡ of) × (lookup (bytes_eq of) rules ≡ None))
+    (λ f. IsRuled rules text f)
 
 -- the line, and what is behind it, are taken as this entry
 pub record Adds (old : Reading) (s : Statement) (behind : List ℕ) (after : List ℕ) (new : Reading) : Type 0 where
@@ -40,10 +73,6 @@ abbrev pub IsWrong : Reading → Statement → List ℕ → InputLineFault → T
 IsWrong old s behind Line = IsNamed (text_of s) × IsMisplaced old.answers.entries old.rules.entries s behind
 IsWrong old s behind Address = ¬ IsNamed (text_of s)
 IsWrong old s behind Memory = Unit {0}
-
--- a line that says this is taken with what is behind it, or is refused for what is wrong with it
-abbrev pub Takes : Reading → Statement → List ℕ → Result (Bor (List ℕ)) InputLineFault → Reading → Type 0
-Takes old s behind result new = MatchResult result (λ after. Adds old s behind after.now new) (λ f. IsWrong old s behind f)
 
 -- ---- the hops of a chain
 
@@ -102,12 +131,6 @@ pub record AddsLines (old : Reading) (s : Statement) (behind : List ℕ) (taken 
 -- the entry of a line that says this is taken, or is refused for what is wrong with it
 abbrev pub TakesEntry : Reading → Statement → List ℕ → Result Taken EntryFault → Reading → Type 0
 TakesEntry old s behind result new = MatchResult result (λ taken. AddsLines old s behind taken new) (λ f. IsWrongAt old s behind f)
-
--- a line alone is an entry
-abbrev pub IsAlone : Result (Bor (List ℕ)) InputLineFault → Result Taken EntryFault → Type 0
-IsAlone (Ok after) (Ok taken) = (taken.after.now ≡ after.now) × (taken.lines ≡ 1)
-IsAlone (Err f) (Err fault) = fault ≡ Own f
-IsAlone taken other = ⊥
 
 -- how many lines behind an entry's own line a fault of it stands
 abbrev pub lines_to : EntryFault → ℕ

@@ -2,7 +2,8 @@
 use Rattle.std.proofs.Common.{◌≡◌, ◌∙◌, ◌<◌, None, sym, subst, arith}
 use Rattle.answer_notes.specs.HopChains.{IsAdmitted}
 use Rattle.site_records.specs.Entries.{chain_start, due}
-use Rattle.site_records.proofs.ChainLaws.{chain_admitted, none_left}
+use Rattle.site_records.proofs.EntryLaws.{none_left}
+use Rattle.site_records.proofs.ChainLaws.{chain_admitted}
 use Rattle.site_records.proofs.hop_row.read_chain.Goals.{else-count-lt-MAX_HOPS-via-then-count-lt-MAX_HOPS+else-is_some, else-count-lt-MAX_HOPS-via-else-count-lt-MAX_HOPS}
 use Rattle.site_records.proofs.hop_row.read_chain.Goals as goal
 

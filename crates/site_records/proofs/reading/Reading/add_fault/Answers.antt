@@ -1,31 +1,25 @@
 -- A fault goes behind the other answers.
-use Rattle.std.proofs.Common.{ap}
+use Rattle.std.proofs.Common.{refl}
 use Rattle.std.proofs.lemmas.Result.{err_from_is_err_and}
+use Rattle.answer_notes.specs.declared.told.Told.TheVariants.{Fault}
+use Rattle.answer_notes.specs.declared.noted.Noted.TheVariants.{Page}
 use Rattle.site_records.specs.EntryLines.{fault}
-use Rattle.site_records.specs.declared.reading.Reading.{Reading}
-use Rattle.site_records.specs.Entries.{no_response, answered}
-use Rattle.site_records.proofs.EntryLaws.{unread, answered_before, takes_answer, fault_states}
-use Rattle.site_records.proofs.NoteLaws.{note_added, fault_says}
+use Rattle.site_records.specs.WrittenEntries.{note_entry}
+use Rattle.site_records.proofs.EntryLaws.{refused_answer, takes, fault_states}
 use Rattle.site_records.proofs.reading.Reading.add_fault.Goals as goal
 
 pub returns-in_err-at : goal.returns-in_err-at
 returns-in_err-at c =
     let p = err_from_is_err_and c.from_residual.result c.from_residual.ensures.1 in
-    rw (p.1, p.2) (unread c.args.self.now (fault c.args.kind c.args.text.now) c.args.behind.now _ c.in_err-at.ensures)
+    rw (p.1, p.2) (refused_answer c.args.self.now (fault c.args.kind c.args.text.now) c.args.behind.now _ (λ k. k) c.in_err-at.ensures)
 
-pub returns-in_err-unstated : goal.returns-in_err-unstated
-returns-in_err-unstated c =
-    let p = err_from_is_err_and c.from_residual-in_err-unstated.result c.from_residual-in_err-unstated.ensures.1 in
-    rw (p.1, p.2) (answered_before c.args.self.now (fault c.args.kind c.args.text.now) c.args.behind.now c.in_ok-at.at _ c.in_ok-at.ensures (λ k. k) c.in_err-unstated.ensures)
+pub returns-in_err-keep : goal.returns-in_err-keep
+returns-in_err-keep c =
+    let p = err_from_is_err_and c.from_residual-in_err-keep.result c.from_residual-in_err-keep.ensures.1 in
+    rw (p.1, p.2) tt
 
 pub returns : goal.returns
 returns c =
-    let kept = c.in_ok-keep.ensures.kept in
-    let none = c.in_ok-unstated.ensures in
-    let a = no_response c.args.kind in
-    takes_answer c.args.self.now _ (fault c.args.kind c.args.text.now) c.args.behind.now c.args.behind.now c.in_ok-at.at a c.in_ok-at.ensures tt
-    (fault_states c.args.self.now.robots c.args.kind c.args.text.now c.args.behind.now c.in_ok-at.at)
-    none (rw c.no_response.ensures at c.in_ok-keep.ensures.answers) (ap (λ (r : Reading). r.rules.entries) kept) (ap (λ (r : Reading). r.robots) kept)
-    (ap (λ (r : Reading). r.version) kept) (ap (λ (r : Reading). r.keeps_notes) kept)
-    (note_added c.args.self.now.keeps_notes c.args.self.now.robots c.args.self.now.notes.items _ _ (answered c.in_ok-at.at a) c.in_ok-keep.ensures.notes
-    (fault_says c.args.self.now.robots c.in_ok-at.at c.in_ok-try_clone.field-0 c.args.kind c.in_ok-try_clone.ensures))
+    let (named, same, _) = c.in_ok-at.ensures in
+    takes c.args.self.now c.keep.new.self (fault c.args.kind c.args.text.now) c.args.behind.now _ (note_entry c.args.self.now.robots (Page c.in_ok-at.at (Fault c.args.kind))) named tt
+    (fault_states c.args.self.now.robots c.args.kind c.args.text.now c.args.behind.now c.in_ok-at.at same) c.in_ok-keep.ensures refl

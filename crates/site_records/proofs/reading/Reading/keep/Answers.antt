@@ -1,15 +1,13 @@
--- The answer goes behind the others.
-use Rattle.std.proofs.Common.{◌∙◌, ap}
-use Rattle.std.proofs.lemmas.Result.{on_ok_weaker}
-use Rattle.std.specs.Str.{bytes_eq}
-use Rattle.indexmap.proofs.CallerLemmas.{insert_entry-new}
-use Rattle.site_records.specs.declared.reading.Reading.{Reading}
+-- The answer goes behind the others, and its note.
+use Rattle.std.proofs.lemmas.Result.{on_ok_weaker, IfOk-from_err}
+use Rattle.site_records.proofs.NoteLaws.{keeps_page}
 use Rattle.site_records.proofs.reading.Reading.keep.Goals as goal
 
-pub returns-clause-answers : goal.returns-clause-answers
-returns-clause-answers c =
-    let put = insert_entry-new bytes_eq c.args.self.now.answers c.args.at c.args.answer c.requires in
-    on_ok_weaker
-    c.note.result
-    (λ _. ap (λ (r : Reading). r.answers.entries) c.note.ensures.kept ∙ c.in_ok-insert.ensures.entries ∙ put)
+pub returns-in_err-answer : goal.returns-in_err-answer
+returns-in_err-answer c = IfOk-from_err _ _ c.from_residual.ensures.0
+
+pub returns : goal.returns
+returns c =
+    on_ok_weaker c.note.result
+    (λ items. keeps_page c.args.self.now c.answer.new.self c.note.new.self c.args.at c.args.told c.requires c.answer.ensures.kept c.in_ok-answer.ensures.answers c.note.ensures.kept items)
     c.note.ensures.notes
