@@ -2,6 +2,9 @@
 use local_tree::{Naming, Part, PartCrew};
 use std::thread::{Threads, join};
 
+/// How many threads write parts.
+const WRITERS: usize = 3;
+
 /// Writes parts in three threads, while the caller's gives names. Each has one file open at a time. Where no thread can be made the
 /// caller's does its work.
 // What a method sends to a thread may rest on no bound of its block, so the disk has a handle here whose type is known.
@@ -25,48 +28,29 @@ fn write_all(disk: &HostRuntime, parts: &mut [Part<'_>]) {
     }
 }
 
-// Writes these parts in another thread, while names are given in this one.
-fn write_in_one<R: Threads, N: Naming>(
+// Writes these parts in so many other threads, while names are given in this one.
+#[cycle(writers)]
+fn write_in<R: Threads, N: Naming>(
     rt: &R,
     disk: &HostRuntime,
+    writers: usize,
     parts: &mut [Part<'_>],
     naming: &mut N,
 ) {
-    join(rt, || write_all(disk, parts), || naming.give_names());
-}
-
-// The same in two other threads.
-fn write_in_two<R: Threads, N: Naming>(
-    rt: &R,
-    disk: &HostRuntime,
-    parts: &mut [Part<'_>],
-    naming: &mut N,
-) {
-    let (first, rest) = parts.split_at_mut(parts.len() / 2);
+    if writers == 0 {
+        return naming.give_names();
+    }
+    let (some, rest) = parts.split_at_mut(parts.len() / writers);
+    let others = writers - 1;
     join(
         rt,
-        || write_all(disk, first),
-        || write_in_one(rt, disk, rest, naming),
-    );
-}
-
-// The same in three.
-fn write_in_three<R: Threads, N: Naming>(
-    rt: &R,
-    disk: &HostRuntime,
-    parts: &mut [Part<'_>],
-    naming: &mut N,
-) {
-    let (first, rest) = parts.split_at_mut(parts.len() / 3);
-    join(
-        rt,
-        || write_all(disk, first),
-        || write_in_two(rt, disk, rest, naming),
+        || write_all(disk, some),
+        || write_in(rt, disk, others, rest, naming),
     );
 }
 
 impl<'a, R: Threads> PartCrew for PartThreads<'a, R> {
     fn write_parts<N: Naming>(&self, parts: &mut [Part<'_>], naming: &mut N) {
-        write_in_three(self.rt, self.disk, parts, naming);
+        write_in(self.rt, self.disk, WRITERS, parts, naming);
     }
 }
