@@ -1,11 +1,13 @@
 -- Files of a folder in memory, as its map has them.
-use Rattle.std.proofs.Common.{◌≡◌, ℕ, Bool, true, false, cond, List, [], ◌∷◌, map, Option, Some, Vec, refl, sym, ap, ◌∙◌}
+use Rattle.std.proofs.Common.{◌≡◌, ℕ, Bool, true, false, cond, List, [], ◌∷◌, map, Option, Some, Result, Ok, Err, OnErr, Vec, refl, sym, ap, ◌∙◌}
+use Rattle.std.proofs.lemmas.Bool.{false≢true}
 use Rattle.std.proofs.lemmas.Map.Text.{is_eq-slice_cmp}
 use Rattle.std.specs.BTreeMap.{BTreeMap, get_by_text}
 use Rattle.std.specs.Cmp.Lexicographic.{slice_cmp}
 use Rattle.std.specs.Map.{lookup}
 use Rattle.std.specs.Option.{option_map}
 use Rattle.std.specs.Ordering.{is_eq, nat_cmp}
+use Rattle.std.specs.Result.{is_ok}
 use Rattle.std.specs.Str.{bytes_eq}
 use Rattle.std.specs.String.{string_bytes}
 use Rattle.std.specs.declared.string.String.{String}
@@ -34,3 +36,8 @@ kept_file {Y} {Z} old new key name v bytes other same held e =
     ∙ sym (entry_choice (bytes_eq key other) v (get_by_text old other) (file_in (map named old.entries) other) (file_of_entries {Y = Y} old.entries other))
     ∙ ap (λ k. cond (bytes_eq k other) (Some v.items) (file_in (map named old.entries) other)) same
     ∙ ap (λ b. cond (bytes_eq name other) (Some b) (file_in (map named old.entries) other)) held
+
+-- what a call says that didn't end well
+pub unkept : {A E : Type 0} (r : Result A E) (P : Type 0) → is_ok r ≡ false → OnErr r P → P
+unkept (Ok a) P is held = absurd (false≢true (sym is))
+unkept (Err e) P is held = held

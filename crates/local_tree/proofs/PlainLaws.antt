@@ -1,20 +1,48 @@
 -- Plain names of addresses: their segments, and that each name made of one stays inside its folder.
-use Rattle.std.proofs.Common.{zero, suc, ◌≡◌, ℕ, ◌+◌, ◌<◌, List, [], ◌∷◌, ◌++◌, length, map, get_or, codes, All, sym, refl, ap, ◌∙◌, subst, arith, append_assoc, drop}
+use Rattle.std.proofs.Common.{zero, suc, ◌≡◌, ℕ, ◌+◌, ◌<◌, ◌==◌, true, false, List, [], ◌∷◌, ◌++◌, length, map, get_or, take, codes, All, sym, refl, ap, ◌∙◌, subst, arith, append_assoc, drop}
+use denote.Ref.{Bor}
+use Rattle.std.proofs.lemmas.Bool.{eqb-true}
 use Rattle.std.proofs.lemmas.Grind.{flat_map-append}
-use Rattle.std.proofs.lemmas.List.{append-nil, map-append, get_or-map, length-map}
-use Rattle.std.proofs.lemmas.List.Elements.{All-nil, All-cons, All-append, All-map, All-weaker, All-head, All-tail}
+use Rattle.std.proofs.lemmas.List.{append-nil, map-append, get_or-map, length-map, take_more, nil_from_length}
+use Rattle.std.proofs.lemmas.List.Elements.{filter-append, All-nil, All-cons, All-append, All-map, All-weaker, All-head, All-tail}
 use Rattle.std.proofs.lemmas.Str.{IsUtf8-from_ascii}
 use Rattle.std.proofs.lemmas.Str.Ascii.{IsAscii-from_all}
 use Rattle.std.proofs.Math.Seq.{drop-append-add, drop-append_seam}
 use Rattle.std.specs.Fmt.{decimal}
-use Rattle.std.specs.List.{slice_split, flat_map, join_with_byte}
+use Rattle.std.specs.List.{slice_split, flat_map, filter, join_with_byte}
 use Rattle.std.specs.Str.{IsUtf8}
 use Rattle.address.specs.Address.{AddressText, IsAddress, IsAddressByte, authority_of, host_of, port_of, port_text, origin_of, path_query_of, dir_of, file_of, query_of}
-use Rattle.local_tree.specs.PlainNames.{slash, is_slash, local_segment, dir_segments, last_segment, segments_of, plain_name_of}
+use Rattle.local_tree.specs.PlainNames.{slash, is_slash, has_bytes, local_segment, dir_segments, last_segment, segments_of, plain_name_of}
 use Rattle.local_tree.specs.Names.{numbered_name, IsNaming}
 use Rattle.local_tree.specs.LocalNames.{IsInner, StaysInside, IsVisible, IsShort, HasShortSegments}
 use Rattle.local_tree.proofs.NamingLaws.{numbered_name-suc}
 use Rattle.local_tree.proofs.SegmentLaws.{IsSegmentByte, IsRaw, IsSegment, all_left, all_right, split_joined, joined_by_one, joined_onto_last, joined_visible, local_segment_is, local_segment_short, dir_segments_are_raw, last_segment_is_raw, appended_is_present, numbered_segment_is}
+
+-- what is made of each byte, when one more was read
+pub bytes_more : (f : ℕ → List ℕ) (old now added new xs : List ℕ) (i : ℕ) → i < length xs → now ≡ old ++ flat_map f (take i xs) → added ≡ f (get_or xs i 0) → new ≡ now ++ added → new ≡ old ++ flat_map f (take (i + 1) xs)
+bytes_more f old now added new xs i below so is grown =
+    let more : flat_map f (take (i + 1) xs) ≡ flat_map f (take i xs) ++ added =
+    ap (flat_map f) (take_more xs i 0 below)
+    ∙ flat_map-append f (take i xs) (get_or xs i 0 ∷ [])
+    ∙ ap (λ ys. flat_map f (take i xs) ++ ys) (append-nil (f (get_or xs i 0)) ∙ sym is) in
+    grown ∙ ap (λ ys. ys ++ added) so ∙ append_assoc old (flat_map f (take i xs)) added ∙ ap (λ ys. old ++ ys) (sym more)
+
+-- what is made of each segment that has bytes, when one more was read
+pub segments_more : (f : List ℕ → List ℕ) (old now new : List ℕ) (read : List (Bor (List ℕ))) (one : Bor (List ℕ)) → now ≡ old ++ flat_map f (filter has_bytes (map (λ s. s.now) read)) → new ≡ now ++ flat_map f (filter has_bytes (one.now ∷ [])) → new ≡ old ++ flat_map f (filter has_bytes (map (λ s. s.now) (read ++ one ∷ [])))
+segments_more f old now new read one so grown =
+    let all = map (λ (s : Bor (List ℕ)). s.now) read in
+    let more : flat_map f (filter has_bytes (map (λ s. s.now) (read ++ one ∷ []))) ≡ flat_map f (filter has_bytes all) ++ flat_map f (filter has_bytes (one.now ∷ [])) =
+    ap (λ xs. flat_map f (filter has_bytes xs)) (map-append (λ (s : Bor (List ℕ)). s.now) read (one ∷ []))
+    ∙ ap (flat_map f) (filter-append has_bytes all (one.now ∷ []))
+    ∙ flat_map-append f (filter has_bytes all) (filter has_bytes (one.now ∷ [])) in
+    grown ∙ ap (λ ys. ys ++ flat_map f (filter has_bytes (one.now ∷ []))) so ∙ append_assoc old (flat_map f (filter has_bytes all)) (flat_map f (filter has_bytes (one.now ∷ []))) ∙ ap (λ ys. old ++ ys) (sym more)
+
+pub no_segment : (f : List ℕ → List ℕ) (segment : List ℕ) → (length segment == 0) ≡ true → flat_map f (filter has_bytes (segment ∷ [])) ≡ []
+no_segment f segment none = rw (nil_from_length segment (eqb-true (length segment) 0 none)) refl
+
+pub one_segment : (f : List ℕ → List ℕ) (segment : List ℕ) → (length segment == 0) ≡ false → flat_map f (filter has_bytes (segment ∷ [])) ≡ f segment
+one_segment f [] some = cc
+one_segment f (byte ∷ segment) some = append-nil (f (byte ∷ segment))
 
 -- ---- as the code writes it
 

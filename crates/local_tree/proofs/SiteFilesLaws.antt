@@ -1,13 +1,31 @@
 -- Files of a site that are put one after another.
-use Rattle.std.proofs.Common.{◌≡◌, ◌≢◌, ◌⊎◌, ℕ, ◌+◌, ◌≤◌, ◌<◌, ◌-◌, ◌^◌, max, min, cond, List, [], ◌∷◌, length, get_or, take, Contains, Option, Some, None, inl, inr, refl, sym, ap, ◌∙◌, subst, arith}
-use Rattle.std.proofs.lemmas.Bool.{cases_lt, cond-true, cond-false, false_from_ne_true}
+use Rattle.std.proofs.Common.{◌≡◌, ◌≢◌, ◌⊎◌, ℕ, ◌+◌, ◌≤◌, ◌<◌, ◌-◌, ◌^◌, max, min, cond, true, false, List, [], ◌∷◌, length, get_or, take, Contains, Option, Some, None, Result, Ok, Err, OnOk, OnErr, inl, inr, refl, sym, ap, ◌∙◌, subst, arith}
+use Rattle.std.proofs.lemmas.Bool.{cases_lt, cond-true, cond-false, false_from_ne_true, false≢true}
 use Rattle.std.proofs.lemmas.List.{take_more}
 use Rattle.std.proofs.lemmas.List.Elements.{Contains-append_left, Contains-push}
 use Rattle.std.proofs.lemmas.Slice.Eq.{bytes_eq-Decides}
+use Rattle.std.specs.Result.{is_err}
 use Rattle.std.specs.Str.{bytes_eq}
 use Rattle.local_tree.specs.Names.{AreDistinct}
-use Rattle.local_tree.specs.Folders.{Files, Puts, KeepsOthers, HasMoreRefused}
+use Rattle.local_tree.specs.Folders.{Files, Puts, KeepsOthers, CountsRefusedPut, HasMoreRefused, one_more_refused}
 use Rattle.local_tree.specs.SiteFiles.{AreWritten, OfFiles}
+
+-- what the result of a put says
+pub made : {A E : Type 0} (r : Result A E) (P : Type 0) → is_err r ≡ false → OnOk r P → P
+made (Ok a) P is held = held
+made (Err e) P is held = absurd (false≢true (sym is))
+
+pub failed : {A E : Type 0} (r : Result A E) (P : Type 0) → is_err r ≡ true → OnErr r P → P
+failed (Ok a) P is held = absurd (false≢true is)
+failed (Err e) P is held = held
+
+pub same_count : {A E : Type 0} (r : Result A E) (old new : ℕ) → is_err r ≡ false → CountsRefusedPut old new r → new ≡ old
+same_count (Ok a) old new is counts = counts
+same_count (Err e) old new is counts = absurd (false≢true (sym is))
+
+pub one_more : {A E : Type 0} (r : Result A E) (old new : ℕ) → is_err r ≡ true → CountsRefusedPut old new r → new ≡ one_more_refused old
+one_more (Ok a) old new is counts = absurd (false≢true is)
+one_more (Err e) old new is counts = counts
 
 pub none_written : (names bodies : List (List ℕ)) (files : Option Files) → OfFiles files files (AreWritten 0 0 names bodies)
 none_written names bodies None = tt

@@ -124,17 +124,12 @@ fn make_dir<R: Files>(rt: &R, path: &str) -> io::Result<bool> {
     }
 }
 
-// Makes the directory of this name below a path, which leads to it from then on. Whether it was made here.
-fn descend<R: Files>(rt: &R, path: &mut String, name: &str) -> io::Result<bool> {
-    push_name(path, name)?;
-    make_dir(rt, path.as_str())
-}
-
 // Makes these directories below a path, from the top down; it leads to the last from then on. Whether that was made here.
 fn descend_all<R: Files>(rt: &R, path: &mut String, dirs: &str) -> io::Result<bool> {
     let mut is_new = false;
     for segment in dirs.split('/') {
-        is_new = descend(rt, path, segment)?;
+        push_name(path, segment)?;
+        is_new = make_dir(rt, path.as_str())?;
     }
     Ok(is_new)
 }
@@ -153,15 +148,15 @@ fn make_dirs<R: Files>(
     folder: &str,
     known: &mut Known,
     dirs: &str,
-) -> io::Result<()> {
+) -> io::Result<bool> {
     if known.is(dirs) {
-        return Ok(());
+        return Ok(known.is_new);
     }
     let is_new = make_dirs_below(rt, alloc, folder, dirs)?;
     known.forget();
     known.dirs.push_str(dirs)?;
     known.is_new = is_new;
-    Ok(())
+    Ok(is_new)
 }
 
 // Refuses what stands where a file is to stand, unless it is a file or nothing.
@@ -195,14 +190,14 @@ fn find_place<R: Files>(
     if !is_local_name(name) {
         return Err(Error::from(ErrorKind::InvalidInput));
     }
+    let is_new = match name.rsplit_once('/') {
+        Some((dirs, _)) => make_dirs(rt, alloc, folder, known, dirs)?,
+        None => false,
+    };
     let path = path_below(alloc, folder, name)?;
-    if let Some((dirs, _)) = name.rsplit_once('/') {
-        make_dirs(rt, alloc, folder, known, dirs)?;
-        if known.is_new {
-            return Ok(path);
-        }
+    if !is_new {
+        look_for_file(rt, path.as_str())?;
     }
-    look_for_file(rt, path.as_str())?;
     Ok(path)
 }
 
@@ -328,24 +323,17 @@ where
         self.error.as_ref()
     }
 
-    // Makes the directories of a file, and refuses what stands in its place. Gives its path.
-    fn find_place(&mut self, name: &str) -> io::Result<String>
+    // Writes the file and gives it its name.
+    fn write(&mut self, name: &str, bytes: &[u8]) -> io::Result<()>
         ensures { self.new ≡ self.old }
     {
-        find_place(
+        let path = find_place(
             self.rt,
             self.alloc,
             self.prefix.as_str(),
             &mut self.known,
             name,
-        )
-    }
-
-    // Writes the file and gives it its name.
-    fn write(&mut self, name: &str, bytes: &[u8]) -> io::Result<()>
-        ensures { self.new ≡ self.old }
-    {
-        let path = self.find_place(name)?;
+        )?;
         let put = put_by_way_of(self.rt, self.part.as_str(), path.as_str(), bytes);
         if put.is_err() {
             // A part that stays is taken away before the next file.

@@ -101,35 +101,6 @@ fn is_taken(sorted: &[&str], next: &BTreeMap<String, u64>, name: &str, near: usi
     is_directory(sorted, name, near)
 }
 
-// The first free name of a page with this plain name, from this number on, and its number.
-fn first_free_from(
-    alloc: Global,
-    sorted: &[&str],
-    next: &BTreeMap<String, u64>,
-    plain: &str,
-    near: usize,
-    start: u64,
-) -> Result<(String, u64), AllocError>
-    requires sorted { IsSorted text_cmp sorted.now }
-    requires few { length sorted.now < 2 ^ 63 }
-    requires start { (k : ℕ) → k < start → IsNameTaken (map lent_text sorted.now) next.now (numbered_name plain.now k) }
-    ensures small { IfOk result (λ found. found.1 < 2 ^ 64 - 1) }
-    ensures name { IfOk result (λ found. string_bytes found.0 ≡ numbered_name plain.now found.1) }
-    ensures free { IfOk result (λ found. ¬ IsNameTaken (map lent_text sorted.now) next.now (string_bytes found.0)) }
-    ensures before { IfOk result (λ found. (k : ℕ) → k < found.1 → IsNameTaken (map lent_text sorted.now) next.now (numbered_name plain.now k)) }
-{
-    // Each entry and each plain name takes one numbered name at most, so one more is free.
-    let end = (next.len() + sorted.len()) as u64 + 1;
-    for number in start..end {
-        let name = numbered(alloc, plain, number)?;
-        if !is_taken(sorted, next, name.as_str(), near) {
-            return Ok((name, number));
-        }
-    }
-    // There are more numbers than names that are taken.
-    unreachable!()
-}
-
 /// The first free name of a page with this plain name, and its number. `sorted` are all plain names in
 /// order; `next` has each given name, and beside it a number below which none of its own numbered names
 /// is free. `near` says where among the sorted names those in a directory of this name would stand; it
@@ -149,11 +120,19 @@ pub(crate) fn first_free(
     ensures free { IfOk result (λ found. ¬ IsNameTaken (map lent_text sorted.now) next.now (string_bytes found.0)) }
     ensures before { IfOk result (λ found. (k : ℕ) → k < found.1 → IsNameTaken (map lent_text sorted.now) next.now (numbered_name plain.now k)) }
 {
-    if let Some(number) = next.get(plain) {
-        return first_free_from(alloc, sorted, next, plain, near, *number);
+    let start = match next.get(plain) {
+        Some(number) => *number,
+        None if is_directory(sorted, plain, near) => 1,
+        None => return Ok((String::from_str(alloc, plain)?, 0)),
+    };
+    // Each entry and each plain name takes one numbered name at most, so one more is free.
+    let end = (next.len() + sorted.len()) as u64 + 1;
+    for number in start..end {
+        let name = numbered(alloc, plain, number)?;
+        if !is_taken(sorted, next, name.as_str(), near) {
+            return Ok((name, number));
+        }
     }
-    if is_directory(sorted, plain, near) {
-        return first_free_from(alloc, sorted, next, plain, near, 1);
-    }
-    Ok((String::from_str(alloc, plain)?, 0))
+    // There are more numbers than names that are taken.
+    unreachable!()
 }

@@ -1,5 +1,5 @@
 //! The names of the pages of a list.
-ghost use Rattle.std.specs.Prelude.{◌≡◌, ◌↔◌, ◌<◌, ◌+◌, ◌-◌, ◌^◌, ℕ, List, IsTrue, IfOk, OnOk, HoldsAt, All, true, false, length, map, string_bytes};
+ghost use Rattle.std.specs.Prelude.{◌≡◌, ◌↔◌, ◌<◌, ◌+◌, ◌-◌, ◌^◌, ℕ, List, [], IsTrue, IfOk, OnOk, HoldsAt, All, None, true, false, length, map, string_bytes};
 ghost use Rattle.std.specs.BTreeMap.{get_by_text};
 ghost use Rattle.std.specs.Cmp.Lexicographic.{slice_cmp};
 ghost use Rattle.std.specs.List.Sorted.{IsSorted};
@@ -126,24 +126,44 @@ fn note(
     remember(alloc, next, own, name, number)
 }
 
+// Gives the pages with these plain names theirs, one after another. `next` has beside each given name that may be asked for
+// again, and plain names that were asked for, a number below which none of its numbered names is free.
+fn assign_each(
+    alloc: Global,
+    plain: &[String],
+    sorted: &[&str],
+    least: &[&str],
+    next: &mut BTreeMap<String, u64>,
+    names: &mut Vec<String>,
+) -> Result<(), AllocError>
+    requires sorted { IsSorted text_cmp sorted.now }
+    requires few { length sorted.now < 2 ^ 63 }
+    requires same { HasSameNames (map string_bytes plain.now) (map lent_text sorted.now) }
+    requires least { AreLeast (map string_bytes plain.now) (map lent_text least.now) }
+    requires unasked { (q : List ℕ) → get_by_text next.now q ≡ None }
+    requires unnamed { names.now.items ≡ [] }
+    ensures { OnOk result (IsNaming (map string_bytes plain.now) (map string_bytes names.new.items)) }
+{
+    for (i, own) in plain.iter().enumerate() {
+        let own = own.as_str();
+        // The pages ascend, so their plain names nearly do: what would stand in a directory of this
+        // name mostly stands just behind as many names.
+        let (name, number) = first_free(alloc, sorted, next, own, i + 1)?;
+        note(alloc, next, least, i, own, name.as_str(), number)?;
+        names.push(name)?;
+    }
+    Ok(())
+}
+
 // The names of the pages with these plain names.
 fn assign(alloc: Global, plain: &[String]) -> Result<Vec<String>, AllocError>
     ensures { IfOk result (λ names. IsNaming (map string_bytes plain.now) (map string_bytes names.items)) }
 {
     let sorted = in_order(alloc, plain)?;
     let least = least_names(alloc, plain)?;
-    // Beside each given name that may be asked for again, and plain names that were asked for, a
-    // number below which none of its numbered names is free.
-    let mut next: BTreeMap<String, u64> = BTreeMap::new(alloc);
+    let mut next = BTreeMap::new(alloc);
     let mut names = Vec::new(alloc);
-    for (i, own) in plain.iter().enumerate() {
-        let own = own.as_str();
-        // The pages ascend, so their plain names nearly do: what would stand in a directory of this
-        // name mostly stands just behind as many names.
-        let (name, number) = first_free(alloc, &sorted, &next, own, i + 1)?;
-        note(alloc, &mut next, &least, i, own, name.as_str(), number)?;
-        names.push(name)?;
-    }
+    assign_each(alloc, plain, &sorted, &least, &mut next, &mut names)?;
     Ok(names)
 }
 

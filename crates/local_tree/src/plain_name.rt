@@ -68,9 +68,10 @@ fn push_dirs(name: &mut Vec<u8>, dir: &[u8]) -> Result<(), AllocError>
         { *byte == b'/' },
     );
     for segment in segments {
-        if !segment.is_empty() {
-            push_below(name, segment)?;
+        if segment.is_empty() {
+            continue;
         }
+        push_below(name, segment)?;
     }
     Ok(())
 }

@@ -1,29 +1,12 @@
 -- A put that was made leaves one more file whole; one that failed may have torn its own.
-use Rattle.std.proofs.Common.{◌≡◌, ℕ, true, false, [], map, length, Result, Ok, Err, OnOk, OnErr, sym, ap, ◌∙◌, arith}
+use Rattle.std.proofs.Common.{◌≡◌, true, false, [], map, length, sym, ap, ◌∙◌, arith}
 use Rattle.std.specs.Result.{is_err}
 use Rattle.std.specs.String.{string_bytes}
-use Rattle.std.proofs.lemmas.Bool.{false≢true}
 use Rattle.std.proofs.lemmas.List.{length-map, get_or-map}
 use Rattle.std.proofs.lemmas.Option.{get_or_from_slice_get}
-use Rattle.local_tree.specs.Folders.{CountsRefusedPut, one_more_refused}
-use Rattle.local_tree.proofs.SiteFilesLaws.{put_written, put_torn, risen}
+use Rattle.local_tree.specs.Folders.{one_more_refused}
+use Rattle.local_tree.proofs.SiteFilesLaws.{made, failed, same_count, one_more, put_written, put_torn, risen}
 use Rattle.local_tree.proofs.folder.Folder.put_site.Goals as goal
-
-made : {A E : Type 0} (r : Result A E) (P : Type 0) → is_err r ≡ false → OnOk r P → P
-made (Ok a) P is held = held
-made (Err e) P is held = absurd (false≢true (sym is))
-
-failed : {A E : Type 0} (r : Result A E) (P : Type 0) → is_err r ≡ true → OnErr r P → P
-failed (Ok a) P is held = absurd (false≢true is)
-failed (Err e) P is held = held
-
-same_count : {A E : Type 0} (r : Result A E) (old new : ℕ) → is_err r ≡ false → CountsRefusedPut old new r → new ≡ old
-same_count (Ok a) old new is counts = counts
-same_count (Err e) old new is counts = absurd (false≢true (sym is))
-
-one_more : {A E : Type 0} (r : Result A E) (old new : ℕ) → is_err r ≡ true → CountsRefusedPut old new r → new ≡ one_more_refused old
-one_more (Ok a) old new is counts = absurd (false≢true is)
-one_more (Err e) old new is counts = counts
 
 pub loop-i-preserved : goal.loop-i-preserved
 loop-i-preserved g c =

@@ -2,7 +2,7 @@ use Rattle.std.proofs.Common.{◌≡◌, map, length}
 use Rattle.std.specs.BTreeMap.{get_by_text}
 use Rattle.std.specs.String.{string_bytes}
 use Rattle.local_tree.proofs.NamingLaws.{Assigned}
-use Rattle.local_tree.proofs.naming.assign.Given as goal
+use Rattle.local_tree.proofs.naming.assign_each.Given as goal
 
 abbrev pub invariant-loop-i : goal.invariant-loop-i
 invariant-loop-i l =
