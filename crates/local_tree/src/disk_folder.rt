@@ -291,6 +291,41 @@ fn begins_batch(place: usize, files: usize) -> bool {
     place % BATCH == 1 && files.saturating_sub(place) >= FEW
 }
 
+// The files from this place on, a batch at most, in a directory whose path begins with that of the part that is put alone.
+fn batch_from<'h>(
+    alloc: Global,
+    part: &str,
+    harvest: &'h Harvest,
+    from: usize,
+) -> Result<Batch<'h>, AllocError> {
+    let end = from.saturating_add(BATCH).min(harvest.kept().len());
+    let dir = batch_path(alloc, part, from)?;
+    let mut parts = Vec::new(alloc);
+    for i in from..end {
+        let path = part_path(alloc, dir.as_str(), i - from)?;
+        parts.push(Part::new(i, path, harvest.body(i)))?;
+    }
+    Ok(Batch { dir, parts })
+}
+
+// The next batch, from this place on, in a new directory; an empty one where none begins there, or there is no memory for it, or no
+// directory.
+fn next_batch<'h, R: Files>(
+    rt: &R,
+    alloc: Global,
+    part: &str,
+    harvest: &'h Harvest,
+    from: usize,
+) -> Batch<'h> {
+    if !begins_batch(from, harvest.kept().len()) {
+        return Batch::empty(alloc);
+    }
+    match batch_from(alloc, part, harvest, from) {
+        Ok(batch) if make_new_dir(rt, alloc, batch.dir.as_str()).is_ok() => batch,
+        _ => Batch::empty(alloc),
+    }
+}
+
 impl<'a, R: Files> DiskFolder<'a, R>
 where
     R::File: Close,
@@ -342,30 +377,6 @@ where
         put
     }
 
-    // The files from this place on, a batch at most.
-    fn batch_from<'h>(&self, harvest: &'h Harvest, from: usize) -> Result<Batch<'h>, AllocError> {
-        let end = from.saturating_add(BATCH).min(harvest.kept().len());
-        let dir = batch_path(self.alloc, self.part.as_str(), from)?;
-        let mut parts = Vec::new(self.alloc);
-        for i in from..end {
-            let path = part_path(self.alloc, dir.as_str(), i - from)?;
-            parts.push(Part::new(i, path, harvest.body(i)))?;
-        }
-        Ok(Batch { dir, parts })
-    }
-
-    // The next batch, from this place on, in a new directory; an empty one where none begins there, or there is no memory for it, or
-    // no directory.
-    fn next_batch<'h>(&self, harvest: &'h Harvest, from: usize) -> Batch<'h> {
-        if !begins_batch(from, harvest.kept().len()) {
-            return Batch::empty(self.alloc);
-        }
-        match self.batch_from(harvest, from) {
-            Ok(batch) if make_new_dir(self.rt, self.alloc, batch.dir.as_str()).is_ok() => batch,
-            _ => Batch::empty(self.alloc),
-        }
-    }
-
     // Has the crew write these parts, while these that are ready get the names of the files from this place on, until one doesn't.
     // Gives how many did.
     fn name_while_writing<C: PartCrew>(
@@ -408,10 +419,16 @@ where
         ensures { self.new ≡ self.old }
     {
         if ready.parts.is_empty() {
-            *ready = self.next_batch(harvest, from);
+            *ready = next_batch(self.rt, self.alloc, self.part.as_str(), harvest, from);
             self.name_while_writing(crew, &[], names, from, ready.parts.as_mut_slice());
         }
-        let mut next = self.next_batch(harvest, from.saturating_add(BATCH));
+        let mut next = next_batch(
+            self.rt,
+            self.alloc,
+            self.part.as_str(),
+            harvest,
+            from.saturating_add(BATCH),
+        );
         let named = self.name_while_writing(
             crew,
             ready.parts.as_slice(),

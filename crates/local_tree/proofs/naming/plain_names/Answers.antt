@@ -1,6 +1,7 @@
-use Rattle.std.proofs.Common.{◌≡◌, ◌+◌, List, ℕ, [], ◌∷◌, ◌++◌, map, take, sym, ap, ◌∙◌, subst, arith}
-use Rattle.std.proofs.lemmas.List.{take_more}
-use Rattle.std.proofs.lemmas.List.Elements.{All-more}
+use Rattle.std.proofs.Common.{◌≡◌, ◌+◌, List, ℕ, [], ◌∷◌, ◌++◌, map, take, All, sym, ap, ◌∙◌, subst, arith}
+use Rattle.std.proofs.lemmas.List.{take_more, take_all}
+use Rattle.std.proofs.lemmas.List.Elements.{All-more, All-nil}
+use Rattle.std.proofs.lemmas.Result.{err_from_is_err_and}
 use Rattle.std.specs.String.{string_bytes}
 use Rattle.address.specs.Address.{IsAddress}
 use Rattle.local_tree.specs.PlainNames.{plain_name_of}
@@ -24,3 +25,21 @@ loop-page-preserved c =
           ∙ sym more;
       addresses = All-more IsAddress pages i item (omega arith) inv.addresses (subst IsAddress c.page-item.is c.in_ok-plain_name_of.ensures.address);
     }
+
+pub loop-page-init : goal.loop-page-init
+loop-page-init c = record { names = ap (map string_bytes) c.new-plain.ensures.items; addresses = All-nil IsAddress }
+
+pub returns-in_err-plain_name_of : goal.returns-in_err-plain_name_of
+returns-in_err-plain_name_of c =
+    let p = err_from_is_err_and c.from_residual.result c.from_residual.ensures.1 in
+    record { names = rw p.1 tt; addresses = rw p.1 tt }
+
+pub returns-in_err-push : goal.returns-in_err-push
+returns-in_err-push c =
+    let p = err_from_is_err_and c.from_residual-in_err-push.result c.from_residual-in_err-push.ensures.1 in
+    record { names = rw p.1 tt; addresses = rw p.1 tt }
+
+pub returns : goal.returns
+returns c =
+    let all = take_all c.loop-page.page-index c.args.pages.now (omega arith) in
+    record { names = c.loop-page.invariant.names ∙ ap (map plain_name_of) all; addresses = subst (All IsAddress) all c.loop-page.invariant.addresses }

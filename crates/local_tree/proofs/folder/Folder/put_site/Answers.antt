@@ -1,11 +1,12 @@
 -- A put that was made leaves one more file whole; one that failed may have torn its own.
-use Rattle.std.proofs.Common.{◌≡◌, true, false, [], map, length, sym, ap, ◌∙◌, arith}
+use Rattle.std.proofs.Common.{◌≡◌, true, false, [], map, length, refl, sym, ap, ◌∙◌, subst, arith}
 use Rattle.std.specs.Result.{is_err}
 use Rattle.std.specs.String.{string_bytes}
 use Rattle.std.proofs.lemmas.List.{length-map, get_or-map}
 use Rattle.std.proofs.lemmas.Option.{get_or_from_slice_get}
 use Rattle.local_tree.specs.Folders.{one_more_refused}
-use Rattle.local_tree.proofs.SiteFilesLaws.{made, failed, same_count, one_more, put_written, put_torn, risen}
+use Rattle.local_tree.specs.SiteFiles.{AreWritten, OfFiles}
+use Rattle.local_tree.proofs.SiteFilesLaws.{none_written, made, failed, same_count, one_more, put_written, put_torn, risen}
 use Rattle.local_tree.proofs.folder.Folder.put_site.Goals as goal
 
 pub loop-i-preserved : goal.loop-i-preserved
@@ -37,4 +38,19 @@ returns-then-is_err-clause-torn g c =
           c.requires.distinct (omega (arith, below, long)) name c.loop-i.invariant.files (failed c.put.result _ ended c.put.ensures.torn);
       risen = risen (g.Self.Folder.failed c.args.self.now) (g.Self.Folder.failed c.put.new.self)
           (one_more c.put.result (g.Self.Folder.failed c.loop-i.self) (g.Self.Folder.failed c.put.new.self) ended c.put.ensures.counted ∙ ap one_more_refused c.loop-i.invariant.quiet);
+    }
+
+pub loop-i-init : goal.loop-i-init
+loop-i-init g c = record { files = none_written (map string_bytes c.args.names.now) c.args.harvest.now.bodies (g.Self.Folder.files c.args.self.now); quiet = refl }
+
+pub returns : goal.returns
+returns g c =
+    let names = map string_bytes c.args.names.now in
+    let bodies = c.args.harvest.now.bodies in
+    let long : length names ≡ length c.args.names.now = length-map c.args.names.now string_bytes in
+    let all : c.loop-i.i ≡ length names = omega (arith, long) in
+    record {
+      whole = subst (λ n. OfFiles (g.Self.Folder.files c.args.self.now) (g.Self.Folder.files c.loop-i.self) (AreWritten n n names bodies)) all c.loop-i.invariant.files;
+      torn = tt;
+      quiet = c.loop-i.invariant.quiet;
     }
