@@ -1,8 +1,8 @@
 //! Retrievals that were worked out by hand, and what is made of them: tests alone, of the frontier, of what it is made of and
 //! of those who drive it, in order and in threads, also over connections that fail, of the lock, of spools, of the names of pages,
-//! of folders in memory and on a disk, of journals, and of the report. They stand above these crates, so none is proved once more
-//! with them, and their proofs see clauses and no fields. What is large is let go by `drop`, which is cheaper to prove than its
-//! end of scope.
+//! of folders in memory and on a disk, of journals, and of the report; and of growths of memory that are refused, to these and to
+//! what stands below them. They stand above these crates, so none is proved once more with them, and their proofs see clauses and
+//! no fields. What is large is let go by `drop`, which is cheaper to prove than its end of scope.
 #![tactic(auto)]
 
 #[cfg(test)]
@@ -19,6 +19,8 @@ mod disk_site_tests;
 mod disk_tests;
 #[cfg(test)]
 mod frontier_tests;
+#[cfg(test)]
+mod growth;
 #[cfg(test)]
 mod journal_tests;
 #[cfg(test)]

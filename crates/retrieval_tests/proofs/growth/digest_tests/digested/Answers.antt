@@ -1,7 +1,7 @@
 -- A digester that took the head of a response has one.
 use Rattle.std.proofs.Common.{inl}
 use Rattle.response_answer.proofs.DigestLemmas.{stage_has_head}
-use Rattle.growth_tests.proofs.digest_tests.digested.Goals as goal
+use Rattle.retrieval_tests.proofs.growth.digest_tests.digested.Goals as goal
 
 pub finish-requires : goal.finish-requires
 finish-requires c =

@@ -1,7 +1,7 @@
 //! A sink that digests a response and is refused memory says so at every later call.
 ghost use Rattle.std.specs.Prelude.{◌≡◌, true};
 
-use crate::common::address;
+use crate::growth::common::address;
 use address::Address;
 use fetcher::{Answer, Outcome};
 use response_answer::Digester;

@@ -1,5 +1,5 @@
 //! A table of labels to which an offer is refused is as it was, and then takes it.
-use crate::common::address;
+use crate::growth::common::address;
 use depth_labels::{LabelFault, Labels, Offer};
 use std::alloc::Global;
 use std::process::Abort;

@@ -1,5 +1,5 @@
 //! Retrievals of a site whose labels fall: where one is refused memory it stops for that, and asked for nothing twice.
-use crate::common::plan;
+use crate::growth::common::plan;
 use fetcher::{Ask, Fetcher};
 use frontier_core::Cause;
 use site_inputs::InputFault;

@@ -1,5 +1,5 @@
 //! A copy of an address, which shares its URL.
-use crate::common::address;
+use crate::growth::common::address;
 
 #[test]
 fn a_copy_takes_no_memory(rt: HostRuntime) {

@@ -1,5 +1,5 @@
 //! Questions over connections: where one is refused memory, the connection that it was given is ended or kept all the same.
-use crate::common::address;
+use crate::growth::common::address;
 use address::{Address, Origin};
 use fetcher::Fetcher;
 use http_fetcher::{Connect, ConnectFault, HttpFetcher};

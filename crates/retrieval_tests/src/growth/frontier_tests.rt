@@ -1,5 +1,5 @@
 //! A frontier of which calls are refused memory: what that leaves, and that the same call does the rest afterwards.
-use crate::common::{address, plan};
+use crate::growth::common::{address, plan};
 use address::Address;
 use fetcher::{Edge, EdgeKind, Edges, Outcome};
 use frontier_core::{
