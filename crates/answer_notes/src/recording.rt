@@ -3,10 +3,10 @@ ghost use Rattle.std.specs.Prelude.{◌≡◌, List};
 ghost use Rattle.answer_notes.specs.declared.noted.Noted.{Noted};
 
 use crate::noted::Noted;
-use fetcher::Fetcher;
+use fetcher::{Body, Fetcher};
 
 /// Asks as any fetcher does, and may note what it is told, so that this can be saved.
-pub trait Recording: Fetcher {
+pub trait Recording: Fetcher<Body = Body> {
     /// What was noted, in order.
     ghost noted: { Self → List Noted };
 

@@ -8,12 +8,12 @@ ghost use Rattle.answer_notes.specs.HopChains.{rules_of_hops};
 use crate::hops::Hops;
 use crate::told::Told;
 use address::{Address, Origin};
-use fetcher::Fetcher;
+use fetcher::{Body, Fetcher};
 use std::alloc::AllocError;
 
 /// Asks as any fetcher does, and hands out what was told in place of its answer. Whoever asks makes the answer of it, and may
 /// keep it.
-pub trait Telling: Fetcher {
+pub trait Telling: Fetcher<Body = Body> {
     /// Whether robots rules are honoured.
     ghost honours: { Self → Bool };
 

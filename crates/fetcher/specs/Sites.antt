@@ -20,15 +20,15 @@ abbrev pub GivesRules : SiteAnswers → List ℕ → RuleSetValue → Type 0
 GivesRules site of r = r ≡ site.rules of
 
 -- these are the answers of a site: each address has exactly this outcome, which is no fault, and each origin exactly these rules
-pub record AreAnswers {S : Type 0} (says : S → List ℕ → Outcome → List ℕ → Type 0) (rules : S → List ℕ → RuleSetValue → Type 0) (site : S) (answers : SiteAnswers) : Type 0 where
-  pub given : (at : List ℕ) → (body : List ℕ) × says site at (answers.outcome at) body
-  pub only : (at : List ℕ) (x : Outcome) (body : List ℕ) → says site at x body → x ≡ answers.outcome at
+pub record AreAnswers {S B : Type 0} (says : S → List ℕ → Outcome → B → Type 0) (rules : S → List ℕ → RuleSetValue → Type 0) (site : S) (answers : SiteAnswers) : Type 0 where
+  pub given : (at : List ℕ) → (body : B) × says site at (answers.outcome at) body
+  pub only : (at : List ℕ) (x : Outcome) (body : B) → says site at x body → x ≡ answers.outcome at
   pub no_fault : (at : List ℕ) → is_fault (answers.outcome at) ≡ false
   pub given_rules : (of : List ℕ) → rules site of (answers.rules of)
   pub only_rules : (of : List ℕ) (r : RuleSetValue) → rules site of r → r ≡ answers.rules of
 
 -- the site has such answers
-abbrev pub IsSteady : {S : Type 0} → (S → List ℕ → Outcome → List ℕ → Type 0) → (S → List ℕ → RuleSetValue → Type 0) → S → Type 0
+abbrev pub IsSteady : {S B : Type 0} → (S → List ℕ → Outcome → B → Type 0) → (S → List ℕ → RuleSetValue → Type 0) → S → Type 0
 IsSteady says rules site = (answers : SiteAnswers) × AreAnswers says rules site answers
 
 -- ---- a site that is steady whatever its answers are

@@ -46,6 +46,9 @@ impl Clone for Ask {
 /// Fetches pages and robots rules of one site. Each ask is logged before anything is asked of the
 /// site.
 pub trait Fetcher: Drop {
+    /// A body as this fetcher hands it out: its bytes, or what stands for them elsewhere.
+    type Body: Drop;
+
     /// What the site is, as far as its answers go.
     ghost Site: { Type 0 };
 
@@ -53,7 +56,7 @@ pub trait Fetcher: Drop {
     ghost site: { Self → Site };
 
     /// Which outcomes the site may give for an address, each with which bodies.
-    ghost says: { Site → List ℕ → Outcome → List ℕ → Type 0 };
+    ghost says: { Site → List ℕ → Outcome → Self.Body → Type 0 };
 
     /// Which rule sets an origin may have.
     ghost rules: { Site → List ℕ → RuleSetValue → Type 0 };
@@ -64,7 +67,7 @@ pub trait Fetcher: Drop {
     /// Asks for the page of an address. The answer is one that the site may give; the ask is
     /// logged, and the site stays what it is. The error is want of memory: then the log is
     /// unchanged or has gained this ask.
-    fn ask(&mut self, at: &Address) -> Result<Answer, AllocError>
+    fn ask(&mut self, at: &Address) -> Result<Answer<Self::Body>, AllocError>
         ensures site { site self.new ≡ site self.old }
         ensures told { IfOk result (λ a. says (site self.old) at.now a.outcome a.body) }
         ensures asked { OnOk result (log self.new ≡ log self.old ++ Ask.Page at.now ∷ []) }

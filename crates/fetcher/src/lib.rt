@@ -11,9 +11,10 @@ mod fetcher;
 mod outcome;
 mod status;
 
-pub use answer::{Answer, Body};
+pub use answer::Answer;
 pub use edge::{Edge, EdgeKind, Edges};
 pub use fault_kind::{FaultClass, FaultKind};
 pub use fetcher::{Ask, Fetcher, SteadyFetcher};
 pub use outcome::Outcome;
+pub use kept_bodies::Body;
 pub use status::{FIRST_SUCCESS, LAST_SUCCESS, NOT_FOUND, REDIRECTS, is_redirect, is_successful};

@@ -128,13 +128,13 @@ once_rules (origin ∷ origins) once = go (once_rules origins once.1) (known_rul
     go rest (Some x) is = rw is ((λ among. once.0 (ruled_asked origins origin.0 among)), rest)
 
 -- pages in address order, taken apart
-pub are_pages : (plan : Plan) (m : Answers) (pages sorted : List KeptPage) (kept : List Text) (bodies : List (List ℕ))
+pub are_pages : {B : Type 0} (plan : Plan) (m : Answers) (pages sorted : List (KeptPage B)) (kept : List Text) (bodies : List B)
     → ((u : Text) → (Contains (map (λ page. page.address) pages) u → IsKept plan m u) × (IsKept plan m u → Contains (map (λ page. page.address) pages) u))
     → IsPermutation pages sorted → IsAscending (map (λ page. page.address) sorted) → kept ≡ map (λ page. page.address) sorted → bodies ≡ map (λ page. page.body) sorted
     → IsAscending kept × (length bodies ≡ length kept) × ((u : Text) → (Contains kept u → IsKept plan m u) × (IsKept plan m u → Contains kept u))
-are_pages plan m pages sorted kept bodies is moved up names parts =
-    let address : KeptPage → Text = λ page. page.address in
-    let body : KeptPage → List ℕ = λ page. page.body in
+are_pages {B = B} plan m pages sorted kept bodies is moved up names parts =
+    let address : KeptPage B → Text = λ page. page.address in
+    let body : KeptPage B → B = λ page. page.body in
     let there : IsPermutation (map address pages) (map address sorted) = IsPermutation-map address pages sorted moved in
     let back : IsPermutation (map address sorted) (map address pages) = IsPermutation-sym _ _ there in (
       subst IsAscending (sym names) up,

@@ -1,5 +1,5 @@
 -- What a retrieval brings in, as contracts see it.
-use Rattle.std.specs.Prelude.{ℕ, List, [], Option, Some, None}
+use Rattle.std.specs.Prelude.{List, [], Option, Some, None}
 use Rattle.follow_filters.specs.declared.plan.Plan.{Plan}
 use Rattle.frontier_core.specs.Tables.{Text}
 use Rattle.frontier_core.specs.Machine.{State}
@@ -11,7 +11,7 @@ use Rattle.frontier_core.specs.declared.event.Event.{Event}
 -- a harvest: the plan by which it went, the state in which its frontier was left and the lines of what happened to it;
 -- its entries, its records and the pages that are kept in address order, the body of each of these, and the known rules in
 -- origin order. Where memory was short there is no plan, and nothing else.
-pub record Harvested : Type 0 where
+pub record Harvested (B : Type 0) : Type 0 where
   pub plan : Option Plan
   pub state : State
   pub trace : List Event
@@ -19,7 +19,7 @@ pub record Harvested : Type 0 where
   pub records : List Recorded
   pub rules : List Ruled
   pub kept : List Text
-  pub bodies : List (List ℕ)
+  pub bodies : List B
 
 -- a state in which nothing is held
 abbrev pub nothing : State

@@ -1,5 +1,5 @@
 -- Which pages are kept, and with which bodies (GNU Wget manual, Types of Files; RFC 9110, section 15.3).
-use Rattle.std.specs.Prelude.{◌≡◌, ℕ, Bool, false, List, Some, IsTrue}
+use Rattle.std.specs.Prelude.{◌≡◌, Bool, false, Some, IsTrue}
 use Rattle.follow_filters.specs.Rules.{keeps_of}
 use Rattle.follow_filters.specs.declared.plan.Plan.{Plan}
 use Rattle.fetcher.specs.Statuses.{is_successful}
@@ -19,6 +19,6 @@ is_success (Fault kind) = false
 abbrev pub IsKept : Plan → Answers → Text → Type 0
 IsKept plan m u = (x : Outcome) × (m.outcome u ≡ Some x) × IsTrue (is_success x) × IsTrue (keeps_of plan u)
 
--- the site may give this body with the outcome that the record has
-abbrev pub IsBodyOf : (Text → Outcome → List ℕ → Type 0) → Answers → Text → List ℕ → Type 0
+-- the site may give this body, whatever stands for bodies, with the outcome that the record has
+abbrev pub IsBodyOf : {B : Type 0} → (Text → Outcome → B → Type 0) → Answers → Text → B → Type 0
 IsBodyOf may_say m u body = (x : Outcome) × (m.outcome u ≡ Some x) × may_say u x body

@@ -11,7 +11,6 @@ use crate::entry::Entry;
 use crate::named::sort_by_name;
 use crate::page::KeptPage;
 use address::{Address, Origin};
-use bytes::Bytes;
 use fetcher::Outcome;
 use frontier_core::{Condition, Entries, Frontier, Records, Rules};
 use robots_rules::RuleSet;
@@ -171,9 +170,9 @@ pub fn gather_entries(
 
 /// Addresses and bodies of pages, apart.
 #[derive(Drop)]
-pub struct Parted {
+pub struct Parted<B> {
     pub addresses: Vec<Address>,
-    pub bodies: Vec<Bytes>,
+    pub bodies: Vec<B>,
 }
 
 /// What a frontier holds, in address order, and in origin order.
@@ -205,7 +204,7 @@ fn gather_held(alloc: Global, frontier: &Frontier) -> Result<Held, AllocError>
 }
 
 // Takes pages apart.
-fn part_pages(alloc: Global, pages: Vec<KeptPage>) -> Result<Parted, AllocError>
+fn part_pages<B: Drop>(alloc: Global, pages: Vec<KeptPage<B>>) -> Result<Parted<B>, AllocError>
     ensures addresses { IfOk result (λ parted. parted.addresses.items ≡ map (λ page. page.address) pages.items) }
     ensures bodies { IfOk result (λ parted. parted.bodies.items ≡ map (λ page. page.body) pages.items) }
 {
@@ -220,9 +219,9 @@ fn part_pages(alloc: Global, pages: Vec<KeptPage>) -> Result<Parted, AllocError>
 }
 
 /// Pages in address order, taken apart.
-fn order_pages(alloc: Global, mut pages: Vec<KeptPage>) -> Result<Parted, AllocError>
+fn order_pages<B: Drop>(alloc: Global, mut pages: Vec<KeptPage<B>>) -> Result<Parted<B>, AllocError>
     requires { IsOnce (map (λ page. page.address) pages.items) }
-    ensures { IfOk result (λ parted. (sorted : List KeptPage) × IsPermutation pages.items sorted × IsAscending (map (λ page. page.address) sorted)
+    ensures { IfOk result (λ parted. (sorted : List (KeptPage B)) × IsPermutation pages.items sorted × IsAscending (map (λ page. page.address) sorted)
         × (parted.addresses.items ≡ map (λ page. page.address) sorted) × (parted.bodies.items ≡ map (λ page. page.body) sorted)) }
 {
     sort_by_name(&mut pages)?;
@@ -231,11 +230,11 @@ fn order_pages(alloc: Global, mut pages: Vec<KeptPage>) -> Result<Parted, AllocE
 }
 
 /// What a frontier holds, and pages in address order, taken apart.
-pub fn gather_all(
+pub fn gather_all<B: Drop>(
     alloc: Global,
     frontier: &Frontier,
-    pages: Vec<KeptPage>,
-) -> Result<(Held, Parted), AllocError>
+    pages: Vec<KeptPage<B>>,
+) -> Result<(Held, Parted<B>), AllocError>
     requires { IsOnce (map (λ page. page.address) pages.items) }
     ensures entries_ascend { IfOk result (λ all. IsAscending (map (λ entry. entry.address) all.0.entries.items)) }
     ensures entries { IfOk result (λ all. IsPermutation (seen_in frontier.now.state) (map said_by all.0.entries.items)) }
@@ -244,7 +243,7 @@ pub fn gather_all(
     ensures records { IfOk result (λ all. IsPermutation (filter_map record_of frontier.now.state.entries) all.0.records.items) }
     ensures rules_ascend { IfOk result (λ all. IsAscending (ruled_origins all.0.rules.items)) }
     ensures rules { IfOk result (λ all. IsPermutation (filter_map ruled_of frontier.now.state.origins) all.0.rules.items) }
-    ensures pages { IfOk result (λ all. (sorted : List KeptPage) × IsPermutation pages.items sorted × IsAscending (map (λ page. page.address) sorted)
+    ensures pages { IfOk result (λ all. (sorted : List (KeptPage B)) × IsPermutation pages.items sorted × IsAscending (map (λ page. page.address) sorted)
         × (all.1.addresses.items ≡ map (λ page. page.address) sorted) × (all.1.bodies.items ≡ map (λ page. page.body) sorted)) }
 {
     let held = gather_held(alloc, frontier)?;

@@ -15,8 +15,7 @@ use crate::entry::Entry;
 use crate::gathering::{Held, Parted, gather_all};
 use crate::page::KeptPage;
 use address::{Address, Origin};
-use bytes::Bytes;
-use fetcher::Outcome;
+use fetcher::{Body, Outcome};
 use follow_filters::Plan;
 use frontier_core::{Event, Frontier};
 use robots_rules::RuleSet;
@@ -25,17 +24,17 @@ use std::marker::Model;
 
 /// What a retrieval brings in: the frontier as it was left, and the pages that are kept. It is empty where memory was
 /// short; then its trace has no line.
-pub struct Harvest {
+pub struct Harvest<B> {
     frontier: Option<Box<Frontier>>,
     entries: Vec<Entry>,
     records: Vec<(Address, Outcome)>,
     rules: Vec<(Origin, RuleSet)>,
     kept: Vec<Address>,
-    bodies: Vec<Bytes>,
+    bodies: Vec<B>,
 }
 
 // By hand: who drops one proves a call, and nothing of what it holds.
-impl Drop for Harvest {
+impl<B: Drop> Drop for Harvest<B> {
     fn drop(self) {
         let Harvest {
             frontier: _frontier,
@@ -48,13 +47,13 @@ impl Drop for Harvest {
     }
 }
 
-impl Model for Harvest {
+impl<B> Model for Harvest<B> {
     ghost use Rattle.harvest.specs.Harvests.{Harvested, plan_of, state_of, trace_of};
     ghost use Rattle.harvest.specs.Gathered.{AreEntries, AreRecords, AreRules, ArePages};
     ghost use Rattle.harvest.specs.Shown.{harvest_of};
     ghost use Rattle.std.specs.Prelude.{option_map};
 
-    ghost Value = { Harvested };
+    ghost Value = { Harvested B };
 
     ghost view = { λ h. harvest_of (option_map (λ b. b.value) h.frontier) h.entries.items h.records.items h.rules.items h.kept.items h.bodies.items };
 
@@ -62,7 +61,7 @@ impl Model for Harvest {
         AreEntries all × AreRecords all × AreRules all × ArePages all };
 }
 
-impl Harvest {
+impl<B: Drop> Harvest<B> {
     /// The harvest of a retrieval that found no memory. Takes no memory.
     pub fn empty(alloc: Global) -> Self
         ensures plan { result.plan ≡ None }
@@ -84,7 +83,7 @@ impl Harvest {
     pub fn gather(
         alloc: Global,
         frontier: Frontier,
-        pages: Vec<KeptPage>,
+        pages: Vec<KeptPage<B>>,
     ) -> Result<Self, AllocError>
         requires once { IsOnce (map (λ page. page.address) pages.items) }
         requires kept { (u : List ℕ) → Contains (map (λ page. page.address) pages.items) u ↔ IsKept frontier.plan (answers frontier.state) u }
@@ -150,12 +149,12 @@ impl Harvest {
         self.kept.as_slice()
     }
 
-    /// The body of the page at that place in [`Harvest::kept`], counted from 0. Takes no memory.
-    pub fn body(&self, i: usize) -> &[u8]
+    /// The body of the page at that place in [`Harvest::kept`], counted from 0, as its fetcher keeps bodies. Takes no memory.
+    pub fn kept_body(&self, i: usize) -> &B
         requires { i < length self.now.kept }
         ensures { slice_get self.now.bodies i ≡ Some result.now }
     {
-        self.bodies[i].as_slice()
+        &self.bodies[i]
     }
 
     /// The lines of what happened, in order; none where memory was short. Replayed, they give the harvest's state; what
@@ -186,5 +185,17 @@ impl Harvest {
             Some(frontier) => Some(frontier.plan()),
             None => None,
         }
+    }
+}
+
+impl Harvest<Body> {
+    ghost use Rattle.std.specs.Prelude.{◌≡◌, ◌<◌, Some, length, slice_get};
+
+    /// The bytes of the page at that place in [`Harvest::kept`], counted from 0. Takes no memory.
+    pub fn body(&self, i: usize) -> &[u8]
+        requires { i < length self.now.kept }
+        ensures { slice_get self.now.bodies i ≡ Some result.now }
+    {
+        self.kept_body(i).as_slice()
     }
 }

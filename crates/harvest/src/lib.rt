@@ -8,11 +8,9 @@ pub use crate::entry::Entry;
 pub use crate::harvest::Harvest;
 pub use crate::named::Named;
 pub use crate::page::{KeptPage, is_success};
-pub use crate::spool::Spool;
 
 mod entry;
 mod gathering;
 mod harvest;
 mod named;
 mod page;
-mod spool;

@@ -28,7 +28,7 @@ impl<'a> Named for (&'a Address, u32, Condition) {
     }
 }
 
-impl Named for KeptPage {
+impl<B> Named for KeptPage<B> {
     ghost text_of = { λ page. page.address };
 
     fn name(&self) -> &str {

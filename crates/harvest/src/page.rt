@@ -3,16 +3,15 @@ ghost use Rattle.std.specs.Prelude.{◌≡◌};
 ghost use Rattle.harvest.specs.Pages.{is_success};
 
 use address::Address;
-use bytes::Bytes;
 use fetcher::{Outcome, is_successful};
 
 /// A page that is kept: its address, and the body of its response.
 #[derive(Drop)]
-pub struct KeptPage {
+pub struct KeptPage<B> {
     /// The address that was asked for.
     pub address: Address,
-    /// The body of its response, as it stands in a spool.
-    pub body: Bytes,
+    /// The body of its response, as its fetcher keeps bodies.
+    pub body: B,
 }
 
 /// Whether the outcome is a response of success (RFC 9110, section 15.3).

@@ -2,7 +2,7 @@
 use crate::shared_failures::SharedFailures;
 use address::{Address, Origin};
 use answer_notes::{Noted, Recording};
-use fetcher::{Answer, Ask, Fetcher};
+use fetcher::{Answer, Ask, Body, Fetcher};
 use progress::Progress;
 use record_journal::{Journaled, Pen};
 use robots_rules::RuleSet;
@@ -62,6 +62,8 @@ impl<'a, R: Net + Wait + Files + Clock + Eprint> Fetcher for Asking<'a, R> {
     ghost use Rattle.std.specs.Prelude.{Bool};
     ghost use Rattle.http_fetcher.specs.Meanings.{MayAnswer, MayRule};
 
+    type Body = Body;
+
     ghost Site = { Bool };
 
     ghost site = { λ f. f.inner.inner.robots };
@@ -72,7 +74,7 @@ impl<'a, R: Net + Wait + Files + Clock + Eprint> Fetcher for Asking<'a, R> {
 
     ghost log = { λ f. f.inner.inner.asks };
 
-    fn ask(&mut self, at: &Address) -> Result<Answer, AllocError> {
+    fn ask(&mut self, at: &Address) -> Result<Answer<Body>, AllocError> {
         let answer = self.inner.ask(at)?;
         self.note_page(at);
         Ok(answer)

@@ -2,6 +2,7 @@
 use crate::part_threads::PartThreads;
 use crate::shared_failures::SharedFailures;
 use harvest::Harvest;
+use kept_bodies::Body;
 use local_tree::{DiskFolder, Folder, FolderFault, WriteFault};
 use record_journal::SavedFile;
 use std::fs::Files;
@@ -67,7 +68,7 @@ where
         put
     }
 
-    fn put_site(&mut self, names: &[String], harvest: &Harvest) -> Result<(), WriteFault> {
+    fn put_site(&mut self, names: &[String], harvest: &Harvest<Body>) -> Result<(), WriteFault> {
         self.kept.end_waiting(self.rt);
         let put = self.inner.put_site_by(self.crew, names, harvest);
         if let Err(WriteFault::Device(place)) = put {

@@ -15,7 +15,7 @@ use Rattle.http_fetcher.specs.Chains.{IsChain, SaysHop}
 use Rattle.http_fetcher.specs.Fetching.{Fetching, IsGiven, IsToldByTries}
 
 -- what was told over a connection is given, by a fetcher with the settings of another
-pub given_by : {C W : Type 0} (connects : Connects C W) (wires : Wires W) (first old new : Fetching C) (at : AddressText) (answer : Answer)
+pub given_by : {C W : Type 0} (connects : Connects C W) (wires : Wires W) (first old new : Fetching C) (at : AddressText) (answer : Answer (List ℕ))
     → old.robots ≡ first.robots → old.keeps ≡ first.keeps → IsToldByTries connects wires old new at answer
     → IsGiven connects wires first at answer.outcome answer.body
 given_by connects wires first old new at answer robots keeps told =

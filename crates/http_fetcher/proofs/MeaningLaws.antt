@@ -11,14 +11,14 @@ use Rattle.http_fetcher.specs.Fetching.{AnswersBytes, ComesOver, Fetching, IsGiv
 use Rattle.http_fetcher.specs.Meanings.{MayAnswer}
 
 -- what bytes say may be answered
-may_answer_bytes : (question : Question) (before after : ℕ) (answer : Answer) (bytes : List ℕ)
+may_answer_bytes : (question : Question) (before after : ℕ) (answer : Answer (List ℕ)) (bytes : List ℕ)
     → AnswersBytes question before after answer bytes → MayAnswer question.robots question.at answer.outcome answer.body
 may_answer_bytes question before after answer bytes (inl digest) = inl (bytes, digest)
 may_answer_bytes question before after answer bytes (inr (fault, kind, is, has, risen, outcome, none)) =
     inr (inl (bytes, (fault, kind, is, has, (outcome, none))))
 
 -- what comes over a wire may be answered
-may_answer_over : {W : Type 0} (wires : Wires W) (question : Question) (given : W) (answer : Answer)
+may_answer_over : {W : Type 0} (wires : Wires W) (question : Question) (given : W) (answer : Answer (List ℕ))
     → ComesOver wires question given answer → MayAnswer question.robots question.at answer.outcome answer.body
 may_answer_over wires question given answer (asked, left, inl unwritten) = inr (inr (inr (unwritten.1, unwritten.2)))
 may_answer_over wires question given answer (asked, left, inr (sent, silent, (bytes, tells, answers))) =
@@ -35,13 +35,13 @@ chain_of_more Told More (suc n) at rules more (x, body, told, inr (next, on, res
 
 module _ {C W : Type 0} (connects : Connects C W) (wires : Wires W) where
   -- what was told over a connection, or that none was made, may be answered
-  may_answer_anew : (old new : Fetching C) (at : AddressText) (answer : Answer)
+  pub may_answer_anew : (old new : Fetching C) (at : AddressText) (answer : Answer (List ℕ))
       → IsToldAnew connects wires old new at answer → MayAnswer old.robots at answer.outcome answer.body
   may_answer_anew old new at answer (inl unmade) = inr (inr (inl (unmade.1, unmade.2)))
   may_answer_anew old new at answer (inr (given, gave, over)) = may_answer_over wires (question_of old at) given answer over
 
   -- what was told, over a connection that was kept or a new one, may be answered
-  pub may_answer : (old new : Fetching C) (at : AddressText) (answer : Answer)
+  pub may_answer : (old new : Fetching C) (at : AddressText) (answer : Answer (List ℕ))
       → IsToldByTries connects wires old new at answer → MayAnswer old.robots at answer.outcome answer.body
   may_answer old new at answer (inl (made, taken, holds, (given, gave, over))) = may_answer_over wires (question_of old at) given answer over
   may_answer old new at answer (inr (made, before, told)) = may_answer_anew old new at answer told

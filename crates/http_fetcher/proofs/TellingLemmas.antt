@@ -92,7 +92,7 @@ pub tells_of : (at : AddressText) (told : Told) (left : ℕ) (hop read : Hop) �
 tells_of at told left hop read is tells = subst (λ h. IsHopTold at told left h) is tells
 
 -- an answer that says what was told over a connection was told over it
-pub told_by_answer : {C W : Type 0} (connects : Connects C W) (wires : Wires W) (old now new : Fetching C) (at : AddressText) (told : Told) (answer : Answer)
+pub told_by_answer : {C W : Type 0} (connects : Connects C W) (wires : Wires W) (old now new : Fetching C) (at : AddressText) (told : Told) (answer : Answer (List ℕ))
     → now ≡ new → new.robots ≡ old.robots → answer.outcome ≡ outcome_told now.robots at told → answer.body ≡ body_told told
     → IsToldByTries connects wires old new at (answer_told old.robots at told) → IsToldByTries connects wires old now at answer
 told_by_answer connects wires old now new at told answer same is outcome_is body_is h =

@@ -1,5 +1,5 @@
 -- What a recording fetcher notes of its asks: what is noted says the answer given.
-use Rattle.std.specs.Prelude.{◌≡◌, Bool, List, [], ◌∷◌, ◌++◌}
+use Rattle.std.specs.Prelude.{◌≡◌, ℕ, Bool, List, [], ◌∷◌, ◌++◌}
 use Rattle.address.specs.Address.{AddressText, OriginText}
 use Rattle.robots_rules.specs.Access.{RuleSetValue}
 use Rattle.fetcher.specs.declared.answer.Answer.{Answer}
@@ -10,7 +10,7 @@ use Rattle.answer_notes.specs.declared.noted.Noted.{Noted}
 use Rattle.answer_notes.specs.declared.noted.Noted.TheVariants.{Page, Chain}
 
 -- one note more stands there, of this address, and says this answer
-abbrev pub NotesPage : Bool → AddressText → Answer → List Noted → List Noted → Type 0
+abbrev pub NotesPage : Bool → AddressText → Answer (List ℕ) → List Noted → List Noted → Type 0
 NotesPage robots at answer old new =
     (told : Told) × (new ≡ old ++ Page at told ∷ []) × (answer.outcome ≡ outcome_told robots at told) × (answer.body ≡ body_told told)
 

@@ -12,9 +12,10 @@ ghost use Rattle.answer_notes.specs.RobotsAnswers.{max_redirects};
 ghost use Rattle.answer_notes.specs.Tellings.{outcome_told, body_told};
 ghost use Rattle.answer_notes.specs.HopChains.{rules_of_hops};
 ghost use Rattle.answer_notes.specs.declared.told.Told.TheVariants as told;
+ghost use Rattle.fetcher.specs.declared.outcome.Outcome.TheVariants as outcome;
 ghost use Rattle.http_fetcher.specs.Chains.{CountsHops, IsChain};
 ghost use Rattle.connect.specs.Connects.{Stays};
-ghost use Rattle.http_fetcher.specs.Fetching.{AnswersBytes, ComesOver, IsGiven, IsSilentOn, IsToldAgain, IsToldAnew, IsToldByTries, IsUntold, LeavesUsable, StandsBehind, StandsBy, answer_told, question_of, request_by};
+ghost use Rattle.http_fetcher.specs.Fetching.{AnswersBytes, ComesOver, IsGiven, IsSilentOn, IsToldAgain, IsToldAnew, IsToldByTries, IsUntold, LeavesUsable, StandsBehind, StandsBy, StandsForOne, answer_told, question_of, request_by};
 ghost use Rattle.http_fetcher.specs.Notes.{NotesPage, NotesChain};
 ghost use Rattle.http_fetcher.specs.Meanings.{MayAnswer, MayRule};
 
@@ -22,11 +23,12 @@ use crate::chain::{Hop, read_hop};
 use address::{Address, Origin};
 use answer_notes::{Given, Hops, MAX_REDIRECTS, Noted, Recording, Telling, Told};
 use connect::{Connect, ConnectFault};
-use fetcher::{Answer, Ask, FaultKind, Fetcher};
-use response_answer::kind_of_fault;
+use fetcher::{Answer, Ask, Body, FaultKind, Fetcher};
+use kept_bodies::Keeper;
+use response_answer::{PageSink, kind_of_fault};
 use response_reader::{
-    ReadFault, Reply, RequestFault, Room, read_reply, read_reply_if_any, write_kept_request,
-    write_request,
+    ReadFault, Reply, RequestFault, Room, read_if_any, read_into, read_reply, read_reply_if_any,
+    write_kept_request, write_request,
 };
 use robots_rules::RuleSet;
 use std::alloc::{AllocError, Global};
@@ -373,7 +375,7 @@ impl<C: Connect> HttpFetcher<C> {
     }
 
     // Asks for a page. The error is want of memory.
-    fn ask_page(&mut self, at: &Address) -> Result<Answer, AllocError>
+    fn ask_page(&mut self, at: &Address) -> Result<Answer<Body>, AllocError>
         ensures asks { self.new.asks ≡ self.old.asks }
         ensures robots { self.new.robots ≡ self.old.robots }
         ensures keeps { self.new.keeps ≡ self.old.keeps }
@@ -390,7 +392,7 @@ impl<C: Connect> HttpFetcher<C> {
     }
 
     // Asks for a page, and notes what was told of it. The error is want of memory; then nothing is noted.
-    fn ask_and_note(&mut self, at: &Address) -> Result<Answer, AllocError>
+    fn ask_and_note(&mut self, at: &Address) -> Result<Answer<Body>, AllocError>
         ensures asks { self.new.asks ≡ self.old.asks }
         ensures robots { self.new.robots ≡ self.old.robots }
         ensures keeps { self.new.keeps ≡ self.old.keeps }
@@ -467,8 +469,257 @@ impl<C: Connect> HttpFetcher<C> {
     }
 }
 
+/// What was told of a page over a wire, whose body a keeper has, and whether its connection serves again.
+#[derive(Drop)]
+struct HeardPage<B> {
+    answer: Answer<B>,
+    serves: bool,
+}
+
+// Pages whose bodies go to a keeper while they arrive.
+impl<C: Connect> HttpFetcher<C> {
+    // What a fault tells of a page, of which no response was read. The error is want of memory.
+    fn unread_page<K: Keeper>(
+        &self,
+        fault: ReadFault,
+        sink: &mut PageSink<K>,
+    ) -> Result<HeardPage<K::Kept>, AllocError>
+        ensures told { IfOk result (λ h. (kind : FaultKind) × (kind_of_fault fault ≡ Some kind) × (h.answer.outcome ≡ outcome.Fault kind) × K.holds h.answer.body []) }
+        ensures serves { IfOk result (λ h. h.serves ≡ false) }
+    {
+        match kind_of_fault(fault) {
+            Some(kind) => Ok(HeardPage {
+                answer: sink.fault(kind)?,
+                serves: false,
+            }),
+            None => Err(AllocError),
+        }
+    }
+
+    // What a wire tells of a page, once the request was written. The error is want of memory.
+    fn read_page<K: Keeper>(
+        &mut self,
+        wire: &mut C::Wire,
+        at: &Address,
+        sink: &mut PageSink<K>,
+    ) -> Result<HeardPage<K::Kept>, AllocError>
+        ensures same { self.new ≡ self.old }
+        ensures told { IfOk result (λ h. StandsForOne K.holds h.answer (λ real. OfBytes (C.Wire.incoming wire.old)
+            (AnswersBytes (question_of self.old at.now) (C.Wire.failed wire.old) (C.Wire.failed wire.new) real))) }
+        ensures serves { IfOk result (λ h. IsTrue h.serves → Reusable (C.Wire.incoming wire.old) (C.Wire.incoming wire.new) true) }
+        ensures written { Keeps (C.Wire.outgoing wire.old) (C.Wire.outgoing wire.new) }
+    {
+        sink.begin();
+        match read_into(self.alloc, wire, sink) {
+            Ok(serves) => {
+                let answer = sink.finish(at, self.robots)?;
+                Ok(HeardPage { answer, serves })
+            }
+            Err(fault) => self.unread_page(fault, sink),
+        }
+    }
+
+    // What a wire tells of a page that served before: none where no byte came. The error is want of memory.
+    fn read_page_again<K: Keeper>(
+        &mut self,
+        wire: &mut C::Wire,
+        at: &Address,
+        sink: &mut PageSink<K>,
+    ) -> Result<Option<HeardPage<K::Kept>>, AllocError>
+        ensures same { self.new ≡ self.old }
+        ensures silent { IfOk result (λ o. IfNone o (Keeps (C.Wire.incoming wire.old) (C.Wire.incoming wire.new)
+            × (IsAtEnd (C.Wire.incoming wire.old) ⊎ HasRisen (C.Wire.failed wire.old) (C.Wire.failed wire.new)))) }
+        ensures told { IfOk result (λ o. IfSome o (λ h. StandsForOne K.holds h.answer (λ real. OfBytes (C.Wire.incoming wire.old)
+            (AnswersBytes (question_of self.old at.now) (C.Wire.failed wire.old) (C.Wire.failed wire.new) real)))) }
+        ensures serves { IfOk result (λ o. IfSome o (λ h. IsTrue h.serves → Reusable (C.Wire.incoming wire.old) (C.Wire.incoming wire.new) true)) }
+        ensures written { Keeps (C.Wire.outgoing wire.old) (C.Wire.outgoing wire.new) }
+    {
+        sink.begin();
+        match read_if_any(&mut self.room, self.alloc, wire, sink) {
+            Ok(Some(serves)) => {
+                let answer = sink.finish(at, self.robots)?;
+                Ok(Some(HeardPage { answer, serves }))
+            }
+            Ok(None) => Ok(None),
+            Err(fault) => {
+                let heard = self.unread_page(fault, sink)?;
+                Ok(Some(heard))
+            }
+        }
+    }
+
+    // What is told of a page over a wire that served before: none where no byte came. The error is want of memory.
+    fn page_again<K: Keeper>(
+        &mut self,
+        wire: &mut C::Wire,
+        at: &Address,
+        sink: &mut PageSink<K>,
+    ) -> Result<Option<HeardPage<K::Kept>>, AllocError>
+        ensures same { self.new ≡ self.old }
+        ensures silent { IfOk result (λ o. IfNone o (IsSilentOn C.Wire.Wire (question_of self.old at.now) wire.old)) }
+        ensures told { IfOk result (λ o. IfSome o (λ h. StandsForOne K.holds h.answer (ComesOver C.Wire.Wire (question_of self.old at.now) wire.old))) }
+        ensures serves { IfOk result (λ o. IfSome o (λ h. IsTrue h.serves → LeavesUsable C.Wire.Wire (question_of self.old at.now) wire.old wire.new)) }
+    {
+        match self.write(wire, at) {
+            Ok(()) => self.read_page_again(wire, at, sink),
+            Err(_) => Ok(None),
+        }
+    }
+
+    // What is told of a page over a new wire. The error is want of memory.
+    fn page_over<K: Keeper>(
+        &mut self,
+        wire: &mut C::Wire,
+        at: &Address,
+        sink: &mut PageSink<K>,
+    ) -> Result<HeardPage<K::Kept>, AllocError>
+        ensures same { self.new ≡ self.old }
+        ensures told { IfOk result (λ h. StandsForOne K.holds h.answer (ComesOver C.Wire.Wire (question_of self.old at.now) wire.old)) }
+        ensures serves { IfOk result (λ h. IsTrue h.serves → LeavesUsable C.Wire.Wire (question_of self.old at.now) wire.old wire.new) }
+    {
+        match self.write(wire, at) {
+            Ok(()) => self.read_page(wire, at, sink),
+            Err(_) => Ok(HeardPage {
+                answer: sink.fault(FaultKind::Device)?,
+                serves: false,
+            }),
+        }
+    }
+
+    // Asks for a page over one new connection. The error is want of memory.
+    fn ask_page_anew<K: Keeper>(
+        &mut self,
+        origin: &Origin,
+        at: &Address,
+        sink: &mut PageSink<K>,
+    ) -> Result<Answer<K::Kept>, AllocError>
+        requires { origin.now ≡ origin_of at.now }
+        ensures asks { self.new.asks ≡ self.old.asks }
+        ensures robots { self.new.robots ≡ self.old.robots }
+        ensures keeps { self.new.keeps ≡ self.old.keeps }
+        ensures is_recording { self.new.is_recording ≡ self.old.is_recording }
+        ensures notes { self.new.notes ≡ self.old.notes }
+        ensures one { OnOk result (C.made self.new.connect ≡ counted (C.made self.old.connect) 1) }
+        ensures most { C.made self.new.connect ≤ C.made self.old.connect + 1 }
+        ensures taken { C.taken self.new.connect ≡ C.taken self.old.connect }
+        ensures told { IfOk result (λ a. StandsForOne K.holds a (IsToldAnew C.Connect C.Wire.Wire self.old self.new at.now)) }
+        ensures stands { StandsBy C.Connect C.Wire.Wire self.old self.new at.now }
+    {
+        match self.connect.connect(origin) {
+            Ok(mut wire) => match self.page_over(&mut wire, at, sink) {
+                Ok(heard) => {
+                    self.put_away(origin, wire, heard.serves);
+                    Ok(heard.answer)
+                }
+                Err(none) => {
+                    self.connect.close(wire);
+                    Err(none)
+                }
+            },
+            Err(ConnectFault::Failed) => sink.fault(FaultKind::Connect),
+            Err(ConnectFault::Memory) => Err(AllocError),
+        }
+    }
+
+    // Asks for a page over a connection that was kept: none where there was none, or no byte came over it. The error is want of memory.
+    fn ask_page_again<K: Keeper>(
+        &mut self,
+        origin: &Origin,
+        at: &Address,
+        sink: &mut PageSink<K>,
+    ) -> Result<Option<Answer<K::Kept>>, AllocError>
+        requires { origin.now ≡ origin_of at.now }
+        ensures asks { self.new.asks ≡ self.old.asks }
+        ensures robots { self.new.robots ≡ self.old.robots }
+        ensures keeps { self.new.keeps ≡ self.old.keeps }
+        ensures is_recording { self.new.is_recording ≡ self.old.is_recording }
+        ensures notes { self.new.notes ≡ self.old.notes }
+        ensures made { C.made self.new.connect ≡ C.made self.old.connect }
+        ensures refused { C.refused self.new.connect ≡ C.refused self.old.connect }
+        ensures gives { IfOk result (λ o. IfNone o (Stays (C.gives self.old.connect) (C.gives self.new.connect))) }
+        ensures silent { IfOk result (λ o. IfNone o (IsUntold C.Connect C.Wire.Wire self.old self.new at.now)) }
+        ensures told { IfOk result (λ o. IfSome o (λ a. StandsForOne K.holds a (IsToldAgain C.Connect C.Wire.Wire self.old self.new at.now))) }
+        ensures stands { StandsBy C.Connect C.Wire.Wire self.old self.new at.now }
+    {
+        if !self.keeps {
+            return Ok(None);
+        }
+        let Some(mut wire) = self.connect.take(origin) else {
+            return Ok(None);
+        };
+        match self.page_again(&mut wire, at, sink) {
+            Ok(Some(heard)) => {
+                self.put_away(origin, wire, heard.serves);
+                Ok(Some(heard.answer))
+            }
+            Ok(None) => {
+                self.connect.close(wire);
+                Ok(None)
+            }
+            Err(none) => {
+                self.connect.close(wire);
+                Err(none)
+            }
+        }
+    }
+
+    // Asks for a page, over a connection that was kept or else one new one, and hands its body to the sink's keeper as it comes. The
+    // error is want of memory.
+    fn exchange_page<K: Keeper>(
+        &mut self,
+        at: &Address,
+        sink: &mut PageSink<K>,
+    ) -> Result<Answer<K::Kept>, AllocError>
+        ensures asks { self.new.asks ≡ self.old.asks }
+        ensures robots { self.new.robots ≡ self.old.robots }
+        ensures keeps { self.new.keeps ≡ self.old.keeps }
+        ensures is_recording { self.new.is_recording ≡ self.old.is_recording }
+        ensures notes { self.new.notes ≡ self.old.notes }
+        ensures one { self.old.keeps ≡ false → OnOk result (C.made self.new.connect ≡ counted (C.made self.old.connect) 1) }
+        ensures most { C.made self.new.connect ≤ C.made self.old.connect + 1 }
+        ensures told { IfOk result (λ a. StandsForOne K.holds a (IsToldByTries C.Connect C.Wire.Wire self.old self.new at.now)) }
+        ensures stands { StandsBy C.Connect C.Wire.Wire self.old self.new at.now }
+        ensures may { IfOk result (λ a. StandsForOne K.holds a (λ real. MayAnswer self.old.robots at.now real.outcome real.body)) }
+    {
+        let origin = Origin::of(at)?;
+        match self.ask_page_again(&origin, at, sink)? {
+            Some(answer) => Ok(answer),
+            None => self.ask_page_anew(&origin, at, sink),
+        }
+    }
+
+    /// Asks for a page as [`Fetcher::ask`] does, but that its body goes to the sink's keeper as it comes, so that it stands nowhere
+    /// else whole. What is answered stands for what the site may answer. Nothing is noted.
+    pub fn ask_into<K: Keeper>(
+        &mut self,
+        at: &Address,
+        sink: &mut PageSink<K>,
+    ) -> Result<Answer<K::Kept>, AllocError>
+        ensures asked { OnOk result (self.new.asks ≡ self.old.asks ++ ask.Page at.now ∷ []) }
+        ensures refused { OnErr result (GainedAtMost self.old.asks self.new.asks (ask.Page at.now)) }
+        // No connection is asked for before the ask is logged.
+        ensures first { OnErr result ((C.made self.new.connect ≡ C.made self.old.connect) ⊎ (self.new.asks ≡ self.old.asks ++ ask.Page at.now ∷ [])) }
+        ensures robots { self.new.robots ≡ self.old.robots }
+        ensures keeps { self.new.keeps ≡ self.old.keeps }
+        // The answer is what came over one connection behind its own request. Where none are kept, one is asked for.
+        ensures one { self.old.keeps ≡ false → OnOk result (C.made self.new.connect ≡ counted (C.made self.old.connect) 1) }
+        ensures most { C.made self.new.connect ≤ C.made self.old.connect + 1 }
+        ensures told { IfOk result (λ a. StandsForOne K.holds a (IsToldByTries C.Connect C.Wire.Wire self.old self.new at.now)) }
+        ensures stands { StandsBy C.Connect C.Wire.Wire self.old self.new at.now }
+        ensures may { IfOk result (λ a. StandsForOne K.holds a (λ real. MayAnswer self.old.robots at.now real.outcome real.body)) }
+        ensures is_recording { self.new.is_recording ≡ self.old.is_recording }
+        ensures notes { self.new.notes ≡ self.old.notes }
+    {
+        let page = Ask::Page(at.try_clone()?);
+        self.asks.push(page)?;
+        self.exchange_page(at, sink)
+    }
+}
+
 impl<C: Connect> Fetcher for HttpFetcher<C> {
     ghost use Rattle.std.specs.Prelude.{Bool};
+
+    type Body = Body;
 
     // Of the site it is known alone how its answers come of what it tells, robots rules honoured or not.
     ghost Site = { Bool };
@@ -481,7 +732,7 @@ impl<C: Connect> Fetcher for HttpFetcher<C> {
 
     ghost log = { λ f. f.asks };
 
-    fn ask(&mut self, at: &Address) -> Result<Answer, AllocError>
+    fn ask(&mut self, at: &Address) -> Result<Answer<Body>, AllocError>
         ensures asked { OnOk result (self.new.asks ≡ self.old.asks ++ ask.Page at.now ∷ []) }
         ensures refused { OnErr result (GainedAtMost self.old.asks self.new.asks (ask.Page at.now)) }
         // No connection is asked for before the ask is logged.

@@ -9,6 +9,7 @@ use crate::local_name::is_local_name;
 use crate::parts::{Batch, Naming, Part, PartCrew, write_new};
 use crate::site_files::WriteFault;
 use harvest::Harvest;
+use kept_bodies::Body;
 use std::alloc::{AllocError, Global};
 use std::fs::Files;
 use std::io::{Error, ErrorKind};
@@ -295,7 +296,7 @@ fn begins_batch(place: usize, files: usize) -> bool {
 fn batch_from<'h>(
     alloc: Global,
     part: &str,
-    harvest: &'h Harvest,
+    harvest: &'h Harvest<Body>,
     from: usize,
 ) -> Result<Batch<'h>, AllocError> {
     let end = from.saturating_add(BATCH).min(harvest.kept().len());
@@ -314,7 +315,7 @@ fn next_batch<'h, R: Files>(
     rt: &R,
     alloc: Global,
     part: &str,
-    harvest: &'h Harvest,
+    harvest: &'h Harvest<Body>,
     from: usize,
 ) -> Batch<'h> {
     if !begins_batch(from, harvest.kept().len()) {
@@ -413,7 +414,7 @@ where
         crew: &C,
         ready: &mut Batch<'h>,
         names: &[String],
-        harvest: &'h Harvest,
+        harvest: &'h Harvest<Body>,
         from: usize,
     ) -> usize
         ensures { self.new ≡ self.old }
@@ -456,7 +457,7 @@ where
         &mut self,
         crew: &C,
         names: &[String],
-        harvest: &Harvest,
+        harvest: &Harvest<Body>,
     ) -> Result<(), WriteFault>
         requires { length names.now ≡ length harvest.now.kept }
         ensures torn { IfErr result (IsTornBy (map string_bytes names.now) harvest.now.bodies (untold self.old.failed) (untold self.new.failed)) }

@@ -6,6 +6,7 @@ ghost use Rattle.local_tree.specs.SiteFiles.{IsWhole, IsTornBy};
 
 use crate::site_files::WriteFault;
 use harvest::Harvest;
+use kept_bodies::Body;
 use thiserror::Error;
 
 /// Why a file wasn't put.
@@ -35,7 +36,7 @@ pub trait Folder {
 
     /// Puts the kept pages of a harvest, in their order, each under its name. Where a put fails no other is made. A folder may make
     /// the files ready in another order, as long as nobody finds one under its name before its turn.
-    fn put_site(&mut self, names: &[String], harvest: &Harvest) -> Result<(), WriteFault>
+    fn put_site(&mut self, names: &[String], harvest: &Harvest<Body>) -> Result<(), WriteFault>
         requires count { length names.now ≡ length harvest.now.kept }
         requires distinct { AreDistinct (map string_bytes names.now) }
         ensures whole { OnOk result (IsWhole (map string_bytes names.now) harvest.now.bodies (files self.old) (files self.new)) }

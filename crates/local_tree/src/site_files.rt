@@ -6,6 +6,7 @@ ghost use Rattle.local_tree.specs.SiteFiles.{IsWhole, IsTornBy};
 
 use crate::folder::Folder;
 use harvest::Harvest;
+use kept_bodies::Body;
 use thiserror::Error;
 
 /// Why not all files of a site were written.
@@ -21,7 +22,7 @@ pub enum WriteFault {
 pub fn write_site<D: Folder>(
     folder: &mut D,
     names: &[String],
-    harvest: &Harvest,
+    harvest: &Harvest<Body>,
 ) -> Result<(), WriteFault>
     requires count { length names.now ≡ length harvest.now.kept }
     requires distinct { AreDistinct (map string_bytes names.now) }

@@ -30,7 +30,7 @@ abbrev pub IsStill : {F J : Type 0} → Journaling F J → Journaling F J → Ty
 IsStill old new = (new.journal ≡ old.journal) × (new.kept ≡ old.kept)
 
 -- a note of this address was handed over, which says this answer
-abbrev pub HandsPage : {F J : Type 0} → (J → Option (List ℕ)) → Bool → AddressText → Answer → Journaling F J → Journaling F J → Type 0
+abbrev pub HandsPage : {F J : Type 0} → (J → Option (List ℕ)) → Bool → AddressText → Answer (List ℕ) → Journaling F J → Journaling F J → Type 0
 HandsPage contents robots at answer old new =
     (told : Told) × IsHanded contents (Page at told) old new × (answer.outcome ≡ outcome_told robots at told) × (answer.body ≡ body_told told)
 

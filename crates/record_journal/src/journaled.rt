@@ -10,7 +10,7 @@ ghost use Rattle.record_journal.specs.Handed.{HandsPage, HandsChain, IsHanded, I
 use crate::journal::Journal;
 use address::{Address, Origin};
 use answer_notes::{Noted, Recording, Telling};
-use fetcher::{Answer, Ask, Fetcher};
+use fetcher::{Answer, Ask, Body, Fetcher};
 use robots_rules::RuleSet;
 use site_records::push_note;
 use std::alloc::{AllocError, Global};
@@ -103,7 +103,7 @@ impl<F: Telling, J: Journal> Journaled<F, J> {
     }
 
     // Asks for a page, and hands over what was told of it. The error is want of memory.
-    fn ask_and_hand(&mut self, at: &Address) -> Result<Answer, AllocError>
+    fn ask_and_hand(&mut self, at: &Address) -> Result<Answer<Body>, AllocError>
         ensures site { F.site self.new.inner ≡ F.site self.old.inner }
         ensures honours { F.honours self.new.inner ≡ F.honours self.old.inner }
         ensures is_recording { self.new.is_recording ≡ self.old.is_recording }
@@ -139,6 +139,8 @@ impl<F: Telling, J: Journal> Journaled<F, J> {
 }
 
 impl<F: Telling, J: Journal> Fetcher for Journaled<F, J> {
+    type Body = Body;
+
     ghost Site = { F.Site };
 
     ghost site = { λ f. F.site f.inner };
@@ -149,7 +151,7 @@ impl<F: Telling, J: Journal> Fetcher for Journaled<F, J> {
 
     ghost log = { λ f. F.log f.inner };
 
-    fn ask(&mut self, at: &Address) -> Result<Answer, AllocError>
+    fn ask(&mut self, at: &Address) -> Result<Answer<Body>, AllocError>
         ensures site { F.site self.new.inner ≡ F.site self.old.inner }
         ensures told { IfOk result (λ a. F.says (F.site self.old.inner) at.now a.outcome a.body) }
         ensures asked { OnOk result (F.log self.new.inner ≡ F.log self.old.inner ++ ask.Page at.now ∷ []) }

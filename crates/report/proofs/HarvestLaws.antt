@@ -32,7 +32,7 @@ pub record Holds (s : State) (u : Text) (d : ℕ) (refusal : Bool) : Type 0 wher
 found_among : (s : State) → IsOnce (keys s.entries) → (t : Text × Slot) → Contains s.entries t → lookup s.entries t.0 ≡ Some t.1
 found_among s once t (k, lt, at) = subst (λ (z : Text × Slot). lookup s.entries z.0 ≡ Some z.1) at (found_entry s.entries once k t lt)
 
-pub held : (h : Harvested) → AreEntries h → IsOnce (keys h.state.entries) → (e : Entry) → Contains h.entries e → Holds h.state e.address e.depth e.refused
+pub held : {B : Type 0} (h : Harvested B) → AreEntries h → IsOnce (keys h.state.entries) → (e : Entry) → Contains h.entries e → Holds h.state e.address e.depth e.refused
 held h are once e among =
     let there = Contains-permutation (map said_by h.entries) (seen_in h.state) (said_by e) (IsPermutation-sym _ _ are.same) (to_map said_by h.entries e among) in
     let (t, stands, is) = from_map (λ (entry : Text × Slot). seen_of (entry_of entry)) h.state.entries (said_by e) there in
@@ -53,7 +53,7 @@ pub record Answers (s : State) (u : Text) (x : Outcome) : Type 0 where
   pub found : lookup s.entries u ≡ Some slot
   pub outcome : outcome_in slot.progress ≡ Some x
 
-pub answered : (h : Harvested) → AreRecords h → IsOnce (keys h.state.entries) → (u : Text) (x : Outcome) → Contains h.records (u, x) → Answers h.state u x
+pub answered : {B : Type 0} (h : Harvested B) → AreRecords h → IsOnce (keys h.state.entries) → (u : Text) (x : Outcome) → Contains h.records (u, x) → Answers h.state u x
 answered h are once u x among =
     let there = Contains-permutation h.records _ (u, x) (IsPermutation-sym _ _ are.same) among in
     let (t, stands, is) = from_given record_of h.state.entries (u, x) there in
@@ -95,13 +95,13 @@ unanswered (Answered x turn) h = absurd (false≢true h)
 unanswered progress.Refused h = refl
 
 -- the parts of a line
-pub record IsLineOf (h : Harvested) (names : List (List ℕ)) (e : Entry) (o : Option Fate) (line : Line) : Type 0 where
+pub record IsLineOf {B : Type 0} (h : Harvested B) (names : List (List ℕ)) (e : Entry) (o : Option Fate) (line : Line) : Type 0 where
   pub address : e.address ≡ line.address
   pub depth : e.depth ≡ line.depth
   pub fate : o ≡ Some line.fate
   pub name : name_among h.kept names line.address ≡ line.name
 
-pub line_is : (h : Harvested) (names : List (List ℕ)) (e : Entry) (o : Option Fate) (line : Line)
+pub line_is : {B : Type 0} (h : Harvested B) (names : List (List ℕ)) (e : Entry) (o : Option Fate) (line : Line)
     → option_map (line_with h names e) o ≡ Some line → IsLineOf h names e o line
 line_is h names e None line is = cc
 line_is h names e (Some fate) line is =
@@ -114,14 +114,14 @@ line_is h names e (Some fate) line is =
       name = ap (λ (u : Text). name_among h.kept names u) (sym address) ∙ ap (λ (l : Line). l.name) same;
     }
 
-pub ascending_lines : (h : Harvested) (names : List (List ℕ)) → AreEntries h → AreAscending (harvest_lines_of h names)
+pub ascending_lines : {B : Type 0} (h : Harvested B) (names : List (List ℕ)) → AreEntries h → AreAscending (harvest_lines_of h names)
 ascending_lines h names are =
     pairs_given (λ (e f : Entry). IsBefore e.address f.address) (λ (l m : Line). IsBefore l.address m.address) (line_at h names)
     (λ e f l m before left right.
     subst (λ (u : Text). IsBefore l.address u) (line_is h names f _ m right).address (subst (λ (u : Text). IsBefore u f.address) (line_is h names e _ l left).address before))
     h.entries (pairs_map (λ (e : Entry). e.address) IsBefore h.entries are.ascending)
 
-pub length-harvest_lines_of : (h : Harvested) (names : List (List ℕ)) → AreEntries h → length (harvest_lines_of h names) ≤ length h.state.entries
+pub length-harvest_lines_of : {B : Type 0} (h : Harvested B) (names : List (List ℕ)) → AreEntries h → length (harvest_lines_of h names) ≤ length h.state.entries
 length-harvest_lines_of h names are =
     omega (
       arith,

@@ -126,7 +126,7 @@ module _ {X Y : Type 0} (key : X → Text) (f : Text → List ℕ → Y) where
 -- ---- the lines of a harvest
 
 -- what was answered stands in the records
-recorded : (h : Harvested) → AreRecords h → (u : Text) (slot : Slot) (x : Outcome) → lookup h.state.entries u ≡ Some slot → outcome_in slot.progress ≡ Some x → Contains h.records (u, x)
+recorded : {B : Type 0} (h : Harvested B) → AreRecords h → (u : Text) (slot : Slot) (x : Outcome) → lookup h.state.entries u ≡ Some slot → outcome_in slot.progress ≡ Some x → Contains h.records (u, x)
 recorded h are u slot x found is =
     Contains-permutation (filter_map record_of h.state.entries) h.records (u, x) are.same
     (to_given record_of h.state.entries (u, slot) (u, x) (found_stands h.state.entries u slot found) (rw is refl))
@@ -146,7 +146,7 @@ answered_slot s u x is = go (lookup s.entries u) refl is
     go (Some slot) found answered = (slot, found, answered)
 
 -- what was answered has a line
-answered_line : (h : Harvested) (names : List (List ℕ)) → AreEntries h → AreRecords h → (u : Text) (x : Outcome) → (answers h.state).outcome u ≡ Some x
+answered_line : {B : Type 0} (h : Harvested B) (names : List (List ℕ)) → AreEntries h → AreRecords h → (u : Text) (x : Outcome) → (answers h.state).outcome u ≡ Some x
     → (line : Line) × Contains (harvest_lines_of h names) line × (line.address ≡ u)
 answered_line h names are records u x is =
     let (slot, found, outcome) = answered_slot h.state u x is in
@@ -164,7 +164,7 @@ answered_line h names are records u x is =
     )
 
 -- a kept page has a line
-kept_line : (h : Harvested) (names : List (List ℕ)) → AreEntries h → AreRecords h → ArePages h → (u : Text) → Contains h.kept u → (line : Line) × Contains (harvest_lines_of h names) line × (line.address ≡ u)
+kept_line : {B : Type 0} (h : Harvested B) (names : List (List ℕ)) → AreEntries h → AreRecords h → ArePages h → (u : Text) → Contains h.kept u → (line : Line) × Contains (harvest_lines_of h names) line × (line.address ≡ u)
 kept_line h names are records pages u held = go h.plan pages.kept
   where
     go : (plan : Option Plan) → MatchOption plan (h.kept ≡ []) (λ plan. (v : Text) → Contains h.kept v ↔ IsKept plan (answers h.state) v) → (line : Line) × Contains (harvest_lines_of h names) line × (line.address ≡ u)
@@ -172,7 +172,7 @@ kept_line h names are records pages u held = go h.plan pages.kept
     go (Some plan) so = let kept = (so u).0 held in answered_line h names are records u kept.0 kept.1
 
 -- the name of a line is that of its page among the kept ones
-named_among : (h : Harvested) (names : List (List ℕ)) (line : Line) → Contains (harvest_lines_of h names) line → name_among h.kept names line.address ≡ line.name
+named_among : {B : Type 0} (h : Harvested B) (names : List (List ℕ)) (line : Line) → Contains (harvest_lines_of h names) line → name_among h.kept names line.address ≡ line.name
 named_among h names line among = let (e, there, is) = from_given (line_at h names) h.entries line among in (line_is h names e _ line is).name
 
 same_name : (o : Option (List ℕ)) → o ≡ option_map (λ name. name) o
@@ -180,7 +180,7 @@ same_name None = refl
 same_name (Some name) = refl
 
 -- the names of the lines are those that were handed in
-pub names_of_lines : (h : Harvested) (names : List (List ℕ)) → AreEntries h → AreRecords h → ArePages h → length names ≡ length h.kept → names_in (harvest_lines_of h names) ≡ names
+pub names_of_lines : {B : Type 0} (h : Harvested B) (names : List (List ℕ)) → AreEntries h → AreRecords h → ArePages h → length names ≡ length h.kept → names_in (harvest_lines_of h names) ≡ names
 names_of_lines h names are records pages long =
     given_alike (λ (line : Line). line.name) (of_name (λ (line : Line). line.address) (λ page name. name) h.kept names) (harvest_lines_of h names)
     (λ line among. sym (named_among h names line among) ∙ same_name (name_among h.kept names line.address))
@@ -188,7 +188,7 @@ names_of_lines h names are records pages long =
     ∙ paired_names h.kept names long
 
 -- the pages of the lines that have one are the kept pages
-pub pages_of_lines : (h : Harvested) (names : List (List ℕ)) → AreEntries h → AreRecords h → ArePages h → length names ≡ length h.kept → named_pages (harvest_lines_of h names) ≡ h.kept
+pub pages_of_lines : {B : Type 0} (h : Harvested B) (names : List (List ℕ)) → AreEntries h → AreRecords h → ArePages h → length names ≡ length h.kept → named_pages (harvest_lines_of h names) ≡ h.kept
 pages_of_lines h names are records pages long =
     given_alike (λ (line : Line). option_map (λ name. line.address) line.name) (of_name (λ (line : Line). line.address) (λ page name. page) h.kept names) (harvest_lines_of h names)
     (λ line among. ap (option_map (λ name. line.address)) (sym (named_among h names line among)))
@@ -240,7 +240,7 @@ unnamed : (plan : Plan) (s : State) (kept : List Text) (names : List (List ℕ))
 unnamed plan s kept names u kept_is none = has_no_name kept names u (λ held. let (y, told, success, keeps) = kept_is.0 held in let no : None ≡ Some y = sym none ∙ told in cc)
 
 -- just the lines have a name whose page is to be kept
-pub line_to_keep : (plan : Plan) (h : Harvested) (names : List (List ℕ)) → AreEntries h → AreRecords h → IsOnce (keys h.state.entries) → length names ≡ length h.kept
+pub line_to_keep : {B : Type 0} (plan : Plan) (h : Harvested B) (names : List (List ℕ)) → AreEntries h → AreRecords h → IsOnce (keys h.state.entries) → length names ≡ length h.kept
     → ((u : Text) → Contains h.kept u ↔ IsKept plan (answers h.state) u) → (line : Line) → Contains (harvest_lines_of h names) line → is_some line.name ≡ is_to_keep plan line
 line_to_keep plan h names are records once long kept line among =
     let (e, there, is) = from_given (line_at h names) h.entries line among in

@@ -50,7 +50,7 @@ status_alike xs ys there back =
 -- ---- the outcomes of a harvest
 
 -- what a line tells was recorded
-told_recorded : (h : Harvested) (names : List (List ℕ)) → AreEntries h → (x : Outcome) → Contains (outcomes_in (harvest_lines_of h names)) x → Contains (map (λ (recorded : Recorded). recorded.1) h.records) x
+told_recorded : {B : Type 0} (h : Harvested B) (names : List (List ℕ)) → AreEntries h → (x : Outcome) → Contains (outcomes_in (harvest_lines_of h names)) x → Contains (map (λ (recorded : Recorded). recorded.1) h.records) x
 told_recorded h names are x among =
     let (line, there, is) = from_given (λ (line : Line). outcome_of line.fate) (harvest_lines_of h names) x among in
     let (e, stands, gives) = from_given (line_at h names) h.entries line there in
@@ -64,7 +64,7 @@ told_recorded h names are x among =
     ]
 
 -- the fate of an entry whose outcome is recorded
-recorded_fate : (h : Harvested) → AreRecords h → IsOnce (keys h.state.entries) → (u : Text) (x : Outcome) → Contains h.records (u, x) → (refused : Bool) (place : Option ℕ)
+recorded_fate : {B : Type 0} (h : Harvested B) → AreRecords h → IsOnce (keys h.state.entries) → (u : Text) (x : Outcome) → Contains h.records (u, x) → (refused : Bool) (place : Option ℕ)
     → refused ≡ false → IsPlaceOf h.records u place → fate_at h.records refused place ≡ Some (Asked x)
 recorded_fate h records once u x among true place free placed = absurd (false≢true (sym free))
 recorded_fate h records once u x among false None free placed = absurd (placed (to_map (λ (r : Recorded). r.0) h.records (u, x) among))
@@ -78,7 +78,7 @@ recorded_fate h records once u x among false (Some i) free (y, is) =
     rw is (ap (λ (z : Outcome). Some (Asked z)) same)
 
 -- what is recorded is told by a line
-recorded_told : (h : Harvested) (names : List (List ℕ)) → AreEntries h → AreRecords h → IsOnce (keys h.state.entries) → (u : Text) (x : Outcome) → Contains h.records (u, x) → Contains (outcomes_in (harvest_lines_of h names)) x
+recorded_told : {B : Type 0} (h : Harvested B) (names : List (List ℕ)) → AreEntries h → AreRecords h → IsOnce (keys h.state.entries) → (u : Text) (x : Outcome) → Contains h.records (u, x) → Contains (outcomes_in (harvest_lines_of h names)) x
 recorded_told h names are records once u x among =
     let said = answered h records once u x among in
     let seen = Contains-permutation (seen_in h.state) (map said_by h.entries) (u, said.slot.depth, is_refused (condition_of said.slot.progress)) are.same
@@ -99,7 +99,7 @@ recorded_told h names are records once u x among =
         go false e = e
 
 -- the exit status is the same by the records as by the lines
-pub same_status : (h : Harvested) (names : List (List ℕ)) → AreEntries h → AreRecords h → IsOnce (keys h.state.entries)
+pub same_status : {B : Type 0} (h : Harvested B) (names : List (List ℕ)) → AreEntries h → AreRecords h → IsOnce (keys h.state.entries)
     → exit_status (map (λ recorded. recorded.1) h.records) ≡ exit_status (outcomes_in (harvest_lines_of h names))
 same_status h names are records once =
     status_alike (map (λ (recorded : Recorded). recorded.1) h.records) (outcomes_in (harvest_lines_of h names))

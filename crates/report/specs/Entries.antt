@@ -20,14 +20,14 @@ name_among (page ∷ kept) [] u = None
 name_among (page ∷ kept) (name ∷ names) u = if bytes_eq page u then Some name else name_among kept names u
 
 -- the line of an entry with what became of it
-abbrev pub line_with : Harvested → List (List ℕ) → Entry → Fate → Line
+abbrev pub line_with : {B : Type 0} → Harvested B → List (List ℕ) → Entry → Fate → Line
 line_with harvest names entry fate =
     record { address = entry.address; depth = entry.depth; fate = fate; name = name_among harvest.kept names entry.address }
 
 -- the line of an entry, where something became of it
-abbrev pub line_at : Harvested → List (List ℕ) → Entry → Option Line
+abbrev pub line_at : {B : Type 0} → Harvested B → List (List ℕ) → Entry → Option Line
 line_at harvest names entry = option_map (line_with harvest names entry) (fate_at harvest.records entry.refused entry.answer)
 
 -- the lines of a harvest whose kept pages have these names, in the order of its entries
-abbrev pub harvest_lines_of : Harvested → List (List ℕ) → List Line
+abbrev pub harvest_lines_of : {B : Type 0} → Harvested B → List (List ℕ) → List Line
 harvest_lines_of harvest names = filter_map (line_at harvest names) harvest.entries

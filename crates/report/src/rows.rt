@@ -81,8 +81,8 @@ fn fate_of<'a>(entry: &Entry, records: &'a [(Address, Outcome)]) -> Option<Fate<
 
 // The row of an entry of which this became. Its page is looked for at this place among those that are
 // kept first.
-fn row_of<'a>(
-    harvest: &'a Harvest,
+fn row_of<'a, B: Drop>(
+    harvest: &'a Harvest<B>,
     names: &'a [String],
     entry: &'a Entry,
     fate: Fate<'a>,
@@ -100,9 +100,9 @@ fn row_of<'a>(
 }
 
 /// The rows of a harvest whose kept pages have these names, in the order of its entries.
-pub(crate) fn rows_of<'a>(
+pub(crate) fn rows_of<'a, B: Drop>(
     alloc: Global,
-    harvest: &'a Harvest,
+    harvest: &'a Harvest<B>,
     names: &'a [String],
 ) -> Result<Vec<Row<'a>>, AllocError>
     requires { length names.now ≡ length harvest.now.kept }

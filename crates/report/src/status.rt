@@ -27,7 +27,7 @@ fn is_network_fault(outcome: &Outcome) -> bool
 /// The exit status of a harvest: 4 where the network failed for an address, else 7 where there was
 /// another fault, else 8 where a status was 400 or more, else 0. Robots files don't count. Takes no
 /// memory.
-pub fn exit_status(harvest: &Harvest) -> u8
+pub fn exit_status<B: Drop>(harvest: &Harvest<B>) -> u8
     ensures { result ≡ exit_status (map (λ recorded. recorded.1) harvest.now.records) }
 {
     let records = harvest.records();

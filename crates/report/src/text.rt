@@ -199,7 +199,11 @@ pub(crate) fn push_report(text: &mut String, rows: &[Row<'_>]) -> Result<(), All
 /// `depth word address name` for each address that was asked for or that robots rules refuse, in
 /// address order, the name `-` where the page isn't kept, and last the line
 /// `fetched A kept B refused C failed D`. The error is that memory is wanting.
-pub fn report_text(alloc: Global, harvest: &Harvest, names: &[String]) -> Result<String, AllocError>
+pub fn report_text<B: Drop>(
+    alloc: Global,
+    harvest: &Harvest<B>,
+    names: &[String],
+) -> Result<String, AllocError>
     requires { length names.now ≡ length harvest.now.kept }
     ensures text { IfOk result (λ text. string_bytes text ≡ report_text (harvest_lines_of harvest.now (map string_bytes names.now))) }
     ensures entries { AreEntries harvest.now }

@@ -85,7 +85,7 @@ impl Digester {
 
     /// The answer of the response that was taken. The error is want of memory, now or at an earlier
     /// call.
-    pub fn finish(self) -> Result<Answer, AllocError>
+    pub fn finish(self) -> Result<Answer<Body>, AllocError>
         requires { (has_head self.stage ≡ true) ⊎ (self.failed ≡ true) }
         ensures outcome { IfOk result (λ a. (h : HeadParts) (body : List ℕ) → HasTaken self (Some h) body
             → a.outcome ≡ digest_of self.robots self.at (record { head = h; body = body })) }

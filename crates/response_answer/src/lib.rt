@@ -7,10 +7,12 @@
 mod digester;
 mod head_kind;
 mod links;
+mod page_sink;
 mod read_fault;
 mod stage;
 mod whole_response;
 
 pub use digester::Digester;
+pub use page_sink::PageSink;
 pub use read_fault::kind_of_fault;
 pub use whole_response::{digest, into_answer, redirect_target};

@@ -19,7 +19,7 @@ pub fn digest(
     at: &Address,
     response: &Response,
     robots: bool,
-) -> Result<Answer, AllocError>
+) -> Result<Answer<Body>, AllocError>
     ensures outcome { IfOk result (λ a. a.outcome ≡ digest_of robots at.now (response_parts response.now)) }
     ensures body { IfOk result (λ a. a.body ≡ kept_body response.now.status response.now.body.items) }
 {
@@ -41,7 +41,7 @@ pub fn into_answer(
     at: &Address,
     response: Response,
     robots: bool,
-) -> Result<Answer, AllocError>
+) -> Result<Answer<Body>, AllocError>
     ensures outcome { IfOk result (λ a. a.outcome ≡ digest_of robots at.now (response_parts response)) }
     ensures body { IfOk result (λ a. a.body ≡ kept_body response.status response.body.items) }
 {

@@ -69,7 +69,7 @@ none_shown false trace is = refl
 -- ---- a harvest
 
 -- the lines of a harvest have the names of its kept pages
-pub are_named : (plan : Plan) (h : Harvested) (names : List (List ℕ)) → AreEntries h → AreRecords h → ArePages h → h.plan ≡ Some plan → IsOnce (keys h.state.entries)
+pub are_named : (plan : Plan) (h : Harvested (List ℕ)) (names : List (List ℕ)) → AreEntries h → AreRecords h → ArePages h → h.plan ≡ Some plan → IsOnce (keys h.state.entries)
     → IsNaming (map plain_name_of h.kept) names → AreNamed plan (harvest_lines_of h names)
 are_named plan h names are records pages follows once naming =
     let long : length names ≡ length h.kept = naming.count ∙ length-map h.kept plain_name_of in
@@ -80,7 +80,7 @@ are_named plan h names are records pages follows once naming =
           (subst (λ (kept : List Text). IsNaming (map plain_name_of kept) names) (sym (pages_of_lines h names are records pages long)) naming);
     }
 
-pub retrieved : (order : Order) (may_say : Text → Outcome → List ℕ → Type 0) (may_rule : Text → RuleSetValue → Type 0) (whole : Answers) (asks : List Ask) (h : Harvested) (names : List (List ℕ))
+pub retrieved : (order : Order) (may_say : Text → Outcome → List ℕ → Type 0) (may_rule : Text → RuleSetValue → Type 0) (whole : Answers) (asks : List Ask) (h : Harvested (List ℕ)) (names : List (List ℕ))
     → Fits may_say may_rule whole → IsRetrieved may_say may_rule order.plan asks h → IsRead h → IsCompleteFor (policy order.plan) whole h.state → AreByCrew order.workers h.trace → IsNaming (map plain_name_of h.kept) names
     → Finishes order whole (shown_of order.trace h.trace) (Retrieved (harvest_lines_of h names))
 retrieved order may_say may_rule whole asks h names fits is read complete by_one naming =
@@ -91,19 +91,19 @@ retrieved order may_say may_rule whole asks h names fits is read complete by_one
     )
 
 -- the exit status of a report is that of its lines
-pub status_of : (order : Order) (h : Harvested) (names : List (List ℕ)) → IsRead h → h.plan ≡ Some order.plan → exit_status (map (λ recorded. recorded.1) h.records) ≡ exit_status (outcomes_in (harvest_lines_of h names))
+pub status_of : (order : Order) (h : Harvested (List ℕ)) (names : List (List ℕ)) → IsRead h → h.plan ≡ Some order.plan → exit_status (map (λ recorded. recorded.1) h.records) ≡ exit_status (outcomes_in (harvest_lines_of h names))
 status_of order h names read follows =
     same_status h names read.0 read.1 (subst (λ (o : Option Plan). IfSome o (λ plan. IsSound (policy plan) h.state)) follows read.3).addresses
 
 -- ---- a stop
 
-stop_events : (order : Order) (may_say : Text → Outcome → List ℕ → Type 0) (may_rule : Text → RuleSetValue → Type 0) (whole : Answers) (asks : List Ask) (cause : Cause) (h : Harvested)
+stop_events : (order : Order) (may_say : Text → Outcome → List ℕ → Type 0) (may_rule : Text → RuleSetValue → Type 0) (whole : Answers) (asks : List Ask) (cause : Cause) (h : Harvested (List ℕ))
     → Fits may_say may_rule whole → IsPartRetrieved may_say may_rule order.plan asks cause h → AreByCrew order.workers h.trace
     → AreShown order.trace (AreEventsOf order.workers order.plan whole (HasStopped cause)) (shown_of order.trace h.trace)
 stop_events order may_say may_rule whole asks cause h fits part by_one =
     are_shown order.trace (AreEventsOf order.workers order.plan whole (HasStopped cause)) h.trace (by_one, h.state, part.replay, told_part may_say may_rule whole (answers h.state) fits part.told, part.stopped)
 
-pub stopped : (order : Order) (may_say : Text → Outcome → List ℕ → Type 0) (may_rule : Text → RuleSetValue → Type 0) (whole : Answers) (asks : List Ask) (cause : Cause) (h : Harvested)
+pub stopped : (order : Order) (may_say : Text → Outcome → List ℕ → Type 0) (may_rule : Text → RuleSetValue → Type 0) (whole : Answers) (asks : List Ask) (cause : Cause) (h : Harvested (List ℕ))
     → Fits may_say may_rule whole → (cause ≢ why.Mismatch → IsStopped may_say may_rule order.plan asks cause h)
     → (cause ≡ why.Full → HasTooMany (policy order.plan) whole) → (order.workers ≡ 1 → cause ≢ why.Mismatch) → (cause ≢ why.Mismatch → AreByCrew order.workers h.trace)
     → Finishes order whole (shown_of (is_borne_out cause && order.trace) h.trace) (Stopped cause)
@@ -122,7 +122,7 @@ stopped order may_say may_rule whole asks why.Mismatch h fits stop many never by
 -- ---- either
 
 -- what is told of either is told of how the retrieval of the site finishes
-pub told_finishes : (order : Order) (may_say : Text → Outcome → List ℕ → Type 0) (may_rule : Text → RuleSetValue → Type 0) (whole : Answers) (asks : List Ask) (r : Result Harvested Halt)
+pub told_finishes : (order : Order) (may_say : Text → Outcome → List ℕ → Type 0) (may_rule : Text → RuleSetValue → Type 0) (whole : Answers) (asks : List Ask) (r : Result (Harvested (List ℕ)) (Halt (List ℕ)))
     (result : Result Output AllocError) → Fits may_say may_rule whole → IfOk r (λ h. IsRetrieved may_say may_rule order.plan asks h)
     → IfOk r (λ h. IsCompleteFor (policy order.plan) whole h.state)
     → IfErr r (λ halt. halt.cause ≢ why.Mismatch → IsStopped may_say may_rule order.plan asks halt.cause halt.harvest)
@@ -149,7 +149,7 @@ told_finishes order may_say may_rule whole asks (Err halt) (Ok output) fits is c
 told_finishes order may_say may_rule whole asks r (Err e) fits is complete stop many never by told = told
 
 -- copies fit where the site does
-pub copies_fit : {F : Type 0} (m : Meaning F) (whole : Answers) (one : F) (count : ℕ) (copies : List F) → copies ≡ replicate count one → Fits (m.says (m.site one)) (m.rules (m.site one)) whole
+pub copies_fit : {F : Type 0} (m : Meaning F (List ℕ)) (whole : Answers) (one : F) (count : ℕ) (copies : List F) → copies ≡ replicate count one → Fits (m.says (m.site one)) (m.rules (m.site one)) whole
     → AllFit m copies whole
 copies_fit {F = F} m whole one count copies are fits =
     subst (λ (fs : List F). AllFit m fs whole) (sym are) (All-replicate (λ (copy : F). Fits (m.says (m.site copy)) (m.rules (m.site copy)) whole) count one fits)

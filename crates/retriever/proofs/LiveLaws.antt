@@ -55,7 +55,7 @@ complete_for p s complete = record {
 
 -- ---- a harvest
 
-retrieved : {F : Type 0} (crew : Crew F) (plan : Plan) (h : Harvested) (names : List (List ℕ)) → IsRetrieved (MaySay crew) (MaySayRules crew) plan (asks_of crew) h → IsRead h
+retrieved : {F : Type 0} (crew : Crew F) (plan : Plan) (h : Harvested (List ℕ)) (names : List (List ℕ)) → IsRetrieved (MaySay crew) (MaySayRules crew) plan (asks_of crew) h → IsRead h
     → IsNaming (map plain_name_of h.kept) names → AreOfCrew crew h.trace → IsRetrievedLive crew plan h.trace (harvest_lines_of h names) h.bodies
 retrieved crew plan h names is read naming by =
     let sound = subst (λ (o : Option Plan). IfSome o (λ plan. IsSound (policy plan) h.state)) is.follows read.3 in
@@ -74,10 +74,10 @@ retrieved crew plan h names is read naming by =
     }
 
 -- the names in the lines of a harvest are those that were given
-given : (h : Harvested) (names : List (List ℕ)) → IsRead h → IsNaming (map plain_name_of h.kept) names → names ≡ names_in (harvest_lines_of h names)
+given : (h : Harvested (List ℕ)) (names : List (List ℕ)) → IsRead h → IsNaming (map plain_name_of h.kept) names → names ≡ names_in (harvest_lines_of h names)
 given h names read naming = sym (names_of_lines h names read.0 read.1 read.2 (naming.count ∙ length-map h.kept plain_name_of))
 
-part_retrieved : {F : Type 0} (crew : Crew F) (plan : Plan) (cause : Cause) (h : Harvested) → IsPartRetrieved (MaySay crew) (MaySayRules crew) plan (asks_of crew) cause h
+part_retrieved : {F : Type 0} (crew : Crew F) (plan : Plan) (cause : Cause) (h : Harvested (List ℕ)) → IsPartRetrieved (MaySay crew) (MaySayRules crew) plan (asks_of crew) cause h
     → (cause ≡ why.Full → HasTooMany (policy plan) (answers h.state)) → AreOfCrew crew h.trace → IsStoppedLive crew plan cause h.trace
 part_retrieved crew plan cause h part many by = record {
   state = h.state;
@@ -101,7 +101,7 @@ module _ {F : Type 0} (crew : Crew F) (order : Order) (old new : Holding) (IsTol
   abbrev pub EndsTold : Type 0
   EndsTold = (shown : List Event) × (ending : LiveEnd) × EndsLive crew order old new shown ending × IsTold (trace_text shown ++ live_text ending) (live_status ending)
 
-  ended : (h : Harvested) → IsRetrieved (MaySay crew) (MaySayRules crew) order.plan (asks_of crew) h → AreOfCrew crew h.trace → IsPutOf IsTold order.trace (Ok h) old new → EndsTold
+  ended : (h : Harvested (List ℕ)) → IsRetrieved (MaySay crew) (MaySayRules crew) order.plan (asks_of crew) h → AreOfCrew crew h.trace → IsPutOf IsTold order.trace (Ok h) old new → EndsTold
   ended h is by (inl (same, told)) = ([], Finished (Stopped why.Memory), (made_once (asks_of crew) is.once, inl refl, inl same), told)
   ended h is by (inr (read, names, naming, inl (whole, quiet, told))) =
       let lines = harvest_lines_of h names in (
@@ -148,12 +148,12 @@ module _ {F : Type 0} (crew : Crew F) (order : Order) (old new : Holding) (IsTol
   )
 
   -- a stop whose trace there was memory for
-  part_stopped : (cause : Cause) (h : Harvested) → IsStopped (MaySay crew) (MaySayRules crew) order.plan (asks_of crew) cause h → (cause ≡ why.Full → HasTooMany (policy order.plan) (answers h.state))
+  part_stopped : (cause : Cause) (h : Harvested (List ℕ)) → IsStopped (MaySay crew) (MaySayRules crew) order.plan (asks_of crew) cause h → (cause ≡ why.Full → HasTooMany (policy order.plan) (answers h.state))
       → AreOfCrew crew h.trace → (shown_of order.trace h.trace ≡ []) ⊎ ((events : List Event) × IsStoppedLive crew order.plan cause events × (shown_of order.trace h.trace ≡ shown_of order.trace events))
   part_stopped cause h (inl part) many by = inr (h.trace, part_retrieved crew order.plan cause h part many by, refl)
   part_stopped cause h (inr empty) many by = inl (none_shown order.trace h.trace empty.trace)
 
-  stopped : (cause : Cause) (h : Harvested) → (cause ≢ why.Mismatch → IsStopped (MaySay crew) (MaySayRules crew) order.plan (asks_of crew) cause h) → (cause ≡ why.Full → HasTooMany (policy order.plan) (answers h.state))
+  stopped : (cause : Cause) (h : Harvested (List ℕ)) → (cause ≢ why.Mismatch → IsStopped (MaySay crew) (MaySayRules crew) order.plan (asks_of crew) cause h) → (cause ≡ why.Full → HasTooMany (policy order.plan) (answers h.state))
       → (length crew.first ≡ 1 → cause ≢ why.Mismatch) → (cause ≢ why.Mismatch → AreOfCrew crew h.trace) → new ≡ old → IsHaltTold IsTold order.trace (record { cause = cause; harvest = h }) → EndsTold
   stopped why.Full h stop many one by same (inl told) =
       elim (stop (λ is. cc)) [
@@ -177,7 +177,7 @@ module _ {F : Type 0} (crew : Crew F) (order : Order) (old new : Holding) (IsTol
 
 module _ {F : Type 0} (crew : Crew F) where
   -- what is put and told of what a crew retrieved is an end, by what is known of its fetchers
-  pub crew_ends : (order : Order) (r : Result Harvested Halt) (old new : Holding) (IsTold : List ℕ → ℕ → Type 0) → IfOk r (IsRetrieved (MaySay crew) (MaySayRules crew) order.plan (asks_of crew))
+  pub crew_ends : (order : Order) (r : Result (Harvested (List ℕ)) (Halt (List ℕ))) (old new : Holding) (IsTold : List ℕ → ℕ → Type 0) → IfOk r (IsRetrieved (MaySay crew) (MaySayRules crew) order.plan (asks_of crew))
       → IfErr r (λ halt. halt.cause ≢ why.Mismatch → IsStopped (MaySay crew) (MaySayRules crew) order.plan (asks_of crew) halt.cause halt.harvest)
       → IfErr r (λ halt. halt.cause ≡ why.Full → HasTooMany (policy order.plan) (answers halt.harvest.state) × IsOverfull (policy order.plan) halt.harvest.state)
       → (length crew.first ≡ 1 → IfErr r (λ halt. halt.cause ≢ why.Mismatch))
@@ -188,7 +188,7 @@ module _ {F : Type 0} (crew : Crew F) where
       stopped crew order old new IsTold halt.cause halt.harvest stop (λ why. (full why).0) one by.1 put.0 put.1
 
   -- what two clauses say of a crew's trace is what one says
-  pub of_crew : (r : Result Harvested Halt) (count : ℕ) → count ≡ length crew.first
+  pub of_crew : (r : Result (Harvested (List ℕ)) (Halt (List ℕ))) (count : ℕ) → count ≡ length crew.first
       → IfOk r (λ h. AreByCrew count h.trace) × IfErr r (λ halt. halt.cause ≢ why.Mismatch → AreByCrew count halt.harvest.trace)
       → IfOk r (λ h. AreOwn crew.means 0 crew.first crew.left h.trace)
       × IfErr r (λ halt. halt.cause ≢ why.Mismatch → AreOwn crew.means 0 crew.first crew.left halt.harvest.trace)
@@ -197,7 +197,7 @@ module _ {F : Type 0} (crew : Crew F) where
   of_crew (Err halt) count long numbered own = (tt, λ other. (subst (λ (n : ℕ). AreByCrew n halt.harvest.trace) long (numbered.1 other), own.1 other))
 
 -- an end whose text is delivered is a live retrieval
-pub lives_from : {F E : Type 0} (m : Meaning F) (order : Order) (olds news : List F) (before after : Outside) (told : Result ℕ E) (status : ℕ) → AreLater m olds news → status ≡ status_told told
+pub lives_from : {F E : Type 0} (m : Meaning F (List ℕ)) (order : Order) (olds news : List F) (before after : Outside) (told : Result ℕ E) (status : ℕ) → AreLater m olds news → status ≡ status_told told
     → EndsTold (crew_of m olds news) order before.folder after.folder (IsToldAs before.written after.written told) → Lives m order olds before after status
 lives_from m order olds news before after told status later same (shown, ending, ends, written) = record {
   left = news;
@@ -234,7 +234,7 @@ untraced_end crew order old new shown (Finished (Stopped why.Memory)) (once, inr
 untraced_end crew order old new shown (Finished (Stopped why.Mismatch)) (many, none, same) off = ap trace_text none
 
 -- a live retrieval found what it comes to
-pub finds_of_lives : {F : Type 0} (m : Meaning F) (order : Order) (fetchers : List F) (before after : Outside) (status : ℕ) → Lives m order fetchers before after status
+pub finds_of_lives : {F : Type 0} (m : Meaning F (List ℕ)) (order : Order) (fetchers : List F) (before after : Outside) (status : ℕ) → Lives m order fetchers before after status
     → Finds m order fetchers before after status
 finds_of_lives m order fetchers before after status lives =
     let crew = crew_of m fetchers lives.left in

@@ -31,12 +31,12 @@ use Rattle.retriever.specs.Site.{AreLines, AreNamed}
 
 -- what the fetchers of a retrieval mean, and what they are at its start and at its end, in their order
 pub record Crew (F : Type 0) : Type 1 where
-  pub means : Meaning F
+  pub means : Meaning F (List ℕ)
   pub first : List F
   pub left : List F
 
 -- the fetchers of this meaning that were those and are these
-abbrev pub crew_of : {F : Type 0} → Meaning F → List F → List F → Crew F
+abbrev pub crew_of : {F : Type 0} → Meaning F (List ℕ) → List F → List F → Crew F
 crew_of m first left = record { means = m; first = first; left = left }
 
 -- some fetcher that was asked for the address may say this of it
@@ -126,7 +126,7 @@ EndsFound crew order old new (Finished (Stopped cause.Mismatch)) = (length crew.
 -- A live retrieval with these fetchers, one for each worker: it found what is to be found, by what the fetchers were asked and
 -- may have answered until its end. Either the writer gained that end's text, behind a trace where one is ordered, and the
 -- status is the end's, or the writer failed behind a front of it, and the status is 1.
-pub record Finds {F : Type 0} (m : Meaning F) (order : Order) (fetchers : List F) (before after : Outside) (status : ℕ) : Type 0 where
+pub record Finds {F : Type 0} (m : Meaning F (List ℕ)) (order : Order) (fetchers : List F) (before after : Outside) (status : ℕ) : Type 0 where
   pub left : List F
   pub later : AreLater m fetchers left
   pub ending : LiveEnd

@@ -72,7 +72,7 @@ EndsLive crew order old new shown (Finished (Stopped cause.Mismatch)) = (length 
 -- A live retrieval with these fetchers, one for each worker: it comes to an end, by what the fetchers were asked and may
 -- have answered until then. Either the writer gained that end's text, behind what is shown of the trace, and the status is
 -- the end's, or the writer failed behind a front of it, and the status is 1.
-pub record Lives {F : Type 0} (m : Meaning F) (order : Order) (fetchers : List F) (before after : Outside) (status : ℕ) : Type 0 where
+pub record Lives {F : Type 0} (m : Meaning F (List ℕ)) (order : Order) (fetchers : List F) (before after : Outside) (status : ℕ) : Type 0 where
   pub left : List F
   pub later : AreLater m fetchers left
   pub shown : List Event

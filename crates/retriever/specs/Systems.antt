@@ -25,13 +25,13 @@ use Rattle.live_system.specs.declared.system.System.{Ghosts as Systems}
 pub record Means (S F D V : Type 0) : Type 1 where
   pub gives : Systems S F D V
   pub system : S
-  pub fetchers : Fetchers F
+  pub fetchers : Fetchers F (List ℕ)
   pub noted : F → List Noted
   pub folders : Folders D
   pub records : Writers V
 
 -- what belongs to a system
-abbrev pub means : {S F D V : Type 0} → Systems S F D V → S → Fetchers F → (F → List Noted) → Folders D → Writers V → Means S F D V
+abbrev pub means : {S F D V : Type 0} → Systems S F D V → S → Fetchers F (List ℕ) → (F → List Noted) → Folders D → Writers V → Means S F D V
 means gives system fetchers noted folders records =
     record { gives = gives; system = system; fetchers = fetchers; noted = noted; folders = folders; records = records }
 

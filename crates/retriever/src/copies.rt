@@ -2,12 +2,13 @@
 ghost use Rattle.std.specs.Prelude.{◌≡◌, IfOk, replicate, vec_len};
 
 use fetcher::Fetcher;
+use kept_bodies::Body;
 use site_maps::MapSite;
 use site_records::RecordedSite;
 use std::alloc::{AllocError, Global};
 
 /// A site of which each worker can have a copy.
-pub(crate) trait Copied: Fetcher + Sized + Send {
+pub(crate) trait Copied: Fetcher<Body = Body> + Sized + Send {
     ghost use Rattle.std.specs.Prelude.{◌≡◌, IfOk};
 
     /// An equal site, or an error where memory ran out.

@@ -12,6 +12,7 @@ use crate::resume_fault::{ResumeFault, resume_status, resume_text};
 use crate::saved_run::{live_saved, resuming};
 use fetcher::Fetcher;
 use live_system::{HoldFault, System};
+use kept_bodies::Body;
 use options::Order;
 use site_inputs::InputFault;
 use site_records::{RecordedSite, Resumed};
@@ -45,12 +46,12 @@ fn fetchers_of<S: System>(
 
 // Lets what was retrieved stand to the end. To give its memory back to the system, page by page, would take a tenth of a large
 // run, and the process ends behind it.
-fn keep_to_the_end(retrieved: Result<Harvest, Halt>) {
+fn keep_to_the_end(retrieved: Result<Harvest<Body>, Halt<Body>>) {
     mem::forget(retrieved);
 }
 
 // Retrieves the live site that the order says, by these fetchers, into a folder of the system.
-fn live_into<H: Threads + Wait + Sync, S: System, F: Fetcher + Send, W: Write>(
+fn live_into<H: Threads + Wait + Sync, S: System, F: Fetcher<Body = Body> + Send, W: Write>(
     rt: &H,
     alloc: Global,
     system: &S,

@@ -14,6 +14,7 @@ ghost use Rattle.retriever.specs.Run.{finish_text};
 use crate::told::{halt_text, telling_of};
 use fetcher::Fetcher;
 use frontier_core::Cause;
+use kept_bodies::Body;
 use local_tree::{Folder, WriteFault, write_site};
 use options::Order;
 use report::exit_status;
@@ -48,7 +49,7 @@ fn tell<W: Write>(writer: &mut W, text: &[u8], status: u8) -> Result<u8, WriteFa
 fn tell_halt<W: Write>(
     alloc: Global,
     is_shown: bool,
-    halt: &Halt,
+    halt: &Halt<Body>,
     writer: &mut W,
 ) -> Result<u8, WriteFailed>
     ensures { IsHaltTold (IsToldAs (W.contents writer.old) (W.contents writer.new) result) is_shown halt.now }
@@ -60,7 +61,7 @@ fn tell_halt<W: Write>(
 }
 
 // Tells a harvest's text, with the status of its report.
-fn tell_report<W: Write>(harvest: &Harvest, text: &str, writer: &mut W) -> Result<u8, WriteFailed>
+fn tell_report<W: Write>(harvest: &Harvest<Body>, text: &str, writer: &mut W) -> Result<u8, WriteFailed>
     ensures { IsToldAs (W.contents writer.old) (W.contents writer.new) result text.now (exit_status (map (λ recorded. recorded.1) harvest.now.records)) }
 {
     tell(writer, text.as_bytes(), exit_status(harvest))
@@ -118,7 +119,7 @@ fn put_and_tell<D: Folder, W: Write>(
     alloc: Global,
     names: &[String],
     text: &str,
-    harvest: &Harvest,
+    harvest: &Harvest<Body>,
     folder: &mut D,
     writer: &mut W,
 ) -> Result<u8, WriteFailed>
@@ -137,7 +138,7 @@ fn put_and_tell<D: Folder, W: Write>(
 fn finish_harvest<D: Folder, W: Write>(
     alloc: Global,
     is_shown: bool,
-    harvest: &Harvest,
+    harvest: &Harvest<Body>,
     folder: &mut D,
     writer: &mut W,
 ) -> Result<u8, WriteFailed>
@@ -161,7 +162,7 @@ fn finish_harvest<D: Folder, W: Write>(
 pub(crate) fn finish<D: Folder, W: Write>(
     alloc: Global,
     is_shown: bool,
-    retrieved: &Result<Harvest, Halt>,
+    retrieved: &Result<Harvest<Body>, Halt<Body>>,
     folder: &mut D,
     writer: &mut W,
 ) -> Result<u8, WriteFailed>
@@ -186,7 +187,7 @@ fn status_told(told: Result<u8, WriteFailed>) -> u8
 
 /// Retrieves as [`live`] does, and gives what was retrieved beside the status. How many addresses wait is noted there, where a
 /// place is given for who looks on.
-pub(crate) fn live_shown<H: Threads + Wait + Sync, F: Fetcher + Send, D: Folder, W: Write>(
+pub(crate) fn live_shown<H: Threads + Wait + Sync, F: Fetcher<Body = Body> + Send, D: Folder, W: Write>(
     rt: &H,
     alloc: Global,
     order: &Order,
@@ -194,7 +195,7 @@ pub(crate) fn live_shown<H: Threads + Wait + Sync, F: Fetcher + Send, D: Folder,
     folder: &mut D,
     writer: &mut W,
     waiting: Option<&AtomicUsize>,
-) -> (u8, Result<Harvest, Halt>)
+) -> (u8, Result<Harvest<Body>, Halt<Body>>)
     requires some { 0 < vec_len fetchers }
     requires most { vec_len fetchers ≤ 64 }
     ensures lives { Lives F.Fetcher order.now fetchers.items (outside (holding D.files D.failed folder.old) (W.contents writer.old))
@@ -213,7 +214,7 @@ pub(crate) fn live_shown<H: Threads + Wait + Sync, F: Fetcher + Send, D: Folder,
 /// and the line `files written K` stands behind the report, K being how many files are whole; the status is 3. Where the
 /// retrieval stopped the line of its cause stands in place of the report, nothing is put, and the status is 1; so it is where
 /// memory runs out. Where the writer fails the status is 1, and a front of the text may have been written.
-pub fn live<H: Threads + Wait + Sync, F: Fetcher + Send, D: Folder, W: Write>(
+pub fn live<H: Threads + Wait + Sync, F: Fetcher<Body = Body> + Send, D: Folder, W: Write>(
     rt: &H,
     alloc: Global,
     order: &Order,

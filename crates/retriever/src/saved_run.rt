@@ -9,6 +9,7 @@ ghost use Rattle.retriever.specs.Saving.{IsSaved, LivesResumed, LivesSaved, note
 use crate::input_run::deliver;
 use crate::live_run::finish;
 use answer_notes::{Noted, Recording};
+use kept_bodies::Body;
 use local_tree::Folder;
 use options::Order;
 use site_records::{RecordFault, RecordedSite, Resumed, write_record};
@@ -118,7 +119,7 @@ pub(crate) fn live_saved<
     writer: &mut W,
     saved: &mut V,
     waiting: Option<&AtomicUsize>,
-) -> (u8, Result<Harvest, Halt>)
+) -> (u8, Result<Harvest<Body>, Halt<Body>>)
     requires some { 0 < vec_len fetchers }
     requires most { vec_len fetchers ≤ 64 }
     ensures { LivesSaved (notes_of F.Fetcher F.noted given.now) order.now fetchers.items (outside_saved (holding D.files D.failed folder.old) (W.contents writer.old) (V.contents saved.old))

@@ -11,6 +11,7 @@ ghost use Rattle.retriever.specs.Run.{finish_text};
 ghost use Rattle.report.specs.Trace.{trace_text};
 
 use frontier_core::{Cause, Event};
+use kept_bodies::Body;
 use local_tree::names;
 use report::{cause_word, exit_status, push_trace, report_text};
 use std::alloc::{AllocError, Global};
@@ -45,7 +46,7 @@ fn push_shown(text: &mut String, is_shown: bool, trace: &[Event]) -> Result<(), 
 pub(crate) fn telling_of(
     alloc: Global,
     is_shown: bool,
-    harvest: &Harvest,
+    harvest: &Harvest<Body>,
 ) -> Result<Telling, AllocError>
     ensures naming { IfOk result (λ telling. IsNaming (map plain_name_of harvest.now.kept) (map string_bytes telling.names.items)) }
     ensures count { IfOk result (λ telling. length telling.names.items ≡ length harvest.now.kept) }
@@ -74,7 +75,7 @@ fn is_borne_out(cause: Cause) -> bool
 }
 
 /// The text of a retrieval that stopped: its trace, where it is to be shown and no check failed, and the line of the cause.
-pub(crate) fn halt_text(alloc: Global, is_shown: bool, halt: &Halt) -> Result<String, AllocError>
+pub(crate) fn halt_text(alloc: Global, is_shown: bool, halt: &Halt<Body>) -> Result<String, AllocError>
     ensures { IfOk result (λ text. string_bytes text ≡ trace_text (shown_of (is_borne_out halt.now.cause && is_shown) halt.now.harvest.trace) ++ finish_text (Stopped halt.now.cause)) }
 {
     let mut text = String::new(alloc);
@@ -89,7 +90,7 @@ pub(crate) fn halt_text(alloc: Global, is_shown: bool, halt: &Halt) -> Result<St
 pub(crate) fn told_of(
     alloc: Global,
     is_shown: bool,
-    retrieved: &Result<Harvest, Halt>,
+    retrieved: &Result<Harvest<Body>, Halt<Body>>,
 ) -> Result<Output, AllocError>
     ensures { IfOk result (λ output. IsRetrievalTold is_shown retrieved.now (string_bytes output.text) output.status) }
 {

@@ -43,7 +43,7 @@ unless_fault_same (Leaf status) h = refl
 unless_fault_same (Fault kind) h = absurd cc
 
 -- what a site answers that never fails, the site without its faults answers too
-pub told_steady : {E : Type 0} (r : Result Answer E) (site : SiteAnswers) (at : List ℕ) → is_fault (site.outcome at) ≡ false
+pub told_steady : {E : Type 0} (r : Result (Answer (List ℕ)) E) (site : SiteAnswers) (at : List ℕ) → is_fault (site.outcome at) ≡ false
     → IfOk r (λ a. GivesOutcome site at a.outcome a.body) → IfOk r (λ a. GivesOutcome (without_faults site) at a.outcome a.body)
 told_steady (Ok a) site at never h = (h.0 ∙ sym (unless_fault_same (site.outcome at) never), h.1)
 told_steady (Err e) site at never h = h

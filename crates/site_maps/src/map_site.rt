@@ -164,6 +164,8 @@ impl Fetcher for MapSite {
     ghost use Rattle.site_maps.specs.Maps.{says_of};
     ghost use Rattle.fetcher.specs.Sites.{SiteAnswers, GivesOutcome, GivesRules};
 
+    type Body = Body;
+
     ghost Site = { SiteAnswers };
 
     ghost site = { λ m. says_of m.answers m.rules };
@@ -176,7 +178,7 @@ impl Fetcher for MapSite {
 
     /// Asks for the page of an address. The answer is what the map says of it, with an empty
     /// body; the ask is logged first, and the map stays what it is.
-    fn ask(&mut self, at: &Address) -> Result<Answer, AllocError> {
+    fn ask(&mut self, at: &Address) -> Result<Answer<Body>, AllocError> {
         self.asks.push(Ask::Page(at.try_clone()?))?;
         let outcome = self.outcome(at)?;
         Ok(Answer {

@@ -1,7 +1,7 @@
 //! Maps without fault lines, as steady sites.
 use crate::map_site::MapSite;
 use address::{Address, Origin};
-use fetcher::{Answer, Ask, Fetcher, SteadyFetcher};
+use fetcher::{Answer, Ask, Body, Fetcher, SteadyFetcher};
 use robots_rules::RuleSet;
 use std::alloc::AllocError;
 use std::marker::Model;
@@ -55,6 +55,8 @@ impl Fetcher for SteadyMap {
     ghost use Rattle.site_maps.specs.Maps.{says_of};
     ghost use Rattle.fetcher.specs.Sites.{SiteAnswers, GivesOutcome, GivesRules, without_faults};
 
+    type Body = Body;
+
     ghost Site = { SiteAnswers };
 
     ghost site = { λ m. without_faults (says_of m.answers m.rules) };
@@ -66,7 +68,7 @@ impl Fetcher for SteadyMap {
     ghost log = { λ m. m.asks };
 
     /// Asks for the page of an address, as of the map.
-    fn ask(&mut self, at: &Address) -> Result<Answer, AllocError> {
+    fn ask(&mut self, at: &Address) -> Result<Answer<Body>, AllocError> {
         self.map.ask(at)
     }
 

@@ -24,7 +24,7 @@ read_as_told robots at bytes (told.Whole r) is = inl (record { response = r; beg
 read_as_told robots at bytes (told.Fault kind) (fault, text, of, kind_is) = inr (record { fault = fault; kind = kind; text = text; of_bytes = of; kind_is = kind_is; answer = refl })
 
 -- an answer is what is told where its parts are
-pub answer_is : (robots : Bool) (at : AddressText) (t : Told) (a : Answer) → a.outcome ≡ outcome_told robots at t → a.body ≡ body_told t
+pub answer_is : (robots : Bool) (at : AddressText) (t : Told) (a : Answer (List ℕ)) → a.outcome ≡ outcome_told robots at t → a.body ≡ body_told t
     → a ≡ record { outcome = outcome_told robots at t; body = body_told t }
 answer_is robots at t a outcome body = λ i. record { outcome = outcome i; body = body i }
 

@@ -19,7 +19,7 @@ gained ask (Ok x) ok err = inr ok
 gained ask (Err e) ok err = err
 
 -- one more ask, of what isn't stated
-pub spared_more : {answers : List (AddressText × Answer)} {rules : List (OriginText × RuleSetValue)} {since : ℕ} {old new : List Ask} (ask : Ask)
+pub spared_more : {answers : List (AddressText × Answer (List ℕ))} {rules : List (OriginText × RuleSetValue)} {since : ℕ} {old new : List Ask} (ask : Ask)
     → IsSpared answers rules since old → IsUnstated answers rules ask → GainedAtMost old new ask → IsSpared answers rules since new
 spared_more {answers} {rules} {since} ask h u (inl e) = subst (IsSpared answers rules since) (sym e) h
 spared_more {answers} {rules} {since} {old} {new} ask h u (inr e) =
@@ -56,13 +56,13 @@ same_site {F} {S} site log r inner asks is before =
     ap (λ s. with s (take r.since (log inner))) is ∙ ap (with (site r.inner)) before
 
 -- an answer that is stated, and one of the fetcher where none is
-pub says_stated : {S : Type 0} (says : S → List ℕ → Outcome → List ℕ → Type 0) (site : Resumption S) (at : List ℕ) (a : Answer)
+pub says_stated : {S : Type 0} (says : S → List ℕ → Outcome → List ℕ → Type 0) (site : Resumption S) (at : List ℕ) (a : Answer (List ℕ))
     → lookup (bytes_eq at) site.answers ≡ Some a → SaysOr says site at a.outcome a.body
-says_stated says site at a is = subst (λ o. MatchOption o (says site.inner at a.outcome a.body) (λ (b : Answer). (a.outcome ≡ b.outcome) × (a.body ≡ b.body))) (sym is) (refl, refl)
+says_stated says site at a is = subst (λ o. MatchOption o (says site.inner at a.outcome a.body) (λ (b : Answer (List ℕ)). (a.outcome ≡ b.outcome) × (a.body ≡ b.body))) (sym is) (refl, refl)
 
 pub says_inner : {S : Type 0} (says : S → List ℕ → Outcome → List ℕ → Type 0) (site : Resumption S) (at : List ℕ) (x : Outcome) (body : List ℕ)
     → lookup (bytes_eq at) site.answers ≡ None → says site.inner at x body → SaysOr says site at x body
-says_inner says site at x body is h = subst (λ o. MatchOption o (says site.inner at x body) (λ (b : Answer). (x ≡ b.outcome) × (body ≡ b.body))) (sym is) h
+says_inner says site at x body is h = subst (λ o. MatchOption o (says site.inner at x body) (λ (b : Answer (List ℕ)). (x ≡ b.outcome) × (body ≡ b.body))) (sym is) h
 
 -- the same of rule sets
 pub rules_stated : {S : Type 0} (rules : S → List ℕ → RuleSetValue → Type 0) (site : Resumption S) (of : List ℕ) (r : RuleSetValue)
@@ -75,14 +75,14 @@ rules_inner rules site of r is h = subst (λ o. MatchOption o (rules site.inner 
 
 -- ---- a steady site
 
-given_or : {S : Type 0} (says : S → List ℕ → Outcome → List ℕ → Type 0) (site : S) (x : Outcome) (at : List ℕ) (o : Option Answer)
-    → ((a : Answer) → o ≡ Some a → says site at a.outcome a.body) → ((y : Outcome) (body : List ℕ) → says site at y body → y ≡ x)
+given_or : {S : Type 0} (says : S → List ℕ → Outcome → List ℕ → Type 0) (site : S) (x : Outcome) (at : List ℕ) (o : Option (Answer (List ℕ)))
+    → ((a : Answer (List ℕ)) → o ≡ Some a → says site at a.outcome a.body) → ((y : Outcome) (body : List ℕ) → says site at y body → y ≡ x)
     → ((body : List ℕ) × says site at x body) → (body : List ℕ) × MatchOption o (says site at x body) (λ a. (x ≡ a.outcome) × (body ≡ a.body))
 given_or says site x at None are only given = given
 given_or says site x at (Some a) are only given = (a.body, (sym (only a.outcome a.body (are a refl)), refl))
 
-only_or : {S : Type 0} (says : S → List ℕ → Outcome → List ℕ → Type 0) (site : S) (x : Outcome) (at : List ℕ) (o : Option Answer)
-    → ((a : Answer) → o ≡ Some a → says site at a.outcome a.body) → ((y : Outcome) (body : List ℕ) → says site at y body → y ≡ x)
+only_or : {S : Type 0} (says : S → List ℕ → Outcome → List ℕ → Type 0) (site : S) (x : Outcome) (at : List ℕ) (o : Option (Answer (List ℕ)))
+    → ((a : Answer (List ℕ)) → o ≡ Some a → says site at a.outcome a.body) → ((y : Outcome) (body : List ℕ) → says site at y body → y ≡ x)
     → (y : Outcome) (body : List ℕ) → MatchOption o (says site at y body) (λ a. (y ≡ a.outcome) × (body ≡ a.body)) → y ≡ x
 only_or says site x at None are only y body h = only y body h
 only_or says site x at (Some a) are only y body h = h.0 ∙ only a.outcome a.body (are a refl)

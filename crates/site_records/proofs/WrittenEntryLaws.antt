@@ -167,7 +167,7 @@ line_is line behind plain = record {
 }
 
 -- the answer of a response
-abbrev pub answer_of : Bool → AddressText → ResponseParts → Answer
+abbrev pub answer_of : Bool → AddressText → ResponseParts → Answer (List ℕ)
 answer_of robots at r = record { outcome = digest_of robots at r; body = kept_body r.head.status r.body }
 
 -- what is written of a page is an entry, which states the answer of its response, whatever stands behind it

@@ -19,7 +19,7 @@ use crate::taken::Taken;
 use crate::version::Version;
 use address::{Address, Origin};
 use answer_notes::{Hops, Noted, Told};
-use fetcher::{Answer, FaultKind};
+use fetcher::{Answer, Body, FaultKind};
 use indexmap::IndexMap;
 use site_inputs::{InputLineFault, KeptRules, read_address, read_origin};
 use std::alloc::{AllocError, Global};
@@ -31,7 +31,7 @@ pub(crate) struct Reading {
     pub(crate) version: Version,
     pub(crate) keeps_notes: bool,
     pub(crate) notes: Vec<Noted>,
-    pub(crate) answers: IndexMap<Address, Answer>,
+    pub(crate) answers: IndexMap<Address, Answer<Body>>,
     pub(crate) rules: IndexMap<Origin, KeptRules>,
 }
 

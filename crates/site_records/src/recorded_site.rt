@@ -15,7 +15,7 @@ use std::sync::Arc;
 /// What a record states.
 #[derive(Drop)]
 pub(crate) struct Stated {
-    pub(crate) answers: IndexMap<Address, Answer>,
+    pub(crate) answers: IndexMap<Address, Answer<Body>>,
     pub(crate) rules: IndexMap<Origin, KeptRules>,
     pub(crate) notes: Vec<Noted>,
 }
@@ -151,7 +151,7 @@ impl RecordedSite {
     }
 
     /// What the record states of an address, with a copy of its body; none where it states nothing. The error is want of memory.
-    pub fn stated_answer(&self, at: &Address) -> Result<Option<Answer>, AllocError>
+    pub fn stated_answer(&self, at: &Address) -> Result<Option<Answer<Body>>, AllocError>
         ensures { IfOk result (λ a. a ≡ lookup (bytes_eq at.now) self.now.answers) }
     {
         match self.stated.answers.get(at) {
@@ -171,7 +171,7 @@ impl RecordedSite {
     }
 
     // What the record says of an address.
-    fn answer(&self, at: &Address) -> Result<Answer, AllocError>
+    fn answer(&self, at: &Address) -> Result<Answer<Body>, AllocError>
         ensures { IfOk result (λ a. a ≡ answer_in self.now.answers at.now) }
     {
         match self.stated_answer(at)? {
@@ -201,6 +201,8 @@ impl Fetcher for RecordedSite {
     ghost use Rattle.fetcher.specs.Logs.{GainedAtMost};
     ghost use Rattle.site_records.specs.Records.{RecordedAnswers, GivesAnswer, RecordGivesRules, says_of};
 
+    type Body = Body;
+
     ghost Site = { RecordedAnswers };
 
     ghost site = { λ m. says_of m.answers m.rules };
@@ -213,7 +215,7 @@ impl Fetcher for RecordedSite {
 
     /// Asks for the page of an address. The answer is what the record says of it, with a copy of its
     /// body; the ask is logged first, and the record stays what it is.
-    fn ask(&mut self, at: &Address) -> Result<Answer, AllocError> {
+    fn ask(&mut self, at: &Address) -> Result<Answer<Body>, AllocError> {
         self.asks.push(Ask::Page(at.try_clone()?))?;
         self.answer(at)
     }

@@ -5,7 +5,7 @@ use fetcher::{Answer, Body};
 use std::alloc::{AllocError, Global};
 
 // An equal answer.
-pub(crate) fn copy_of(alloc: Global, answer: &Answer) -> Result<Answer, AllocError>
+pub(crate) fn copy_of(alloc: Global, answer: &Answer<Body>) -> Result<Answer<Body>, AllocError>
     ensures { IfOk result (λ copy. copy ≡ answer.now) }
 {
     Ok(Answer {

@@ -7,21 +7,21 @@ ghost use Rattle.site_records.specs.Resumption.{AreOf, IsUnstated, IsSpared, Rul
 use crate::recorded_site::RecordedSite;
 use address::{Address, Origin};
 use answer_notes::{Noted, Recording};
-use fetcher::{Answer, Ask, Fetcher};
+use fetcher::{Answer, Ask, Body, Fetcher};
 use robots_rules::RuleSet;
 use std::alloc::{AllocError, Global};
 use std::marker::Model;
 
 /// Answers from a record what this states, recorded faults too, and asks a fetcher for the rest.
 #[derive(Drop)]
-pub struct Resumed<F: Fetcher> {
+pub struct Resumed<F: Fetcher<Body = Body>> {
     recorded: RecordedSite,
     inner: F,
     asks: Vec<Ask>,
     since: usize,
 }
 
-impl<F: Fetcher> Model for Resumed<F> {
+impl<F: Fetcher<Body = Body>> Model for Resumed<F> {
     ghost use Rattle.site_records.specs.Resumption.{Resuming, IsSpared};
 
     ghost Value = { Resuming F };
@@ -31,7 +31,7 @@ impl<F: Fetcher> Model for Resumed<F> {
     ghost invariant = { λ r. IsSpared r.recorded.answers r.recorded.rules r.since (F.log r.inner) };
 }
 
-impl<F: Fetcher> Resumed<F> {
+impl<F: Fetcher<Body = Body>> Resumed<F> {
     /// Answers from the record, and asks the fetcher for what this doesn't state. Takes no memory; later growth comes from
     /// `alloc`.
     pub fn new(alloc: Global, recorded: RecordedSite, inner: F) -> Resumed<F>
@@ -71,8 +71,10 @@ impl<F: Fetcher> Resumed<F> {
     }
 }
 
-impl<F: Fetcher> Fetcher for Resumed<F> {
+impl<F: Fetcher<Body = Body>> Fetcher for Resumed<F> {
     ghost use Rattle.site_records.specs.Resumption.{Resumption, resumption_of, SaysOr, RulesOr};
+
+    type Body = Body;
 
     ghost Site = { Resumption F.Site };
 
@@ -84,7 +86,7 @@ impl<F: Fetcher> Fetcher for Resumed<F> {
 
     ghost log = { λ r. r.asks };
 
-    fn ask(&mut self, at: &Address) -> Result<Answer, AllocError> {
+    fn ask(&mut self, at: &Address) -> Result<Answer<Body>, AllocError> {
         self.asks.push(Ask::Page(at.try_clone()?))?;
         match self.recorded.stated_answer(at)? {
             Some(answer) => {

@@ -2,7 +2,7 @@
 use crate::watched_tcp::WatchedTcp;
 use address::{Address, Origin};
 use answer_notes::{Hops, Telling, Told};
-use fetcher::{Answer, Ask, Fetcher};
+use fetcher::{Answer, Ask, Body, Fetcher};
 use http_fetcher::HttpFetcher;
 use progress::Progress;
 use robots_rules::RuleSet;
@@ -74,6 +74,8 @@ impl<'a, R: Net + Wait + Clock + Eprint> Fetcher for OverTcp<'a, R> {
     ghost use Rattle.std.specs.Prelude.{Bool};
     ghost use Rattle.http_fetcher.specs.Meanings.{MayAnswer, MayRule};
 
+    type Body = Body;
+
     ghost Site = { Bool };
 
     ghost site = { λ f. f.robots };
@@ -84,7 +86,7 @@ impl<'a, R: Net + Wait + Clock + Eprint> Fetcher for OverTcp<'a, R> {
 
     ghost log = { λ f. f.asks };
 
-    fn ask(&mut self, at: &Address) -> Result<Answer, AllocError> {
+    fn ask(&mut self, at: &Address) -> Result<Answer<Body>, AllocError> {
         self.inner.ask(at)
     }
 

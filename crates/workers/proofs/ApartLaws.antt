@@ -102,94 +102,94 @@ once_both (u ∷ us) vs first second apart = (
 -- ---- seats
 
 module _ {F : Type 0} where
-  pub order_first : (seat : Seat F) (seats : List (Seat F)) → AreInOrder seat.notes → All (λ (s : Seat F). AreInOrder s.notes) seats → All (λ (s : Seat F). AreInOrder s.notes) (seat ∷ seats)
-  order_first seat seats first rest = All-cons (λ (s : Seat F). AreInOrder s.notes) seat seats first rest
+  pub order_first : {B : Type 0} (seat : Seat F B) (seats : List (Seat F B)) → AreInOrder seat.notes → All (λ (s : Seat F B). AreInOrder s.notes) seats → All (λ (s : Seat F B). AreInOrder s.notes) (seat ∷ seats)
+  order_first {B = B} seat seats first rest = All-cons (λ (s : Seat F B). AreInOrder s.notes) seat seats first rest
 
-  pub pages_apart : (names : List Text) (seat : Seat F) (seats : List (Seat F)) → AreNotedApart names (addresses seat.notes.pages.items) → AreNotedApart names (addresses (page_notes seats))
+  pub pages_apart : {B : Type 0} (names : List Text) (seat : Seat F B) (seats : List (Seat F B)) → AreNotedApart names (addresses seat.notes.pages.items) → AreNotedApart names (addresses (page_notes seats))
       → AreNotedApart names (addresses (page_notes (seat ∷ seats)))
-  pages_apart names seat seats first second = subst (λ (us : List Text). AreNotedApart names us) (sym (map-append (λ (note : PageNote). note.address) seat.notes.pages.items (page_notes seats)))
+  pages_apart {B = B} names seat seats first second = subst (λ (us : List Text). AreNotedApart names us) (sym (map-append (λ (note : PageNote B). note.address) seat.notes.pages.items (page_notes seats)))
       (apart_both names (addresses seat.notes.pages.items) (addresses (page_notes seats)) first second)
 
-  pub rules_apart : (names : List Text) (seat : Seat F) (seats : List (Seat F)) → AreNotedApart names (origins seat.notes.rules.items) → AreNotedApart names (origins (rules_notes seats))
+  pub rules_apart : {B : Type 0} (names : List Text) (seat : Seat F B) (seats : List (Seat F B)) → AreNotedApart names (origins seat.notes.rules.items) → AreNotedApart names (origins (rules_notes seats))
       → AreNotedApart names (origins (rules_notes (seat ∷ seats)))
   rules_apart names seat seats first second = subst (λ (us : List Text). AreNotedApart names us) (sym (map-append (λ (note : RulesNote). note.origin) seat.notes.rules.items (rules_notes seats)))
       (apart_both names (origins seat.notes.rules.items) (origins (rules_notes seats)) first second)
 
-  pub pages_once : (seat : Seat F) (seats : List (Seat F)) → AreInOrder seat.notes → IsOnce (addresses (page_notes seats)) → AreNotedApart (addresses seat.notes.pages.items) (addresses (page_notes seats))
+  pub pages_once : {B : Type 0} (seat : Seat F B) (seats : List (Seat F B)) → AreInOrder seat.notes → IsOnce (addresses (page_notes seats)) → AreNotedApart (addresses seat.notes.pages.items) (addresses (page_notes seats))
       → IsOnce (addresses (page_notes (seat ∷ seats)))
-  pages_once seat seats order once apart = subst IsOnce (sym (map-append (λ (note : PageNote). note.address) seat.notes.pages.items (page_notes seats)))
+  pages_once {B = B} seat seats order once apart = subst IsOnce (sym (map-append (λ (note : PageNote B). note.address) seat.notes.pages.items (page_notes seats)))
       (once_both (addresses seat.notes.pages.items) (addresses (page_notes seats)) (once_ascending (addresses seat.notes.pages.items) order.pages) once apart)
 
-  pub rules_once : (seat : Seat F) (seats : List (Seat F)) → AreInOrder seat.notes → IsOnce (origins (rules_notes seats)) → AreNotedApart (origins seat.notes.rules.items) (origins (rules_notes seats))
+  pub rules_once : {B : Type 0} (seat : Seat F B) (seats : List (Seat F B)) → AreInOrder seat.notes → IsOnce (origins (rules_notes seats)) → AreNotedApart (origins seat.notes.rules.items) (origins (rules_notes seats))
       → IsOnce (origins (rules_notes (seat ∷ seats)))
   rules_once seat seats order once apart = subst IsOnce (sym (map-append (λ (note : RulesNote). note.origin) seat.notes.rules.items (rules_notes seats)))
       (once_both (origins seat.notes.rules.items) (origins (rules_notes seats)) (once_ascending (origins seat.notes.rules.items) order.rules) once apart)
 
   -- where what each of the seats noted is apart from the names, all that they noted is
-  pub pages_apart_each : (names : List Text) (seats : List (Seat F)) → ((k : ℕ) (d : Seat F) → k < length seats → AreNotedApart names (addresses (get_or seats k d).notes.pages.items))
+  pub pages_apart_each : {B : Type 0} (names : List Text) (seats : List (Seat F B)) → ((k : ℕ) (d : Seat F B) → k < length seats → AreNotedApart names (addresses (get_or seats k d).notes.pages.items))
       → AreNotedApart names (addresses (page_notes seats))
   pages_apart_each names [] all = apart_none names
   pages_apart_each names (seat ∷ seats) all = pages_apart names seat seats (all zero seat (omega arith)) (pages_apart_each names seats (λ k d lt. all (suc k) d (omega (arith, lt))))
 
-  pub rules_apart_each : (names : List Text) (seats : List (Seat F)) → ((k : ℕ) (d : Seat F) → k < length seats → AreNotedApart names (origins (get_or seats k d).notes.rules.items))
+  pub rules_apart_each : {B : Type 0} (names : List Text) (seats : List (Seat F B)) → ((k : ℕ) (d : Seat F B) → k < length seats → AreNotedApart names (origins (get_or seats k d).notes.rules.items))
       → AreNotedApart names (origins (rules_notes seats))
   rules_apart_each names [] all = apart_none names
   rules_apart_each names (seat ∷ seats) all = rules_apart names seat seats (all zero seat (omega arith)) (rules_apart_each names seats (λ k d lt. all (suc k) d (omega (arith, lt))))
 
-  first_order : (seat : Seat F) (others seats : List (Seat F)) → seat ∷ others ≡ seats → All (λ (s : Seat F). AreInOrder s.notes) seats → AreInOrder seat.notes
-  first_order seat others seats is order = subst (λ (ss : List (Seat F)). All (λ (s : Seat F). AreInOrder s.notes) ss) (sym is) order 0 seat (omega arith)
+  first_order : {B : Type 0} (seat : Seat F B) (others seats : List (Seat F B)) → seat ∷ others ≡ seats → All (λ (s : Seat F B). AreInOrder s.notes) seats → AreInOrder seat.notes
+  first_order {B = B} seat others seats is order = subst (λ (ss : List (Seat F B)). All (λ (s : Seat F B). AreInOrder s.notes) ss) (sym is) order 0 seat (omega arith)
 
-  pub rest_order : (seat : Seat F) (others seats : List (Seat F)) → seat ∷ others ≡ seats → All (λ (s : Seat F). AreInOrder s.notes) seats → All (λ (s : Seat F). AreInOrder s.notes) others
-  rest_order seat others seats is order k d lt = subst (λ (ss : List (Seat F)). All (λ (s : Seat F). AreInOrder s.notes) ss) (sym is) order (suc k) d (omega (arith, lt))
+  pub rest_order : {B : Type 0} (seat : Seat F B) (others seats : List (Seat F B)) → seat ∷ others ≡ seats → All (λ (s : Seat F B). AreInOrder s.notes) seats → All (λ (s : Seat F B). AreInOrder s.notes) others
+  rest_order {B = B} seat others seats is order k d lt = subst (λ (ss : List (Seat F B)). All (λ (s : Seat F B). AreInOrder s.notes) ss) (sym is) order (suc k) d (omega (arith, lt))
 
-  pub pages_once_none : (seats : List (Seat F)) → length seats ≡ 0 → IsOnce (addresses (page_notes seats))
+  pub pages_once_none : {B : Type 0} (seats : List (Seat F B)) → length seats ≡ 0 → IsOnce (addresses (page_notes seats))
   pages_once_none [] none = tt
   pages_once_none (seat ∷ seats) none = absurd (omega (arith, none))
 
-  pub rules_once_none : (seats : List (Seat F)) → length seats ≡ 0 → IsOnce (origins (rules_notes seats))
+  pub rules_once_none : {B : Type 0} (seats : List (Seat F B)) → length seats ≡ 0 → IsOnce (origins (rules_notes seats))
   rules_once_none [] none = tt
   rules_once_none (seat ∷ seats) none = absurd (omega (arith, none))
 
-  pub pages_once_first : (seat : Seat F) (others seats : List (Seat F)) → seat ∷ others ≡ seats → All (λ (s : Seat F). AreInOrder s.notes) seats → IsOnce (addresses (page_notes others))
+  pub pages_once_first : {B : Type 0} (seat : Seat F B) (others seats : List (Seat F B)) → seat ∷ others ≡ seats → All (λ (s : Seat F B). AreInOrder s.notes) seats → IsOnce (addresses (page_notes others))
       → AreNotedApart (addresses seat.notes.pages.items) (addresses (page_notes others)) → IsOnce (addresses (page_notes seats))
-  pages_once_first seat others seats is order once apart =
-      subst (λ (ss : List (Seat F)). IsOnce (addresses (page_notes ss))) is (pages_once seat others (first_order seat others seats is order) once apart)
+  pages_once_first {B = B} seat others seats is order once apart =
+      subst (λ (ss : List (Seat F B)). IsOnce (addresses (page_notes ss))) is (pages_once seat others (first_order seat others seats is order) once apart)
 
-  pub rules_once_first : (seat : Seat F) (others seats : List (Seat F)) → seat ∷ others ≡ seats → All (λ (s : Seat F). AreInOrder s.notes) seats → IsOnce (origins (rules_notes others))
+  pub rules_once_first : {B : Type 0} (seat : Seat F B) (others seats : List (Seat F B)) → seat ∷ others ≡ seats → All (λ (s : Seat F B). AreInOrder s.notes) seats → IsOnce (origins (rules_notes others))
       → AreNotedApart (origins seat.notes.rules.items) (origins (rules_notes others)) → IsOnce (origins (rules_notes seats))
-  rules_once_first seat others seats is order once apart =
-      subst (λ (ss : List (Seat F)). IsOnce (origins (rules_notes ss))) is (rules_once seat others (first_order seat others seats is order) once apart)
+  rules_once_first {B = B} seat others seats is order once apart =
+      subst (λ (ss : List (Seat F B)). IsOnce (origins (rules_notes ss))) is (rules_once seat others (first_order seat others seats is order) once apart)
 
-  pub ordered_none : (seats : List (Seat F)) → length seats ≡ 0 → AllZip IsOrdered seats seats
+  pub ordered_none : {B : Type 0} (seats : List (Seat F B)) → length seats ≡ 0 → AllZip IsOrdered seats seats
   ordered_none [] none = tt
   ordered_none (seat ∷ seats) none = absurd (omega (arith, none))
 
-  pub ordered_first : (seat seat' : Seat F) (others others' seats : List (Seat F)) → seat ∷ others ≡ seats → IsOrdered seat seat' → AllZip IsOrdered others others' → AllZip IsOrdered seats (seat' ∷ others')
-  ordered_first seat seat' others others' seats is first rest = subst (λ (ss : List (Seat F)). AllZip IsOrdered ss (seat' ∷ others')) is (first, rest)
+  pub ordered_first : {B : Type 0} (seat seat' : Seat F B) (others others' seats : List (Seat F B)) → seat ∷ others ≡ seats → IsOrdered seat seat' → AllZip IsOrdered others others' → AllZip IsOrdered seats (seat' ∷ others')
+  ordered_first {B = B} seat seat' others others' seats is first rest = subst (λ (ss : List (Seat F B)). AllZip IsOrdered ss (seat' ∷ others')) is (first, rest)
 
-  pub same_fetchers : (ss ts : List (Seat F)) → AllZip IsOrdered ss ts → fetchers_of ts ≡ fetchers_of ss
+  pub same_fetchers : {B : Type 0} (ss ts : List (Seat F B)) → AllZip IsOrdered ss ts → fetchers_of ts ≡ fetchers_of ss
   same_fetchers [] [] all = refl
   same_fetchers [] (t ∷ ts) all = absurd all
   same_fetchers (s ∷ ss) [] all = absurd all
   same_fetchers (s ∷ ss) (t ∷ ts) all = ap (λ (f : F). f ∷ fetchers_of ts) all.0.fetcher ∙ ap (λ (fs : List F). s.fetcher ∷ fs) (same_fetchers ss ts all.1)
 
-  moved_pages : (ss ts : List (Seat F)) → AllZip IsOrdered ss ts → IsPermutation (page_notes ss) (page_notes ts)
+  moved_pages : {B : Type 0} (ss ts : List (Seat F B)) → AllZip IsOrdered ss ts → IsPermutation (page_notes ss) (page_notes ts)
   moved_pages [] [] all = IsPermutation-refl []
   moved_pages [] (t ∷ ts) all = absurd all
   moved_pages (s ∷ ss) [] all = absurd all
   moved_pages (s ∷ ss) (t ∷ ts) all = IsPermutation-append s.notes.pages.items t.notes.pages.items (page_notes ss) (page_notes ts) all.0.pages (moved_pages ss ts all.1)
 
-  moved_rules : (ss ts : List (Seat F)) → AllZip IsOrdered ss ts → IsPermutation (rules_notes ss) (rules_notes ts)
+  moved_rules : {B : Type 0} (ss ts : List (Seat F B)) → AllZip IsOrdered ss ts → IsPermutation (rules_notes ss) (rules_notes ts)
   moved_rules [] [] all = IsPermutation-refl []
   moved_rules [] (t ∷ ts) all = absurd all
   moved_rules (s ∷ ss) [] all = absurd all
   moved_rules (s ∷ ss) (t ∷ ts) all = IsPermutation-append s.notes.rules.items t.notes.rules.items (rules_notes ss) (rules_notes ts) all.0.rules (moved_rules ss ts all.1)
 
   -- what stands once in order stood once before
-  pub pages_once_before : (ss ts : List (Seat F)) → AllZip IsOrdered ss ts → IsOnce (addresses (page_notes ts)) → IsOnce (addresses (page_notes ss))
-  pages_once_before ss ts all once =
-      once_permutation _ _ (IsPermutation-sym _ _ (IsPermutation-map (λ (note : PageNote). note.address) (page_notes ss) (page_notes ts) (moved_pages ss ts all))) once
+  pub pages_once_before : {B : Type 0} (ss ts : List (Seat F B)) → AllZip IsOrdered ss ts → IsOnce (addresses (page_notes ts)) → IsOnce (addresses (page_notes ss))
+  pages_once_before {B = B} ss ts all once =
+      once_permutation _ _ (IsPermutation-sym _ _ (IsPermutation-map (λ (note : PageNote B). note.address) (page_notes ss) (page_notes ts) (moved_pages ss ts all))) once
 
-  pub rules_once_before : (ss ts : List (Seat F)) → AllZip IsOrdered ss ts → IsOnce (origins (rules_notes ts)) → IsOnce (origins (rules_notes ss))
+  pub rules_once_before : {B : Type 0} (ss ts : List (Seat F B)) → AllZip IsOrdered ss ts → IsOnce (origins (rules_notes ts)) → IsOnce (origins (rules_notes ss))
   rules_once_before ss ts all once =
       once_permutation _ _ (IsPermutation-sym _ _ (IsPermutation-map (λ (note : RulesNote). note.origin) (rules_notes ss) (rules_notes ts) (moved_rules ss ts all))) once

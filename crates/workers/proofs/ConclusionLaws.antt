@@ -61,9 +61,9 @@ once_permutation us vs moved once =
     once_apart vs (Apart-IsPermutation (λ (u : Text). u) us vs moved (Apart-from_once (λ (u : Text). u) us (subst IsOnce (sym (map_self us)) once)))
 
 -- notes that agree with the table do so in whatever order they stand
-pub agrees_moved : (s : State) (pages pages' : List PageNote) (sets sets' : List RulesNote) → IsPermutation pages pages' → IsPermutation sets sets' → Agrees s pages sets → Agrees s pages' sets'
-agrees_moved s pages pages' sets sets' moved moved_sets agrees =
-    let named : IsPermutation (addresses pages) (addresses pages') = IsPermutation-map (λ (note : PageNote). note.address) _ _ moved in
+pub agrees_moved : {B : Type 0} (s : State) (pages pages' : List (PageNote B)) (sets sets' : List RulesNote) → IsPermutation pages pages' → IsPermutation sets sets' → Agrees s pages sets → Agrees s pages' sets'
+agrees_moved {B = B} s pages pages' sets sets' moved moved_sets agrees =
+    let named : IsPermutation (addresses pages) (addresses pages') = IsPermutation-map (λ (note : PageNote B). note.address) _ _ moved in
     let of_origins : IsPermutation (origins sets) (origins sets') = IsPermutation-map (λ (note : RulesNote). note.origin) _ _ moved_sets in
     record {
       once = once_permutation _ _ named agrees.once;
@@ -82,28 +82,28 @@ found_note key P (x ∷ xs) u all among = elim (contains_cases (key x) u (map ke
   | inr later ↦ found_note key P xs u (All-tail P x xs all) later
 ]
 
-module _ (may_say : Text → Outcome → List ℕ → Type 0) (may_rule : Text → RuleSetValue → Type 0) (plan : Plan) where
-  pub noted_moved : (asks : List Ask) (notes sorted : List PageNote) (sets sorted_sets : List RulesNote) → AreNoted may_say may_rule plan asks notes sets
+module _ {B : Type 0} (may_say : Text → Outcome → B → Type 0) (may_rule : Text → RuleSetValue → Type 0) (plan : Plan) where
+  pub noted_moved : (asks : List Ask) (notes sorted : List (PageNote B)) (sets sorted_sets : List RulesNote) → AreNoted may_say may_rule plan asks notes sets
       → IsPermutation notes sorted → IsPermutation sets sorted_sets → AreNoted may_say may_rule plan asks sorted sorted_sets
   noted_moved asks notes sorted sets sorted_sets noted moved moved_sets = record {
-    pages = IsPermutation-trans _ _ _ noted.pages (IsPermutation-map (λ (note : PageNote). note.address) notes sorted moved);
+    pages = IsPermutation-trans _ _ _ noted.pages (IsPermutation-map (λ (note : PageNote B). note.address) notes sorted moved);
     rules = IsPermutation-trans _ _ _ noted.rules (IsPermutation-map (λ (note : RulesNote). note.origin) sets sorted_sets moved_sets);
     told = All-permutation (IsToldPage may_say plan) notes sorted moved noted.told;
     ruled = All-permutation (IsToldRules may_rule) sets sorted_sets moved_sets noted.ruled;
   }
 
-  pub once_asked : (asks : List Ask) (notes : List PageNote) (sets : List RulesNote) → AreNoted may_say may_rule plan asks notes sets → IsOnce (addresses notes) → IsOnce (origins sets) → AreOnce asks
+  pub once_asked : (asks : List Ask) (notes : List (PageNote B)) (sets : List RulesNote) → AreNoted may_say may_rule plan asks notes sets → IsOnce (addresses notes) → IsOnce (origins sets) → AreOnce asks
   once_asked asks notes sets noted once once_origins = record {
     pages = once_permutation (addresses notes) (pages_asked asks) (IsPermutation-sym _ _ noted.pages) once;
     origins = once_permutation (origins sets) (origins_asked asks) (IsPermutation-sym _ _ noted.rules) once_origins;
   }
 
   -- an address that was asked for has a note, with all that is known of notes
-  page_noted : (asks : List Ask) (notes : List PageNote) (sets : List RulesNote) → AreNoted may_say may_rule plan asks notes sets → (P : PageNote → Type 0) → All P notes
-      → (u : Text) → Contains (pages_asked asks) u → (note : PageNote) × (note.address ≡ u) × P note
-  page_noted asks notes sets noted P all u among = found_note (λ (note : PageNote). note.address) P notes u all (Contains-permutation _ _ u noted.pages among)
+  page_noted : (asks : List Ask) (notes : List (PageNote B)) (sets : List RulesNote) → AreNoted may_say may_rule plan asks notes sets → (P : PageNote B → Type 0) → All P notes
+      → (u : Text) → Contains (pages_asked asks) u → (note : PageNote B) × (note.address ≡ u) × P note
+  page_noted asks notes sets noted P all u among = found_note (λ (note : PageNote B). note.address) P notes u all (Contains-permutation _ _ u noted.pages among)
 
-  pub rules_noted : (asks : List Ask) (notes : List PageNote) (sets : List RulesNote) → AreNoted may_say may_rule plan asks notes sets → (P : RulesNote → Type 0) → All P sets
+  pub rules_noted : (asks : List Ask) (notes : List (PageNote B)) (sets : List RulesNote) → AreNoted may_say may_rule plan asks notes sets → (P : RulesNote → Type 0) → All P sets
       → (o : Text) → Contains (origins_asked asks) o → (note : RulesNote) × (note.origin ≡ o) × P note
   rules_noted asks notes sets noted P all o among = found_note (λ (note : RulesNote). note.origin) P sets o all (Contains-permutation _ _ o noted.rules among)
 
@@ -116,7 +116,7 @@ module _ (may_say : Text → Outcome → List ℕ → Type 0) (may_rule : Text �
   rules_stand_as s o None lost = inr lost
   rules_stand_as s o (Some x) recorded = inl (ap is_some recorded)
 
-  pub recorded_or_lost : (asks : List Ask) (notes : List PageNote) (sets : List RulesNote) (s : State) → AreNoted may_say may_rule plan asks notes sets → Agrees s notes sets → AreRecordedOrLost asks s
+  pub recorded_or_lost : (asks : List Ask) (notes : List (PageNote B)) (sets : List RulesNote) (s : State) → AreNoted may_say may_rule plan asks notes sets → Agrees s notes sets → AreRecordedOrLost asks s
   recorded_or_lost asks notes sets s noted agrees = record {
     recorded = λ u some. Contains-permutation _ _ u (IsPermutation-sym _ _ noted.pages) (agrees.recorded u some);
     pages = λ u among. (let (note, is, stands) = page_noted asks notes sets noted (StandsPage s) agrees.stand u among in
@@ -129,48 +129,48 @@ module _ (may_say : Text → Outcome → List ℕ → Type 0) (may_rule : Text �
 -- ---- the pages that are kept
 
 -- a kept page is that of a note with a body
-kept_among : (P : PageNote → Type 0) (notes : List PageNote) (u : Text) → All P notes → Contains (map (λ (page : KeptPage). page.address) (filter_map page_of notes)) u
-    → (note : PageNote) × (note.address ≡ u) × P note × (is_some note.body ≡ true)
-kept_among P [] u all (k, lt, is) = absurd (omega arith)
-kept_among P (note ∷ notes) u all among = go (λ later. kept_among P notes u (All-tail P note notes all) later) note.body refl among
+kept_among : {B : Type 0} (P : PageNote B → Type 0) (notes : List (PageNote B)) (u : Text) → All P notes → Contains (map (λ (page : KeptPage B). page.address) (filter_map page_of notes)) u
+    → (note : PageNote B) × (note.address ≡ u) × P note × (is_some note.body ≡ true)
+kept_among {B = B} P [] u all (k, lt, is) = absurd (omega arith)
+kept_among {B = B} P (note ∷ notes) u all among = go (λ later. kept_among P notes u (All-tail P note notes all) later) note.body refl among
   where
-    go : (Contains (map (λ (page : KeptPage). page.address) (filter_map page_of notes)) u → (note : PageNote) × (note.address ≡ u) × P note × (is_some note.body ≡ true)) → (o : Option (List ℕ)) → note.body ≡ o → Contains (map (λ (page : KeptPage). page.address) (filter_map page_of (note ∷ notes))) u
-        → (note : PageNote) × (note.address ≡ u) × P note × (is_some note.body ≡ true)
+    go : (Contains (map (λ (page : KeptPage B). page.address) (filter_map page_of notes)) u → (note : PageNote B) × (note.address ≡ u) × P note × (is_some note.body ≡ true)) → (o : Option B) → note.body ≡ o → Contains (map (λ (page : KeptPage B). page.address) (filter_map page_of (note ∷ notes))) u
+        → (note : PageNote B) × (note.address ≡ u) × P note × (is_some note.body ≡ true)
     go rest None is here = rest (rw is at here)
-    go rest (Some body) is here = elim (contains_cases note.address u (map (λ (page : KeptPage). page.address) (filter_map page_of notes)) (rw is at here)) [
+    go rest (Some body) is here = elim (contains_cases note.address u (map (λ (page : KeptPage B). page.address) (filter_map page_of notes)) (rw is at here)) [
       | inl first ↦ (note, first, All-head P note notes all, ap is_some is)
       | inr later ↦ rest later
     ]
 
 -- an address that was noted with a body is that of a kept page
-among_kept : (P : PageNote → Type 0) (notes : List PageNote) (u : Text) → All P notes → ((note : PageNote) → P note → note.address ≡ u → is_some note.body ≡ true)
-    → Contains (addresses notes) u → Contains (map (λ (page : KeptPage). page.address) (filter_map page_of notes)) u
-among_kept P [] u all has (k, lt, is) = absurd (omega arith)
-among_kept P (note ∷ notes) u all has among = go (λ later. among_kept P notes u (All-tail P note notes all) has later) note.body refl (contains_cases note.address u (addresses notes) among)
+among_kept : {B : Type 0} (P : PageNote B → Type 0) (notes : List (PageNote B)) (u : Text) → All P notes → ((note : PageNote B) → P note → note.address ≡ u → is_some note.body ≡ true)
+    → Contains (addresses notes) u → Contains (map (λ (page : KeptPage B). page.address) (filter_map page_of notes)) u
+among_kept {B = B} P [] u all has (k, lt, is) = absurd (omega arith)
+among_kept {B = B} P (note ∷ notes) u all has among = go (λ later. among_kept P notes u (All-tail P note notes all) has later) note.body refl (contains_cases note.address u (addresses notes) among)
   where
-    go : (Contains (addresses notes) u → Contains (map (λ (page : KeptPage). page.address) (filter_map page_of notes)) u) → (o : Option (List ℕ)) → note.body ≡ o → (note.address ≡ u) ⊎ Contains (addresses notes) u → Contains (map (λ (page : KeptPage). page.address) (filter_map page_of (note ∷ notes))) u
+    go : (Contains (addresses notes) u → Contains (map (λ (page : KeptPage B). page.address) (filter_map page_of notes)) u) → (o : Option B) → note.body ≡ o → (note.address ≡ u) ⊎ Contains (addresses notes) u → Contains (map (λ (page : KeptPage B). page.address) (filter_map page_of (note ∷ notes))) u
     go rest None is (inl first) = absurd (false≢true (sym (ap is_some is) ∙ has note (All-head P note notes all) first))
     go rest None is (inr later) = rw is (rest later)
     go rest (Some body) is (inl first) = rw is (zero, omega arith, first)
-    go rest (Some body) is (inr later) = rw is (contains_tail note.address u (map (λ (page : KeptPage). page.address) (filter_map page_of notes)) (rest later))
+    go rest (Some body) is (inr later) = rw is (contains_tail note.address u (map (λ (page : KeptPage B). page.address) (filter_map page_of notes)) (rest later))
 
 -- what is kept was noted
-kept_is_noted : (notes : List PageNote) (u : Text) → Contains (map (λ (page : KeptPage). page.address) (filter_map page_of notes)) u → Contains (addresses notes) u
-kept_is_noted [] u among = among
-kept_is_noted (note ∷ notes) u among = go (λ later. kept_is_noted notes u later) note.body refl among
+kept_is_noted : {B : Type 0} (notes : List (PageNote B)) (u : Text) → Contains (map (λ (page : KeptPage B). page.address) (filter_map page_of notes)) u → Contains (addresses notes) u
+kept_is_noted {B = B} [] u among = among
+kept_is_noted {B = B} (note ∷ notes) u among = go (λ later. kept_is_noted notes u later) note.body refl among
   where
-    go : (Contains (map (λ (page : KeptPage). page.address) (filter_map page_of notes)) u → Contains (addresses notes) u) → (o : Option (List ℕ)) → note.body ≡ o → Contains (map (λ (page : KeptPage). page.address) (filter_map page_of (note ∷ notes))) u → Contains (addresses (note ∷ notes)) u
+    go : (Contains (map (λ (page : KeptPage B). page.address) (filter_map page_of notes)) u → Contains (addresses notes) u) → (o : Option B) → note.body ≡ o → Contains (map (λ (page : KeptPage B). page.address) (filter_map page_of (note ∷ notes))) u → Contains (addresses (note ∷ notes)) u
     go rest None is here = contains_tail note.address u (addresses notes) (rest (rw is at here))
-    go rest (Some body) is here = elim (contains_cases note.address u (map (λ (page : KeptPage). page.address) (filter_map page_of notes)) (rw is at here)) [
+    go rest (Some body) is here = elim (contains_cases note.address u (map (λ (page : KeptPage B). page.address) (filter_map page_of notes)) (rw is at here)) [
       | inl first ↦ (zero, omega arith, first)
       | inr later ↦ contains_tail note.address u (addresses notes) (rest later)
     ]
 
-pub kept_once : (notes : List PageNote) → IsOnce (addresses notes) → IsOnce (map (λ (page : KeptPage). page.address) (filter_map page_of notes))
-kept_once [] once = tt
-kept_once (note ∷ notes) once = go (kept_once notes once.1) note.body refl
+pub kept_once : {B : Type 0} (notes : List (PageNote B)) → IsOnce (addresses notes) → IsOnce (map (λ (page : KeptPage B). page.address) (filter_map page_of notes))
+kept_once {B = B} [] once = tt
+kept_once {B = B} (note ∷ notes) once = go (kept_once notes once.1) note.body refl
   where
-    go : IsOnce (map (λ (page : KeptPage). page.address) (filter_map page_of notes)) → (o : Option (List ℕ)) → note.body ≡ o → IsOnce (map (λ (page : KeptPage). page.address) (filter_map page_of (note ∷ notes)))
+    go : IsOnce (map (λ (page : KeptPage B). page.address) (filter_map page_of notes)) → (o : Option B) → note.body ≡ o → IsOnce (map (λ (page : KeptPage B). page.address) (filter_map page_of (note ∷ notes)))
     go rest None is = rw is rest
     go rest (Some body) is = rw is ((λ among. once.0 (kept_is_noted notes note.address among)), rest)
 
@@ -179,23 +179,23 @@ both_true true b h = (refl, h)
 both_true false b h = cc
 
 -- the pages of notes with a body are those that are kept of the record
-pub kept_is : (plan : Plan) (s : State) (notes : List PageNote) (sets : List RulesNote) → Agrees s notes sets → All (HasBody plan) notes → (u : Text)
-    → (Contains (map (λ (page : KeptPage). page.address) (filter_map page_of notes)) u → IsKept plan (answers s) u) × (IsKept plan (answers s) u → Contains (map (λ (page : KeptPage). page.address) (filter_map page_of notes)) u)
-kept_is plan s notes sets agrees bodies u = (
-  (λ among. let (note, is, (has, stands), some) = kept_among (λ (note : PageNote). HasBody plan note × StandsPage s note) notes u all among in subst (λ (w : Text). IsKept plan (answers s) w) is (shown note note.told has stands some)),
+pub kept_is : {B : Type 0} (plan : Plan) (s : State) (notes : List (PageNote B)) (sets : List RulesNote) → Agrees s notes sets → All (HasBody plan) notes → (u : Text)
+    → (Contains (map (λ (page : KeptPage B). page.address) (filter_map page_of notes)) u → IsKept plan (answers s) u) × (IsKept plan (answers s) u → Contains (map (λ (page : KeptPage B). page.address) (filter_map page_of notes)) u)
+kept_is {B = B} plan s notes sets agrees bodies u = (
+  (λ among. let (note, is, (has, stands), some) = kept_among (λ (note : PageNote B). HasBody plan note × StandsPage s note) notes u all among in subst (λ (w : Text). IsKept plan (answers s) w) is (shown note note.told has stands some)),
   (λ kept. let (x, found, success, keeps) = kept in
-      among_kept (λ (note : PageNote). HasBody plan note × StandsPage s note) notes u all (λ note both is. holds note note.told both.0 both.1 x (ap (λ (w : Text). (answers s).outcome w) is ∙ found) success (ap (keeps_of plan) is ∙ keeps)) (agrees.recorded u (ap is_some found))),
+      among_kept (λ (note : PageNote B). HasBody plan note × StandsPage s note) notes u all (λ note both is. holds note note.told both.0 both.1 x (ap (λ (w : Text). (answers s).outcome w) is ∙ found) success (ap (keeps_of plan) is ∙ keeps)) (agrees.recorded u (ap is_some found))),
 )
   where
-    all : All (λ (note : PageNote). HasBody plan note × StandsPage s note) notes
+    all : All (λ (note : PageNote B). HasBody plan note × StandsPage s note) notes
     all k d lt = (bodies k d lt, agrees.stand k d lt)
 
-    shown : (note : PageNote) (told : Option Outcome) → MatchOption told (note.body ≡ None) (λ x. is_some note.body ≡ (keeps_of plan note.address && is_success x))
+    shown : (note : PageNote B) (told : Option Outcome) → MatchOption told (note.body ≡ None) (λ x. is_some note.body ≡ (keeps_of plan note.address && is_success x))
         → MatchOption told (IsGivenUp s note.address) (λ x. (answers s).outcome note.address ≡ Some x) → is_some note.body ≡ true → IsKept plan (answers s) note.address
     shown note None has stands some = absurd (false≢true (sym (ap is_some has) ∙ some))
     shown note (Some x) has stands some = (let both = both_true _ _ (sym has ∙ some) in (x, stands, both.1, both.0))
 
-    holds : (note : PageNote) (told : Option Outcome) → MatchOption told (note.body ≡ None) (λ x. is_some note.body ≡ (keeps_of plan note.address && is_success x))
+    holds : (note : PageNote B) (told : Option Outcome) → MatchOption told (note.body ≡ None) (λ x. is_some note.body ≡ (keeps_of plan note.address && is_success x))
         → MatchOption told (IsGivenUp s note.address) (λ x. (answers s).outcome note.address ≡ Some x) → (x : Outcome) → (answers s).outcome note.address ≡ Some x
         → is_success x ≡ true → keeps_of plan note.address ≡ true → is_some note.body ≡ true
     holds note None has (d, lost) x found success keeps = (let none : (answers s).outcome note.address ≡ None = ap slot_outcome lost in cc)

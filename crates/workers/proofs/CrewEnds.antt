@@ -59,7 +59,7 @@ IsFull plan s = HasTooMany (policy plan) (answers s) × IsOverfull (policy plan)
 pub written : {X : Type 0} (n : ℕ) (new rest : List X) → length new ≡ n → take n (new ++ rest) ≡ new
 written n new rest is = take-append-le n new rest (omega arith) ∙ take_all n new (omega arith)
 
-module _ {F : Type 0} (m : Meaning F) (plan : Plan) where
+module _ {F B : Type 0} (m : Meaning F B) (plan : Plan) where
   -- ---- fetchers of which nothing was asked
 
   same_gained : (asks : List Ask) → gained asks asks ≡ []
@@ -78,7 +78,7 @@ module _ {F : Type 0} (m : Meaning F) (plan : Plan) where
 
   -- ---- by what was concluded
 
-  pub retrieved_by : (old new : List F) (t : Traced) (notes : List PageNote) (sets : List RulesNote) (h : Harvested) → AreLater m old new
+  pub retrieved_by : (old new : List F) (t : Traced) (notes : List (PageNote B)) (sets : List RulesNote) (h : Harvested B) → AreLater m old new
       → AreNoted (SomeSays m old new) (SomeRules m old new) plan (all_gained m old new) notes sets
       → IsConcluded plan t notes sets h × IsQuiet t.state × IsComplete (policy t.plan) t.state → IsRetrievedBy m plan old new h
   retrieved_by old new t notes sets h later noted all = record {
@@ -87,10 +87,10 @@ module _ {F : Type 0} (m : Meaning F) (plan : Plan) where
     entries = all.0.harvest.entries;
   }
 
-  full_of : (t : Traced) (notes : List PageNote) (sets : List RulesNote) (h : Harvested) → IsConcluded plan t notes sets h → IsFull t.plan t.state → IsFull plan h.state
+  full_of : (t : Traced) (notes : List (PageNote B)) (sets : List RulesNote) (h : Harvested B) → IsConcluded plan t notes sets h → IsFull t.plan t.state → IsFull plan h.state
   full_of t notes sets h all full = subst (λ (s : State). IsFull plan s) (sym all.harvest.state) (subst (λ (x : Plan). IsFull x t.state) all.follows full)
 
-  pub stopped_by : (old new : List F) (t : Traced) (notes : List PageNote) (sets : List RulesNote) (cause : Cause) (h : Harvested) → AreLater m old new
+  pub stopped_by : (old new : List F) (t : Traced) (notes : List (PageNote B)) (sets : List RulesNote) (cause : Cause) (h : Harvested B) → AreLater m old new
       → AreNoted (SomeSays m old new) (SomeRules m old new) plan (all_gained m old new) notes sets
       → (cause ≢ why.Mismatch → IsBare notes sets cause h ⊎ (IsConcluded plan t notes sets h × (t.state.cause ≡ Some cause)))
       → (cause ≡ why.Full → IsFull t.plan t.state) → IsStoppedBy m plan old new cause h
@@ -106,14 +106,14 @@ module _ {F : Type 0} (m : Meaning F) (plan : Plan) where
     ];
   }
 
-  pub stopped_empty : (old new : List F) (cause : Cause) (h : Harvested) → AreLater m old new → AreOnce (all_gained m old new) → IsNothing cause h → IsStoppedBy m plan old new cause h
+  pub stopped_empty : (old new : List F) (cause : Cause) (h : Harvested B) → AreLater m old new → AreOnce (all_gained m old new) → IsNothing cause h → IsStoppedBy m plan old new cause h
   stopped_empty old new cause h later once nothing = record {
     later = later;
     stopped = λ other. inr (record { memory = nothing.memory; plan = nothing.plan; state = nothing.state; trace = nothing.trace; once = once });
     full = λ is. absurd (let other : why.Memory ≡ why.Full = sym nothing.memory ∙ is in cc);
   }
 
-  pub stopped_wrong : (old new : List F) (cause : Cause) (h : Harvested) → AreLater m old new → cause ≡ why.Mismatch → IsStoppedBy m plan old new cause h
+  pub stopped_wrong : (old new : List F) (cause : Cause) (h : Harvested B) → AreLater m old new → cause ≡ why.Mismatch → IsStoppedBy m plan old new cause h
   stopped_wrong old new cause h later wrong = record {
     later = later;
     stopped = λ other. absurd (other wrong);
@@ -122,20 +122,20 @@ module _ {F : Type 0} (m : Meaning F) (plan : Plan) where
 
   -- ---- by what was noted
 
-  pub account_all : (old new : List F) (noted : Noted) (notes : Notes) → IsAccount m plan old new noted → noted ≡ known.All notes
+  pub account_all : (old new : List F) (noted : Noted B) (notes : Notes B) → IsAccount m plan old new noted → noted ≡ known.All notes
       → AreNoted (SomeSays m old new) (SomeRules m old new) plan (all_gained m old new) notes.pages.items notes.rules.items
-  account_all old new noted notes account is = subst (λ (n : Noted). IsAccount m plan old new n) is account
+  account_all old new noted notes account is = subst (λ (n : Noted B). IsAccount m plan old new n) is account
 
-  pub account_once : (old new : List F) (noted : Noted) → IsAccount m plan old new noted → noted ≡ known.Once → AreOnce (all_gained m old new)
-  account_once old new noted account is = subst (λ (n : Noted). IsAccount m plan old new n) is account
+  pub account_once : (old new : List F) (noted : Noted B) → IsAccount m plan old new noted → noted ≡ known.Once → AreOnce (all_gained m old new)
+  account_once old new noted account is = subst (λ (n : Noted B). IsAccount m plan old new n) is account
 
-  pub all_retrieved : (old new : List F) (t : Traced) (notes : List PageNote) (sets : List RulesNote) (concluded : Result Harvested Halt) → AreLater m old new
+  pub all_retrieved : (old new : List F) (t : Traced) (notes : List (PageNote B)) (sets : List RulesNote) (concluded : Result (Harvested B) (Halt B)) → AreLater m old new
       → AreNoted (SomeSays m old new) (SomeRules m old new) plan (all_gained m old new) notes sets
       → IfOk concluded (λ h. IsConcluded plan t notes sets h × IsQuiet t.state × IsComplete (policy t.plan) t.state) → IfOk concluded (λ h. IsRetrievedBy m plan old new h)
   all_retrieved old new t notes sets (Ok h) later noted ok = retrieved_by old new t notes sets h later noted ok
   all_retrieved old new t notes sets (Err halt) later noted ok = tt
 
-  pub all_stopped : (old new : List F) (t : Traced) (notes : List PageNote) (sets : List RulesNote) (concluded : Result Harvested Halt) → AreLater m old new
+  pub all_stopped : (old new : List F) (t : Traced) (notes : List (PageNote B)) (sets : List RulesNote) (concluded : Result (Harvested B) (Halt B)) → AreLater m old new
       → AreNoted (SomeSays m old new) (SomeRules m old new) plan (all_gained m old new) notes sets
       → IfErr concluded (λ halt. halt.cause ≢ why.Mismatch → IsBare notes sets halt.cause halt.harvest ⊎ (IsConcluded plan t notes sets halt.harvest × (t.state.cause ≡ Some halt.cause)))
       → IfErr concluded (λ halt. halt.cause ≡ why.Full → IsFull t.plan t.state) → IfErr concluded (λ halt. IsStoppedBy m plan old new halt.cause halt.harvest)
@@ -150,13 +150,13 @@ module _ {F : Type 0} (m : Meaning F) (plan : Plan) where
   one_gained : (f g : F) → all_gained m (f ∷ []) (g ∷ []) ≡ gained (m.log f) (m.log g)
   one_gained f g = append-nil (gained (m.log f) (m.log g))
 
-  one_says : (f g : F) (u : Text) (x : Outcome) (body : List ℕ) → Contains (pages_asked (gained (m.log f) (m.log g))) u → m.says (m.site f) u x body → SomeSays m (f ∷ []) (g ∷ []) u x body
+  one_says : (f g : F) (u : Text) (x : Outcome) (body : B) → Contains (pages_asked (gained (m.log f) (m.log g))) u → m.says (m.site f) u x body → SomeSays m (f ∷ []) (g ∷ []) u x body
   one_says f g u x body among said = inl (page_in (gained (m.log f) (m.log g)) u among, said)
 
   one_rules : (f g : F) (o : Text) (r : RuleSetValue) → Contains (origins_asked (gained (m.log f) (m.log g))) o → m.rules (m.site f) o r → SomeRules m (f ∷ []) (g ∷ []) o r
   one_rules f g o r among said = inl (rules_in (gained (m.log f) (m.log g)) o among, said)
 
-  pub one_retrieved : (f g : F) (h : Harvested) → m.site g ≡ m.site f → m.log g ≡ m.log f ++ gained (m.log f) (m.log g)
+  pub one_retrieved : (f g : F) (h : Harvested B) → m.site g ≡ m.site f → m.log g ≡ m.log f ++ gained (m.log f) (m.log g)
       → IsRetrieved (m.says (m.site f)) (m.rules (m.site f)) plan (gained (m.log f) (m.log g)) h → AreEntries h → IsRetrievedBy m plan (f ∷ []) (g ∷ []) h
   one_retrieved f g h site_is log_is retrieved entries = record {
     later = one_later f g site_is log_is;
@@ -165,7 +165,7 @@ module _ {F : Type 0} (m : Meaning F) (plan : Plan) where
     entries = entries;
   }
 
-  pub one_stopped : (f g : F) (cause : Cause) (h : Harvested) → m.site g ≡ m.site f → m.log g ≡ m.log f ++ gained (m.log f) (m.log g)
+  pub one_stopped : (f g : F) (cause : Cause) (h : Harvested B) → m.site g ≡ m.site f → m.log g ≡ m.log f ++ gained (m.log f) (m.log g)
       → IsStopped (m.says (m.site f)) (m.rules (m.site f)) plan (gained (m.log f) (m.log g)) cause h → (cause ≡ why.Full → IsFull plan h.state) → IsStoppedBy m plan (f ∷ []) (g ∷ []) cause h
   one_stopped f g cause h site_is log_is some full = record {
     later = one_later f g site_is log_is;
@@ -177,7 +177,7 @@ module _ {F : Type 0} (m : Meaning F) (plan : Plan) where
     full = full;
   }
 
-  pub alone_retrieved : (fs : List F) (d g : F) (r : Result Harvested Halt) → length fs ≡ 1 → m.site g ≡ m.site (get_or fs 0 d) → m.log g ≡ m.log (get_or fs 0 d) ++ gained (m.log (get_or fs 0 d)) (m.log g)
+  pub alone_retrieved : (fs : List F) (d g : F) (r : Result (Harvested B) (Halt B)) → length fs ≡ 1 → m.site g ≡ m.site (get_or fs 0 d) → m.log g ≡ m.log (get_or fs 0 d) ++ gained (m.log (get_or fs 0 d)) (m.log g)
       → IfOk r (IsRetrieved (m.says (m.site (get_or fs 0 d))) (m.rules (m.site (get_or fs 0 d))) plan (gained (m.log (get_or fs 0 d)) (m.log g))) → IfOk r AreEntries
       → IfOk r (λ h. IsRetrievedBy m plan fs (slice_set fs 0 g) h)
   alone_retrieved [] d g r one site_is log_is ok entries = absurd (omega arith)
@@ -185,7 +185,7 @@ module _ {F : Type 0} (m : Meaning F) (plan : Plan) where
   alone_retrieved (f ∷ []) d g (Err halt) one site_is log_is ok entries = tt
   alone_retrieved (f ∷ e ∷ fs) d g r one site_is log_is ok entries = absurd (omega arith)
 
-  pub alone_stopped : (fs : List F) (d g : F) (r : Result Harvested Halt) → length fs ≡ 1 → m.site g ≡ m.site (get_or fs 0 d) → m.log g ≡ m.log (get_or fs 0 d) ++ gained (m.log (get_or fs 0 d)) (m.log g)
+  pub alone_stopped : (fs : List F) (d g : F) (r : Result (Harvested B) (Halt B)) → length fs ≡ 1 → m.site g ≡ m.site (get_or fs 0 d) → m.log g ≡ m.log (get_or fs 0 d) ++ gained (m.log (get_or fs 0 d)) (m.log g)
       → IfErr r (λ halt. IsStopped (m.says (m.site (get_or fs 0 d))) (m.rules (m.site (get_or fs 0 d))) plan (gained (m.log (get_or fs 0 d)) (m.log g)) halt.cause halt.harvest)
       → IfErr r (λ halt. halt.cause ≡ why.Full → IsFull plan halt.harvest.state) → IfErr r (λ halt. IsStoppedBy m plan fs (slice_set fs 0 g) halt.cause halt.harvest)
   alone_stopped [] d g r one site_is log_is err full = absurd (omega arith)
@@ -196,29 +196,29 @@ module _ {F : Type 0} (m : Meaning F) (plan : Plan) where
   -- ---- for a whole site
 
   module _ (old new : List F) (whole : Answers) (fit : AllFit m old whole) where
-    pub whole_retrieved : (h : Harvested) → IsRetrievedBy m plan old new h → IsCompleteFor (policy plan) whole h.state
+    pub whole_retrieved : (h : Harvested B) → IsRetrievedBy m plan old new h → IsCompleteFor (policy plan) whole h.state
     whole_retrieved h b = complete_for (policy plan) h.state whole b.retrieved.complete
         (fits_extend (SomeSays m old new) (SomeRules m old new) whole (answers h.state) (crew_fits m old new whole fit) b.retrieved.told)
 
-    pub whole_stopped : (cause : Cause) (h : Harvested) → IsStoppedBy m plan old new cause h → cause ≡ why.Full → HasTooMany (policy plan) whole
+    pub whole_stopped : (cause : Cause) (h : Harvested B) → IsStoppedBy m plan old new cause h → cause ≡ why.Full → HasTooMany (policy plan) whole
     whole_stopped cause h l is = elim (l.stopped (λ (wrong : cause ≡ why.Mismatch). let other : why.Mismatch ≡ why.Full = sym wrong ∙ is in cc)) [
       | inl part ↦ too_many_up (policy plan) (answers h.state) whole
           (fits_extend (SomeSays m old new) (SomeRules m old new) whole (answers h.state) (crew_fits m old new whole fit) part.told) (l.full is).0
       | inr empty ↦ absurd (let other : why.Memory ≡ why.Full = sym empty.memory ∙ is in cc)
     ]
 
-    pub never_retrieved : (h : Harvested) → IsRetrievedBy m plan old new h → HasTooMany (policy plan) whole → ⊥
+    pub never_retrieved : (h : Harvested B) → IsRetrievedBy m plan old new h → HasTooMany (policy plan) whole → ⊥
     never_retrieved h b many = not_too_many (policy plan) h.state whole b.retrieved.complete
         (fits_extend (SomeSays m old new) (SomeRules m old new) whole (answers h.state) (crew_fits m old new whole fit) b.retrieved.told)
         (sound_replay (policy plan) h.trace h.state plan.some_urls b.retrieved.replay).few many
 
 -- ---- where there is no memory to bring the notes together
 
-module _ {F : Type 0} (m : Meaning F) (plan : Plan) where
-  pub bare_later : (old new : List F) (ss ts us : List (Seat F)) → fetchers_of ss ≡ old → new ≡ fetchers_of us → AllZip IsOrdered ts us → AllGo m plan ss ts → AreLater m old new
+module _ {F B : Type 0} (m : Meaning F B) (plan : Plan) where
+  pub bare_later : (old new : List F) (ss ts us : List (Seat F B)) → fetchers_of ss ≡ old → new ≡ fetchers_of us → AllZip IsOrdered ts us → AllGo m plan ss ts → AreLater m old new
   bare_later old new ss ts us from to moved go = crew_later m plan old new ss ts from (to ∙ same_fetchers ts us moved) go
 
-  pub bare_once : (old new : List F) (ss ts us : List (Seat F)) → fetchers_of ss ≡ old → new ≡ fetchers_of us → AllZip IsOrdered ts us → page_notes ss ≡ [] → rules_notes ss ≡ []
+  pub bare_once : (old new : List F) (ss ts us : List (Seat F B)) → fetchers_of ss ≡ old → new ≡ fetchers_of us → AllZip IsOrdered ts us → page_notes ss ≡ [] → rules_notes ss ≡ []
       → AllGo m plan ss ts → IsOnce (addresses (page_notes ts)) → IsOnce (origins (rules_notes ts)) → AreOnce (all_gained m old new)
   bare_once old new ss ts us from to moved no_pages no_sets go pages sets =
       let at : new ≡ fetchers_of ts = to ∙ same_fetchers ts us moved in
@@ -229,64 +229,64 @@ module _ {F : Type 0} (m : Meaning F) (plan : Plan) where
 
 -- ---- who took what
 
-pub account_own : {F : Type 0} (m : Meaning F) (old new : List F) (noted : Noted) (notes : Notes) → IsOwnAccount m old new noted → noted ≡ known.All notes
+pub account_own : {F B : Type 0} (m : Meaning F B) (old new : List F) (noted : Noted B) (notes : Notes B) → IsOwnAccount m old new noted → noted ≡ known.All notes
     → (trace : List Event) → AreNotedBy notes.pages.items notes.rules.items trace → AreOwn m 0 old new trace
-account_own m old new noted notes account is = subst (λ (n : Noted). IsOwnAccount m old new n) is account
+account_own {B = B} m old new noted notes account is = subst (λ (n : Noted B). IsOwnAccount m old new n) is account
 
 -- ---- what a retrieval comes to, beside its fetchers
 
-module _ {F : Type 0} (m : Meaning F) (plan : Plan) (old new : List F) where
+module _ {F B : Type 0} (m : Meaning F B) (plan : Plan) (old new : List F) where
   -- it retrieved all
-  abbrev pub Retrieves : Result Harvested Halt → Type 0
+  abbrev pub Retrieves : Result (Harvested B) (Halt B) → Type 0
   Retrieves r = IfOk r (λ h. IsRetrievedBy m plan old new h)
 
   -- it stopped
-  abbrev pub Stops : Result Harvested Halt → Type 0
+  abbrev pub Stops : Result (Harvested B) (Halt B) → Type 0
   Stops r = IfErr r (λ halt. IsStoppedBy m plan old new halt.cause halt.harvest)
 
-  pub later_told : (r : Result Harvested Halt) → Retrieves r → Stops r → AreLater m old new
+  pub later_told : (r : Result (Harvested B) (Halt B)) → Retrieves r → Stops r → AreLater m old new
   later_told (Ok h) ok err = ok.later
   later_told (Err halt) ok err = err.later
 
-  pub retrieved_told : (r : Result Harvested Halt) → Retrieves r → IfOk r (IsRetrieved (SomeSays m old new) (SomeRules m old new) plan (all_gained m old new))
+  pub retrieved_told : (r : Result (Harvested B) (Halt B)) → Retrieves r → IfOk r (IsRetrieved (SomeSays m old new) (SomeRules m old new) plan (all_gained m old new))
   retrieved_told (Ok h) ok = ok.retrieved
   retrieved_told (Err halt) ok = tt
 
-  pub stopped_told : (r : Result Harvested Halt) → Stops r
+  pub stopped_told : (r : Result (Harvested B) (Halt B)) → Stops r
       → IfErr r (λ halt. halt.cause ≢ why.Mismatch → IsStopped (SomeSays m old new) (SomeRules m old new) plan (all_gained m old new) halt.cause halt.harvest)
   stopped_told (Ok h) err = tt
   stopped_told (Err halt) err = err.stopped
 
-  pub found_told : (r : Result Harvested Halt) → Retrieves r
+  pub found_told : (r : Result (Harvested B) (Halt B)) → Retrieves r
       → IfOk r (λ h. (found : Answers) × AreAsked (SomeSays m old new) (SomeRules m old new) plan (all_gained m old new) found × AreFound plan found h.entries)
   found_told (Ok h) ok = retrieved_found (SomeSays m old new) (SomeRules m old new) plan (all_gained m old new) h ok.entries ok.retrieved
   found_told (Err halt) ok = tt
 
-  pub once_told : (r : Result Harvested Halt) → Stops r → IfErr r (λ halt. halt.cause ≢ why.Mismatch → AreMadeOnce (all_gained m old new))
+  pub once_told : (r : Result (Harvested B) (Halt B)) → Stops r → IfErr r (λ halt. halt.cause ≢ why.Mismatch → AreMadeOnce (all_gained m old new))
   once_told (Ok h) err = tt
   once_told (Err halt) err = λ other.
       stopped_once (SomeSays m old new) (SomeRules m old new) plan (all_gained m old new) halt.cause halt.harvest (err.stopped other)
 
-  pub full_told : (r : Result Harvested Halt) → Stops r → IfErr r (λ halt. halt.cause ≡ why.Full → IsFull plan halt.harvest.state)
+  pub full_told : (r : Result (Harvested B) (Halt B)) → Stops r → IfErr r (λ halt. halt.cause ≡ why.Full → IsFull plan halt.harvest.state)
   full_told (Ok h) err = tt
   full_told (Err halt) err = err.full
 
   module _ (whole : Answers) (fit : AllFit m old whole) where
-    pub whole_told : (r : Result Harvested Halt) → Retrieves r → IfOk r (λ h. IsCompleteFor (policy plan) whole h.state)
+    pub whole_told : (r : Result (Harvested B) (Halt B)) → Retrieves r → IfOk r (λ h. IsCompleteFor (policy plan) whole h.state)
     whole_told (Ok h) ok = whole_retrieved m plan old new whole fit h ok
     whole_told (Err halt) ok = tt
 
-    pub full_site_told : (r : Result Harvested Halt) → Stops r → IfErr r (λ halt. halt.cause ≡ why.Full → HasTooMany (policy plan) whole)
+    pub full_site_told : (r : Result (Harvested B) (Halt B)) → Stops r → IfErr r (λ halt. halt.cause ≡ why.Full → HasTooMany (policy plan) whole)
     full_site_told (Ok h) err = tt
     full_site_told (Err halt) err = whole_stopped m plan old new whole fit halt.cause halt.harvest err
 
-    pub crowded_told : (r : Result Harvested Halt) → Retrieves r → HasTooMany (policy plan) whole → IsErr r
+    pub crowded_told : (r : Result (Harvested B) (Halt B)) → Retrieves r → HasTooMany (policy plan) whole → IsErr r
     crowded_told (Ok h) ok many = absurd (never_retrieved m plan old new whole fit h ok many)
     crowded_told (Err halt) ok many = refl
 
 -- ---- what it came to, with its fetchers
 
-module _ {F : Type 0} (result : Result (Retrieved F) (Stopped F)) (r : Result Harvested Halt) (new : List F) where
+module _ {F B : Type 0} (result : Result (Retrieved F B) (Stopped F B)) (r : Result (Harvested B) (Halt B)) (new : List F) where
   -- the harvest is the same, and so are the fetchers
   abbrev pub IsOkWith : Type 0
   IsOkWith = IfOk result (λ all. (all.fetchers.items ≡ new) × IfOk r (λ h. all.harvest ≡ h) × IsOk r)
@@ -295,27 +295,27 @@ module _ {F : Type 0} (result : Result (Retrieved F) (Stopped F)) (r : Result Ha
   IsErrWith = IfErr result (λ s. (s.fetchers.items ≡ new) × IfErr r (λ halt. (s.cause ≡ halt.cause) × (s.harvest ≡ halt.harvest)) × IsErr r)
 
 -- what is said of a harvest and the fetchers is said of both together
-pub ok_with : {F : Type 0} (A : List F → Harvested → Type 0) (result : Result (Retrieved F) (Stopped F)) (r : Result Harvested Halt) (new : List F) → IsOkWith result r new
+pub ok_with : {F B : Type 0} (A : List F → Harvested B → Type 0) (result : Result (Retrieved F B) (Stopped F B)) (r : Result (Harvested B) (Halt B)) (new : List F) → IsOkWith result r new
     → IfOk r (λ h. A new h) → IfOk result (λ all. A all.fetchers.items all.harvest)
-ok_with A (Ok all) (Ok h) new (of, is, ok) told = subst (λ fs. A fs all.harvest) (sym of) (subst (λ (x : Harvested). A new x) (sym is) told)
-ok_with A (Ok all) (Err halt) new (of, is, ok) told = absurd (false≢true ok)
-ok_with A (Err s) r new with told = tt
+ok_with {B = B} A (Ok all) (Ok h) new (of, is, ok) told = subst (λ fs. A fs all.harvest) (sym of) (subst (λ (x : Harvested B). A new x) (sym is) told)
+ok_with {B = B} A (Ok all) (Err halt) new (of, is, ok) told = absurd (false≢true ok)
+ok_with {B = B} A (Err s) r new with told = tt
 
-pub err_with : {F : Type 0} (A : List F → Cause → Harvested → Type 0) (result : Result (Retrieved F) (Stopped F)) (r : Result Harvested Halt) (new : List F) → IsErrWith result r new
+pub err_with : {F B : Type 0} (A : List F → Cause → Harvested B → Type 0) (result : Result (Retrieved F B) (Stopped F B)) (r : Result (Harvested B) (Halt B)) (new : List F) → IsErrWith result r new
     → IfErr r (λ halt. A new halt.cause halt.harvest) → IfErr result (λ s. A s.fetchers.items s.cause s.harvest)
-err_with A (Ok all) r new with told = tt
-err_with A (Err s) (Ok h) new (of, is, err) told = absurd (false≢true err)
-err_with A (Err s) (Err halt) new (of, is, err) told =
-    subst (λ fs. A fs s.cause s.harvest) (sym of) (subst (λ (x : Cause). A new x s.harvest) (sym is.0) (subst (λ (x : Harvested). A new halt.cause x) (sym is.1) told))
+err_with {B = B} A (Ok all) r new with told = tt
+err_with {B = B} A (Err s) (Ok h) new (of, is, err) told = absurd (false≢true err)
+err_with {B = B} A (Err s) (Err halt) new (of, is, err) told =
+    subst (λ fs. A fs s.cause s.harvest) (sym of) (subst (λ (x : Cause). A new x s.harvest) (sym is.0) (subst (λ (x : Harvested B). A new halt.cause x) (sym is.1) told))
 
 -- so is what is said of the fetchers alone
-pub both_with : {F : Type 0} (A : List F → Type 0) (result : Result (Retrieved F) (Stopped F)) (r : Result Harvested Halt) (new : List F) → IsOkWith result r new → IsErrWith result r new
+pub both_with : {F B : Type 0} (A : List F → Type 0) (result : Result (Retrieved F B) (Stopped F B)) (r : Result (Harvested B) (Halt B)) (new : List F) → IsOkWith result r new → IsErrWith result r new
     → A new → IfOk result (λ all. A all.fetchers.items) × IfErr result (λ s. A s.fetchers.items)
 both_with A (Ok all) r new ok err told = (subst A (sym ok.0) told, tt)
 both_with A (Err s) r new ok err told = (tt, subst A (sym err.0) told)
 
 -- and that it stopped
-pub is_err_with : {F : Type 0} (result : Result (Retrieved F) (Stopped F)) (r : Result Harvested Halt) (new : List F) → IsOkWith result r new → IsErr r → IsErr result
+pub is_err_with : {F B : Type 0} (result : Result (Retrieved F B) (Stopped F B)) (r : Result (Harvested B) (Halt B)) (new : List F) → IsOkWith result r new → IsErr r → IsErr result
 is_err_with (Ok all) (Ok h) new ok err = err
 is_err_with (Ok all) (Err halt) new ok err = absurd (false≢true ok.2)
 is_err_with (Err s) r new ok err = refl

@@ -41,12 +41,12 @@ named_all : {X : Type 0} (key : X → Text) (xs : List X) → All (λ x. Contain
 named_all key xs k d lt = (k, omega (arith, length-map xs key), get_or-map key xs k d (key (get_or xs k d)) lt)
 
 -- what may be said of a page may be said by more
-told_more : (may may' : Text → Outcome → List ℕ → Type 0) (plan : Plan) (note : PageNote) → ((x : Outcome) (body : List ℕ) → may note.address x body → may' note.address x body)
+told_more : {B : Type 0} (may may' : Text → Outcome → B → Type 0) (plan : Plan) (note : PageNote B) → ((x : Outcome) (body : B) → may note.address x body → may' note.address x body)
     → IsToldPage may plan note → IsToldPage may' plan note
-told_more may may' plan note more h = go note.told h
+told_more {B = B} may may' plan note more h = go note.told h
   where
-    go : (o : Option Outcome) → MatchOption o (note.body ≡ None) (λ x. (body : List ℕ) × may note.address x body × (note.body ≡ body_of plan note.address x body))
-        → MatchOption o (note.body ≡ None) (λ x. (body : List ℕ) × may' note.address x body × (note.body ≡ body_of plan note.address x body))
+    go : (o : Option Outcome) → MatchOption o (note.body ≡ None) (λ x. (body : B) × may note.address x body × (note.body ≡ body_of plan note.address x body))
+        → MatchOption o (note.body ≡ None) (λ x. (body : B) × may' note.address x body × (note.body ≡ body_of plan note.address x body))
     go None is = is
     go (Some x) (body, said, is) = (body, more x body said, is)
 
@@ -60,8 +60,8 @@ ruled_more may may' note more h = go note.told h
 all_both : {X : Type 0} (P Q R : X → Type 0) (xs : List X) → ((x : X) → P x → Q x → R x) → All P xs → All Q xs → All R xs
 all_both P Q R xs turn a b k d lt = turn (get_or xs k d) (a k d lt) (b k d lt)
 
-module _ {F : Type 0} (m : Meaning F) (plan : Plan) where
-  pub all_later : (ss ts : List (Seat F)) → AllGo m plan ss ts → AreLater m (fetchers_of ss) (fetchers_of ts)
+module _ {F B : Type 0} (m : Meaning F B) (plan : Plan) where
+  pub all_later : (ss ts : List (Seat F B)) → AllGo m plan ss ts → AreLater m (fetchers_of ss) (fetchers_of ts)
   all_later [] [] go = tt
   all_later [] (t ∷ ts) go = absurd go
   all_later (s ∷ ss) [] go = absurd go
@@ -69,15 +69,15 @@ module _ {F : Type 0} (m : Meaning F) (plan : Plan) where
       (record { site_is = go.0.site_is; log_is = log_is (m.log s.fetcher) (m.log t.fetcher) go.0.asks go.0.log_is }, all_later ss ts go.1)
 
   -- at a seat without notes what is noted is what was asked
-  one_noted : (s t : Seat F) (go : SeatGoes m plan s t) → s.notes.pages.items ≡ [] → pages_asked (gained (m.log s.fetcher) (m.log t.fetcher)) ≡ addresses t.notes.pages.items
+  one_noted : (s t : Seat F B) (go : SeatGoes m plan s t) → s.notes.pages.items ≡ [] → pages_asked (gained (m.log s.fetcher) (m.log t.fetcher)) ≡ addresses t.notes.pages.items
   one_noted s t go none =
       ap pages_asked (gained_is (m.log s.fetcher) (m.log t.fetcher) go.asks go.log_is) ∙ (go.pages_noted ∙ ap addresses (sym (fresh s.notes.pages.items go.pages t.notes.pages.items go.pages_are none)))
 
-  one_ruled : (s t : Seat F) (go : SeatGoes m plan s t) → s.notes.rules.items ≡ [] → origins_asked (gained (m.log s.fetcher) (m.log t.fetcher)) ≡ origins t.notes.rules.items
+  one_ruled : (s t : Seat F B) (go : SeatGoes m plan s t) → s.notes.rules.items ≡ [] → origins_asked (gained (m.log s.fetcher) (m.log t.fetcher)) ≡ origins t.notes.rules.items
   one_ruled s t go none =
       ap origins_asked (gained_is (m.log s.fetcher) (m.log t.fetcher) go.asks go.log_is) ∙ (go.rules_noted ∙ ap origins (sym (fresh s.notes.rules.items go.sets t.notes.rules.items go.sets_are none)))
 
-  pub pages_are_noted : (ss ts : List (Seat F)) → AllGo m plan ss ts → page_notes ss ≡ [] → pages_asked (all_gained m (fetchers_of ss) (fetchers_of ts)) ≡ addresses (page_notes ts)
+  pub pages_are_noted : (ss ts : List (Seat F B)) → AllGo m plan ss ts → page_notes ss ≡ [] → pages_asked (all_gained m (fetchers_of ss) (fetchers_of ts)) ≡ addresses (page_notes ts)
   pages_are_noted [] [] go none = refl
   pages_are_noted [] (t ∷ ts) go none = absurd go
   pages_are_noted (s ∷ ss) [] go none = absurd go
@@ -86,9 +86,9 @@ module _ {F : Type 0} (m : Meaning F) (plan : Plan) where
       let rest = pages_are_noted ss ts go.1 (nil_right s.notes.pages.items (page_notes ss) none) in
       filter_map-append page_asked (gained (m.log s.fetcher) (m.log t.fetcher)) (all_gained m (fetchers_of ss) (fetchers_of ts))
       ∙ (ap (λ (us : List Text). us ++ pages_asked (all_gained m (fetchers_of ss) (fetchers_of ts))) one
-      ∙ (ap (λ (us : List Text). addresses t.notes.pages.items ++ us) rest ∙ sym (map-append (λ (note : PageNote). note.address) t.notes.pages.items (page_notes ts))))
+      ∙ (ap (λ (us : List Text). addresses t.notes.pages.items ++ us) rest ∙ sym (map-append (λ (note : PageNote B). note.address) t.notes.pages.items (page_notes ts))))
 
-  pub rules_are_noted : (ss ts : List (Seat F)) → AllGo m plan ss ts → rules_notes ss ≡ [] → origins_asked (all_gained m (fetchers_of ss) (fetchers_of ts)) ≡ origins (rules_notes ts)
+  pub rules_are_noted : (ss ts : List (Seat F B)) → AllGo m plan ss ts → rules_notes ss ≡ [] → origins_asked (all_gained m (fetchers_of ss) (fetchers_of ts)) ≡ origins (rules_notes ts)
   rules_are_noted [] [] go none = refl
   rules_are_noted [] (t ∷ ts) go none = absurd go
   rules_are_noted (s ∷ ss) [] go none = absurd go
@@ -99,7 +99,7 @@ module _ {F : Type 0} (m : Meaning F) (plan : Plan) where
       ∙ (ap (λ (us : List Text). us ++ origins_asked (all_gained m (fetchers_of ss) (fetchers_of ts))) one
       ∙ (ap (λ (us : List Text). origins t.notes.rules.items ++ us) rest ∙ sym (map-append (λ (note : RulesNote). note.origin) t.notes.rules.items (rules_notes ts))))
 
-  pub all_told : (ss ts : List (Seat F)) → AllGo m plan ss ts → page_notes ss ≡ [] → All (IsToldPage (SomeSays m (fetchers_of ss) (fetchers_of ts)) plan) (page_notes ts)
+  pub all_told : (ss ts : List (Seat F B)) → AllGo m plan ss ts → page_notes ss ≡ [] → All (IsToldPage (SomeSays m (fetchers_of ss) (fetchers_of ts)) plan) (page_notes ts)
   all_told [] [] go none = All-nil (IsToldPage (SomeSays m [] []) plan)
   all_told [] (t ∷ ts) go none = absurd go
   all_told (s ∷ ss) [] go none = absurd go
@@ -108,17 +108,17 @@ module _ {F : Type 0} (m : Meaning F) (plan : Plan) where
       let here = nil_left s.notes.pages.items (page_notes ss) none in
       let asked = one_noted s t go.0 here in
       let told : All (IsToldPage (m.says (m.site s.fetcher)) plan) t.notes.pages.items =
-      subst (λ (notes : List PageNote). All (IsToldPage (m.says (m.site s.fetcher)) plan) notes) (sym (fresh s.notes.pages.items go.0.pages t.notes.pages.items go.0.pages_are here)) go.0.told in
-      let among : All (λ (note : PageNote). Contains (pages_asked (gained (m.log s.fetcher) (m.log t.fetcher))) note.address) t.notes.pages.items =
-      subst (λ (us : List Text). All (λ (note : PageNote). Contains us note.address) t.notes.pages.items) (sym asked) (named_all (λ (note : PageNote). note.address) t.notes.pages.items) in
+      subst (λ (notes : List (PageNote B)). All (IsToldPage (m.says (m.site s.fetcher)) plan) notes) (sym (fresh s.notes.pages.items go.0.pages t.notes.pages.items go.0.pages_are here)) go.0.told in
+      let among : All (λ (note : PageNote B). Contains (pages_asked (gained (m.log s.fetcher) (m.log t.fetcher))) note.address) t.notes.pages.items =
+      subst (λ (us : List Text). All (λ (note : PageNote B). Contains us note.address) t.notes.pages.items) (sym asked) (named_all (λ (note : PageNote B). note.address) t.notes.pages.items) in
       All-append (IsToldPage may plan) t.notes.pages.items (page_notes ts)
-      (all_both (λ (note : PageNote). Contains (pages_asked (gained (m.log s.fetcher) (m.log t.fetcher))) note.address) (IsToldPage (m.says (m.site s.fetcher)) plan) (IsToldPage may plan) t.notes.pages.items
+      (all_both (λ (note : PageNote B). Contains (pages_asked (gained (m.log s.fetcher) (m.log t.fetcher))) note.address) (IsToldPage (m.says (m.site s.fetcher)) plan) (IsToldPage may plan) t.notes.pages.items
       (λ note c h. told_more (m.says (m.site s.fetcher)) may plan note (λ x body said. inl (page_in (gained (m.log s.fetcher) (m.log t.fetcher)) note.address c, said)) h) among told)
       (All-weaker (IsToldPage (SomeSays m (fetchers_of ss) (fetchers_of ts)) plan) (IsToldPage may plan)
       (λ note h. told_more (SomeSays m (fetchers_of ss) (fetchers_of ts)) may plan note (λ x body said. inr said) h) (page_notes ts)
       (all_told ss ts go.1 (nil_right s.notes.pages.items (page_notes ss) none)))
 
-  pub all_ruled : (ss ts : List (Seat F)) → AllGo m plan ss ts → rules_notes ss ≡ [] → All (IsToldRules (SomeRules m (fetchers_of ss) (fetchers_of ts))) (rules_notes ts)
+  pub all_ruled : (ss ts : List (Seat F B)) → AllGo m plan ss ts → rules_notes ss ≡ [] → All (IsToldRules (SomeRules m (fetchers_of ss) (fetchers_of ts))) (rules_notes ts)
   all_ruled [] [] go none = All-nil (IsToldRules (SomeRules m [] []))
   all_ruled [] (t ∷ ts) go none = absurd go
   all_ruled (s ∷ ss) [] go none = absurd go
@@ -137,10 +137,10 @@ module _ {F : Type 0} (m : Meaning F) (plan : Plan) where
       (λ note h. ruled_more (SomeRules m (fetchers_of ss) (fetchers_of ts)) may note (λ r said. inr said) h) (rules_notes ts)
       (all_ruled ss ts go.1 (nil_right s.notes.rules.items (rules_notes ss) none)))
 
-  pub crew_later : (old new : List F) (ss ts : List (Seat F)) → fetchers_of ss ≡ old → new ≡ fetchers_of ts → AllGo m plan ss ts → AreLater m old new
+  pub crew_later : (old new : List F) (ss ts : List (Seat F B)) → fetchers_of ss ≡ old → new ≡ fetchers_of ts → AllGo m plan ss ts → AreLater m old new
   crew_later old new ss ts from to go = rw (← from, to) (all_later ss ts go)
 
-  pub crew_noted : (old new : List F) (ss ts : List (Seat F)) (pages : List PageNote) (sets : List RulesNote) → fetchers_of ss ≡ old → new ≡ fetchers_of ts
+  pub crew_noted : (old new : List F) (ss ts : List (Seat F B)) (pages : List (PageNote B)) (sets : List RulesNote) → fetchers_of ss ≡ old → new ≡ fetchers_of ts
       → page_notes ss ≡ [] → rules_notes ss ≡ [] → pages ≡ page_notes ts → sets ≡ rules_notes ts → AllGo m plan ss ts
       → AreNoted (SomeSays m old new) (SomeRules m old new) plan (all_gained m old new) pages sets
   crew_noted old new ss ts pages sets from to no_pages no_sets pages_is sets_is go = rw (← from, to, pages_is, sets_is) record {
@@ -151,14 +151,14 @@ module _ {F : Type 0} (m : Meaning F) (plan : Plan) where
   }
 
   -- what a line says of a worker's notes it says of the asks of its fetcher
-  own_line : (n : ℕ) (s t : Seat F) → SeatGoes m plan s t → s.number ≡ n → s.notes.pages.items ≡ [] → s.notes.rules.items ≡ [] → (event : Event)
+  own_line : (n : ℕ) (s t : Seat F B) → SeatGoes m plan s t → s.number ≡ n → s.notes.pages.items ≡ [] → s.notes.rules.items ≡ [] → (event : Event)
       → IsNotedBy t.notes.pages.items t.notes.rules.items event → IsOwn n (gained (m.log s.fetcher) (m.log t.fetcher)) event
   own_line n s t go number no_pages no_sets (line.Opened u) h = tt
   own_line n s t go number no_pages no_sets (line.Page w u) h = λ among.
-      let own : All (λ (note : PageNote). note.worker ≡ s.number) t.notes.pages.items =
-      subst (λ (notes : List PageNote). All (λ (note : PageNote). note.worker ≡ s.number) notes) (sym (fresh s.notes.pages.items go.pages t.notes.pages.items go.pages_are no_pages)) go.own in
+      let own : All (λ (note : PageNote B). note.worker ≡ s.number) t.notes.pages.items =
+      subst (λ (notes : List (PageNote B)). All (λ (note : PageNote B). note.worker ≡ s.number) notes) (sym (fresh s.notes.pages.items go.pages t.notes.pages.items go.pages_are no_pages)) go.own in
       let there : Contains (addresses t.notes.pages.items) u = subst (λ (us : List Text). Contains us u) (one_noted s t go no_pages) among in
-      worker_is (λ (note : PageNote). note.address) (λ (note : PageNote). note.worker) t.notes.pages.items u w s.number there h own ∙ number
+      worker_is (λ (note : PageNote B). note.address) (λ (note : PageNote B). note.worker) t.notes.pages.items u w s.number there h own ∙ number
   own_line n s t go number no_pages no_sets (line.Rules w o) h = λ among.
       let own : All (λ (note : RulesNote). note.worker ≡ s.number) t.notes.rules.items =
       subst (λ (notes : List RulesNote). All (λ (note : RulesNote). note.worker ≡ s.number) notes) (sym (fresh s.notes.rules.items go.sets t.notes.rules.items go.sets_are no_sets)) go.own_sets in
@@ -172,7 +172,7 @@ module _ {F : Type 0} (m : Meaning F) (plan : Plan) where
   own_line n s t go number no_pages no_sets (line.AbandonRules w o) h = tt
   own_line n s t go number no_pages no_sets (line.Stop cause) h = tt
 
-  all_own : (n : ℕ) (ss ts : List (Seat F)) → AllGo m plan ss ts → ((k : ℕ) (d : Seat F) → k < length ss → (get_or ss k d).number ≡ n + k)
+  all_own : (n : ℕ) (ss ts : List (Seat F B)) → AllGo m plan ss ts → ((k : ℕ) (d : Seat F B) → k < length ss → (get_or ss k d).number ≡ n + k)
       → page_notes ss ≡ [] → rules_notes ss ≡ [] → (trace : List Event) → AreNotedBy (page_notes ts) (rules_notes ts) trace → AreOwn m n (fetchers_of ss) (fetchers_of ts) trace
   all_own n [] ts go numbers no_pages no_sets trace noted = tt
   all_own n (s ∷ ss) [] go numbers no_pages no_sets trace noted = absurd go
@@ -189,14 +189,14 @@ module _ {F : Type 0} (m : Meaning F) (plan : Plan) where
             (All-weaker (IsNotedBy (page_notes (t ∷ ts)) (rules_notes (t ∷ ts))) (IsNotedBy (page_notes ts) (rules_notes ts)) (λ event h. noted_right pages (page_notes ts) sets (rules_notes ts) event h) trace noted),
       )
 
-  pub crew_own : (old new : List F) (ss ts : List (Seat F)) (pages : List PageNote) (sets : List RulesNote) → fetchers_of ss ≡ old → new ≡ fetchers_of ts → AreNumbered ss
+  pub crew_own : (old new : List F) (ss ts : List (Seat F B)) (pages : List (PageNote B)) (sets : List RulesNote) → fetchers_of ss ≡ old → new ≡ fetchers_of ts → AreNumbered ss
       → page_notes ss ≡ [] → rules_notes ss ≡ [] → pages ≡ page_notes ts → sets ≡ rules_notes ts → AllGo m plan ss ts
       → (trace : List Event) → AreNotedBy pages sets trace → AreOwn m 0 old new trace
   crew_own old new ss ts pages sets from to numbers no_pages no_sets pages_is sets_is go trace noted =
       let noted' : AreNotedBy (page_notes ts) (rules_notes ts) trace =
-      subst (λ (xs : List PageNote). AreNotedBy xs (rules_notes ts) trace) pages_is (subst (λ (xs : List RulesNote). AreNotedBy pages xs trace) sets_is noted) in
+      subst (λ (xs : List (PageNote B)). AreNotedBy xs (rules_notes ts) trace) pages_is (subst (λ (xs : List RulesNote). AreNotedBy pages xs trace) sets_is noted) in
       rw (← from, to) (all_own 0 ss ts go (λ k d lt. omega (arith, numbers k d lt)) no_pages no_sets trace noted')
 
 -- there are as many seats as fetchers
-pub seated : {F : Type 0} (seats : List (Seat F)) (fetchers : List F) → fetchers_of seats ≡ fetchers → length seats ≡ length fetchers
-seated {F = F} seats fetchers is = sym (length-map seats (λ (seat : Seat F). seat.fetcher)) ∙ ap (λ (fs : List F). length fs) is
+pub seated : {F B : Type 0} (seats : List (Seat F B)) (fetchers : List F) → fetchers_of seats ≡ fetchers → length seats ≡ length fetchers
+seated {F = F} {B = B} seats fetchers is = sym (length-map seats (λ (seat : Seat F B). seat.fetcher)) ∙ ap (λ (fs : List F). length fs) is

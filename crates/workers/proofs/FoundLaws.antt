@@ -71,7 +71,7 @@ made_once (ask.Rules o ∷ asks) once =
     (made_once asks (record { pages = once.pages; origins = once.origins.1 }))
 
 -- what was asked for is just what is wanted
-pub are_asked : (may_say : Text → Outcome → List ℕ → Type 0) (may_rule : Text → RuleSetValue → Type 0) (plan : Plan) (asks : List Ask) (s : State)
+pub are_asked : {B : Type 0} (may_say : Text → Outcome → B → Type 0) (may_rule : Text → RuleSetValue → Type 0) (plan : Plan) (asks : List Ask) (s : State)
     → AreOnce asks → AreRecorded asks (answers s) → IsComplete (policy plan) s → IsTold may_say may_rule (answers s) → AreAsked may_say may_rule plan asks (answers s)
 are_asked may_say may_rule plan asks s once recorded complete told = record {
   once = made_once asks once;
@@ -102,7 +102,7 @@ from_map f (x ∷ xs) y among =
     ]
 
 -- an entry has the depth that the state holds of its address
-entry_depth : (plan : Plan) (h : Harvested) → AreEntries h → IsOnce (keys h.state.entries) → IsComplete (policy plan) h.state → (e : Entry) → Contains h.entries e
+entry_depth : {B : Type 0} (plan : Plan) (h : Harvested B) → AreEntries h → IsOnce (keys h.state.entries) → IsComplete (policy plan) h.state → (e : Entry) → Contains h.entries e
     → IsDepth (policy plan) (answers h.state) e.address e.depth
 entry_depth plan h are once complete e among =
     let there = Contains-permutation (map said_by h.entries) (seen_in h.state) (said_by e) (IsPermutation-sym _ _ are.same) (to_map said_by h.entries e among) in
@@ -113,7 +113,7 @@ entry_depth plan h are once complete e among =
     (subst (λ (n : ℕ). IsDepth (policy plan) (answers h.state) t.0 n) (ap (λ (z : Seen). z.1) is) (complete.depths t.0 t.1 found))
 
 -- what the state holds has an entry
-has_entry : (h : Harvested) → AreEntries h → (u : Text) (slot : Slot) → lookup h.state.entries u ≡ Some slot → Any (λ entry. entry.address ≡ u) h.entries
+has_entry : {B : Type 0} (h : Harvested B) → AreEntries h → (u : Text) (slot : Slot) → lookup h.state.entries u ≡ Some slot → Any (λ entry. entry.address ≡ u) h.entries
 has_entry h are u slot found =
     let seen = Contains-permutation (seen_in h.state) (map said_by h.entries) (seen_of (entry_of (u, slot))) are.same
     (to_map (λ (entry : Text × Slot). seen_of (entry_of entry)) h.state.entries (u, slot) (found_stands h.state.entries u slot found)) in
@@ -121,7 +121,7 @@ has_entry h are u slot found =
     let (k, lt, at) = there in
     (k, e, lt, at, ap (λ (z : Seen). z.0) is)
 
-pub are_found : (plan : Plan) (h : Harvested) → AreEntries h → IsOnce (keys h.state.entries) → IsComplete (policy plan) h.state → AreFound plan (answers h.state) h.entries
+pub are_found : {B : Type 0} (plan : Plan) (h : Harvested B) → AreEntries h → IsOnce (keys h.state.entries) → IsComplete (policy plan) h.state → AreFound plan (answers h.state) h.entries
 are_found plan h are once complete = record {
   each = λ k d lt. entry_depth plan h are once complete (get_or h.entries k d) (Contains-get_or h.entries k d lt);
   all = λ u candidate. (let (slot, found) = some_of (lookup h.state.entries u) ((complete.candidates u).1 candidate) in has_entry h are u slot found);
@@ -129,7 +129,7 @@ are_found plan h are once complete = record {
 
 -- ---- what was retrieved, or was until the stop
 
-pub retrieved_found : (may_say : Text → Outcome → List ℕ → Type 0) (may_rule : Text → RuleSetValue → Type 0) (plan : Plan) (asks : List Ask) (h : Harvested) → AreEntries h
+pub retrieved_found : {B : Type 0} (may_say : Text → Outcome → B → Type 0) (may_rule : Text → RuleSetValue → Type 0) (plan : Plan) (asks : List Ask) (h : Harvested B) → AreEntries h
     → IsRetrieved may_say may_rule plan asks h → (m : Answers) × AreAsked may_say may_rule plan asks m × AreFound plan m h.entries
 retrieved_found may_say may_rule plan asks h are retrieved = (
   answers h.state,
@@ -137,7 +137,7 @@ retrieved_found may_say may_rule plan asks h are retrieved = (
   are_found plan h are (sound_replay (policy plan) h.trace h.state plan.some_urls retrieved.replay).addresses retrieved.complete,
 )
 
-pub stopped_once : (may_say : Text → Outcome → List ℕ → Type 0) (may_rule : Text → RuleSetValue → Type 0) (plan : Plan) (asks : List Ask) (cause : Cause) (h : Harvested)
+pub stopped_once : {B : Type 0} (may_say : Text → Outcome → B → Type 0) (may_rule : Text → RuleSetValue → Type 0) (plan : Plan) (asks : List Ask) (cause : Cause) (h : Harvested B)
     → IsStopped may_say may_rule plan asks cause h → AreMadeOnce asks
 stopped_once may_say may_rule plan asks cause h (inl part) = made_once asks part.once
 stopped_once may_say may_rule plan asks cause h (inr empty) = made_once asks empty.once

@@ -33,12 +33,12 @@ pub noted_after : {X : Type 0} (old mid new : List X) (x : X) → new ≡ mid ++
 noted_after {X = X} old mid new x more same = more ∙ ap (λ (xs : List X). xs ++ x ∷ []) same
 
 -- what a note of a page has, where it has an outcome, was told
-told_cases : (says : Text → Outcome → List ℕ → Type 0) (plan : Plan) (u : Text) (told : Option Outcome) (kept : Option (List ℕ)) (x : Outcome) (body : List ℕ) → says u x body
-    → MatchOption told (kept ≡ None) (λ y. (y ≡ x) × (kept ≡ body_of plan u y body)) → MatchOption told (kept ≡ None) (λ y. (b : List ℕ) × says u y b × (kept ≡ body_of plan u y b))
+told_cases : {B : Type 0} (says : Text → Outcome → B → Type 0) (plan : Plan) (u : Text) (told : Option Outcome) (kept : Option B) (x : Outcome) (body : B) → says u x body
+    → MatchOption told (kept ≡ None) (λ y. (y ≡ x) × (kept ≡ body_of plan u y body)) → MatchOption told (kept ≡ None) (λ y. (b : B) × says u y b × (kept ≡ body_of plan u y b))
 told_cases says plan u None kept x body said is = is
 told_cases says plan u (Some y) kept x body said is = (body, subst (λ z. says u z body) (sym is.0) said, is.1)
 
-pub told_page : (says : Text → Outcome → List ℕ → Type 0) (plan : Plan) (note : PageNote) (x : Outcome) (body : List ℕ) → says note.address x body
+pub told_page : {B : Type 0} (says : Text → Outcome → B → Type 0) (plan : Plan) (note : PageNote B) (x : Outcome) (body : B) → says note.address x body
     → MatchOption note.told (note.body ≡ None) (λ y. (y ≡ x) × (note.body ≡ body_of plan note.address y body)) → IsToldPage says plan note
 told_page says plan note x body said is = told_cases says plan note.address note.told note.body x body said is
 
@@ -46,9 +46,9 @@ told_page says plan note x body said is = told_cases says plan note.address note
 pub told_rules : (may_rule : Text → RuleSetValue → Type 0) (note : RulesNote) (rules : RuleSetValue) → may_rule note.origin rules → IfSome note.told (λ told. told ≡ rules) → IsToldRules may_rule note
 told_rules may_rule note rules may is = IfSome_then note.told is (λ told same. subst (λ (r : RuleSetValue). may_rule note.origin r) (sym same) may)
 
-module _ {F : Type 0} (m : Meaning F) (plan : Plan) (worker : ℕ) where
+module _ {F B : Type 0} (m : Meaning F B) (plan : Plan) (worker : ℕ) where
   -- nothing was done
-  pub goes_none : (f : F) (notes : Notes) → Goes m plan worker (f, notes) (f, notes)
+  pub goes_none : (f : F) (notes : Notes B) → Goes m plan worker (f, notes) (f, notes)
   goes_none f notes = record {
     asks = [];
     pages = [];
@@ -61,12 +61,12 @@ module _ {F : Type 0} (m : Meaning F) (plan : Plan) (worker : ℕ) where
     rules_noted = refl;
     told = All-nil (IsToldPage (m.says (m.site f)) plan);
     ruled = All-nil (IsToldRules (m.rules (m.site f)));
-    own = All-nil (λ (note : PageNote). note.worker ≡ worker);
+    own = All-nil (λ (note : PageNote B). note.worker ≡ worker);
     own_sets = All-nil (λ (note : RulesNote). note.worker ≡ worker);
   }
 
   -- nothing was asked, and nothing noted
-  pub goes_idle : (f g : F) (n n' : Notes) → m.site g ≡ m.site f → m.log g ≡ m.log f → n'.pages.items ≡ n.pages.items → n'.rules.items ≡ n.rules.items
+  pub goes_idle : (f g : F) (n n' : Notes B) → m.site g ≡ m.site f → m.log g ≡ m.log f → n'.pages.items ≡ n.pages.items → n'.rules.items ≡ n.rules.items
       → Goes m plan worker (f, n) (g, n')
   goes_idle f g n n' same_site same_log same_pages same_sets = record {
     asks = [];
@@ -80,12 +80,12 @@ module _ {F : Type 0} (m : Meaning F) (plan : Plan) (worker : ℕ) where
     rules_noted = refl;
     told = All-nil (IsToldPage (m.says (m.site f)) plan);
     ruled = All-nil (IsToldRules (m.rules (m.site f)));
-    own = All-nil (λ (note : PageNote). note.worker ≡ worker);
+    own = All-nil (λ (note : PageNote B). note.worker ≡ worker);
     own_sets = All-nil (λ (note : RulesNote). note.worker ≡ worker);
   }
 
   -- a page was asked for, and noted
-  pub goes_page : (f g : F) (n n' : Notes) (note : PageNote) → m.site g ≡ m.site f → m.log g ≡ m.log f ++ ask.Page note.address ∷ []
+  pub goes_page : (f g : F) (n n' : Notes B) (note : PageNote B) → m.site g ≡ m.site f → m.log g ≡ m.log f ++ ask.Page note.address ∷ []
       → n'.pages.items ≡ n.pages.items ++ note ∷ [] → n'.rules.items ≡ n.rules.items → IsToldPage (m.says (m.site f)) plan note → note.worker ≡ worker → Goes m plan worker (f, n) (g, n')
   goes_page f g n n' note same_site logged noted same_sets told own = record {
     asks = ask.Page note.address ∷ [];
@@ -99,12 +99,12 @@ module _ {F : Type 0} (m : Meaning F) (plan : Plan) (worker : ℕ) where
     rules_noted = refl;
     told = All-cons (IsToldPage (m.says (m.site f)) plan) note [] told (All-nil (IsToldPage (m.says (m.site f)) plan));
     ruled = All-nil (IsToldRules (m.rules (m.site f)));
-    own = All-cons (λ (note : PageNote). note.worker ≡ worker) note [] own (All-nil (λ (note : PageNote). note.worker ≡ worker));
+    own = All-cons (λ (note : PageNote B). note.worker ≡ worker) note [] own (All-nil (λ (note : PageNote B). note.worker ≡ worker));
     own_sets = All-nil (λ (note : RulesNote). note.worker ≡ worker);
   }
 
   -- an origin's rules were asked for, and noted
-  pub goes_rules : (f g : F) (n n' : Notes) (note : RulesNote) → m.site g ≡ m.site f → m.log g ≡ m.log f ++ ask.Rules note.origin ∷ []
+  pub goes_rules : (f g : F) (n n' : Notes B) (note : RulesNote) → m.site g ≡ m.site f → m.log g ≡ m.log f ++ ask.Rules note.origin ∷ []
       → n'.pages.items ≡ n.pages.items → n'.rules.items ≡ n.rules.items ++ note ∷ [] → IsToldRules (m.rules (m.site f)) note → note.worker ≡ worker → Goes m plan worker (f, n) (g, n')
   goes_rules f g n n' note same_site logged same_pages noted told own = record {
     asks = ask.Rules note.origin ∷ [];
@@ -118,26 +118,26 @@ module _ {F : Type 0} (m : Meaning F) (plan : Plan) (worker : ℕ) where
     rules_noted = refl;
     told = All-nil (IsToldPage (m.says (m.site f)) plan);
     ruled = All-cons (IsToldRules (m.rules (m.site f))) note [] told (All-nil (IsToldRules (m.rules (m.site f))));
-    own = All-nil (λ (note : PageNote). note.worker ≡ worker);
+    own = All-nil (λ (note : PageNote B). note.worker ≡ worker);
     own_sets = All-cons (λ (note : RulesNote). note.worker ≡ worker) note [] own (All-nil (λ (note : RulesNote). note.worker ≡ worker));
   }
 
   -- one thing was done after the other
-  pub goes_on : (f g h : F) (n n' n'' : Notes) → Goes m plan worker (f, n) (g, n') → Goes m plan worker (g, n') (h, n'') → Goes m plan worker (f, n) (h, n'')
+  pub goes_on : (f g h : F) (n n' n'' : Notes B) → Goes m plan worker (f, n) (g, n') → Goes m plan worker (g, n') (h, n'') → Goes m plan worker (f, n) (h, n'')
   goes_on f g h n n' n'' a b = record {
     asks = a.asks ++ b.asks;
     pages = a.pages ++ b.pages;
     sets = a.sets ++ b.sets;
     site_is = b.site_is ∙ a.site_is;
     log_is = b.log_is ∙ (ap (λ (x : List Ask). x ++ b.asks) a.log_is ∙ append_assoc (m.log f) a.asks b.asks);
-    pages_are = b.pages_are ∙ (ap (λ (x : List PageNote). x ++ b.pages) a.pages_are ∙ append_assoc n.pages.items a.pages b.pages);
+    pages_are = b.pages_are ∙ (ap (λ (x : List (PageNote B)). x ++ b.pages) a.pages_are ∙ append_assoc n.pages.items a.pages b.pages);
     sets_are = b.sets_are ∙ (ap (λ (x : List RulesNote). x ++ b.sets) a.sets_are ∙ append_assoc n.rules.items a.sets b.sets);
     pages_noted = filter_map-append page_asked a.asks b.asks ∙ (ap (λ (x : List Text). x ++ filter_map page_asked b.asks) a.pages_noted
-        ∙ (ap (λ (x : List Text). map (λ (note : PageNote). note.address) a.pages ++ x) b.pages_noted ∙ sym (map-append (λ (note : PageNote). note.address) a.pages b.pages)));
+        ∙ (ap (λ (x : List Text). map (λ (note : PageNote B). note.address) a.pages ++ x) b.pages_noted ∙ sym (map-append (λ (note : PageNote B). note.address) a.pages b.pages)));
     rules_noted = filter_map-append origin_asked a.asks b.asks ∙ (ap (λ (x : List Text). x ++ filter_map origin_asked b.asks) a.rules_noted
         ∙ (ap (λ (x : List Text). map (λ (note : RulesNote). note.origin) a.sets ++ x) b.rules_noted ∙ sym (map-append (λ (note : RulesNote). note.origin) a.sets b.sets)));
     told = All-append (IsToldPage (m.says (m.site f)) plan) a.pages b.pages a.told (subst (λ (s : m.Site). All (IsToldPage (m.says s) plan) b.pages) a.site_is b.told);
     ruled = All-append (IsToldRules (m.rules (m.site f))) a.sets b.sets a.ruled (subst (λ (s : m.Site). All (IsToldRules (m.rules s)) b.sets) a.site_is b.ruled);
-    own = All-append (λ (note : PageNote). note.worker ≡ worker) a.pages b.pages a.own b.own;
+    own = All-append (λ (note : PageNote B). note.worker ≡ worker) a.pages b.pages a.own b.own;
     own_sets = All-append (λ (note : RulesNote). note.worker ≡ worker) a.sets b.sets a.own_sets b.own_sets;
   }

@@ -48,14 +48,14 @@ pub one_added : {X Y : Type 0} (xs new : List X) (x : X) (f : X → Y) → new �
 one_added xs new x f is = rw is (map-append f xs (x ∷ []))
 
 -- one seat more is numbered by its place
-pub numbered_more : {F : Type 0} (seats new : List (Seat F)) (seat : Seat F) → new ≡ seats ++ seat ∷ [] → seat.number ≡ length seats → AreNumbered seats → AreNumbered new
-numbered_more {F = F} seats new seat is here numbers = subst (λ (xs : List (Seat F)). AreNumbered xs) (sym is) all
+pub numbered_more : {F B : Type 0} (seats new : List (Seat F B)) (seat : Seat F B) → new ≡ seats ++ seat ∷ [] → seat.number ≡ length seats → AreNumbered seats → AreNumbered new
+numbered_more {F = F} {B = B} seats new seat is here numbers = subst (λ (xs : List (Seat F B)). AreNumbered xs) (sym is) all
   where
     all : AreNumbered (seats ++ seat ∷ [])
     all k d lt = elim (cases_lt k (length seats)) [
-      | inl below ↦ ap (λ (s : Seat F). s.number) (get_or_append_left seats (seat ∷ []) d k below) ∙ numbers k d below
+      | inl below ↦ ap (λ (s : Seat F B). s.number) (get_or_append_left seats (seat ∷ []) d k below) ∙ numbers k d below
       | inr least ↦ (
           let last : k ≡ length seats + 0 = omega (arith, lt, least, length-append seats (seat ∷ [])) in
-          rw last (ap (λ (s : Seat F). s.number) (get_or-append-add seats (seat ∷ []) 0 d) ∙ (here ∙ omega arith))
+          rw last (ap (λ (s : Seat F B). s.number) (get_or-append-add seats (seat ∷ []) 0 d) ∙ (here ∙ omega arith))
           )
     ]

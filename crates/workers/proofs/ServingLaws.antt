@@ -56,29 +56,29 @@ origin_known (origin ∷ origins) o q all found = elim (compare_texts origin.0 o
   | other h t ↦ origin_known origins o q (All-tail (λ (origin : Text × OriginRules). is_known origin.1 ≡ true) origin origins all) (rw t at found)
 ]
 
-body_some : (c : Bool) (body : List ℕ) → is_some (if c then Some body else None) ≡ c
+body_some : {B : Type 0} (c : Bool) (body : B) → is_some (if c then Some body else None) ≡ c
 body_some true body = refl
 body_some false body = refl
 
-body_is : (c : Bool) (body other : List ℕ) → Some other ≡ (if c then Some body else None) → body ≡ other
+body_is : {B : Type 0} (c : Bool) (body other : B) → Some other ≡ (if c then Some body else None) → body ≡ other
 body_is true body found h = cc
 body_is false body found h = cc
 
-module _ (may_say : Text → Outcome → List ℕ → Type 0) (may_rule : Text → RuleSetValue → Type 0) (plan : Plan) where
+module _ {B : Type 0} (may_say : Text → Outcome → B → Type 0) (may_rule : Text → RuleSetValue → Type 0) (plan : Plan) where
   -- a body is noted just where the page is kept
-  pub has_body : (note : PageNote) → IsToldPage may_say plan note → HasBody plan note
+  pub has_body : (note : PageNote B) → IsToldPage may_say plan note → HasBody plan note
   has_body note h = go note.told h
     where
-      go : (o : Option Outcome) → MatchOption o (note.body ≡ None) (λ x. (body : List ℕ) × may_say note.address x body × (note.body ≡ body_of plan note.address x body))
+      go : (o : Option Outcome) → MatchOption o (note.body ≡ None) (λ x. (body : B) × may_say note.address x body × (note.body ≡ body_of plan note.address x body))
           → MatchOption o (note.body ≡ None) (λ x. is_some note.body ≡ (keeps_of plan note.address && is_success x))
       go None is = is
       go (Some x) (body, said, is) = ap is_some is ∙ body_some (keeps_of plan note.address && is_success x) body
 
-  told_at : (s : State) (note : PageNote) (u : Text) (x : Outcome) → note.address ≡ u → (answers s).outcome u ≡ Some x → StandsPage s note → IsToldPage may_say plan note → (body : List ℕ) × may_say u x body
+  told_at : (s : State) (note : PageNote B) (u : Text) (x : Outcome) → note.address ≡ u → (answers s).outcome u ≡ Some x → StandsPage s note → IsToldPage may_say plan note → (body : B) × may_say u x body
   told_at s note u x is found stands told = go note.told stands told
     where
       go : (o : Option Outcome) → MatchOption o (IsGivenUp s note.address) (λ y. (answers s).outcome note.address ≡ Some y)
-          → MatchOption o (note.body ≡ None) (λ y. (body : List ℕ) × may_say note.address y body × (note.body ≡ body_of plan note.address y body)) → (body : List ℕ) × may_say u x body
+          → MatchOption o (note.body ≡ None) (λ y. (body : B) × may_say note.address y body × (note.body ≡ body_of plan note.address y body)) → (body : B) × may_say u x body
       go None (d, lost) none = absurd (let gone : (answers s).outcome note.address ≡ None = ap slot_outcome lost in let here : (answers s).outcome note.address ≡ Some x = ap (λ (w : Text). (answers s).outcome w) is ∙ found in cc)
       go (Some y) stood (body, said, kept) =
           let here : (answers s).outcome note.address ≡ Some x = ap (λ (w : Text). (answers s).outcome w) is ∙ found in
@@ -95,33 +95,33 @@ module _ (may_say : Text → Outcome → List ℕ → Type 0) (may_rule : Text �
           let at : y ≡ r = cc in
           subst (λ (w : Text). may_rule w r) is (subst (λ (z : RuleSetValue). may_rule note.origin z) at h)
 
-  is_told : (s : State) (asks : List Ask) (notes : List PageNote) (sets : List RulesNote) → AreNoted may_say may_rule plan asks notes sets → Agrees s notes sets → IsTold may_say may_rule (answers s)
+  is_told : (s : State) (asks : List Ask) (notes : List (PageNote B)) (sets : List RulesNote) → AreNoted may_say may_rule plan asks notes sets → Agrees s notes sets → IsTold may_say may_rule (answers s)
   is_told s asks notes sets noted agrees = record {
-    outcomes = λ u x found. (let (note, is, both) = found_note (λ (note : PageNote). note.address) (λ (note : PageNote). StandsPage s note × IsToldPage may_say plan note) notes u (λ k d lt. (agrees.stand k d lt, noted.told k d lt)) (agrees.recorded u (ap is_some found)) in
+    outcomes = λ u x found. (let (note, is, both) = found_note (λ (note : PageNote B). note.address) (λ (note : PageNote B). StandsPage s note × IsToldPage may_say plan note) notes u (λ k d lt. (agrees.stand k d lt, noted.told k d lt)) (agrees.recorded u (ap is_some found)) in
         told_at s note u x is found both.0 both.1);
     rules = λ o r found. (let (note, is, both) = found_note (λ (note : RulesNote). note.origin) (λ (note : RulesNote). StandsRules s note × IsToldRules may_rule note) sets o (λ k d lt. (agrees.stand_rules k d lt, noted.ruled k d lt)) (agrees.ruled o (ap is_some found)) in
         ruled_at s note o r is found both.0 both.1);
   }
 
-  body_at : (s : State) (note : PageNote) (body : List ℕ) → note.body ≡ Some body → StandsPage s note → IsToldPage may_say plan note → IsBodyOf may_say (answers s) note.address body
+  body_at : (s : State) (note : PageNote B) (body : B) → note.body ≡ Some body → StandsPage s note → IsToldPage may_say plan note → IsBodyOf may_say (answers s) note.address body
   body_at s note body is stands told = go note.told stands told
     where
       go : (o : Option Outcome) → MatchOption o (IsGivenUp s note.address) (λ y. (answers s).outcome note.address ≡ Some y)
-          → MatchOption o (note.body ≡ None) (λ y. (b : List ℕ) × may_say note.address y b × (note.body ≡ body_of plan note.address y b)) → IsBodyOf may_say (answers s) note.address body
+          → MatchOption o (note.body ≡ None) (λ y. (b : B) × may_say note.address y b × (note.body ≡ body_of plan note.address y b)) → IsBodyOf may_say (answers s) note.address body
       go None lost none = absurd (let h : None ≡ Some body = sym none ∙ is in cc)
       go (Some x) stood (b, said, kept) =
-          (x, stood, subst (λ (z : List ℕ). may_say note.address x z) (body_is (keeps_of plan note.address && is_success x) b body (sym is ∙ kept)) said)
+          (x, stood, subst (λ (z : B). may_say note.address x z) (body_is (keeps_of plan note.address && is_success x) b body (sym is ∙ kept)) said)
 
-  bodies_of : (s : State) (notes : List PageNote) → All (StandsPage s) notes → All (IsToldPage may_say plan) notes → All (λ page. IsBodyOf may_say (answers s) page.address page.body) (filter_map page_of notes)
-  bodies_of s [] stand told = All-nil (λ (page : KeptPage). IsBodyOf may_say (answers s) page.address page.body)
+  bodies_of : (s : State) (notes : List (PageNote B)) → All (StandsPage s) notes → All (IsToldPage may_say plan) notes → All (λ page. IsBodyOf may_say (answers s) page.address page.body) (filter_map page_of notes)
+  bodies_of s [] stand told = All-nil (λ (page : KeptPage B). IsBodyOf may_say (answers s) page.address page.body)
   bodies_of s (note ∷ notes) stand told =
       go (bodies_of s notes (All-tail (StandsPage s) note notes stand) (All-tail (IsToldPage may_say plan) note notes told)) note.body refl
     where
-      go : All (λ page. IsBodyOf may_say (answers s) page.address page.body) (filter_map page_of notes) → (o : Option (List ℕ)) → note.body ≡ o
+      go : All (λ page. IsBodyOf may_say (answers s) page.address page.body) (filter_map page_of notes) → (o : Option B) → note.body ≡ o
           → All (λ page. IsBodyOf may_say (answers s) page.address page.body) (filter_map page_of (note ∷ notes))
       go rest None is = rw is rest
       go rest (Some body) is =
-          rw is (All-cons (λ (page : KeptPage). IsBodyOf may_say (answers s) page.address page.body) (record { address = note.address; body = body }) (filter_map page_of notes)
+          rw is (All-cons (λ (page : KeptPage B). IsBodyOf may_say (answers s) page.address page.body) (record { address = note.address; body = body }) (filter_map page_of notes)
           (body_at s note body is (All-head (StandsPage s) note notes stand) (All-head (IsToldPage may_say plan) note notes told)) rest)
 
   known_some : (s : State) (o : Text) (told : Option RuleSetValue) → MatchOption told (AreRulesGivenUp s o) (λ r. (answers s).rules o ≡ Some r) → IsSome (lookup s.origins o)
@@ -132,7 +132,7 @@ module _ (may_say : Text → Outcome → List ℕ → Type 0) (may_rule : Text �
       go None h = cc
       go (Some q) h = refl
 
-  pub serving : (t : Traced) (asks : List Ask) (notes : List PageNote) (sets : List RulesNote) → t.plan ≡ plan → IsReplay (policy t.plan) t.trace t.state
+  pub serving : (t : Traced) (asks : List Ask) (notes : List (PageNote B)) (sets : List RulesNote) → t.plan ≡ plan → IsReplay (policy t.plan) t.trace t.state
       → AreNoted may_say may_rule plan asks notes sets → Agrees t.state notes sets → IsServing may_say may_rule plan t asks (filter_map page_of notes)
   serving t asks notes sets follows replay noted agrees =
       let here : IsReplay (policy plan) t.trace t.state = subst (λ (x : Plan). IsReplay (policy x) t.trace t.state) follows replay in
@@ -149,7 +149,7 @@ module _ (may_say : Text → Outcome → List ℕ → Type 0) (may_rule : Text �
         };
       }
 
-  pub at_end : (t : Traced) (asks : List Ask) (notes : List PageNote) (sets : List RulesNote) → t.plan ≡ plan → IsReplay (policy t.plan) t.trace t.state
+  pub at_end : (t : Traced) (asks : List Ask) (notes : List (PageNote B)) (sets : List RulesNote) → t.plan ≡ plan → IsReplay (policy t.plan) t.trace t.state
       → AreNoted may_say may_rule plan asks notes sets → Agrees t.state notes sets → IsQuiet t.state → IsComplete (policy t.plan) t.state → AtEnd may_say may_rule plan t asks (filter_map page_of notes)
   at_end t asks notes sets follows replay noted agrees quiet complete =
       let all = recorded_or_lost may_say may_rule plan asks notes sets t.state noted agrees in
@@ -175,7 +175,7 @@ module _ (may_say : Text → Outcome → List ℕ → Type 0) (may_rule : Text �
         complete = subst (λ (x : Plan). IsComplete (policy x) t.state) follows complete;
       }
 
-  pub at_stop : (t : Traced) (asks : List Ask) (notes : List PageNote) (sets : List RulesNote) → t.plan ≡ plan → IsReplay (policy t.plan) t.trace t.state
+  pub at_stop : (t : Traced) (asks : List Ask) (notes : List (PageNote B)) (sets : List RulesNote) → t.plan ≡ plan → IsReplay (policy t.plan) t.trace t.state
       → AreNoted may_say may_rule plan asks notes sets → Agrees t.state notes sets → AtStop may_say may_rule plan t asks (filter_map page_of notes)
   at_stop t asks notes sets follows replay noted agrees = record {
     serving = serving t asks notes sets follows replay noted agrees;
@@ -184,20 +184,20 @@ module _ (may_say : Text → Outcome → List ℕ → Type 0) (may_rule : Text �
 
   -- ---- what was retrieved, at the end or until the stop
 
-  pub crew_retrieved : (t : Traced) (asks : List Ask) (notes : List PageNote) (sets : List RulesNote) (h : Harvested) → AreNoted may_say may_rule plan asks notes sets
+  pub crew_retrieved : (t : Traced) (asks : List Ask) (notes : List (PageNote B)) (sets : List RulesNote) (h : Harvested B) → AreNoted may_say may_rule plan asks notes sets
       → IsConcluded plan t notes sets h → IsQuiet t.state → IsComplete (policy t.plan) t.state → IsRetrieved may_say may_rule plan asks h
   crew_retrieved t asks notes sets h noted all quiet complete =
       let moved = noted_moved may_say may_rule plan asks notes all.sorted sets all.sorted_sets noted all.moved all.moved_sets in
       retrieved may_say may_rule plan t asks (filter_map page_of all.sorted) h (at_end t asks all.sorted all.sorted_sets all.follows all.replay moved all.agrees quiet complete) all.replay all.harvest
 
-  pub crew_part_retrieved : (t : Traced) (asks : List Ask) (notes : List PageNote) (sets : List RulesNote) (cause : Cause) (h : Harvested) → AreNoted may_say may_rule plan asks notes sets
+  pub crew_part_retrieved : (t : Traced) (asks : List Ask) (notes : List (PageNote B)) (sets : List RulesNote) (cause : Cause) (h : Harvested B) → AreNoted may_say may_rule plan asks notes sets
       → IsConcluded plan t notes sets h → t.state.cause ≡ Some cause → IsPartRetrieved may_say may_rule plan asks cause h
   crew_part_retrieved t asks notes sets cause h noted all stopped =
       let moved = noted_moved may_say may_rule plan asks notes all.sorted sets all.sorted_sets noted all.moved all.moved_sets in
       part_retrieved may_say may_rule plan t asks (filter_map page_of all.sorted) cause h stopped (at_stop t asks all.sorted all.sorted_sets all.follows all.replay moved all.agrees) all.replay
       (sound_replay (policy t.plan) t.trace t.state t.plan.some_urls all.replay) (closed_replay (policy t.plan) t.trace t.state all.replay) all.harvest
 
-  pub crew_bare : (asks : List Ask) (notes : List PageNote) (sets : List RulesNote) (cause : Cause) (h : Harvested) → AreNoted may_say may_rule plan asks notes sets
+  pub crew_bare : (asks : List Ask) (notes : List (PageNote B)) (sets : List RulesNote) (cause : Cause) (h : Harvested B) → AreNoted may_say may_rule plan asks notes sets
       → IsBare notes sets cause h → IsStopped may_say may_rule plan asks cause h
   crew_bare asks notes sets cause h noted bare = inr (record {
     memory = bare.nothing.memory;
@@ -208,23 +208,23 @@ module _ (may_say : Text → Outcome → List ℕ → Type 0) (may_rule : Text �
   })
 
 -- what is said of each note is said of all
-pub all_has_body : (may_say : Text → Outcome → List ℕ → Type 0) (plan : Plan) (notes : List PageNote) → All (IsToldPage may_say plan) notes → All (HasBody plan) notes
+pub all_has_body : {B : Type 0} (may_say : Text → Outcome → B → Type 0) (plan : Plan) (notes : List (PageNote B)) → All (IsToldPage may_say plan) notes → All (HasBody plan) notes
 all_has_body may_say plan notes told = All-weaker (IsToldPage may_say plan) (HasBody plan) (has_body may_say (λ o r. Unit {0}) plan) notes told
 
 -- a harvest that is handed on
-pub ok_from : (concluded : Result Harvested Halt) (h : Harvested) (A : Harvested → Type 0) → IfOk concluded A → IsOk concluded → IfOk concluded (λ k. h ≡ k) → A h
+pub ok_from : {B : Type 0} (concluded : Result (Harvested B) (Halt B)) (h : Harvested B) (A : Harvested B → Type 0) → IfOk concluded A → IsOk concluded → IfOk concluded (λ k. h ≡ k) → A h
 ok_from (Ok k) h A all ok is = subst A (sym is) all
 ok_from (Err halt) h A all ok is = absurd (false≢true ok)
 
-pub err_from : (concluded : Result Harvested Halt) (cause : Cause) (h : Harvested) (A : Cause → Harvested → Type 0) → IfErr concluded (λ halt. A halt.cause halt.harvest) → IsErr concluded
+pub err_from : {B : Type 0} (concluded : Result (Harvested B) (Halt B)) (cause : Cause) (h : Harvested B) (A : Cause → Harvested B → Type 0) → IfErr concluded (λ halt. A halt.cause halt.harvest) → IsErr concluded
     → IfErr concluded (λ halt. (cause ≡ halt.cause) × (h ≡ halt.harvest)) → A cause h
-err_from (Ok k) cause h A all err is = absurd (false≢true err)
-err_from (Err halt) cause h A all err is = subst (λ (x : Cause). A x h) (sym is.0) (subst (λ (x : Harvested). A halt.cause x) (sym is.1) all)
+err_from {B = B} (Ok k) cause h A all err is = absurd (false≢true err)
+err_from {B = B} (Err halt) cause h A all err is = subst (λ (x : Cause). A x h) (sym is.0) (subst (λ (x : Harvested B). A halt.cause x) (sym is.1) all)
 
 -- ---- sites that fit, and sites that may say more
 
-module _ {F : Type 0} (m : Meaning F) where
-  some_say : (fs gs : List F) (whole : Answers) → AllFit m fs whole → (u : Text) (x : Outcome) (body : List ℕ) → SomeSays m fs gs u x body → whole.outcome u ≡ Some x
+module _ {F B : Type 0} (m : Meaning F B) where
+  some_say : (fs gs : List F) (whole : Answers) → AllFit m fs whole → (u : Text) (x : Outcome) (body : B) → SomeSays m fs gs u x body → whole.outcome u ≡ Some x
   some_say [] gs whole fit u x body h = absurd h
   some_say (f ∷ fs) [] whole fit u x body h = absurd h
   some_say (f ∷ fs) (g ∷ gs) whole fit u x body (inl (among, said)) = (All-head (λ (f : F). Fits (m.says (m.site f)) (m.rules (m.site f)) whole) f fs fit).outcomes u x body said
@@ -240,8 +240,8 @@ module _ {F : Type 0} (m : Meaning F) where
   pub crew_fits : (fs gs : List F) (whole : Answers) → AllFit m fs whole → Fits (SomeSays m fs gs) (SomeRules m fs gs) whole
   crew_fits fs gs whole fit = record { outcomes = some_say fs gs whole fit; rules = some_rule fs gs whole fit }
 
-module _ (may may' : Text → Outcome → List ℕ → Type 0) (rule rule' : Text → RuleSetValue → Type 0) (asks : List Ask)
-    (more : (u : Text) (x : Outcome) (body : List ℕ) → Contains (pages_asked asks) u → may u x body → may' u x body)
+module _ {B : Type 0} (may may' : Text → Outcome → B → Type 0) (rule rule' : Text → RuleSetValue → Type 0) (asks : List Ask)
+    (more : (u : Text) (x : Outcome) (body : B) → Contains (pages_asked asks) u → may u x body → may' u x body)
     (more_rules : (o : Text) (r : RuleSetValue) → Contains (origins_asked asks) o → rule o r → rule' o r) where
   told_by_more : (m : Answers) → ((u : Text) → IsSome (m.outcome u) → Contains (pages_asked asks) u) → ((o : Text) → IsSome (m.rules o) → Contains (origins_asked asks) o) → IsTold may rule m → IsTold may' rule' m
   told_by_more m asked asked_rules told = record {
@@ -249,14 +249,14 @@ module _ (may may' : Text → Outcome → List ℕ → Type 0) (rule rule' : Tex
     rules = λ o r found. more_rules o r (asked_rules o (ap is_some found)) (told.rules o r found);
   }
 
-  bodies_by_more : (m : Answers) → ((u : Text) → IsSome (m.outcome u) → Contains (pages_asked asks) u) → (us : List Text) (bs : List (List ℕ)) → AllZip (IsBodyOf may m) us bs → AllZip (IsBodyOf may' m) us bs
+  bodies_by_more : (m : Answers) → ((u : Text) → IsSome (m.outcome u) → Contains (pages_asked asks) u) → (us : List Text) (bs : List B) → AllZip (IsBodyOf may m) us bs → AllZip (IsBodyOf may' m) us bs
   bodies_by_more m asked [] [] h = tt
   bodies_by_more m asked [] (b ∷ bs) h = absurd h
   bodies_by_more m asked (u ∷ us) [] h = absurd h
   bodies_by_more m asked (u ∷ us) (b ∷ bs) ((x, found, said), rest) = ((x, found, more u x b (asked u (ap is_some found)) said), bodies_by_more m asked us bs rest)
 
   -- what was retrieved by one fetcher was by a crew of one
-  pub retrieved_more : (plan : Plan) (h : Harvested) → IsRetrieved may rule plan asks h → IsRetrieved may' rule' plan asks h
+  pub retrieved_more : (plan : Plan) (h : Harvested B) → IsRetrieved may rule plan asks h → IsRetrieved may' rule' plan asks h
   retrieved_more plan h b = record {
     follows = b.follows;
     replay = b.replay;
@@ -268,7 +268,7 @@ module _ (may may' : Text → Outcome → List ℕ → Type 0) (rule rule' : Tex
     bodies = bodies_by_more (answers h.state) (λ u. (b.recorded.pages u).1) h.kept h.bodies b.bodies;
   }
 
-  pub part_retrieved_more : (plan : Plan) (cause : Cause) (h : Harvested) → IsPartRetrieved may rule plan asks cause h → IsPartRetrieved may' rule' plan asks cause h
+  pub part_retrieved_more : (plan : Plan) (cause : Cause) (h : Harvested B) → IsPartRetrieved may rule plan asks cause h → IsPartRetrieved may' rule' plan asks cause h
   part_retrieved_more plan cause h b = record {
     follows = b.follows;
     replay = b.replay;

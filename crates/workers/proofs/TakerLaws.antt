@@ -75,48 +75,48 @@ all_right : {X : Type 0} (P : X → Type 0) (xs ys : List X) → All P (xs ++ ys
 all_right P xs ys all k d lt = subst P (get_or-append-add xs ys k d) (all (length xs + k) d (omega (arith, lt, length-append xs ys)))
 
 -- what a line says of notes it says of some of them
-pub noted_left : (xs ys : List PageNote) (zs ws : List RulesNote) (event : Event) → IsNotedBy (xs ++ ys) (zs ++ ws) event → IsNotedBy xs zs event
-noted_left xs ys zs ws (line.Opened u) h = tt
-noted_left xs ys zs ws (line.Page w u) h = all_left (λ (note : PageNote). note.address ≡ u → note.worker ≡ w) xs ys h
-noted_left xs ys zs ws (line.Rules w o) h = all_left (λ (note : RulesNote). note.origin ≡ o → note.worker ≡ w) zs ws h
-noted_left xs ys zs ws (line.Answer w u) h = tt
-noted_left xs ys zs ws (line.Ruled w o) h = tt
-noted_left xs ys zs ws (line.Spread d u k) h = tt
-noted_left xs ys zs ws (line.Part d u k) h = tt
-noted_left xs ys zs ws (line.Abandon w u) h = tt
-noted_left xs ys zs ws (line.AbandonRules w o) h = tt
-noted_left xs ys zs ws (line.Stop cause) h = tt
+pub noted_left : {B : Type 0} (xs ys : List (PageNote B)) (zs ws : List RulesNote) (event : Event) → IsNotedBy (xs ++ ys) (zs ++ ws) event → IsNotedBy xs zs event
+noted_left {B = B} xs ys zs ws (line.Opened u) h = tt
+noted_left {B = B} xs ys zs ws (line.Page w u) h = all_left (λ (note : PageNote B). note.address ≡ u → note.worker ≡ w) xs ys h
+noted_left {B = B} xs ys zs ws (line.Rules w o) h = all_left (λ (note : RulesNote). note.origin ≡ o → note.worker ≡ w) zs ws h
+noted_left {B = B} xs ys zs ws (line.Answer w u) h = tt
+noted_left {B = B} xs ys zs ws (line.Ruled w o) h = tt
+noted_left {B = B} xs ys zs ws (line.Spread d u k) h = tt
+noted_left {B = B} xs ys zs ws (line.Part d u k) h = tt
+noted_left {B = B} xs ys zs ws (line.Abandon w u) h = tt
+noted_left {B = B} xs ys zs ws (line.AbandonRules w o) h = tt
+noted_left {B = B} xs ys zs ws (line.Stop cause) h = tt
 
-pub noted_right : (xs ys : List PageNote) (zs ws : List RulesNote) (event : Event) → IsNotedBy (xs ++ ys) (zs ++ ws) event → IsNotedBy ys ws event
-noted_right xs ys zs ws (line.Opened u) h = tt
-noted_right xs ys zs ws (line.Page w u) h = all_right (λ (note : PageNote). note.address ≡ u → note.worker ≡ w) xs ys h
-noted_right xs ys zs ws (line.Rules w o) h = all_right (λ (note : RulesNote). note.origin ≡ o → note.worker ≡ w) zs ws h
-noted_right xs ys zs ws (line.Answer w u) h = tt
-noted_right xs ys zs ws (line.Ruled w o) h = tt
-noted_right xs ys zs ws (line.Spread d u k) h = tt
-noted_right xs ys zs ws (line.Part d u k) h = tt
-noted_right xs ys zs ws (line.Abandon w u) h = tt
-noted_right xs ys zs ws (line.AbandonRules w o) h = tt
-noted_right xs ys zs ws (line.Stop cause) h = tt
+pub noted_right : {B : Type 0} (xs ys : List (PageNote B)) (zs ws : List RulesNote) (event : Event) → IsNotedBy (xs ++ ys) (zs ++ ws) event → IsNotedBy ys ws event
+noted_right {B = B} xs ys zs ws (line.Opened u) h = tt
+noted_right {B = B} xs ys zs ws (line.Page w u) h = all_right (λ (note : PageNote B). note.address ≡ u → note.worker ≡ w) xs ys h
+noted_right {B = B} xs ys zs ws (line.Rules w o) h = all_right (λ (note : RulesNote). note.origin ≡ o → note.worker ≡ w) zs ws h
+noted_right {B = B} xs ys zs ws (line.Answer w u) h = tt
+noted_right {B = B} xs ys zs ws (line.Ruled w o) h = tt
+noted_right {B = B} xs ys zs ws (line.Spread d u k) h = tt
+noted_right {B = B} xs ys zs ws (line.Part d u k) h = tt
+noted_right {B = B} xs ys zs ws (line.Abandon w u) h = tt
+noted_right {B = B} xs ys zs ws (line.AbandonRules w o) h = tt
+noted_right {B = B} xs ys zs ws (line.Stop cause) h = tt
 
 -- notes in another order are noted by the same
-noted_moved : (xs ys : List PageNote) (zs ws : List RulesNote) (event : Event) → IsPermutation xs ys → IsPermutation zs ws → IsNotedBy xs zs event → IsNotedBy ys ws event
-noted_moved xs ys zs ws (line.Opened u) moved moved' h = tt
-noted_moved xs ys zs ws (line.Page w u) moved moved' h = All-permutation (λ (note : PageNote). note.address ≡ u → note.worker ≡ w) xs ys moved h
-noted_moved xs ys zs ws (line.Rules w o) moved moved' h = All-permutation (λ (note : RulesNote). note.origin ≡ o → note.worker ≡ w) zs ws moved' h
-noted_moved xs ys zs ws (line.Answer w u) moved moved' h = tt
-noted_moved xs ys zs ws (line.Ruled w o) moved moved' h = tt
-noted_moved xs ys zs ws (line.Spread d u k) moved moved' h = tt
-noted_moved xs ys zs ws (line.Part d u k) moved moved' h = tt
-noted_moved xs ys zs ws (line.Abandon w u) moved moved' h = tt
-noted_moved xs ys zs ws (line.AbandonRules w o) moved moved' h = tt
-noted_moved xs ys zs ws (line.Stop cause) moved moved' h = tt
+noted_moved : {B : Type 0} (xs ys : List (PageNote B)) (zs ws : List RulesNote) (event : Event) → IsPermutation xs ys → IsPermutation zs ws → IsNotedBy xs zs event → IsNotedBy ys ws event
+noted_moved {B = B} xs ys zs ws (line.Opened u) moved moved' h = tt
+noted_moved {B = B} xs ys zs ws (line.Page w u) moved moved' h = All-permutation (λ (note : PageNote B). note.address ≡ u → note.worker ≡ w) xs ys moved h
+noted_moved {B = B} xs ys zs ws (line.Rules w o) moved moved' h = All-permutation (λ (note : RulesNote). note.origin ≡ o → note.worker ≡ w) zs ws moved' h
+noted_moved {B = B} xs ys zs ws (line.Answer w u) moved moved' h = tt
+noted_moved {B = B} xs ys zs ws (line.Ruled w o) moved moved' h = tt
+noted_moved {B = B} xs ys zs ws (line.Spread d u k) moved moved' h = tt
+noted_moved {B = B} xs ys zs ws (line.Part d u k) moved moved' h = tt
+noted_moved {B = B} xs ys zs ws (line.Abandon w u) moved moved' h = tt
+noted_moved {B = B} xs ys zs ws (line.AbandonRules w o) moved moved' h = tt
+noted_moved {B = B} xs ys zs ws (line.Stop cause) moved moved' h = tt
 
-pub all_moved_by : (xs ys : List PageNote) (zs ws : List RulesNote) (trace : List Event) → IsPermutation xs ys → IsPermutation zs ws → AreNotedBy xs zs trace → AreNotedBy ys ws trace
+pub all_moved_by : {B : Type 0} (xs ys : List (PageNote B)) (zs ws : List RulesNote) (trace : List Event) → IsPermutation xs ys → IsPermutation zs ws → AreNotedBy xs zs trace → AreNotedBy ys ws trace
 all_moved_by xs ys zs ws trace moved moved' noted = All-weaker (IsNotedBy xs zs) (IsNotedBy ys ws) (λ event h. noted_moved xs ys zs ws event moved moved' h) trace noted
 
 -- where there is no line none says who took anything
-pub noted_by_none : (notes : List PageNote) (sets : List RulesNote) (trace : List Event) → trace ≡ [] → AreNotedBy notes sets trace
+pub noted_by_none : {B : Type 0} (notes : List (PageNote B)) (sets : List RulesNote) (trace : List Event) → trace ≡ [] → AreNotedBy notes sets trace
 noted_by_none notes sets trace none = subst (λ (lines : List Event). AreNotedBy notes sets lines) (sym none) (All-nil (IsNotedBy notes sets))
 
 -- a worker that is alone took all that it was asked for
@@ -132,7 +132,7 @@ only_own asks (line.Abandon w u) h = tt
 only_own asks (line.AbandonRules w o) h = tt
 only_own asks (line.Stop cause) h = tt
 
-module _ {F : Type 0} (m : Meaning F) where
+module _ {F B : Type 0} (m : Meaning F B) where
   own_nothing : (n : ℕ) (old new : List F) → AreOwn m n old new []
   own_nothing n [] new = tt
   own_nothing n (f ∷ fs) [] = tt

@@ -12,7 +12,7 @@ use Rattle.workers.specs.Asks.{gained}
 use Rattle.workers.specs.Sites.{Fits}
 
 -- what a fetcher means: its site, what the site may answer, and what was asked of it
-module _ {F : Type 0} (m : Meaning F) where
+module _ {F B : Type 0} (m : Meaning F B) where
   -- a fetcher after some asks: its site is the same, and its log begins with what it was
   pub record IsLater (old new : F) : Type 0 where
     pub site_is : m.site new ≡ m.site old
@@ -29,7 +29,7 @@ module _ {F : Type 0} (m : Meaning F) where
   all_gained (old ∷ olds) (new ∷ news) = gained (m.log old) (m.log new) ++ all_gained olds news
 
   -- some fetcher that was asked for the address may say this of it
-  abbrev pub SomeSays : List F → List F → Text → Outcome → List ℕ → Type 0
+  abbrev pub SomeSays : List F → List F → Text → Outcome → B → Type 0
   SomeSays [] news u x body = ⊥
   SomeSays (old ∷ olds) [] u x body = ⊥
   SomeSays (old ∷ olds) (new ∷ news) u x body =

@@ -17,7 +17,7 @@ AreMadeOnce asks = AllPairs (λ one other. one ≢ other) asks
 
 -- These asks were made, and this is recorded of them: the pages are those that are wanted by what is recorded, the rules those
 -- of the origins that need them, each asked for once. Each outcome and rule set is one that the site may have answered.
-pub record AreAsked (may_say : Text → Outcome → List ℕ → Type 0) (may_rule : Text → RuleSetValue → Type 0) (plan : Plan) (asks : List Ask) (m : Answers) : Type 0 where
+pub record AreAsked {B : Type 0} (may_say : Text → Outcome → B → Type 0) (may_rule : Text → RuleSetValue → Type 0) (plan : Plan) (asks : List Ask) (m : Answers) : Type 0 where
   pub once : AreMadeOnce asks
   pub wanted : (u : Text) → Contains asks (ask.Page u) ↔ IsWanted (policy plan) m u
   pub needed : (o : Text) → Contains asks (ask.Rules o) ↔ IsNeeded (policy plan) m o

@@ -19,7 +19,7 @@ IsOwn n asks (line.Abandon worker address) = Unit {0}
 IsOwn n asks (line.AbandonRules worker origin) = Unit {0}
 IsOwn n asks (line.Stop cause) = Unit {0}
 
-module _ {F : Type 0} (m : Meaning F) where
+module _ {F B : Type 0} (m : Meaning F B) where
   -- by the lines each fetcher was asked for what its own worker took; the workers' numbers count from n, in the fetchers' order
   abbrev pub AreOwn : ℕ → List F → List F → List Event → Type 0
   AreOwn n [] news trace = Unit {0}

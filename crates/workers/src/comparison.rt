@@ -36,7 +36,7 @@ fn ascend<T: Named>(things: &[T]) -> bool
 }
 
 // Whether what was noted of a page stands in the table.
-fn page_stands(frontier: &Frontier, note: &PageNote) -> bool
+fn page_stands<B>(frontier: &Frontier, note: &PageNote<B>) -> bool
     ensures { IsTrue result ↔ StandsPage frontier.now.state note.now }
 {
     match &note.told {
@@ -62,7 +62,7 @@ fn rules_stand(frontier: &Frontier, note: &RulesNote) -> bool
 }
 
 // Whether all that was noted of pages stands in the table.
-fn pages_stand(frontier: &Frontier, notes: &[PageNote]) -> bool
+fn pages_stand<B>(frontier: &Frontier, notes: &[PageNote<B>]) -> bool
     ensures { IsTrue result ↔ All (StandsPage frontier.now.state) notes.now }
 {
     for note in notes {
@@ -86,7 +86,7 @@ fn all_rules_stand(frontier: &Frontier, notes: &[RulesNote]) -> bool
 }
 
 /// Whether an address was noted, in notes that are in address order.
-pub fn is_noted(notes: &[PageNote], address: &Address) -> bool
+pub fn is_noted<B>(notes: &[PageNote<B>], address: &Address) -> bool
     ensures found { IsTrue result → Contains (addresses notes.now) address.now }
     ensures absent { IsAscending (addresses notes.now) → result ≡ false → ¬ Contains (addresses notes.now) address.now }
 {
@@ -106,7 +106,7 @@ pub fn is_origin_noted(notes: &[RulesNote], origin: &Origin) -> bool
 }
 
 // Whether what is recorded was noted, in notes that are in address order.
-fn records_are_noted(frontier: &Frontier, notes: &[PageNote]) -> bool
+fn records_are_noted<B>(frontier: &Frontier, notes: &[PageNote<B>]) -> bool
     ensures noted { IsTrue result → (u : Text) → IsSome ((answers frontier.now.state).outcome u) → Contains (addresses notes.now) u }
     ensures missing { IsAscending (addresses notes.now) → ((u : Text) → IsSome ((answers frontier.now.state).outcome u) → Contains (addresses notes.now) u) → IsTrue result }
 {
@@ -134,7 +134,7 @@ fn known_rules_are_noted(frontier: &Frontier, notes: &[RulesNote]) -> bool
 }
 
 /// Whether notes agree with the table. Where they do they are left in the order of addresses and origins. Takes no memory.
-pub fn agree(frontier: &Frontier, notes: &mut Notes) -> bool
+pub fn agree<B>(frontier: &Frontier, notes: &mut Notes<B>) -> bool
     ensures pages { IsPermutation notes.old.pages.items notes.new.pages.items }
     ensures rules { IsPermutation notes.old.rules.items notes.new.rules.items }
     ensures order { IsTrue result → AreInOrder notes.new }

@@ -45,7 +45,7 @@ fn end_of(frontier: &Frontier) -> Result<(), Cause>
 }
 
 // Keeps the page of a note, where it has a body.
-fn keep_page(pages: &mut Vec<KeptPage>, note: PageNote) -> Result<(), AllocError>
+fn keep_page<B: Drop>(pages: &mut Vec<KeptPage<B>>, note: PageNote<B>) -> Result<(), AllocError>
     ensures { OnOk result (pages.new.items ≡ pages.old.items ++ filter_map page_of (note ∷ [])) }
 {
     let PageNote {
@@ -61,7 +61,10 @@ fn keep_page(pages: &mut Vec<KeptPage>, note: PageNote) -> Result<(), AllocError
 }
 
 // The pages that are kept of notes.
-fn keep_pages(alloc: Global, notes: Vec<PageNote>) -> Result<Vec<KeptPage>, AllocError>
+fn keep_pages<B: Drop>(
+    alloc: Global,
+    notes: Vec<PageNote<B>>,
+) -> Result<Vec<KeptPage<B>>, AllocError>
     ensures { IfOk result (λ pages. pages.items ≡ filter_map page_of notes.items) }
 {
     let mut pages = Vec::new(alloc);
@@ -73,13 +76,13 @@ fn keep_pages(alloc: Global, notes: Vec<PageNote>) -> Result<Vec<KeptPage>, Allo
 
 // The pages that are kept of notes, which are compared with the plan, with the workers that the trace names, and with the
 // frontier's table.
-fn kept_pages(
+fn kept_pages<B: Drop>(
     alloc: Global,
     plan: &Plan,
     workers: usize,
     frontier: &Frontier,
-    mut notes: Notes,
-) -> Result<Vec<KeptPage>, Halt>
+    mut notes: Notes<B>,
+) -> Result<Vec<KeptPage<B>>, Halt<B>>
     ensures ok { IfOk result (λ pages. IsBorneOut plan.now frontier.now notes.pages.items notes.rules.items pages.items) }
     ensures err { IfErr result (λ halt. halt.cause ≢ Cause.Mismatch → IsBare notes.pages.items notes.rules.items halt.cause halt.harvest) }
     ensures full { IfErr result (λ halt. halt.cause ≢ Cause.Full) }
@@ -107,13 +110,13 @@ fn kept_pages(
 }
 
 /// What a crew of so many workers retrieved, at its end or until it stopped, by its notes and its frontier.
-pub fn conclude(
+pub fn conclude<B: Drop>(
     alloc: Global,
     plan: &Plan,
     workers: usize,
     frontier: Frontier,
-    notes: Notes,
-) -> Result<Harvest, Halt>
+    notes: Notes<B>,
+) -> Result<Harvest<B>, Halt<B>>
     requires { All (HasBody plan.now) notes.pages.items }
     ensures ok { IfOk result (λ h. IsConcluded plan.now frontier notes.pages.items notes.rules.items h × IsQuiet frontier.state × IsComplete (policy frontier.plan) frontier.state) }
     ensures err { IfErr result (λ halt. halt.cause ≢ Cause.Mismatch → IsBare notes.pages.items notes.rules.items halt.cause halt.harvest

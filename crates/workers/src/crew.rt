@@ -16,12 +16,14 @@ fn work_all_at<F: Fetcher + Send, R: Threads + Wait + Sync>(
     alloc: Global,
     lock: &FrontierLock,
     plan: &Plan,
-    seats: &mut [Seat<F>],
+    seats: &mut [Seat<F, F::Body>],
 )
+where
+    F::Body: Send,
     ensures { AllGo F.Fetcher plan.now seats.old seats.new }
 {
     let threads = seats.len().max(1);
-    let work = move |_: usize, seat: &mut Seat<F>|
+    let work = move |_: usize, seat: &mut Seat<F, F::Body>|
         ensures { SeatGoes F.Fetcher plan.entry.now seat.entry.now seat.exit.now }
     { work_at(rt, alloc, lock, plan, seat) };
     for_each_mut(rt, seats, threads, &work);
@@ -33,8 +35,10 @@ pub fn run_crew<F: Fetcher + Send, R: Threads + Wait + Sync>(
     alloc: Global,
     lock: &FrontierLock,
     plan: &Plan,
-    mut seats: Vec<Seat<F>>,
-) -> Vec<Seat<F>>
+    mut seats: Vec<Seat<F, F::Body>>,
+) -> Vec<Seat<F, F::Body>>
+where
+    F::Body: Send,
     ensures went { AllGo F.Fetcher plan.now seats.items result.items }
     ensures len { vec_len result ≡ vec_len seats }
 {

@@ -31,20 +31,20 @@ use std::thread::Threads;
 
 /// A retrieval that found what is to be found.
 #[derive(Drop)]
-pub struct Retrieved<F> {
+pub struct Retrieved<F, B> {
     /// What it found.
-    pub harvest: Harvest,
+    pub harvest: Harvest<B>,
     /// The fetchers, in their order.
     pub fetchers: Vec<F>,
 }
 
 /// A retrieval that stopped.
 #[derive(Drop)]
-pub struct Stopped<F> {
+pub struct Stopped<F, B> {
     /// Why it stopped.
     pub cause: Cause,
     /// What it had found until then; empty where there was no memory for more, or where a check of the workers failed.
-    pub harvest: Harvest,
+    pub harvest: Harvest<B>,
     /// The fetchers, in their order.
     pub fetchers: Vec<F>,
 }
@@ -55,7 +55,7 @@ fn ask_alone<F: Fetcher>(
     plan: &Plan,
     fetchers: &mut [F],
     waiting: Option<&AtomicUsize>,
-) -> Result<Harvest, Halt>
+) -> Result<Harvest<F::Body>, Halt<F::Body>>
     requires { length fetchers.old ≡ 1 }
     ensures ok { IfOk result (λ h. IsRetrievedBy F.Fetcher plan.now fetchers.old fetchers.new h) }
     ensures err { IfErr result (λ halt. IsStoppedBy F.Fetcher plan.now fetchers.old fetchers.new halt.cause halt.harvest) }
@@ -75,7 +75,7 @@ fn retrieve_alone<F: Fetcher>(
     plan: &Plan,
     mut fetchers: Vec<F>,
     waiting: Option<&AtomicUsize>,
-) -> (Result<Harvest, Halt>, Vec<F>)
+) -> (Result<Harvest<F::Body>, Halt<F::Body>>, Vec<F>)
     requires { vec_len fetchers ≡ 1 }
     ensures ok { IfOk result.0 (λ h. IsRetrievedBy F.Fetcher plan.now fetchers.items result.1.items h) }
     ensures err { IfErr result.0 (λ halt. IsStoppedBy F.Fetcher plan.now fetchers.items result.1.items halt.cause halt.harvest) }
@@ -90,13 +90,13 @@ fn retrieve_alone<F: Fetcher>(
 
 // What is needed before any worker starts.
 #[derive(Drop)]
-struct Room<F> {
+struct Room<F, B> {
     frontier: Frontier,
-    seats: Vec<Seat<F>>,
+    seats: Vec<Seat<F, B>>,
     fetchers: Vec<F>,
 }
 
-impl<F: Drop> Room<F> {
+impl<F: Drop, B: Drop> Room<F, B> {
     // A frontier over a copy of the plan, with room for so many seats, and for the fetchers that come back.
     fn new(alloc: Global, plan: &Plan, count: usize) -> Result<Self, AllocError>
         ensures empty { IfOk result (λ room. (room.seats.items ≡ []) × (room.fetchers.items ≡ [])) }
@@ -117,15 +117,15 @@ impl<F: Drop> Room<F> {
 
 // Who worked, and what was noted; only whether anything was asked for twice where there was no memory for more.
 #[derive(Drop)]
-struct Worked<F> {
+struct Worked<F, B> {
     fetchers: Vec<F>,
-    noted: Noted,
+    noted: Noted<B>,
 }
 
 // What is known of the notes.
 #[derive(Drop)]
-enum Noted {
-    All(Notes),
+enum Noted<B> {
+    All(Notes<B>),
     // There was no memory to bring them together; nothing was asked for twice.
     Once,
     // There was no memory to bring them together; something was asked for twice.
@@ -139,9 +139,11 @@ fn work_all<F: Fetcher + Send, R: Threads + Wait + Sync>(
     lock: &FrontierLock,
     plan: &Plan,
     fetchers: Vec<F>,
-    seats: Vec<Seat<F>>,
+    seats: Vec<Seat<F, F::Body>>,
     room: Vec<F>,
-) -> Worked<F>
+) -> Worked<F, F::Body>
+where
+    F::Body: Send,
     requires most { vec_len fetchers ≤ 64 }
     requires seats { (seats.items ≡ []) × (vec_len fetchers ≤ vec_capacity seats) }
     requires room { (room.items ≡ []) × (vec_len fetchers ≤ vec_capacity room) }
@@ -183,7 +185,9 @@ fn retrieve_together<F: Fetcher + Send, R: Threads + Wait + Sync>(
     plan: &Plan,
     fetchers: Vec<F>,
     waiting: Option<&AtomicUsize>,
-) -> (Result<Harvest, Halt>, Vec<F>)
+) -> (Result<Harvest<F::Body>, Halt<F::Body>>, Vec<F>)
+where
+    F::Body: Send,
     requires most { vec_len fetchers ≤ 64 }
     ensures ok { IfOk result.0 (λ h. IsRetrievedBy F.Fetcher plan.now fetchers.items result.1.items h) }
     ensures err { IfErr result.0 (λ halt. IsStoppedBy F.Fetcher plan.now fetchers.items result.1.items halt.cause halt.harvest) }
@@ -223,7 +227,9 @@ fn retrieve_with<F: Fetcher + Send, R: Threads + Wait + Sync>(
     plan: &Plan,
     fetchers: Vec<F>,
     waiting: Option<&AtomicUsize>,
-) -> (Result<Harvest, Halt>, Vec<F>)
+) -> (Result<Harvest<F::Body>, Halt<F::Body>>, Vec<F>)
+where
+    F::Body: Send,
     requires most { vec_len fetchers ≤ 64 }
     ensures ok { IfOk result.0 (λ h. IsRetrievedBy F.Fetcher plan.now fetchers.items result.1.items h) }
     ensures err { IfErr result.0 (λ halt. IsStoppedBy F.Fetcher plan.now fetchers.items result.1.items halt.cause halt.harvest) }
@@ -246,7 +252,9 @@ pub fn retrieve_shown<F: Fetcher + Send, R: Threads + Wait + Sync>(
     plan: &Plan,
     fetchers: Vec<F>,
     waiting: Option<&AtomicUsize>,
-) -> (Result<Harvest, Halt>, Vec<F>)
+) -> (Result<Harvest<F::Body>, Halt<F::Body>>, Vec<F>)
+where
+    F::Body: Send,
     requires some { 0 < vec_len fetchers }
     requires most { vec_len fetchers ≤ 64 }
     ensures fetchers { AreLater F.Fetcher fetchers.items result.1.items }
@@ -274,10 +282,10 @@ pub fn retrieve_shown<F: Fetcher + Send, R: Threads + Wait + Sync>(
 }
 
 // What a retrieval came to, with its fetchers.
-fn with_fetchers<F: Drop>(
-    retrieved: Result<Harvest, Halt>,
+fn with_fetchers<F: Drop, B: Drop>(
+    retrieved: Result<Harvest<B>, Halt<B>>,
     fetchers: Vec<F>,
-) -> Result<Retrieved<F>, Stopped<F>>
+) -> Result<Retrieved<F, B>, Stopped<F, B>>
     ensures ok { IfOk result (λ r. (r.fetchers.items ≡ fetchers.items) × IfOk retrieved (λ h. r.harvest ≡ h) × IsOk retrieved) }
     ensures err { IfErr result (λ s. (s.fetchers.items ≡ fetchers.items) × IfErr retrieved (λ halt. (s.cause ≡ halt.cause) × (s.harvest ≡ halt.harvest)) × IsErr retrieved) }
 {
@@ -306,7 +314,9 @@ pub fn retrieve<F: Fetcher + Send, R: Threads + Wait + Sync>(
     alloc: Global,
     plan: &Plan,
     fetchers: Vec<F>,
-) -> Result<Retrieved<F>, Stopped<F>>
+) -> Result<Retrieved<F, F::Body>, Stopped<F, F::Body>>
+where
+    F::Body: Send,
     requires some { 0 < vec_len fetchers }
     requires most { vec_len fetchers ≤ 64 }
     ensures fetchers { IfOk result (λ r. AreLater F.Fetcher fetchers.items r.fetchers.items) × IfErr result (λ s. AreLater F.Fetcher fetchers.items s.fetchers.items) }

@@ -48,7 +48,7 @@ pub fn are_by_crew(trace: &[Event], workers: usize) -> bool
 }
 
 // Whether the page was noted by this worker, where it was noted, in notes that are in address order.
-fn is_page_by(notes: &[PageNote], worker: u32, address: &Address) -> bool
+fn is_page_by<B>(notes: &[PageNote<B>], worker: u32, address: &Address) -> bool
     requires { IsAscending (addresses notes.now) }
     ensures { IsTrue result ↔ All (λ note. note.address ≡ address.now → note.worker ≡ worker) notes.now }
 {
@@ -70,7 +70,7 @@ fn are_rules_by(notes: &[RulesNote], worker: u32, origin: &Origin) -> bool
 }
 
 // Whether what a line says that a worker took was noted by that worker, where it was noted.
-fn is_noted_by(event: &Event, notes: &Notes) -> bool
+fn is_noted_by<B>(event: &Event, notes: &Notes<B>) -> bool
     requires { AreInOrder notes.now }
     ensures { IsTrue result ↔ IsNotedBy notes.now.pages.items notes.now.rules.items event.now }
 {
@@ -89,7 +89,7 @@ fn is_noted_by(event: &Event, notes: &Notes) -> bool
 }
 
 /// Whether by the lines each noted it who took it, in notes that are in the order of addresses and origins. Takes no memory.
-pub fn are_noted_by(trace: &[Event], notes: &Notes) -> bool
+pub fn are_noted_by<B>(trace: &[Event], notes: &Notes<B>) -> bool
     requires { AreInOrder notes.now }
     ensures { IsTrue result ↔ AreNotedBy notes.now.pages.items notes.now.rules.items trace.now }
 {

@@ -2,7 +2,6 @@
 ghost use Rattle.std.specs.Prelude.{◌≡◌, []};
 
 use address::{Address, Origin};
-use bytes::Bytes;
 use fetcher::Outcome;
 use harvest::Named;
 use robots_rules::RuleSet;
@@ -10,14 +9,14 @@ use std::alloc::Global;
 
 /// A page that was asked for.
 #[derive(Drop)]
-pub struct PageNote {
+pub struct PageNote<B> {
     /// Who asked for it.
     pub worker: u32,
     pub address: Address,
     /// What was answered, where the frontier took it.
     pub told: Option<Outcome>,
-    /// The body in the spool, where the page is kept.
-    pub body: Option<Bytes>,
+    /// The body, where the page is kept.
+    pub body: Option<B>,
 }
 
 /// Robots rules that were asked for.
@@ -30,7 +29,7 @@ pub struct RulesNote {
     pub told: Option<RuleSet>,
 }
 
-impl Named for PageNote {
+impl<B> Named for PageNote<B> {
     ghost text_of = { λ note. note.address };
 
     fn name(&self) -> &str {
@@ -48,12 +47,12 @@ impl Named for RulesNote {
 
 /// The notes of a worker, or of several.
 #[derive(Drop)]
-pub struct Notes {
-    pub pages: Vec<PageNote>,
+pub struct Notes<B> {
+    pub pages: Vec<PageNote<B>>,
     pub rules: Vec<RulesNote>,
 }
 
-impl Notes {
+impl<B> Notes<B> {
     /// No notes. Takes no memory.
     pub fn new(alloc: Global) -> Self
         ensures pages { result.pages.items ≡ [] }

@@ -13,7 +13,7 @@ use crate::note::{Notes, PageNote, RulesNote};
 use crate::worker::Seat;
 
 // Puts notes in order, and says whether nothing was noted twice.
-fn sort_notes(notes: &mut Notes) -> bool
+fn sort_notes<B>(notes: &mut Notes<B>) -> bool
     ensures pages { IsPermutation notes.old.pages.items notes.new.pages.items }
     ensures rules { IsPermutation notes.old.rules.items notes.new.rules.items }
     ensures order { IsTrue result → AreInOrder notes.new }
@@ -27,7 +27,7 @@ fn sort_notes(notes: &mut Notes) -> bool
 }
 
 // Puts the notes of a seat in order, and says whether nothing was noted there twice.
-fn sort_seat<F>(seat: &mut Seat<F>) -> bool
+fn sort_seat<F, B>(seat: &mut Seat<F, B>) -> bool
     ensures ordered { IsOrdered seat.old seat.new }
     ensures order { IsTrue result → AreInOrder seat.new.notes }
 {
@@ -35,7 +35,7 @@ fn sort_seat<F>(seat: &mut Seat<F>) -> bool
 }
 
 // Puts the notes of each seat in order, and says whether nothing was noted twice at one.
-fn sort_all<F>(seats: &mut [Seat<F>]) -> bool
+fn sort_all<F, B>(seats: &mut [Seat<F, B>]) -> bool
     ensures ordered { AllZip IsOrdered seats.old seats.new }
     ensures order { IsTrue result → All (λ seat. AreInOrder seat.notes) seats.new }
 {
@@ -51,7 +51,7 @@ fn sort_all<F>(seats: &mut [Seat<F>]) -> bool
 }
 
 // Whether none of these pages was noted among the others, which are in order.
-fn are_pages_apart(notes: &[PageNote], others: &[PageNote]) -> bool
+fn are_pages_apart<B>(notes: &[PageNote<B>], others: &[PageNote<B>]) -> bool
     requires { IsAscending (addresses others.now) }
     ensures { IsTrue result → AreNotedApart (addresses notes.now) (addresses others.now) }
 {
@@ -77,7 +77,7 @@ fn are_rules_apart(notes: &[RulesNote], others: &[RulesNote]) -> bool
 }
 
 // Whether nothing of these notes was noted among the others, which are in order.
-fn are_notes_apart(notes: &Notes, others: &Notes) -> bool
+fn are_notes_apart<B>(notes: &Notes<B>, others: &Notes<B>) -> bool
     requires { AreInOrder others.now }
     ensures pages { IsTrue result → AreNotedApart (addresses notes.now.pages.items) (addresses others.now.pages.items) }
     ensures rules { IsTrue result → AreNotedApart (origins notes.now.rules.items) (origins others.now.rules.items) }
@@ -89,7 +89,7 @@ fn are_notes_apart(notes: &Notes, others: &Notes) -> bool
 }
 
 // Whether nothing of these notes was noted at the seats, whose notes are in order.
-fn is_apart<F>(notes: &Notes, seats: &[Seat<F>]) -> bool
+fn is_apart<F, B>(notes: &Notes<B>, seats: &[Seat<F, B>]) -> bool
     requires { All (λ seat. AreInOrder seat.notes) seats.now }
     ensures pages { IsTrue result → AreNotedApart (addresses notes.now.pages.items) (addresses (page_notes seats.now)) }
     ensures rules { IsTrue result → AreNotedApart (origins notes.now.rules.items) (origins (rules_notes seats.now)) }
@@ -103,7 +103,7 @@ fn is_apart<F>(notes: &Notes, seats: &[Seat<F>]) -> bool
 }
 
 // Whether nothing was noted at two of the seats, whose notes are in order.
-fn are_apart<F>(seats: &[Seat<F>]) -> bool
+fn are_apart<F, B>(seats: &[Seat<F, B>]) -> bool
     requires { All (λ seat. AreInOrder seat.notes) seats.now }
     ensures pages { IsTrue result → IsOnce (addresses (page_notes seats.now)) }
     ensures rules { IsTrue result → IsOnce (origins (rules_notes seats.now)) }
@@ -118,7 +118,7 @@ fn are_apart<F>(seats: &[Seat<F>]) -> bool
 }
 
 /// Whether nothing was noted twice. The notes of each seat are left in order. Takes no memory.
-pub fn is_once_in_place<F>(seats: &mut [Seat<F>]) -> bool
+pub fn is_once_in_place<F, B>(seats: &mut [Seat<F, B>]) -> bool
     ensures ordered { AllZip IsOrdered seats.old seats.new }
     ensures pages { IsTrue result → IsOnce (addresses (page_notes seats.old)) }
     ensures rules { IsTrue result → IsOnce (origins (rules_notes seats.old)) }

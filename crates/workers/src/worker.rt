@@ -6,27 +6,25 @@ ghost use Rattle.workers.specs.inner.Seats.{SeatGoes};
 
 use crate::note::{Notes, PageNote, RulesNote};
 use address::{Address, Origin};
-use bytes::Bytes;
-use fetcher::{Answer, Body, Fetcher, Outcome};
+use fetcher::{Answer, Fetcher, Outcome};
 use follow_filters::Plan;
 use frontier_core::{AnswerFault, Cause, OriginPermit, Permit, SpreadFault, Work};
 use frontier_lock::{Done, FrontierLock, Held, Refused};
-use harvest::{Spool, is_success};
+use harvest::is_success;
 use robots_rules::RuleSet;
 use std::alloc::{AllocError, Global};
 use std::sync::Wait;
 
-/// A worker's place: its number, its fetcher, its notes, and the bodies that it keeps.
+/// A worker's place: its number, its fetcher and its notes.
 #[derive(Drop)]
-pub struct Seat<F> {
+pub struct Seat<F, B> {
     pub number: u32,
     pub fetcher: F,
-    pub notes: Notes,
-    pub spool: Spool,
+    pub notes: Notes<B>,
 }
 
 // Makes room for the note of a page, and gives its address.
-fn make_page_room(notes: &mut Notes, address: &Address) -> Result<Address, AllocError>
+fn make_page_room<B>(notes: &mut Notes<B>, address: &Address) -> Result<Address, AllocError>
     ensures pages { notes.new.pages.items ≡ notes.old.pages.items }
     ensures rules { notes.new.rules.items ≡ notes.old.rules.items }
     ensures name { IfOk result (λ copy. copy ≡ address.now) }
@@ -37,7 +35,7 @@ fn make_page_room(notes: &mut Notes, address: &Address) -> Result<Address, Alloc
 }
 
 // Makes room for the note of an origin's rules, and gives the origin.
-fn make_rules_room(notes: &mut Notes, origin: &Origin) -> Result<Origin, AllocError>
+fn make_rules_room<B>(notes: &mut Notes<B>, origin: &Origin) -> Result<Origin, AllocError>
     ensures pages { notes.new.pages.items ≡ notes.old.pages.items }
     ensures rules { notes.new.rules.items ≡ notes.old.rules.items }
     ensures name { IfOk result (λ copy. copy ≡ origin.now) }
@@ -47,20 +45,14 @@ fn make_rules_room(notes: &mut Notes, origin: &Origin) -> Result<Origin, AllocEr
     origin.try_clone()
 }
 
-// Appends a body to the spool, where the page is kept.
-fn keep_body(
-    spool: &mut Spool,
-    plan: &Plan,
-    address: &Address,
-    outcome: &Outcome,
-    body: Body,
-) -> Result<Option<Bytes>, AllocError>
-    ensures { IfOk result (λ kept. kept ≡ body_of plan.now address.now outcome.now body) }
+// The body, where the page is kept.
+fn keep_body<B: Drop>(plan: &Plan, address: &Address, outcome: &Outcome, body: B) -> Option<B>
+    ensures { result ≡ body_of plan.now address.now outcome.now body }
 {
     if plan.keeps(address) && is_success(outcome) {
-        Ok(Some(spool.keep(body.as_slice())?))
+        Some(body)
     } else {
-        Ok(None)
+        None
     }
 }
 
@@ -115,25 +107,24 @@ fn give<R: Wait>(rt: &R, lock: &FrontierLock<'_>, done: Done) -> bool {
 
 // What was told of a page: the outcome, a copy for the frontier, and the body where the page is kept.
 #[derive(Drop)]
-struct ToldPage {
+struct ToldPage<B> {
     outcome: Outcome,
     copy: Outcome,
-    body: Option<Bytes>,
+    body: Option<B>,
 }
 
-// What an answer tells of a page. Its body goes to the spool where the page is kept.
-fn told_of(
-    spool: &mut Spool,
+// What an answer tells of a page.
+fn told_of<B: Drop>(
     plan: &Plan,
     address: &Address,
-    answer: Answer,
-) -> Result<ToldPage, AllocError>
+    answer: Answer<B>,
+) -> Result<ToldPage<B>, AllocError>
     ensures outcome { IfOk result (λ told. told.outcome ≡ answer.outcome) }
     ensures body { IfOk result (λ told. told.body ≡ body_of plan.now address.now answer.outcome answer.body) }
 {
     let Answer { outcome, body } = answer;
     let copy = outcome.try_clone()?;
-    let body = keep_body(spool, plan, address, &outcome, body)?;
+    let body = keep_body(plan, address, &outcome, body);
     Ok(ToldPage {
         outcome,
         copy,
@@ -142,7 +133,7 @@ fn told_of(
 }
 
 // The note of a page that was asked for, where nothing of it was handed over.
-fn untold_page(worker: u32, address: Address) -> PageNote
+fn untold_page<B>(worker: u32, address: Address) -> PageNote<B>
     ensures { result ≡ record { worker = worker; address = address; told = None; body = None } }
 {
     PageNote {
@@ -154,21 +145,20 @@ fn untold_page(worker: u32, address: Address) -> PageNote
 }
 
 // Hands the answer of a page over, and gives the note of it with what the worker is to do next.
-fn hand_over<R: Wait>(
+fn hand_over<B: Drop, R: Wait>(
     rt: &R,
     lock: &FrontierLock<'_>,
     plan: &Plan,
     worker: u32,
-    spool: &mut Spool,
     address: Address,
     permit: Permit,
-    answer: Answer,
-) -> (PageNote, Work)
+    answer: Answer<B>,
+) -> (PageNote<B>, Work)
     ensures worker { result.0.worker ≡ worker }
     ensures address { result.0.address ≡ address }
     ensures told { MatchOption result.0.told (result.0.body ≡ None) (λ x. (x ≡ answer.outcome) × (result.0.body ≡ body_of plan.now result.0.address x answer.body)) }
 {
-    let Ok(told) = told_of(spool, plan, &address, answer) else {
+    let Ok(told) = told_of(plan, &address, answer) else {
         let stopped = halt(rt, lock, Some(Held::Page(permit)), Cause::Memory);
         return (untold_page(worker, address), stopped);
     };
@@ -201,8 +191,7 @@ fn serve<F: Fetcher, R: Wait>(
     plan: &Plan,
     worker: u32,
     fetcher: &mut F,
-    notes: &mut Notes,
-    spool: &mut Spool,
+    notes: &mut Notes<F::Body>,
     permit: Permit,
 ) -> Work
     ensures { Goes F.Fetcher plan.now worker (fetcher.old, notes.old) (fetcher.new, notes.new) }
@@ -219,7 +208,7 @@ fn serve<F: Fetcher, R: Wait>(
         notes.pages.push_reserved(untold_page(worker, address));
         return stopped;
     };
-    let (note, next) = hand_over(rt, lock, plan, worker, spool, address, permit, answer);
+    let (note, next) = hand_over(rt, lock, plan, worker, address, permit, answer);
     notes.pages.push_reserved(note);
     next
 }
@@ -271,7 +260,7 @@ fn serve_rules<F: Fetcher, R: Wait>(
     lock: &FrontierLock<'_>,
     worker: u32,
     fetcher: &mut F,
-    notes: &mut Notes,
+    notes: &mut Notes<F::Body>,
     permit: OriginPermit,
 )
     ensures { (plan : Plan) → Goes F.Fetcher plan worker (fetcher.old, notes.old) (fetcher.new, notes.new) }
@@ -310,8 +299,7 @@ fn work<F: Fetcher, R: Wait>(
     plan: &Plan,
     worker: u32,
     fetcher: &mut F,
-    notes: &mut Notes,
-    spool: &mut Spool,
+    notes: &mut Notes<F::Body>,
 )
     ensures { Goes F.Fetcher plan.now worker (fetcher.old, notes.old) (fetcher.new, notes.new) }
 {
@@ -329,7 +317,7 @@ fn work<F: Fetcher, R: Wait>(
                 serve_rules(rt, alloc, lock, worker, fetcher, notes, permit);
                 next(rt, lock, worker)
             }
-            Work::Page(permit) => serve(rt, lock, plan, worker, fetcher, notes, spool, permit),
+            Work::Page(permit) => serve(rt, lock, plan, worker, fetcher, notes, permit),
         };
     }
     unreachable!()
@@ -341,7 +329,7 @@ pub fn work_at<F: Fetcher, R: Wait>(
     alloc: Global,
     lock: &FrontierLock<'_>,
     plan: &Plan,
-    seat: &mut Seat<F>,
+    seat: &mut Seat<F, F::Body>,
 )
     ensures { SeatGoes F.Fetcher plan.now seat.old seat.new }
 {
@@ -353,6 +341,5 @@ pub fn work_at<F: Fetcher, R: Wait>(
         seat.number,
         &mut seat.fetcher,
         &mut seat.notes,
-        &mut seat.spool,
     );
 }

@@ -63,13 +63,13 @@ is_borne_out cause.Mismatch = false
 
 -- what is said of a harvest beside its contents: the entries, the records and the kept pages say what its state holds,
 -- which is sound
-abbrev pub IsRead : Harvested → Type 0
+abbrev pub IsRead : Harvested (List ℕ) → Type 0
 IsRead h = AreEntries h × AreRecords h × ArePages h × IfSome h.plan (λ plan. IsSound (policy plan) h.state)
 
 -- what is told of a retrieval: its report, in which the kept pages have their names, and the status of its records, of a
 -- harvest that was read, or the cause for which it stopped; before either what is shown of its trace, which is nothing where a
 -- check failed
-abbrev pub IsRetrievalTold : Bool → Result Harvested Halt → List ℕ → ℕ → Type 0
+abbrev pub IsRetrievalTold : Bool → Result (Harvested (List ℕ)) (Halt (List ℕ)) → List ℕ → ℕ → Type 0
 IsRetrievalTold is_shown (Ok h) text status =
     IsRead h × (names : List (List ℕ)) × IsNaming (map plain_name_of h.kept) names × (text ≡ trace_text (shown_of is_shown h.trace) ++ report_text (harvest_lines_of h names))
     × (status ≡ exit_status (map (λ recorded. recorded.1) h.records))

@@ -28,7 +28,7 @@ bare_cause cause.Memory = cause.Memory
 bare_cause cause.Mismatch = cause.Mismatch
 
 -- the line of a retrieval that stopped is told, behind what is shown of its trace, or without that for want of memory
-abbrev pub IsHaltTold : (List ℕ → ℕ → Type 0) → Bool → Halt → Type 0
+abbrev pub IsHaltTold : (List ℕ → ℕ → Type 0) → Bool → Halt (List ℕ) → Type 0
 IsHaltTold IsTold is_shown halt =
     IsTold (trace_text (shown_of (is_borne_out halt.cause && is_shown) halt.harvest.trace) ++ finish_text (Stopped halt.cause)) 1
     ⊎ IsTold (finish_text (Stopped (bare_cause halt.cause))) 1
@@ -44,12 +44,12 @@ IsPutAndTold IsTold names bodies (text, wanted) old new =
     ⊎ ((whole : ℕ) × IsTorn names bodies old new whole × IsTornTold IsTold text whole)
 
 -- the text of a harvest whose kept pages have these names
-abbrev pub harvest_text : Bool → Harvested → List (List ℕ) → List ℕ
+abbrev pub harvest_text : Bool → Harvested (List ℕ) → List (List ℕ) → List ℕ
 harvest_text is_shown h names = trace_text (shown_of is_shown h.trace) ++ report_text (harvest_lines_of h names)
 
 -- what is put and told of what was retrieved: the kept pages and the report of a harvest that was read, or the line of the
 -- cause for which it stopped; or there is no memory for it, and nothing is put
-abbrev pub IsPutOf : (List ℕ → ℕ → Type 0) → Bool → Result Harvested Halt → Holding → Holding → Type 0
+abbrev pub IsPutOf : (List ℕ → ℕ → Type 0) → Bool → Result (Harvested (List ℕ)) (Halt (List ℕ)) → Holding → Holding → Type 0
 IsPutOf IsTold is_shown (Ok h) old new =
     ((new ≡ old) × IsTold (codes "stopped memory\n") 1)
     ⊎ (IsRead h × (names : List (List ℕ)) × IsNaming (map plain_name_of h.kept) names

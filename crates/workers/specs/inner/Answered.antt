@@ -20,28 +20,28 @@ use Rattle.workers.specs.Retrieval.{IsRetrieved, IsStopped}
 use Rattle.workers.specs.Takers.{AreOwn}
 use Rattle.workers.specs.inner.Takers.{AreNotedBy}
 
-module _ {F : Type 0} (m : Meaning F) where
+module _ {F B : Type 0} (m : Meaning F B) where
   -- the fetchers came back in their order, and the retrieval has found what is to be found; its entries say what its state holds
-  pub record IsRetrievedBy (plan : Plan) (old new : List F) (h : Harvested) : Type 0 where
+  pub record IsRetrievedBy (plan : Plan) (old new : List F) (h : Harvested B) : Type 0 where
     pub later : AreLater m old new
     pub retrieved : IsRetrieved (SomeSays m old new) (SomeRules m old new) plan (all_gained m old new) h
     pub entries : AreEntries h
 
   -- the fetchers came back in their order; where no check failed, what was found until the stop is there, or there was no memory for it
-  pub record IsStoppedBy (plan : Plan) (old new : List F) (cause : Cause) (h : Harvested) : Type 0 where
+  pub record IsStoppedBy (plan : Plan) (old new : List F) (cause : Cause) (h : Harvested B) : Type 0 where
     pub later : AreLater m old new
     pub stopped : cause ≢ why.Mismatch → IsStopped (SomeSays m old new) (SomeRules m old new) plan (all_gained m old new) cause h
     pub full : cause ≡ why.Full → HasTooMany (policy plan) (answers h.state) × IsOverfull (policy plan) h.state
 
   -- what is known of the notes: all of them, or that nothing was asked for twice
-  abbrev pub IsAccount : Plan → List F → List F → Noted → Type 0
+  abbrev pub IsAccount : Plan → List F → List F → Noted B → Type 0
   IsAccount plan old new (known.All notes) =
       AreNoted (SomeSays m old new) (SomeRules m old new) plan (all_gained m old new) notes.pages.items notes.rules.items
   IsAccount plan old new known.Once = AreOnce (all_gained m old new)
   IsAccount plan old new known.Twice = Unit {0}
 
   -- where the notes are known, and by some lines each noted it who took it, each fetcher was asked for what its own worker took
-  abbrev pub IsOwnAccount : List F → List F → Noted → Type 0
+  abbrev pub IsOwnAccount : List F → List F → Noted B → Type 0
   IsOwnAccount old new (known.All notes) = (trace : List Event) → AreNotedBy notes.pages.items notes.rules.items trace → AreOwn m 0 old new trace
   IsOwnAccount old new known.Once = Unit {0}
   IsOwnAccount old new known.Twice = Unit {0}

@@ -7,12 +7,12 @@ use Rattle.workers.specs.inner.Notes.{addresses, origins}
 use Rattle.address.specs.AddressOrder.{IsAscending}
 
 -- the notes are in the order of addresses and origins, and none stands twice
-pub record AreInOrder (notes : Notes) : Type 0 where
+pub record AreInOrder {B : Type 0} (notes : Notes B) : Type 0 where
   pub pages : IsAscending (addresses notes.pages.items)
   pub rules : IsAscending (origins notes.rules.items)
 
 -- the same fetcher sits there, and what was noted is noted in some order
-pub record IsOrdered {F : Type 0} (old new : Seat F) : Type 0 where
+pub record IsOrdered {F B : Type 0} (old new : Seat F B) : Type 0 where
   pub fetcher : new.fetcher ≡ old.fetcher
   pub pages : IsPermutation old.notes.pages.items new.notes.pages.items
   pub rules : IsPermutation old.notes.rules.items new.notes.rules.items

@@ -25,13 +25,13 @@ use Rattle.harvest.specs.Gathered.{IsHarvestOf}
 use Rattle.workers.specs.inner.Turns.{IsNothing}
 
 -- a body is noted just where the page is kept
-abbrev pub HasBody : Plan → PageNote → Type 0
+abbrev pub HasBody : {B : Type 0} → Plan → PageNote B → Type 0
 HasBody plan note = MatchOption note.told (note.body ≡ None) (λ x. is_some note.body ≡ (keeps_of plan note.address && is_success x))
 
 -- The frontier went by the plan and is the replay of its trace; what was noted, put in order, agrees with its table; and the
 -- harvest is made of both.
-pub record IsConcluded (plan : Plan) (frontier : Traced) (notes : List PageNote) (sets : List RulesNote) (h : Harvested) : Type 0 where
-  pub sorted : List PageNote
+pub record IsConcluded {B : Type 0} (plan : Plan) (frontier : Traced) (notes : List (PageNote B)) (sets : List RulesNote) (h : Harvested B) : Type 0 where
+  pub sorted : List (PageNote B)
   pub sorted_sets : List RulesNote
   pub moved : IsPermutation notes sorted
   pub moved_sets : IsPermutation sets sorted_sets
@@ -42,8 +42,8 @@ pub record IsConcluded (plan : Plan) (frontier : Traced) (notes : List PageNote)
 
 -- The frontier went by the plan and is the replay of its trace; what was noted, put in order, agrees with its table; and these
 -- are the pages that are kept of it.
-pub record IsBorneOut (plan : Plan) (frontier : Traced) (notes : List PageNote) (sets : List RulesNote) (pages : List KeptPage) : Type 0 where
-  pub sorted : List PageNote
+pub record IsBorneOut {B : Type 0} (plan : Plan) (frontier : Traced) (notes : List (PageNote B)) (sets : List RulesNote) (pages : List (KeptPage B)) : Type 0 where
+  pub sorted : List (PageNote B)
   pub sorted_sets : List RulesNote
   pub moved : IsPermutation notes sorted
   pub moved_sets : IsPermutation sets sorted_sets
@@ -53,7 +53,7 @@ pub record IsBorneOut (plan : Plan) (frontier : Traced) (notes : List PageNote) 
   pub kept : pages ≡ filter_map page_of sorted
 
 -- nothing was asked for twice, and there was no memory for a harvest
-pub record IsBare (notes : List PageNote) (sets : List RulesNote) (cause : Cause) (h : Harvested) : Type 0 where
+pub record IsBare {B : Type 0} (notes : List (PageNote B)) (sets : List RulesNote) (cause : Cause) (h : Harvested B) : Type 0 where
   pub once : IsOnce (addresses notes)
   pub once_origins : IsOnce (origins sets)
   pub nothing : IsNothing cause h
@@ -66,6 +66,6 @@ pub record IsUnexplained (frontier : Traced) : Type 0 where
 
 -- what a crew of so many workers left belies what it noted: the frontier went by another plan, its trace names a worker that isn't
 -- one of them, what was noted doesn't agree with its table, or by its trace another than the worker who noted it took it
-abbrev pub IsBelied : Plan → ℕ → Traced → List PageNote → List RulesNote → Type 0
+abbrev pub IsBelied : {B : Type 0} → Plan → ℕ → Traced → List (PageNote B) → List RulesNote → Type 0
 IsBelied plan workers frontier notes sets =
     (frontier.plan ≢ plan) ⊎ ((¬ AreByCrew workers frontier.trace) ⊎ ((¬ Agrees frontier.state notes sets) ⊎ (¬ AreNotedBy notes sets frontier.trace)))

@@ -18,7 +18,7 @@ use Rattle.workers.specs.OneWorker.{AreByOne}
 use Rattle.workers.specs.Retrieval.{IsRetrieved, IsStopped}
 
 -- all that is said of it, whatever the site gives; its log was the first of these before, and is the second now
-pub record ComesTo (may_say : Text → Outcome → List ℕ → Type 0) (may_rule : Text → RuleSetValue → Type 0) (plan : Plan) (old new : List Ask) (r : Result Harvested Halt) : Type 0 where
+pub record ComesTo {B : Type 0} (may_say : Text → Outcome → B → Type 0) (may_rule : Text → RuleSetValue → Type 0) (plan : Plan) (old new : List Ask) (r : Result (Harvested B) (Halt B)) : Type 0 where
   pub ok : IfOk r (IsRetrieved may_say may_rule plan (gained old new))
   pub err : IfErr r (λ halt. IsStopped may_say may_rule plan (gained old new) halt.cause halt.harvest)
   pub full : IfErr r (λ halt. halt.cause ≡ why.Full → HasTooMany (policy plan) (answers halt.harvest.state) × IsOverfull (policy plan) halt.harvest.state)

@@ -14,14 +14,14 @@ use Rattle.workers.specs.Asks.{pages_asked, origins_asked}
 use Rattle.workers.specs.inner.Notes.{IsToldPage, IsToldRules, addresses, origins}
 
 -- each ask has its note, in whatever order, and what was noted of an answer is what may be said
-pub record AreNoted (may_say : Text → Outcome → List ℕ → Type 0) (may_rule : Text → RuleSetValue → Type 0) (plan : Plan) (asks : List Ask) (notes : List PageNote) (sets : List RulesNote) : Type 0 where
+pub record AreNoted {B : Type 0} (may_say : Text → Outcome → B → Type 0) (may_rule : Text → RuleSetValue → Type 0) (plan : Plan) (asks : List Ask) (notes : List (PageNote B)) (sets : List RulesNote) : Type 0 where
   pub pages : IsPermutation (pages_asked asks) (addresses notes)
   pub rules : IsPermutation (origins_asked asks) (origins sets)
   pub told : All (IsToldPage may_say plan) notes
   pub ruled : All (IsToldRules may_rule) sets
 
 -- what was noted of a page stands in the table: its outcome is recorded, or it was given up
-abbrev pub StandsPage : State → PageNote → Type 0
+abbrev pub StandsPage : {B : Type 0} → State → PageNote B → Type 0
 StandsPage s note = MatchOption note.told (IsGivenUp s note.address) (λ x. (answers s).outcome note.address ≡ Some x)
 
 -- what was noted of an origin stands in the table: its rules are known, or they were given up
@@ -30,7 +30,7 @@ StandsRules s note = MatchOption note.told (AreRulesGivenUp s note.origin) (λ r
 
 -- The notes agree with the table: nothing was asked for twice, what was noted stands in the table, and what is recorded there
 -- was noted.
-pub record Agrees (s : State) (pages : List PageNote) (sets : List RulesNote) : Type 0 where
+pub record Agrees {B : Type 0} (s : State) (pages : List (PageNote B)) (sets : List RulesNote) : Type 0 where
   pub once : IsOnce (addresses pages)
   pub once_origins : IsOnce (origins sets)
   pub stand : All (StandsPage s) pages
@@ -39,9 +39,9 @@ pub record Agrees (s : State) (pages : List PageNote) (sets : List RulesNote) : 
   pub ruled : (o : Text) → IsSome ((answers s).rules o) → Contains (origins sets) o
 
 -- the page that is kept of a note, where it has a body
-abbrev pub page_with : Text → Option (List ℕ) → Option KeptPage
+abbrev pub page_with : {B : Type 0} → Text → Option B → Option (KeptPage B)
 page_with u None = None
 page_with u (Some body) = Some (record { address = u; body = body })
 
-abbrev pub page_of : PageNote → Option KeptPage
+abbrev pub page_of : {B : Type 0} → PageNote B → Option (KeptPage B)
 page_of note = page_with note.address note.body

@@ -14,20 +14,20 @@ use Rattle.workers.specs.declared.note.RulesNote.{RulesNote}
 use Rattle.workers.specs.declared.note.Notes.{Notes}
 
 -- the body that is kept with an outcome, if the page is kept
-abbrev pub body_of : Plan → Text → Outcome → List ℕ → Option (List ℕ)
+abbrev pub body_of : {B : Type 0} → Plan → Text → Outcome → B → Option B
 body_of plan u x body = if keeps_of plan u && is_success x then Some body else None
 
 -- what was noted of a page is what may be said of it: the outcome goes with some body, which is noted where
 -- the page is kept
-abbrev pub IsToldPage : (Text → Outcome → List ℕ → Type 0) → Plan → PageNote → Type 0
-IsToldPage may_say plan note = MatchOption note.told (note.body ≡ None) (λ x. (body : List ℕ) × may_say note.address x body × (note.body ≡ body_of plan note.address x body))
+abbrev pub IsToldPage : {B : Type 0} → (Text → Outcome → B → Type 0) → Plan → PageNote B → Type 0
+IsToldPage {B = B} may_say plan note = MatchOption note.told (note.body ≡ None) (λ x. (body : B) × may_say note.address x body × (note.body ≡ body_of plan note.address x body))
 
 -- the rules that were noted of an origin are some that it may have
 abbrev pub IsToldRules : (Text → RuleSetValue → Type 0) → RulesNote → Type 0
 IsToldRules may_rule note = IfSome note.told (λ rules. may_rule note.origin rules)
 
 -- the addresses of notes, and the origins
-abbrev pub addresses : List PageNote → List Text
+abbrev pub addresses : {B : Type 0} → List (PageNote B) → List Text
 addresses notes = map (λ note. note.address) notes
 
 abbrev pub origins : List RulesNote → List Text
@@ -36,9 +36,9 @@ origins notes = map (λ note. note.origin) notes
 -- What a worker does with its fetcher and its notes, which stand in a pair before it and behind it: the site stays what it is;
 -- each ask that the log gains has its note, in order, under the worker's number, and what was noted of an answer is what the
 -- site may give.
-pub record Goes {F : Type 0} (m : Meaning F) (plan : Plan) (worker : ℕ) (old new : F × Notes) : Type 0 where
+pub record Goes {F B : Type 0} (m : Meaning F B) (plan : Plan) (worker : ℕ) (old new : F × Notes B) : Type 0 where
   pub asks : List Ask
-  pub pages : List PageNote
+  pub pages : List (PageNote B)
   pub sets : List RulesNote
   pub site_is : m.site new.0 ≡ m.site old.0
   pub log_is : m.log new.0 ≡ m.log old.0 ++ asks

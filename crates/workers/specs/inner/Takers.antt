@@ -6,7 +6,7 @@ use Rattle.workers.specs.declared.note.PageNote.{PageNote}
 use Rattle.workers.specs.declared.note.RulesNote.{RulesNote}
 
 -- where the line says that a worker took what is noted, that worker noted it
-abbrev pub IsNotedBy : List PageNote → List RulesNote → Event → Type 0
+abbrev pub IsNotedBy : {B : Type 0} → List (PageNote B) → List RulesNote → Event → Type 0
 IsNotedBy notes sets (line.Opened start) = Unit {0}
 IsNotedBy notes sets (line.Page worker address) = All (λ note. note.address ≡ address → note.worker ≡ worker) notes
 IsNotedBy notes sets (line.Rules worker origin) = All (λ note. note.origin ≡ origin → note.worker ≡ worker) sets
@@ -19,5 +19,5 @@ IsNotedBy notes sets (line.AbandonRules worker origin) = Unit {0}
 IsNotedBy notes sets (line.Stop cause) = Unit {0}
 
 -- by the lines each noted it who took it
-abbrev pub AreNotedBy : List PageNote → List RulesNote → List Event → Type 0
+abbrev pub AreNotedBy : {B : Type 0} → List (PageNote B) → List RulesNote → List Event → Type 0
 AreNotedBy notes sets trace = All (IsNotedBy notes sets) trace

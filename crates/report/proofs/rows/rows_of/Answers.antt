@@ -10,12 +10,12 @@ use Rattle.report.proofs.ListLaws.{given_none, given_some}
 use Rattle.report.proofs.rows.rows_of.Goals as goal
 
 -- the line of an entry by what became of it among the records
-line_by : (h : Harvested) (names : List (List ℕ)) (records : List Recorded) (e : Entry) (fate : Option Fate) → records ≡ h.records → fate ≡ fate_at records e.refused e.answer
+line_by : {B : Type 0} (h : Harvested B) (names : List (List ℕ)) (records : List Recorded) (e : Entry) (fate : Option Fate) → records ≡ h.records → fate ≡ fate_at records e.refused e.answer
     → line_at h names e ≡ option_map (line_with h names e) fate
 line_by h names records e fate same is = ap (λ (f : Option Fate). option_map (line_with h names e) f) (sym (is ∙ ap (λ (rs : List Recorded). fate_at rs e.refused e.answer) same))
 
 pub loop-entry-preserved-in_default : goal.loop-entry-preserved-in_default
-loop-entry-preserved-in_default c =
+loop-entry-preserved-in_default g c =
     let names = map string_bytes c.args.names.now in
     let h = line_at c.args.harvest.now names in
     c.loop-entry.invariant
@@ -23,7 +23,7 @@ loop-entry-preserved-in_default c =
     (ap h (sym c.entry-item.is) ∙ line_by c.args.harvest.now names _ _ None c.records-records.ensures.value c.in_default.ensures))
 
 pub loop-entry-preserved : goal.loop-entry-preserved
-loop-entry-preserved c =
+loop-entry-preserved g c =
     let names = map string_bytes c.args.names.now in
     let h = line_at c.args.harvest.now names in
     c.in_ok-push.ensures.items ∙ ap (λ (lines : List Line). lines ++ c.row_of-row.result ∷ []) c.loop-entry.invariant

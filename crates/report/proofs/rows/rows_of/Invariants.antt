@@ -6,4 +6,4 @@ use Rattle.report.specs.Entries.{line_at}
 use Rattle.report.proofs.rows.rows_of.Given as goal
 
 abbrev pub invariant-loop-entry : goal.invariant-loop-entry
-invariant-loop-entry l = l.rows.items ≡ filter_map (line_at l.harvest (map string_bytes l.names)) (take l.entry-index l.entry-items)
+invariant-loop-entry g l = l.rows.items ≡ filter_map (line_at l.harvest (map string_bytes l.names)) (take l.entry-index l.entry-items)

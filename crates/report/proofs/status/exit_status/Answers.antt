@@ -23,20 +23,20 @@ by_tests records a b c first second third =
     (third ∙ sym (any_mapped is_failed records))
 
 pub returns-then-any : goal.returns-then-any
-returns-then-any c =
+returns-then-any g c =
     let records = c.args.harvest.now.records in
     let lost = any_from_yields_List (λ (recorded : Recorded). is_network_fault recorded.1) _ _ _ c.any.ensures.ran (YieldsList-from_slice records (c.iter.ensures.rest ∙ c.records-records.ensures.value)) (λ x b q k. search (rules, tests)) in
     by_tests records true _ _ (sym c.if-any.true ∙ lost) refl refl
 
 pub returns-then-any-2 : goal.returns-then-any-2
-returns-then-any-2 c =
+returns-then-any-2 g c =
     let records = c.args.harvest.now.records in
     let lost = any_from_yields_List (λ (recorded : Recorded). is_network_fault recorded.1) _ _ _ c.any.ensures.ran (YieldsList-from_slice records (c.iter.ensures.rest ∙ c.records-records.ensures.value)) (λ x b q k. search (rules, tests)) in
     let faulty = any_from_yields_List (λ (recorded : Recorded). is_fault recorded.1) _ _ _ c.any-else-any.ensures.ran (YieldsList-from_slice records (c.iter-else-any.ensures.rest ∙ c.records-records.ensures.value)) (λ x b q k. search (rules, tests)) in
     by_tests records false true _ (sym c.if-any.false ∙ lost) (sym c.if-any-2.true ∙ faulty) refl
 
 pub returns-then-any-3 : goal.returns-then-any-3
-returns-then-any-3 c =
+returns-then-any-3 g c =
     let records = c.args.harvest.now.records in
     let lost = any_from_yields_List (λ (recorded : Recorded). is_network_fault recorded.1) _ _ _ c.any.ensures.ran (YieldsList-from_slice records (c.iter.ensures.rest ∙ c.records-records.ensures.value)) (λ x b q k. search (rules, tests)) in
     let faulty = any_from_yields_List (λ (recorded : Recorded). is_fault recorded.1) _ _ _ c.any-else-any.ensures.ran (YieldsList-from_slice records (c.iter-else-any.ensures.rest ∙ c.records-records.ensures.value)) (λ x b q k. search (rules, tests)) in
@@ -44,7 +44,7 @@ returns-then-any-3 c =
     by_tests records false false true (sym c.if-any.false ∙ lost) (sym c.if-any-2.false ∙ faulty) (sym c.if-any-3.true ∙ failing)
 
 pub returns-else-any-3 : goal.returns-else-any-3
-returns-else-any-3 c =
+returns-else-any-3 g c =
     let records = c.args.harvest.now.records in
     let lost = any_from_yields_List (λ (recorded : Recorded). is_network_fault recorded.1) _ _ _ c.any.ensures.ran (YieldsList-from_slice records (c.iter.ensures.rest ∙ c.records-records.ensures.value)) (λ x b q k. search (rules, tests)) in
     let faulty = any_from_yields_List (λ (recorded : Recorded). is_fault recorded.1) _ _ _ c.any-else-any.ensures.ran (YieldsList-from_slice records (c.iter-else-any.ensures.rest ∙ c.records-records.ensures.value)) (λ x b q k. search (rules, tests)) in

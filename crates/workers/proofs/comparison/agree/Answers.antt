@@ -5,7 +5,7 @@ use Rattle.workers.proofs.ComparisonLaws.{once_ascending}
 use Rattle.workers.proofs.comparison.agree.Goals as goal
 
 pub returns : goal.returns
-returns c =
+returns g c =
     let pages = c.sort_and_ascend-is_once.new.things.items in
     let sets = c.sort_and_ascend-is_once_asked.new.things.items in
     record {
@@ -29,7 +29,7 @@ returns c =
     }
 
 pub returns-then-not-is_once : goal.returns-then-not-is_once
-returns-then-not-is_once c = record {
+returns-then-not-is_once g c = record {
   pages = c.sort_and_ascend-is_once.ensures.permutation;
   rules = c.sort_and_ascend-is_once_asked.ensures.permutation;
   order = λ so. absurd (false≢true so);
@@ -37,7 +37,7 @@ returns-then-not-is_once c = record {
 }
 
 pub returns-then-not-is_once_asked : goal.returns-then-not-is_once_asked
-returns-then-not-is_once_asked c = record {
+returns-then-not-is_once_asked g c = record {
   pages = c.sort_and_ascend-is_once.ensures.permutation;
   rules = c.sort_and_ascend-is_once_asked.ensures.permutation;
   order = λ so. absurd (false≢true so);
@@ -45,7 +45,7 @@ returns-then-not-is_once_asked c = record {
 }
 
 pub returns-then-not-pages_stand : goal.returns-then-not-pages_stand
-returns-then-not-pages_stand c = record {
+returns-then-not-pages_stand g c = record {
   pages = c.sort_and_ascend-is_once.ensures.permutation;
   rules = c.sort_and_ascend-is_once_asked.ensures.permutation;
   order = λ so. absurd (false≢true so);
@@ -53,7 +53,7 @@ returns-then-not-pages_stand c = record {
 }
 
 pub returns-then-not-all_rules_stand : goal.returns-then-not-all_rules_stand
-returns-then-not-all_rules_stand c = record {
+returns-then-not-all_rules_stand g c = record {
   pages = c.sort_and_ascend-is_once.ensures.permutation;
   rules = c.sort_and_ascend-is_once_asked.ensures.permutation;
   order = λ so. absurd (false≢true so);
@@ -61,7 +61,7 @@ returns-then-not-all_rules_stand c = record {
 }
 
 pub returns-then-not-records_are_noted : goal.returns-then-not-records_are_noted
-returns-then-not-records_are_noted c = record {
+returns-then-not-records_are_noted g c = record {
   pages = c.sort_and_ascend-is_once.ensures.permutation;
   rules = c.sort_and_ascend-is_once_asked.ensures.permutation;
   order = λ so. absurd (false≢true so);

@@ -12,12 +12,12 @@ use Rattle.workers.proofs.TakerLaws.{all_moved_by}
 use Rattle.workers.proofs.conclusion.kept_pages.Goals as goal
 
 pub returns : goal.returns
-returns c =
+returns g c =
     let agrees = c.if-not-agree.ensures.agrees.0 refl in
     record {
       ok = tt;
       err = λ _. record {
-        once = once_permutation _ _ (IsPermutation-sym _ _ (IsPermutation-map (λ (note : PageNote). note.address) _ _ c.agree.ensures.pages)) agrees.once;
+        once = once_permutation _ _ (IsPermutation-sym _ _ (IsPermutation-map (λ (note : PageNote g.row.B.Denot). note.address) _ _ c.agree.ensures.pages)) agrees.once;
         once_origins = once_permutation _ _ (IsPermutation-sym _ _ (IsPermutation-map (λ (note : RulesNote). note.origin) _ _ c.agree.ensures.rules)) agrees.once_origins;
         nothing = c.empty.ensures;
       };
@@ -28,7 +28,7 @@ returns c =
     }
 
 pub returns-then-not-same : goal.returns-then-not-same
-returns-then-not-same c = record {
+returns-then-not-same g c = record {
   ok = tt;
   err = λ other. absurd (other c.mismatch.ensures);
   full = not_full _ c.mismatch.ensures;
@@ -38,7 +38,7 @@ returns-then-not-same c = record {
 }
 
 pub returns-then-not-are_by_crew : goal.returns-then-not-are_by_crew
-returns-then-not-are_by_crew c = record {
+returns-then-not-are_by_crew g c = record {
   ok = tt;
   err = λ other. absurd (other c.mismatch-then-not-are_by_crew.ensures);
   full = not_full _ c.mismatch-then-not-are_by_crew.ensures;
@@ -48,7 +48,7 @@ returns-then-not-are_by_crew c = record {
 }
 
 pub returns-then-not-agree : goal.returns-then-not-agree
-returns-then-not-agree c = record {
+returns-then-not-agree g c = record {
   ok = tt;
   err = λ other. absurd (other c.mismatch-then-not-agree.ensures);
   full = not_full _ c.mismatch-then-not-agree.ensures;
@@ -58,10 +58,10 @@ returns-then-not-agree c = record {
 }
 
 pub are_noted_by-requires : goal.are_noted_by-requires
-are_noted_by-requires c = c.if-not-agree.ensures.order refl
+are_noted_by-requires g c = c.if-not-agree.ensures.order refl
 
 pub returns-then-not-are_noted_by : goal.returns-then-not-are_noted_by
-returns-then-not-are_noted_by c = record {
+returns-then-not-are_noted_by g c = record {
   ok = tt;
   err = λ other. absurd (other c.mismatch-then-not-are_noted_by.ensures);
   full = not_full _ c.mismatch-then-not-are_noted_by.ensures;
@@ -72,7 +72,7 @@ returns-then-not-are_noted_by c = record {
 }
 
 pub returns-in-Ok : goal.returns-in-Ok
-returns-in-Ok c = record {
+returns-in-Ok g c = record {
   ok = record {
     sorted = c.agree.new.notes.pages.items;
     sorted_sets = c.agree.new.notes.rules.items;

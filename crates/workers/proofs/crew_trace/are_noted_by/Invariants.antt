@@ -4,4 +4,4 @@ use Rattle.workers.specs.inner.Takers.{IsNotedBy}
 use Rattle.workers.proofs.crew_trace.are_noted_by.Given as goal
 
 abbrev pub invariant-loop-event : goal.invariant-loop-event
-invariant-loop-event l = (k : ℕ) (d : Event) → k < l.event-index → IsNotedBy l.notes.pages.items l.notes.rules.items (get_or l.trace k d)
+invariant-loop-event g l = (k : ℕ) (d : Event) → k < l.event-index → IsNotedBy l.notes.pages.items l.notes.rules.items (get_or l.trace k d)

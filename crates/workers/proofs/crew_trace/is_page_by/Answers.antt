@@ -12,16 +12,16 @@ use Rattle.workers.proofs.TakerLaws.{found_by, by_none}
 use Rattle.workers.proofs.crew_trace.is_page_by.Goals as goal
 
 pub returns-in-Ok : goal.returns-in-Ok
-returns-in-Ok c =
+returns-in-Ok g c =
     let notes = c.args.notes.now in
     let u = c.args.address.now in
-    let found = c.binary_search_by.ensures.position (λ (x : PageNote). slice_cmp nat_cmp x.address u) (always_returns_same _ _ _ (λ a r f' k. search rules)) in
-    let there = subst (λ (r : Result ℕ ℕ). IsBinarySearchResult (λ (x : PageNote). slice_cmp nat_cmp x.address u) notes r) c.in-Ok.is found in
-    found_by (λ (x : PageNote). x.address) (λ (x : PageNote). x.worker) notes u c.in-Ok.k c.args.worker c.index-notes-k.result c.requires (search rules) (λ d. exact_bytes _ _ (there d))
+    let found = c.binary_search_by.ensures.position (λ (x : PageNote g.row.B.Denot). slice_cmp nat_cmp x.address u) (always_returns_same _ _ _ (λ a r f' k. search rules)) in
+    let there = subst (λ (r : Result ℕ ℕ). IsBinarySearchResult (λ (x : PageNote g.row.B.Denot). slice_cmp nat_cmp x.address u) notes r) c.in-Ok.is found in
+    found_by (λ (x : PageNote g.row.B.Denot). x.address) (λ (x : PageNote g.row.B.Denot). x.worker) notes u c.in-Ok.k c.args.worker c.index-notes-k.result c.requires (search rules) (λ d. exact_bytes _ _ (there d))
 
 pub returns-in-Err : goal.returns-in-Err
-returns-in-Err c =
+returns-in-Err g c =
     let u = c.args.address.now in
-    let found = c.binary_search_by.ensures.position (λ (x : PageNote). slice_cmp nat_cmp x.address u) (always_returns_same _ _ _ (λ a r f' k. search rules)) in
-    let none = absent_named (λ (x : PageNote). x.address) c.args.notes.now u c.binary_search_by.result (ap is_ok c.in-Err.is) c.requires found (record { worker = 0; address = c.args.address.now; told = None; body = None }) in
-    ((λ _. by_none (λ (x : PageNote). x.address) (λ (x : PageNote). x.worker) c.args.notes.now u c.args.worker none), λ _. refl)
+    let found = c.binary_search_by.ensures.position (λ (x : PageNote g.row.B.Denot). slice_cmp nat_cmp x.address u) (always_returns_same _ _ _ (λ a r f' k. search rules)) in
+    let none = absent_named (λ (x : PageNote g.row.B.Denot). x.address) c.args.notes.now u c.binary_search_by.result (ap is_ok c.in-Err.is) c.requires found (record { worker = 0; address = c.args.address.now; told = None; body = None }) in
+    ((λ _. by_none (λ (x : PageNote g.row.B.Denot). x.address) (λ (x : PageNote g.row.B.Denot). x.worker) c.args.notes.now u c.args.worker none), λ _. refl)

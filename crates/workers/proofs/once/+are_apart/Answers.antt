@@ -23,7 +23,7 @@ returns-then-not-is_apart-clause-rules g t c so = absurd (false≢true so)
 pub are_apart-requires : goal.are_apart-requires
 are_apart-requires g t c κs within =
     let all : c.in-Some.seat.now ∷ c.in-Some.others.now ≡ c.args.seats.now = search rules in
-    (omega (arith, ap length all, c.decreases), (within, rest_order c.in-Some.seat.now c.in-Some.others.now c.args.seats.now all c.requires))
+    (omega (arith, ap length all, c.decreases), (within.0, (within.1, rest_order c.in-Some.seat.now c.in-Some.others.now c.args.seats.now all c.requires)))
 
 pub returns-clause-pages : goal.returns-clause-pages
 returns-clause-pages g t c so =

@@ -5,4 +5,4 @@ use Rattle.workers.specs.inner.Notes.{addresses}
 use Rattle.workers.proofs.once.are_pages_apart.Given as goal
 
 abbrev pub invariant-loop-note : goal.invariant-loop-note
-invariant-loop-note l = (k : ℕ) (d : PageNote) → k < l.note-index → ¬ Contains (addresses l.others) (get_or l.notes k d).address
+invariant-loop-note g l = (k : ℕ) (d : PageNote g.row.B.Denot) → k < l.note-index → ¬ Contains (addresses l.others) (get_or l.notes k d).address

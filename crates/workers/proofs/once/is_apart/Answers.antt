@@ -9,12 +9,12 @@ use Rattle.workers.proofs.ComparisonLaws.{all_more}
 use Rattle.workers.proofs.once.is_apart.Goals as goal
 
 pub are_notes_apart-requires : goal.are_notes_apart-requires
-are_notes_apart-requires g c = subst (λ (seat : Seat g.row.F.Denot). AreInOrder seat.notes) (sym c.seat-item.is) (c.requires c.loop-seat.seat-index c.seat-item.result c.loop-seat-test.true)
+are_notes_apart-requires g c = subst (λ (seat : Seat g.row.F.Denot g.row.B.Denot). AreInOrder seat.notes) (sym c.seat-item.is) (c.requires c.loop-seat.seat-index c.seat-item.result c.loop-seat-test.true)
 
 pub loop-seat-preserved : goal.loop-seat-preserved
 loop-seat-preserved g c =
     let notes = c.args.notes.now in
-    all_more (λ (seat : Seat g.row.F.Denot). AreNotedApart (addresses notes.pages.items) (addresses seat.notes.pages.items) × AreNotedApart (origins notes.rules.items) (origins seat.notes.rules.items))
+    all_more (λ (seat : Seat g.row.F.Denot g.row.B.Denot). AreNotedApart (addresses notes.pages.items) (addresses seat.notes.pages.items) × AreNotedApart (origins notes.rules.items) (origins seat.notes.rules.items))
     c.args.seats.now c.loop-seat.seat-index c.seat-item.result c.loop-seat-test.true c.seat-item.is (c.if-not-are_notes_apart.ensures.pages refl, c.if-not-are_notes_apart.ensures.rules refl) c.loop-seat.invariant
 
 pub returns-then-not-are_notes_apart : goal.returns-then-not-are_notes_apart

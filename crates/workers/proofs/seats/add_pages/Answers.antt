@@ -5,12 +5,12 @@ use Rattle.workers.proofs.MoveLaws.{piece_moved, all_moved, none_left}
 use Rattle.workers.proofs.seats.add_pages.Goals as goal
 
 pub push_reserved-requires : goal.push_reserved-requires
-push_reserved-requires c =
+push_reserved-requires g c =
     let steps : into_iter_items c.loop-note.note-iterator ≡ c.in-Some.note ∷ into_iter_items c.next.new.self = c.in-Some.ensures.steps.0 in
     omega (arith, ap length steps, c.loop-note.invariant.1)
 
 pub loop-note-preserved : goal.loop-note-preserved
-loop-note-preserved c =
+loop-note-preserved g c =
     let at = c.loop-note in
     let steps : into_iter_items at.note-iterator ≡ c.in-Some.note ∷ into_iter_items c.next.new.self = c.in-Some.ensures.steps.0 in (
       piece_moved at.all.items (c.in-Some.note ∷ []) (into_iter_items c.next.new.self) _ _ _ steps c.push_reserved.ensures.items at.invariant.0,
@@ -19,7 +19,7 @@ loop-note-preserved c =
     )
 
 pub returns : goal.returns
-returns c =
+returns g c =
     let at = c.loop-note in
     let none = none_left _ (sym at.note-iterator.rest.ok.0 ∙ c.in-None.ensures.steps.0) in
     record {

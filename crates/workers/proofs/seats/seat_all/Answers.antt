@@ -15,7 +15,7 @@ pub loop-fetcher-preserved : goal.loop-fetcher-preserved
 loop-fetcher-preserved g c =
     let at = c.loop-fetcher in
     let seats = c.push_reserved.new.self.items in
-    let seat : Seat g.row.F.Denot = record { number = c.len-number.result; fetcher = c.in-Some.fetcher; notes = c.new.result; spool = c.new-in-loop-fetcher.result } in
+    let seat : Seat g.row.F.Denot g.row.B.Denot = record { number = c.len-number.result; fetcher = c.in-Some.fetcher; notes = c.new.result } in
     let steps : into_iter_items at.fetcher-iterator ≡ c.in-Some.fetcher ∷ into_iter_items c.next.new.self = c.in-Some.ensures.steps.0 in
     record {
       can_next = search rules;

@@ -4,7 +4,7 @@ use Rattle.harvest.proofs.GatherLaws.{are_pages}
 use Rattle.harvest.proofs.harvest.Harvest.gather.Goals as goal
 
 pub invariant_of-result : goal.invariant_of-result
-invariant_of-result c =
+invariant_of-result g c =
     let held = c.in-Ok.ensures in
     let (sorted, moved, up, names, parts) = held.pages in
     let pages = are_pages c.args.frontier.plan (answers c.args.frontier.state) c.args.pages.items sorted c.in-Ok.all.1.addresses.items c.in-Ok.all.1.bodies.items

@@ -1,0 +1,65 @@
+-- The ask is logged, and then told of.
+use Rattle.std.proofs.Common.{◌≡◌, ◌∙◌, ◌++◌, [], ◌∷◌, inl, inr, refl, sym, ap, le-add_right}
+use Rattle.std.proofs.lemmas.Result.{err_from_is_err_and}
+use Rattle.address.specs.Address.{AddressText}
+use Rattle.fetcher.specs.declared.fetcher.Ask.TheVariants.{Page}
+use Rattle.http_fetcher.specs.Fetching.{Fetching}
+use Rattle.http_fetcher.proofs.ExitLemmas.{on_ok, on_err}
+use Rattle.http_fetcher.proofs.http_fetcher.HttpFetcher.ask_into.Goals as goal
+
+pub returns-in_err-try_clone : goal.returns-in_err-try_clone
+returns-in_err-try_clone g c =
+    let p = err_from_is_err_and c.from_residual.result c.from_residual.ensures.1 in
+    rw p.1 (record {
+      asked = tt;
+      refused = inl refl;
+      first = inl refl;
+      robots = refl;
+      keeps = refl;
+      one = λ none. tt;
+      most = le-add_right _ _;
+      told = tt;
+      stands = λ of wire stood. inl stood;
+      may = tt;
+      is_recording = refl;
+      notes = refl;
+    })
+
+pub returns-in_err-push : goal.returns-in_err-push
+returns-in_err-push g c =
+    let p = err_from_is_err_and c.from_residual-in_err-push.result c.from_residual-in_err-push.ensures.1 in
+    rw (p.1, sym c.self.view_is) (record {
+      asked = tt;
+      refused = inl c.in_err-push.ensures.items;
+      first = inl refl;
+      robots = refl;
+      keeps = refl;
+      one = λ none. tt;
+      most = le-add_right _ _;
+      told = tt;
+      stands = λ of wire stood. inl stood;
+      may = tt;
+      is_recording = refl;
+      notes = refl;
+    })
+
+pub returns : goal.returns
+returns g c =
+    let after = c.exchange_page.ensures in
+    let asked : c.exchange_page.new.self.asks ≡ c.args.self.now.asks ++ Page c.args.at.now ∷ [] =
+    after.asks ∙ c.in_ok-push.ensures.items ∙ ap (λ (at : AddressText). c.self.inside.asks.items ++ Page at ∷ []) c.in_ok-try_clone.ensures
+    ∙ ap (λ (f : Fetching _). f.asks ++ Page c.args.at.now ∷ []) c.self.view_is in
+    record {
+      asked = on_ok _ asked;
+      refused = on_err _ (inr asked);
+      first = on_err _ (inr asked);
+      robots = after.robots ∙ ap (λ (f : Fetching _). f.robots) c.self.view_is;
+      keeps = after.keeps ∙ ap (λ (f : Fetching _). f.keeps) c.self.view_is;
+      one = rw (sym c.self.view_is) after.one;
+      most = rw (sym c.self.view_is) after.most;
+      told = rw (sym c.self.view_is) after.told;
+      stands = rw (sym c.self.view_is) after.stands;
+      may = rw (sym c.self.view_is) after.may;
+      is_recording = after.is_recording ∙ ap (λ (f : Fetching _). f.is_recording) c.self.view_is;
+      notes = after.notes ∙ ap (λ (f : Fetching _). f.notes) c.self.view_is;
+    }

@@ -1,0 +1,105 @@
+-- What is asked over a kept connection changes nothing but what makes the connections.
+use Rattle.std.proofs.Common.{◌≡◌, ◌∙◌, true, inl, inr, refl, sym, ap, subst}
+use Rattle.http_fetcher.specs.Fetching.{Fetching}
+use Rattle.http_fetcher.proofs.KeptLemmas.{stands_by}
+use Rattle.http_fetcher.proofs.http_fetcher.HttpFetcher.ask_page_again.Goals as goal
+
+pub returns-then-not-self : goal.returns-then-not-self
+returns-then-not-self g c =
+    rw (sym c.self.view_is) (record {
+      asks = refl;
+      robots = refl;
+      keeps = refl;
+      is_recording = refl;
+      notes = refl;
+      made = refl;
+      refused = refl;
+      gives = λ of wire gave. gave;
+      silent = inl refl;
+      told = tt;
+      stands = λ of wire stood. inl stood;
+    })
+
+pub returns-in_default : goal.returns-in_default
+returns-in_default g c =
+    rw (sym c.self.view_is) (record {
+      asks = refl;
+      robots = refl;
+      keeps = refl;
+      is_recording = refl;
+      notes = refl;
+      made = c.take.ensures.made;
+      refused = c.take.ensures.refused;
+      gives = c.take.ensures.gives;
+      silent = inl c.in_default.ensures.taken;
+      told = tt;
+      stands = λ of wire stood. inl (c.take.ensures.stands of wire stood);
+    })
+
+pub returns-in-Ok-Some : goal.returns-in-Ok-Some
+returns-in-Ok-Some g c =
+    let said = rw c.in-Ok-Some.field-0-is at c.in-Ok-Some.ensures.told in
+    let keeps : c.self.inside.keeps ≡ true = c.if-not-self.false in
+    let put = c.put_away.ensures in
+    let same = c.page_again.ensures.same in
+    rw (sym c.self.view_is) (record {
+      asks = put.asks ∙ ap (λ (f : Fetching _). f.asks) same;
+      robots = put.robots ∙ ap (λ (f : Fetching _). f.robots) same;
+      keeps = put.keeps ∙ ap (λ (f : Fetching _). f.keeps) same;
+      is_recording = put.is_recording ∙ ap (λ (f : Fetching _). f.is_recording) same;
+      notes = put.notes ∙ ap (λ (f : Fetching _). f.notes) same;
+      made = put.made ∙ ap (λ (f : Fetching _). g.C.Connect.made f.connect) same ∙ c.take.ensures.made;
+      refused = put.refused ∙ ap (λ (f : Fetching _). g.C.Connect.refused f.connect) same ∙ c.take.ensures.refused;
+      gives = tt;
+      silent = tt;
+      told = (said.0, said.1, rw (sym c.requires) (
+        put.made ∙ ap (λ (f : Fetching _). g.C.Connect.made f.connect) same ∙ c.take.ensures.made,
+        put.taken ∙ ap (λ (f : Fetching _). g.C.Connect.taken f.connect) same ∙ c.in-Some.ensures.taken,
+        keeps,
+        (c.in-Some.wire, c.in-Some.ensures.given, said.2),
+      ));
+      stands = stands_by g.C.Connect g.C.Wire.Wire _ _ _ (record { at = c.args.at.now; robots = c.self.inside.robots; keeps = c.self.inside.keeps })
+          _ c.in-Ok-Some.heard.serves c.in-Some.wire c.page_again.new.wire c.requires c.take.ensures.stands
+          (rw same at put.stands) (rw c.in-Ok-Some.field-0-is at c.in-Ok-Some.ensures.serves);
+    })
+
+pub returns-in-Ok-None : goal.returns-in-Ok-None
+returns-in-Ok-None g c =
+    let keeps : c.self.inside.keeps ≡ true = c.if-not-self.false in
+    let now = c.self-in-Ok-None.view_is ∙ c.page_again.ensures.same in
+    let closed = c.close.ensures in
+    rw (sym c.self.view_is) (record {
+      asks = ap (λ (f : Fetching _). f.asks) now;
+      robots = ap (λ (f : Fetching _). f.robots) now;
+      keeps = ap (λ (f : Fetching _). f.keeps) now;
+      is_recording = ap (λ (f : Fetching _). f.is_recording) now;
+      notes = ap (λ (f : Fetching _). f.notes) now;
+      made = closed.made ∙ ap (λ (f : Fetching _). g.C.Connect.made f.connect) now ∙ c.take.ensures.made;
+      refused = closed.refused ∙ ap (λ (f : Fetching _). g.C.Connect.refused f.connect) now ∙ c.take.ensures.refused;
+      gives = λ of wire gave. c.take.ensures.gives of wire (subst (λ (f : Fetching _). g.C.Connect.gives f.connect of wire) now (closed.gives of wire gave));
+      silent = inr (rw (sym c.requires) (
+        closed.taken ∙ ap (λ (f : Fetching _). g.C.Connect.taken f.connect) now ∙ c.in-Some.ensures.taken,
+        keeps,
+        (c.in-Some.wire, c.in-Some.ensures.given, rw c.in-Ok-None.field-0-is at c.in-Ok-None.ensures.silent),
+      ));
+      told = tt;
+      stands = λ of wire stood. inl (c.take.ensures.stands of wire (subst (λ (f : Fetching _). g.C.Connect.stands f.connect of wire) now (closed.stands of wire stood)));
+    })
+
+pub returns-in-Err : goal.returns-in-Err
+returns-in-Err g c =
+    let now = c.self-in-Err.view_is ∙ c.page_again.ensures.same in
+    let closed = c.close-in-Err.ensures in
+    rw (sym c.self.view_is) (record {
+      asks = ap (λ (f : Fetching _). f.asks) now;
+      robots = ap (λ (f : Fetching _). f.robots) now;
+      keeps = ap (λ (f : Fetching _). f.keeps) now;
+      is_recording = ap (λ (f : Fetching _). f.is_recording) now;
+      notes = ap (λ (f : Fetching _). f.notes) now;
+      made = closed.made ∙ ap (λ (f : Fetching _). g.C.Connect.made f.connect) now ∙ c.take.ensures.made;
+      refused = closed.refused ∙ ap (λ (f : Fetching _). g.C.Connect.refused f.connect) now ∙ c.take.ensures.refused;
+      gives = tt;
+      silent = tt;
+      told = tt;
+      stands = λ of wire stood. inl (c.take.ensures.stands of wire (subst (λ (f : Fetching _). g.C.Connect.stands f.connect of wire) now (closed.stands of wire stood)));
+    })

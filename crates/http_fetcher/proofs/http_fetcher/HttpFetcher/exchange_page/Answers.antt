@@ -1,0 +1,67 @@
+-- An answer over a connection that was kept, or else over a new one.
+use Rattle.std.proofs.Common.{◌∙◌, inl, refl, sym, subst, le-add_right, true≢false}
+use Rattle.std.proofs.lemmas.Result.{err_from_is_err_and}
+use Rattle.std.specs.Prelude.{◌≡◌, ◌≤◌, ◌+◌, OnOk}
+use Rattle.response_reader.specs.Wire.{counted}
+use Rattle.response_answer.proofs.DigestLemmas.{if_ok_map}
+use Rattle.http_fetcher.specs.Meanings.{MayAnswer}
+use Rattle.http_fetcher.proofs.ExitLemmas.{none_made}
+use Rattle.http_fetcher.proofs.KeptLemmas.{if_ok_on, stands_twice, told_second}
+use Rattle.http_fetcher.proofs.MeaningLaws.{may_answer, may_answer_anew}
+use Rattle.http_fetcher.proofs.http_fetcher.HttpFetcher.exchange_page.Goals as goal
+
+pub returns-in_err-origin : goal.returns-in_err-origin
+returns-in_err-origin g c =
+    let p = err_from_is_err_and c.from_residual.result c.from_residual.ensures.1 in
+    rw p.1 (record {
+      asks = refl;
+      robots = refl;
+      keeps = refl;
+      is_recording = refl;
+      notes = refl;
+      one = λ none. tt;
+      most = le-add_right _ _;
+      told = tt;
+      stands = λ of wire stood. inl stood;
+      may = tt;
+    })
+
+pub returns-in-Some : goal.returns-in-Some
+returns-in-Some g c =
+    let after = c.in_ok-answer.ensures in
+    let told = rw c.in-Some.is at after.told in
+    record {
+      asks = after.asks;
+      robots = after.robots;
+      keeps = after.keeps;
+      is_recording = after.is_recording;
+      notes = after.notes;
+      one = λ none. absurd (true≢false (sym told.2.2 ∙ none));
+      most = none_made _ _ after.made;
+      told = (told.0, told.1, inl told.2);
+      stands = after.stands;
+      may = (told.0, told.1, may_answer g.C.Connect g.C.Wire.Wire c.args.self.now c.ask_page_again.new.self c.args.at.now told.0 (inl told.2));
+    }
+
+pub returns : goal.returns
+returns g c =
+    let old = c.args.self.now in
+    let before = c.in_ok-answer.ensures in
+    let mid = c.ask_page_again.new.self in
+    let after = c.ask_page_anew.ensures in
+    let new = c.ask_page_anew.new.self in
+    record {
+      asks = after.asks ∙ before.asks;
+      robots = after.robots ∙ before.robots;
+      keeps = after.keeps ∙ before.keeps;
+      is_recording = after.is_recording ∙ before.is_recording;
+      notes = after.notes ∙ before.notes;
+      most = subst (λ n. g.C.Connect.made new.connect ≤ n + 1) before.made after.most;
+      one = λ none. subst (λ n. OnOk c.ask_page_anew.result (g.C.Connect.made new.connect ≡ counted n 1)) before.made after.one;
+      told = if_ok_on c.ask_page_anew.result _ _ _ after.one after.told (λ one a told.
+          (told.0, told.1, told_second g.C.Connect g.C.Wire.Wire old mid new c.args.at.now told.0 before.made before.refused before.robots before.keeps
+          (rw c.in-None.is at before.gives) (rw c.in-None.is at before.silent) after.taken one told.2));
+      stands = stands_twice g.C.Connect g.C.Wire.Wire old mid new c.args.at.now before.robots before.keeps before.stands after.stands;
+      may = if_ok_map c.ask_page_anew.result _ _ after.told (λ a told.
+          (told.0, told.1, subst (λ b. MayAnswer b c.args.at.now told.0.outcome told.0.body) before.robots (may_answer_anew g.C.Connect g.C.Wire.Wire mid new c.args.at.now told.0 told.2)));
+    }

@@ -1,0 +1,9 @@
+//! Bodies that are kept in files of their own until they get their names. Its one idea: what goes on from here is a number, and
+//! only who names files knows paths. What a disk holds isn't proved; that a part has as many bytes as came is.
+#![tactic(auto)]
+
+mod part;
+mod part_keeper;
+
+pub use part::{Part, part_path};
+pub use part_keeper::PartKeeper;

@@ -1,0 +1,25 @@
+//! A body in a file of its own.
+use std::alloc::{AllocError, Global};
+
+/// A body that a worker kept in a file of its own.
+#[derive(Clone, Copy, Debug, PartialEq, Eq)]
+pub struct Part {
+    /// The worker's number.
+    pub worker: u32,
+    /// The number of the file among the worker's.
+    pub number: u32,
+    /// How many bytes came.
+    pub len: u64,
+    /// Whether they stand there.
+    pub is_whole: bool,
+}
+
+/// The path of a part below the directory of a run's parts, whose workers have each their own.
+pub fn part_path(
+    alloc: Global,
+    dir: &str,
+    worker: u32,
+    number: u32,
+) -> Result<String, AllocError> {
+    format!(in alloc; "{dir}/{worker}/.wgetr%part.{number}")
+}

@@ -1,0 +1,197 @@
+//! What keeps bodies in files.
+ghost use Rattle.std.specs.Prelude.{◌≡◌, ◌+◌, ℕ, List, length, OnOk, IfOk, OnErr};
+
+use crate::part::{Part, part_path};
+use kept_bodies::Keeper;
+use std::alloc::{AllocError, Global};
+use std::fs;
+use std::fs::{File, Files};
+use std::io;
+use std::io::{Error, Write};
+use streams::Close;
+
+/// How many bytes of a body stand in memory before it gets a file.
+const BUFFER: usize = 64 * 1024;
+
+/// Keeps the bodies of one worker, each in a file of its own below a directory of a run's parts. A short body is written in one
+/// call once it is whole, so a file is open for long only where a body is long. Where a file can't be written, what comes of its
+/// body is counted and not kept, and the part says so.
+pub struct PartKeeper<'a, R: Files> {
+    rt: &'a R,
+    alloc: Global,
+    dir: &'a str,
+    worker: u32,
+    number: u32,
+    buffer: Vec<u8>,
+    file: Option<R::File>,
+    len: u64,
+    // Why the body that was begun isn't kept.
+    error: Option<Error>,
+}
+
+// By hand: who drops one proves a call, and nothing of what it holds.
+impl<'a, R: Files> Drop for PartKeeper<'a, R> {
+    fn drop(self) {
+        let PartKeeper {
+            rt: _rt,
+            alloc: _alloc,
+            dir: _dir,
+            worker: _worker,
+            number: _number,
+            buffer: _buffer,
+            file: _file,
+            len: _len,
+            error: _error,
+        } = self;
+    }
+}
+
+// Makes the file of a part; the first of a worker makes the directory.
+fn create<R: Files>(
+    rt: &R,
+    alloc: Global,
+    dir: &str,
+    worker: u32,
+    number: u32,
+) -> io::Result<R::File> {
+    if number == 0 {
+        let own = format!(in alloc; "{dir}/{worker}")?;
+        fs::create_dir_all(rt, own.as_str())?;
+    }
+    let path = part_path(alloc, dir, worker, number)?;
+    File::create_new(rt, path.as_str())
+}
+
+impl<'a, R: Files> PartKeeper<'a, R>
+where
+    R::File: Close,
+{
+    /// Keeps the bodies of this worker below this directory. Takes no memory, and makes nothing before a body comes.
+    pub fn new(rt: &'a R, alloc: Global, dir: &'a str, worker: u32) -> PartKeeper<'a, R> {
+        PartKeeper {
+            rt,
+            alloc,
+            dir,
+            worker,
+            number: 0,
+            buffer: Vec::new(alloc),
+            file: None,
+            len: 0,
+            error: None,
+        }
+    }
+
+    /// Why the body that was last finished isn't kept, where it isn't.
+    pub fn error(&self) -> Option<&Error> {
+        self.error.as_ref()
+    }
+
+    // Writes what stands in memory, and then these bytes, into the file of the body, which is made where there is none.
+    fn write(&mut self, bytes: &[u8]) -> io::Result<()>
+        ensures { self.new.len ≡ self.old.len }
+    {
+        let mut file = match self.file.take() {
+            Some(file) => file,
+            None => create(self.rt, self.alloc, self.dir, self.worker, self.number)?,
+        };
+        file.write_all(self.buffer.as_slice())?;
+        self.buffer.clear();
+        file.write_all(bytes)?;
+        self.file = Some(file);
+        Ok(())
+    }
+
+    // Takes away what stands of the body.
+    fn take_away(&mut self)
+        ensures { self.new.len ≡ self.old.len }
+    {
+        self.buffer.clear();
+        self.file = None;
+        if let Ok(path) = part_path(self.alloc, self.dir, self.worker, self.number) {
+            let _ = self.rt.remove_file(path.as_str());
+        }
+    }
+
+    // Keeps these bytes, or nothing of the body any more.
+    fn keep(&mut self, bytes: &[u8])
+        ensures { self.new.len ≡ self.old.len }
+    {
+        if self.error.is_some() {
+            return;
+        }
+        if let Err(error) = self.write(bytes) {
+            self.take_away();
+            self.error = Some(error);
+        }
+    }
+
+    // Closes the file of the body.
+    fn close(&mut self) -> io::Result<()>
+        ensures { self.new.len ≡ self.old.len }
+    {
+        match self.file.take() {
+            Some(file) => file.close(),
+            None => Ok(()),
+        }
+    }
+}
+
+impl<'a, R: Files> Keeper for PartKeeper<'a, R>
+where
+    R::File: Close,
+{
+    type Kept = Part;
+
+    // A part tells how many bytes came.
+    ghost holds = { λ part bytes. length bytes ≡ part.len };
+
+    ghost begun = { λ keeper bytes. length bytes ≡ keeper.len };
+
+    fn begin(&mut self) {
+        if self.file.is_some() {
+            self.take_away();
+        }
+        self.buffer.clear();
+        self.error = None;
+        self.len = 0;
+    }
+
+    fn add(&mut self, piece: &[u8]) -> Result<(), AllocError> {
+        let Some(len) = self.len.checked_add(piece.len() as u64) else {
+            return Err(AllocError);
+        };
+        self.len = len;
+        if self.file.is_none() && self.error.is_none() && len <= BUFFER as u64 {
+            return self.buffer.extend_from_slice(piece);
+        }
+        self.keep(piece);
+        Ok(())
+    }
+
+    fn finish(&mut self) -> Result<Part, AllocError> {
+        self.keep(&[]);
+        if self.error.is_none() {
+            if let Err(error) = self.close() {
+                self.take_away();
+                self.error = Some(error);
+            }
+        }
+        let part = Part {
+            worker: self.worker,
+            number: self.number,
+            len: self.len,
+            is_whole: self.error.is_none(),
+        };
+        self.number = self.number.saturating_add(1);
+        Ok(part)
+    }
+
+    fn empty(&mut self) -> Result<Part, AllocError> {
+        Ok(Part {
+            worker: self.worker,
+            number: self.number,
+            len: 0,
+            is_whole: true,
+        })
+    }
+}

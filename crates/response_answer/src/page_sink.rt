@@ -1,0 +1,175 @@
+//! A sink that digests responses while their bodies arrive and go to a keeper (RFC 9110, section 15).
+ghost use Rattle.std.specs.Prelude.{◌≡◌, ◌⊎◌, ℕ, List, [], ◌++◌, Option, Some, None, true, false, IfOk, OnOk, ⊤};
+ghost use Rattle.response_reader.specs.Fields.{HeadParts};
+ghost use Rattle.response_reader.specs.Passes.{head_parts, AddsPiece};
+ghost use Rattle.response_reader.specs.Refusals.{NotesRefusal};
+ghost use Rattle.response_answer.specs.Digests.{digest_of, kept_body};
+ghost use Rattle.response_answer.specs.Digesting.{IsStageOf, has_head};
+ghost use Rattle.fetcher.specs.declared.outcome.Outcome.TheVariants as outcome;
+ghost use Rattle.response_answer.specs.Sinking.{HasSunk};
+ghost use Rattle.response_answer.specs.inner.HeadKinds.{kind_parts};
+
+use crate::head_kind::HeadKind;
+use crate::stage::Stage;
+use address::Address;
+use fetcher::{Answer, FaultKind, Outcome};
+use kept_bodies::Keeper;
+use response_reader::{Head, Sink};
+use std::alloc::{AllocError, Global};
+use std::marker::Model;
+use std::mem;
+
+/// Takes responses, one after another, and keeps of each what its answer is made of: the links of a page, the target of a
+/// redirect, and, where the status is one of success, the body, which goes to a keeper as it comes. After a refused growth each
+/// later call answers want of memory, until the next response is begun.
+#[derive(Drop)]
+pub struct PageSink<K: Keeper> {
+    alloc: Global,
+    stage: Stage,
+    keeper: K,
+    failed: bool,
+}
+
+impl<K: Keeper> Model for PageSink<K> {
+    ghost use Rattle.response_answer.specs.Sinking.{Sinking};
+
+    ghost Value = { Sinking K };
+
+    ghost view = { λ s. record { stage = s.stage; keeper = s.keeper; failed = s.failed } };
+}
+
+impl<K: Keeper> PageSink<K> {
+    /// Has this keeper keep bodies. Takes no memory; later growth comes from `alloc`.
+    pub fn new(alloc: Global, keeper: K) -> PageSink<K> {
+        PageSink {
+            alloc,
+            stage: Stage::Fresh,
+            keeper,
+            failed: false,
+        }
+    }
+
+    /// Begins a response.
+    pub fn begin(&mut self)
+        ensures { HasSunk K.begun self.new None [] }
+    {
+        self.stage = Stage::Fresh;
+        self.failed = false;
+        self.keeper.begin();
+    }
+
+    // Takes the head.
+    fn take_head(&mut self, head: &Head) -> Result<(), AllocError>
+        ensures stage { OnOk result (IsStageOf (head_parts head.now) [] self.new.stage) }
+        ensures keeper { self.new.keeper ≡ self.old.keeper }
+        ensures failed { self.new.failed ≡ self.old.failed }
+    {
+        let kind = HeadKind {
+            status: head.status,
+            content_type: &head.content_type,
+            coded: head.coded,
+            location: &head.location,
+        };
+        self.stage = Stage::of(self.alloc, &kind)?;
+        Ok(())
+    }
+
+    // Takes a piece of the body.
+    fn take_piece(&mut self, bytes: &[u8]) -> Result<(), AllocError>
+        ensures took { OnOk result ((h : HeadParts) (body : List ℕ) → HasSunk K.begun self.old (Some h) body → HasSunk K.begun self.new (Some h) (body ++ bytes.now)) }
+        ensures failed { self.new.failed ≡ self.old.failed }
+    {
+        self.stage.take(bytes)?;
+        if self.stage.keeps_body() {
+            self.keeper.add(bytes)?;
+        }
+        Ok(())
+    }
+
+    // The body that is kept of the response.
+    fn finish_body(&mut self) -> Result<K::Kept, AllocError>
+        ensures body { IfOk result (λ kept. (h : HeadParts) (body : List ℕ) → HasSunk K.begun self.old (Some h) body → K.holds kept (kept_body h.status body)) }
+        ensures stage { self.new.stage ≡ self.old.stage }
+    {
+        if self.stage.keeps_body() {
+            self.keeper.finish()
+        } else {
+            self.keeper.empty()
+        }
+    }
+
+    /// The answer where no response was read, for this reason. The error is want of memory.
+    pub fn fault(&mut self, kind: FaultKind) -> Result<Answer<K::Kept>, AllocError>
+        ensures outcome { IfOk result (λ a. a.outcome ≡ outcome.Fault kind) }
+        ensures body { IfOk result (λ a. K.holds a.body []) }
+    {
+        let body = self.keeper.empty()?;
+        Ok(Answer {
+            outcome: Outcome::Fault(kind),
+            body,
+        })
+    }
+
+    /// The answer of the response that was taken, for the address that was asked. Where `robots` says so, a page that asks that its
+    /// links aren't followed has no edges. The error is want of memory, now or at an earlier call.
+    pub fn finish(&mut self, at: &Address, robots: bool) -> Result<Answer<K::Kept>, AllocError>
+        requires { (has_head self.old.stage ≡ true) ⊎ (self.old.failed ≡ true) }
+        ensures outcome { IfOk result (λ a. (h : HeadParts) (body : List ℕ) → HasSunk K.begun self.old (Some h) body
+            → a.outcome ≡ digest_of robots at.now (record { head = h; body = body })) }
+        ensures body { IfOk result (λ a. (h : HeadParts) (body : List ℕ) → HasSunk K.begun self.old (Some h) body
+            → K.holds a.body (kept_body h.status body)) }
+        ensures failed { self.old.failed ≡ true → IfOk result (λ _. ⊥) }
+    {
+        if self.failed {
+            return Err(AllocError);
+        }
+        let body = self.finish_body()?;
+        let stage = mem::replace(&mut self.stage, Stage::Fresh);
+        let outcome = stage.outcome(self.alloc, at, robots)?;
+        Ok(Answer { outcome, body })
+    }
+}
+
+impl<K: Keeper> Sink for PageSink<K> {
+    ghost took = { HasSunk K.begun };
+
+    ghost Purpose = { ⊤ };
+
+    ghost purpose = { λ _. tt };
+
+    ghost refused = { λ s. s.failed };
+
+    fn head(&mut self, head: &Head) -> Result<(), AllocError>
+        ensures took { OnOk result (HasSunk K.begun self.old None [] → HasSunk K.begun self.new (Some (head_parts head.now)) []) }
+        ensures refused { NotesRefusal self.old.failed self.new.failed result }
+        ensures failed { self.old.failed ≡ true → IfOk result (λ _. ⊥) }
+    {
+        if self.failed {
+            return Err(AllocError);
+        }
+        match self.take_head(head) {
+            Ok(()) => Ok(()),
+            Err(e) => {
+                self.failed = true;
+                Err(e)
+            }
+        }
+    }
+
+    fn piece(&mut self, bytes: &[u8]) -> Result<(), AllocError>
+        ensures took { OnOk result (AddsPiece (HasSunk K.begun self.old) (HasSunk K.begun self.new) bytes.now) }
+        ensures refused { NotesRefusal self.old.failed self.new.failed result }
+        ensures failed { self.old.failed ≡ true → IfOk result (λ _. ⊥) }
+    {
+        if self.failed {
+            return Err(AllocError);
+        }
+        match self.take_piece(bytes) {
+            Ok(()) => Ok(()),
+            Err(e) => {
+                self.failed = true;
+                Err(e)
+            }
+        }
+    }
+}
