@@ -3,6 +3,7 @@ pub mod TextLemmas
 pub mod PatternLemmas
 pub mod RulesLemmas
 pub mod Meaning
+pub mod EdgeLaws
 pub mod ElementLemmas
 pub mod ClassLemmas
 pub mod PlanLemmas

@@ -15,12 +15,13 @@ use Rattle.follow_filters.specs.declared.plan.Plan.{Plan}
 use Rattle.follow_filters.specs.declared.pattern.Part.{Part}
 use Rattle.follow_filters.specs.declared.rule.Rule.{Rule}
 use Rattle.follow_filters.specs.declared.rule.Rule.TheVariants as rule
+use Rattle.follow_filters.specs.Plans.{starts}
 use Rattle.follow_filters.specs.Texts.{BeginsWith, EndsIn}
 use Rattle.follow_filters.specs.Domains.{IsInDomain, is_in_domain}
 use Rattle.follow_filters.specs.Directories.{IsInDirectory, is_in_directory}
 use Rattle.follow_filters.specs.Exempt.{IsExempt, is_exempt_file}
 use Rattle.follow_filters.specs.Patterns.{MatchesFile, is_file_match, matches_read, read_pattern, is_run, takes}
-use Rattle.follow_filters.specs.Rules.{rules, Meets, Passes, IsFirstUnmet, is_absent, meets, first_unmet, passes_of, verdict_from, verdict_of, keeps_of, keeps_name, KeepsPage, kept_name}
+use Rattle.follow_filters.specs.Rules.{rules, Meets, Passes, is_absent, meets, first_unmet, passes_of, follows_of, Follows, IsFirstUnmetBy, edge_verdict, verdict_from, keeps_of, keeps_name, KeepsPage, kept_name}
 
 -- ---- fronts and backs of texts
 
@@ -97,21 +98,22 @@ where_both true true z p q = (λ yes set h. q.0 yes, λ all. q.1 (all refl (p.0 
 where_both true false z p q = (λ yes set h. let no = p.1 h in cc, λ all. refl)
 where_both false y z p q = (λ yes set h. cc, λ all. refl)
 
-pub meets-Decides : (r : Rule) (plan : Plan) (address : List ℕ) → Decides (meets r plan address) (Meets r plan address)
+pub meets-Decides : (r : Rule) (plan : Plan) (page address : List ℕ) → Decides (meets r plan page address) (Meets r plan page address)
 unfolding meets
-meets-Decides rule.RobotsFile plan address = Decides-not _ (bytes_eq-Decides (path_query_of address) (codes "/robots.txt"))
-meets-Decides rule.Host plan address = unless _ _ (bytes_eq-Decides (host_of address) (host_of plan.start))
-meets-Decides rule.Parent plan address =
-    where_both _ _ _ (bytes_eq-Decides (host_of address) (host_of plan.start)) (starts_with-Decides (dir_of address) (dir_of plan.start))
-meets-Decides rule.Domain plan address =
+meets-Decides rule.RobotsFile plan page address = Decides-not _ (bytes_eq-Decides (path_query_of address) (codes "/robots.txt"))
+meets-Decides rule.Host plan page address = unless _ _ (bytes_eq-Decides (host_of address) (host_of page))
+meets-Decides rule.Parent plan page address =
+    where_both _ _ _ (any-Decides _ _ (λ start. bytes_eq-Decides (host_of address) (host_of start)) (starts plan))
+    (any-Decides _ _ (λ start. Decides-and _ _ (bytes_eq-Decides (host_of address) (host_of start)) (starts_with-Decides (dir_of address) (dir_of start))) (starts plan))
+meets-Decides rule.Domain plan page address =
     unless_fact _ _ (is_absent-Decides plan.domains) (any-Decides _ _ (λ d. is_in_domain-Decides d (host_of address)) plan.domains)
-meets-Decides rule.ExcludedDomain plan address = Decides-not _ (any-Decides _ _ (λ d. is_in_domain-Decides d (host_of address)) plan.exclude_domains)
-meets-Decides rule.NotIncluded plan address =
+meets-Decides rule.ExcludedDomain plan page address = Decides-not _ (any-Decides _ _ (λ d. is_in_domain-Decides d (host_of address)) plan.exclude_domains)
+meets-Decides rule.NotIncluded plan page address =
     unless_fact _ _ (is_absent-Decides plan.include_dirs) (any-Decides _ _ (λ d. is_in_directory-Decides d (dir_of address)) plan.include_dirs)
-meets-Decides rule.Excluded plan address = Decides-not _ (any-Decides _ _ (λ d. is_in_directory-Decides d (dir_of address)) plan.exclude_dirs)
-meets-Decides rule.NotAccepted plan address =
+meets-Decides rule.Excluded plan page address = Decides-not _ (any-Decides _ _ (λ d. is_in_directory-Decides d (dir_of address)) plan.exclude_dirs)
+meets-Decides rule.NotAccepted plan page address =
     unless_facts _ _ _ (is_exempt_file-Decides (file_of address)) (is_absent-Decides plan.accept) (any-Decides _ _ (λ p. is_file_match-Decides p (file_of address)) plan.accept)
-meets-Decides rule.Rejected plan address =
+meets-Decides rule.Rejected plan page address =
     unless_fact _ _ (is_exempt_file-Decides (file_of address)) (Decides-not _ (any-Decides _ _ (λ p. is_file_match-Decides p (file_of address)) plan.reject))
 
 -- ---- all rules
@@ -146,19 +148,23 @@ listed rule.NotAccepted = (omega arith, refl)
 listed rule.Rejected = (omega arith, refl)
 
 -- what each rule of a list says, its tests say together
-all_met : (plan : Plan) (address : List ℕ) (rs : List Rule) → ((r : Rule) → meets r plan address ≡ true) → list_all (λ r. meets r plan address) rs ≡ true
-all_met plan address [] each = refl
-all_met plan address (r ∷ rs) each = and_from _ _ (each r) (all_met plan address rs each)
+all_met : (plan : Plan) (page address : List ℕ) (rs : List Rule) → ((r : Rule) → meets r plan page address ≡ true) → list_all (λ r. meets r plan page address) rs ≡ true
+all_met plan page address [] each = refl
+all_met plan page address (r ∷ rs) each = and_from _ _ (each r) (all_met plan page address rs each)
 
--- the test `passes_of` holds of a text just where it meets each of the nine rules, for every plan: a law for definitions of other
--- crates that take a test
-pub passes_of-is : (plan : Plan) (address : List ℕ) → IsTrue (passes_of plan address) ↔ Passes plan address
-unfolding passes_of
-passes_of-is plan address = (
-  λ yes r. (meets-Decides r plan address).0
-      (subst (λ s. meets s plan address ≡ true) (listed r).1 (passed (λ s. meets s plan address) rules (place r) rule.Rejected (listed r).0 yes)),
-  λ pass. all_met plan address rules (λ r. (meets-Decides r plan address).1 (pass r)),
+-- the test `follows_of` holds of a page and a text just where they meet each of the nine rules, for every plan: a law for definitions
+-- of other crates that take a test
+pub follows_of-is : (plan : Plan) (page address : List ℕ) → IsTrue (follows_of plan page address) ↔ Follows plan page address
+unfolding follows_of
+follows_of-is plan page address = (
+  λ yes r. (meets-Decides r plan page address).0
+      (subst (λ s. meets s plan page address ≡ true) (listed r).1 (passed (λ s. meets s plan page address) rules (place r) rule.Rejected (listed r).0 yes)),
+  λ pass. all_met plan page address rules (λ r. (meets-Decides r plan page address).1 (pass r)),
 )
+
+-- the same of the start's edges
+pub passes_of-is : (plan : Plan) (address : List ℕ) → IsTrue (passes_of plan address) ↔ Passes plan address
+passes_of-is plan address = follows_of-is plan plan.start address
 
 -- ---- the first rule that isn't met
 
@@ -170,9 +176,9 @@ find-list_all q (r ∷ rs) =
     let both : (b : Bool) → P b = elim [ true ↦ find-list_all q rs | false ↦ refl ] in
     both (q r)
 
-pub verdict-passes : (plan : Plan) (address : List ℕ) → is_ok (verdict_of plan address) ≡ passes_of plan address
-unfolding passes_of first_unmet
-verdict-passes plan address = find-list_all (λ r. meets r plan address) rules
+pub verdict-follows : (plan : Plan) (page address : List ℕ) → is_ok (edge_verdict plan page address) ≡ follows_of plan page address
+unfolding follows_of first_unmet
+verdict-follows plan page address = find-list_all (λ r. meets r plan page address) rules
 
 -- what is found first stands behind what passes the test, and fails it
 find-split : (q : Rule → Bool) (rs : List Rule) (u : Rule) → find (λ r. not (q r)) rs ≡ Some u → (before after : List Rule) × (rs ≡ before ++ u ∷ after) × All (λ r. q r ≡ true) before × (q u ≡ false)
@@ -190,22 +196,22 @@ find-split q (r ∷ rs) u found =
     (cases_Bool (q r))
 
 -- what the first unmet rule, or none, says of the rules
-means_from : (plan : Plan) (address : List ℕ) (found : Option Rule) → first_unmet plan address ≡ found → MatchResult (verdict_from found) (λ nothing. Passes plan address) (IsFirstUnmet plan address)
+means_from : (plan : Plan) (page address : List ℕ) (found : Option Rule) → first_unmet plan page address ≡ found → MatchResult (verdict_from found) (λ nothing. Follows plan page address) (IsFirstUnmetBy plan page address)
 unfolding first_unmet
-means_from plan address None none =
-    (passes_of-is plan address).0 (sym (verdict-passes plan address) ∙ ap (λ o. is_ok (verdict_from o)) none)
-means_from plan address (Some unmet) found =
-    let split = find-split (λ r. meets r plan address) rules unmet found in
-    (split.0, split.1, split.2, λ k d below. (meets-Decides (get_or split.0 k d) plan address).0 (split.3 k d below), λ met. let yes = (meets-Decides unmet plan address).1 met in let no = split.4 in cc)
+means_from plan page address None none =
+    (follows_of-is plan page address).0 (sym (verdict-follows plan page address) ∙ ap (λ o. is_ok (verdict_from o)) none)
+means_from plan page address (Some unmet) found =
+    let split = find-split (λ r. meets r plan page address) rules unmet found in
+    (split.0, split.1, split.2, λ k d below. (meets-Decides (get_or split.0 k d) plan page address).0 (split.3 k d below), λ met. let yes = (meets-Decides unmet plan page address).1 met in let no = split.4 in cc)
 
-pub verdict-means : (plan : Plan) (address : List ℕ) → MatchResult (verdict_of plan address) (λ nothing. Passes plan address) (IsFirstUnmet plan address)
-verdict-means plan address = means_from plan address (first_unmet plan address) refl
+pub verdict-means : (plan : Plan) (page address : List ℕ) → MatchResult (edge_verdict plan page address) (λ nothing. Follows plan page address) (IsFirstUnmetBy plan page address)
+verdict-means plan page address = means_from plan page address (first_unmet plan page address) refl
 
 -- what an answer that is the verdict says
-pub told : (plan : Plan) (address : List ℕ) (answer : Result (Unit {0}) Rule) → answer ≡ verdict_of plan address → (is_ok answer ≡ passes_of plan address) × MatchResult answer (λ nothing. Passes plan address) (IsFirstUnmet plan address)
-told plan address answer is = (
-  ap is_ok is ∙ verdict-passes plan address,
-  subst (λ a. MatchResult a (λ nothing. Passes plan address) (IsFirstUnmet plan address)) (sym is) (verdict-means plan address),
+pub told : (plan : Plan) (page address : List ℕ) (answer : Result (Unit {0}) Rule) → answer ≡ edge_verdict plan page address → (is_ok answer ≡ follows_of plan page address) × MatchResult answer (λ nothing. Follows plan page address) (IsFirstUnmetBy plan page address)
+told plan page address answer is = (
+  ap is_ok is ∙ verdict-follows plan page address,
+  subst (λ a. MatchResult a (λ nothing. Follows plan page address) (IsFirstUnmetBy plan page address)) (sym is) (verdict-means plan page address),
 )
 
 -- ---- which pages are kept

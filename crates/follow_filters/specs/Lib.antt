@@ -8,7 +8,7 @@ pub mod ClassValues
 pub mod Classes
 pub mod Patterns
 pub mod Exempt
-pub mod Rules
 pub mod Plans
+pub mod Rules
 pub mod Levels
 pub mod Lists

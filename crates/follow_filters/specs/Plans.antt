@@ -1,9 +1,14 @@
 -- Plans of a retrieval.
-use Rattle.std.specs.Prelude.{◌≡◌, false, []}
+use Rattle.std.specs.Prelude.{◌≡◌, false, ℕ, List, [], ◌∷◌}
 use Rattle.follow_filters.specs.declared.plan.Plan.{Plan}
 
--- the plan has no filters beyond the start's host, robots files aren't honoured, nothing lies beyond the limit, and two requests may be out to an origin
+-- where the retrieval starts
+abbrev pub starts : Plan → List (List ℕ)
+starts plan = plan.start ∷ plan.others
+
+-- the plan has one start, no filters beyond the start's host, robots files aren't honoured, nothing lies beyond the limit, and two requests may be out to an origin
 pub record IsUnfiltered (plan : Plan) : Type 0 where
+  pub others : plan.others ≡ []
   pub span_hosts : plan.span_hosts ≡ false
   pub no_parent : plan.no_parent ≡ false
   pub domains : plan.domains ≡ []

@@ -1,10 +1,11 @@
--- The rules of following: each is a statement on an address and a plan (GNU Wget manual, chapter Following Links).
+-- The rules of following: each is a statement on an edge, that is a page and the address to which it leads, and a plan (GNU Wget manual, chapter Following Links).
 use Rattle.std.specs.Prelude.{◌≡◌, ◌≢◌, ◌↔◌, IsTrue, ℕ, Bool, true, false, not, ◌&&◌, ◌||◌, ◌==◌, length, if◌then◌else◌, List, [], ◌∷◌, ◌++◌, codes, nat_eq, bytes_eq, Option, Some, None, Result, Ok, Err}
 use Rattle.std.specs.List.{All, Any, starts_with, list_any, list_all, find}
 use Rattle.address.specs.Address.{host_of, dir_of, file_of, path_query_of, is_robots_file}
 use Rattle.follow_filters.specs.declared.plan.Plan.{Plan}
 use Rattle.follow_filters.specs.declared.rule.Rule.{Rule}
 use Rattle.follow_filters.specs.declared.rule.Rule.TheVariants as rule
+use Rattle.follow_filters.specs.Plans.{starts}
 use Rattle.follow_filters.specs.Texts.{BeginsWith}
 use Rattle.follow_filters.specs.Domains.{IsInDomain, is_in_domain}
 use Rattle.follow_filters.specs.Directories.{IsInDirectory, is_in_directory}
@@ -19,43 +20,71 @@ rules =
 
 -- ---- what the rules mean
 
--- the address has the host of the plan's start; the port isn't compared
+-- the addresses have one host; the port isn't compared
+abbrev pub HasHostOf : List ℕ → List ℕ → Type 0
+HasHostOf address other = host_of address ≡ host_of other
+
+-- the address is on the start's host, and its directory is the start's or below it
+abbrev pub IsBelow : List ℕ → List ℕ → Type 0
+IsBelow address start = HasHostOf address start × BeginsWith (dir_of address) (dir_of start)
+
+-- a start of the plan has the address's host
 abbrev pub HasStartHost : Plan → List ℕ → Type 0
-HasStartHost plan address = host_of address ≡ host_of plan.start
+HasStartHost plan address = Any (λ start. HasHostOf address start) (starts plan)
 
--- the address's directory is that of the plan's start or below it
+-- the address is below a start of its host
 abbrev pub IsBelowStart : Plan → List ℕ → Type 0
-IsBelowStart plan address = BeginsWith (dir_of address) (dir_of plan.start)
+IsBelowStart plan address = Any (λ start. IsBelow address start) (starts plan)
 
--- the address meets the rule
-abbrev pub Meets : Rule → Plan → List ℕ → Type 0
-Meets rule.RobotsFile plan address = path_query_of address ≢ codes "/robots.txt"
-Meets rule.Host plan address = plan.span_hosts ≡ false → HasStartHost plan address
-Meets rule.Parent plan address = plan.no_parent ≡ true → HasStartHost plan address → IsBelowStart plan address
-Meets rule.Domain plan address = plan.domains ≢ [] → Any (λ d. IsInDomain d (host_of address)) plan.domains
-Meets rule.ExcludedDomain plan address = ¬ Any (λ d. IsInDomain d (host_of address)) plan.exclude_domains
-Meets rule.NotIncluded plan address = plan.include_dirs ≢ [] → Any (λ d. IsInDirectory d (dir_of address)) plan.include_dirs
-Meets rule.Excluded plan address = ¬ Any (λ d. IsInDirectory d (dir_of address)) plan.exclude_dirs
-Meets rule.NotAccepted plan address =
+-- the address, to which an edge of the page leads, meets the rule
+abbrev pub Meets : Rule → Plan → List ℕ → List ℕ → Type 0
+Meets rule.RobotsFile plan page address = path_query_of address ≢ codes "/robots.txt"
+Meets rule.Host plan page address = plan.span_hosts ≡ false → HasHostOf address page
+Meets rule.Parent plan page address = plan.no_parent ≡ true → HasStartHost plan address → IsBelowStart plan address
+Meets rule.Domain plan page address = plan.domains ≢ [] → Any (λ d. IsInDomain d (host_of address)) plan.domains
+Meets rule.ExcludedDomain plan page address = ¬ Any (λ d. IsInDomain d (host_of address)) plan.exclude_domains
+Meets rule.NotIncluded plan page address = plan.include_dirs ≢ [] → Any (λ d. IsInDirectory d (dir_of address)) plan.include_dirs
+Meets rule.Excluded plan page address = ¬ Any (λ d. IsInDirectory d (dir_of address)) plan.exclude_dirs
+Meets rule.NotAccepted plan page address =
     ¬ IsExempt (file_of address) → plan.accept ≢ [] → Any (λ p. MatchesFile p (file_of address)) plan.accept
-Meets rule.Rejected plan address =
+Meets rule.Rejected plan page address =
     ¬ IsExempt (file_of address) → ¬ Any (λ p. MatchesFile p (file_of address)) plan.reject
 
--- the address passes the filters: it meets each rule
-abbrev pub Passes : Plan → List ℕ → Type 0
-Passes plan address = (rule : Rule) → Meets rule plan address
+-- the edge of the page that leads to the address is followed: it meets each rule
+abbrev pub Follows : Plan → List ℕ → List ℕ → Type 0
+Follows plan page address = (rule : Rule) → Meets rule plan page address
 
--- the first rule that the address doesn't meet: it meets those before it
-abbrev pub IsFirstUnmet : Plan → List ℕ → Rule → Type 0
-IsFirstUnmet plan address unmet =
+-- the first rule that the edge doesn't meet: it meets those before it
+abbrev pub IsFirstUnmetBy : Plan → List ℕ → List ℕ → Rule → Type 0
+IsFirstUnmetBy plan page address unmet =
     (before after : List Rule) × (rules ≡ before ++ unmet ∷ after)
-    × All (λ rule. Meets rule plan address) before × (¬ Meets unmet plan address)
+    × All (λ rule. Meets rule plan page address) before × (¬ Meets unmet plan page address)
+
+-- the address passes the filters: an edge of the start is followed to it
+abbrev pub Passes : Plan → List ℕ → Type 0
+Passes plan address = Follows plan plan.start address
+
+-- the first rule that the address doesn't meet, where the start leads to it
+abbrev pub IsFirstUnmet : Plan → List ℕ → Rule → Type 0
+IsFirstUnmet plan address unmet = IsFirstUnmetBy plan plan.start address unmet
 
 -- ---- the same as tests
 
--- the address has the host of the plan's start
+-- the addresses have one host
+abbrev pub has_host_of : List ℕ → List ℕ → Bool
+has_host_of address other = bytes_eq (host_of address) (host_of other)
+
+-- the address is on the start's host, and its directory is the start's or below it
+abbrev pub is_below : List ℕ → List ℕ → Bool
+is_below address start = has_host_of address start && starts_with nat_eq (dir_of address) (dir_of start)
+
+-- a start of the plan has the address's host
 abbrev pub has_start_host : Plan → List ℕ → Bool
-has_start_host plan address = bytes_eq (host_of address) (host_of plan.start)
+has_start_host plan address = list_any (λ start. has_host_of address start) (starts plan)
+
+-- the address is below a start of its host
+abbrev pub is_below_start : Plan → List ℕ → Bool
+is_below_start plan address = list_any (λ start. is_below address start) (starts plan)
 
 -- a domain of the list has the host
 abbrev pub is_in_some_domain : List (List ℕ) → List ℕ → Bool
@@ -74,36 +103,44 @@ abbrev pub is_absent : List (List ℕ) → Bool
 is_absent [] = true
 is_absent (first ∷ others) = false
 
--- the address meets the rule
-unfoldable pub meets : Rule → Plan → List ℕ → Bool
-meets rule.RobotsFile plan address = not (is_robots_file address)
-meets rule.Host plan address = plan.span_hosts || has_start_host plan address
-meets rule.Parent plan address =
-    not plan.no_parent || not (has_start_host plan address) || starts_with nat_eq (dir_of address) (dir_of plan.start)
-meets rule.Domain plan address = is_absent plan.domains || is_in_some_domain plan.domains (host_of address)
-meets rule.ExcludedDomain plan address = not (is_in_some_domain plan.exclude_domains (host_of address))
-meets rule.NotIncluded plan address = is_absent plan.include_dirs || is_in_some_directory plan.include_dirs (dir_of address)
-meets rule.Excluded plan address = not (is_in_some_directory plan.exclude_dirs (dir_of address))
-meets rule.NotAccepted plan address =
+-- the address, to which an edge of the page leads, meets the rule
+unfoldable pub meets : Rule → Plan → List ℕ → List ℕ → Bool
+meets rule.RobotsFile plan page address = not (is_robots_file address)
+meets rule.Host plan page address = plan.span_hosts || has_host_of address page
+meets rule.Parent plan page address =
+    not plan.no_parent || not (has_start_host plan address) || is_below_start plan address
+meets rule.Domain plan page address = is_absent plan.domains || is_in_some_domain plan.domains (host_of address)
+meets rule.ExcludedDomain plan page address = not (is_in_some_domain plan.exclude_domains (host_of address))
+meets rule.NotIncluded plan page address = is_absent plan.include_dirs || is_in_some_directory plan.include_dirs (dir_of address)
+meets rule.Excluded plan page address = not (is_in_some_directory plan.exclude_dirs (dir_of address))
+meets rule.NotAccepted plan page address =
     is_exempt_file (file_of address) || is_absent plan.accept || matches_some plan.accept (file_of address)
-meets rule.Rejected plan address = is_exempt_file (file_of address) || not (matches_some plan.reject (file_of address))
+meets rule.Rejected plan page address = is_exempt_file (file_of address) || not (matches_some plan.reject (file_of address))
 
--- the first rule that the address doesn't meet
-unfoldable pub first_unmet : Plan → List ℕ → Option Rule
-first_unmet plan address = find (λ r. not (meets r plan address)) rules
+-- the first rule that the edge doesn't meet
+unfoldable pub first_unmet : Plan → List ℕ → List ℕ → Option Rule
+first_unmet plan page address = find (λ r. not (meets r plan page address)) rules
+
+-- the edge of the page that leads to the address is followed
+unfoldable pub follows_of : Plan → List ℕ → List ℕ → Bool
+follows_of plan page address = list_all (λ r. meets r plan page address) rules
 
 -- the address passes the filters
-unfoldable pub passes_of : Plan → List ℕ → Bool
-passes_of plan address = list_all (λ r. meets r plan address) rules
+abbrev pub passes_of : Plan → List ℕ → Bool
+passes_of plan address = follows_of plan plan.start address
 
--- nothing where the address passes, else the first rule that it doesn't meet
+-- nothing where the edge is followed, else the first rule that it doesn't meet
 abbrev pub verdict_from : Option Rule → Result (Unit {0}) Rule
 verdict_from None = Ok tt
 verdict_from (Some unmet) = Err unmet
 
+-- what `Plan::follows` answers
+abbrev pub edge_verdict : Plan → List ℕ → List ℕ → Result (Unit {0}) Rule
+edge_verdict plan page address = verdict_from (first_unmet plan page address)
+
 -- what `Plan::passes` answers
 abbrev pub verdict_of : Plan → List ℕ → Result (Unit {0}) Rule
-verdict_of plan address = verdict_from (first_unmet plan address)
+verdict_of plan address = edge_verdict plan plan.start address
 
 -- ---- which pages are kept
 

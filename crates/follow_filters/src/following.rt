@@ -1,4 +1,4 @@
-//! Which addresses a plan lets be followed (GNU Wget manual, chapter Following Links).
+//! Which edges a plan lets be followed (GNU Wget manual, chapter Following Links).
 ghost use Rattle.std.specs.Prelude.{◌≡◌, ◌||◌, not, ℕ, List, nat_eq};
 ghost use Rattle.std.specs.List.{starts_with, list_any};
 ghost use Rattle.follow_filters.specs.Domains.{is_in_domain};
@@ -56,6 +56,39 @@ fn matches_some(patterns: &Elements<Pattern>, file: &str) -> bool
         .any(|pattern| pattern.matches(file))
 }
 
+ghost use Rattle.follow_filters.specs.Rules.{has_host_of, is_below};
+
+// Whether the addresses have one host.
+fn has_host_of(address: &Address, other: &Address) -> bool
+    ensures { result ≡ has_host_of address.now other.now }
+{
+    address.host() == other.host()
+}
+
+// Whether the address is on the start's host, and its directory is the start's or below it.
+fn is_below(address: &Address, start: &Address) -> bool
+    ensures { result ≡ is_below address.now start.now }
+{
+    has_host_of(address, start) && begins(address.dir(), start.dir())
+}
+
+// Whether a start of the list has the address's host.
+fn has_host_of_some(starts: &Elements<Address>, address: &Address) -> bool
+    ensures { result ≡ list_any (λ start. has_host_of address.now start) starts.now }
+{
+    starts
+        .as_slice()
+        .iter()
+        .any(|start| has_host_of(address, start))
+}
+
+// Whether the address is below a start of the list on its host.
+fn is_below_some(starts: &Elements<Address>, address: &Address) -> bool
+    ensures { result ≡ list_any (λ start. is_below address.now start) starts.now }
+{
+    starts.as_slice().iter().any(|start| is_below(address, start))
+}
+
 ghost use Rattle.follow_filters.specs.Rules.{kept_name};
 
 // The name under which a page of this address is kept.
@@ -68,46 +101,53 @@ fn kept_name(address: &Address) -> &str
 
 impl Plan {
     ghost use Rattle.std.specs.Prelude.{◌↔◌, MatchResult, None, IsTrue, find, is_ok};
-    ghost use Rattle.follow_filters.specs.Rules.{meets, first_unmet, verdict_of, passes_of, rules, has_start_host, Passes, IsFirstUnmet, keeps_name, keeps_of, KeepsPage};
+    ghost use Rattle.follow_filters.specs.Rules.{meets, first_unmet, verdict_of, passes_of, edge_verdict, follows_of, rules, has_start_host, is_below_start, Passes, IsFirstUnmet, Follows, IsFirstUnmetBy, keeps_name, keeps_of, KeepsPage};
 
-    // Whether the address has the start's host.
+    // Whether a start has the address's host.
     fn has_start_host(&self, address: &Address) -> bool
         ensures { result ≡ has_start_host self.now address.now }
     {
-        address.host() == self.start.host()
+        has_host_of(address, &self.start) || has_host_of_some(&self.others, address)
+    }
+
+    // Whether the address is below a start of its host.
+    fn is_below_start(&self, address: &Address) -> bool
+        ensures { result ≡ is_below_start self.now address.now }
+    {
+        is_below(address, &self.start) || is_below_some(&self.others, address)
     }
 
     #[tactic(auto, unfolding(crate::specs::Rules::meets))]
-    fn meets_host(&self, address: &Address) -> bool
-        ensures { result ≡ meets Rule.Host self.now address.now }
+    fn meets_host(&self, page: &Address, address: &Address) -> bool
+        ensures { result ≡ meets Rule.Host self.now page.now address.now }
     {
-        self.span_hosts || self.has_start_host(address)
+        self.span_hosts || has_host_of(address, page)
     }
 
     #[tactic(auto, unfolding(crate::specs::Rules::meets))]
     fn meets_parent(&self, address: &Address) -> bool
-        ensures { result ≡ meets Rule.Parent self.now address.now }
+        ensures { (page : List ℕ) → result ≡ meets Rule.Parent self.now page address.now }
     {
-        !self.no_parent || !self.has_start_host(address) || begins(address.dir(), self.start.dir())
+        !self.no_parent || !self.has_start_host(address) || self.is_below_start(address)
     }
 
     #[tactic(auto, unfolding(crate::specs::Rules::meets))]
     fn meets_domains(&self, address: &Address) -> bool
-        ensures { result ≡ meets Rule.Domain self.now address.now }
+        ensures { (page : List ℕ) → result ≡ meets Rule.Domain self.now page address.now }
     {
         self.domains.is_empty() || is_in_some_domain(&self.domains, address.host())
     }
 
     #[tactic(auto, unfolding(crate::specs::Rules::meets))]
     fn meets_included(&self, address: &Address) -> bool
-        ensures { result ≡ meets Rule.NotIncluded self.now address.now }
+        ensures { (page : List ℕ) → result ≡ meets Rule.NotIncluded self.now page address.now }
     {
         self.include_dirs.is_empty() || is_in_some_directory(&self.include_dirs, address.dir())
     }
 
     #[tactic(auto, unfolding(crate::specs::Rules::meets))]
     fn meets_accept(&self, address: &Address) -> bool
-        ensures { result ≡ meets Rule.NotAccepted self.now address.now }
+        ensures { (page : List ℕ) → result ≡ meets Rule.NotAccepted self.now page address.now }
     {
         let file = address.file();
         is_exempt(file) || self.accept.is_empty() || matches_some(&self.accept, file)
@@ -115,20 +155,20 @@ impl Plan {
 
     #[tactic(auto, unfolding(crate::specs::Rules::meets))]
     fn meets_reject(&self, address: &Address) -> bool
-        ensures { result ≡ meets Rule.Rejected self.now address.now }
+        ensures { (page : List ℕ) → result ≡ meets Rule.Rejected self.now page address.now }
     {
         let file = address.file();
         is_exempt(file) || !matches_some(&self.reject, file)
     }
 
-    // Whether the address meets the rule.
+    // Whether the address, to which an edge of the page leads, meets the rule.
     #[tactic(auto, unfolding(crate::specs::Rules::meets))]
-    fn meets(&self, rule: Rule, address: &Address) -> bool
-        ensures { result ≡ meets rule self.now address.now }
+    fn meets(&self, rule: Rule, page: &Address, address: &Address) -> bool
+        ensures { result ≡ meets rule self.now page.now address.now }
     {
         match rule {
             Rule::RobotsFile => !address.is_robots_file(),
-            Rule::Host => self.meets_host(address),
+            Rule::Host => self.meets_host(page, address),
             Rule::Parent => self.meets_parent(address),
             Rule::Domain => self.meets_domains(address),
             Rule::ExcludedDomain => !is_in_some_domain(&self.exclude_domains, address.host()),
@@ -139,30 +179,43 @@ impl Plan {
         }
     }
 
-    // The first rule of the list that the address doesn't meet.
-    fn first_unmet(&self, rules: &[Rule], address: &Address) -> Option<Rule>
-        ensures { result ≡ find (λ r. not (meets r self.now address.now)) rules.now }
+    // The first rule of the list that the edge doesn't meet.
+    fn first_unmet(&self, rules: &[Rule], page: &Address, address: &Address) -> Option<Rule>
+        ensures { result ≡ find (λ r. not (meets r self.now page.now address.now)) rules.now }
     {
         for rule in rules {
-            if !self.meets(*rule, address) {
+            if !self.meets(*rule, page, address) {
                 return Some(*rule);
             }
         }
         None
     }
 
-    /// Whether the address may be followed, or the first rule that it doesn't meet. Takes no memory.
+    /// Whether the edge of a page that leads to the address is followed, or the first rule that it
+    /// doesn't meet. Takes no memory.
     #[tactic(auto, unfolding(crate::specs::Rules::first_unmet))]
+    pub fn follows(&self, page: &Address, address: &Address) -> Result<(), Rule>
+        ensures value { result ≡ edge_verdict self.now page.now address.now }
+        ensures follows { is_ok result ≡ follows_of self.now page.now address.now }
+        ensures means { MatchResult result (λ _. Follows self.now page.now address.now)
+            (IsFirstUnmetBy self.now page.now address.now) }
+    {
+        match self.first_unmet(&RULES, page, address) {
+            Some(rule) => Err(rule),
+            None => Ok(()),
+        }
+    }
+
+    /// Whether the address may be followed from the start, or the first rule that it doesn't meet. Of
+    /// a plan of one start that doesn't span hosts each edge of a page on its host is followed just
+    /// where this answers so. Takes no memory.
     pub fn passes(&self, address: &Address) -> Result<(), Rule>
         ensures value { result ≡ verdict_of self.now address.now }
         ensures passes { is_ok result ≡ passes_of self.now address.now }
         ensures means { MatchResult result (λ _. Passes self.now address.now)
             (IsFirstUnmet self.now address.now) }
     {
-        match self.first_unmet(&RULES, address) {
-            Some(rule) => Err(rule),
-            None => Ok(()),
-        }
+        self.follows(&self.start, address)
     }
 
     /// Whether a page of this address is kept: its file name, or `index.html` where that is empty,

@@ -1,6 +1,7 @@
 //! The plan of a retrieval: where it starts, how far it goes and what it may follow
 //! (GNU Wget manual, chapters Recursive Download and Following Links).
-ghost use Rattle.std.specs.Prelude.{◌≡◌, ◌≤◌, ◌↔◌, true, false, IsTrue, IfOk};
+ghost use Rattle.std.specs.Prelude.{◌≡◌, ◌≤◌, ◌<◌, ◌↔◌, true, false, length, IsTrue, IfOk};
+ghost use Rattle.std.specs.List.{list_any};
 ghost use Rattle.address.specs.Address.{is_robots_file};
 ghost use Rattle.follow_filters.specs.declared.plan.TheConstants.{MAX_URLS, MAX_PER_HOST};
 ghost use Rattle.follow_filters.specs.Limits.{is_in_range};
@@ -24,11 +25,13 @@ pub const MAX_PER_HOST: u32 = 16;
 pub struct Plan {
     /// Where the retrieval starts. It isn't a robots file.
     pub start: Address,
+    /// Where it starts besides, in any order; none is a robots file. One that stands twice counts once.
+    pub others: Elements<Address>,
     /// How many hops are followed, at most 1,000,000 or without limit.
     pub limit: Limit,
-    /// Whether hosts other than the start's are followed.
+    /// Whether edges are followed to hosts other than their page's.
     pub span_hosts: bool,
-    /// Whether directories above the start's are left out.
+    /// Whether on a host with starts directories that aren't below one of theirs are left out.
     pub no_parent: bool,
     /// The domains whose hosts are followed.
     pub domains: Elements<Domain>,
@@ -51,8 +54,10 @@ pub struct Plan {
     /// How many requests may be out to one origin at a time, 1 to 16; its robots file counts.
     pub per_host: u32,
     pub ghost starts_at_page: { is_robots_file start ≡ false },
+    pub ghost starts_at_pages: { list_any is_robots_file others ≡ false },
     pub ghost limit_in_range: { is_in_range limit ≡ true },
     pub ghost some_urls: { 1 ≤ max_urls },
+    pub ghost starts_in_range: { length others < max_urls },
     pub ghost max_urls_in_range: { max_urls ≤ MAX_URLS },
     pub ghost some_per_host: { 1 ≤ per_host },
     pub ghost per_host_in_range: { per_host ≤ MAX_PER_HOST },
@@ -61,7 +66,7 @@ pub struct Plan {
 impl Plan {
     ghost use Rattle.follow_filters.specs.Plans.{IsUnfiltered};
 
-    /// A plan without filters: the start's host is followed but for its robots file, robots files
+    /// A plan of one start without filters: the start's host is followed but for its robots file, robots files
     /// aren't honoured, nothing lies beyond the limit, and two requests may be out to an origin. Takes no memory.
     pub fn unfiltered(alloc: Global, start: Address, limit: Limit, max_urls: u32) -> Plan
         requires page { is_robots_file start ≡ false }
@@ -75,6 +80,7 @@ impl Plan {
     {
         Plan {
             start,
+            others: Elements::none(alloc),
             limit,
             span_hosts: false,
             no_parent: false,
@@ -97,6 +103,7 @@ impl Plan {
     {
         Ok(Plan {
             start: self.start.try_clone()?,
+            others: self.others.clone()?,
             limit: self.limit,
             span_hosts: self.span_hosts,
             no_parent: self.no_parent,

@@ -1,14 +1,14 @@
 //! The rules of following (GNU Wget manual, chapter Following Links).
 
-/// Why an address is not followed. The rules are asked in this order, and the first that the
-/// address does not meet is named.
+/// Why an edge of a page is not followed. The rules are asked in this order, and the first that its
+/// target does not meet is named.
 #[derive(Clone, Copy, PartialEq, Eq, Debug)]
 pub enum Rule {
     /// The path with its query is `/robots.txt`.
     RobotsFile,
-    /// The host isn't the start's, and hosts aren't spanned.
+    /// The host isn't the page's, and hosts aren't spanned.
     Host,
-    /// The directory isn't the start's or below it, and parents aren't followed.
+    /// Starts have the host, the directory is none of theirs nor below one, and parents aren't followed.
     Parent,
     /// No domain of the list of domains has the host.
     Domain,

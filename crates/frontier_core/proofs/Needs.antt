@@ -5,13 +5,14 @@ use Rattle.std.specs.Str.{bytes_eq}
 use Rattle.std.proofs.lemmas.Bool.{false≢true}
 use Rattle.std.proofs.lemmas.Slice.Eq.{bytes_eq-Decides}
 use Rattle.frontier_core.specs.Tables.{Text, lookup}
-use Rattle.frontier_core.specs.Routes.{Policy, IsNeeded}
+use Rattle.frontier_core.specs.Routes.{is_start, Policy, IsNeeded}
 use Rattle.frontier_core.specs.Machine.{State, OriginRules, answers}
 use Rattle.frontier_core.specs.Lines.{IsReplay}
 use Rattle.frontier_core.specs.Invariants.{AreNeeded}
 use Rattle.frontier_core.specs.declared.event.Event.{Event}
 use Rattle.frontier_core.proofs.Kept.{Kept, HasNeed}
 use Rattle.frontier_core.proofs.Runs.{kept_replay}
+use Rattle.frontier_core.proofs.StartLaws.{test_of_start}
 
 not_exempt : (a b : Bool) → (a || not b) ≡ false → (a ≡ false) × (b ≡ true)
 not_exempt true b h = cc
@@ -20,9 +21,9 @@ not_exempt false false h = cc
 
 need_is : (p : Policy) (s : State) (o : Text) → Kept p s → HasNeed p s o → IsNeeded p (answers s) o
 need_is p s o kept (u, n, (e, found, le), off, of) =
-    let both = not_exempt (bytes_eq u p.start) p.robots off in
+    let both = not_exempt (is_start p u) p.robots off in
     let route = (kept.good u e found).route in
-    (both.1, u, (route.0, e.depth, route.1), (λ h. let start : bytes_eq u p.start ≡ true = (bytes_eq-Decides u p.start).1 h in false≢true (sym both.0 ∙ start)), of)
+    (both.1, u, (route.0, e.depth, route.1), (λ among. false≢true (sym both.0 ∙ test_of_start p.starts u among)), of)
 
 pub needed_replay : (p : Policy) (trace : List Event) (s : State) → IsReplay p trace s → AreNeeded p s
 needed_replay p trace s h o some = go (lookup s.origins o) refl some

@@ -13,7 +13,7 @@ use Rattle.frontier_core.proofs.FindLaws.{placed}
 
 -- an edge that stands there, is followed and leads out
 pub stuck_at : (p : Policy) (s : State) (u : Text) (held : Slot) (k : ℕ) (edge : Edge) → lookup s.entries u ≡ Some held → slice_get (edges_at s u) k ≡ Some edge
-    → admits p edge (held.depth + weight edge.kind) ≡ true → lookup s.entries edge.target ≡ None → IsStuck p s held.depth u k
+    → admits p u edge (held.depth + weight edge.kind) ≡ true → lookup s.entries edge.target ≡ None → IsStuck p s held.depth u k
 stuck_at p s u held k edge found has adm none = go held.progress (found) (subst (λ z. slice_get (outcome_edges (slot_outcome z)) k ≡ Some edge) found has)
   where
     go : (q : Progress) → lookup s.entries u ≡ Some (slot held.depth q) → slice_get (outcome_edges (outcome_in q)) k ≡ Some edge → IsStuck p s held.depth u k
@@ -25,7 +25,7 @@ stuck_at p s u held k edge found has adm none = go held.progress (found) (subst 
 
 -- an edge that isn't followed, or whose target is held, doesn't lead out
 pub unstuck : (p : Policy) (s : State) (u : Text) (held : Slot) (k : ℕ) (edge : Edge) → lookup s.entries u ≡ Some held → slice_get (edges_at s u) k ≡ Some edge
-    → (admits p edge (held.depth + weight edge.kind) ≡ true → lookup s.entries edge.target ≡ None → ⊥) → (d : ℕ) → IsStuck p s d u k → ⊥
+    → (admits p u edge (held.depth + weight edge.kind) ≡ true → lookup s.entries edge.target ≡ None → ⊥) → (d : ℕ) → IsStuck p s d u k → ⊥
 unstuck p s u held k edge found has inside d (x, offering, other, at, here, adm, none) =
     let one : Some held ≡ Some (slot d (Answered x offering)) = sym found ∙ at in
     let same : held ≡ slot d (Answered x offering) = cc in
@@ -33,7 +33,7 @@ unstuck p s u held k edge found has inside d (x, offering, other, at, here, adm,
     let there : slice_get (edges x) k ≡ Some edge = subst (λ z. slice_get (outcome_edges (slot_outcome z)) k ≡ Some edge) at has in
     let both : Some other ≡ Some edge = sym here ∙ there in
     let is : other ≡ edge = cc in
-    inside (subst (λ (n : ℕ). admits p edge (n + weight edge.kind) ≡ true) depth (subst (λ (e : Edge). admits p e (d + weight e.kind) ≡ true) is adm))
+    inside (subst (λ (n : ℕ). admits p u edge (n + weight edge.kind) ≡ true) depth (subst (λ (e : Edge). admits p u e (d + weight e.kind) ≡ true) is adm))
     (subst (λ (e : Edge). lookup s.entries e.target ≡ None) is none)
 
 -- an edge that leads out stands among the edges
@@ -60,7 +60,7 @@ stuck_of p s (full, u, d, x, offering, edge, held, (k, lt, is), adm, none) =
         edge,
         subst (λ (w : Text). lookup s.entries w ≡ Some (slot d (Answered x offering))) (sym there.3) held,
         slice_get-get_or (edges x) k edge lt ∙ ap (λ (e : Edge). Some e) is,
-        adm,
+        subst (λ (w : Text). admits p w edge (d + weight edge.kind) ≡ true) (sym there.3) adm,
         none,
       ),
     )

@@ -45,6 +45,7 @@ are_good found =
 -- what an order says, field by field
 pub record Ordered : Type 0 where
   pub start : List ℕ
+  pub others : List (List ℕ)
   pub limit : Limit
   pub span_hosts : Bool
   pub no_parent : Bool
@@ -149,6 +150,7 @@ words_refused = fault.Words InvalidValue
 abbrev pub ordered : List Row → Counts → Limit → (patterns directories domains : List (List ℕ) × List (List ℕ)) → List ℕ → Ordered
 ordered found counts level patterns directories domains start = record {
   start = start;
+  others = [];
   limit = limit_within level found;
   span_hosts = is_set (codes "span-hosts") found;
   no_parent = has_no_parent found;
@@ -197,6 +199,7 @@ order_of words = if are_taken (refusals words) then order_of_rows (rows words) e
 abbrev pub ordered_by : Order → Ordered
 ordered_by order = record {
   start = order.plan.start;
+  others = order.plan.others;
   limit = order.plan.limit;
   span_hosts = order.plan.span_hosts;
   no_parent = order.plan.no_parent;

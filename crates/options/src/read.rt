@@ -326,11 +326,12 @@ fn order_of_matches(alloc: Global, matches: &ArgMatches) -> Result<Order, LineFa
         drop(page);
         return Err(LineFault::Memory);
     };
-    Ok(filled(matches, counts, level, filters, page, paths))
+    Ok(filled(alloc, matches, counts, level, filters, page, paths))
 }
 
 // The order of what was read and of the other options.
 fn filled(
+    alloc: Global,
     matches: &ArgMatches,
     counts: Counts,
     level: Limit,
@@ -354,6 +355,7 @@ fn filled(
     Order {
         plan: Plan {
             start,
+            others: Elements::none(alloc),
             limit: limit_within(matches, level),
             span_hosts: is_set(matches, "span-hosts"),
             no_parent: has_no_parent(matches),

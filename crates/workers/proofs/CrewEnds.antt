@@ -210,7 +210,7 @@ module _ {F B : Type 0} (m : Meaning F B) (plan : Plan) where
     pub never_retrieved : (h : Harvested B) → IsRetrievedBy m plan old new h → HasTooMany (policy plan) whole → ⊥
     never_retrieved h b many = not_too_many (policy plan) h.state whole b.retrieved.complete
         (fits_extend (SomeSays m old new) (SomeRules m old new) whole (answers h.state) (crew_fits m old new whole fit) b.retrieved.told)
-        (sound_replay (policy plan) h.trace h.state plan.some_urls b.retrieved.replay).few many
+        (sound_replay (policy plan) h.trace h.state plan.starts_in_range b.retrieved.replay).few many
 
 -- ---- where there is no memory to bring the notes together
 

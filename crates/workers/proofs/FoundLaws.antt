@@ -134,7 +134,7 @@ pub retrieved_found : {B : Type 0} (may_say : Text → Outcome → B → Type 0)
 retrieved_found may_say may_rule plan asks h are retrieved = (
   answers h.state,
   are_asked may_say may_rule plan asks h.state retrieved.once retrieved.recorded retrieved.complete retrieved.told,
-  are_found plan h are (sound_replay (policy plan) h.trace h.state plan.some_urls retrieved.replay).addresses retrieved.complete,
+  are_found plan h are (sound_replay (policy plan) h.trace h.state plan.starts_in_range retrieved.replay).addresses retrieved.complete,
 )
 
 pub stopped_once : {B : Type 0} (may_say : Text → Outcome → B → Type 0) (may_rule : Text → RuleSetValue → Type 0) (plan : Plan) (asks : List Ask) (cause : Cause) (h : Harvested B)

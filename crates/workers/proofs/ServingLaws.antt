@@ -195,7 +195,7 @@ module _ {B : Type 0} (may_say : Text → Outcome → B → Type 0) (may_rule : 
   crew_part_retrieved t asks notes sets cause h noted all stopped =
       let moved = noted_moved may_say may_rule plan asks notes all.sorted sets all.sorted_sets noted all.moved all.moved_sets in
       part_retrieved may_say may_rule plan t asks (filter_map page_of all.sorted) cause h stopped (at_stop t asks all.sorted all.sorted_sets all.follows all.replay moved all.agrees) all.replay
-      (sound_replay (policy t.plan) t.trace t.state t.plan.some_urls all.replay) (closed_replay (policy t.plan) t.trace t.state all.replay) all.harvest
+      (sound_replay (policy t.plan) t.trace t.state t.plan.starts_in_range all.replay) (closed_replay (policy t.plan) t.trace t.state all.replay) all.harvest
 
   pub crew_bare : (asks : List Ask) (notes : List (PageNote B)) (sets : List RulesNote) (cause : Cause) (h : Harvested B) → AreNoted may_say may_rule plan asks notes sets
       → IsBare notes sets cause h → IsStopped may_say may_rule plan asks cause h

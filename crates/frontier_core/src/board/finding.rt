@@ -12,7 +12,7 @@ ghost use Rattle.frontier_core.specs.Plans.{policy};
 ghost use Rattle.frontier_core.specs.Traced.{HasWaitingPage, HasRules, IsOutTo, IsAskedBy};
 
 use crate::board::Board;
-use crate::following::{admits, weight};
+use crate::following::{admits, is_start, weight};
 use crate::progress::Progress;
 use crate::robots::Robots;
 use address::{Address, Origin};
@@ -88,11 +88,18 @@ impl Board {
         }
     }
 
-    /// Whether an edge to that address is followed where the sum after it is this, and leads out of the table.
-    pub(super) fn leads_out(&self, plan: &Plan, target: &Address, kind: EdgeKind, sum: u32) -> bool
-        ensures { IsTrue result ↔ (IsTrue (admits (policy plan.now) (record { target = target.now; kind = kind }) sum) × (lookup self.now.entries target.now ≡ None)) }
+    /// Whether an edge of the page to that address is followed where the sum after it is this, and leads out of the table.
+    pub(super) fn leads_out(
+        &self,
+        plan: &Plan,
+        page: &Address,
+        target: &Address,
+        kind: EdgeKind,
+        sum: u32,
+    ) -> bool
+        ensures { IsTrue result ↔ (IsTrue (admits (policy plan.now) page.now (record { target = target.now; kind = kind }) sum) × (lookup self.now.entries target.now ≡ None)) }
     {
-        admits(plan, target, kind, sum) && self.find(target).is_none()
+        admits(plan, page, target, kind, sum) && self.find(target).is_none()
     }
 
     /// Whether the address of that number is answered and has an edge that is followed and leads out of the table.
@@ -104,7 +111,7 @@ impl Board {
         let depth = self.depth_at(at);
         for k in 0..self.edge_count(at) {
             let (target, kind) = self.edge_at(at, k);
-            if self.leads_out(plan, target, kind, depth + weight(kind)) {
+            if self.leads_out(plan, self.address_at(at), target, kind, depth + weight(kind)) {
                 return true;
             }
         }
@@ -230,12 +237,12 @@ impl Board {
     }
 
     /// How an address stands that is first found: it waits, or is parked or refused by what is known of its origin's robots
-    /// rules (RFC 9309, section 2.2.2). The start waits, and each address where robots are off.
+    /// rules (RFC 9309, section 2.2.2). A start waits, and each address where robots are off.
     pub(super) fn arrival(&self, plan: &Plan, origin: &Origin, address: &Address) -> Progress
         requires { origin.now ≡ origin_of address.now }
         ensures { result ≡ arrival (policy plan.now) self.now address.now }
     {
-        if !plan.robots || *address == plan.start {
+        if !plan.robots || is_start(plan, address) {
             return Progress::waiting();
         }
         match self.rules_of(origin) {

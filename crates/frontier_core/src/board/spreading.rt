@@ -3,7 +3,7 @@ ghost use Rattle.std.specs.Prelude.{◌≡◌, ◌<◌, ◌≤◌, ◌+◌, ◌^
 ghost use Rattle.fetcher.specs.declared.edge.Edge.{Edge};
 ghost use Rattle.frontier_core.specs.Tables.{lookup};
 ghost use Rattle.frontier_core.specs.Routes.{admits, weight as weight_of};
-ghost use Rattle.frontier_core.specs.Machine.{with_entry, slot, arrival, follow, follow_all, IsDue, IsRunning, Spread, Part, Step};
+ghost use Rattle.frontier_core.specs.Machine.{Slot, Waiting, with_entry, slot, arrival, follow, follow_all, IsDue, IsRunning, Spread, Part, Step};
 ghost use Rattle.frontier_core.specs.Invariants.{IsOverfull, IsStuck};
 ghost use Rattle.frontier_core.specs.inner.TableCalls.{key_numbered, edges_at};
 ghost use Rattle.frontier_core.specs.Plans.{policy};
@@ -11,9 +11,11 @@ ghost use Rattle.frontier_core.specs.Plans.{policy};
 use crate::board::{Board, Followed, SpreadFault};
 use crate::counters::Share;
 use crate::following::{admits, weight};
-use address::Origin;
+use crate::progress::Progress;
+use address::{Address, Origin};
 use depth_labels::LabelFault;
 use follow_filters::Plan;
+use std::alloc::AllocError;
 
 impl Board {
     /// Follows edge k of the page at place `at`, whose label is `depth`.
@@ -29,19 +31,19 @@ impl Board {
         requires sum { depth + 1 < 2 ^ 32 }
         requires few { length self.old.entries ≤ plan.now.max_urls }
         ensures ok { OnOk result ((edge : Edge) × (slice_get (edges_at self.old (key_numbered self.old.entries at)) k ≡ Some edge)
-            × (self.new ≡ follow (policy plan.now) depth self.old edge)) }
+            × (self.new ≡ follow (policy plan.now) (key_numbered self.old.entries at) depth self.old edge)) }
         ensures few { length self.new.entries ≤ plan.now.max_urls }
         ensures err { OnErr result (self.new ≡ self.old) }
         ensures space { result ≡ Err SpreadFault.Memory → length self.old.entries < plan.now.max_urls }
         ensures stuck { OnErr result ((edge : Edge) × (slice_get (edges_at self.old (key_numbered self.old.entries at)) k ≡ Some edge)
-            × IsTrue (admits (policy plan.now) edge (depth + weight_of edge.kind)) × (lookup self.old.entries edge.target ≡ None)) }
+            × IsTrue (admits (policy plan.now) (key_numbered self.old.entries at) edge (depth + weight_of edge.kind)) × (lookup self.old.entries edge.target ≡ None)) }
         ensures full { result ≡ Err SpreadFault.Full → (plan.now.max_urls ≤ length self.old.entries)
             × (edge : Edge) × (slice_get (edges_at self.old (key_numbered self.old.entries at)) k ≡ Some edge)
-            × IsTrue (admits (policy plan.now) edge (depth + weight_of edge.kind)) × (lookup self.old.entries edge.target ≡ None) }
+            × IsTrue (admits (policy plan.now) (key_numbered self.old.entries at) edge (depth + weight_of edge.kind)) × (lookup self.old.entries edge.target ≡ None) }
     {
         let (target, kind) = self.edge_at(at, k);
         let sum = depth + weight(kind);
-        if !admits(plan, target, kind, sum) {
+        if !admits(plan, self.address_at(at), target, kind, sum) {
             return Ok(());
         }
         match self.find(target) {
@@ -53,6 +55,35 @@ impl Board {
             }
             None => self.discover(plan, at, k, sum),
         }
+    }
+
+    /// The start waits at 0 from now on, where it isn't held yet.
+    pub(super) fn hold_start(&mut self, max_urls: u32, start: &Address) -> Result<(), AllocError>
+        requires few { length self.old.entries < max_urls }
+        requires waits { (held : Slot) → lookup self.old.entries start.now ≡ Some held → held ≡ slot 0 Waiting }
+        ensures { OnOk result (self.new ≡ with_entry self.old start.now (slot 0 Waiting)) }
+    {
+        if let Some(_) = self.find(start) {
+            return Ok(());
+        }
+        let Ok(()) = self.entries.reserve(max_urls) else {
+            return Err(AllocError);
+        };
+        let Ok(address) = start.try_clone() else {
+            return Err(AllocError);
+        };
+        let Ok(origin) = Origin::of(start) else {
+            return Err(AllocError);
+        };
+        let progress = Progress::waiting();
+        let alloc = self.entries.allocator();
+        let Ok(()) = self.agenda.add(alloc, origin, progress.task(), 0) else {
+            return Err(AllocError);
+        };
+        let share = progress.share();
+        self.entries.add(address, 0, progress);
+        self.counters.exchange(Share::NONE, share);
+        Ok(())
     }
 
     /// The target of edge k of the page at place `at`, which isn't held, is held from now on, at this depth. Its room is made
@@ -97,7 +128,7 @@ impl Board {
         requires due { IsDue self.old (key_numbered self.old.entries at) depth }
         requires sum { depth + 1 < 2 ^ 32 }
         requires few { length self.old.entries ≤ plan.now.max_urls }
-        ensures state { self.new ≡ follow_all (policy plan.now) depth self.old (take result.edges (edges_at self.old (key_numbered self.old.entries at))) }
+        ensures state { self.new ≡ follow_all (policy plan.now) (key_numbered self.old.entries at) depth self.old (take result.edges (edges_at self.old (key_numbered self.old.entries at))) }
         ensures whole { IfNone result.fault (result.edges ≡ length (edges_at self.old (key_numbered self.old.entries at))) }
         ensures part { IfSome result.fault (λ fault. result.edges < length (edges_at self.old (key_numbered self.old.entries at))) }
         ensures full { result.fault ≡ Some SpreadFault.Full → IsOverfull (policy plan.now) self.new }

@@ -14,7 +14,7 @@ returns-then-leads_out c =
     let edge : Edge = record { target = c.edge_at-kind.result.0.now; kind = c.edge_at-kind.result.1 } in
     let sum = c.weight.ensures in
     let out = c.leads_out.ensures.0 c.if-leads_out.true in
-    let followed : admits (policy c.args.plan.now) edge (held.depth + weight_of edge.kind) ≡ true = rw (← depth, ← sum) out.0 in
+    let followed : admits (policy c.args.plan.now) (key_numbered s.entries c.args.at) edge (held.depth + weight_of edge.kind) ≡ true = rw (← depth, ← sum, ← c.address_at.ensures) out.0 in
     ((λ so. (held.depth, c.loop-k.k, stuck_at (policy c.args.plan.now) s (key_numbered s.entries c.args.at) held c.loop-k.k edge found c.edge_at-kind.ensures followed out.1)), λ so. refl)
 
 pub loop-k-preserved : goal.loop-k-preserved
@@ -25,7 +25,7 @@ loop-k-preserved c =
     let sum = c.weight.ensures in
     below_more _ _ c.loop-k.invariant
     (unstuck (policy c.args.plan.now) s (key_numbered s.entries c.args.at) held c.loop-k.k edge found c.edge_at-kind.ensures
-    (λ followed none. (let out : admits (policy c.args.plan.now) edge (c.depth_at-depth.result + c.weight.result) ≡ true = rw (depth, sum) followed in
+    (λ followed none. (let out : admits (policy c.args.plan.now) c.address_at.result.now edge (c.depth_at-depth.result + c.weight.result) ≡ true = rw (depth, sum, c.address_at.ensures) followed in
     true≢false (sym (c.leads_out.ensures.1 (out, none)) ∙ c.if-leads_out.false))))
 
 pub returns : goal.returns

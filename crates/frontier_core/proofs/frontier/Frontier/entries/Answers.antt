@@ -4,4 +4,4 @@ use Rattle.frontier_core.proofs.frontier.Frontier.entries.Goals as goal
 
 pub returns-clause-once : goal.returns-clause-once
 returns-clause-once c =
-    rw (← c.self.view_is) (sound_replay (policy c.self.inside.plan) c.self.inside.trace.items c.self.inside.board c.self.inside.plan.some_urls c.self.invariant.0).addresses
+    rw (← c.self.view_is) (sound_replay (policy c.self.inside.plan) c.self.inside.trace.items c.self.inside.board c.self.inside.plan.starts_in_range c.self.invariant.0).addresses
