@@ -1,0 +1,6 @@
+pub mod Bytes
+pub mod Escapes
+pub mod Places
+pub mod References
+pub mod Scanning
+pub mod Rewriting

@@ -1,0 +1,82 @@
+-- The references of a style sheet, in its order.
+use Rattle.std.specs.Prelude.{ℕ, List, [], ◌∷◌, ◌++◌}
+use Rattle.std.specs.Str.Lossy.{utf8_lossy}
+use Rattle.css_links.specs.Escapes.{unescaped}
+use Rattle.css_links.specs.Places.{turn}
+use Rattle.css_links.specs.declared.place.Turn.{Turn}
+use Rattle.css_links.specs.declared.place.Turn.TheVariants.{At, Anew, First, With, Refer}
+use Rattle.css_links.specs.declared.place.Part.{Part}
+use Rattle.css_links.specs.declared.place.Part.TheVariants.{Word, Reference, Other, Bare, Bad}
+use Rattle.css_links.specs.declared.place.Place.{Place}
+use Rattle.css_links.specs.declared.place.Place.TheVariants.{Between, Slash, Comment, CommentStar, Import, ImportSlash, ImportComment, ImportCommentStar, Inside, Escaped, UrlBegun, UrlEnded}
+
+-- the front of a sheet: where it ends, the text of the word, string or URL that it ends in, and the references in it
+pub record Front : Type 0 where
+  pub place : Place
+  pub raw : List ℕ
+  pub found : List (List ℕ)
+
+-- that front
+abbrev pub front : Place → List ℕ → List (List ℕ) → Front
+front p r f = record { place = p; raw = r; found = f }
+
+-- a reference that isn't empty
+abbrev pub present : List ℕ → List (List ℕ)
+present [] = []
+present (b ∷ bs) = (b ∷ bs) ∷ []
+
+-- the reference of a text as it is written: its escapes replaced, decoded as UTF-8; an empty one is none
+abbrev pub reference : List ℕ → List (List ℕ)
+reference raw = present (utf8_lossy (unescaped raw))
+
+-- what a byte that does this makes of a front
+abbrev pub turned : Front → ℕ → Turn → Front
+turned s b (At p) = front p s.raw s.found
+turned s b (Anew p) = front p [] s.found
+turned s b (First p) = front p (b ∷ []) s.found
+turned s b (With p) = front p (s.raw ++ b ∷ []) s.found
+turned s b Refer = front Between [] (s.found ++ reference s.raw)
+
+-- the front with one more byte
+abbrev pub step : Front → ℕ → Front
+step s b = turned s b (turn s.place s.raw b)
+
+-- the front of a sheet before its first byte
+abbrev pub nothing_read : Front
+nothing_read = record { place = Between; raw = []; found = [] }
+
+-- a front with these bytes behind it
+abbrev pub fed : Front → List ℕ → Front
+fed s [] = s
+fed s (b ∷ bs) = fed (step s b) bs
+
+-- what the end of the sheet leaves open: a string or URL that is a reference counts (sections 4.3.5 and 4.3.6)
+abbrev pub left_open_in : Part → List ℕ → List (List ℕ)
+left_open_in (Word l) raw = []
+left_open_in (Reference quote) raw = reference raw
+left_open_in (Other quote) raw = []
+left_open_in Bare raw = reference raw
+left_open_in Bad raw = []
+
+-- the reference that the end of the sheet ends
+abbrev pub left_open : Place → List ℕ → List (List ℕ)
+left_open Between raw = []
+left_open Slash raw = []
+left_open Comment raw = []
+left_open CommentStar raw = []
+left_open Import raw = []
+left_open ImportSlash raw = []
+left_open ImportComment raw = []
+left_open ImportCommentStar raw = []
+left_open (Inside part) raw = left_open_in part raw
+left_open (Escaped part escape) raw = left_open_in part raw
+left_open UrlBegun raw = []
+left_open UrlEnded raw = reference raw
+
+-- the references of a sheet of which this is all
+abbrev pub ended : Front → List (List ℕ)
+ended s = s.found ++ left_open s.place s.raw
+
+-- the references of a sheet
+unfoldable pub references : List ℕ → List (List ℕ)
+references sheet = ended (fed nothing_read sheet)

@@ -1,0 +1,23 @@
+//! Want of memory.
+use std::alloc::AllocError;
+use std::error::Error;
+use std::fmt;
+
+/// A growth was refused: there is no memory for what was found, or for the text that is being read.
+#[derive(Clone, Copy, Debug, PartialEq, Eq, Hash)]
+pub struct Memory;
+
+impl fmt::Display for Memory {
+    fn fmt<W: fmt::Write>(&self, f: &mut fmt::Formatter<W>) -> fmt::Result {
+        write!(f, "out of memory")
+    }
+}
+
+impl Error for Memory {}
+
+/// What `?` makes of a refused growth.
+impl From<AllocError> for Memory {
+    fn from(_e: AllocError) -> Memory {
+        Memory
+    }
+}

@@ -1,0 +1,74 @@
+//! Places in a style sheet (CSS Syntax Level 3, section 4.3).
+
+/// What a word stands behind.
+#[derive(Clone, Copy)]
+pub(crate) enum Lead {
+    Nothing,
+    Hash,
+    At,
+}
+
+/// A part of a style sheet in which escapes are read.
+#[derive(Clone, Copy)]
+pub(crate) enum Part {
+    /// A word: a run of name bytes and escapes.
+    Word(Lead),
+    /// A string between such quotes that is a reference.
+    Reference(u8),
+    /// Any other string between such quotes.
+    Other(u8),
+    /// A URL without quotes.
+    Bare,
+    /// What is left of a bad URL.
+    Bad,
+}
+
+/// Where in an escape the next byte stands.
+#[derive(Clone, Copy)]
+pub(crate) enum Escape {
+    /// Behind the backslash.
+    Begun,
+    /// Behind that many hexadecimal digits.
+    Digits(u8),
+    /// Behind a carriage return: a line feed belongs to it.
+    Return,
+}
+
+/// Where in the sheet the next byte stands.
+#[derive(Clone, Copy)]
+pub(crate) enum Place {
+    /// Between words, strings, URLs and comments.
+    Between,
+    /// Behind a `/`.
+    Slash,
+    Comment,
+    /// In a comment, behind `*`.
+    CommentStar,
+    /// Behind `@import`, white and comments.
+    Import,
+    /// There, behind a `/`.
+    ImportSlash,
+    ImportComment,
+    ImportCommentStar,
+    Inside(Part),
+    Escaped(Part, Escape),
+    /// Behind `url(` and white.
+    UrlBegun,
+    /// Behind a URL without quotes and white.
+    UrlEnded,
+}
+
+/// What a byte does in its place.
+#[derive(Clone, Copy)]
+pub(crate) enum Turn {
+    /// It leads to that place.
+    At(Place),
+    /// A text begins behind it.
+    Anew(Place),
+    /// A text begins with it.
+    First(Place),
+    /// The text goes on with it.
+    With(Place),
+    /// It ends the text, which is a reference.
+    Refer,
+}

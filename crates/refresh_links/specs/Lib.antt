@@ -1,0 +1,3 @@
+pub mod Refresh
+pub mod Rewriting
+pub mod Reading

@@ -1,0 +1,132 @@
+//! A machine that reads a source set byte by byte (HTML Standard, section 4.8.4.3.10).
+ghost use Rattle.std.specs.Prelude.{◌≡◌, ◌++◌, ◌∷◌, [], OnOk, IfOk, List, ℕ, length};
+ghost use Rattle.source_sets.specs.Sets.{nothing_read, left_open, ended, reference, references, step, turned, fed};
+ghost use Rattle.source_sets.specs.Reading.{front_of};
+
+use crate::found::Found;
+use crate::place::{Place, Turn, turn_at};
+use std::alloc::{AllocError, Global};
+
+/// How far a set was read: the place, the URL that is being read and the commas behind it, and what was found.
+#[derive(Drop)]
+pub(crate) struct Machine {
+    alloc: Global,
+    pub(crate) place: Place,
+    pub(crate) raw: Vec<u8>,
+    pub(crate) commas: Vec<u8>,
+    found: Vec<Found>,
+}
+
+impl Machine {
+    pub(crate) fn new(alloc: Global) -> Self
+        ensures { front_of result ≡ nothing_read }
+    {
+        Machine {
+            alloc,
+            place: Place::Before,
+            raw: Vec::new(alloc),
+            commas: Vec::new(alloc),
+            found: Vec::new(alloc),
+        }
+    }
+
+    /// Reads the next byte of the set.
+    pub(crate) fn step(&mut self, byte: u8) -> Result<(), AllocError>
+        ensures { OnOk result (front_of self.new ≡ step (front_of self.old) byte) }
+    {
+        self.follow(turn_at(self.place, byte), byte)
+    }
+
+    /// Does what the byte does in its place.
+    pub(crate) fn follow(&mut self, turn: Turn, byte: u8) -> Result<(), AllocError>
+        ensures { OnOk result (front_of self.new ≡ turned (front_of self.old) byte turn) }
+    {
+        match turn {
+            Turn::At(place) => self.go(place),
+            Turn::First => {
+                self.go(Place::Url);
+                self.raw.push(byte)?;
+            },
+            Turn::With => {
+                self.raw.extend_from_slice(&self.commas)?;
+                self.raw.push(byte)?;
+                self.commas.clear();
+                self.place = Place::Url;
+            },
+            Turn::Comma => {
+                self.commas.push(byte)?;
+                self.place = Place::Commas;
+            },
+            Turn::End(place) => {
+                self.note()?;
+                self.go(place);
+            },
+        }
+        Ok(())
+    }
+
+    // Goes to a place with no text.
+    fn go(&mut self, place: Place)
+        ensures place { self.new.place ≡ place }
+        ensures raw { self.new.raw.items ≡ [] }
+        ensures commas { self.new.commas.items ≡ [] }
+        ensures found { self.new.found ≡ self.old.found }
+    {
+        self.raw.clear();
+        self.commas.clear();
+        self.place = place;
+    }
+
+    // Notes the text as a URL.
+    fn note(&mut self) -> Result<(), AllocError>
+        ensures { OnOk result (self.new.found.items ≡ self.old.found.items ++ reference self.old.raw.items ∷ []) }
+    {
+        let text = String::from_utf8_lossy(self.alloc, &self.raw)?;
+        self.found.push(Found { text })?;
+        Ok(())
+    }
+
+    // Notes what the end of the set ends.
+    fn close(&mut self) -> Result<(), AllocError>
+        ensures { OnOk result (self.new.found.items ≡ self.old.found.items ++ left_open self.old.place self.old.raw.items) }
+    {
+        match self.place {
+            Place::Before => Ok(()),
+            Place::Url => self.note(),
+            Place::Commas => self.note(),
+            Place::Descriptors => Ok(()),
+            Place::Parentheses => Ok(()),
+        }
+    }
+
+    // Reads a text.
+    fn feed(&mut self, text: &[u8]) -> Result<(), AllocError>
+        ensures { OnOk result (front_of self.new ≡ fed (front_of self.old) text.now) }
+    {
+        let mut left = text;
+        while let [byte, others @ ..] = left {
+            self.step(*byte)?;
+            left = others;
+        }
+        Ok(())
+    }
+
+    // The URLs of a set of which all was read.
+    fn finish(mut self) -> Result<Vec<Found>, AllocError>
+        ensures { IfOk result (λ found. found.items ≡ ended (front_of self)) }
+    {
+        self.close()?;
+        let Machine { found, .. } = self;
+        Ok(found)
+    }
+}
+
+/// The URLs of a source set, in its order. The error is want of memory.
+#[tactic(auto, unfolding(crate::specs::Sets::references))]
+pub fn scan(alloc: Global, set: &[u8]) -> Result<Vec<Found>, AllocError>
+    ensures { IfOk result (λ found. found.items ≡ references set.now) }
+{
+    let mut machine = Machine::new(alloc);
+    machine.feed(set)?;
+    machine.finish()
+}

@@ -1,0 +1,110 @@
+//! Places in a source set (HTML Standard, section 4.8.4.3.10).
+ghost use Rattle.std.specs.Prelude.{◌≡◌};
+ghost use Rattle.source_sets.specs.Sets.{is_white, turn};
+
+/// Where in the set the next byte stands.
+#[derive(Clone, Copy)]
+pub(crate) enum Place {
+    /// Before a candidate: white and commas.
+    Before,
+    /// In a URL.
+    Url,
+    /// In a URL, behind commas that may end it.
+    Commas,
+    /// In the descriptors of a candidate.
+    Descriptors,
+    /// There, in parentheses.
+    Parentheses,
+}
+
+/// What a byte does in its place.
+#[derive(Clone, Copy)]
+pub(crate) enum Turn {
+    /// It leads to that place, outside of URLs.
+    At(Place),
+    /// A URL begins with it.
+    First,
+    /// The URL goes on with it.
+    With,
+    /// It is a comma that may end the URL.
+    Comma,
+    /// It ends the URL, and leads to that place.
+    End(Place),
+}
+
+pub(crate) fn is_white(byte: u8) -> bool
+    ensures { result ≡ is_white byte }
+{
+    byte == b'\t' || byte == b'\n' || byte == 0x0c || byte == b'\r' || byte == b' '
+}
+
+/// What a byte does in a place.
+pub(crate) fn turn_at(place: Place, byte: u8) -> Turn
+    ensures { result ≡ turn place byte }
+{
+    match place {
+        Place::Before => before(byte),
+        Place::Url => url(byte),
+        Place::Commas => commas(byte),
+        Place::Descriptors => descriptors(byte),
+        Place::Parentheses => parentheses(byte),
+    }
+}
+
+ghost use Rattle.source_sets.specs.Sets as sets;
+
+fn before(byte: u8) -> Turn
+    ensures { result ≡ sets.before byte }
+{
+    if is_white(byte) || byte == b',' {
+        Turn::At(Place::Before)
+    } else {
+        Turn::First
+    }
+}
+
+fn url(byte: u8) -> Turn
+    ensures { result ≡ sets.url byte }
+{
+    if is_white(byte) {
+        Turn::End(Place::Descriptors)
+    } else if byte == b',' {
+        Turn::Comma
+    } else {
+        Turn::With
+    }
+}
+
+fn commas(byte: u8) -> Turn
+    ensures { result ≡ sets.commas byte }
+{
+    if is_white(byte) {
+        Turn::End(Place::Before)
+    } else if byte == b',' {
+        Turn::Comma
+    } else {
+        Turn::With
+    }
+}
+
+fn descriptors(byte: u8) -> Turn
+    ensures { result ≡ sets.descriptors byte }
+{
+    if byte == b',' {
+        Turn::At(Place::Before)
+    } else if byte == b'(' {
+        Turn::At(Place::Parentheses)
+    } else {
+        Turn::At(Place::Descriptors)
+    }
+}
+
+fn parentheses(byte: u8) -> Turn
+    ensures { result ≡ sets.parentheses byte }
+{
+    if byte == b')' {
+        Turn::At(Place::Descriptors)
+    } else {
+        Turn::At(Place::Parentheses)
+    }
+}
