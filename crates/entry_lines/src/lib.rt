@@ -1,0 +1,8 @@
+//! Entries in lines, of which a crash may leave zeros and a torn end: what is read of them is a front of what was written.
+#![tactic(auto)]
+
+mod escapes;
+mod lines;
+
+pub use escapes::{escape, unescape};
+pub use lines::{is_plain, line_of, whole_len};

@@ -1,0 +1,13 @@
+//! The store of a run: an index of entries and files of bodies, over any disk. Whenever it stops, opening it again gives a front of
+//! what was added, with all that was synced, and no name has a body that isn't whole.
+#![tactic(auto)]
+
+mod index;
+mod parts;
+mod recovery;
+mod shared;
+
+pub use index::Index;
+pub use parts::{add, begin, finish, name};
+pub use recovery::recover;
+pub use shared::SharedIndex;
