@@ -10,6 +10,7 @@ pub mod Eachs
 pub mod ComparisonLaws
 pub mod TakerLaws
 pub mod ConclusionLaws
+pub mod FollowedLaws
 pub mod ApartLaws
 pub mod ServingLaws
 pub mod FoundLaws

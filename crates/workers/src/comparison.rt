@@ -1,5 +1,7 @@
 //! The comparison of what the workers noted with what stands in the table.
-ghost use Rattle.std.specs.Prelude.{◌≡◌, ◌↔◌, ℕ, false, List, All, Contains, IsSome, IsTrue, IsPermutation, map};
+ghost use Rattle.std.specs.Prelude.{◌≡◌, ◌↔◌, ◌≤◌, ℕ, false, List, All, Contains, IsSome, IsTrue, IsPermutation, length, map};
+ghost use Rattle.std.specs.List.{filter_map};
+ghost use Rattle.frontier_core.specs.Readers.{record_of};
 ghost use Rattle.frontier_core.specs.Machine.{answers};
 ghost use Rattle.frontier_core.specs.Tables.{Text, IsOnce};
 ghost use Rattle.workers.specs.inner.Apart.{AreInOrder};
@@ -20,6 +22,19 @@ pub fn sort_and_ascend<T: Named>(things: &mut Vec<T>) -> bool
 {
     things.sort_unstable_by(|thing, other| thing.name().cmp(other.name()));
     ascend(things)
+}
+
+/// The same, where there is memory by the sort that keeps runs: notes come worker by worker in order of discovery, and links of
+/// a site mostly ascend, so that few names are compared.
+pub fn order_and_ascend<T: Named>(things: &mut Vec<T>) -> bool
+    ensures permutation { IsPermutation things.old.items things.new.items }
+    ensures ascending { IsTrue result → IsAscending (map T.text_of things.new.items) }
+    ensures once { IsTrue result ↔ IsOnce (map T.text_of things.new.items) }
+{
+    match things.sort_by(|thing, other| thing.name().cmp(other.name())) {
+        Ok(()) => ascend(things),
+        Err(_) => sort_and_ascend(things),
+    }
 }
 
 // Whether each name stands before the next one.
@@ -119,6 +134,49 @@ fn records_are_noted<B>(frontier: &Frontier, notes: &[PageNote<B>]) -> bool
     true
 }
 
+// Whether something was told of each page.
+fn are_told<B>(notes: &[PageNote<B>]) -> bool
+    ensures { IsTrue result → All (λ note. IsSome note.told) notes.now }
+{
+    for note in notes {
+        if note.told.is_none() {
+            return false;
+        }
+    }
+    true
+}
+
+// Whether no more pages are recorded than were noted.
+fn are_no_more<B>(frontier: &Frontier, notes: &[PageNote<B>]) -> bool
+    ensures { IsTrue result → length (filter_map record_of frontier.now.state.entries) ≤ length notes.now }
+{
+    let mut left = notes.len();
+    let mut records = frontier.records();
+    'records: while let Some((_address, _outcome)) = records.next() {
+        if left == 0 {
+            return false;
+        }
+        left -= 1;
+    }
+    true
+}
+
+// Whether what is recorded was noted, in notes that are in address order and stand in the table. Where each note stands for
+// a record of its own, and there are no more records than notes, each record has its note, and none is looked for.
+fn all_are_noted<B>(frontier: &Frontier, notes: &[PageNote<B>]) -> bool
+    requires once { IsOnce (addresses notes.now) }
+    requires stand { All (StandsPage frontier.now.state) notes.now }
+    ensures noted { IsTrue result → (u : Text) → IsSome ((answers frontier.now.state).outcome u) → Contains (addresses notes.now) u }
+    ensures missing { IsAscending (addresses notes.now) → ((u : Text) → IsSome ((answers frontier.now.state).outcome u) → Contains (addresses notes.now) u) → IsTrue result }
+{
+    if are_told(notes) {
+        if are_no_more(frontier, notes) {
+            return true;
+        }
+    }
+    records_are_noted(frontier, notes)
+}
+
 // Whether what is known of origins was noted, in notes that are in origin order.
 fn known_rules_are_noted(frontier: &Frontier, notes: &[RulesNote]) -> bool
     ensures noted { IsTrue result → (o : Text) → IsSome ((answers frontier.now.state).rules o) → Contains (origins notes.now) o }
@@ -133,28 +191,29 @@ fn known_rules_are_noted(frontier: &Frontier, notes: &[RulesNote]) -> bool
     true
 }
 
-/// Whether notes agree with the table. Where they do they are left in the order of addresses and origins. Takes no memory.
+/// Whether notes agree with the table. Where they do they are left in the order of addresses and origins. Takes memory for a while, and does without where there is none.
 pub fn agree<B>(frontier: &Frontier, notes: &mut Notes<B>) -> bool
     ensures pages { IsPermutation notes.old.pages.items notes.new.pages.items }
     ensures rules { IsPermutation notes.old.rules.items notes.new.rules.items }
     ensures order { IsTrue result → AreInOrder notes.new }
     ensures agrees { IsTrue result ↔ Agrees frontier.now.state notes.new.pages.items notes.new.rules.items }
 {
-    let is_once = sort_and_ascend(&mut notes.pages);
-    let is_once_asked = sort_and_ascend(&mut notes.rules);
-    if !is_once {
-        return false;
-    }
-    if !is_once_asked {
-        return false;
-    }
+    // In the order in which they were noted, so that the table is walked nearly in its own.
     if !pages_stand(frontier, &notes.pages) {
         return false;
     }
     if !all_rules_stand(frontier, &notes.rules) {
         return false;
     }
-    if !records_are_noted(frontier, &notes.pages) {
+    let is_once = order_and_ascend(&mut notes.pages);
+    let is_once_asked = order_and_ascend(&mut notes.rules);
+    if !is_once {
+        return false;
+    }
+    if !is_once_asked {
+        return false;
+    }
+    if !all_are_noted(frontier, &notes.pages) {
         return false;
     }
     known_rules_are_noted(frontier, &notes.rules)

@@ -12,7 +12,8 @@ ghost use Rattle.workers.specs.inner.Takers.{AreNotedBy};
 ghost use Rattle.workers.specs.inner.Noted.{page_of};
 
 use crate::comparison::agree;
-use crate::crew_trace::{are_by_crew, are_noted_by};
+use crate::crew_trace::{are_by_crew, are_taken_by};
+use crate::followed::are_followed;
 use crate::note::{Notes, PageNote};
 use crate::retrieval::{Halt, finish};
 use follow_filters::Plan;
@@ -96,10 +97,12 @@ fn kept_pages<B: Drop>(
     if !are_by_crew(frontier.trace(), workers) {
         return Err(Halt::mismatch(alloc));
     }
+    // Before the notes are put in order.
+    let is_followed = are_followed(frontier.trace(), &notes);
     if !agree(frontier, &mut notes) {
         return Err(Halt::mismatch(alloc));
     }
-    if !are_noted_by(frontier.trace(), &notes) {
+    if !are_taken_by(is_followed, frontier.trace(), &notes) {
         return Err(Halt::mismatch(alloc));
     }
     let Notes { pages, rules: _ } = notes;

@@ -88,8 +88,8 @@ fn is_noted_by<B>(event: &Event, notes: &Notes<B>) -> bool
     }
 }
 
-/// Whether by the lines each noted it who took it, in notes that are in the order of addresses and origins. Takes no memory.
-pub fn are_noted_by<B>(trace: &[Event], notes: &Notes<B>) -> bool
+// Whether by the lines each noted it who took it, in notes that are in the order of addresses and origins.
+fn are_noted_by<B>(trace: &[Event], notes: &Notes<B>) -> bool
     requires { AreInOrder notes.now }
     ensures { IsTrue result ↔ AreNotedBy notes.now.pages.items notes.now.rules.items trace.now }
 {
@@ -99,4 +99,17 @@ pub fn are_noted_by<B>(trace: &[Event], notes: &Notes<B>) -> bool
         }
     }
     true
+}
+
+/// Whether by the lines each noted it who took it, in notes that are in the order of addresses and origins. Where it is known
+/// already that it is so, nothing is looked for. Takes no memory.
+pub fn are_taken_by<B>(is_followed: bool, trace: &[Event], notes: &Notes<B>) -> bool
+    requires order { AreInOrder notes.now }
+    requires followed { IsTrue is_followed → AreNotedBy notes.now.pages.items notes.now.rules.items trace.now }
+    ensures { IsTrue result ↔ AreNotedBy notes.now.pages.items notes.now.rules.items trace.now }
+{
+    if is_followed {
+        return true;
+    }
+    are_noted_by(trace, notes)
 }

@@ -17,6 +17,7 @@ mod conclusion;
 mod crew;
 mod crew_retrieval;
 mod crew_trace;
+mod followed;
 mod note;
 mod once;
 mod retrieval;

@@ -1,4 +1,5 @@
 use Rattle.std.proofs.Common.{◌≡◌, ◌∙◌, List, inl, inr, refl, subst, sym}
+use Rattle.std.specs.Prelude.{IsPermutation}
 use Rattle.std.proofs.lemmas.Bool.{false≢true}
 use Rattle.std.proofs.lemmas.List.Sorted.{IsPermutation-map, IsPermutation-sym}
 use Rattle.frontier_core.specs.declared.event.Event.{Event}
@@ -6,6 +7,7 @@ use Rattle.frontier_core.specs.declared.event.Cause.TheVariants as why
 use Rattle.workers.specs.declared.note.PageNote.{PageNote}
 use Rattle.workers.specs.declared.note.RulesNote.{RulesNote}
 use Rattle.workers.specs.OneWorker.{AreByCrew}
+use Rattle.workers.specs.inner.Notes.{addresses, origins}
 use Rattle.workers.specs.inner.Takers.{AreNotedBy}
 use Rattle.workers.proofs.ConclusionLaws.{once_permutation, agrees_moved, not_full}
 use Rattle.workers.proofs.TakerLaws.{all_moved_by}
@@ -57,17 +59,28 @@ returns-then-not-agree g c = record {
   mismatch = λ _. inr (inr (inl (λ agrees. false≢true (c.if-not-agree.ensures.agrees.1 (agrees_moved c.args.frontier.now.state _ _ _ _ c.agree.ensures.pages c.agree.ensures.rules agrees)))));
 }
 
-pub are_noted_by-requires : goal.are_noted_by-requires
-are_noted_by-requires g c = c.if-not-agree.ensures.order refl
+pub are_taken_by-requires : goal.are_taken_by-requires
+are_taken_by-requires g c =
+    let agrees = c.if-not-agree.ensures.agrees.0 refl in
+    let moved : IsPermutation (addresses c.agree.new.notes.pages.items) (addresses c.args.notes.pages.items) =
+    IsPermutation-sym _ _ (IsPermutation-map (λ (note : PageNote g.row.B.Denot). note.address) _ _ c.agree.ensures.pages) in
+    let moved_sets : IsPermutation (origins c.agree.new.notes.rules.items) (origins c.args.notes.rules.items) =
+    IsPermutation-sym _ _ (IsPermutation-map (λ (note : RulesNote). note.origin) _ _ c.agree.ensures.rules) in
+    record {
+      order = c.if-not-agree.ensures.order refl;
+      followed = λ so. all_moved_by _ _ _ _ c.trace-3.result.now c.agree.ensures.pages c.agree.ensures.rules
+          (subst (λ (lines : List Event). AreNotedBy c.args.notes.pages.items c.args.notes.rules.items lines) (c.trace-2.ensures.trace ∙ sym c.trace-3.ensures.trace)
+          (c.are_followed-is_followed.ensures so (once_permutation _ _ moved agrees.once) (once_permutation _ _ moved_sets agrees.once_origins)));
+    }
 
-pub returns-then-not-are_noted_by : goal.returns-then-not-are_noted_by
-returns-then-not-are_noted_by g c = record {
+pub returns-then-not-are_taken_by : goal.returns-then-not-are_taken_by
+returns-then-not-are_taken_by g c = record {
   ok = tt;
-  err = λ other. absurd (other c.mismatch-then-not-are_noted_by.ensures);
-  full = not_full _ c.mismatch-then-not-are_noted_by.ensures;
+  err = λ other. absurd (other c.mismatch-then-not-are_taken_by.ensures);
+  full = not_full _ c.mismatch-then-not-are_taken_by.ensures;
   numbered = tt;
   own = tt;
-  mismatch = λ _. inr (inr (inr (λ noted. false≢true (c.if-not-are_noted_by.ensures.1 (subst (λ (lines : List Event). AreNotedBy c.agree.new.notes.pages.items c.agree.new.notes.rules.items lines) (sym c.trace-2.ensures.trace)
+  mismatch = λ _. inr (inr (inr (λ noted. false≢true (c.if-not-are_taken_by.ensures.1 (subst (λ (lines : List Event). AreNotedBy c.agree.new.notes.pages.items c.agree.new.notes.rules.items lines) (sym c.trace-3.ensures.trace)
       (all_moved_by _ _ _ _ c.args.frontier.now.trace c.agree.ensures.pages c.agree.ensures.rules noted))))));
 }
 
@@ -87,6 +100,6 @@ returns-in-Ok g c = record {
   full = tt;
   numbered = subst (λ (lines : List Event). AreByCrew c.args.workers lines) c.trace.ensures.trace (c.if-not-are_by_crew.ensures.0 refl);
   own = all_moved_by _ _ _ _ c.args.frontier.now.trace (IsPermutation-sym _ _ c.agree.ensures.pages) (IsPermutation-sym _ _ c.agree.ensures.rules)
-      (subst (λ (lines : List Event). AreNotedBy c.agree.new.notes.pages.items c.agree.new.notes.rules.items lines) c.trace-2.ensures.trace (c.if-not-are_noted_by.ensures.0 refl));
+      (subst (λ (lines : List Event). AreNotedBy c.agree.new.notes.pages.items c.agree.new.notes.rules.items lines) c.trace-3.ensures.trace (c.if-not-are_taken_by.ensures.0 refl));
   mismatch = tt;
 }
