@@ -27,18 +27,20 @@ use Rattle.url.proofs.SetLemmas.{outside_pass, passes_from_kept, All_kept_differ
 use Rattle.url.proofs.SetterLemmas.{own_host}
 use Rattle.url.proofs.TextLemmas.{All-concat, All_one, All_part}
 use Rattle.url.proofs.ValidLemmas.{special_has_authority, base_from_authority, hierarchical, segment_list_kept}
-use Rattle.address.specs.Address.{url_text_of, port_text, IsOwnPort, IsAddressByte}
+use Rattle.address.specs.declared.scheme.Scheme.{Scheme}
+use Rattle.address.specs.declared.scheme.Scheme.TheVariants.{Http, Https}
+use Rattle.address.specs.Address.{scheme_text, scheme_in, url_text_of, port_text, IsOwnPort, IsAddressByte}
 use Rattle.address.specs.Layout.{IsHttp}
 use Rattle.address.proofs.UrlLemmas.{http_kind}
 
 -- the http URL of these parts
-abbrev pub http_url : Host (List ℕ) → Option ℕ → List ℕ → Option (List ℕ) → Parts
-http_url host port path query = record { scheme = codes "http"; username = []; password = []; host = Some host; port = port; path = path; query = query; fragment = None }
+abbrev pub http_url : Scheme → Host (List ℕ) → Option ℕ → List ℕ → Option (List ℕ) → Parts
+http_url scheme host port path query = record { scheme = scheme_text scheme; username = []; password = []; host = Some host; port = port; path = path; query = query; fragment = None }
 
 -- a URL is the one of its host, port, path and query
 pub record Normal (url : Parts) : Type 0 where
   pub host : Host (List ℕ)
-  pub same : url ≡ http_url host url.port url.path url.query
+  pub same : url ≡ http_url (scheme_in url) host url.port url.path url.query
   pub named : url.host ≡ Some host
   pub is_host : IsHostOf SpecialNotFile host
 
@@ -65,15 +67,16 @@ port_pieces (Some n) = ap (λ t. 58 ∷ t) (append-nil (decimal n))
 pub authority_text : (url : Parts) → text_between url BeforeHost AfterPort ≡ host_text (host_or_empty url) ++ port_text url.port
 authority_text url = ap (λ t. host_text (host_or_empty url) ++ t) (port_pieces url.port)
 
-pub own_port : (port : Option ℕ) → IsPortOf (codes "http") port → IfSome port IsOwnPort
+pub own_port : (scheme : Scheme) (port : Option ℕ) → IsPortOf (scheme_text scheme) port → IfSome port (IsOwnPort scheme)
 unfolding default_port
-own_port None valid = tt
-own_port (Some n) valid = (valid.0, λ is_80. valid.1 (ap Some (sym is_80)))
+own_port scheme None valid = tt
+own_port Http (Some n) valid = (valid.0, λ is_80. valid.1 (ap Some (sym is_80)))
+own_port Https (Some n) valid = (valid.0, λ is_443. valid.1 (ap Some (sym is_443)))
 
 -- `:` and a port are at most six bytes
-pub short_port : (port : Option ℕ) → IfSome port IsOwnPort → length (port_text port) ≤ 6
-short_port None valid = lit≤ tt
-short_port (Some n) valid = let few = length-decimal-le 5 n (lit< tt) (omega (arith, valid.0)) (omega (arith, valid.0)) in omega arith
+pub short_port : (scheme : Scheme) (port : Option ℕ) → IfSome port (IsOwnPort scheme) → length (port_text port) ≤ 6
+short_port scheme None valid = lit≤ tt
+short_port scheme (Some n) valid = let few = length-decimal-le 5 n (lit< tt) (omega (arith, valid.0)) (omega (arith, valid.0)) in omega arith
 
 -- ---- the bytes of the text
 
@@ -95,20 +98,24 @@ kept_in_host b allowed visible =
 plain_host : (host : Host (List ℕ)) → IsHostOf SpecialNotFile host → All IsAddressByte (host_text host)
 plain_host host = All-host_text IsAddressByte SpecialNotFile host (kept FORBIDDEN_DOMAIN refl) kept_in_host (λ b digit. grind arith) (λ b hex. grind arith) (address_byte 91 refl) (address_byte 93 refl)
 
-plain_port : (port : Option ℕ) → IfSome port IsOwnPort → All IsAddressByte (unwrap_or (option_map decimal port) [])
-plain_port None valid = All-nil IsAddressByte
-plain_port (Some n) valid =
+plain_port : (scheme : Scheme) (port : Option ℕ) → IfSome port (IsOwnPort scheme) → All IsAddressByte (unwrap_or (option_map decimal port) [])
+plain_port scheme None valid = All-nil IsAddressByte
+plain_port scheme (Some n) valid =
     All-from_get_or IsAddressByte (decimal n) 0 (λ i inside. let digit = digits_decimal (numerals_by_value _ tells_by_index) n (omega (arith, valid.0)) i inside in grind arith)
 
 plain_all : (xs : List ℕ) → list_all is_address_byte xs ≡ true → All IsAddressByte xs
 plain_all xs all = All-weaker (Passes is_address_byte) IsAddressByte address_byte xs (All_from_list_all is_address_byte xs all)
 
-pub plain_text : (host : Host (List ℕ)) (port : Option ℕ) (path : List ℕ) (query : Option (List ℕ)) → IsHostOf SpecialNotFile host → IfSome port IsOwnPort → All (IsKept PATH) path → IfSome query (All (IsKept SPECIAL_QUERY)) → All IsAddressByte (url_text_of (http_url host port path query))
+plain_scheme : (scheme : Scheme) → All IsAddressByte (scheme_text scheme)
+plain_scheme Http = plain_all (codes "http") refl
+plain_scheme Https = plain_all (codes "https") refl
+
+pub plain_text : (scheme : Scheme) (host : Host (List ℕ)) (port : Option ℕ) (path : List ℕ) (query : Option (List ℕ)) → IsHostOf SpecialNotFile host → IfSome port (IsOwnPort scheme) → All (IsKept PATH) path → IfSome query (All (IsKept SPECIAL_QUERY)) → All IsAddressByte (url_text_of (http_url scheme host port path query))
 unfolding url_text_of
-plain_text host port path query is_host is_port is_path is_query =
+plain_text scheme host port path query is_host is_port is_path is_query =
     let P = IsAddressByte in
     let none = All-nil P in
-    All-concat P (pieces (http_url host port path query)) (plain_all (codes "http") refl, (plain_all (codes "://") refl, (none, (none, (none, (none, (plain_host host is_host, (All_one P _ 58 (address_byte 58 refl), (plain_port port is_port, (none, (All-weaker (IsKept PATH) P (kept PATH refl) path is_path, (All_one P _ 63 (address_byte 63 refl), (All_part P SPECIAL_QUERY query (kept SPECIAL_QUERY refl) is_query, (none, (none, tt)))))))))))))))
+    All-concat P (pieces (http_url scheme host port path query)) (plain_scheme scheme, (plain_all (codes "://") refl, (none, (none, (none, (none, (plain_host host is_host, (All_one P _ 58 (address_byte 58 refl), (plain_port scheme port is_port, (none, (All-weaker (IsKept PATH) P (kept PATH refl) path is_path, (All_one P _ 63 (address_byte 63 refl), (All_part P SPECIAL_QUERY query (kept SPECIAL_QUERY refl) is_query, (none, (none, tt)))))))))))))))
 
 -- ---- the path and the query
 
@@ -121,8 +128,15 @@ text_split url authority fragment =
 pub authority_is : (url : Parts) → IsHttp url → has_authority url ≡ true
 authority_is url http = special_has_authority url http.valid.head (ap is_special (http_kind url http.scheme))
 
-pub origin_text : (url : Parts) → IsHttp url → text_between url BeforeScheme AfterPort ≡ codes "http://" ++ text_between url BeforeHost AfterPort
-origin_text url http = rw (authority_is url http, http.scheme, http.username, http.password) refl
+pub origin_text : (url : Parts) → IsHttp url → text_between url BeforeScheme AfterPort ≡ scheme_text (scheme_in url) ++ (codes "://" ++ text_between url BeforeHost AfterPort)
+origin_text url http =
+    (rw (authority_is url http, http.username, http.password) refl)
+    ∙ ap (λ s. s ++ (codes "://" ++ text_between url BeforeHost AfterPort)) http.scheme
+
+-- a scheme is at most five bytes
+pub short_scheme : (scheme : Scheme) → length (scheme_text scheme) ≤ 5
+short_scheme Http = lit≤ tt
+short_scheme Https = lit≤ tt
 
 -- the path of such a URL is a list of segments, and not empty
 pub path_list : (url : Parts) → IsHttp url → IsSegmentList SpecialNotFile url.path × (0 < length url.path)

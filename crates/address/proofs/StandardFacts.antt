@@ -5,7 +5,8 @@ use Rattle.std.specs.Prelude.{codes}
 use Rattle.url.proofs.OnLiterals.{url_on_literals}
 use Rattle.address.specs.declared.address.TheConstants.{MAX_ADDRESS, MAX_HOST}
 use Rattle.address.specs.declared.fault.AddressFault.TheVariants.{NotUrl, NotHttp, UserInfo}
-use Rattle.address.specs.Address.{read_address, join_address, address_against, address_of_parsed, address_of, url_text_of, url_of, origin_of, authority_of, host_of, port_of, path_query_of, dir_of, file_of, query_of, is_robots_file}
+use Rattle.address.specs.declared.scheme.Scheme.TheVariants.{Http, Https}
+use Rattle.address.specs.Address.{read_address, read_address_as, join_address, scheme_of, address_against, address_of_parsed, address_of, url_text_of, url_of, origin_of, authority_of, host_of, port_of, path_query_of, dir_of, file_of, query_of, is_robots_file}
 
 limits : (MAX_ADDRESS ≡ 8192) × (MAX_HOST ≡ 255)
 limits = (refl, refl)
@@ -30,8 +31,24 @@ links : (join_address (codes "http://a/b/c/d;p?q") (codes "../g?y#s") ≡ Ok (co
     × (join_address (codes "http://a/b/c/d;p?q") (codes "?y") ≡ Ok (codes "http://a/b/c/d;p?y"))
     × (join_address (codes "http://a/b/c/d;p?q") (codes "") ≡ Ok (codes "http://a/b/c/d;p?q"))
     × (join_address (codes "http://a/b") (codes "https://h/") ≡ Err NotHttp)
-unfolding address_against address_of_parsed address_of url_text_of url_of url_on_literals
+unfolding address_against address_of_parsed address_of url_text_of scheme_of url_of url_on_literals
 links = (refl, refl, refl, refl, refl)
+
+-- as https http is read as https, and so are links of an https address; a port that is https's own is left out
+secure : (read_address_as Https (codes "https://H:443/a#f") ≡ Ok (codes "https://h/a"))
+    × (read_address_as Https (codes "http://h:80/a?b") ≡ Ok (codes "https://h/a?b"))
+    × (read_address_as Https (codes "http://h:443/") ≡ Ok (codes "https://h/"))
+    × (read_address_as Https (codes "http://h:81/") ≡ Ok (codes "https://h:81/"))
+    × (read_address_as Https (codes "https://h:80/") ≡ Ok (codes "https://h:80/"))
+    × (read_address_as Https (codes "ftp://h/") ≡ Err NotHttp)
+    × (read_address_as Https (codes "http://u@h/") ≡ Err UserInfo)
+    × (join_address (codes "https://a/b/c") (codes "../g?y#s") ≡ Ok (codes "https://a/g?y"))
+    × (join_address (codes "https://a/b") (codes "//g") ≡ Ok (codes "https://g/"))
+    × (join_address (codes "https://a/b") (codes "http://h/c") ≡ Ok (codes "https://h/c"))
+    × (origin_of (codes "https://h:81/a") ≡ codes "https://h:81")
+    × (scheme_of (codes "https://h/a") ≡ Https) × (scheme_of (codes "http://h/a") ≡ Http)
+unfolding address_against address_of_parsed address_of url_text_of scheme_of url_of origin_of url_on_literals
+secure = (refl, refl, refl, refl, refl, refl, refl, refl, refl, refl, refl, refl, refl)
 
 parts : (origin_of (codes "http://h:81/a/b.html?u=/c") ≡ codes "http://h:81")
     × (authority_of (codes "http://h:81/a/b.html?u=/c") ≡ codes "h:81")

@@ -1,10 +1,10 @@
-//! Addresses: http URLs without user name, password and fragment (URL Standard, section 4.1).
+//! Addresses: http and https URLs without user name, password and fragment (URL Standard, section 4.1).
 ghost use Rattle.std.specs.Prelude.{◌≡◌, ◌<◌, IsAscii, IfOk, MatchResult, Ok, Err, length, unwrap_or};
 ghost use Rattle.address.specs.declared.fault.AddressFault.TheVariants.{TooLong, Memory};
-ghost use Rattle.address.specs.Address.{Gives, url_text_of, address_of, is_robots_file, IsAddress, IsOrigin, read_address, join_address, origin_of, host_of, port_of, authority_of, dir_of, file_of, path_query_of};
+ghost use Rattle.address.specs.Address.{Gives, url_text_of, address_of, read_as, scheme_of, scheme_port, is_robots_file, IsAddress, IsOrigin, read_address, read_address_as, read_either, join_address, origin_of, host_of, port_of, authority_of, dir_of, file_of, path_query_of};
 ghost use Rattle.address.specs.Layout.{IsHttp};
 
-use crate::{AddressFault, http_url};
+use crate::{AddressFault, Scheme, http_url};
 use std::alloc::{AllocError, Global};
 use std::marker::Model;
 use std::sync::Arc;
@@ -16,7 +16,7 @@ pub const MAX_ADDRESS: usize = 8192;
 /// The most bytes of an address's host. With it, each origin's `/robots.txt` is an address too.
 pub const MAX_HOST: usize = 255;
 
-/// An http URL without user name, password and fragment, of at most [`MAX_ADDRESS`] bytes, its host
+/// An http or https URL without user name, password and fragment, of at most [`MAX_ADDRESS`] bytes, its host
 /// of at most [`MAX_HOST`]. Equality, order and hash are those of its text, by bytes.
 ///
 /// Copies share one URL, so that a copy takes no memory. Threads may share an address.
@@ -57,14 +57,33 @@ impl Address {
         ensures value { Gives result (read_address text.now) }
         ensures long { MAX_ADDRESS < length text.now → result ≡ Err TooLong }
     {
+        Address::read_as(alloc, Scheme::Http, text)
+    }
+
+    /// The same, as a scheme reads it: of http https is refused, of https http is read as https
+    /// (W3C, Upgrade Insecure Requests, section 3.2).
+    pub fn read_as(alloc: Global, scheme: Scheme, text: &str) -> Result<Address, AddressFault>
+        ensures value { Gives result (read_address_as scheme text.now) }
+        ensures long { MAX_ADDRESS < length text.now → result ≡ Err TooLong }
+    {
         if text.len() > MAX_ADDRESS {
             return Err(AddressFault::TooLong);
         }
-        Address::from_url(alloc, Url::parse(alloc, text)?)
+        Address::from_url(alloc, scheme, Url::parse(alloc, text)?)
     }
 
-    /// Reads a URL, as `../a?b`, with this address as its base; a fragment is dropped (URL Standard,
-    /// section 4.4). [`AddressFault`] has the condition of each refusal.
+    /// Reads an absolute URL, http or https, as it is written. [`AddressFault`] has the condition of each refusal.
+    pub fn read_either(alloc: Global, text: &str) -> Result<Address, AddressFault>
+        ensures value { Gives result (read_either text.now) }
+    {
+        match Address::read(alloc, text) {
+            Err(AddressFault::NotHttp) => Address::read_as(alloc, Scheme::Https, text),
+            other => other,
+        }
+    }
+
+    /// Reads a URL, as `../a?b`, with this address as its base and as its scheme reads it; a fragment
+    /// is dropped (URL Standard, section 4.4). [`AddressFault`] has the condition of each refusal.
     pub fn join(&self, link: &str) -> Result<Address, AddressFault>
         ensures value { Gives result (join_address self.now link.now) }
         ensures long { MAX_ADDRESS < length link.now → result ≡ Err TooLong }
@@ -72,13 +91,21 @@ impl Address {
         if link.len() > MAX_ADDRESS {
             return Err(AddressFault::TooLong);
         }
-        Address::from_url(self.alloc, self.url().join(link)?)
+        Address::from_url(self.alloc, self.scheme(), self.url().join(link)?)
     }
 
-    fn from_url(alloc: Global, url: Url) -> Result<Address, AddressFault>
-        ensures { Gives result (address_of url) }
+    // The address of a URL, as a scheme reads it.
+    fn from_url(alloc: Global, scheme: Scheme, url: Url) -> Result<Address, AddressFault>
+        ensures { Gives result (address_of scheme (read_as scheme url)) }
     {
-        if url.scheme() != "http" {
+        Address::of_scheme(alloc, scheme, http_url::read_as(scheme, url)?)
+    }
+
+    // The address of a URL of this scheme.
+    fn of_scheme(alloc: Global, scheme: Scheme, url: Url) -> Result<Address, AddressFault>
+        ensures { Gives result (address_of scheme url) }
+    {
+        if url.scheme() != scheme.as_str() {
             return Err(AddressFault::NotHttp);
         }
         if http_url::has_credentials(&url) {
@@ -143,8 +170,19 @@ impl Address {
         http_url::text(self.url())
     }
 
-    /// Scheme, host and port, as `http://h:81`; the port is left out where it is 80 (URL Standard,
-    /// section 4.7).
+    /// The scheme.
+    pub fn scheme(&self) -> Scheme
+        ensures { result ≡ scheme_of self.now }
+    {
+        if self.url().scheme() == "https" {
+            Scheme::Https
+        } else {
+            Scheme::Http
+        }
+    }
+
+    /// Scheme, host and port, as `http://h:81`; the port is left out where it is the scheme's (URL
+    /// Standard, section 4.7).
     pub fn origin(&self) -> &str
         ensures value { result.now ≡ origin_of self.now }
         ensures ascii { IsAscii result.now }
@@ -162,15 +200,15 @@ impl Address {
         http_url::host(self.url())
     }
 
-    /// The port, 80 where the address names none (RFC 9110, section 4.2.1).
+    /// The port, that of the scheme where the address names none (RFC 9110, sections 4.2.1 and 4.2.2).
     pub fn port(&self) -> u16
-        ensures { result ≡ unwrap_or (port_of self.now) 80 }
+        ensures { result ≡ unwrap_or (port_of self.now) (scheme_port (scheme_of self.now)) }
     {
-        self.url().port().unwrap_or(80)
+        self.url().port().unwrap_or(self.scheme().port())
     }
 
     /// Host and port, as `h:81`: what the Host field of a request holds (RFC 9110, section 7.2). The
-    /// port is left out where it is 80.
+    /// port is left out where it is the scheme's.
     pub fn authority(&self) -> &str
         ensures value { result.now ≡ authority_of self.now }
         ensures ascii { IsAscii result.now }

@@ -15,7 +15,7 @@ pub enum AddressFault {
     /// The URL Standard's parser refuses the text (URL Standard, section 4.4).
     #[error("the text is no URL")]
     NotUrl,
-    /// The scheme isn't `http`.
+    /// The scheme isn't the one that is read.
     #[error("the scheme isn't http")]
     NotHttp,
     /// The URL has a user name or a password that isn't empty.

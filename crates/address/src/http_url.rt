@@ -3,10 +3,30 @@ ghost use Rattle.std.specs.Prelude.{◌≡◌, ◌≤◌, Ok, length, IsAscii};
 ghost use Rattle.url.specs.Host.{host_text};
 ghost use Rattle.url.specs.Parts.{IsValid, has_credentials, host_or_empty};
 ghost use Rattle.url.specs.Parser as parser;
-ghost use Rattle.address.specs.Address.{url_text_of, without_fragment, is_too_long, dir_len};
+ghost use Rattle.address.specs.Address.{url_text_of, upgraded, read_as, without_fragment, is_too_long, dir_len};
 
-use crate::{MAX_ADDRESS, MAX_HOST};
+use crate::{MAX_ADDRESS, MAX_HOST, Scheme};
 use url::{ParseResult, Position, Url};
+
+// A URL as a scheme reads it.
+pub(crate) fn read_as(scheme: Scheme, url: Url) -> ParseResult<Url>
+    ensures { parser.Gives result (Ok (read_as scheme url)) }
+{
+    match scheme {
+        Scheme::Http => Ok(url),
+        Scheme::Https => upgraded(url),
+    }
+}
+
+// The URL with https for http.
+fn upgraded(mut url: Url) -> ParseResult<Url>
+    ensures { parser.Gives result (Ok (upgraded url)) }
+{
+    if url.scheme() == "http" {
+        url.set_scheme("https")?;
+    }
+    Ok(url)
+}
 
 pub(crate) fn without_fragment(mut url: Url) -> ParseResult<Url>
     ensures { parser.Gives result (Ok (without_fragment url)) }

@@ -3,6 +3,7 @@ use crate::asking::Asking;
 use crate::disk::{Disk, Saved};
 use crate::part_threads::PartThreads;
 use crate::shared_failures::SharedFailures;
+use address::Origin;
 use live_system::{HoldFault, System};
 use local_tree::DiskFolder;
 use progress::Progress;
@@ -82,7 +83,13 @@ where
 
     ghost names = { λ network path saved. ⊤ };
 
-    fn fetcher(&self, robots: bool, is_recording: bool, kept: Option<u32>) -> Asking<'a, R> {
+    fn fetcher(
+        &self,
+        robots: bool,
+        is_recording: bool,
+        kept: Option<u32>,
+        proxy: Option<Origin>,
+    ) -> Asking<'a, R> {
         let fetcher = OverTcp::new(
             self.rt,
             self.alloc,
@@ -91,6 +98,7 @@ where
             self.progress,
             robots,
             kept,
+            proxy,
         );
         let pen = Pen::new(self.rt, self.saving);
         Asking {

@@ -1,6 +1,7 @@
 //! What a live run has of the system.
 ghost use Rattle.std.specs.Prelude.{◌≡◌, ℕ, Bool, List, Option, IfOk, Err, ⊤};
 
+use address::Origin;
 use answer_notes::Recording;
 use local_tree::Folder;
 use std::alloc::{AllocError, Global};
@@ -46,8 +47,14 @@ pub trait System {
 
     /// A fetcher for one more worker. Where robots are honoured, a page that asks that its links aren't followed has none. Where
     /// answers aren't to be noted, no memory is taken for notes. Connections are kept where it is said how many to a server may
-    /// stand at a time.
-    fn fetcher(&self, robots: bool, is_recording: bool, kept: Option<u32>) -> Self::Fetcher
+    /// stand at a time. For https addresses the proxy is asked, and without one none is.
+    fn fetcher(
+        &self,
+        robots: bool,
+        is_recording: bool,
+        kept: Option<u32>,
+        proxy: Option<Origin>,
+    ) -> Self::Fetcher
         ensures { makes self.now robots is_recording kept result };
 
     /// The folder at a path. Nothing is made there before the first put. The error is that memory is wanting.

@@ -109,7 +109,13 @@ impl<'a> System for Meetings<'a> {
 
     ghost names = { λ meetings path saved. ⊤ };
 
-    fn fetcher(&self, _robots: bool, _is_recording: bool, _kept: Option<u32>) -> Meeting<'a> {
+    fn fetcher(
+        &self,
+        _robots: bool,
+        _is_recording: bool,
+        _kept: Option<u32>,
+        _proxy: Option<Origin>,
+    ) -> Meeting<'a> {
         Meeting {
             alloc: self.alloc,
             start: self.start,

@@ -911,7 +911,13 @@ impl<'a> System for Stored<'a> {
 
     ghost names = { λ stored path saved. ⊤ };
 
-    fn fetcher(&self, robots: bool, _is_recording: bool, _kept: Option<u32>) -> Asked<'a> {
+    fn fetcher(
+        &self,
+        robots: bool,
+        _is_recording: bool,
+        _kept: Option<u32>,
+        _proxy: Option<Origin>,
+    ) -> Asked<'a> {
         let connect = MemoryConnect::new(self.alloc, self.answers, &[]);
         Asked {
             inner: HttpFetcher::new(self.alloc, connect, robots),

@@ -11,7 +11,7 @@ use Rattle.std.proofs.Math.Seq.{drop-append-add, drop-append_seam}
 use Rattle.std.specs.Fmt.{decimal}
 use Rattle.std.specs.List.{slice_split, flat_map, filter, join_with_byte}
 use Rattle.std.specs.Str.{IsUtf8}
-use Rattle.address.specs.Address.{AddressText, IsAddress, IsAddressByte, authority_of, host_of, port_of, port_text, origin_of, path_query_of, dir_of, file_of, query_of}
+use Rattle.address.specs.Address.{AddressText, IsAddress, IsAddressByte, scheme_text, scheme_of, authority_of, host_of, port_of, port_text, origin_of, path_query_of, dir_of, file_of, query_of}
 use Rattle.local_tree.specs.PlainNames.{slash, is_slash, has_bytes, local_segment, dir_segments, last_segment, segments_of, plain_name_of}
 use Rattle.local_tree.specs.Names.{numbered_name, IsNaming}
 use Rattle.local_tree.specs.LocalNames.{IsInner, StaysInside, IsVisible, IsShort, HasShortSegments}
@@ -84,11 +84,12 @@ parts_visible : (page : AddressText) → IsAddress page → AreVisible page
 parts_visible page is =
     let text : All IsVisible page = All-weaker IsAddressByte IsVisible (λ b at. (at.0, at.1)) page is.plain in
     let halves : All IsVisible (origin_of page ++ path_query_of page) = subst (All IsVisible) is.split text in
-    let origin : All IsVisible (codes "http://" ++ authority_of page) = subst (All IsVisible) is.origin (all_left IsVisible (origin_of page) (path_query_of page) halves) in
+    let front = scheme_text (scheme_of page) in
+    let origin : All IsVisible (front ++ (codes "://" ++ authority_of page)) = subst (All IsVisible) is.origin (all_left IsVisible (origin_of page) (path_query_of page) halves) in
     let path : All IsVisible (dir_of page ++ (file_of page ++ query_of page)) = subst (All IsVisible) is.path_parts (all_right IsVisible (origin_of page) (path_query_of page) halves) in
     let tail : All IsVisible (file_of page ++ query_of page) = all_right IsVisible (dir_of page) (file_of page ++ query_of page) path in
     record {
-      authority = all_right IsVisible (codes "http://") (authority_of page) origin;
+      authority = all_right IsVisible (codes "://") (authority_of page) (all_right IsVisible front (codes "://" ++ authority_of page) origin);
       dir = all_left IsVisible (dir_of page) (file_of page ++ query_of page) path;
       file = all_left IsVisible (file_of page) (query_of page) tail;
       query = all_right IsVisible (file_of page) (query_of page) tail;

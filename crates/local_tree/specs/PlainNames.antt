@@ -46,7 +46,7 @@ file_or_index file = if has_bytes file then file else codes "index.html"
 abbrev pub last_segment : List ℕ → List ℕ → List ℕ
 last_segment file query = file_or_index file ++ without_slashes query
 
--- the segments of a page's name: host and port (the port unless it is 80), the directories, and the last
+-- the segments of a page's name: host and port (the port unless it is the scheme's), the directories, and the last
 unfoldable pub segments_of : AddressText → List (List ℕ)
 segments_of page =
     map local_segment (authority_of page ∷ (dir_segments (dir_of page) ++ last_segment (file_of page) (query_of page) ∷ []))

@@ -1,5 +1,5 @@
 -- The order of what is found for each option, stage by stage.
-use Rattle.std.proofs.Common.{◌≡◌, ◌≢◌, subst, ◌⊎◌, ◌∙◌, ℕ, true, false, List, [], ◌∷◌, Some, None, if◌then◌else◌, refl, sym, ap, inl, inr, ⊎_elim}
+use Rattle.std.proofs.Common.{◌≡◌, ◌≢◌, subst, ◌⊎◌, ◌∙◌, ℕ, true, false, List, [], ◌∷◌, Some, None, if◌then◌else◌, refl, sym, ap, inl, inr, ⊎_elim, Option}
 use Rattle.std.specs.Prelude.{Result, Ok, Err, MatchResult}
 use Rattle.clap.specs.Walk.{Row, Text}
 use Rattle.clap.specs.Words.{IsAmong}
@@ -15,7 +15,7 @@ use Rattle.options.specs.declared.fault.LineFault.TheVariants as fault
 use Rattle.options.specs.Line.{rows, refusals}
 use Rattle.follow_filters.specs.declared.limit.Limit.{Limit}
 use Rattle.options.specs.Given.{level_of}
-use Rattle.options.specs.Order.{Counts, start_of, started_at, are_good, counts_of, patterns_of, directories_of, domains_of, order_of_rows, order_of, are_taken, words_refused, AnswersOrder, without_kind, ordered}
+use Rattle.options.specs.Order.{Counts, proxy_of, start_of, started_at, are_good, counts_of, patterns_of, directories_of, domains_of, order_of_rows, order_of, are_taken, words_refused, AnswersOrder, without_kind, ordered}
 use Rattle.options.specs.inner.Order.{Both, StartsAt, FailsToStart, FailsToFilter, fault_of_kind}
 
 pub starts-at : (found : List Row) (start : List ℕ) → start_of found ≡ Ok start → is_robots_file start ≡ false → StartsAt found start
@@ -50,21 +50,25 @@ pub bad-counts : (found : List Row) → are_good found ≡ true → counts_of fo
 unfolding order_of_rows
 bad-counts found words counts = rw (words, counts) refl
 
-pub bad-level : (found : List Row) (n : Counts) → are_good found ≡ true → counts_of found ≡ Some n → level_of found ≡ None → order_of_rows found ≡ Err fault.Depth
+pub bad-proxy : (found : List Row) (n : Counts) → are_good found ≡ true → counts_of found ≡ Some n → proxy_of found ≡ None → order_of_rows found ≡ Err words_refused
 unfolding order_of_rows
-bad-level found n words counts level = rw (words, counts, level) refl
+bad-proxy found n words counts proxy = rw (words, counts, proxy) refl
 
-pub bad-filters : (found : List Row) (n : Counts) (l : Limit) (why : LineFault) → are_good found ≡ true → counts_of found ≡ Some n → level_of found ≡ Some l → FailsToFilter found why → order_of_rows found ≡ Err why
+pub bad-level : (found : List Row) (n : Counts) (x : Option (List ℕ)) → are_good found ≡ true → counts_of found ≡ Some n → proxy_of found ≡ Some x → level_of found ≡ None → order_of_rows found ≡ Err fault.Depth
 unfolding order_of_rows
-bad-filters found n l why words counts level fails = rw (words, counts, level) (fails.1 _)
+bad-level found n x words counts proxy level = rw (words, counts, proxy, level) refl
 
-pub bad-start : (found : List Row) (n : Counts) (l : Limit) (p d h : List (List ℕ) × List (List ℕ)) (why : LineFault) → are_good found ≡ true → counts_of found ≡ Some n → level_of found ≡ Some l → patterns_of found ≡ Some p → directories_of found ≡ Some d → domains_of found ≡ Some h → FailsToStart found why → order_of_rows found ≡ Err why
+pub bad-filters : (found : List Row) (n : Counts) (x : Option (List ℕ)) (l : Limit) (why : LineFault) → are_good found ≡ true → counts_of found ≡ Some n → proxy_of found ≡ Some x → level_of found ≡ Some l → FailsToFilter found why → order_of_rows found ≡ Err why
 unfolding order_of_rows
-bad-start found n l p d h why words counts level patterns directories domains fails = rw (words, counts, level, patterns, directories, domains) (fails.1 _)
+bad-filters found n x l why words counts proxy level fails = rw (words, counts, proxy, level) (fails.1 _)
 
-pub good-order : (found : List Row) (n : Counts) (l : Limit) (p d h : List (List ℕ) × List (List ℕ)) (start : List ℕ) → are_good found ≡ true → counts_of found ≡ Some n → level_of found ≡ Some l → patterns_of found ≡ Some p → directories_of found ≡ Some d → domains_of found ≡ Some h → StartsAt found start → order_of_rows found ≡ Ok (ordered found n l p d h start)
+pub bad-start : (found : List Row) (n : Counts) (x : Option (List ℕ)) (l : Limit) (p d h : List (List ℕ) × List (List ℕ)) (why : LineFault) → are_good found ≡ true → counts_of found ≡ Some n → proxy_of found ≡ Some x → level_of found ≡ Some l → patterns_of found ≡ Some p → directories_of found ≡ Some d → domains_of found ≡ Some h → FailsToStart found why → order_of_rows found ≡ Err why
 unfolding order_of_rows
-good-order found n l p d h start words counts level patterns directories domains starts = rw (words, counts, level, patterns, directories, domains) (starts _)
+bad-start found n x l p d h why words counts proxy level patterns directories domains fails = rw (words, counts, proxy, level, patterns, directories, domains) (fails.1 _)
+
+pub good-order : (found : List Row) (n : Counts) (x : Option (List ℕ)) (l : Limit) (p d h : List (List ℕ) × List (List ℕ)) (start : List ℕ) → are_good found ≡ true → counts_of found ≡ Some n → proxy_of found ≡ Some x → level_of found ≡ Some l → patterns_of found ≡ Some p → directories_of found ≡ Some d → domains_of found ≡ Some h → StartsAt found start → order_of_rows found ≡ Ok (ordered found n x l p d h start)
+unfolding order_of_rows
+good-order found n x l p d h start words counts proxy level patterns directories domains starts = rw (words, counts, proxy, level, patterns, directories, domains) (starts _)
 
 -- ---- refused words
 

@@ -33,7 +33,7 @@ forms : map forms_of table ≡ (codes "r", codes "recursive", None) ∷ (codes "
     ∷ (codes "D", codes "domains", Some (codes "LIST")) ∷ ([], codes "exclude-domains", Some (codes "LIST")) ∷ (codes "I", codes "include-directories", Some (codes "LIST"))
     ∷ (codes "X", codes "exclude-directories", Some (codes "LIST")) ∷ (codes "A", codes "accept", Some (codes "LIST")) ∷ (codes "R", codes "reject", Some (codes "LIST"))
     ∷ (codes "e", codes "execute", Some (codes "COMMAND")) ∷ ([], codes "workers", Some (codes "N")) ∷ ([], codes "per-host", Some (codes "N"))
-    ∷ ([], codes "no-http-keep-alive", None) ∷ ([], codes "max-urls", Some (codes "N")) ∷ ([], codes "map", None) ∷ ([], codes "record", None) ∷ ([], codes "resume", Some (codes "FILE"))
+    ∷ ([], codes "no-http-keep-alive", None) ∷ ([], codes "https-proxy", Some (codes "URL")) ∷ ([], codes "max-urls", Some (codes "N")) ∷ ([], codes "map", None) ∷ ([], codes "record", None) ∷ ([], codes "resume", Some (codes "FILE"))
     ∷ (codes "P", codes "directory-prefix", Some (codes "DIR")) ∷ ([], codes "trace", None) ∷ ([], codes "save", Some (codes "FILE")) ∷ []
 unfolding table
 forms = refl

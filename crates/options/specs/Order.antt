@@ -4,7 +4,7 @@ use Rattle.std.specs.Option.{option_eq}
 use Rattle.clap.specs.Kinds.{Kinds}
 use Rattle.clap.specs.Walk.{Row, Text, first_of}
 use Rattle.clap.specs.declared.error.ErrorKind.TheVariants.{InvalidValue}
-use Rattle.address.specs.Address.{read_address, is_robots_file}
+use Rattle.address.specs.Address.{read_address, read_either, origin_of, path_query_of, is_robots_file}
 use Rattle.address.specs.declared.fault.AddressFault.{AddressFault}
 use Rattle.follow_filters.specs.declared.limit.Limit.{Limit}
 use Rattle.follow_filters.specs.declared.limit.Limit.TheVariants.{AtMost}
@@ -64,6 +64,7 @@ pub record Ordered : Type 0 where
   pub source : Source
   pub trace : Bool
   pub prefix : List ℕ
+  pub proxy : Option (List ℕ)
   pub resume : Option Text
   pub save : Option Text
 
@@ -103,9 +104,29 @@ counts_of found =
     option_and_then (λ w. option_and_then (λ p. option_map (λ u. record { workers = w; per_host = p; max_urls = u })
     (number_given (codes "max-urls") MAX_URLS DEFAULT_MAX_URLS found)) (number_given (codes "per-host") MAX_PER_HOST DEFAULT_PER_HOST found)) (number_given (codes "workers") MAX_WORKERS DEFAULT_WORKERS found)
 
+-- the origin of an http address that is no more than that
+abbrev pub root_origin : Result (List ℕ) AddressFault → Option (List ℕ)
+root_origin (Err why) = None
+root_origin (Ok address) = if bytes_eq (path_query_of address) (codes "/") then Some (origin_of address) else None
+
+-- the proxy that a value names, where it names one
+unfoldable pub proxy_by : Option Text → Option (Option (List ℕ))
+proxy_by None = Some None
+proxy_by (Some value) = option_map Some (root_origin (read_address value))
+
+-- the proxy that speaks TLS, if one is given
+abbrev pub proxy_of : List Row → Option (Option (List ℕ))
+proxy_of found = proxy_by (first_of (codes "https-proxy") found)
+
+-- a start; https is one where a proxy is given
+abbrev pub read_start : Bool → Text → Result (List ℕ) AddressFault
+read_start false text = read_address text
+read_start true text = read_either text
+
 -- the start, or why it is no address
 unfoldable pub start_of : List Row → Result (List ℕ) AddressFault
-start_of found = read_address (unwrap_or (first_of (codes "start") found) [])
+start_of found =
+    read_start (is_some (first_of (codes "https-proxy") found)) (unwrap_or (first_of (codes "start") found) [])
 
 -- the start, and what follows from it
 abbrev pub started_at : {Y : Type 0} → Result (List ℕ) AddressFault → (List ℕ → Result Y LineFault) → Result Y LineFault
@@ -145,10 +166,10 @@ prefix_of found = folder_of (first_of (codes "directory-prefix") found)
 abbrev pub words_refused : LineFault
 words_refused = fault.Words InvalidValue
 
--- what the options order with these numbers, this level, these lists and this start; without `-r` no link is followed and no robots
+-- what the options order with these numbers, this proxy, this level, these lists and this start; without `-r` no link is followed and no robots
 -- file is honoured
-abbrev pub ordered : List Row → Counts → Limit → (patterns directories domains : List (List ℕ) × List (List ℕ)) → List ℕ → Ordered
-ordered found counts level patterns directories domains start = record {
+abbrev pub ordered : List Row → Counts → Option (List ℕ) → Limit → (patterns directories domains : List (List ℕ) × List (List ℕ)) → List ℕ → Ordered
+ordered found counts proxy level patterns directories domains start = record {
   start = start;
   others = [];
   limit = limit_within level found;
@@ -169,6 +190,7 @@ ordered found counts level patterns directories domains start = record {
   source = source_of found;
   trace = is_set (codes "trace") found;
   prefix = prefix_of found;
+  proxy = proxy;
   resume = first_of (codes "resume") found;
   save = first_of (codes "save") found;
 }
@@ -178,11 +200,12 @@ unfoldable pub order_of_rows : List Row → Result Ordered LineFault
 order_of_rows found =
     if not (are_good found) then Err words_refused
     else found_or (counts_of found) words_refused (λ counts.
+    found_or (proxy_of found) words_refused (λ proxy.
     found_or (level_of found) fault.Depth (λ level.
     found_or (patterns_of found) fault.Pattern (λ patterns.
     found_or (directories_of found) fault.Directory (λ directories.
     found_or (domains_of found) fault.Domain (λ domains.
-    started_at (start_of found) (λ start. Ok (ordered found counts level patterns directories domains start)))))))
+    started_at (start_of found) (λ start. Ok (ordered found counts proxy level patterns directories domains start))))))))
 
 -- words with no kind of refusal are taken
 abbrev pub are_taken : Kinds → Bool
@@ -218,6 +241,7 @@ ordered_by order = record {
   source = order.source;
   trace = order.trace;
   prefix = order.prefix;
+  proxy = order.proxy;
   resume = order.resume;
   save = order.save;
 }

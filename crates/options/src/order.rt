@@ -2,6 +2,7 @@
 ghost use Rattle.std.specs.Prelude.{◌≡◌, ◌<◌, ◌≤◌, IfOk};
 ghost use Rattle.options.specs.declared.order.TheConstants.{MAX_WORKERS};
 
+use address::Origin;
 use follow_filters::Plan;
 use std::alloc::{AllocError, Global};
 use std::marker::Model;
@@ -110,6 +111,8 @@ pub struct Order {
     pub trace: bool,
     /// The folder below which files are put.
     pub prefix: Prefix,
+    /// The proxy that is asked for https addresses.
+    pub proxy: Option<Origin>,
     /// The record whose answers aren't asked for again.
     pub resume: Option<FilePath>,
     /// The record that is written of what was told.
@@ -121,6 +124,16 @@ pub struct Order {
 impl Order {
     ghost use Rattle.std.specs.Prelude.{◌≡◌};
     ghost use Rattle.options.specs.Order.{kept_of};
+
+    /// The proxy that is asked for https addresses. Takes no memory; the error is that 2^63 copies are there.
+    pub fn proxy(&self) -> Result<Option<Origin>, AllocError>
+        ensures { IfOk result (λ proxy. proxy ≡ self.now.proxy) }
+    {
+        match &self.proxy {
+            Some(proxy) => Ok(Some(proxy.try_clone()?)),
+            None => Ok(None),
+        }
+    }
 
     /// How many connections to a server may stand at a time, where they are kept: as many as there are requests to it.
     pub fn kept(&self) -> Option<u32>

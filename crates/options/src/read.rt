@@ -11,7 +11,7 @@ ghost use Rattle.follow_filters.specs.declared.plan.TheConstants.{MAX_PER_HOST, 
 ghost use Rattle.options.specs.declared.order.TheConstants.{MAX_WORKERS};
 ghost use Rattle.follow_filters.specs.declared.limit.Limit.TheVariants.{AtMost};
 ghost use Rattle.options.specs.Given.{level_of, list_of};
-ghost use Rattle.options.specs.Order.{AnswersOrder, order_of, order_of_rows, are_good, is_parent_value, is_robots_value, both, counts_of, patterns_of, directories_of, domains_of, start_of, source_of, has_no_parent, has_robots_off, honours_robots, limit_within, ordered, ordered_by, folder_of, prefix_of};
+ghost use Rattle.options.specs.Order.{AnswersOrder, order_of, order_of_rows, are_good, is_parent_value, is_robots_value, both, counts_of, patterns_of, directories_of, domains_of, start_of, source_of, has_no_parent, has_robots_off, honours_robots, limit_within, ordered, ordered_by, folder_of, prefix_of, proxy_by, proxy_of, read_start, root_origin, words_refused};
 ghost use Rattle.options.specs.inner.Order.{StartsAt, FailsToStart, FailsToFilter, fault_of_kind};
 
 use crate::fault::LineFault;
@@ -21,7 +21,7 @@ use crate::order::{
     DEFAULT_MAX_URLS, DEFAULT_PER_HOST, DEFAULT_WORKERS, FilePath, MAX_WORKERS, Order, Prefix,
     Source,
 };
-use address::{Address, AddressFault};
+use address::{Address, AddressFault, Origin};
 use clap::error::ErrorKind;
 use clap::{ArgMatches, Error};
 use follow_filters::{
@@ -242,7 +242,51 @@ fn start(alloc: Global, matches: &ArgMatches) -> Result<Address, LineFault>
 fn read_start(alloc: Global, matches: &ArgMatches) -> Result<Address, AddressFault>
     ensures { address.Gives result (start_of (rows_of (found_of matches.now))) }
 {
-    Address::read(alloc, given(matches, "start").unwrap_or(""))
+    let text = given(matches, "start").unwrap_or("");
+    read_by(alloc, given(matches, "https-proxy").is_some(), text)
+}
+
+// A start. Https is one where a proxy is given.
+fn read_by(alloc: Global, by_proxy: bool, text: &str) -> Result<Address, AddressFault>
+    ensures { address.Gives result (read_start by_proxy text.now) }
+{
+    if by_proxy {
+        Address::read_either(alloc, text)
+    } else {
+        Address::read(alloc, text)
+    }
+}
+
+// The proxy that a value names, none where there is no value. The fault is that it names none, or want of memory.
+#[tactic(auto, unfolding(crate::specs::Order::proxy_by))]
+fn proxy_by(alloc: Global, value: Option<&str>) -> Result<Option<Origin>, LineFault>
+    ensures { MatchResult result
+        (λ proxy. proxy_by (option_map (λ s. s.now) value.entry) ≡ Some proxy)
+        (λ f. ((f ≡ words_refused) × (proxy_by (option_map (λ s. s.now) value.entry) ≡ None)) ⊎ (f ≡ fault.Memory)) }
+{
+    match value {
+        Some(text) => match Address::read(alloc, text) {
+            Ok(address) => origin_at(&address),
+            Err(AddressFault::Memory) => Err(LineFault::Memory),
+            Err(_) => Err(LineFault::Words(ErrorKind::InvalidValue)),
+        },
+        None => Ok(None),
+    }
+}
+
+// The origin of an address that is no more than that.
+fn origin_at(address: &Address) -> Result<Option<Origin>, LineFault>
+    ensures { MatchResult result
+        (λ proxy. option_map Some (root_origin (Ok address.now)) ≡ Some proxy)
+        (λ f. ((f ≡ words_refused) × (root_origin (Ok address.now) ≡ None)) ⊎ (f ≡ fault.Memory)) }
+{
+    if address.path_query() != "/" {
+        return Err(LineFault::Words(ErrorKind::InvalidValue));
+    }
+    match Origin::of(address) {
+        Ok(origin) => Ok(Some(origin)),
+        Err(_) => Err(LineFault::Memory),
+    }
 }
 
 // The address, unless it is a robots file or why there is none.
@@ -307,26 +351,36 @@ fn order_of_matches(alloc: Global, matches: &ArgMatches) -> Result<Order, LineFa
     let Some(counts) = read_counts(matches) else {
         return Err(LineFault::Words(ErrorKind::InvalidValue));
     };
+    let proxy = match proxy_by(alloc, given(matches, "https-proxy")) {
+        Ok(proxy) => proxy,
+        Err(fault) => return Err(fault),
+    };
     let Some(level) = level(matches) else {
+        drop(proxy);
         return Err(LineFault::Depth);
     };
     let filters = match read_filters(alloc, matches) {
         Ok(filters) => filters,
-        Err(fault) => return Err(fault),
+        Err(fault) => {
+            drop(proxy);
+            return Err(fault);
+        }
     };
     let page = match start(alloc, matches) {
         Ok(page) => page,
         Err(fault) => {
+            drop(proxy);
             drop(filters);
             return Err(fault);
         }
     };
     let Ok(paths) = read_paths(alloc, matches) else {
+        drop(proxy);
         drop(filters);
         drop(page);
         return Err(LineFault::Memory);
     };
-    Ok(filled(alloc, matches, counts, level, filters, page, paths))
+    Ok(filled(alloc, matches, counts, proxy, level, filters, page, paths))
 }
 
 // The order of what was read and of the other options.
@@ -334,6 +388,7 @@ fn filled(
     alloc: Global,
     matches: &ArgMatches,
     counts: Counts,
+    proxy: Option<Origin>,
     level: Limit,
     filters: Filters,
     start: Address,
@@ -345,7 +400,7 @@ fn filled(
     requires resume { paths.resume ≡ first_of (codes "resume") (rows_of (found_of matches.now)) }
     requires save { paths.save ≡ first_of (codes "save") (rows_of (found_of matches.now)) }
     ensures { ordered_by result ≡ ordered (rows_of (found_of matches.now)) (record { workers = counts.workers; per_host = counts.per_host; max_urls = counts.max_urls })
-        level (filters.names.given, filters.names.excluded) (filters.places.given, filters.places.excluded) (filters.hosts.given, filters.hosts.excluded) start }
+        proxy level (filters.names.given, filters.names.excluded) (filters.places.given, filters.places.excluded) (filters.hosts.given, filters.hosts.excluded) start }
 {
     let Filters {
         names,
@@ -375,6 +430,7 @@ fn filled(
         source: source(matches),
         trace: is_set(matches, "trace"),
         prefix: paths.prefix,
+        proxy,
         resume: paths.resume,
         save: paths.save,
     }

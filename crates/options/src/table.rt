@@ -35,7 +35,7 @@ pub(crate) struct Row<T> {
 }
 
 /// The options.
-const TABLE: [Row<&str>; 23] = [
+const TABLE: [Row<&str>; 24] = [
     Row {
         short: "r",
         name: "recursive",
@@ -147,6 +147,13 @@ const TABLE: [Row<&str>; 23] = [
         kind: Kind::Flag,
         heading: "",
         says: "a connection of its own for each request",
+    },
+    Row {
+        short: "",
+        name: "https-proxy",
+        kind: Kind::Value("URL"),
+        heading: "",
+        says: "https by this proxy, as http://127.0.0.1:3128/",
     },
     Row {
         short: "",

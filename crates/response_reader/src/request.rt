@@ -1,13 +1,14 @@
 //! The request for one address (RFC 9112, sections 3 and 9.6).
 ghost use Rattle.std.specs.Prelude.{◌≡◌, ℕ, List, [], codes, ◌++◌, ◌+◌, ◌<◌, ◌≤◌, length, drop, IsTrue, IfOk, OnOk, OnErr};
 ghost use Rattle.std.specs.Io.KnownBytes.{Appends, Keeps};
-ghost use Rattle.response_reader.specs.Request.{request_with, request_text, kept_request_text, SendsFront};
+ghost use Rattle.address.specs.Address.{scheme_of};
+ghost use Rattle.response_reader.specs.Request.{target_by, request_with, request_text, kept_request_text, SendsFront};
 ghost use Rattle.response_reader.specs.inner.Request.{WritesGiveUp};
 ghost use Rattle.response_reader.specs.Wire.{HasRisen, counted};
 ghost use Rattle.response_reader.specs.inner.Wire.{tally, GoesOn};
 
 use crate::wire::{Wire, WireFault};
-use address::{Address, MAX_ADDRESS};
+use address::{Address, MAX_ADDRESS, MAX_HOST, Scheme};
 use arrayvec::ArrayVec;
 use streams::MAX_INTERRUPTED;
 use thiserror::Error;
@@ -15,8 +16,8 @@ use thiserror::Error;
 /// Most bytes of a field about the connection.
 const MAX_CLOSING: usize = 32;
 
-/// Most bytes of a request: those of any address, and room for the lines around it.
-const MAX_REQUEST: usize = MAX_ADDRESS + 128;
+/// Most bytes of a request: those of any address, of its host and port, and room for the lines around them.
+const MAX_REQUEST: usize = MAX_ADDRESS + MAX_HOST + 144;
 
 /// Why a request wasn't written.
 #[derive(Clone, Copy, Debug, PartialEq, Eq, Error)]
@@ -26,8 +27,8 @@ pub enum RequestFault {
     Device,
 }
 
-/// Writes the request for an address: a GET of its path and query, with its host, and its port where
-/// that isn't 80. The text is put together on the stack and goes out in one write where that is taken
+/// Writes the request for an address: a GET of its path and query, of https of the whole address, with its
+/// host, and its port where that isn't the scheme's. The text is put together on the stack and goes out in one write where that is taken
 /// whole, so that it isn't cut into small packets. After a fault a front of
 /// it was written, and the wire isn't to be used again.
 pub fn write_request<W: Wire>(wire: &mut W, address: &Address) -> Result<(), RequestFault>
@@ -96,6 +97,16 @@ fn put(text: &mut RequestText, bytes: &[u8])
     }
 }
 
+/// What is asked for: of https the whole address, since a proxy is asked (RFC 9112, section 3.2.2).
+fn target(address: &Address) -> &str
+    ensures { result.now ≡ target_by (scheme_of address.now) address.now }
+{
+    match address.scheme() {
+        Scheme::Http => address.path_query(),
+        Scheme::Https => address.as_str(),
+    }
+}
+
 /// Puts the request for an address, with this field about the connection or none, into an empty text.
 fn put_request(text: &mut RequestText, address: &Address, closing: &[u8])
     requires empty { text.old.items ≡ [] }
@@ -105,7 +116,7 @@ fn put_request(text: &mut RequestText, address: &Address, closing: &[u8])
     // Every address is short enough.
     let _address = address.as_str();
     put(text, b"GET ");
-    put(text, address.path_query().as_bytes());
+    put(text, target(address).as_bytes());
     put(text, b" HTTP/1.1\r\nHost: ");
     put(text, address.authority().as_bytes());
     put(

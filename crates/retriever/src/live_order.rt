@@ -39,7 +39,8 @@ fn fetchers_of<S: System>(
 {
     let mut fetchers = Vec::new(alloc);
     for _ in 0..order.workers {
-        fetchers.push(system.fetcher(order.plan.robots, is_recording, order.kept()))?;
+        let proxy = order.proxy()?;
+        fetchers.push(system.fetcher(order.plan.robots, is_recording, order.kept(), proxy))?;
     }
     Ok(fetchers)
 }

@@ -11,4 +11,4 @@ mod naming;
 pub use field::first_field;
 pub use input_fault::{InputFault, InputLineFault};
 pub use kept_rules::KeptRules;
-pub use naming::{read_address, read_origin};
+pub use naming::{read_address, read_origin, read_recorded, read_recorded_origin};

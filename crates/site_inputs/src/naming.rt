@@ -1,6 +1,7 @@
 //! Addresses and origins that a line names (URL Standard, section 4.4; RFC 9309, section 2.3).
 ghost use Rattle.site_inputs.specs.Names.{Names};
 ghost use Rattle.site_inputs.specs.Names.{NamesOrigin};
+ghost use Rattle.site_inputs.specs.Names.{Records, RecordsOrigin};
 ghost use Rattle.site_inputs.specs.inner.Names.{IsRoot};
 
 use crate::input_fault::InputLineFault;
@@ -20,6 +21,23 @@ pub fn read_origin(alloc: Global, text: &str) -> Result<Origin, InputLineFault>
     ensures { NamesOrigin text.now result }
 {
     let address = read_address(alloc, text)?;
+    at_root(&address)?;
+    Ok(Origin::of(&address)?)
+}
+
+/// The address that a text of a record names, http or https. The error says that it is refused, or that memory ran out.
+pub fn read_recorded(alloc: Global, text: &str) -> Result<Address, InputLineFault>
+    ensures { Records text.now result }
+{
+    Ok(Address::read_either(alloc, text)?)
+}
+
+/// The origin whose `/` a text of a record names. The error says that the address is refused, that it is another
+/// than its origin's `/`, or that memory ran out.
+pub fn read_recorded_origin(alloc: Global, text: &str) -> Result<Origin, InputLineFault>
+    ensures { RecordsOrigin text.now result }
+{
+    let address = read_recorded(alloc, text)?;
     at_root(&address)?;
     Ok(Origin::of(&address)?)
 }

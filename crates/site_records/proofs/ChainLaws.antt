@@ -1,14 +1,14 @@
 -- How a chain grows, and when it is one that is admitted.
 use Rattle.std.proofs.Common.{◌≡◌, ◌≢◌, ℕ, zero, suc, ◌+◌, ◌<◌, ◌≤◌, ◌⊎◌, ◌++◌, ◌∙◌, List, [], ◌∷◌, Option, Some, None, refl, sym, ap, subst, inl, inr, length, arith}
 use Rattle.std.specs.Prelude.{Ok, Err}
-use Rattle.address.specs.Address.{AddressText, OriginText, read_address}
-use Rattle.site_inputs.proofs.NameLaws.{names}
+use Rattle.address.specs.Address.{AddressText, OriginText, read_either}
+use Rattle.site_inputs.proofs.NameLaws.{records as names}
 use Rattle.answer_notes.specs.RobotsAnswers.{max_redirects}
 use Rattle.answer_notes.specs.Tellings.{target_told}
 use Rattle.answer_notes.specs.HopChains.{HopValue, AreHops, IsAdmitted, robots_file}
 use Rattle.site_inputs.specs.declared.input_fault.InputLineFault.{InputLineFault}
 use Rattle.site_inputs.specs.declared.input_fault.InputLineFault.TheVariants.{Line, Address, Memory}
-use Rattle.site_inputs.specs.Names.{IsNamed}
+use Rattle.site_inputs.specs.Names.{IsRecorded as IsNamed}
 use Rattle.site_records.specs.EntryLines.{HopStatement, HasHopForm, hop_text, IsHopCount}
 use Rattle.site_records.specs.Entries.{IsLine, more_hops, IsHop, IsBegun, AreLed, due, chain_start, BeginsHop}
 use Rattle.site_records.specs.inner.Readings.{AddsHop, IsWrongHop, IsBadHop, NamesDue}
@@ -97,13 +97,13 @@ due_unread from text f (inl e) = rw e tt
 due_unread from text f (inr h) = rw h.0 h.1
 
 -- one that the chain doesn't lead to
-pub not_due : (from : Option AddressText) (text at : List ℕ) → read_address text ≡ Ok at → from ≢ Some at → NamesDue from text (Err Line)
+pub not_due : (from : Option AddressText) (text at : List ℕ) → read_either text ≡ Ok at → from ≢ Some at → NamesDue from text (Err Line)
 not_due from text at reads other =
     let k = names text at reads in
     (k.0, (λ e. other (e ∙ ap Some k.1)))
 
 -- and one that it does
-pub is_due : (from : Option AddressText) (text at : List ℕ) → read_address text ≡ Ok at → from ≡ Some at → NamesDue from text (Ok at)
+pub is_due : (from : Option AddressText) (text at : List ℕ) → read_either text ≡ Ok at → from ≡ Some at → NamesDue from text (Ok at)
 is_due from text at reads same =
     let k = names text at reads in
     (k.0, sym k.1, same)

@@ -22,7 +22,7 @@ use Rattle.response_reader.specs.declared.limits.TheConstants.{MAX_HEADS}
 use Rattle.response_reader.specs.Response.{ResponseParts, CanBeGiven}
 use Rattle.response_reader.specs.Written.{head_text, response_text}
 use Rattle.response_reader.proofs.WrittenLemmas.{written_reads_back}
-use Rattle.site_inputs.specs.Names.{named}
+use Rattle.site_inputs.specs.Names.{recorded as named}
 use Rattle.site_inputs.specs.Fields.{fields}
 use Rattle.answer_notes.specs.RobotsAnswers.{max_redirects}
 use Rattle.response_answer.specs.Digests.{digest_of, kept_body}
@@ -134,7 +134,7 @@ pub address_visible : (at : AddressText) → IsAddress at → All IsVisible at
 address_visible at is = All-weaker IsAddressByte IsVisible (λ b v. (v.0, v.1)) at is.plain
 
 named_is : (at : AddressText) → IsAddress at → named at ≡ at
-named_is at is = ap (λ r. result_unwrap_or r []) is.reads
+named_is at is = ap (λ r. result_unwrap_or r []) is.either
 
 page_visible : All IsVisible (codes "page")
 page_visible =
@@ -187,7 +187,7 @@ page_is_entry version robots at r after is given short small =
       says = page at n;
       is_line = line_is line (bytes ++ 10 ∷ after) plain;
       form = (IsUtf8-from_ascii line (ascii_line line plain), (decimal n, three_fields (codes "page") at (decimal n) page_visible (address_visible at is) digits, length_is n small), refl);
-      is_named = subst (λ r. IsOk r) (sym is.reads) refl;
+      is_named = subst (λ r. IsOk r) (sym is.either) refl;
       at_root = tt;
       states = (
         bytes,
@@ -236,7 +236,7 @@ fault_is_entry version robots at kind after is =
       says = fault kind at;
       is_line = line_is line after plain;
       form = (IsUtf8-from_ascii line (ascii_line line plain), three_fields (codes "fault") (word_of kind) at word (word_visible kind) (address_visible at is), refl);
-      is_named = subst (λ r. IsOk r) (sym is.reads) refl;
+      is_named = subst (λ r. IsOk r) (sym is.either) refl;
       at_root = tt;
       states = (refl, ap (λ a. answered a (no_response kind)) (sym (named_is at is)));
     })
@@ -271,7 +271,7 @@ told_is_hop at (told.Whole r) after h few =
       says = hop at n;
       is_line = line_is line (bytes ++ 10 ∷ after) plain;
       form = (IsUtf8-from_ascii line (ascii_line line plain), (decimal n, three_fields (codes "hop") at (decimal n) word (address_visible at h.0) digits, length_is n small));
-      is_named = subst (λ r. IsOk r) (sym h.0.reads) refl;
+      is_named = subst (λ r. IsOk r) (sym h.0.either) refl;
       at = sym (named_is at h.0);
       tells = (bytes, has_bytes bytes after, ([], written_reads_back r h.1 short));
     })
@@ -285,7 +285,7 @@ told_is_hop at (told.Fault kind) after h few =
       says = hopfault kind at;
       is_line = line_is line after plain;
       form = (IsUtf8-from_ascii line (ascii_line line plain), three_fields (codes "hopfault") (word_of kind) at word (word_visible kind) (address_visible at h));
-      is_named = subst (λ r. IsOk r) (sym h.reads) refl;
+      is_named = subst (λ r. IsOk r) (sym h.either) refl;
       at = sym (named_is at h);
       tells = (refl, refl);
     })
@@ -345,7 +345,7 @@ chain_is_entry robots of hops after is admitted told short =
       says = chain root n;
       is_line = line_is line behind plain;
       form = (IsUtf8-from_ascii line (ascii_line line plain), (decimal n, three_fields (codes "chain") root (decimal n) word at digits, length_is n few, count), refl);
-      is_named = subst (λ r. IsOk r) (sym is.address.reads) refl;
+      is_named = subst (λ r. IsOk r) (sym is.address.either) refl;
       at_root = ap path_query_of same ∙ root_path of is;
       states = (hops, hops_follow behind [] hops after told short no_hops, refl, subst (λ o. IsAdmitted o hops) (sym origin) admitted, ap (λ o. chained o hops) (sym origin));
     })

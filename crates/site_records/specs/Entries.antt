@@ -20,7 +20,7 @@ use Rattle.answer_notes.specs.HopChains.{HopValue, IsAdmitted, robots_file}
 use Rattle.answer_notes.specs.declared.told.Told.{Told}
 use Rattle.answer_notes.specs.declared.told.Told.TheVariants as told
 use Rattle.site_records.specs.declared.version.Version.{Version}
-use Rattle.site_inputs.specs.Names.{named, IsNamed}
+use Rattle.site_inputs.specs.Names.{recorded as named, IsRecorded as IsNamed}
 use Rattle.site_records.specs.EntryLines.{Statement, page, fault, file, free, closed, chain, HasForm, text_of, HopStatement, hop, hopfault, HasHopForm, hop_text}
 
 -- what an entry states

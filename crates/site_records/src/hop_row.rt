@@ -14,7 +14,7 @@ use address::{Address, Origin};
 use answer_notes::{Given, Hops, Told};
 use response_answer::kind_of_fault;
 use response_reader::{SliceWire, read_response};
-use site_inputs::{InputLineFault, read_address};
+use site_inputs::{InputLineFault, read_recorded};
 use std::alloc::{AllocError, Global};
 
 // What these bytes tell as a response.
@@ -35,7 +35,7 @@ pub(crate) fn told_of(alloc: Global, bytes: &[u8]) -> Result<Told, AllocError>
 fn read_due(alloc: Global, next: &Option<Address>, text: &str) -> Result<Address, InputLineFault>
     ensures { NamesDue next.now text.now result }
 {
-    let at = read_address(alloc, text)?;
+    let at = read_recorded(alloc, text)?;
     let Some(address) = next else {
         return Err(InputLineFault::Line);
     };

@@ -21,7 +21,7 @@ use address::{Address, Origin};
 use answer_notes::{Hops, Noted, Told};
 use fetcher::{Answer, Body, FaultKind};
 use indexmap::IndexMap;
-use site_inputs::{InputLineFault, KeptRules, read_address, read_origin};
+use site_inputs::{InputLineFault, KeptRules, read_recorded, read_recorded_origin};
 use std::alloc::{AllocError, Global};
 
 /// What the entries read so far state.
@@ -75,7 +75,7 @@ impl Reading {
     fn unstated(&self, text: &str) -> Result<Address, InputLineFault>
         ensures { NamesUnstated self.now.answers.entries text.now result }
     {
-        let at = read_address(self.alloc, text)?;
+        let at = read_recorded(self.alloc, text)?;
         if self.answers.contains_key(&at) {
             return Err(InputLineFault::Line);
         }
@@ -86,7 +86,7 @@ impl Reading {
     fn unruled(&self, text: &str) -> Result<Origin, InputLineFault>
         ensures { NamesUnruled self.now.rules.entries text.now result }
     {
-        let origin = read_origin(self.alloc, text)?;
+        let origin = read_recorded_origin(self.alloc, text)?;
         if self.rules.contains_key(&origin) {
             return Err(InputLineFault::Line);
         }

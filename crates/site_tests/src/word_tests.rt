@@ -53,6 +53,12 @@ directory => -I /a -X a http://h/
 domain => -D a/b https://h/
 domain => -D a --exclude-domains a/b a
 start: not http => https://h/
+start: not http => --https-proxy=http://127.0.0.1:3128/ ftp://h/
+read => --https-proxy=http://127.0.0.1:3128/ https://h/
+read => --https-proxy http://127.0.0.1:3128 http://h/
+words: bad value => --https-proxy=https://p/ https://h/
+words: bad value => --https-proxy=http://p/a -l x https://h/
+words: bad value => --https-proxy=p:3128 http://h/
 start: user info => http://u@h/
 start: robots => http://h/robots.txt
 words: unknown => http://h/ http://k/
@@ -245,6 +251,7 @@ How it is asked for:
        --workers=N                 N workers, 1 to 64 (4)
        --per-host=N                N requests at a time to a server, 1 to 16 (2)
        --no-http-keep-alive        a connection of its own for each request
+       --https-proxy=URL           https by this proxy, as http://127.0.0.1:3128/
        --max-urls=N                at most N addresses, 1 to 1000000 (100000)
 
 Where the site is:

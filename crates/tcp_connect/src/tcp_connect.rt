@@ -1,5 +1,7 @@
 //! Connections over TCP.
-ghost use Rattle.std.specs.Prelude.{◌≡◌, ⊤, None, Some};
+ghost use Rattle.std.specs.Prelude.{◌≡◌, ◌++◌, ⊤, None, Some, codes, option_map};
+ghost use Rattle.address.specs.Address.{scheme_of};
+ghost use Rattle.tcp_connect.specs.Connecting.{server_by};
 ghost use Rattle.response_reader.specs.Wire.{CountsFault, counted};
 ghost use Rattle.connect.specs.Connects.{CountsRefusal, refused_by};
 
@@ -7,7 +9,7 @@ use crate::connection::Connection;
 use crate::hosts::{Host, Hosts, Known, has};
 use crate::kept::{Entered, Kept, MOST, Waiting, is_fresh, is_quiet};
 use crate::lacks::{Lack, OpenFault, Patience, lack_of, loss_of};
-use address::Origin;
+use address::{Origin, Scheme};
 use connect::{Connect, ConnectFault};
 use response_reader::TcpWire;
 use run_failures::LossKind;
@@ -46,6 +48,8 @@ pub struct TcpConnect<'a, R: Net + Wait + Clock> {
     late: Vec<SocketAddr>,
     // Where connections are kept; none where each ends behind its question.
     keeping: Option<Keeping<'a, R::Stream>>,
+    // The proxy that speaks TLS to servers.
+    proxy: Option<Origin>,
     made: u64,
     taken: u64,
     failed: u64,
@@ -61,6 +65,16 @@ impl<'a, R: Net + Wait + Clock> Model for TcpConnect<'a, R> {
     ghost Value = { Connecting };
 
     ghost view = { λ c. record { made = c.made; failed = c.failed; refused = c.refused; taken = c.taken; most = option_map (λ k. k.most) c.keeping } };
+}
+
+// The server that is connected to for an origin: of http its own, of https the proxy, if there is one (RFC 9112, section 3.2.2).
+fn server_of<'b>(proxy: &'b Option<Origin>, of: &'b Origin) -> Option<&'b Origin>
+    ensures { option_map (λ o. o.now) result ≡ server_by (scheme_of (of.now ++ codes "/")) proxy.now of.now }
+{
+    match of.scheme() {
+        Scheme::Http => Some(of),
+        Scheme::Https => proxy.as_ref(),
+    }
 }
 
 // A connection to the first of the addresses that takes one, and that address. Else it is lost for what the first of them
@@ -191,6 +205,7 @@ impl<'a, R: Net + Wait + Clock> TcpConnect<'a, R> {
             hosts,
             late: Vec::new(alloc),
             keeping: None,
+            proxy: None,
             made: 0,
             taken: 0,
             failed: 0,
@@ -214,6 +229,13 @@ impl<'a, R: Net + Wait + Clock> TcpConnect<'a, R> {
             keeping: Some(Keeping { kept, most }),
             ..self
         }
+    }
+
+    /// The same, which connects to this proxy for https origins. Without one there is no connection to them.
+    pub fn through(self, proxy: Option<Origin>) -> TcpConnect<'a, R>
+        ensures { result ≡ self.entry }
+    {
+        TcpConnect { proxy, ..self }
     }
 
     // Where connections are kept.
@@ -298,8 +320,11 @@ impl<'a, R: Net + Wait + Clock> TcpConnect<'a, R> {
         of: &Origin,
         place: Option<u64>,
     ) -> Result<TcpWire<Connection<R::Stream>>, OpenFault> {
-        let host = self.hosts.host(self.rt, of.host())?;
-        wire_of(self.stream(&host, of)?, place)
+        let Some(server) = server_of(&self.proxy, of) else {
+            return Err(OpenFault::Failed(LossKind::Unknown));
+        };
+        let host = self.hosts.host(self.rt, server.host())?;
+        wire_of(self.stream(&host, server)?, place)
     }
 
     // A connection to the host of an origin. The host knows from then on which address took it.

@@ -39,7 +39,8 @@ impl<'a, R: Net + Wait + Clock + Eprint> OverTcp<'a, R> {
 
     /// By this handle, with what the run knows of hosts and keeps of connections, and the line that counts what comes. Where robots
     /// rules are honoured, a page that asks that its links aren't followed has none. Connections are kept among those of the run
-    /// where it is said how many to a server may stand at a time; else each question has one of its own. Takes no memory.
+    /// where it is said how many to a server may stand at a time; else each question has one of its own. For https addresses the
+    /// proxy is asked, and without one none is. Takes no memory.
     pub fn new(
         rt: &'a R,
         alloc: Global,
@@ -48,13 +49,14 @@ impl<'a, R: Net + Wait + Clock + Eprint> OverTcp<'a, R> {
         progress: &'a Progress<'a, R>,
         robots: bool,
         most: Option<u32>,
+        proxy: Option<Origin>,
     ) -> OverTcp<'a, R>
         ensures robots { result.robots ≡ robots }
         ensures keeps { result.keeps ≡ is_some most }
         ensures most { result.most ≡ most }
         ensures asks { result.asks ≡ [] }
     {
-        let connect = WatchedTcp::new(rt, alloc, hosts, kept, progress, most);
+        let connect = WatchedTcp::new(rt, alloc, hosts, kept, progress, most, proxy);
         let fetcher = HttpFetcher::new(alloc, connect, robots);
         match most {
             Some(_) => OverTcp {

@@ -68,10 +68,11 @@ impl<'a, R: Net + Wait + Clock + Eprint> WatchedTcp<'a, R> {
         kept: &'a Kept<R::Stream>,
         progress: &'a Progress<'a, R>,
         most: Option<u32>,
+        proxy: Option<Origin>,
     ) -> WatchedTcp<'a, R>
         ensures { result ≡ record { made = 0; failed = 0; refused = 0; taken = 0; most = most } }
     {
-        let connect = TcpConnect::new(rt, alloc, hosts);
+        let connect = TcpConnect::new(rt, alloc, hosts).through(proxy);
         match most {
             Some(most) => WatchedTcp {
                 inner: Watched::new(connect.keeping(kept, most), progress),

@@ -11,7 +11,7 @@ use Rattle.site_inputs.specs.declared.input_fault.InputFault.{InputFault}
 use Rattle.site_inputs.specs.declared.input_fault.InputLineFault.{InputLineFault}
 use Rattle.site_inputs.specs.declared.input_fault.InputLineFault.TheVariants.{Line, Address, Memory}
 use Rattle.site_inputs.specs.Faults.{numbered}
-use Rattle.site_inputs.specs.Names.{named, IsNamed}
+use Rattle.site_inputs.specs.Names.{recorded as named, IsRecorded as IsNamed}
 use Rattle.site_records.specs.declared.entry_fault.EntryFault.{EntryFault}
 use Rattle.site_records.specs.declared.entry_fault.EntryFault.TheVariants.{Own, Hop}
 use Rattle.site_records.specs.declared.taken.Taken.{Taken}

@@ -4,7 +4,7 @@ use Rattle.std.specs.Prelude.{IsSome}
 use Rattle.std.specs.Map.{lookup}
 use Rattle.std.specs.Str.{bytes_eq}
 use Rattle.std.proofs.lemmas.Result.{err_from_is_err_and}
-use Rattle.site_inputs.proofs.NameLaws.{names}
+use Rattle.site_inputs.proofs.NameLaws.{records as names}
 use Rattle.site_records.proofs.EntryLaws.{none_left, unread}
 use Rattle.site_records.proofs.reading.Reading.unstated.Goals as goal
 
