@@ -6,7 +6,7 @@ use Rattle.std.proofs.lemmas.List.Elements.{Contains-append_left, Contains-push}
 use Rattle.std.proofs.lemmas.Slice.Eq.{bytes_eq-Decides}
 use Rattle.std.specs.Result.{is_err}
 use Rattle.std.specs.Str.{bytes_eq}
-use Rattle.local_tree.specs.Names.{AreDistinct}
+use Rattle.local_names.specs.Names.{AreDistinct}
 use Rattle.local_tree.specs.Folders.{Files, Puts, KeepsOthers, CountsRefusedPut, HasMoreRefused, one_more_refused}
 use Rattle.local_tree.specs.SiteFiles.{AreWritten, OfFiles}
 

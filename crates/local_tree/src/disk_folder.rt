@@ -5,11 +5,11 @@ ghost use Rattle.local_tree.specs.Folders.{CountsRefusedPut, opened_at, untold};
 ghost use Rattle.local_tree.specs.SiteFiles.{IsTornBy};
 
 use crate::folder::{Folder, FolderFault};
-use crate::local_name::is_local_name;
 use crate::parts::{Batch, Naming, Part, PartCrew, write_new};
 use crate::site_files::WriteFault;
 use harvest::Harvest;
 use kept_bodies::Body;
+use local_names::is_local_name;
 use std::alloc::{AllocError, Global};
 use std::fs::Files;
 use std::io::{Error, ErrorKind};

@@ -1,7 +1,7 @@
 //! What a folder is asked for.
 ghost use Rattle.std.specs.Prelude.{◌≡◌, ℕ, Option, OnOk, OnErr, IfErr, length, map, string_bytes};
 ghost use Rattle.local_tree.specs.Folders.{Files, Puts, KeepsOthers, CountsRefusedPut, holding};
-ghost use Rattle.local_tree.specs.Names.{AreDistinct};
+ghost use Rattle.local_names.specs.Names.{AreDistinct};
 ghost use Rattle.local_tree.specs.SiteFiles.{IsWhole, IsTornBy};
 
 use crate::site_files::WriteFault;

@@ -1,7 +1,7 @@
 //! The files of a retrieved site.
 ghost use Rattle.std.specs.Prelude.{◌≡◌, length, map, OnOk, IfErr, string_bytes};
 ghost use Rattle.local_tree.specs.Folders.{holding};
-ghost use Rattle.local_tree.specs.Names.{AreDistinct};
+ghost use Rattle.local_names.specs.Names.{AreDistinct};
 ghost use Rattle.local_tree.specs.SiteFiles.{IsWhole, IsTornBy};
 
 use crate::folder::Folder;

@@ -1,6 +1,6 @@
-//! Names worked out by hand: of pages that clash, of odd segments, and of segments that are too long.
+//! Names worked out by hand: of pages that clash, of escapes, of odd segments, of segments that are too long, and by other rules.
 use address::Address;
-use local_tree::{ascend, names};
+use local_names::{LetterCase, NameRules, ascend, names};
 use std::alloc::Global;
 use std::process::Abort;
 
@@ -21,14 +21,14 @@ fn pages_of(rt: &impl Abort, alloc: Global, texts: &str) -> Vec<Address> {
 }
 
 // The names of pages whose texts ascend.
-fn names_of(rt: &impl Abort, alloc: Global, pages: &[Address]) -> Vec<String> {
+fn names_of(rt: &impl Abort, alloc: Global, rules: &NameRules, pages: &[Address]) -> Vec<String> {
     assert!(rt; ascend(pages));
-    names(alloc, pages).expect(rt, "memory")
+    names(alloc, rules, pages).expect(rt, "memory")
 }
 
 // Whether the names are these, and stay inside.
 fn are_these(names: &[String], expected: &str) -> bool {
-    let mut words = expected.split(' ');
+    let mut words = expected.split(", ");
     for name in names {
         let name = name.as_str();
         if words.next() != Some(name) || !stays_inside(name) {
@@ -39,40 +39,96 @@ fn are_these(names: &[String], expected: &str) -> bool {
 }
 
 // The pages of these texts, which ascend, have these names.
-fn are_named(rt: &impl Abort, alloc: Global, texts: &str, expected: &str) {
+fn are_named(rt: &impl Abort, alloc: Global, rules: &NameRules, texts: &str, expected: &str) {
     let pages = pages_of(rt, alloc, texts);
-    let names = names_of(rt, alloc, &pages);
+    let names = names_of(rt, alloc, rules, &pages);
     assert!(rt; are_these(&names, expected), "not named so: {expected}");
 }
 
-// Each line is pages, `=>` and their names.
-fn rows_hold(rt: &impl Abort, alloc: Global, rows: &str) {
+// Each line is pages, `=>` and their names by these rules.
+fn rows_hold(rt: &impl Abort, alloc: Global, rules: &NameRules, rows: &str) {
     for row in rows.lines() {
         let (texts, expected) = row.split_once(" => ").unwrap_or((row, ""));
-        are_named(rt, alloc, texts, expected);
+        are_named(rt, alloc, rules, texts, expected);
     }
 }
 
 // In the second row the first page keeps its name where it is free, and a number that is a directory is passed over. In the
 // third a name is taken however many pages stand between.
 const CLASHES: &str = "http://h/a http://h/a/ http://h/a/b http://h/a/index.html \
-    => h/a.1 h/a/index.html h/a/b h/a/index.html.1
+    => h/a.1, h/a/index.html, h/a/b, h/a/index.html.1
 http://h//c http://h/a http://h/a.1/x http://h/a/b http://h/c http://h/c.1 \
-    => h/c h/a.2 h/a.1/x h/a/b h/c.1 h/c.1.1
+    => h/c, h/a.2, h/a.1/x, h/a/b, h/c.1, h/c.1.1
 http://h/ http://h/a http://h/b http://h/index.html http://h/index.html.1 http://h/z \
-    => h/index.html h/a h/b h/index.html.1 h/index.html.1.1 h/z";
+    => h/index.html, h/a, h/b, h/index.html.1, h/index.html.1.1, h/z
+http://h/%61 http://h/a => h/a, h/a.1";
 
 #[test]
 fn pages_that_clash_are_numbered(rt: HostRuntime) {
-    rows_hold(&rt, rt.alloc(), CLASHES);
+    rows_hold(&rt, rt.alloc(), &NameRules::default(), CLASHES);
 }
 
 const ODD: &str = "http://h/.../x http://h/a//b?u=/c http://h/a? http://h:81/ \
-    => h/%2E%2E%2E/x h/a/b?u=%2Fc h/a? h:81/index.html";
+    => h/%2E%2E%2E/x, h/a/b?u=%2Fc, h/a?, h:81/index.html
+http://h/%2e%2e%2fetc http://h/..%2e http://h/..%5c..%5cx => h/..%2Fetc, h/%2E%2E%2E, h/..\\..\\x";
 
 #[test]
 fn odd_segments_stay_inside(rt: HostRuntime) {
-    rows_hold(&rt, rt.alloc(), ODD);
+    rows_hold(&rt, rt.alloc(), &NameRules::default(), ODD);
+}
+
+const ESCAPED: &str = "http://h/%C3%A4.html http://h/a%20b.html http://h/a%25b http://h/~t \
+    => h/\u{e4}.html, h/a b.html, h/a%b, h/~t
+http://h/%00 http://h/%80%C3%A4%E4 http://h/d%2Fe http://h/nl%0Ax http://h/per%25cent.html \
+    => h/%00, h/%80\u{e4}%E4, h/d%2Fe, h/nl%0Ax, h/per%cent.html
+http://h/q?a=b/c http://h/q?x=%20y => h/q?a=b%2Fc, h/q?x= y";
+
+#[test]
+fn escapes_are_decoded_once(rt: HostRuntime) {
+    rows_hold(&rt, rt.alloc(), &NameRules::default(), ESCAPED);
+}
+
+// The rules of `-nH` with so many directories cut.
+fn without_host(cut_dirs: usize) -> NameRules {
+    let mut rules = NameRules::default();
+    rules.has_host = false;
+    rules.cut_dirs = cut_dirs;
+    rules
+}
+
+#[test]
+fn directories_are_cut_but_no_file(rt: HostRuntime) {
+    let alloc = rt.alloc();
+    let page = "http://h/d/e/f.html";
+    are_named(&rt, alloc, &without_host(0), page, "d/e/f.html");
+    are_named(&rt, alloc, &without_host(5), page, "f.html");
+    let pages = "http://h/a/x.html http://h/b/x.html http://h/c/x.html";
+    are_named(
+        &rt,
+        alloc,
+        &without_host(1),
+        pages,
+        "x.html, x.html.1, x.html.2",
+    );
+}
+
+#[test]
+fn other_rules_shape_names(rt: HostRuntime) {
+    let alloc = rt.alloc();
+    let mut rules = NameRules::default();
+    rules.has_protocol = true;
+    rules.chars.is_windows = true;
+    rules.chars.letter_case = LetterCase::Lower;
+    are_named(
+        &rt,
+        alloc,
+        &rules,
+        "http://h:81/A%3A%C3%84?Q",
+        "http/h+81/a%3A\u{c4}@Q",
+    );
+    rules.chars.is_ascii = true;
+    rules.has_directories = false;
+    are_named(&rt, alloc, &rules, "http://h/a/%C3%84%7C", "%C3%84%7C");
 }
 
 // Behind the text the start, so many times the piece, and the end.
@@ -92,8 +148,9 @@ fn long_segments_are_cut(rt: HostRuntime) {
     push(&rt, &mut texts, "http://h/", "a", 250, " ");
     push(&rt, &mut texts, "http://h/", "a", 251, "");
     let mut expected = String::new(alloc);
-    push(&rt, &mut expected, "h/", "%2E", 66, "%2/x ");
-    push(&rt, &mut expected, "h/", "a", 200, " ");
+    push(&rt, &mut expected, "h/", "%2E", 66, "/x, ");
+    push(&rt, &mut expected, "h/", "a", 200, ", ");
     push(&rt, &mut expected, "h/", "a", 200, ".1");
-    are_named(&rt, alloc, texts.as_str(), expected.as_str());
+    let rules = NameRules::default();
+    are_named(&rt, alloc, &rules, texts.as_str(), expected.as_str());
 }

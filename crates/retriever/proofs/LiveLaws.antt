@@ -24,8 +24,9 @@ use Rattle.workers.specs.Retrieval.{IsRetrieved, IsPartRetrieved, IsStopped}
 use Rattle.workers.specs.Sites.{IsCompleteFor}
 use Rattle.workers.specs.declared.retrieval.Halt.{Halt}
 use Rattle.local_tree.specs.Folders.{Holding}
-use Rattle.local_tree.specs.Names.{IsNaming}
-use Rattle.local_tree.specs.PlainNames.{plain_name_of}
+use Rattle.local_names.specs.Names.{IsNaming}
+use Rattle.local_names.specs.PlainNames.{plain_name_of}
+use Rattle.local_names.specs.Rules.{usual_rules}
 use Rattle.local_tree.specs.SiteFiles.{IsWhole, IsTorn}
 use Rattle.report.specs.Entries.{harvest_lines_of}
 use Rattle.report.specs.Named.{names_in}
@@ -56,10 +57,10 @@ complete_for p s complete = record {
 -- ---- a harvest
 
 retrieved : {F : Type 0} (crew : Crew F) (plan : Plan) (h : Harvested (List ℕ)) (names : List (List ℕ)) → IsRetrieved (MaySay crew) (MaySayRules crew) plan (asks_of crew) h → IsRead h
-    → IsNaming (map plain_name_of h.kept) names → AreOfCrew crew h.trace → IsRetrievedLive crew plan h.trace (harvest_lines_of h names) h.bodies
+    → IsNaming (map (plain_name_of usual_rules) h.kept) names → AreOfCrew crew h.trace → IsRetrievedLive crew plan h.trace (harvest_lines_of h names) h.bodies
 retrieved crew plan h names is read naming by =
     let sound = subst (λ (o : Option Plan). IfSome o (λ plan. IsSound (policy plan) h.state)) is.follows read.3 in
-    let long : length names ≡ length h.kept = naming.count ∙ length-map h.kept plain_name_of in
+    let long : length names ≡ length h.kept = naming.count ∙ length-map h.kept (plain_name_of usual_rules) in
     record {
       state = h.state;
       replay = is.replay;
@@ -74,8 +75,8 @@ retrieved crew plan h names is read naming by =
     }
 
 -- the names in the lines of a harvest are those that were given
-given : (h : Harvested (List ℕ)) (names : List (List ℕ)) → IsRead h → IsNaming (map plain_name_of h.kept) names → names ≡ names_in (harvest_lines_of h names)
-given h names read naming = sym (names_of_lines h names read.0 read.1 read.2 (naming.count ∙ length-map h.kept plain_name_of))
+given : (h : Harvested (List ℕ)) (names : List (List ℕ)) → IsRead h → IsNaming (map (plain_name_of usual_rules) h.kept) names → names ≡ names_in (harvest_lines_of h names)
+given h names read naming = sym (names_of_lines h names read.0 read.1 read.2 (naming.count ∙ length-map h.kept (plain_name_of usual_rules)))
 
 part_retrieved : {F : Type 0} (crew : Crew F) (plan : Plan) (cause : Cause) (h : Harvested (List ℕ)) → IsPartRetrieved (MaySay crew) (MaySayRules crew) plan (asks_of crew) cause h
     → (cause ≡ why.Full → HasTooMany (policy plan) (answers h.state)) → AreOfCrew crew h.trace → IsStoppedLive crew plan cause h.trace

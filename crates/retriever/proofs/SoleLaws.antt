@@ -10,9 +10,10 @@ use Rattle.frontier_core.specs.Plans.{policy}
 use Rattle.frontier_core.specs.Routes.{Policy, Answers, IsDepth}
 use Rattle.frontier_core.specs.Tables.{Text}
 use Rattle.frontier_core.specs.declared.event.Event.{Event}
-use Rattle.local_tree.specs.Names.{IsNaming}
-use Rattle.local_tree.specs.PlainNames.{plain_name_of}
-use Rattle.local_tree.proofs.NamingLaws.{IsNaming-sole}
+use Rattle.local_names.specs.Names.{IsNaming}
+use Rattle.local_names.specs.PlainNames.{plain_name_of}
+use Rattle.local_names.specs.Rules.{usual_rules}
+use Rattle.local_names.proofs.NamingLaws.{IsNaming-sole}
 use Rattle.options.specs.declared.order.Order.{Order}
 use Rattle.report.specs.Named.{is_to_keep, has_succeeded, named_pages, names_in}
 use Rattle.report.specs.Report.{Line, Fate, Asked, Refused, report_text}
@@ -50,8 +51,8 @@ pub sole_lines : (plan : Plan) (m : Answers) (xs ys : List Line) → AreLines (p
 sole_lines plan m xs ys lines others named others_named =
     let alike : AllZip AreAlike xs ys =
     all_alike xs ys lines.ascending others.ascending (each_told plan m xs ys lines others named others_named) (each_told plan m ys xs others lines others_named named) in
-    let naming = subst (λ (pages : List Text). IsNaming (map plain_name_of pages) (names_in xs)) (same_pages xs ys alike) named.names in
-    same_lines xs ys alike (IsNaming-sole (map plain_name_of (named_pages ys)) (names_in ys) (names_in xs) others_named.names naming)
+    let naming = subst (λ (pages : List Text). IsNaming (map (plain_name_of usual_rules) pages) (names_in xs)) (same_pages xs ys alike) named.names in
+    same_lines xs ys alike (IsNaming-sole (map (plain_name_of usual_rules) (named_pages ys)) (names_in ys) (names_in xs) others_named.names naming)
 
 -- orders of one plan, of one site, come to one report, however many workers each orders and whatever is shown of their traces
 pub sole_report : (order other : Order) (whole : Answers) (shown others : List Event) (xs ys : List Line) → order.plan ≡ other.plan → Finishes order whole shown (Retrieved xs)

@@ -11,8 +11,9 @@ use Rattle.options.specs.declared.order.Source.TheVariants as source
 use Rattle.frontier_core.specs.Tables.{Text}
 use Rattle.frontier_core.specs.Routes.{Policy, Answers, IsCandidate, IsDepth, is_open_address}
 use Rattle.follow_filters.specs.declared.plan.Plan.{Plan}
-use Rattle.local_tree.specs.Names.{IsNaming}
-use Rattle.local_tree.specs.PlainNames.{plain_name_of}
+use Rattle.local_names.specs.Names.{IsNaming}
+use Rattle.local_names.specs.PlainNames.{plain_name_of}
+use Rattle.local_names.specs.Rules.{usual_rules}
 use Rattle.report.specs.Named.{is_to_keep, named_pages, names_in}
 use Rattle.report.specs.Report.{Line, Fate, Asked, Refused, AreAscending}
 
@@ -74,4 +75,4 @@ pub record AreLines (p : Policy) (m : Answers) (lines : List Line) : Type 0 wher
 -- addresses (GNU Wget manual, Directory Options).
 pub record AreNamed (plan : Plan) (lines : List Line) : Type 0 where
   pub kept : All (λ line. is_some line.name ≡ is_to_keep plan line) lines
-  pub names : IsNaming (map plain_name_of (named_pages lines)) (names_in lines)
+  pub names : IsNaming (map (plain_name_of usual_rules) (named_pages lines)) (names_in lines)

@@ -1,7 +1,9 @@
 //! What is told of a retrieval: its report, or the line of the cause for which it stopped.
 ghost use Rattle.std.specs.Prelude.{◌≡◌, ◌++◌, ◌&&◌, IfOk, OnOk, length, map, string_bytes};
-ghost use Rattle.local_tree.specs.Names.{AreDistinct, IsNaming};
-ghost use Rattle.local_tree.specs.PlainNames.{plain_name_of};
+ghost use Rattle.address.specs.AddressOrder.{IsAscending};
+ghost use Rattle.local_names.specs.Names.{AreDistinct, IsNaming};
+ghost use Rattle.local_names.specs.PlainNames.{plain_name_of};
+ghost use Rattle.local_names.specs.Rules.{usual_rules};
 ghost use Rattle.report.specs.Entries.{harvest_lines_of};
 ghost use Rattle.report.specs.Report.{report_text};
 ghost use Rattle.retriever.specs.Parts.{shown_of};
@@ -10,9 +12,10 @@ ghost use Rattle.retriever.specs.Retrieved.{Stopped};
 ghost use Rattle.retriever.specs.Run.{finish_text};
 ghost use Rattle.report.specs.Trace.{trace_text};
 
+use address::Address;
 use frontier_core::{Cause, Event};
 use kept_bodies::Body;
-use local_tree::names;
+use local_names::{NameRules, names};
 use report::{cause_word, exit_status, push_trace, report_text};
 use std::alloc::{AllocError, Global};
 use workers::{Halt, Harvest};
@@ -41,6 +44,16 @@ fn push_shown(text: &mut String, is_shown: bool, trace: &[Event]) -> Result<(), 
     Ok(())
 }
 
+// The names of these pages by the usual rules.
+fn usual_names(alloc: Global, pages: &[Address]) -> Result<Vec<String>, AllocError>
+    requires { IsAscending pages.now }
+    ensures naming { IfOk result (λ names. IsNaming (map (plain_name_of usual_rules) pages.now) (map string_bytes names.items)) }
+    ensures count { IfOk result (λ names. length names.items ≡ length pages.now) }
+    ensures distinct { IfOk result (λ names. AreDistinct (map string_bytes names.items)) }
+{
+    names(alloc, &NameRules::default(), pages)
+}
+
 /// The names of a harvest's kept pages, and its text: its trace, where it is to be shown, and its report, in which these pages
 /// have their names.
 pub(crate) fn telling_of(
@@ -48,7 +61,7 @@ pub(crate) fn telling_of(
     is_shown: bool,
     harvest: &Harvest<Body>,
 ) -> Result<Telling, AllocError>
-    ensures naming { IfOk result (λ telling. IsNaming (map plain_name_of harvest.now.kept) (map string_bytes telling.names.items)) }
+    ensures naming { IfOk result (λ telling. IsNaming (map (plain_name_of usual_rules) harvest.now.kept) (map string_bytes telling.names.items)) }
     ensures count { IfOk result (λ telling. length telling.names.items ≡ length harvest.now.kept) }
     ensures distinct { IfOk result (λ telling. AreDistinct (map string_bytes telling.names.items)) }
     ensures text { IfOk result (λ telling. string_bytes telling.text
@@ -56,7 +69,7 @@ pub(crate) fn telling_of(
     ensures read { IfOk result (λ telling. IsRead harvest.now) }
 {
     let trace = harvest.trace();
-    let names = names(alloc, harvest.kept())?;
+    let names = usual_names(alloc, harvest.kept())?;
     let report = report_text(alloc, harvest, names.as_slice())?;
     let mut text = String::new(alloc);
     push_shown(&mut text, is_shown, trace)?;
@@ -75,7 +88,11 @@ fn is_borne_out(cause: Cause) -> bool
 }
 
 /// The text of a retrieval that stopped: its trace, where it is to be shown and no check failed, and the line of the cause.
-pub(crate) fn halt_text(alloc: Global, is_shown: bool, halt: &Halt<Body>) -> Result<String, AllocError>
+pub(crate) fn halt_text(
+    alloc: Global,
+    is_shown: bool,
+    halt: &Halt<Body>,
+) -> Result<String, AllocError>
     ensures { IfOk result (λ text. string_bytes text ≡ trace_text (shown_of (is_borne_out halt.now.cause && is_shown) halt.now.harvest.trace) ++ finish_text (Stopped halt.now.cause)) }
 {
     let mut text = String::new(alloc);

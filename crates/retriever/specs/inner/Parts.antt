@@ -13,8 +13,9 @@ use Rattle.frontier_core.specs.declared.event.Event.{Event}
 use Rattle.harvest.specs.Gathered.{AreEntries, AreRecords, ArePages}
 use Rattle.harvest.specs.Harvests.{Harvested}
 use Rattle.workers.specs.declared.retrieval.Halt.{Halt}
-use Rattle.local_tree.specs.Names.{IsNaming}
-use Rattle.local_tree.specs.PlainNames.{plain_name_of}
+use Rattle.local_names.specs.Names.{IsNaming}
+use Rattle.local_names.specs.PlainNames.{plain_name_of}
+use Rattle.local_names.specs.Rules.{usual_rules}
 use Rattle.report.specs.Entries.{harvest_lines_of}
 use Rattle.report.specs.ExitStatus.{exit_status}
 use Rattle.report.specs.Report.{report_text}
@@ -71,7 +72,7 @@ IsRead h = AreEntries h × AreRecords h × ArePages h × IfSome h.plan (λ plan.
 -- check failed
 abbrev pub IsRetrievalTold : Bool → Result (Harvested (List ℕ)) (Halt (List ℕ)) → List ℕ → ℕ → Type 0
 IsRetrievalTold is_shown (Ok h) text status =
-    IsRead h × (names : List (List ℕ)) × IsNaming (map plain_name_of h.kept) names × (text ≡ trace_text (shown_of is_shown h.trace) ++ report_text (harvest_lines_of h names))
+    IsRead h × (names : List (List ℕ)) × IsNaming (map (plain_name_of usual_rules) h.kept) names × (text ≡ trace_text (shown_of is_shown h.trace) ++ report_text (harvest_lines_of h names))
     × (status ≡ exit_status (map (λ recorded. recorded.1) h.records))
 IsRetrievalTold is_shown (Err halt) text status =
     (text ≡ trace_text (shown_of (is_borne_out halt.cause && is_shown) halt.harvest.trace) ++ finish_text (Stopped halt.cause)) × (status ≡ 1)

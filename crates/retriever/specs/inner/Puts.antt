@@ -6,8 +6,9 @@ use Rattle.frontier_core.specs.declared.event.Cause.TheVariants as cause
 use Rattle.harvest.specs.Harvests.{Harvested}
 use Rattle.workers.specs.declared.retrieval.Halt.{Halt}
 use Rattle.local_tree.specs.Folders.{Holding}
-use Rattle.local_tree.specs.Names.{IsNaming}
-use Rattle.local_tree.specs.PlainNames.{plain_name_of}
+use Rattle.local_names.specs.Names.{IsNaming}
+use Rattle.local_names.specs.PlainNames.{plain_name_of}
+use Rattle.local_names.specs.Rules.{usual_rules}
 use Rattle.local_tree.specs.SiteFiles.{IsWhole, IsTorn}
 use Rattle.local_tree.specs.declared.site_files.WriteFault.{WriteFault}
 use Rattle.local_tree.specs.declared.site_files.WriteFault.TheVariants.{Device}
@@ -52,6 +53,6 @@ harvest_text is_shown h names = trace_text (shown_of is_shown h.trace) ++ report
 abbrev pub IsPutOf : (List ℕ → ℕ → Type 0) → Bool → Result (Harvested (List ℕ)) (Halt (List ℕ)) → Holding → Holding → Type 0
 IsPutOf IsTold is_shown (Ok h) old new =
     ((new ≡ old) × IsTold (codes "stopped memory\n") 1)
-    ⊎ (IsRead h × (names : List (List ℕ)) × IsNaming (map plain_name_of h.kept) names
+    ⊎ (IsRead h × (names : List (List ℕ)) × IsNaming (map (plain_name_of usual_rules) h.kept) names
     × IsPutAndTold IsTold names h.bodies (harvest_text is_shown h names, exit_status (map (λ recorded. recorded.1) h.records)) old new)
 IsPutOf IsTold is_shown (Err halt) old new = (new ≡ old) × IsHaltTold IsTold is_shown halt

@@ -1,0 +1,9 @@
+pub mod UnitLaws
+pub mod SegmentLaws
+pub mod PlainLaws
+pub mod ServedLaws
+pub mod NamingLaws
+pub mod TakenLaws
+pub mod OrderLaws
+pub mod LeastLaws
+pub mod LocalLaws

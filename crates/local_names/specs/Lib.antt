@@ -1,0 +1,6 @@
+pub mod Rules
+pub mod PlainNames
+pub mod Names
+pub mod LocalNames
+pub mod Served
+pub mod inner

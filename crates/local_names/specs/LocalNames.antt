@@ -1,0 +1,36 @@
+-- What keeps a name inside its folder, and a segment within what disks take.
+use Rattle.std.specs.Prelude.{◌≡◌, ◌≢◌, ℕ, false, ◌≤◌, List, [], length, codes, All, IsUtf8}
+use Rattle.std.specs.List.{slice_split}
+use Rattle.local_names.specs.PlainNames.{is_slash, is_control}
+use Rattle.local_names.specs.Names.{numbered_name}
+use Rattle.local_names.specs.declared.plain_name.TheConstants.{MAX_SEGMENT}
+
+-- a segment that names something within its directory
+pub record IsInner (segment : List ℕ) : Type 0 where
+  pub present : segment ≢ []
+  pub not_here : segment ≢ codes "."
+  pub not_above : segment ≢ codes ".."
+
+-- no segment is empty, `.` or `..`: the name leads nowhere but below its folder
+abbrev pub StaysInside : List ℕ → Type 0
+StaysInside name = All IsInner (slice_split is_slash name)
+
+-- the segment has no more bytes than a segment may have
+abbrev pub IsShort : List ℕ → Type 0
+IsShort segment = length segment ≤ MAX_SEGMENT
+
+-- no segment is longer than it may be, the added number not counted
+pub record HasShortSegments (name : List ℕ) : Type 0 where
+  pub plain : List ℕ
+  pub number : ℕ
+  pub is : name ≡ numbered_name plain number
+  pub short : All IsShort (slice_split is_slash plain)
+
+-- no control byte: no NUL and no line feed
+abbrev pub IsUncontrolled : ℕ → Type 0
+IsUncontrolled byte = is_control byte ≡ false
+
+-- characters in UTF-8, none of them a control byte
+pub record IsText (name : List ℕ) : Type 0 where
+  pub utf8 : IsUtf8 name
+  pub bytes : All IsUncontrolled name

@@ -1,0 +1,158 @@
+-- Plain names: the name that a page has if nothing stands in its way. It is made of the page's address and the rules alone, host
+-- and path becoming directories (GNU Wget manual, Directory Options).
+use Rattle.std.specs.Prelude.{ℕ, Bool, true, false, not, ◌==◌, ◌&&◌, ◌||◌, ◌-◌, nat_lt, Option, Some, None, List, [], ◌∷◌, ◌++◌, map, take, drop, length, codes, string_bytes, if◌then◌else◌}
+use Rattle.std.specs.Char.{encode_utf8, to_ascii_lowercase, to_ascii_uppercase}
+use Rattle.std.specs.List.{slice_split, list_all, concat, filter, join_with_byte}
+use Rattle.std.specs.declared.string.String.{String}
+use Rattle.bstr.specs.Utf8.{Decoded, pieces}
+use Rattle.percent_encoding.specs.Percent.{percent_encode_byte, percent_decode}
+use Rattle.address.specs.Address.{AddressText, scheme_of, scheme_text, host_of, port_of, port_text, dir_of, file_of, query_of}
+use Rattle.local_names.specs.declared.rules.CharRules.{CharRules}
+use Rattle.local_names.specs.declared.rules.LetterCase.{LetterCase}
+use Rattle.local_names.specs.declared.rules.LetterCase.TheVariants.{AsIs, Lower, Upper}
+use Rattle.local_names.specs.declared.rules.NameRules.{NameRules}
+use Rattle.local_names.specs.declared.plain_name.TheConstants.{MAX_SEGMENT}
+
+-- what stands between the segments of a name
+abbrev pub slash : ℕ
+slash = 47
+
+-- the byte stands between two segments
+abbrev pub is_slash : ℕ → Bool
+is_slash byte = byte == slash
+
+-- the byte is a dot
+abbrev pub is_dot : ℕ → Bool
+is_dot byte = byte == 46
+
+-- the text isn't empty
+abbrev pub has_bytes : List ℕ → Bool
+has_bytes [] = false
+has_bytes (byte ∷ bytes) = true
+
+-- ---- characters
+
+-- a control byte
+abbrev pub is_control : ℕ → Bool
+is_control byte = nat_lt byte 32 || byte == 127
+
+-- a character that Windows refuses in a name: one of `" * : < > ? \ |`
+abbrev pub is_refused_by_windows : ℕ → Bool
+is_refused_by_windows c = c == 34 || c == 42 || c == 58 || c == 60 || c == 62 || c == 63 || c == 92 || c == 124
+
+-- a name has the character as it is
+abbrev pub is_kept : CharRules → ℕ → Bool
+is_kept rules c =
+    not (is_control c) && not (is_slash c) && not (rules.is_ascii && nat_lt 127 c) && not (rules.is_windows && is_refused_by_windows c)
+
+-- the character with ASCII's letters in this case
+abbrev pub in_case : LetterCase → ℕ → ℕ
+in_case AsIs c = c
+in_case Lower c = to_ascii_lowercase c
+in_case Upper c = to_ascii_uppercase c
+
+-- the rules for what isn't of the path: its letters stay as they are
+abbrev pub with_letters : CharRules → CharRules
+with_letters rules = record rules { letter_case = AsIs }
+
+-- ---- units
+
+-- bytes that a name has whole or not at all: a character, or an escape of a byte
+abbrev pub Unit : Type 0
+Unit = List ℕ
+
+-- the units of a piece of a text: of a character that is kept this, of any other piece an escape for each byte
+abbrev pub piece_units : CharRules → Option ℕ → List ℕ → List Unit
+piece_units rules None bytes = map percent_encode_byte bytes
+piece_units rules (Some c) bytes =
+    if is_kept rules c then encode_utf8 (in_case rules.letter_case c) ∷ [] else map percent_encode_byte bytes
+
+-- the units of these pieces of a text, one after another
+abbrev pub units_by : CharRules → List Decoded → List ℕ → List Unit
+units_by rules [] bytes = []
+units_by rules (piece ∷ others) bytes = piece_units rules piece.char (take piece.size bytes) ++ units_by rules others (drop piece.size bytes)
+
+-- the units of a text, whose pieces are characters in UTF-8 and bytes that aren't part of one
+unfoldable pub units_of : CharRules → List ℕ → List Unit
+units_of rules bytes = units_by rules (pieces bytes) bytes
+
+-- the same of what follows a mark, with this in its place
+abbrev pub marked_units : CharRules → ℕ → List ℕ → List Unit
+marked_units rules mark [] = []
+marked_units rules mark (byte ∷ bytes) = (mark ∷ []) ∷ units_of rules bytes
+
+-- ---- segments
+
+-- the units of a segment; if it is dots alone each is `%2E`, since `.` and `..` name other directories
+abbrev pub without_dots : List Unit → List Unit
+without_dots units = if list_all is_dot (concat units) then map (λ dot. percent_encode_byte 46) units else units
+
+-- the first units that have no more bytes than this
+abbrev pub cut : ℕ → List Unit → List ℕ
+cut room [] = []
+cut room (unit ∷ units) = if nat_lt room (length unit) then [] else (unit ++ cut (room - length unit) units)
+
+-- the segment as it stands in a name: its dots escaped, and then cut
+abbrev pub local_segment : List Unit → List ℕ
+local_segment units = cut MAX_SEGMENT (without_dots units)
+
+-- ---- the segments of a page's name
+
+-- what stands between host and port, and between file name and query
+abbrev pub port_mark : CharRules → ℕ
+port_mark rules = if rules.is_windows then 43 else 58
+
+abbrev pub query_mark : CharRules → ℕ
+query_mark rules = if rules.is_windows then 64 else 63
+
+-- host and port (the port unless it is the scheme's)
+abbrev pub host_units : NameRules → AddressText → List Unit
+host_units rules page =
+    units_of (with_letters rules.chars) (host_of page) ++ marked_units (with_letters rules.chars) (port_mark rules.chars) (port_text (port_of page))
+
+-- the segments of a path's directory; empty ones are left out
+abbrev pub dir_segments : List ℕ → List (List ℕ)
+dir_segments dir = filter has_bytes (slice_split is_slash dir)
+
+-- a segment of the path: its escapes are decoded once
+abbrev pub path_units : NameRules → List ℕ → List Unit
+path_units rules segment = units_of rules.chars (percent_decode segment)
+
+-- the name that is asked for, or `index.html` if none is, or an empty one
+abbrev pub or_index : {Y : Type 0} → Option (String Y) → List ℕ
+or_index None = codes "index.html"
+or_index (Some name) = if has_bytes (string_bytes name) then string_bytes name else codes "index.html"
+
+-- the name of a page whose path ends in `/`
+abbrev pub default_page : NameRules → List ℕ
+default_page rules = or_index rules.default_page
+
+-- the file name, or that of such a page, and the query
+abbrev pub file_units : NameRules → List ℕ → List Unit
+file_units rules file = if has_bytes file then path_units rules file else units_of rules.chars (default_page rules)
+
+abbrev pub last_units : NameRules → AddressText → List Unit
+last_units rules page =
+    file_units rules (file_of page) ++ marked_units (with_letters rules.chars) (query_mark rules.chars) (percent_decode (query_of page))
+
+-- what stands in front of the path: the scheme, and the host
+abbrev pub scheme_segment : NameRules → AddressText → List (List Unit)
+scheme_segment rules page = if rules.has_protocol then units_of (with_letters rules.chars) (scheme_text (scheme_of page)) ∷ [] else []
+
+abbrev pub host_segment : NameRules → AddressText → List (List Unit)
+host_segment rules page = if rules.has_host then host_units rules page ∷ [] else []
+
+-- the directories of a name: those in front, and those of the path but for the first that are cut
+abbrev pub front_segments : NameRules → AddressText → List (List Unit)
+front_segments rules page =
+    if rules.has_directories
+    then (scheme_segment rules page ++ (host_segment rules page ++ map (path_units rules) (drop rules.cut_dirs (dir_segments (dir_of page)))))
+    else []
+
+-- the segments of a page's name: its directories, and the last
+unfoldable pub segments_of : NameRules → AddressText → List (List ℕ)
+segments_of rules page = map local_segment (front_segments rules page ++ last_units rules page ∷ [])
+
+-- the plain name of a page
+unfoldable pub plain_name_of : NameRules → AddressText → List ℕ
+plain_name_of rules page = join_with_byte slash (segments_of rules page)

@@ -1,0 +1,4 @@
+-- Definitions that proofs alone need: no public clause cites them.
+pub mod LocalNames
+pub mod Taken
+pub mod Units

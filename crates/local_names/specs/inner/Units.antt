@@ -1,0 +1,35 @@
+-- Units as the code has them, and names to which segments are added.
+use Rattle.std.specs.Prelude.{ℕ, Bool, List, [], ◌∷◌, ◌++◌, if◌then◌else◌}
+use Rattle.std.specs.Char.{encode_utf8}
+use Rattle.std.specs.List.{list_all}
+use denote.Ref.{Bor}
+use Rattle.percent_encoding.specs.Percent.{percent_encode_byte}
+use Rattle.local_names.specs.declared.unit.Unit.{Unit}
+use Rattle.local_names.specs.declared.unit.Unit.TheVariants.{Char, Escape}
+use Rattle.local_names.specs.PlainNames.{slash, is_dot, has_bytes}
+
+-- the bytes of a unit
+abbrev pub unit_text : Unit → List ℕ
+unit_text (Char c) = encode_utf8 c
+unit_text (Escape byte) = percent_encode_byte byte
+
+-- the unit is a dot
+abbrev pub is_dot_unit : Unit → Bool
+is_dot_unit unit = list_all is_dot (unit_text unit)
+
+-- the bytes that are lent
+abbrev pub lent_bytes : Bor (List ℕ) → List ℕ
+lent_bytes bytes = bytes.now
+
+-- a name to which a segment is to be added: with a slash, if it has others
+abbrev pub started : List ℕ → List ℕ
+started name = if has_bytes name then (name ++ slash ∷ []) else []
+
+-- the name with one segment more
+abbrev pub below : List ℕ → List ℕ → List ℕ
+below name segment = started name ++ segment
+
+-- the name with these segments more
+abbrev pub all_below : List ℕ → List (List ℕ) → List ℕ
+all_below name [] = name
+all_below name (segment ∷ segments) = all_below (below name segment) segments

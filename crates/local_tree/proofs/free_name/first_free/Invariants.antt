@@ -1,7 +1,0 @@
-use Rattle.std.proofs.Common.{ℕ, ◌<◌, map}
-use Rattle.local_tree.specs.Names.{numbered_name}
-use Rattle.local_tree.specs.inner.Taken.{lent_text, IsNameTaken}
-use Rattle.local_tree.proofs.free_name.first_free.Given as goal
-
-abbrev pub invariant-loop-number : goal.invariant-loop-number
-invariant-loop-number l = (k : ℕ) → k < l.number → IsNameTaken (map lent_text l.sorted) l.next (numbered_name l.plain k)

@@ -1,3 +1,0 @@
--- Definitions that proofs alone need: no public clause cites them.
-pub mod LocalNames
-pub mod Taken
