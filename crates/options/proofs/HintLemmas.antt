@@ -1,11 +1,12 @@
--- What is found in words and in rows.
-use Rattle.std.proofs.Common.{◌≡◌, ◌∙◌, ◌++◌, ◌||◌, ◌==◌, ◌+◌, ◌<◌, ◌≤◌, ℕ, Bool, true, false, Bor, List, [], ◌∷◌, Some, None, drop, get_or, if◌then◌else◌, length, map, refl, sym, ap}
+-- What is found in rows and forms.
+use Rattle.std.proofs.Common.{◌≡◌, ◌∙◌, ◌++◌, ◌||◌, ◌+◌, ◌<◌, ◌≤◌, ℕ, Bool, true, false, Bor, List, [], ◌∷◌, Some, None, drop, get_or, if◌then◌else◌, length, map, refl, ap}
 use Rattle.std.specs.List.{flat_map, list_any}
 use Rattle.std.proofs.Math.ListN.{drop_of_length-le}
 use Rattle.std.proofs.lemmas.List.{drop_more}
 use Rattle.options.specs.declared.table.Row.{Row}
-use Rattle.options.specs.declared.table.TheConstants.{WGET}
-use Rattle.options.specs.Hints.{first_near, foreign_text, form_hint, form_of, is_form_of, is_near, is_own, long_hint, long_name, wget, words_hint}
+use Rattle.options.specs.Hints.{first_near, foreign_text, form_hint, is_form_of, is_near, is_own, long_hint}
+use Rattle.options.specs.Meant.{long_name, meant}
+use Rattle.options.specs.Table.{wget}
 use Rattle.options.specs.inner.Table.{row_in}
 
 pub flat_map-map : {X : Type 0} (f : List ℕ → List ℕ) (now : X → List ℕ) (xs : List X) → flat_map (λ x. f (now x)) xs ≡ flat_map f (map now xs)
@@ -33,44 +34,22 @@ first_near-later most name rows i d below far =
 pub first_near-end : (most : ℕ) (name : List ℕ) (rows : List (Row (Bor (List ℕ)))) (i : ℕ) → length rows ≤ i → first_near most name (map row_in (drop i rows)) ≡ None
 first_near-end most name rows i past = ap (λ left. first_near most name (map row_in left)) (drop_of_length-le rows past)
 
--- ---- the first word of which something is said
-
-pub words_hint-here : (words : List (Bor (List ℕ))) (i : ℕ) (d : Bor (List ℕ)) → i < length words → (length (form_hint (form_of (get_or words i d).now)) == 0) ≡ false
-    → words_hint (map (λ w. w.now) (drop i words)) ≡ form_hint (form_of (get_or words i d).now)
-words_hint-here words i d below said =
-    ap words_hint (ahead (λ w. w.now) words i d below)
-    ∙ ap (λ b. if b then words_hint (map (λ w. w.now) (drop (i + 1) words)) else form_hint (form_of (get_or words i d).now)) said
-
-pub words_hint-later : (words : List (Bor (List ℕ))) (i : ℕ) (d : Bor (List ℕ)) → i < length words → (length (form_hint (form_of (get_or words i d).now)) == 0) ≡ true
-    → words_hint (map (λ w. w.now) (drop i words)) ≡ words_hint (map (λ w. w.now) (drop (i + 1) words))
-words_hint-later words i d below none =
-    ap words_hint (ahead (λ w. w.now) words i d below)
-    ∙ ap (λ b. if b then words_hint (map (λ w. w.now) (drop (i + 1) words)) else form_hint (form_of (get_or words i d).now)) none
-
-pub words_hint-end : (words : List (Bor (List ℕ))) (i : ℕ) → length words ≤ i → words_hint (map (λ w. w.now) (drop i words)) ≡ []
-words_hint-end words i past = ap (λ left. words_hint (map (λ w. w.now) left)) (drop_of_length-le words past)
-
 -- ---- any of a list
 
 pub any-map : {X : Type 0} {Y : Type 0} (f : X → Y) (p : Y → Bool) (xs : List X) → list_any p (map f xs) ≡ list_any (λ x. p (f x)) xs
 any-map f p [] = refl
 any-map f p (x ∷ xs) = ap (λ b. p (f x) || b) (any-map f p xs)
 
--- the forms that the code has are those of Wget's
-pub foreign_in : (form : List ℕ) (r : Bool) → r ≡ list_any (λ option. is_form_of form option.now) WGET → r ≡ list_any (is_form_of form) wget
-unfolding wget
-foreign_in form r is = is ∙ sym (any-map (λ option. option.now) (is_form_of form) WGET)
-
 -- ---- what is said of a form
 
-pub form_hint-own : (form : List ℕ) → is_own form ≡ true → form_hint form ≡ []
+pub form_hint-own : (form : List ℕ) → is_own (meant form) ≡ true → form_hint form ≡ []
 unfolding form_hint
 form_hint-own form own = rw own refl
 
-pub form_hint-foreign : (form : List ℕ) → is_own form ≡ false → list_any (is_form_of form) wget ≡ true → form_hint form ≡ foreign_text form
+pub form_hint-foreign : (form : List ℕ) → is_own (meant form) ≡ false → list_any (is_form_of (meant form)) wget ≡ true → form_hint form ≡ foreign_text form
 unfolding form_hint
 form_hint-foreign form other foreign = rw (other, foreign) refl
 
-pub form_hint-long : (form : List ℕ) → is_own form ≡ false → list_any (is_form_of form) wget ≡ false → form_hint form ≡ long_hint form (long_name form)
+pub form_hint-long : (form : List ℕ) → is_own (meant form) ≡ false → list_any (is_form_of (meant form)) wget ≡ false → form_hint form ≡ long_hint form (long_name form)
 unfolding form_hint
 form_hint-long form other own = rw (other, own) refl

@@ -3,3 +3,5 @@ pub mod LineLemmas
 pub mod ReadLemmas
 pub mod HintLemmas
 pub mod TextLemmas
+pub mod WordLemmas
+pub mod SameLemmas

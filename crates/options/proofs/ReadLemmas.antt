@@ -15,7 +15,7 @@ use Rattle.options.specs.declared.fault.LineFault.TheVariants as fault
 use Rattle.options.specs.Line.{rows, refusals}
 use Rattle.follow_filters.specs.declared.limit.Limit.{Limit}
 use Rattle.options.specs.Given.{level_of}
-use Rattle.options.specs.Order.{Counts, proxy_of, start_of, started_at, are_good, counts_of, patterns_of, directories_of, domains_of, order_of_rows, order_of, are_taken, words_refused, AnswersOrder, without_kind, ordered}
+use Rattle.options.specs.Order.{Counts, proxy_of, start_of, started_at, are_good, counts_of, patterns_of, directories_of, domains_of, order_of_rows, order_of_written, are_taken, words_refused, AnswersOrder, without_kind, ordered}
 use Rattle.options.specs.inner.Order.{Both, StartsAt, FailsToStart, FailsToFilter, fault_of_kind}
 
 pub starts-at : (found : List Row) (start : List ℕ) → start_of found ≡ Ok start → is_robots_file start ≡ false → StartsAt found start
@@ -76,13 +76,13 @@ no_kinds : (kind : ErrorKind) (kinds : List ErrorKind) → IsAmong kind kinds �
 no_kinds kind [] among = absurd among
 no_kinds kind (k ∷ kinds) among = refl
 
-pub order_of-refused : (words : List Text) (kind : ErrorKind) → IsAmong kind (refusals words) → order_of words ≡ Err words_refused
-unfolding order_of
-order_of-refused words kind among = rw (no_kinds kind (refusals words) among) refl
+pub order_of_written-refused : (words : List Text) (kind : ErrorKind) → IsAmong kind (refusals words) → order_of_written words ≡ Err words_refused
+unfolding order_of_written
+order_of_written-refused words kind among = rw (no_kinds kind (refusals words) among) refl
 
-pub order_of-taken : (words : List Text) (found : List Row) → refusals words ≡ [] → found ≡ rows words → order_of words ≡ order_of_rows found
-unfolding order_of
-order_of-taken words found none same = rw none (ap order_of_rows (sym same))
+pub order_of_written-taken : (words : List Text) (found : List Row) → refusals words ≡ [] → found ≡ rows words → order_of_written words ≡ order_of_rows found
+unfolding order_of_written
+order_of_written-taken words found none same = rw none (ap order_of_rows (sym same))
 
 -- ---- the start
 
@@ -107,8 +107,8 @@ started found read (Err f) gives page =
     page
 
 -- what a parse that succeeds answers
-pub answers-taken : (words : List Text) (found : List Row) (r : Result Order LineFault) → refusals words ≡ [] → found ≡ rows words → AnswersOrder r (order_of_rows found) → AnswersOrder r (order_of words)
-answers-taken words found r none same says = subst (AnswersOrder r) (sym (order_of-taken words found none same)) says
+pub answers-taken : (words : List Text) (found : List Row) (r : Result Order LineFault) → refusals words ≡ [] → found ≡ rows words → AnswersOrder r (order_of_rows found) → AnswersOrder r (order_of_written words)
+answers-taken words found r none same says = subst (AnswersOrder r) (sym (order_of_written-taken words found none same)) says
 
 -- the fault of a kind
 fault_kind : (kind : ErrorKind) → (without_kind (fault_of_kind kind) ≡ words_refused) ⊎ (kind ≡ kinds.OutOfMemory)
@@ -131,11 +131,11 @@ fault_kind kinds.Format = inl refl
 fault_kind kinds.OutOfMemory = inr refl
 
 -- what a parse that fails answers
-pub answers-refused : (words : List Text) (kind : ErrorKind) (f : LineFault) → f ≡ fault_of_kind kind → (kind ≡ kinds.OutOfMemory) ⊎ IsAmong kind (refusals words) → (order_of words ≡ Err (without_kind f)) ⊎ (f ≡ fault.Memory)
+pub answers-refused : (words : List Text) (kind : ErrorKind) (f : LineFault) → f ≡ fault_of_kind kind → (kind ≡ kinds.OutOfMemory) ⊎ IsAmong kind (refusals words) → (order_of_written words ≡ Err (without_kind f)) ⊎ (f ≡ fault.Memory)
 answers-refused words kind f is fails = ⊎_elim
     (λ memory. inr (is ∙ ap fault_of_kind memory))
     (λ among. ⊎_elim
-    (λ refused. inl (order_of-refused words kind among ∙ ap Err (sym (ap without_kind is ∙ refused))))
+    (λ refused. inl (order_of_written-refused words kind among ∙ ap Err (sym (ap without_kind is ∙ refused))))
     (λ memory. inr (is ∙ ap fault_of_kind memory))
     (fault_kind kind))
     fails

@@ -32,9 +32,12 @@ forms : map forms_of table ≡ (codes "r", codes "recursive", None) ∷ (codes "
     ∷ (codes "n", codes "n", Some (codes "p")) ∷ (codes "np", codes "no-parent", None) ∷ (codes "H", codes "span-hosts", None)
     ∷ (codes "D", codes "domains", Some (codes "LIST")) ∷ ([], codes "exclude-domains", Some (codes "LIST")) ∷ (codes "I", codes "include-directories", Some (codes "LIST"))
     ∷ (codes "X", codes "exclude-directories", Some (codes "LIST")) ∷ (codes "A", codes "accept", Some (codes "LIST")) ∷ (codes "R", codes "reject", Some (codes "LIST"))
-    ∷ (codes "e", codes "execute", Some (codes "COMMAND")) ∷ ([], codes "workers", Some (codes "N")) ∷ ([], codes "per-host", Some (codes "N"))
+    ∷ (codes "e", codes "execute", Some (codes "COMMAND")) ∷ ([], codes "no-robots", None) ∷ ([], codes "workers", Some (codes "N")) ∷ ([], codes "per-host", Some (codes "N"))
     ∷ ([], codes "no-http-keep-alive", None) ∷ ([], codes "https-proxy", Some (codes "URL")) ∷ ([], codes "max-urls", Some (codes "N")) ∷ ([], codes "map", None) ∷ ([], codes "record", None) ∷ ([], codes "resume", Some (codes "FILE"))
-    ∷ (codes "P", codes "directory-prefix", Some (codes "DIR")) ∷ ([], codes "trace", None) ∷ ([], codes "save", Some (codes "FILE")) ∷ []
+    ∷ (codes "P", codes "directory-prefix", Some (codes "DIR")) ∷ ([], codes "trace", None) ∷ ([], codes "save", Some (codes "FILE"))
+    ∷ (codes "nv", codes "no-verbose", None) ∷ (codes "x", codes "force-directories", None) ∷ ([], codes "no-cookies", None) ∷ ([], codes "no-hsts", None) ∷ ([], codes "no-config", None)
+    ∷ ([], codes "no-netrc", None) ∷ ([], codes "unlink", None) ∷ ([], codes "no-remove-listing", None) ∷ ([], codes "show-progress", None) ∷ ([], codes "no-xattr", None)
+    ∷ ([], codes "no-strict-comments", None) ∷ ([], codes "no-follow-ftp", None) ∷ ([], codes "progress", Some (codes "TYPE")) ∷ ([], codes "compression", Some (codes "none")) ∷ []
 unfolding table
 forms = refl
 

@@ -20,7 +20,9 @@ short_text short = if length short == 0 then [] else codes "  -" ++ short ++ cod
 -- the name of what stands behind an option
 abbrev pub value_name : Kind Text → Option Text
 value_name kind.Flag = None
+value_name kind.Holds = None
 value_name (kind.Value name) = Some name
+value_name (kind.List name) = Some name
 value_name (kind.Usual name usual) = Some name
 value_name (kind.Number most usual) = Some (codes "N")
 
@@ -36,7 +38,9 @@ left_text row = in_columns 7 (short_text row.short) ++ codes "--" ++ row.name ++
 -- what counts where an option isn't given, and its range
 abbrev pub usual_text : Kind Text → Text
 usual_text kind.Flag = []
+usual_text kind.Holds = []
 usual_text (kind.Value name) = []
+usual_text (kind.List name) = []
 usual_text (kind.Usual name usual) = codes " (" ++ usual ++ codes ")"
 usual_text (kind.Number most usual) = codes ", 1 to " ++ decimal most ++ codes " (" ++ decimal usual ++ codes ")"
 

@@ -1,11 +1,10 @@
 -- What was likely meant by words that are refused.
-use Rattle.std.specs.Prelude.{◌&&◌, ◌||◌, ◌==◌, ◌++◌, ℕ, Bool, false, not, List, [], ◌∷◌, Option, Some, None, Ok, Err, Result, bytes_eq, codes, length, map, nat_eq, nat_le, nat_lt, option_and_then, unwrap_or, if◌then◌else◌}
-use Rattle.std.specs.List.{after_first, before_first, list_any, starts_with}
+use Rattle.std.specs.Prelude.{◌&&◌, ◌||◌, ◌==◌, ◌++◌, ℕ, Bool, true, false, not, List, [], ◌∷◌, Option, Some, None, Ok, Err, Result, bytes_eq, codes, length, nat_eq, nat_le, nat_lt, unwrap_or, if◌then◌else◌}
+use Rattle.std.specs.List.{after_first, before_first, flat_map, list_any, starts_with}
 use Rattle.std.specs.Option.{option_map_or}
 use Rattle.std.specs.Str.{chars}
 use Rattle.strsim.specs.Edits.{osa_table}
-use Rattle.clap.specs.Lexer.{strip_byte}
-use Rattle.clap.specs.Walk.{Text, first_of}
+use Rattle.clap.specs.Walk.{Text}
 use Rattle.clap.specs.declared.error.ErrorKind.{ErrorKind}
 use Rattle.clap.specs.declared.error.ErrorKind.TheVariants as kind
 use Rattle.address.specs.Address.{read_address}
@@ -14,10 +13,12 @@ use Rattle.address.specs.declared.fault.AddressFault.TheVariants as refused
 use Rattle.options.specs.declared.fault.LineFault.{LineFault}
 use Rattle.options.specs.declared.fault.LineFault.TheVariants as line
 use Rattle.options.specs.declared.table.Row.{Row}
-use Rattle.options.specs.declared.table.TheConstants.{WGET}
-use Rattle.options.specs.Line.{refusals, rows}
-use Rattle.options.specs.Order.{are_taken}
-use Rattle.options.specs.Table.{table}
+use Rattle.options.specs.declared.said.Meaning.{Meaning}
+use Rattle.options.specs.declared.said.Meaning.TheVariants as meaning
+use Rattle.options.specs.Meant.{fronts, long_name, meant}
+use Rattle.options.specs.Said.{named, sayings}
+use Rattle.options.specs.Table.{table, wget}
+use Rattle.options.specs.Written.{first_start, first_unread}
 
 -- ---- forms of options
 
@@ -25,21 +26,11 @@ use Rattle.options.specs.Table.{table}
 abbrev pub form_of : Text → Text
 form_of word = before_first (λ byte. byte == 61) word
 
--- the text behind a dash
-abbrev pub without_dash : Text → Option Text
-without_dash text = strip_byte 45 text
-
--- the name of a long form
-abbrev pub long_name : Text → Option Text
-long_name form = option_and_then without_dash (without_dash form)
-
--- the option has this name as its long form
-abbrev pub is_long_form : Text → Row Text → Bool
-is_long_form name row = bytes_eq row.name name && not (bytes_eq row.name row.short)
-
--- the forms of options of Wget that this program doesn't have
-unfoldable pub wget : List Text
-wget = map (λ form. form.now) WGET
+-- the form means something, or waits for a value
+abbrev pub is_known : Meaning Text → Bool
+is_known (meaning.Means name value) = true
+is_known (meaning.Waits name) = true
+is_known meaning.Unknown = false
 
 -- the form of an option of Wget; behind a short one others, or its value, may stand
 abbrev pub is_form_of : Text → Text → Bool
@@ -77,33 +68,52 @@ abbrev pub near_text : Text → Option Text → Text
 near_text form None = codes ": " ++ form
 near_text form (Some name) = codes ": " ++ form ++ codes " (did you mean --" ++ name ++ codes "?)"
 
--- of a long form that no option has
+-- of a long form that is no front
 unfoldable pub name_hint : Text → Text → Text
 name_hint form name = near_text form (nearest name table)
+
+-- forms, each behind a space
+abbrev pub forms_text : List Text → Text
+forms_text forms = flat_map (λ form. codes " " ++ form) forms
+
+-- of a front of several forms
+abbrev pub several_text : Text → List Text → Text
+several_text form forms = codes ": " ++ form ++ codes " (the front of" ++ forms_text forms ++ codes ")"
+
+-- of a long form that no option has, and of which these are whole forms
+abbrev pub front_text : Text → Text → List Text → Text
+front_text form name [] = name_hint form name
+front_text form name (whole ∷ more) = several_text form (whole ∷ more)
+
+abbrev pub front_hint : Text → Text → Text
+front_hint form name = front_text form name (fronts form)
 
 -- of a form that isn't one of Wget's alone: nothing, unless it is a long form that no option has
 abbrev pub long_hint : Text → Option Text → Text
 long_hint form None = []
-long_hint form (Some name) = if length name == 0 then [] else name_hint form name
+long_hint form (Some name) = if length name == 0 then [] else front_hint form name
 
 -- of a form of Wget's
 abbrev pub foreign_text : Text → Text
 foreign_text form = codes ": " ++ form ++ codes " (an option of Wget that wgetr doesn't have)"
 
--- the form is the long form of an option
+-- the form is the long form of an option, or of its opposite
 unfoldable pub is_own : Text → Bool
-is_own form = option_map_or (λ name. list_any (is_long_form name) table) (long_name form) false
+is_own form = option_map_or (λ name. is_known (named name None table)) (long_name form) false
 
 -- of a form: nothing where an option has it
 unfoldable pub form_hint : Text → Text
 form_hint form =
-    if is_own form then [] else (if list_any (is_form_of form) wget then foreign_text form else long_hint form (long_name form))
+    if is_own (meant form) then [] else (if list_any (is_form_of (meant form)) wget then foreign_text form else long_hint form (long_name form))
 
--- of words: what is said of the first of which something is said
+-- of the first word that isn't read
+abbrev pub unread_hint : Option Text → Text
+unread_hint None = []
+unread_hint (Some word) = form_hint (form_of word)
+
+-- of words
 abbrev pub words_hint : List Text → Text
-words_hint [] = []
-words_hint (word ∷ words) =
-    if length (form_hint (form_of word)) == 0 then words_hint words else form_hint (form_of word)
+words_hint words = unread_hint (first_unread (sayings words))
 
 -- ---- what is said of a start
 
@@ -120,13 +130,9 @@ address_text (Ok address) = codes " (did you mean " ++ address ++ codes "?)"
 abbrev pub scheme_hint : Text → Text
 scheme_hint start = if has_scheme start then [] else address_text (read_address (codes "http://" ++ start))
 
--- the start of words, empty where the words are refused
-abbrev pub start_in : List Text → Text
-start_in words = if are_taken (refusals words) then unwrap_or (first_of (codes "start") (rows words)) [] else []
-
 -- of the start of words
 abbrev pub start_hint : List Text → Text
-start_hint words = scheme_hint (start_in words)
+start_hint words = scheme_hint (unwrap_or (first_start (sayings words)) [])
 
 -- ---- what is said of a fault
 

@@ -24,7 +24,9 @@ number_rule most rule = record rule { parser = Some (value.Signed (pos 1) (pos m
 -- the rule with what stands behind an option: a flag has no value
 abbrev pub with_kind : Kind Text → Rule → Rule
 with_kind kind.Flag rule = record rule { action = Some SetTrue }
+with_kind kind.Holds rule = record rule { action = Some SetTrue }
 with_kind (kind.Value name) rule = rule
+with_kind (kind.List name) rule = rule
 with_kind (kind.Usual name usual) rule = rule
 with_kind (kind.Number most usual) rule = number_rule most rule
 

@@ -1,6 +1,5 @@
 -- What the words order, or why they are refused: one function of the words.
-use Rattle.std.specs.Prelude.{◌≡◌, ◌⊎◌, ◌==◌, ℕ, length, option_and_then, Bool, true, false, not, ◌&&◌, ◌||◌, List, [], ◌∷◌, codes, Option, Some, None, is_some, unwrap_or, bytes_eq, option_map, Result, Ok, Err, MatchResult, if◌then◌else◌}
-use Rattle.std.specs.Option.{option_eq}
+use Rattle.std.specs.Prelude.{◌≡◌, ◌⊎◌, ◌==◌, ℕ, length, option_and_then, Bool, true, false, not, ◌&&◌, List, [], ◌∷◌, codes, Option, Some, None, is_some, unwrap_or, bytes_eq, option_map, Result, Ok, Err, MatchResult, if◌then◌else◌}
 use Rattle.clap.specs.Kinds.{Kinds}
 use Rattle.clap.specs.Walk.{Row, Text, first_of}
 use Rattle.clap.specs.declared.error.ErrorKind.TheVariants.{InvalidValue}
@@ -20,25 +19,21 @@ use Rattle.options.specs.declared.fault.LineFault.{LineFault}
 use Rattle.options.specs.declared.fault.LineFault.TheVariants as fault
 use Rattle.options.specs.Line.{rows, refusals}
 use Rattle.options.specs.Given.{is_set, level_of, number_given, list_of}
+use Rattle.options.specs.declared.said.Saying.{Saying}
+use Rattle.options.specs.Said.{sayings}
+use Rattle.options.specs.Start.{with_scheme}
+use Rattle.options.specs.Written.{SayTheSame, first_unread, written}
 
 -- ---- words that `clap` takes and that are refused all the same
 
--- `-n` isn't given, or its value is `p`
-abbrev pub is_parent_value : Option Text → Bool
-is_parent_value None = true
-is_parent_value (Some value) = bytes_eq value (codes "p")
+-- an encoding of bodies isn't asked for: `--compression` isn't given, or its value is `none`
+abbrev pub is_plain_value : Option Text → Bool
+is_plain_value None = true
+is_plain_value (Some value) = bytes_eq value (codes "none")
 
--- `-e` isn't given, or its value is `robots=off` or `robots=on`
-abbrev pub is_robots_value : Option Text → Bool
-is_robots_value None = true
-is_robots_value (Some value) = bytes_eq value (codes "robots=off") || bytes_eq value (codes "robots=on")
-
--- `-n` and `-e` have values that they may have, and `-np` doesn't stand beside `--no-parent`, which is the same option
+-- `--compression` has a value that it may have
 unfoldable pub are_good : List Row → Bool
-are_good found =
-    is_parent_value (first_of (codes "n") found)
-    && not (is_some (first_of (codes "n") found) && is_set (codes "no-parent") found)
-    && is_robots_value (first_of (codes "execute") found)
+are_good found = is_plain_value (first_of (codes "compression") found)
 
 -- ---- the order
 
@@ -123,10 +118,10 @@ abbrev pub read_start : Bool → Text → Result (List ℕ) AddressFault
 read_start false text = read_address text
 read_start true text = read_either text
 
--- the start, or why it is no address
+-- the start, or why it is no address; `http` is its scheme where it has none
 unfoldable pub start_of : List Row → Result (List ℕ) AddressFault
 start_of found =
-    read_start (is_some (first_of (codes "https-proxy") found)) (unwrap_or (first_of (codes "start") found) [])
+    read_start (is_some (first_of (codes "https-proxy") found)) (with_scheme (unwrap_or (first_of (codes "start") found) []))
 
 -- the start, and what follows from it
 abbrev pub started_at : {Y : Type 0} → Result (List ℕ) AddressFault → (List ℕ → Result Y LineFault) → Result Y LineFault
@@ -137,17 +132,9 @@ started_at (Ok start) next = if is_robots_file start then Err fault.StartIsRobot
 abbrev pub source_of : List Row → Source
 source_of found = if is_set (codes "map") found then Map else (if is_set (codes "record") found then Recorded else Live)
 
--- `-np` or `--no-parent` is given
-abbrev pub has_no_parent : List Row → Bool
-has_no_parent found = is_some (first_of (codes "n") found) || is_set (codes "no-parent") found
-
--- robots files are turned off
-abbrev pub has_robots_off : List Row → Bool
-has_robots_off found = option_eq bytes_eq (first_of (codes "execute") found) (Some (codes "robots=off"))
-
 -- robots files are honoured: links are followed, and they aren't turned off
 abbrev pub honours_robots : List Row → Bool
-honours_robots found = is_set (codes "recursive") found && not (has_robots_off found)
+honours_robots found = is_set (codes "recursive") found && not (is_set (codes "no-robots") found)
 
 -- the limit of the level, or no hop where links aren't followed
 abbrev pub limit_within : Limit → List Row → Limit
@@ -174,7 +161,7 @@ ordered found counts proxy level patterns directories domains start = record {
   others = [];
   limit = limit_within level found;
   span_hosts = is_set (codes "span-hosts") found;
-  no_parent = has_no_parent found;
+  no_parent = is_set (codes "no-parent") found;
   domains = domains.0;
   exclude_domains = domains.1;
   include_dirs = directories.0;
@@ -212,9 +199,21 @@ abbrev pub are_taken : Kinds → Bool
 are_taken [] = true
 are_taken (kind ∷ kinds) = false
 
+-- what words that are written out order, or the lowest fault
+unfoldable pub order_of_written : List Text → Result Ordered LineFault
+order_of_written words = if are_taken (refusals words) then order_of_rows (rows words) else Err words_refused
+
+-- what is ordered by what is said, or the lowest fault: each word is read
+unfoldable pub order_said : List (Saying Text) → Result Ordered LineFault
+order_said said = if is_some (first_unread said) then Err words_refused else order_of_written (written said)
+
 -- what the words order, or the lowest fault
-unfoldable pub order_of : List Text → Result Ordered LineFault
-order_of words = if are_taken (refusals words) then order_of_rows (rows words) else Err words_refused
+abbrev pub order_of : List Text → Result Ordered LineFault
+order_of words = order_said (sayings words)
+
+-- words that say the same of each option last order the same as these
+abbrev pub OrdersBySayings : List Text → Type 0
+OrdersBySayings words = (others : List Text) → SayTheSame words others → order_of words ≡ order_of others
 
 -- ---- what `read_order` answers
 

@@ -1,15 +1,18 @@
--- The table of options, with its texts as lists.
+-- The table of options, the forms of Wget's and of this program's own, and the commands of wgetrc, with their texts as lists.
 use Rattle.std.specs.Prelude.{List, map}
 use Rattle.clap.specs.Walk.{Text}
+use Rattle.options.specs.declared.table.Command.{Command}
 use Rattle.options.specs.declared.table.Kind.{Kind}
 use Rattle.options.specs.declared.table.Kind.TheVariants as kind
 use Rattle.options.specs.declared.table.Row.{Row}
-use Rattle.options.specs.declared.table.TheConstants.{TABLE}
+use Rattle.options.specs.declared.table.TheConstants.{COMMANDS, OWN, TABLE, WGET}
 
 -- what stands behind an option, its texts read so
 abbrev pub kind_by : {T : Type 0} → (T → Text) → Kind T → Kind Text
 kind_by read kind.Flag = kind.Flag
+kind_by read kind.Holds = kind.Holds
 kind_by read (kind.Value name) = kind.Value (read name)
+kind_by read (kind.List name) = kind.List (read name)
 kind_by read (kind.Usual name usual) = kind.Usual (read name) (read usual)
 kind_by read (kind.Number most usual) = kind.Number most usual
 
@@ -21,3 +24,19 @@ row_by read row =
 -- the options
 unfoldable pub table : List (Row Text)
 table = map (row_by (λ text. text.now)) TABLE
+
+-- the forms of Wget's options
+unfoldable pub wget : List Text
+wget = map (λ form. form.now) WGET
+
+-- the long forms of options that Wget doesn't have
+unfoldable pub own : List Text
+own = map (λ form. form.now) OWN
+
+-- a command, its texts read so
+abbrev pub command_by : {T : Type 0} → (T → Text) → Command T → Command Text
+command_by read command = record { name = read command.name; option = read command.option }
+
+-- the commands of wgetrc whose options are here
+unfoldable pub commands : List (Command Text)
+commands = map (command_by (λ text. text.now)) COMMANDS

@@ -59,8 +59,8 @@ fn value_name(kind: &Kind<&'static str>) -> Option<&'static str>
     ensures { option_map (λ name. name.now) result ≡ value_name (kind_in kind.now) }
 {
     match kind {
-        Kind::Flag => None,
-        Kind::Value(name) => Some(*name),
+        Kind::Flag | Kind::Holds => None,
+        Kind::Value(name) | Kind::List(name) => Some(*name),
         Kind::Usual(name, _) => Some(*name),
         Kind::Number(_, _) => Some("N"),
     }
@@ -105,8 +105,8 @@ fn usual_text(alloc: Global, kind: &Kind<&'static str>) -> Result<String, AllocE
     ensures { IfOk result (λ text. string_bytes text ≡ usual_text (kind_in kind.now)) }
 {
     match kind {
-        Kind::Flag => Ok(String::new(alloc)),
-        Kind::Value(_) => Ok(String::new(alloc)),
+        Kind::Flag | Kind::Holds => Ok(String::new(alloc)),
+        Kind::Value(_) | Kind::List(_) => Ok(String::new(alloc)),
         Kind::Usual(_, usual) => format!(in alloc; " ({usual})"),
         Kind::Number(most, usual) => range_text(alloc, *most, *usual),
     }

@@ -1,14 +1,16 @@
 //! What was likely meant by words that are refused.
-ghost use Rattle.std.specs.Prelude.{◌≡◌, ◌≢◌, ◌++◌, Err, codes, IfOk, length, map, option_map, string_bytes};
+ghost use Rattle.std.specs.Prelude.{◌≡◌, ◌≢◌, ◌++◌, Err, codes, IfOk, OnOk, length, map, option_map, string_bytes};
 ghost use Rattle.std.specs.List.{list_any};
-ghost use Rattle.options.specs.Hints.{address_text, first_near, foreign_text, form_hint, form_of, has_scheme, hint_on, is_form_of, is_long_form, is_near, is_own, kind_hint, long_hint, long_name, name_hint, near_text, nearest, scheme_hint, start_hint, start_in, without_dash, words_hint};
+ghost use Rattle.options.specs.Hints.{address_text, first_near, foreign_text, form_hint, form_of, forms_text, front_hint, has_scheme, hint_on, is_form_of, is_known, is_near, is_own, kind_hint, long_hint, name_hint, near_text, nearest, scheme_hint, several_text, start_hint, unread_hint, words_hint};
+ghost use Rattle.options.specs.inner.Said.{meaning_in};
 ghost use Rattle.options.specs.inner.Table.{row_in};
 ghost use Rattle.address.specs.declared.fault.AddressFault.TheVariants as address_fault;
 
 use crate::fault::LineFault;
-use crate::given::given;
-use crate::line::parse;
-use crate::table::{Row, WGET, option_rows};
+use crate::meant::{fronts, long_name, meant};
+use crate::said::{Meaning, named, sayings};
+use crate::table::{Row, option_rows, wget_forms};
+use crate::written::{first_start, first_unread};
 use address::{Address, AddressFault};
 use clap::error::ErrorKind;
 use std::alloc::{AllocError, Global};
@@ -24,30 +26,6 @@ fn form_of(word: &str) -> &str
     }
 }
 
-// The text behind a dash.
-fn without_dash(text: &str) -> Option<&str>
-    ensures { option_map (λ rest. rest.now) result ≡ without_dash text.now }
-{
-    text.strip_prefix('-')
-}
-
-// The name of a long form.
-fn long_name(form: &str) -> Option<&str>
-    ensures { option_map (λ name. name.now) result ≡ long_name form.now }
-{
-    match without_dash(form) {
-        Some(rest) => without_dash(rest),
-        None => None,
-    }
-}
-
-// Whether an option has this name as its long form.
-fn is_long_form(name: &str, row: &Row<&'static str>) -> bool
-    ensures { result ≡ is_long_form name.now (row_in row.now) }
-{
-    row.name == name && row.name != row.short
-}
-
 // Whether this is the form of an option of Wget.
 fn is_form_of(form: &str, option: &str) -> bool
     ensures { result ≡ is_form_of form.now option.now }
@@ -55,18 +33,14 @@ fn is_form_of(form: &str, option: &str) -> bool
     form == option || (option.len() < 4 && form.as_bytes().starts_with(option.as_bytes()))
 }
 
-// Whether a row is that of an option with this name as its long form.
-fn has_row(name: &str, rows: &[Row<&'static str>]) -> bool
-    ensures { result ≡ list_any (λ row. is_long_form name.now (row_in row)) rows.now }
+// Whether an option means something by its name alone, or waits for its value.
+fn is_known(meaning: Meaning<&str>) -> bool
+    ensures { result ≡ is_known (meaning_in meaning.entry) }
 {
-    rows.iter().any(|row| is_long_form(name, row))
-}
-
-// Whether one of these options has this name as its long form.
-fn is_known(name: &str, rows: &[Row<&'static str>]) -> bool
-    ensures { result ≡ list_any (is_long_form name.now) (map row_in rows.now) }
-{
-    has_row(name, rows)
+    match meaning {
+        Meaning::Means(_, _) | Meaning::Waits(_) => true,
+        Meaning::Unknown => false,
+    }
 }
 
 // Whether this is the form of one of these options of Wget.
@@ -145,11 +119,45 @@ fn near_text(alloc: Global, form: &str, meant: Option<&str>) -> Result<String, A
     }
 }
 
-// What is said of a long form that no option has.
+// What is said of a long form that is no front.
 fn name_hint(alloc: Global, form: &str, name: &str) -> Result<String, AllocError>
     ensures { IfOk result (λ text. string_bytes text ≡ name_hint form.now name.now) }
 {
     near_text(alloc, form, nearest(alloc, name, option_rows())?)
+}
+
+// Adds these forms, each behind a space.
+fn push_forms(text: &mut String, forms: &[&'static str]) -> Result<(), AllocError>
+    ensures ok { OnOk result (string_bytes text.new ≡ string_bytes text.old ++ forms_text (map (λ form. form.now) forms.now)) }
+{
+    for form in forms {
+        text.push_str(" ")?;
+        text.push_str(form)?;
+    }
+    Ok(())
+}
+
+// What is said of a front of several forms.
+fn several_text(alloc: Global, form: &str, forms: &[&'static str]) -> Result<String, AllocError>
+    ensures { IfOk result (λ text. string_bytes text ≡ several_text form.now (map (λ form. form.now) forms.now)) }
+{
+    let mut text = String::from_str(alloc, ": ")?;
+    text.push_str(form)?;
+    text.push_str(" (the front of")?;
+    push_forms(&mut text, forms)?;
+    text.push_str(")")?;
+    Ok(text)
+}
+
+// What is said of a long form that no option has: the forms of which it is the front, or what may have been meant.
+fn front_hint(alloc: Global, form: &str, name: &str) -> Result<String, AllocError>
+    ensures { IfOk result (λ text. string_bytes text ≡ front_hint form.now name.now) }
+{
+    let forms = fronts(alloc, form)?;
+    if forms.is_empty() {
+        return name_hint(alloc, form, name);
+    }
+    several_text(alloc, form, forms.as_slice())
 }
 
 // What is said of a form that isn't one of Wget's alone: nothing, unless it is a long form that no option has.
@@ -157,7 +165,7 @@ fn long_hint(alloc: Global, form: &str, name: Option<&str>) -> Result<String, Al
     ensures { IfOk result (λ text. string_bytes text ≡ long_hint form.now (option_map (λ name. name.now) name.entry)) }
 {
     match name {
-        Some(name) if !name.is_empty() => name_hint(alloc, form, name),
+        Some(name) if !name.is_empty() => front_hint(alloc, form, name),
         _ => Ok(String::new(alloc)),
     }
 }
@@ -169,12 +177,12 @@ fn foreign_text(alloc: Global, form: &str) -> Result<String, AllocError>
     format!(in alloc; ": {form} (an option of Wget that wgetr doesn't have)")
 }
 
-// Whether this is the long form of an option.
+// Whether this is the long form of an option, or of its opposite.
 fn is_own(form: &str) -> bool
     ensures { result ≡ is_own form.now }
 {
     match long_name(form) {
-        Some(name) => is_known(name, option_rows()),
+        Some(name) => is_known(named(name, None, option_rows())),
         None => false,
     }
 }
@@ -183,26 +191,32 @@ fn is_own(form: &str) -> bool
 fn form_hint(alloc: Global, form: &str) -> Result<String, AllocError>
     ensures { IfOk result (λ text. string_bytes text ≡ form_hint form.now) }
 {
-    if is_own(form) {
+    let whole = meant(form);
+    if is_own(whole) {
         return Ok(String::new(alloc));
     }
-    if is_foreign(form, &WGET) {
+    if is_foreign(whole, wget_forms()) {
         return foreign_text(alloc, form);
     }
     long_hint(alloc, form, long_name(form))
 }
 
-// What is said of the first word of which something is said.
+// What is said of the first word that isn't read.
+fn unread_hint(alloc: Global, unread: Option<&str>) -> Result<String, AllocError>
+    ensures { IfOk result (λ text. string_bytes text ≡ unread_hint (option_map (λ word. word.now) unread.entry)) }
+{
+    match unread {
+        Some(word) => form_hint(alloc, form_of(word)),
+        None => Ok(String::new(alloc)),
+    }
+}
+
+// What is said of words.
 fn words_hint(alloc: Global, words: &[&str]) -> Result<String, AllocError>
     ensures { IfOk result (λ text. string_bytes text ≡ words_hint (map (λ word. word.now) words.now)) }
 {
-    for word in words {
-        let hint = form_hint(alloc, form_of(word))?;
-        if !hint.as_str().is_empty() {
-            return Ok(hint);
-        }
-    }
-    Ok(String::new(alloc))
+    let said = sayings(alloc, words)?;
+    unread_hint(alloc, first_unread(&said))
 }
 
 // Whether the text begins with a scheme and two slashes.
@@ -244,13 +258,8 @@ fn scheme_hint(alloc: Global, start: &str) -> Result<String, AllocError>
 fn start_hint(alloc: Global, words: &[&str]) -> Result<String, AllocError>
     ensures { IfOk result (λ text. string_bytes text ≡ start_hint (map (λ word. word.now) words.now)) }
 {
-    match parse(alloc, words) {
-        Ok(matches) => scheme_hint(alloc, given(&matches, "start").unwrap_or("")),
-        Err(error) => match error.kind() {
-            ErrorKind::OutOfMemory => Err(AllocError),
-            _ => scheme_hint(alloc, ""),
-        },
-    }
+    let said = sayings(alloc, words)?;
+    scheme_hint(alloc, first_start(&said).unwrap_or(""))
 }
 
 // What is said of words that are refused for this kind.

@@ -1,5 +1,6 @@
-//! The command line of the retriever: words in, an order or the lowest fault out, and what a person is told of it. What an order
-//! is stands in `specs/Order.antt`, what is told in `specs/Advice.antt` and `specs/Hints.antt`. Its tests stand in `site_tests`.
+//! The command line of the retriever: words in, an order or the lowest fault out, and what a person is told of it. What words say
+//! is stated in `specs/Said.antt`, what of it counts in `specs/Written.antt`, what an order is in `specs/Order.antt`, what is told
+//! in `specs/Advice.antt` and `specs/Hints.antt`. Its tests stand in `site_tests`.
 #![tactic(auto)]
 
 mod advice;
@@ -8,9 +9,13 @@ mod given;
 mod help;
 mod hint;
 mod line;
+mod meant;
 mod order;
 mod read;
+mod said;
+mod start;
 mod table;
+mod written;
 
 pub use crate::advice::{advice_text, no_text_advice};
 pub use crate::fault::LineFault;

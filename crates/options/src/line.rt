@@ -1,5 +1,5 @@
 //! The command line as `clap` reads it: the table's options, and what words match (GNU Wget manual, chapter Invoking).
-ghost use Rattle.std.specs.Prelude.{◌≡◌, false, All, IfOk, MatchResult, map, option_map, []};
+ghost use Rattle.std.specs.Prelude.{◌≡◌, false, All, IfOk, MatchResult, map, option_map, string_bytes, []};
 ghost use Rattle.clap.specs.Words.{app_of, found_of, new_rule, rows_of, rule_of, HasKind};
 ghost use Rattle.options.specs.Line.{letter_of, line, line_rules, no_options, number_rule, option_rule, refusals, rows, start_rule, with_kind, with_letter};
 ghost use Rattle.options.specs.inner.Line.{long_form, with_long_form};
@@ -34,8 +34,8 @@ fn of_kind<'a>(alloc: Global, name: &'a str, kind: &Kind<&'static str>) -> Arg<'
     ensures own { result.global ≡ false }
 {
     match kind {
-        Kind::Flag => Arg::new(alloc, name).action(ArgAction::SetTrue),
-        Kind::Value(_) | Kind::Usual(_, _) => Arg::new(alloc, name),
+        Kind::Flag | Kind::Holds => Arg::new(alloc, name).action(ArgAction::SetTrue),
+        Kind::Value(_) | Kind::List(_) | Kind::Usual(_, _) => Arg::new(alloc, name),
         Kind::Number(most, _) => number(alloc, name, *most),
     }
 }
@@ -124,12 +124,12 @@ fn empty_command<'a>(alloc: Global) -> Command<'a>
         .version(VERSION)
 }
 
-/// What is found for each option, or the kind of the first thing that is wrong.
-pub(crate) fn parse<'a>(alloc: Global, words: &'a [&'a str]) -> Result<ArgMatches<'a>, Error>
+/// What is found for each option in words that are written out, or the kind of the first thing that is wrong.
+pub(crate) fn parse<'a>(alloc: Global, words: &'a [String]) -> Result<ArgMatches<'a>, Error>
     ensures { MatchResult result
-        (λ m. (refusals (map (λ w. w.now) words.now) ≡ [])
-        × (rows_of (found_of m) ≡ rows (map (λ w. w.now) words.now)))
-        (HasKind (refusals (map (λ w. w.now) words.now))) }
+        (λ m. (refusals (map string_bytes words.now) ≡ [])
+        × (rows_of (found_of m) ≡ rows (map string_bytes words.now)))
+        (HasKind (refusals (map string_bytes words.now))) }
 {
     command(alloc)?.try_get_matches_from(words)
 }

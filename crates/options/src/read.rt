@@ -1,5 +1,5 @@
 //! Words are read as an order, or refused by the lowest fault.
-ghost use Rattle.std.specs.Prelude.{◌≡◌, ◌≢◌, ◌⊎◌, ℕ, List, true, ◌<◌, ◌≤◌, codes, false, not, is_none, option_map, if◌then◌else◌, Some, None, Ok, Err, map, IfOk, MatchOption, MatchResult};
+ghost use Rattle.std.specs.Prelude.{◌≡◌, ◌≢◌, ◌⊎◌, ℕ, List, true, ◌<◌, ◌≤◌, codes, false, not, is_none, option_map, if◌then◌else◌, Some, None, Ok, Err, map, string_bytes, IfOk, MatchOption, MatchResult};
 ghost use Rattle.clap.specs.Words.{found_of, rows_of, first_of, kind_of};
 ghost use Rattle.address.specs.Address as address;
 ghost use Rattle.address.specs.Address.{is_robots_file};
@@ -11,16 +11,21 @@ ghost use Rattle.follow_filters.specs.declared.plan.TheConstants.{MAX_PER_HOST, 
 ghost use Rattle.options.specs.declared.order.TheConstants.{MAX_WORKERS};
 ghost use Rattle.follow_filters.specs.declared.limit.Limit.TheVariants.{AtMost};
 ghost use Rattle.options.specs.Given.{level_of, list_of};
-ghost use Rattle.options.specs.Order.{AnswersOrder, order_of, order_of_rows, are_good, is_parent_value, is_robots_value, both, counts_of, patterns_of, directories_of, domains_of, start_of, source_of, has_no_parent, has_robots_off, honours_robots, limit_within, ordered, ordered_by, folder_of, prefix_of, proxy_by, proxy_of, read_start, root_origin, words_refused};
+ghost use Rattle.options.specs.Order.{AnswersOrder, OrdersBySayings, order_of, order_of_rows, order_of_written, order_said, are_good, is_plain_value, both, counts_of, patterns_of, directories_of, domains_of, start_of, source_of, honours_robots, limit_within, ordered, ordered_by, folder_of, prefix_of, proxy_by, proxy_of, read_start, root_origin, without_kind, words_refused};
+ghost use Rattle.options.specs.inner.Said.{saying_in};
 ghost use Rattle.options.specs.inner.Order.{StartsAt, FailsToStart, FailsToFilter, fault_of_kind};
 
 use crate::fault::LineFault;
 use crate::given::{given, is_set, level, list, number};
 use crate::line::parse;
+use crate::meant::meant;
 use crate::order::{
     DEFAULT_MAX_URLS, DEFAULT_PER_HOST, DEFAULT_WORKERS, FilePath, MAX_WORKERS, Order, Prefix,
     Source,
 };
+use crate::said::{Saying, sayings};
+use crate::start::with_scheme;
+use crate::written::{first_unread, written};
 use address::{Address, AddressFault, Origin};
 use clap::error::ErrorKind;
 use clap::{ArgMatches, Error};
@@ -67,43 +72,26 @@ struct Filters {
     hosts: Lists<Domain>,
 }
 
-// Whether the value of `-n` is one that it may have.
-fn is_parent_value(value: Option<&str>) -> bool
-    ensures { result ≡ is_parent_value (option_map (λ s. s.now) value.entry) }
+// Whether the value of `--compression` is one that it may have.
+fn is_plain_value(value: Option<&str>) -> bool
+    ensures { result ≡ is_plain_value (option_map (λ s. s.now) value.entry) }
 {
     match value {
-        Some(value) => value == "p",
+        Some(value) => value == "none",
         None => true,
     }
 }
 
-// Whether the value of `-e` is one that it may have.
-fn is_robots_value(value: Option<&str>) -> bool
-    ensures { result ≡ is_robots_value (option_map (λ s. s.now) value.entry) }
-{
-    match value {
-        Some(value) => value == "robots=off" || value == "robots=on",
-        None => true,
-    }
-}
-
-// What is wrong with words that `clap` takes: `-np` stands beside `--no-parent`, which is the same
-// option, or `-n` or `-e` has another value than it may have.
+// What is wrong with words that `clap` takes: an encoding of bodies is asked for.
 #[tactic(auto, unfolding(crate::specs::Order::are_good))]
 fn word_fault(matches: &ArgMatches) -> Option<ErrorKind>
     ensures { is_none result ≡ are_good (rows_of (found_of matches.now)) }
 {
-    let n = given(matches, "n");
-    if !is_parent_value(n) {
-        return Some(ErrorKind::InvalidValue);
+    if is_plain_value(given(matches, "compression")) {
+        None
+    } else {
+        Some(ErrorKind::InvalidValue)
     }
-    if n.is_some() && is_set(matches, "no-parent") {
-        return Some(ErrorKind::ArgumentConflict);
-    }
-    if !is_robots_value(given(matches, "execute")) {
-        return Some(ErrorKind::InvalidValue);
-    }
-    None
 }
 
 #[tactic(auto, unfolding(crate::specs::Order::counts_of))]
@@ -242,8 +230,16 @@ fn start(alloc: Global, matches: &ArgMatches) -> Result<Address, LineFault>
 fn read_start(alloc: Global, matches: &ArgMatches) -> Result<Address, AddressFault>
     ensures { address.Gives result (start_of (rows_of (found_of matches.now))) }
 {
-    let text = given(matches, "start").unwrap_or("");
-    read_by(alloc, given(matches, "https-proxy").is_some(), text)
+    let Ok(text) = with_scheme(alloc, given(matches, "start").unwrap_or("")) else {
+        return Err(AddressFault::Memory);
+    };
+    let start = read_by(
+        alloc,
+        given(matches, "https-proxy").is_some(),
+        text.as_str(),
+    );
+    drop(text);
+    start
 }
 
 // A start. Https is one where a proxy is given.
@@ -318,18 +314,6 @@ fn source(matches: &ArgMatches) -> Source
     } else {
         Source::Live
     }
-}
-
-fn has_no_parent(matches: &ArgMatches) -> bool
-    ensures { result ≡ has_no_parent (rows_of (found_of matches.now)) }
-{
-    given(matches, "n").is_some() || is_set(matches, "no-parent")
-}
-
-fn has_robots_off(matches: &ArgMatches) -> bool
-    ensures { result ≡ has_robots_off (rows_of (found_of matches.now)) }
-{
-    given(matches, "execute") == Some("robots=off")
 }
 
 fn fault_of(error: &Error) -> LineFault
@@ -413,7 +397,7 @@ fn filled(
             others: Elements::none(alloc),
             limit: limit_within(matches, level),
             span_hosts: is_set(matches, "span-hosts"),
-            no_parent: has_no_parent(matches),
+            no_parent: is_set(matches, "no-parent"),
             domains: hosts.given,
             exclude_domains: hosts.excluded,
             include_dirs: places.given,
@@ -452,7 +436,7 @@ fn limit_within(matches: &ArgMatches, level: Limit) -> Limit
 fn honours_robots(matches: &ArgMatches) -> bool
     ensures { result ≡ honours_robots (rows_of (found_of matches.now)) }
 {
-    is_set(matches, "recursive") && !has_robots_off(matches)
+    is_set(matches, "recursive") && !is_set(matches, "no-robots")
 }
 
 // The folder below which files are put.
@@ -498,13 +482,83 @@ fn read_paths(alloc: Global, matches: &ArgMatches) -> Result<Paths, AllocError>
     })
 }
 
-/// Reads the words of a command line, without the program's name. Of several faults the lowest is
-/// named, in the order of `LineFault`, want of memory aside.
-pub fn read_order(alloc: Global, words: &[&str]) -> Result<Order, LineFault>
-    ensures { AnswersOrder result (order_of (map (λ w. w.now) words.now)) }
+// Reads words that are written out.
+fn read_written(alloc: Global, words: &[String]) -> Result<Order, LineFault>
+    ensures { AnswersOrder result (order_of_written (map string_bytes words.now)) }
 {
     match parse(alloc, words) {
         Ok(matches) => order_of_matches(alloc, &matches),
         Err(error) => Err(fault_of(&error)),
+    }
+}
+
+// What is wrong with a word that isn't read, for which `clap` alone gives this kind: of a word that it takes it says that START lacks.
+fn unread_kind(kind: ErrorKind) -> LineFault
+    ensures { (without_kind result ≡ words_refused) ⊎ (result ≡ fault.Memory) }
+{
+    match kind {
+        ErrorKind::OutOfMemory => LineFault::Memory,
+        ErrorKind::MissingRequiredArgument => LineFault::Words(ErrorKind::InvalidValue),
+        kind => LineFault::Words(kind),
+    }
+}
+
+// What `clap` says of words, if it doesn't take them.
+fn kind_of_words(alloc: Global, words: &[String]) -> ErrorKind {
+    match parse(alloc, words) {
+        Ok(_) => ErrorKind::InvalidValue,
+        Err(error) => error.kind(),
+    }
+}
+
+// What `clap` says of a word alone.
+fn kind_alone(alloc: Global, word: &str) -> Result<ErrorKind, AllocError> {
+    let mut words = Vec::new(alloc);
+    words.push(String::from_str(alloc, word)?)?;
+    Ok(kind_of_words(alloc, words.as_slice()))
+}
+
+// What is wrong with a word that isn't read.
+fn unread_fault(alloc: Global, word: &str) -> LineFault
+    ensures { (without_kind result ≡ words_refused) ⊎ (result ≡ fault.Memory) }
+{
+    let form = meant(word);
+    if form == "--help" {
+        return LineFault::Words(ErrorKind::DisplayHelp);
+    }
+    if form == "--version" {
+        return LineFault::Words(ErrorKind::DisplayVersion);
+    }
+    match kind_alone(alloc, word) {
+        Ok(kind) => unread_kind(kind),
+        Err(_) => LineFault::Memory,
+    }
+}
+
+// Reads what is said by words.
+fn read_said(alloc: Global, said: &[Saying<&str>]) -> Result<Order, LineFault>
+    ensures { AnswersOrder result (order_said (map saying_in said.now)) }
+{
+    if let Some(word) = first_unread(said) {
+        return Err(unread_fault(alloc, word));
+    }
+    let Ok(words) = written(alloc, said) else {
+        return Err(LineFault::Memory);
+    };
+    let order = read_written(alloc, words.as_slice());
+    drop(words);
+    order
+}
+
+/// Reads the words of a command line, without the program's name. Of several faults the lowest is named, in the order of
+/// `LineFault`, want of memory aside. An option may be given several times, and the last counts: words that say the same of each
+/// option last order the same, in whatever order they say it.
+pub fn read_order(alloc: Global, words: &[&str]) -> Result<Order, LineFault>
+    ensures answers { AnswersOrder result (order_of (map (λ w. w.now) words.now)) }
+    ensures last { OrdersBySayings (map (λ w. w.now) words.now) }
+{
+    match sayings(alloc, words) {
+        Ok(said) => read_said(alloc, said.as_slice()),
+        Err(_) => Err(LineFault::Memory),
     }
 }

@@ -52,6 +52,13 @@ directory => -I a -D a/b http://h/
 directory => -I /a -X a http://h/
 domain => -D a/b https://h/
 domain => -D a --exclude-domains a/b a
+read => a
+read => localhost:8000
+read => h/p?u=http://x/
+start: not url => //h/
+start: not url => /p
+start: not http => foo:bar
+start: user info => u@h
 start: not http => https://h/
 start: not http => --https-proxy=http://127.0.0.1:3128/ ftp://h/
 read => --https-proxy=http://127.0.0.1:3128/ https://h/
@@ -63,19 +70,37 @@ start: user info => http://u@h/
 start: robots => http://h/robots.txt
 words: unknown => http://h/ http://k/
 words: unknown => -q -l x http://h/
-words: twice => -rp --page-requisites http://h/
+read => -rp --page-requisites http://h/
 words: bad value => -npr http://h/
 words: bad value => -pnr http://h/
-words: unknown => --recurs http://h/
-words: twice => -r -r http://h/
-words: twice => -np --no-parent http://h/
+words: unknown => --re http://h/
+words: unknown => --exclude /d http://h/
+words: unknown => --no-recursive=maybe http://h/
+words: bad value => http://h/ -P
+read => --recurs http://h/
+read => -r -r http://h/
+read => -np --no-parent http://h/
+read => -nv -np -r http://h/
+depth => -l=1 http://h/
+read => -l x -l 2 http://h/
+read => --workers=65 --workers=3 http://h/
+read => -x --no-cookies --unlink --progress=dot --xattr=off http://h/
+words: unknown => --cookies http://h/
+words: unknown => --xattr http://h/
+words: bad value => --compression=gzip http://h/
+words: bad value => -e bogus=1 http://h/
+words: bad value => -e robots http://h/
+read => -erobots=off -e RECLEVEL=2 http://h/
+depth => -e reclevel=x http://h/
 words: out of range => --workers 0 http://h/
 words: out of range => --workers 65 -l x a
 words: out of range => --per-host 17 http://h/
 words: bad value => -nq http://h/
 words: bad value => -e robots=of http://h/
 words: help => -h
+words: help => --hel
 words: version => --version
+words: unknown => --ver
 ";
 
 // The words of a row.
@@ -206,6 +231,10 @@ true true false => -pn p http://h/
 true false false => -n p http://h/
 false true true => -rp http://h/
 true true true => -rpnp http://h/
+false false true => -np --parent --rec http://h/
+false false false => --no-parent=off -r --no-recursive http://h/
+true true false => -np -p --recursive=no -- http://h/
+true false true => --no-parent=YES --rec=on -e recursive=on http://h/
 ";
 
 // Whether a plan says this of these.
@@ -223,6 +252,15 @@ fn no_parent_and_requisites_are_told_apart(rt: HostRuntime) {
         demand(&rt, says(&rt, rt.alloc(), &order.plan, expected), row);
         drop(order);
     }
+}
+
+#[test]
+fn the_last_value_counts_and_lists_add_up(rt: HostRuntime) {
+    let words = "-l1 -P x -A pdf --accept= -A gif -R a -A png -Py --reject= -l2 http://h/ -r";
+    let order = order_of(&rt, rt.alloc(), words);
+    assert!(rt; order.plan.limit == Limit::AtMost(2) && order.prefix.as_str() == "y");
+    assert!(rt; order.plan.accept.as_slice().len() == 2 && order.plan.reject.is_empty());
+    drop(order);
 }
 
 const HELP: &str = "\
@@ -247,11 +285,12 @@ What is followed:
   -R,  --reject=LIST               no names with these suffixes or patterns
 
 How it is asked for:
-  -e,  --execute=COMMAND           robots=off: no robots files (robots=on)
+  -e,  --execute=COMMAND           as a line of wgetrc: robots=off, reclevel=2
+       --no-robots                 no robots files
        --workers=N                 N workers, 1 to 64 (4)
        --per-host=N                N requests at a time to a server, 1 to 16 (2)
        --no-http-keep-alive        a connection of its own for each request
-       --https-proxy=URL           https by this proxy, as http://127.0.0.1:3128/
+       --https-proxy=URL           https by a proxy, as http://127.0.0.1:3128/
        --max-urls=N                at most N addresses, 1 to 1000000 (100000)
 
 Where the site is:
@@ -263,6 +302,22 @@ What becomes of it:
   -P,  --directory-prefix=DIR      put files below DIR (.)
        --trace                     the trace before the report
        --save=FILE                 write what the site answered into this record
+
+Taken, since it is so already:
+  -nv, --no-verbose                a line for each file
+  -x,  --force-directories         a folder for each directory
+       --no-cookies                no cookies
+       --no-hsts                   no list of hosts that want https
+       --no-config                 no start-up files
+       --no-netrc                  no passwords of .netrc
+       --unlink                    a new file takes the place of an old one
+       --no-remove-listing         no listing of FTP is removed
+       --show-progress             a line of progress, on a terminal
+       --no-xattr                  no attributes of files
+       --no-strict-comments        comments as browsers read them
+       --no-follow-ftp             no links to FTP
+       --progress=TYPE             of whatever type, as it is shown
+       --compression=none          bodies are asked for as they are
 
 Others:
   -h,  --help                      print this help
@@ -286,17 +341,20 @@ fn the_help_has_a_line_for_each_option(rt: HostRuntime) {
 const ADVICE: &str = "\
 --levl 1 http://h/ => unexpected argument found: --levl (did you mean --level?)|wgetr --help says which words are accepted
 -r --recusrive http://h/ => unexpected argument found: --recusrive (did you mean --recursive?)|wgetr --help says which words are accepted
---recurs http://h/ => unexpected argument found: --recurs (did you mean --recursive?)|wgetr --help says which words are accepted
---worker=8 http://h/ => unexpected argument found: --worker (did you mean --workers?)|wgetr --help says which words are accepted
+--rex=1 http://h/ => unexpected argument found: --rex|wgetr --help says which words are accepted
+--wrokers=8 http://h/ => unexpected argument found: --wrokers (did you mean --workers?)|wgetr --help says which words are accepted
+--exclude /d http://h/ => unexpected argument found: --exclude (the front of --exclude-directories --exclude-domains)|wgetr --help says which words are accepted
+--recursiv=maybe http://h/ => unexpected argument found|wgetr --help says which words are accepted
 --nothing-near http://h/ => unexpected argument found: --nothing-near|wgetr --help says which words are accepted
 --mirror http://h/ => unexpected argument found: --mirror (an option of Wget that wgetr doesn't have)|wgetr --help says which words are accepted
 -r --user-agent=a http://h/ => unexpected argument found: --user-agent (an option of Wget that wgetr doesn't have)|wgetr --help says which words are accepted
 -mkp http://h/ => unexpected argument found: -mkp (an option of Wget that wgetr doesn't have)|wgetr --help says which words are accepted
+--no-cl http://h/ => unexpected argument found: --no-cl (an option of Wget that wgetr doesn't have)|wgetr --help says which words are accepted
 -nc http://h/ => one of the values isn't valid for an argument: -nc (an option of Wget that wgetr doesn't have)|wgetr --help says which words are accepted
 -e robots=of http://h/ => one of the values isn't valid for an argument|wgetr --help says which words are accepted
 http://h/ http://k/ => unexpected argument found|wgetr --help says which words are accepted
-example.org => START is no URL (did you mean http://example.org/?)|START is an address in full, as http://example.org/path?query, without user name and password, with at most 8192 bytes and a host of at most 255 (see wgetr --help)
--r example.org:80/a => START isn't an http address, and http alone is spoken: there is no TLS here, which https needs (did you mean http://example.org/a?)|START is an address in full, as http://example.org/path?query, without user name and password, with at most 8192 bytes and a host of at most 255 (see wgetr --help)
+//example.org/ => START is no URL (did you mean http://example.org/?)|START is an address in full, as http://example.org/path?query, without user name and password, with at most 8192 bytes and a host of at most 255 (see wgetr --help)
+-r example.org:/a => START isn't an http address, and http alone is spoken: there is no TLS here, which https needs (did you mean http://example.org/a?)|START is an address in full, as http://example.org/path?query, without user name and password, with at most 8192 bytes and a host of at most 255 (see wgetr --help)
 https://h/ => START isn't an http address, and http alone is spoken: there is no TLS here, which https needs|START is an address in full, as http://example.org/path?query, without user name and password, with at most 8192 bytes and a host of at most 255 (see wgetr --help)
 a:b => START isn't an http address, and http alone is spoken: there is no TLS here, which https needs|START is an address in full, as http://example.org/path?query, without user name and password, with at most 8192 bytes and a host of at most 255 (see wgetr --help)
 http://a@h/ => START has a user name or a password|START is an address in full, as http://example.org/path?query, without user name and password, with at most 8192 bytes and a host of at most 255 (see wgetr --help)

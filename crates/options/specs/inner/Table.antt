@@ -1,9 +1,10 @@
 -- What proofs alone need beside `Table`.
 use Rattle.std.specs.Borrow.{Bor}
 use Rattle.clap.specs.Walk.{Text}
+use Rattle.options.specs.declared.table.Command.{Command}
 use Rattle.options.specs.declared.table.Kind.{Kind}
 use Rattle.options.specs.declared.table.Row.{Row}
-use Rattle.options.specs.Table.{kind_by, row_by}
+use Rattle.options.specs.Table.{command_by, kind_by, row_by}
 
 -- what stands behind an option, as the code has it
 abbrev pub kind_in : Kind (Bor Text) → Kind Text
@@ -12,3 +13,7 @@ kind_in behind = kind_by (λ text. text.now) behind
 -- an option, as the code has it
 abbrev pub row_in : Row (Bor Text) → Row Text
 row_in row = row_by (λ text. text.now) row
+
+-- a command, as the code has it
+abbrev pub command_in : Command (Bor Text) → Command Text
+command_in command = command_by (λ text. text.now) command

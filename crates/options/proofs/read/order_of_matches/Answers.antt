@@ -1,8 +1,8 @@
-use Rattle.std.proofs.Common.{◌≡◌, ◌∙◌, true, Some, None, inl, inr, ⊎_elim, sym, ap}
+use Rattle.std.proofs.Common.{◌≡◌, ◌∙◌, true, Some, inl, inr, ⊎_elim, sym, ap}
 use Rattle.std.specs.Prelude.{Ok, Err}
-use Rattle.clap.specs.Words.{found_of, rows_of, first_of}
+use Rattle.clap.specs.Words.{found_of, rows_of}
 use Rattle.options.specs.Given.{level_of}
-use Rattle.options.specs.Order.{are_good, proxy_of, proxy_by, without_kind}
+use Rattle.options.specs.Order.{are_good, proxy_by, without_kind}
 use Rattle.options.proofs.ReadLemmas.{bad-words, bad-counts, bad-proxy, bad-level, bad-filters, bad-start, good-order}
 use Rattle.options.proofs.read.order_of_matches.Goals as goal
 

@@ -1,12 +1,10 @@
+-- Words that are said alike order the same.
 use Rattle.std.proofs.Common.{map}
-use Rattle.clap.specs.Words.{found_of, rows_of, kind_of}
-use Rattle.options.proofs.ReadLemmas.{answers-taken, answers-refused}
+use Rattle.options.proofs.SameLemmas.{orders_by_sayings}
 use Rattle.options.proofs.read.read_order.Goals as goal
 
-pub returns-in-Ok : goal.returns-in-Ok
-returns-in-Ok c =
-    answers-taken (map (λ w. w.now) c.args.words.now) (rows_of (found_of c.in-Ok.matches)) c.order_of_matches.result c.in-Ok.ensures.0 c.in-Ok.ensures.1 c.order_of_matches.ensures
+pub returns-in-Ok-clause-last : goal.returns-in-Ok-clause-last
+returns-in-Ok-clause-last c = orders_by_sayings (map (λ w. w.now) c.args.words.now)
 
-pub returns-in-Err : goal.returns-in-Err
-returns-in-Err c =
-    answers-refused (map (λ w. w.now) c.args.words.now) (kind_of c.in-Err.error) c.fault_of.result c.fault_of.ensures c.in-Err.ensures
+pub returns-in-Err-clause-last : goal.returns-in-Err-clause-last
+returns-in-Err-clause-last c = orders_by_sayings (map (λ w. w.now) c.args.words.now)

@@ -2,7 +2,7 @@
 use Rattle.std.proofs.Common.{arith}
 use Rattle.std.proofs.lemmas.Str.Pattern.{strip_prefix_char}
 use Rattle.clap.proofs.LexerLemmas.{strip_byte-from}
-use Rattle.options.proofs.hint.without_dash.Goals as goal
+use Rattle.options.proofs.meant.without_dash.Goals as goal
 
 pub returns : goal.returns
 returns c =

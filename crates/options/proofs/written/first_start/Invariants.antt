@@ -1,0 +1,8 @@
+-- There is none so far.
+use Rattle.std.proofs.Common.{◌≡◌, drop, map}
+use Rattle.options.specs.Written.{first_start}
+use Rattle.options.specs.inner.Said.{saying_in}
+use Rattle.options.proofs.written.first_start.Given as goal
+
+abbrev pub invariant-loop-saying : goal.invariant-loop-saying
+invariant-loop-saying l = first_start (map saying_in l.said) ≡ first_start (map saying_in (drop l.saying-index l.said))

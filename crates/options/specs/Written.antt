@@ -1,0 +1,87 @@
+-- The words written out: each option at most once, by its long form and with the value that counts, and the starts behind `--`.
+use Rattle.std.specs.Prelude.{◌≡◌, ◌&&◌, ◌==◌, ◌++◌, Bool, true, false, not, List, [], ◌∷◌, Option, Some, None, All, bytes_eq, codes, length, if◌then◌else◌}
+use Rattle.std.specs.List.{flat_map}
+use Rattle.clap.specs.Walk.{Text}
+use Rattle.options.specs.declared.said.Saying.{Saying}
+use Rattle.options.specs.declared.said.Saying.TheVariants as saying
+use Rattle.options.specs.declared.table.Kind.{Kind}
+use Rattle.options.specs.declared.table.Kind.TheVariants as kind
+use Rattle.options.specs.declared.table.Row.{Row}
+use Rattle.options.specs.Said.{sayings}
+use Rattle.options.specs.Table.{table}
+
+-- the option's values add up
+abbrev pub is_list : Kind Text → Bool
+is_list (kind.List name) = true
+is_list other = false
+
+-- a value behind an earlier one: it takes its place, unless both are lists with elements
+abbrev pub added : Bool → Option Text → Text → Text
+added adds None value = value
+added adds (Some earlier) value =
+    if adds && not (length earlier == 0) && not (length value == 0) then earlier ++ codes "," ++ value else value
+
+-- the value of an option of this name behind what was said before
+abbrev pub value_after : Text → Bool → Option Text → Saying Text → Option Text
+value_after name adds before (saying.Says said value) = if bytes_eq said name then Some (added adds before value) else before
+value_after name adds before other = before
+
+abbrev pub value_from : Text → Bool → Option Text → List (Saying Text) → Option Text
+value_from name adds before [] = before
+value_from name adds before (first ∷ rest) = value_from name adds (value_after name adds before first) rest
+
+-- the value of an option that counts: the last, or what the values of its list add up to
+unfoldable pub value_of : List (Saying Text) → Row Text → Option Text
+value_of said row = value_from row.name (is_list row.kind) None said
+
+-- the long form of an option
+abbrev pub form_word : Text → Text
+form_word name = codes "--" ++ name
+
+-- an option of this name and kind with a value, written out: one that is off isn't
+abbrev pub value_words : Text → Kind Text → Text → List Text
+value_words name kind.Flag value = if bytes_eq value (codes "on") then form_word name ∷ [] else []
+value_words name kind.Holds value = []
+value_words name other value = (form_word name ++ codes "=" ++ value) ∷ []
+
+abbrev pub row_words : Row Text → Option Text → List Text
+row_words row None = []
+row_words row (Some value) = value_words row.name row.kind value
+
+-- a start, of what is one
+abbrev pub start_words : Saying Text → List Text
+start_words (saying.Starts word) = word ∷ []
+start_words other = []
+
+-- the starts
+abbrev pub starts_in : List (Saying Text) → List Text
+starts_in said = flat_map start_words said
+
+-- what is said, written out
+unfoldable pub written : List (Saying Text) → List Text
+written said = flat_map (λ row. row_words row (value_of said row)) table ++ codes "--" ∷ starts_in said
+
+-- the words written out
+abbrev pub written_out : List Text → List Text
+written_out words = written (sayings words)
+
+-- the first start
+abbrev pub first_start : List (Saying Text) → Option Text
+first_start [] = None
+first_start (saying.Starts word ∷ said) = Some word
+first_start (saying.Says name value ∷ said) = first_start said
+first_start (saying.Unread word ∷ said) = first_start said
+
+-- the first word that isn't read
+abbrev pub first_unread : List (Saying Text) → Option Text
+first_unread [] = None
+first_unread (saying.Unread word ∷ said) = Some word
+first_unread (saying.Says name value ∷ said) = first_unread said
+first_unread (saying.Starts word ∷ said) = first_unread said
+
+-- both command lines are read, have the same starts, and say the same of each option last, whatever the order of their options is
+pub record SayTheSame (words others : List Text) : Type 0 where
+  pub read : first_unread (sayings words) ≡ None
+  pub others_read : first_unread (sayings others) ≡ None
+  pub starts : starts_in (sayings words) ≡ starts_in (sayings others)
+  pub options : All (λ row. value_of (sayings words) row ≡ value_of (sayings others) row) table

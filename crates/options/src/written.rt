@@ -1,0 +1,174 @@
+//! Words are written out: each option at most once, by its long form and with the value that counts, and the starts behind `--`.
+ghost use Rattle.std.specs.Prelude.{◌≡◌, ◌++◌, IfOk, None, OnOk, codes, map, option_map, string_bytes};
+ghost use Rattle.std.specs.List.{flat_map};
+ghost use Rattle.options.specs.Written.{added, first_start, first_unread, form_word, is_list, row_words, starts_in, value_from, value_words, value_of, written};
+ghost use Rattle.options.specs.inner.Said.{saying_in};
+ghost use Rattle.options.specs.inner.Table.{kind_in, row_in};
+
+use crate::said::Saying;
+use crate::table::{Kind, Row, option_rows};
+use std::alloc::{AllocError, Global};
+
+// Whether an option's values add up.
+fn is_list(kind: &Kind<&'static str>) -> bool
+    ensures { result ≡ is_list (kind_in kind.now) }
+{
+    match kind {
+        Kind::List(_) => true,
+        Kind::Flag | Kind::Holds | Kind::Value(_) | Kind::Usual(_, _) | Kind::Number(_, _) => false,
+    }
+}
+
+// A value behind an earlier one of an option whose values add up, or don't.
+fn added(
+    alloc: Global,
+    adds: bool,
+    before: Option<String>,
+    value: &str,
+) -> Result<String, AllocError>
+    ensures { IfOk result (λ text. string_bytes text ≡ added adds (option_map string_bytes before) value.now) }
+{
+    let Some(mut sum) = before else {
+        return String::from_str(alloc, value);
+    };
+    if !adds || sum.is_empty() || value.is_empty() {
+        drop(sum);
+        return String::from_str(alloc, value);
+    }
+    sum.push_str(",")?;
+    sum.push_str(value)?;
+    Ok(sum)
+}
+
+// The value that counts of what is said of the option of this name.
+fn value_in(
+    alloc: Global,
+    name: &str,
+    adds: bool,
+    said: &[Saying<&str>],
+) -> Result<Option<String>, AllocError>
+    ensures { IfOk result (λ value. option_map string_bytes value ≡ value_from name.now adds None (map saying_in said.now)) }
+{
+    let mut value = None;
+    for saying in said {
+        if let Saying::Says(option, text) = saying {
+            if *option == name {
+                value = Some(added(alloc, adds, value, text)?);
+            }
+        }
+    }
+    Ok(value)
+}
+
+// An option with its value, written out.
+fn value_word(alloc: Global, name: &str, value: &str) -> Result<String, AllocError>
+    ensures { IfOk result (λ word. string_bytes word ≡ form_word name.now ++ codes "=" ++ value.now) }
+{
+    format!(in alloc; "--{name}={value}")
+}
+
+// Adds an option of this name and kind with a value, written out.
+fn push_value(
+    alloc: Global,
+    words: &mut Vec<String>,
+    name: &str,
+    kind: &Kind<&'static str>,
+    value: &str,
+) -> Result<(), AllocError>
+    ensures { OnOk result (map string_bytes words.new.items ≡ map string_bytes words.old.items ++ value_words name.now (kind_in kind.now) value.now) }
+{
+    match kind {
+        Kind::Flag => {
+            if value == "on" {
+                words.push(format!(in alloc; "--{name}")?)?;
+            }
+        }
+        Kind::Holds => {}
+        Kind::Value(_) | Kind::List(_) | Kind::Usual(_, _) | Kind::Number(_, _) => {
+            words.push(value_word(alloc, name, value)?)?;
+        }
+    }
+    Ok(())
+}
+
+// Adds what is said of an option, written out.
+fn push_row(
+    alloc: Global,
+    words: &mut Vec<String>,
+    row: &Row<&'static str>,
+    said: &[Saying<&str>],
+) -> Result<(), AllocError>
+    ensures { OnOk result (map string_bytes words.new.items ≡ map string_bytes words.old.items ++ row_words (row_in row.now) (value_of (map saying_in said.now) (row_in row.now))) }
+{
+    match value_in(alloc, row.name, is_list(&row.kind), said)? {
+        Some(value) => push_value(alloc, words, row.name, &row.kind, value.as_str()),
+        None => Ok(()),
+    }
+}
+
+// Adds what is said of these options, written out.
+fn push_rows(
+    alloc: Global,
+    words: &mut Vec<String>,
+    rows: &[Row<&'static str>],
+    said: &[Saying<&str>],
+) -> Result<(), AllocError>
+    ensures { OnOk result (map string_bytes words.new.items ≡ map string_bytes words.old.items
+        ++ flat_map (λ row. row_words row (value_of (map saying_in said.now) row)) (map row_in rows.now)) }
+{
+    for row in rows {
+        push_row(alloc, words, row, said)?;
+    }
+    Ok(())
+}
+
+// Adds the starts.
+fn push_starts(
+    alloc: Global,
+    words: &mut Vec<String>,
+    said: &[Saying<&str>],
+) -> Result<(), AllocError>
+    ensures { OnOk result (map string_bytes words.new.items ≡ map string_bytes words.old.items ++ starts_in (map saying_in said.now)) }
+{
+    for saying in said {
+        if let Saying::Starts(word) = saying {
+            words.push(String::from_str(alloc, word)?)?;
+        }
+    }
+    Ok(())
+}
+
+/// What is said, written out.
+pub(crate) fn written(alloc: Global, said: &[Saying<&str>]) -> Result<Vec<String>, AllocError>
+    ensures { IfOk result (λ words. map string_bytes words.items ≡ written (map saying_in said.now)) }
+{
+    let mut words = Vec::new(alloc);
+    push_rows(alloc, &mut words, option_rows(), said)?;
+    words.push(String::from_str(alloc, "--")?)?;
+    push_starts(alloc, &mut words, said)?;
+    Ok(words)
+}
+
+/// The first start.
+pub(crate) fn first_start<'a>(said: &[Saying<&'a str>]) -> Option<&'a str>
+    ensures { option_map (λ word. word.now) result ≡ first_start (map saying_in said.now) }
+{
+    for saying in said {
+        if let Saying::Starts(word) = saying {
+            return Some(*word);
+        }
+    }
+    None
+}
+
+/// The first word that isn't read.
+pub(crate) fn first_unread<'a>(said: &[Saying<&'a str>]) -> Option<&'a str>
+    ensures { option_map (λ word. word.now) result ≡ first_unread (map saying_in said.now) }
+{
+    for saying in said {
+        if let Saying::Unread(word) = saying {
+            return Some(*word);
+        }
+    }
+    None
+}
