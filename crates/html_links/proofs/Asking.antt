@@ -1,58 +1,85 @@
 -- Tags and attributes that no rule asks for give nothing. No proof names an element or an attribute, so that a row of the link table
 -- changes none.
-use Rattle.std.proofs.Common.{◌≡◌, ℕ, Bool, true, false, ◌||◌, List, [], ◌∷◌, ◌++◌, Option, Some, None, if◌then◌else◌, refl, ◌∙◌, ap, arith}
-use Rattle.std.specs.Prelude.{⊤, option_map}
+use Rattle.std.proofs.Common.{◌≡◌, ℕ, Bool, true, false, ◌||◌, List, [], ◌∷◌, ◌++◌, None, if◌then◌else◌, refl, sym, ◌∙◌, ap, arith, append-nil}
+use Rattle.std.proofs.lemmas.Grind.{flat_map-append}
+use Rattle.std.specs.Prelude.{option_map, codes}
 use Rattle.std.specs.Option.{option_or}
 use Rattle.std.specs.Str.{bytes_eq}
-use Rattle.std.specs.List.{flat_map}
+use Rattle.std.specs.List.{flat_map, list_any}
 use Rattle.html_links.specs.Pieces.{Attribute, Tag}
 use Rattle.html_links.specs.Values.{value_text_of, written, value_of}
-use Rattle.html_links.specs.declared.links.LinkKind.{LinkKind}
-use Rattle.html_links.specs.Links.{Links, link_attribute, link_with, link_in, links_of, base_of, is_nofollow, first_base, any_nofollow, with_tags}
-use Rattle.html_links.specs.Asked.{is_asked_element, is_asked_attribute, asked_attributes, asked}
+use Rattle.html_links.specs.declared.table.Form.{Form}
+use Rattle.html_links.specs.declared.table.Form.TheVariants as form
+use Rattle.html_links.specs.Links.{Links, Row, link_table, kind_in, related, pressed, refreshed, link_by, row_links, table_links, sheet_links, links_of, base_of, is_nofollow, first_base, any_nofollow, with_tags}
+use Rattle.html_links.specs.Asked.{is_asked_element, is_asked_attribute, is_wanted, asked_attributes, given, asked}
+use Rattle.html_links.specs.declared.asked.Wanted.{Wanted}
+use Rattle.html_links.specs.declared.asked.Wanted.TheVariants as wanted
 use Rattle.std.proofs.lemmas.Slice.Eq.{bytes_eq-Decides}
 
--- a name that a rule names isn't the name of an attribute that none names
-other_name : (name other : List ℕ) → is_asked_attribute name ≡ true → is_asked_attribute other ≡ false → bytes_eq other name ≡ false
-other_name name other h e = go (bytes_eq other name) refl where
+-- a name that is kept isn't the name of an attribute that isn't
+other_name : (w : Wanted) (name other : List ℕ) → is_wanted w name ≡ true → is_wanted w other ≡ false → bytes_eq other name ≡ false
+other_name w name other h e = go (bytes_eq other name) refl where
   go : (t : Bool) → bytes_eq other name ≡ t → t ≡ false
   go false _ = refl
   go true same = let equal : other ≡ name = (bytes_eq-Decides other name).0 same in absurd (cc)
 
-written_asked : (name : List ℕ) (all : List Attribute) → is_asked_attribute name ≡ true → written name (asked_attributes all) ≡ written name all
-written_asked name [] h = refl
-written_asked name (a ∷ others) h = go (is_asked_attribute a.name) refl (written_asked name others h) where
-  go : (t : Bool) → is_asked_attribute a.name ≡ t → written name (asked_attributes others) ≡ written name others
-      → written name (if t then a ∷ asked_attributes others else asked_attributes others) ≡ written name (a ∷ others)
+written_asked : (w : Wanted) (name : List ℕ) (all : List Attribute) → is_wanted w name ≡ true → written name (asked_attributes w all) ≡ written name all
+written_asked w name [] h = refl
+written_asked w name (a ∷ others) h = go (is_wanted w a.name) refl (written_asked w name others h) where
+  go : (t : Bool) → is_wanted w a.name ≡ t → written name (asked_attributes w others) ≡ written name others
+      → written name (if t then a ∷ asked_attributes w others else asked_attributes w others) ≡ written name (a ∷ others)
   go true e g = rw g refl
-  go false e g = rw (other_name name a.name h e) g
+  go false e g = rw (other_name w name a.name h e) g
 
-value_asked : (name : List ℕ) (all : List Attribute) → is_asked_attribute name ≡ true → value_of name (asked_attributes all) ≡ value_of name all
-value_asked name all h = ap (option_map value_text_of) (written_asked name all h)
+value_kept : (w : Wanted) (name : List ℕ) (all : List Attribute) → is_wanted w name ≡ true → value_of name (asked_attributes w all) ≡ value_of name all
+value_kept w name all h = ap (option_map value_text_of) (written_asked w name all h)
+
+-- what is kept of the tags that a rule names
+abbrev kept_of : List Attribute → List Attribute
+kept_of all = asked_attributes wanted.All all
+
+value_asked : (name : List ℕ) (all : List Attribute) → is_asked_attribute name ≡ true → value_of name (kept_of all) ≡ value_of name all
+value_asked name all h = value_kept wanted.All name all h
 
 abbrev kept : Tag → Tag
-kept tag = record { name = tag.name; attributes = asked_attributes tag.attributes }
+kept tag = record { name = tag.name; attributes = kept_of tag.attributes }
 
--- the attribute that is a link is one that a rule names, where there is one
-abbrev IsAskedFor : Option (List ℕ × LinkKind) → Type 0
-IsAskedFor None = ⊤
-IsAskedFor (Some place) = is_asked_attribute place.0 ≡ true
+-- where a value leads to is said by attributes that a rule names
+kind_kept : (all : List Attribute) (f : Form) → kind_in (kept_of all) f ≡ kind_in all f
+kind_kept all form.Link = refl
+kind_kept all form.Shown = refl
+kind_kept all form.Related = ap related (value_asked (codes "rel") all refl)
+kind_kept all form.Button = ap pressed (value_asked (codes "type") all refl)
+kind_kept all form.Set = refl
+kind_kept all form.Refresh = ap refreshed (value_asked (codes "http-equiv") all refl)
 
-link_asked : (tag : Tag) → IsAskedFor (link_attribute tag)
-link_asked tag = grind arith
+link_kept : (all : List Attribute) (r : Row) → is_asked_attribute r.attribute ≡ true → link_by (kept_of all) r ≡ link_by all r
+link_kept all r h = rw (kind_kept all r.form, value_asked r.attribute all h) refl
 
-link_in_asked : (all : List Attribute) (place : Option (List ℕ × LinkKind)) → IsAskedFor place → link_in (asked_attributes all) place ≡ link_in all place
-link_in_asked all None h = refl
-link_in_asked all (Some place) h = ap (link_with place.1) (value_asked place.0 all h)
+row_kept : (tag : Tag) (r : Row) → is_asked_attribute r.attribute ≡ true → row_links (kept tag) r ≡ row_links tag r
+row_kept tag r h = rw (link_kept tag.attributes r h) refl
 
-attribute_kept : (tag : Tag) → link_attribute (kept tag) ≡ link_attribute tag
-attribute_kept tag = grind (arith, value_asked)
+-- whether the attributes of these rows are ones that a rule names
+abbrev all_asked : List Row → Bool
+all_asked [] = true
+all_asked (r ∷ others) = if is_asked_attribute r.attribute then all_asked others else false
+
+table_asked : all_asked link_table ≡ true
+unfolding link_table
+table_asked = refl
+
+rows_kept : (tag : Tag) (rows : List Row) → all_asked rows ≡ true → flat_map (row_links (kept tag)) rows ≡ flat_map (row_links tag) rows
+rows_kept tag [] h = refl
+rows_kept tag (r ∷ others) h = go (is_asked_attribute r.attribute) refl h (rows_kept tag others) where
+  go : (t : Bool) → is_asked_attribute r.attribute ≡ t → (if t then all_asked others else false) ≡ true
+      → (all_asked others ≡ true → flat_map (row_links (kept tag)) others ≡ flat_map (row_links tag) others)
+      → flat_map (row_links (kept tag)) (r ∷ others) ≡ flat_map (row_links tag) (r ∷ others)
+  go true e h g = rw (row_kept tag r e, g h) refl
+  go false e h g = absurd (cc)
 
 links_kept : (tag : Tag) → links_of (kept tag) ≡ links_of tag
-unfolding links_of
-links_kept tag =
-    ap (link_in (asked_attributes tag.attributes)) (attribute_kept tag)
-    ∙ link_in_asked tag.attributes (link_attribute tag) (link_asked tag)
+unfolding links_of table_links
+links_kept tag = rw (rows_kept tag link_table table_asked, value_asked (codes "style") tag.attributes refl) refl
 
 base_kept : (tag : Tag) → base_of (kept tag) ≡ base_of tag
 unfolding base_of
@@ -62,39 +89,85 @@ nofollow_kept : (tag : Tag) → is_nofollow (kept tag) ≡ is_nofollow tag
 unfolding is_nofollow
 nofollow_kept tag = grind (arith, value_asked)
 
--- a tag that no rule asks for
-record GivesNothing (tag : Tag) : Type 0 where
-  links : links_of tag ≡ []
+-- rows of other elements give nothing
+rows_nothing : (tag : Tag) (rows : List Row) → list_any (λ r. bytes_eq tag.name r.element) rows ≡ false → flat_map (row_links tag) rows ≡ []
+rows_nothing tag [] h = refl
+rows_nothing tag (r ∷ others) h = go (bytes_eq tag.name r.element) h (rows_nothing tag others) where
+  go : (t : Bool) → (t || list_any (λ r. bytes_eq tag.name r.element) others) ≡ false
+      → (list_any (λ r. bytes_eq tag.name r.element) others ≡ false → flat_map (row_links tag) others ≡ [])
+      → ((if t then link_by tag.attributes r else []) ++ flat_map (row_links tag) others) ≡ []
+  go true h g = absurd (cc)
+  go false h g = g h
+
+-- none of the tests holds
+record AreFalse (a b c : Bool) : Type 0 where
+  first : a ≡ false
+  second : b ≡ false
+  third : c ≡ false
+
+none_holds : (a b c : Bool) → (a || b || c) ≡ false → AreFalse a b c
+none_holds false false c h = record { first = refl; second = refl; third = h }
+none_holds false true c h = absurd (cc)
+none_holds true b c h = absurd (cc)
+
+-- a tag that no rule asks for has the links of its style alone
+record IsPlain (tag : Tag) : Type 0 where
+  links : links_of tag ≡ sheet_links (value_of (codes "style") tag.attributes)
   base : base_of tag ≡ None
   nofollow : is_nofollow tag ≡ false
 
-gives_nothing : (tag : Tag) → is_asked_element tag.name ≡ false → GivesNothing tag
-unfolding links_of base_of is_nofollow
-gives_nothing tag h = record { links = grind arith; base = grind arith; nofollow = grind arith }
+plain : (tag : Tag) → is_asked_element tag.name ≡ false → IsPlain tag
+unfolding links_of table_links base_of is_nofollow is_asked_element
+plain tag h =
+    let tests : AreFalse (bytes_eq tag.name (codes "base")) (bytes_eq tag.name (codes "meta")) (list_any (λ r. bytes_eq tag.name r.element) link_table)
+    = none_holds _ _ _ h in
+    record { links = rw (rows_nothing tag link_table tests.third) refl; base = rw tests.first refl; nofollow = rw tests.second refl }
+
+-- what is given of it says the same
+styled_links : (name : List ℕ) (kept all : List Attribute) → is_asked_element name ≡ false → value_of (codes "style") kept ≡ value_of (codes "style") all
+    → flat_map links_of (given wanted.Style name kept) ≡ links_of (record { name = name; attributes = all })
+styled_links name [] all h same = ap sheet_links same ∙ sym (plain (record { name = name; attributes = all }) h).links
+styled_links name (a ∷ others) all h same =
+    append-nil (links_of (record { name = name; attributes = a ∷ others }))
+    ∙ (plain (record { name = name; attributes = a ∷ others }) h).links ∙ ap sheet_links same ∙ sym (plain (record { name = name; attributes = all }) h).links
+
+styled_base : (name : List ℕ) (kept : List Attribute) (others : List Tag) → is_asked_element name ≡ false → first_base (given wanted.Style name kept ++ others) ≡ first_base others
+styled_base name [] others h = refl
+styled_base name (a ∷ more) others h = rw (plain (record { name = name; attributes = a ∷ more }) h).base refl
+
+styled_nofollow : (name : List ℕ) (kept : List Attribute) (others : List Tag) → is_asked_element name ≡ false → any_nofollow (given wanted.Style name kept ++ others) ≡ any_nofollow others
+styled_nofollow name [] others h = refl
+styled_nofollow name (a ∷ more) others h = rw (plain (record { name = name; attributes = a ∷ more }) h).nofollow refl
+
+-- what a tag gives, if a rule names it or none does
+abbrev given_if : Bool → Tag → List Tag
+given_if t tag = given (if t then wanted.All else wanted.Style) tag.name (asked_attributes (if t then wanted.All else wanted.Style) tag.attributes)
 
 links_asked : (tags : List Tag) → flat_map links_of (asked tags) ≡ flat_map links_of tags
 links_asked [] = refl
 links_asked (tag ∷ others) = go (is_asked_element tag.name) refl (links_asked others) where
   go : (t : Bool) → is_asked_element tag.name ≡ t → flat_map links_of (asked others) ≡ flat_map links_of others
-      → flat_map links_of (if t then kept tag ∷ asked others else asked others) ≡ links_of tag ++ flat_map links_of others
+      → flat_map links_of (given_if t tag ++ asked others) ≡ links_of tag ++ flat_map links_of others
   go true e g = rw (links_kept tag, g) refl
-  go false e g = rw (gives_nothing tag e).links g
+  go false e g =
+      flat_map-append links_of (given_if false tag) (asked others)
+      ∙ rw (styled_links tag.name (asked_attributes wanted.Style tag.attributes) tag.attributes e (value_kept wanted.Style (codes "style") tag.attributes refl), g) refl
 
 base_asked : (tags : List Tag) → first_base (asked tags) ≡ first_base tags
 base_asked [] = refl
 base_asked (tag ∷ others) = go (is_asked_element tag.name) refl (base_asked others) where
   go : (t : Bool) → is_asked_element tag.name ≡ t → first_base (asked others) ≡ first_base others
-      → first_base (if t then kept tag ∷ asked others else asked others) ≡ option_or (base_of tag) (first_base others)
+      → first_base (given_if t tag ++ asked others) ≡ option_or (base_of tag) (first_base others)
   go true e g = rw (base_kept tag, g) refl
-  go false e g = rw (gives_nothing tag e).base g
+  go false e g = styled_base tag.name (asked_attributes wanted.Style tag.attributes) (asked others) e ∙ g ∙ rw (plain tag e).base refl
 
 nofollow_asked : (tags : List Tag) → any_nofollow (asked tags) ≡ any_nofollow tags
 nofollow_asked [] = refl
 nofollow_asked (tag ∷ others) = go (is_asked_element tag.name) refl (nofollow_asked others) where
   go : (t : Bool) → is_asked_element tag.name ≡ t → any_nofollow (asked others) ≡ any_nofollow others
-      → any_nofollow (if t then kept tag ∷ asked others else asked others) ≡ (is_nofollow tag || any_nofollow others)
+      → any_nofollow (given_if t tag ++ asked others) ≡ (is_nofollow tag || any_nofollow others)
   go true e g = rw (nofollow_kept tag, g) refl
-  go false e g = rw (gives_nothing tag e).nofollow g
+  go false e g = styled_nofollow tag.name (asked_attributes wanted.Style tag.attributes) (asked others) e ∙ g ∙ rw (plain tag e).nofollow refl
 
 -- what the tags that a rule asks for add is what all add
 pub with_asked : (found : Links) (tags : List Tag) → with_tags found (asked tags) ≡ with_tags found tags

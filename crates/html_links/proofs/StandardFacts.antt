@@ -1,43 +1,76 @@
 -- The standard's own names and samples hold of the definitions: links, raw text elements, character references, comments (HTML Standard, sections 4.2.4, 4.6.1, 13.1.2, 13.1.4 and 13.2.5).
-use Rattle.std.proofs.Common.{◌≡◌, ℕ, List, [], ◌∷◌, Option, Some, None, true, false, map, refl}
+use Rattle.std.proofs.Common.{◌≡◌, ℕ, List, [], ◌∷◌, Option, Some, None, true, false, if◌then◌else◌, map, refl}
+use Rattle.std.specs.Str.{bytes_eq}
 use Rattle.std.specs.Prelude.{codes}
 use Rattle.html_links.specs.Pieces.{Tag}
 use Rattle.html_links.specs.Markup.{is_raw, start_tags}
 use Rattle.html_links.specs.References.{Reference, reference_at}
-use Rattle.html_links.specs.Links.{is_icon, is_robots, forbids, link_attribute}
+use Rattle.html_links.specs.Links.{Row, link_table, kind_in, related, pressed, refreshed, is_robots, forbids}
 use Rattle.html_links.specs.declared.links.LinkKind.{LinkKind}
 use Rattle.html_links.specs.declared.links.LinkKind.TheVariants as kind
 
--- what leads elsewhere in an element of that name without attributes
-abbrev leads : List ℕ → Option (List ℕ × LinkKind)
-leads name = link_attribute (record { name = name; attributes = [] })
+-- what the table has of an element of that name, in a tag without attributes that say more
+abbrev leads_by : List ℕ → List Row → List (List ℕ × Option LinkKind)
+leads_by name [] = []
+leads_by name (r ∷ others) = if bytes_eq name r.element then ((r.attribute, kind_in [] r.form) ∷ leads_by name others) else leads_by name others
+
+abbrev leads : List ℕ → List (List ℕ × Option LinkKind)
+leads name = leads_by name link_table
+
+abbrev shown : List ℕ → List (List ℕ × Option LinkKind)
+shown attribute = (attribute, Some kind.Inline) ∷ []
 
 -- other documents are linked to by `href`
 links : map leads (codes "a" ∷ codes "area" ∷ codes "link" ∷ [])
-    ≡ Some (codes "href", kind.Link) ∷ Some (codes "href", kind.Link) ∷ Some (codes "href", kind.Link) ∷ []
+    ≡ ((codes "href", Some kind.Link) ∷ (codes "xlink:href", Some kind.Link) ∷ [])
+    ∷ ((codes "href", Some kind.Link) ∷ []) ∷ ((codes "href", Some kind.Link) ∷ (codes "imagesrcset", Some kind.Inline) ∷ []) ∷ []
+unfolding link_table
 links = refl
 
--- parts of a page are named by `src`
-embedded : map leads (codes "img" ∷ codes "script" ∷ codes "iframe" ∷ codes "frame" ∷ codes "embed" ∷ codes "input" ∷ [])
-    ≡ Some (codes "src", kind.Inline) ∷ Some (codes "src", kind.Inline) ∷ Some (codes "src", kind.Inline) ∷ Some (codes "src", kind.Inline)
-    ∷ Some (codes "src", kind.Inline) ∷ Some (codes "src", kind.Inline) ∷ []
+-- parts of a page are named by `src`, an `input` is one by its type alone
+embedded : map leads (codes "iframe" ∷ codes "frame" ∷ codes "embed" ∷ codes "audio" ∷ codes "track" ∷ codes "input" ∷ [])
+    ≡ shown (codes "src") ∷ shown (codes "src") ∷ shown (codes "src") ∷ shown (codes "src") ∷ shown (codes "src")
+    ∷ ((codes "src", None) ∷ []) ∷ []
+unfolding link_table
 embedded = refl
 
+-- and by more than that
+media : map leads (codes "img" ∷ codes "source" ∷ codes "video" ∷ codes "object" ∷ [])
+    ≡ ((codes "src", Some kind.Inline) ∷ (codes "srcset", Some kind.Inline) ∷ (codes "longdesc", Some kind.Link) ∷ (codes "lowsrc", Some kind.Inline) ∷ [])
+    ∷ ((codes "src", Some kind.Inline) ∷ (codes "srcset", Some kind.Inline) ∷ [])
+    ∷ ((codes "src", Some kind.Inline) ∷ (codes "poster", Some kind.Inline) ∷ []) ∷ shown (codes "data") ∷ []
+unfolding link_table
+media = refl
+
 -- or by `background`
-painted : map leads (codes "body" ∷ codes "table" ∷ codes "td" ∷ codes "th" ∷ [])
-    ≡ Some (codes "background", kind.Inline) ∷ Some (codes "background", kind.Inline) ∷ Some (codes "background", kind.Inline)
-    ∷ Some (codes "background", kind.Inline) ∷ []
+painted : map leads (codes "body" ∷ codes "table" ∷ codes "tr" ∷ codes "td" ∷ codes "th" ∷ [])
+    ≡ shown (codes "background") ∷ shown (codes "background") ∷ shown (codes "background") ∷ shown (codes "background") ∷ shown (codes "background") ∷ []
+unfolding link_table
 painted = refl
 
 -- other elements lead nowhere
-unlisted : map leads (codes "base" ∷ codes "meta" ∷ codes "tr" ∷ codes "abbr" ∷ codes "form" ∷ codes "object" ∷ codes "video" ∷ [])
-    ≡ None ∷ None ∷ None ∷ None ∷ None ∷ None ∷ None ∷ []
+unlisted : map leads (codes "base" ∷ codes "svg" ∷ codes "abbr" ∷ codes "form" ∷ codes "picture" ∷ codes "q" ∷ [])
+    ≡ [] ∷ [] ∷ [] ∷ [] ∷ [] ∷ [] ∷ []
+unfolding link_table
 unlisted = refl
 
--- words of `rel` that make a link a part of the page
-relations : map (λ rel. is_icon (Some rel)) (codes "stylesheet" ∷ codes "alternate StyleSheet" ∷ codes "shortcut icon" ∷ codes "ICON" ∷ codes "next" ∷ codes "stylesheets" ∷ codes "apple-touch-icon" ∷ codes "" ∷ [])
-    ≡ true ∷ true ∷ true ∷ true ∷ false ∷ false ∷ false ∷ false ∷ []
+-- words of `rel` by which a `link` is shown
+relations : map (λ rel. related (Some rel)) (codes "stylesheet" ∷ codes "alternate StyleSheet" ∷ codes "shortcut icon" ∷ codes "ICON" ∷ codes "manifest" ∷ codes "preload" ∷ codes "modulepreload" ∷ codes "apple-touch-icon" ∷ codes "mask-icon" ∷ [])
+    ≡ Some kind.Inline ∷ Some kind.Inline ∷ Some kind.Inline ∷ Some kind.Inline ∷ Some kind.Inline ∷ Some kind.Inline ∷ Some kind.Inline ∷ Some kind.Inline ∷ Some kind.Inline ∷ []
 relations = refl
+
+-- words by which it leads nowhere, and by which it is a link
+other_relations : map (λ rel. related (Some rel)) (codes "dns-prefetch" ∷ codes "preconnect" ∷ codes "next" ∷ codes "stylesheets" ∷ codes "" ∷ [])
+    ≡ None ∷ None ∷ Some kind.Link ∷ Some kind.Link ∷ Some kind.Link ∷ []
+other_relations = refl
+
+-- an `input` is shown where it is an image
+buttons : map (λ word. pressed (Some word)) (codes "image" ∷ codes "IMAGE" ∷ codes "text" ∷ codes "" ∷ []) ≡ Some kind.Inline ∷ Some kind.Inline ∷ None ∷ None ∷ []
+buttons = refl
+
+-- a `meta` refreshes by the name of its header, in any case
+refreshes : map (λ word. refreshed (Some word)) (codes "refresh" ∷ codes "Refresh" ∷ codes "refreshes" ∷ codes "content-type" ∷ []) ≡ Some kind.Link ∷ Some kind.Link ∷ None ∷ None ∷ []
+refreshes = refl
 
 -- words of a robots `meta` that forbid to follow
 bans : map (λ content. forbids (Some content)) (codes "nofollow" ∷ codes "noindex, NoFollow" ∷ codes "NONE" ∷ codes "all" ∷ codes "nofollow noindex" ∷ [])

@@ -1,44 +1,84 @@
 -- What the rules ask of start tags: of other elements, and of other attributes, nothing has to be kept.
-use Rattle.std.specs.Prelude.{ℕ, Bool, ◌||◌, List, [], ◌∷◌, if◌then◌else◌, codes}
+use Rattle.std.specs.Prelude.{ℕ, Bool, false, ◌||◌, List, [], ◌∷◌, ◌++◌, if◌then◌else◌, codes}
 use Rattle.std.specs.Str.{bytes_eq}
+use Rattle.std.specs.List.{list_any}
 use Rattle.html_links.specs.Pieces.{Attribute, Tag}
 use Rattle.html_links.specs.Markup.{start_tags}
 use Rattle.html_links.specs.declared.asked.AskedName.{AskedName}
-use Rattle.html_links.specs.declared.asked.AskedName.TheVariants.{Href, Src, Background, Rel, Name, Content}
-use Rattle.html_links.specs.Links.{is_embedded, is_painted}
+use Rattle.html_links.specs.declared.asked.AskedName.TheVariants.{Href, XlinkHref, Src, Background, LongDesc, LowSrc, Poster, Data, SrcSet, ImageSrcSet, Rel, OfType, HttpEquiv, Style, Name, Content}
+use Rattle.html_links.specs.declared.asked.Wanted.{Wanted}
+use Rattle.html_links.specs.declared.asked.Wanted.TheVariants as wanted
+use Rattle.html_links.specs.Links.{link_table}
 
 -- elements that a rule names: those of the link table, `base` and `meta`
-abbrev pub is_asked_element : List ℕ → Bool
-is_asked_element name =
-    bytes_eq name (codes "a") || bytes_eq name (codes "area") || bytes_eq name (codes "link")
-    || bytes_eq name (codes "base") || bytes_eq name (codes "meta") || is_embedded name || is_painted name
+unfoldable pub is_asked_element : List ℕ → Bool
+is_asked_element name = bytes_eq name (codes "base") || bytes_eq name (codes "meta") || list_any (λ row. bytes_eq name row.element) link_table
 
 -- attributes that a rule names
 abbrev pub is_asked_attribute : List ℕ → Bool
 is_asked_attribute name =
-    bytes_eq name (codes "href") || bytes_eq name (codes "src") || bytes_eq name (codes "background")
-    || bytes_eq name (codes "rel") || bytes_eq name (codes "name") || bytes_eq name (codes "content")
+    bytes_eq name (codes "href")
+    || bytes_eq name (codes "xlink:href")
+    || bytes_eq name (codes "src")
+    || bytes_eq name (codes "background")
+    || bytes_eq name (codes "longdesc")
+    || bytes_eq name (codes "lowsrc")
+    || bytes_eq name (codes "poster")
+    || bytes_eq name (codes "data")
+    || bytes_eq name (codes "srcset")
+    || bytes_eq name (codes "imagesrcset")
+    || bytes_eq name (codes "rel")
+    || bytes_eq name (codes "type")
+    || bytes_eq name (codes "http-equiv")
+    || bytes_eq name (codes "style")
+    || bytes_eq name (codes "name")
+    || bytes_eq name (codes "content")
 
 -- their names
 abbrev pub asked_name : AskedName → List ℕ
 asked_name Href = codes "href"
+asked_name XlinkHref = codes "xlink:href"
 asked_name Src = codes "src"
 asked_name Background = codes "background"
+asked_name LongDesc = codes "longdesc"
+asked_name LowSrc = codes "lowsrc"
+asked_name Poster = codes "poster"
+asked_name Data = codes "data"
+asked_name SrcSet = codes "srcset"
+asked_name ImageSrcSet = codes "imagesrcset"
 asked_name Rel = codes "rel"
+asked_name OfType = codes "type"
+asked_name HttpEquiv = codes "http-equiv"
+asked_name Style = codes "style"
 asked_name Name = codes "name"
 asked_name Content = codes "content"
 
--- those of a tag's attributes that a rule names
-abbrev pub asked_attributes : List Attribute → List Attribute
-asked_attributes [] = []
-asked_attributes (a ∷ others) = if is_asked_attribute a.name then a ∷ asked_attributes others else asked_attributes others
+-- whether an attribute of that name is kept
+abbrev pub is_wanted : Wanted → List ℕ → Bool
+is_wanted wanted.Nothing name = false
+is_wanted wanted.Style name = bytes_eq name (codes "style")
+is_wanted wanted.All name = is_asked_attribute name
 
--- the tags of elements that a rule names, with their attributes that a rule names
+-- what is kept of a start tag of that name: `style` of any
+abbrev pub wanted_of : List ℕ → Wanted
+wanted_of name = if is_asked_element name then wanted.All else wanted.Style
+
+-- those of a tag's attributes that are kept
+abbrev pub asked_attributes : Wanted → List Attribute → List Attribute
+asked_attributes w [] = []
+asked_attributes w (a ∷ others) = if is_wanted w a.name then a ∷ asked_attributes w others else asked_attributes w others
+
+-- a tag with the attributes that were kept; nothing, where it has none and no rule names its element
+abbrev pub given : Wanted → List ℕ → List Attribute → List Tag
+given wanted.Nothing name kept = []
+given wanted.Style name [] = []
+given wanted.Style name (a ∷ others) = record { name = name; attributes = a ∷ others } ∷ []
+given wanted.All name kept = record { name = name; attributes = kept } ∷ []
+
+-- the tags that a rule asks for, with their attributes that a rule names
 abbrev pub asked : List Tag → List Tag
 asked [] = []
-asked (tag ∷ others) =
-    if is_asked_element tag.name then (record { name = tag.name; attributes = asked_attributes tag.attributes } ∷ asked others)
-    else asked others
+asked (tag ∷ others) = given (wanted_of tag.name) tag.name (asked_attributes (wanted_of tag.name) tag.attributes) ++ asked others
 
 -- those of a body
 unfoldable pub asked_tags : List ℕ → List Tag

@@ -1,9 +1,9 @@
 //! Attributes of tags (HTML Standard, sections 13.2.5.32 to 13.2.5.39).
-ghost use Rattle.std.specs.Prelude.{◌≡◌, ◌&&◌, false, MatchOption, ℕ, List, [], ◌∷◌, ◌++◌, IfOk, OnOk, length, ◌≤◌};
+ghost use Rattle.std.specs.Prelude.{◌≡◌, true, false, MatchOption, ℕ, List, [], ◌∷◌, ◌++◌, IfOk, OnOk, length, ◌≤◌};
 ghost use Rattle.html_links.specs.Pieces.{from, is, lower, ends_attribute_name, ends_bare_value};
-ghost use Rattle.html_links.specs.Asked.{is_asked_attribute, asked_name};
+ghost use Rattle.html_links.specs.Asked.{is_wanted, asked_name};
 
-use crate::asked::AskedName;
+use crate::asked::{AskedName, Wanted};
 use crate::bytes::{Span, ends_attribute_name, ends_bare_value, is_quote, is_white, split_at_byte};
 use crate::lexer::tags::push_lower;
 use crate::lexer::{Lexer, Mode};
@@ -44,15 +44,27 @@ impl Lexer {
         Ok(false)
     }
 
-    /// Puts bytes to the attribute's name, in a tag that a rule asks for.
+    /// Puts bytes to the attribute's name, where it may be kept.
+    #[tactic(auto, using(crate::proofs::Tagging::not_kept))]
     fn push_name(&mut self, bytes: &[u8]) -> Result<(), AllocError>
         ensures same { OnOk result (self.new ≡ record self.old { attribute = self.new.attribute }) }
         ensures named { OnOk result ((name : List ℕ) → (found : Value) → with_named self.old (self.new.attribute.items ++ name) found ≡ with_named self.old (self.old.attribute.items ++ (lower bytes.now ++ name)) found) }
     {
-        if self.asked {
+        if self.may_be_kept() {
             push_lower(&mut self.attribute, bytes)?;
         }
         Ok(())
+    }
+
+    /// Whether what came of the attribute's name may be the front of one that is kept.
+    fn may_be_kept(&self) -> bool
+        ensures { result ≡ false → (name : List ℕ) → is_wanted self.now.wanted (self.now.attribute.items ++ name) ≡ false }
+    {
+        match self.wanted {
+            Wanted::Nothing => false,
+            Wanted::Style => begins_style(&self.attribute),
+            Wanted::All => true,
+        }
     }
 
     /// Settles behind the name of an attribute whether it is kept.
@@ -64,13 +76,9 @@ impl Lexer {
 
     /// The attribute that is being read, where a rule asks for it.
     fn asked_attribute(&self) -> Option<AskedName>
-        ensures { MatchOption result ((self.now.asked && is_asked_attribute self.now.attribute.items) ≡ false) (λ n. self.now.attribute.items ≡ asked_name n) }
+        ensures { MatchOption result (is_wanted self.now.wanted self.now.attribute.items ≡ false) (λ n. (self.now.attribute.items ≡ asked_name n) × (is_wanted self.now.wanted self.now.attribute.items ≡ true)) }
     {
-        if self.asked {
-            AskedName::named(&self.attribute)
-        } else {
-            None
-        }
+        self.wanted.attribute(&self.attribute)
     }
 
     pub(crate) fn attribute_name_run<'a>(&mut self, text: &'a [u8]) -> Result<&'a [u8], AllocError>
@@ -183,5 +191,18 @@ impl Lexer {
             self.attributes.push(Attribute { name, value })?;
         }
         Ok(())
+    }
+}
+
+ghost use Rattle.std.specs.Str.{bytes_eq};
+ghost use Rattle.std.specs.Prelude.{codes};
+
+/// Whether a front in lower case may be one of `style`, by its first byte.
+fn begins_style(front: &[u8]) -> bool
+    ensures { result ≡ false → (name : List ℕ) → bytes_eq (front.now ++ name) (codes "style") ≡ false }
+{
+    match front {
+        [first, ..] => *first == b's',
+        [] => true,
     }
 }

@@ -1,9 +1,9 @@
 //! Names and ends of tags (HTML Standard, sections 13.2.5.6 to 13.2.5.8).
 ghost use Rattle.std.specs.Prelude.{◌≡◌, ℕ, List, ◌∷◌, ◌++◌, IfOk, OnOk, length, ◌≤◌};
 ghost use Rattle.html_links.specs.Pieces.{from, lower, ends_tag_name};
-ghost use Rattle.html_links.specs.Asked.{asked_tags};
+ghost use Rattle.html_links.specs.Asked.{given, asked_tags};
 
-use crate::asked::is_asked_element;
+use crate::asked::Wanted;
 use crate::bytes::{Span, ends_tag_name};
 use crate::lexer::{Lexer, Mode};
 use crate::raw_element::RawElement;
@@ -22,7 +22,7 @@ pub(crate) fn push_lower(name: &mut Vec<u8>, text: &[u8]) -> Result<(), AllocErr
 impl Lexer {
     ghost use Rattle.html_links.specs.Markup.{start_tag, end_tag, attributes};
     ghost use Rattle.html_links.specs.Lexing.{remaining, content, tags_after, in_tag_name, in_end_tag_name, before_attribute};
-    ghost use Rattle.html_links.specs.inner.Lexing.{GivesTag, LeavesTag};
+    ghost use Rattle.html_links.specs.inner.Lexing.{GivesTag, LeavesTag, tag_if};
 
     pub(crate) fn tag_name(&mut self, byte: u8) -> Result<bool, AllocError>
         ensures { IfOk result (λ ends. GivesTag (in_tag_name self.old) byte ends self.new) }
@@ -40,7 +40,7 @@ impl Lexer {
     fn begin_attributes(&mut self)
         ensures { (rest : List ℕ) → tags_after (start_tag self.old.name.items (attributes rest)) ≡ before_attribute self.new rest }
     {
-        self.asked = is_asked_element(&self.name);
+        self.wanted = Wanted::in_start_tag(&self.name);
         self.raw = RawElement::named(&self.name);
         self.attributes.clear();
     }
@@ -69,7 +69,7 @@ impl Lexer {
     pub(crate) fn end_tag_named(&mut self, byte: u8) -> Result<bool, AllocError>
         ensures { IfOk result (λ ends. GivesTag (λ rest. asked_tags (end_tag (attributes rest)).rest) byte ends self.new) }
     {
-        self.asked = false;
+        self.wanted = Wanted::Nothing;
         self.raw = None;
         self.before_attribute(byte)
     }
@@ -87,7 +87,18 @@ impl Lexer {
         ensures { GivesTag (before_attribute self.old) 62 result self.new }
     {
         self.begin_content();
-        self.asked
+        self.is_given()
+    }
+
+    /// Whether the tag that has been read is a start tag that may have links.
+    fn is_given(&self) -> bool
+        ensures { (name : List ℕ) → given self.now.wanted name self.now.attributes.items ≡ tag_if result name self.now.attributes.items }
+    {
+        match self.wanted {
+            Wanted::Nothing => false,
+            Wanted::Style => !self.attributes.is_empty(),
+            Wanted::All => true,
+        }
     }
 
     /// Goes on behind the tag that has been read.

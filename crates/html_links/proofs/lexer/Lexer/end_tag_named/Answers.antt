@@ -1,12 +1,13 @@
-use Rattle.std.proofs.Common.{◌∷◌, false, None}
+use Rattle.std.proofs.Common.{◌∷◌, None}
 use Rattle.html_links.specs.Markup.{attributes, end_tag}
 use Rattle.html_links.specs.Asked.{asked_tags}
 use Rattle.html_links.specs.Lexing.{before_attribute}
 use Rattle.html_links.proofs.Tagging.{handed, end_begun}
+use Rattle.html_links.specs.declared.asked.Wanted.TheVariants as wanted
 use Rattle.html_links.proofs.lexer.Lexer.end_tag_named.Goals as goal
 
 pub returns : goal.returns
 returns c =
-    let l = record c.args.self.now { asked = false; raw = None } in
+    let l = record c.args.self.now { wanted = wanted.Nothing; raw = None } in
     handed (λ rest. asked_tags (end_tag (attributes rest)).rest) (before_attribute l) c.args.byte c.before_attribute.new.self c.before_attribute.result
     (λ rest. end_begun l.name.items l.attributes.items (attributes (c.args.byte ∷ rest))) c.before_attribute.ensures

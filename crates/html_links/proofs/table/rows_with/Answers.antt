@@ -1,0 +1,17 @@
+use Rattle.std.proofs.Common.{rules, ◌≡◌, refl, [], ◌∷◌}
+use Rattle.std.specs.Prelude.{codes}
+use Rattle.html_links.specs.Links.{link_table, row}
+use Rattle.html_links.specs.inner.Rows.{rows_with}
+use Rattle.html_links.specs.declared.table.Form.TheVariants as form
+use Rattle.html_links.proofs.table.rows_with.Goals as goal
+
+rows_of_i : rows_with 105 link_table
+    ≡ row (codes "img") (codes "src") form.Shown ∷ row (codes "img") (codes "srcset") form.Set ∷ row (codes "img") (codes "longdesc") form.Link ∷ row (codes "img") (codes "lowsrc") form.Shown
+    ∷ row (codes "iframe") (codes "src") form.Shown ∷ row (codes "input") (codes "src") form.Button
+    ∷ row (codes "image") (codes "href") form.Shown ∷ row (codes "image") (codes "xlink:href") form.Shown ∷ []
+unfolding link_table
+rows_of_i = refl
+
+pub returns-in-105 : goal.returns-in-105
+unfolding link_table
+returns-in-105 c = rw rows_of_i (search rules)

@@ -1,0 +1,19 @@
+-- Rows of the link table by the first bytes of their elements.
+use Rattle.std.specs.Prelude.{ℕ, Bool, false, List, [], ◌∷◌, if◌then◌else◌, ◌==◌}
+use Rattle.html_links.specs.Links.{Row}
+use Rattle.html_links.specs.Asked.{asked_name}
+use Rattle.html_links.specs.declared.table.Row as declared
+
+-- a row by its names
+abbrev pub named : declared.Row → Row
+named r = record { element = r.0.now; attribute = asked_name r.1; form = r.2 }
+
+-- whether a name begins with that byte
+abbrev pub begins_with : ℕ → List ℕ → Bool
+begins_with first [] = false
+begins_with first (b ∷ bs) = first == b
+
+-- the rows of elements whose names begin with that byte
+abbrev pub rows_with : ℕ → List Row → List Row
+rows_with first [] = []
+rows_with first (r ∷ others) = if begins_with first r.element then r ∷ rows_with first others else rows_with first others
