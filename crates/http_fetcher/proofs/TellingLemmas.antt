@@ -8,7 +8,7 @@ use Rattle.response_reader.specs.Fields.{HeadParts}
 use Rattle.response_reader.specs.declared.wire.Wire.{Ghosts as Wires}
 use Rattle.fetcher.specs.declared.answer.Answer.{Answer}
 use Rattle.fetcher.specs.Statuses.{is_redirect, is_successful}
-use Rattle.response_answer.specs.Digests.{is_document, digest_of, kept_body, target_of, page_or_leaf}
+use Rattle.response_answer.specs.Digests.{is_document, is_sheet, digest_of, kept_body, target_of, page_or_leaf, sheet_or_leaf}
 use Rattle.answer_notes.specs.RobotsAnswers.{all_allowed, rules_by_status}
 use Rattle.answer_notes.specs.Tellings.{outcome_told, body_told}
 use Rattle.answer_notes.specs.declared.told.Told.{Told}
@@ -62,6 +62,15 @@ redirects at target head h = by (is_redirect head.status) refl
     by true is = is
     by false is = absurd (let none : target_of at head ≡ None = rw is refl in cc)
 
+-- what a response that is no page of HTML says of the rules
+sheet_says : (at : AddressText) (r : ResponseParts) (left : ℕ) (rules : RuleSetValue) → rules ≡ rules_by_status r.head.status r.body
+    → SaysHop (sheet_or_leaf at r) (kept_body r.head.status r.body) left (Last rules)
+sheet_says at r left rules is = by (is_sheet r.head) refl
+  where
+    by : (t : Bool) → is_sheet r.head ≡ t → SaysHop (sheet_or_leaf at r) (kept_body r.head.status r.body) left (Last rules)
+    by true sheet = rw sheet (tt, is ∙ sym (kept_is_enough r.head.status r.body))
+    by false sheet = rw sheet (tt, is ∙ sym (kept_is_enough r.head.status r.body))
+
 -- what a response that redirects nowhere says of the rules
 plain_says : (robots : Bool) (at : AddressText) (r : ResponseParts) (left : ℕ) (rules : RuleSetValue) → rules ≡ rules_by_status r.head.status r.body
     → SaysHop (page_or_leaf robots at r) (kept_body r.head.status r.body) left (Last rules)
@@ -69,7 +78,7 @@ plain_says robots at r left rules is = by (is_document r.head) refl
   where
     by : (t : Bool) → is_document r.head ≡ t → SaysHop (page_or_leaf robots at r) (kept_body r.head.status r.body) left (Last rules)
     by true document = rw document (tt, is ∙ sym (kept_is_enough r.head.status r.body))
-    by false document = rw document (tt, is ∙ sym (kept_is_enough r.head.status r.body))
+    by false document = rw document (sheet_says at r left rules is)
 
 -- what a whole response says of a hop
 whole_says : (robots : Bool) (at : AddressText) (r : ResponseParts) (left : ℕ) (hop : Hop) (target : Option AddressText) → target_of at r.head ≡ target

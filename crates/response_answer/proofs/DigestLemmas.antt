@@ -3,9 +3,9 @@ use Rattle.std.proofs.Common.{◌≡◌, ℕ, ◌++◌, Bool, true, false, List,
 use Rattle.std.proofs.lemmas.Bool.Decides.{nat_tests}
 use Rattle.response_reader.specs.Fields.{HeadParts}
 use Rattle.response_answer.specs.declared.stage.Stage.{Stage}
-use Rattle.response_answer.specs.declared.stage.Stage.TheVariants.{Fresh, Redirect, Page, Leaf}
+use Rattle.response_answer.specs.declared.stage.Stage.TheVariants.{Fresh, Redirect, Page, Sheet, Leaf}
 use Rattle.fetcher.specs.Statuses.{is_successful, is_redirect}
-use Rattle.response_answer.specs.Digests.{is_document, kept_body}
+use Rattle.response_answer.specs.Digests.{is_document, is_sheet, kept_body}
 use Rattle.response_answer.specs.Digesting.{IsStageOf, has_head}
 
 nothing_kept : (b : Bool) (xs : List ℕ) → xs ≡ [] → (if b then xs else []) ≡ []
@@ -32,11 +32,16 @@ redirect_is_none status h = grind (arith, nat_tests)
 pub redirect_is_no_document : (head : HeadParts) → is_redirect head.status ≡ true → is_document head ≡ false
 redirect_is_no_document head h = rw (redirect_is_none head.status h) refl
 
+-- nor a style sheet
+pub redirect_is_no_sheet : (head : HeadParts) → is_redirect head.status ≡ true → is_sheet head ≡ false
+redirect_is_no_sheet head h = rw (redirect_is_none head.status h) refl
+
 -- where a stage is that of a response, there was a head
 pub stage_has_head : (head : HeadParts) (front : List ℕ) (stage : Stage) → IsStageOf head front stage → has_head stage ≡ true
 stage_has_head head front Fresh h = absurd h
 stage_has_head head front (Redirect status location) h = refl
 stage_has_head head front (Page status scanner) h = refl
+stage_has_head head front (Sheet status scanner) h = refl
 stage_has_head head front (Leaf status) h = refl
 
 -- what holds of a result holds in another form too

@@ -2,10 +2,11 @@
 use Rattle.std.specs.Prelude.{◌≡◌, ℕ, Bool, true, false, List, [], Option, Some, None}
 use Rattle.address.specs.Address.{AddressText}
 use Rattle.html_links.specs.Scanning.{StandsFor}
+use Rattle.css_links.specs.Scanning.{StandsFor as StandsForSheet}
 use Rattle.response_reader.specs.Fields.{HeadParts}
 use Rattle.response_answer.specs.declared.stage.Stage.{Stage}
-use Rattle.response_answer.specs.declared.stage.Stage.TheVariants.{Fresh, Redirect, Page, Leaf}
-use Rattle.response_answer.specs.Digests.{target_of, named_from, is_document, kept_body}
+use Rattle.response_answer.specs.declared.stage.Stage.TheVariants.{Fresh, Redirect, Page, Sheet, Leaf}
+use Rattle.response_answer.specs.Digests.{target_of, named_from, is_document, is_sheet, kept_body}
 use Rattle.fetcher.specs.Statuses.{is_successful}
 
 -- the address that was asked and whether robots rules are honoured, what the head says, the body that is kept, and whether memory ran out
@@ -33,11 +34,14 @@ RedirectsNowhere head = (at : AddressText) → target_of at head ≡ None
 abbrev pub IsStageOf : HeadParts → List ℕ → Stage → Type 0
 IsStageOf head front Fresh = ⊥
 IsStageOf head front (Redirect status location) =
-    (status ≡ head.status) × (is_successful head.status ≡ false) × (is_document head ≡ false)
+    (status ≡ head.status) × (is_successful head.status ≡ false) × (is_document head ≡ false) × (is_sheet head ≡ false)
     × ((at : AddressText) → target_of at head ≡ named_from at location.items)
 IsStageOf head front (Page status scanner) =
     (status ≡ head.status) × (is_successful head.status ≡ true) × (is_document head ≡ true) × RedirectsNowhere head × StandsFor scanner front
-IsStageOf head front (Leaf status) = (status ≡ head.status) × (is_document head ≡ false) × RedirectsNowhere head
+IsStageOf head front (Sheet status scanner) =
+    (status ≡ head.status) × (is_successful head.status ≡ true) × (is_document head ≡ false) × (is_sheet head ≡ true) × RedirectsNowhere head
+    × StandsForSheet scanner front
+IsStageOf head front (Leaf status) = (status ≡ head.status) × (is_document head ≡ false) × (is_sheet head ≡ false) × RedirectsNowhere head
 
 -- it works, and has taken this head, if any, and these bytes
 abbrev pub HasTaken : Digesting → Option HeadParts → List ℕ → Type 0

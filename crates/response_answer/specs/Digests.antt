@@ -1,5 +1,5 @@
 -- What a response answers: a page with its links, a redirect, or neither (RFC 9110, section 15.4; HTML Standard, section 2.4.3).
-use Rattle.std.specs.Prelude.{◌≡◌, ℕ, ◌&&◌, ◌||◌, ◌==◌, not, Bool, true, false, List, [], ◌∷◌, ◌++◌, Option, Some, None, Result, Ok, Err, if◌then◌else◌, codes}
+use Rattle.std.specs.Prelude.{◌≡◌, ℕ, ◌&&◌, ◌||◌, ◌==◌, not, Bool, true, false, List, [], ◌∷◌, ◌++◌, map, Option, Some, None, Result, Ok, Err, if◌then◌else◌, codes}
 use Rattle.std.specs.List.{before_first}
 use Rattle.std.specs.Str.{is_utf8, str_eq_ignore_ascii_case}
 use Rattle.httparse.specs.Grammar.{trim_ows}
@@ -7,6 +7,7 @@ use Rattle.address.specs.Address.{AddressText, join_address}
 use Rattle.address.specs.declared.fault.AddressFault.{AddressFault}
 use Rattle.html_links.specs.Links.{Link, Links, links_of_body}
 use Rattle.html_links.specs.declared.links.LinkKind.{LinkKind}
+use Rattle.css_links.specs.References.{references}
 use Rattle.html_links.specs.declared.links.LinkKind.TheVariants as link
 use Rattle.response_reader.specs.Fields.{HeadParts}
 use Rattle.response_reader.specs.Response.{ResponseParts}
@@ -50,9 +51,22 @@ abbrev pub may_be_html : Option (List ℕ) → Bool
 may_be_html None = true
 may_be_html (Some value) = is_html value
 
--- a body in which links are looked for
+-- a body of HTML, in which links are looked for
 abbrev pub is_document : HeadParts → Bool
 is_document head = is_successful head.status && not head.coded && may_be_html head.content_type
+
+-- the media type of style sheets (RFC 2318)
+unfoldable pub is_css : List ℕ → Bool
+is_css value = str_eq_ignore_ascii_case (media_type value) (codes "text/css")
+
+-- the field says that it is a style sheet
+abbrev pub says_css : Option (List ℕ) → Bool
+says_css None = false
+says_css (Some value) = is_css value
+
+-- a body that is a style sheet, whose references are looked for
+abbrev pub is_sheet : HeadParts → Bool
+is_sheet head = is_successful head.status && not head.coded && says_css head.content_type
 
 -- how a page names what a link leads to
 abbrev pub edge_kind : LinkKind → EdgeKind
@@ -84,10 +98,23 @@ abbrev pub page_edges : Bool → AddressText → Links → List Edge
 page_edges robots at found =
     if robots && found.nofollow then [] else edges_from (document_base at found.base) found.links
 
+-- a reference of a style sheet as a link: what it leads to is shown
+abbrev pub shown : List ℕ → Link
+shown text = record { text = text; kind = link.Inline }
+
+-- the edges of a style sheet: its references, joined to its own address (CSS Values and Units Level 3, section 3.4)
+abbrev pub sheet_edges : AddressText → List (List ℕ) → List Edge
+sheet_edges at found = edges_from at (map shown found)
+
+-- what a body that is no page of HTML answers: a style sheet is a page that shows what its references lead to
+abbrev pub sheet_or_leaf : AddressText → ResponseParts → Outcome
+sheet_or_leaf at r =
+    if is_sheet r.head then Page r.head.status (sheet_edges at (references r.body)) else Leaf r.head.status
+
 -- what a body that isn't a redirect's answers
 abbrev pub page_or_leaf : Bool → AddressText → ResponseParts → Outcome
 page_or_leaf robots at r =
-    if is_document r.head then Page r.head.status (page_edges robots at (links_of_body r.body)) else Leaf r.head.status
+    if is_document r.head then Page r.head.status (page_edges robots at (links_of_body r.body)) else sheet_or_leaf at r
 
 abbrev pub outcome_by : Bool → AddressText → ResponseParts → Option AddressText → Outcome
 outcome_by robots at r None = page_or_leaf robots at r

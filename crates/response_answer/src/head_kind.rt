@@ -2,7 +2,7 @@
 ghost use Rattle.std.specs.Prelude.{◌≡◌, ◌==◌, option_map, vec_items};
 ghost use Rattle.std.specs.List.{before_first, position};
 ghost use Rattle.std.specs.Str.{str_eq_ignore_ascii_case};
-ghost use Rattle.response_answer.specs.Digests.{is_html, media_type, may_be_html, is_document};
+ghost use Rattle.response_answer.specs.Digests.{is_css, is_html, media_type, may_be_html, is_document, is_sheet, says_css};
 ghost use Rattle.response_answer.specs.inner.HeadKinds.{kind_parts};
 
 use fetcher::is_successful;
@@ -17,11 +17,18 @@ pub(crate) struct HeadKind<'a> {
     pub location: &'a Option<Vec<u8>>,
 }
 
-/// Whether links are looked for in the body after this head.
+/// Whether the body after this head is a page of HTML, in which links are looked for.
 pub(crate) fn is_document(head: &HeadKind<'_>) -> bool
     ensures { result ≡ is_document (kind_parts head.now) }
 {
     is_successful(head.status) && !head.coded && may_be_html(head.content_type)
+}
+
+/// Whether the body after this head is a style sheet, whose references are looked for.
+pub(crate) fn is_sheet(head: &HeadKind<'_>) -> bool
+    ensures { result ≡ is_sheet (kind_parts head.now) }
+{
+    is_successful(head.status) && !head.coded && says_css(head.content_type)
 }
 
 fn first_semicolon(value: &[u8]) -> Option<usize>
@@ -60,6 +67,24 @@ fn is_html(value: &[u8]) -> bool
 {
     let media_type = media_type(value);
     is_type(media_type, b"text/html") || is_type(media_type, b"application/xhtml+xml")
+}
+
+// Whether a Content-Type is that of style sheets (RFC 2318).
+#[tactic(auto, unfolding(crate::specs::Digests::is_css))]
+fn is_css(value: &[u8]) -> bool
+    ensures { result ≡ is_css value.now }
+{
+    is_type(media_type(value), b"text/css")
+}
+
+// Whether a Content-Type says that the body is a style sheet.
+fn says_css(content_type: &Option<Vec<u8>>) -> bool
+    ensures { result ≡ says_css (option_map vec_items content_type.now) }
+{
+    match content_type {
+        Some(value) => is_css(value),
+        None => false,
+    }
 }
 
 // Whether a body with this Content-Type may be HTML.

@@ -1,9 +1,11 @@
-//! The edges of a page, from what a scan of its body found (HTML Standard, section 2.4.3).
+//! The edges of a page of HTML or of a style sheet, from what a scan of its body found (HTML Standard, section 2.4.3).
 ghost use Rattle.std.specs.Prelude.{◌≡◌, ◌++◌, ◌&&◌, IfOk, OnOk, option_map, string_bytes};
 ghost use Rattle.html_links.specs.Scanning.{scanned};
-ghost use Rattle.response_answer.specs.Digests.{address_or_none, named_from, edge_kind, edges_from, document_base, base_or, page_edges};
+ghost use Rattle.response_answer.specs.Digests.{address_or_none, named_from, edge_kind, edges_from, document_base, base_or, page_edges, sheet_edges};
+ghost use Rattle.html_links.specs.declared.links.LinkKind.TheVariants as link;
 
 use address::{Address, AddressFault};
+use css_links::Found as Reference;
 use fetcher::{Edge, EdgeKind, Edges};
 use html_links::{Found, LinkKind, Scan};
 use std::alloc::{AllocError, Global};
@@ -114,5 +116,41 @@ pub(crate) fn page_edges(
     }
     let base = named_base(at, &scan.base)?;
     let edges = edges_by(alloc, at, &base, &scan.links)?;
+    Edges::new(edges)
+}
+
+// Adds the edge of a reference of a style sheet, if it leads to an address.
+fn add_shown(edges: &mut Vec<Edge>, base: &Address, found: &Reference) -> Result<(), AllocError>
+    ensures { OnOk result (edges.new.items ≡ edges.old.items ++ edge_to link.Inline (address_or_none (join_address base.now found.now))) }
+{
+    if let Some(target) = joined(base, found.text.as_str())? {
+        edges.push(Edge {
+            target,
+            kind: EdgeKind::Inline,
+        })?;
+    }
+    Ok(())
+}
+
+// The edges of references of a style sheet at this address, in their order.
+fn shown_from(alloc: Global, at: &Address, found: &[Reference]) -> Result<Vec<Edge>, AllocError>
+    ensures { IfOk result (λ edges. edges.items ≡ sheet_edges at.now found.now) }
+{
+    let mut edges = Vec::new(alloc);
+    for reference in found {
+        add_shown(&mut edges, at, reference)?;
+    }
+    Ok(edges)
+}
+
+/// The edges of a style sheet, from what a scan of it found. The error is want of memory.
+pub(crate) fn sheet_edges(
+    alloc: Global,
+    at: &Address,
+    found: &[Reference],
+) -> Result<Edges, AllocError>
+    ensures { IfOk result (λ edges. edges ≡ sheet_edges at.now found.now) }
+{
+    let edges = shown_from(alloc, at, found)?;
     Edges::new(edges)
 }

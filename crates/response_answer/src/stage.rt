@@ -6,9 +6,10 @@ ghost use Rattle.fetcher.specs.Statuses.{is_successful};
 ghost use Rattle.response_answer.specs.Digesting.{IsStageOf, has_head};
 ghost use Rattle.response_answer.specs.inner.HeadKinds.{kind_parts};
 
-use crate::head_kind::{HeadKind, is_document};
-use crate::links::{named, page_edges};
+use crate::head_kind::{HeadKind, is_document, is_sheet};
+use crate::links::{named, page_edges, sheet_edges};
 use address::Address;
+use css_links::Scanner as SheetScanner;
 use fetcher::{Outcome, is_redirect, is_successful};
 use html_links::Scanner;
 use std::alloc::{AllocError, Global};
@@ -20,8 +21,10 @@ pub(crate) enum Stage {
     Fresh,
     /// A redirect, with its status and its Location.
     Redirect(u16, Vec<u8>),
-    /// A document, with its status and what was found in it so far.
+    /// A page of HTML, with its status and what was found in it so far.
     Page(u16, Scanner),
+    /// A style sheet, with its status and what was found in it so far.
+    Sheet(u16, SheetScanner),
     /// Neither, with its status.
     Leaf(u16),
 }
@@ -43,6 +46,9 @@ impl Stage {
         if is_document(head) {
             return Ok(Stage::Page(head.status, Scanner::new(alloc)));
         }
+        if is_sheet(head) {
+            return Ok(Stage::Sheet(head.status, SheetScanner::new(alloc)));
+        }
         Ok(Stage::Leaf(head.status))
     }
 
@@ -50,12 +56,17 @@ impl Stage {
     pub(crate) fn take(&mut self, bytes: &[u8]) -> Result<(), AllocError>
         ensures { OnOk result ((h : HeadParts) (front : List ℕ) → IsStageOf h front self.old → IsStageOf h (front ++ bytes.now) self.new) }
     {
-        if let Stage::Page(_, scanner) = self {
-            let Ok(()) = scanner.feed(bytes) else {
-                return Err(AllocError);
-            };
+        match self {
+            Stage::Page(_, scanner) => match scanner.feed(bytes) {
+                Ok(()) => Ok(()),
+                Err(_) => Err(AllocError),
+            },
+            Stage::Sheet(_, scanner) => match scanner.feed(bytes) {
+                Ok(()) => Ok(()),
+                Err(_) => Err(AllocError),
+            },
+            Stage::Fresh | Stage::Redirect(_, _) | Stage::Leaf(_) => Ok(()),
         }
-        Ok(())
     }
 
     // Whether the body is kept: where the status is one of success.
@@ -64,7 +75,7 @@ impl Stage {
     {
         match self {
             Stage::Fresh | Stage::Redirect(_, _) => false,
-            Stage::Page(_, _) => true,
+            Stage::Page(_, _) | Stage::Sheet(_, _) => true,
             Stage::Leaf(status) => is_successful(*status),
         }
     }
@@ -91,6 +102,12 @@ impl Stage {
                     return Err(AllocError);
                 };
                 Ok(Outcome::Page(status, page_edges(alloc, at, robots, &scan)?))
+            }
+            Stage::Sheet(status, scanner) => {
+                let Ok(found) = scanner.finish() else {
+                    return Err(AllocError);
+                };
+                Ok(Outcome::Page(status, sheet_edges(alloc, at, &found)?))
             }
             Stage::Leaf(status) => Ok(Outcome::Leaf(status)),
         }

@@ -1,6 +1,7 @@
 //! Responses in examples: what each answers, whole and in pieces, and each call once.
 use crate::common::{address, bytes_of as text_bytes, demand, halves, is_printed, repeated};
 use address::Address;
+use fetcher::Body;
 use response_reader::{Head, ReadFault, Response, Sink, SliceWire, read_response};
 use site_answer::{
     Answer, Connect, Digester, FaultKind, Fetcher, HttpFetcher, MemoryConnect, StoredAnswer,
@@ -18,6 +19,9 @@ robots=off HTTP/1.1 200 OK|| => <meta name=robots content=\"a, NONE\"><a href=b>
 HTTP/1.1 203 X|Content-Type: application/XHTML+xml ; a=b|| => <a href=/> => Page(203, Edges { items: [Edge { target: \"http://h/\", kind: Link }] })
 HTTP/1.1 200 OK|Content-Encoding: gzip|| => <a href=b> => Leaf(200)
 HTTP/1.1 200 OK|Content-Type:|| => <a href=b> => Leaf(200)
+HTTP/1.1 200 OK|Content-Type: Text/CSS; charset=utf-8|| => @import \"/a.css\";b{src:url(../i.png#x) url( 'c d.png' )}/*url(n)*/p{content:\"url(o)\"} => Page(200, Edges { items: [Edge { target: \"http://h/a.css\", kind: Inline }, Edge { target: \"http://h/i.png\", kind: Inline }, Edge { target: \"http://h/d/c%20d.png\", kind: Inline }] })
+HTTP/1.1 200 OK|Content-Type: text/css|Content-Encoding: gzip|| => @import \"a\"; => Leaf(200)
+HTTP/1.1 404 X|Content-Type: text/css|| => @import \"a\"; => Leaf(404)
 HTTP/1.1 404 X|Content-Type: text/html|| => <a href=b> => Leaf(404)
 HTTP/1.1 302 X|Location: ../x#f|| => a => Moved(302, \"http://h/x\")
 HTTP/1.1 308 X|Location:|| =>  => Moved(308, \"http://h/d/p.html\")
@@ -67,13 +71,13 @@ fn over<C: Connect>(
     connect: C,
     at: &Address,
     robots: bool,
-) -> Answer {
+) -> Answer<Body> {
     let mut fetcher = HttpFetcher::new(alloc, connect, robots);
     fetcher.ask(at).expect(rt, "memory")
 }
 
 // What comes over a connection that tells the response of a row.
-fn fetched(rt: &impl Abort, alloc: Global, at: &Address, row: &Row<'_>) -> Answer {
+fn fetched(rt: &impl Abort, alloc: Global, at: &Address, row: &Row<'_>) -> Answer<Body> {
     let mut answers = Vec::new(alloc);
     let told = StoredAnswer {
         at: at.try_clone().expect(rt, "memory"),
@@ -85,17 +89,23 @@ fn fetched(rt: &impl Abort, alloc: Global, at: &Address, row: &Row<'_>) -> Answe
 }
 
 // What a response of these bytes answers that is kept.
-fn kept(rt: &impl Abort, alloc: Global, at: &Address, bytes: &[u8], robots: bool) -> Answer {
+fn kept(rt: &impl Abort, alloc: Global, at: &Address, bytes: &[u8], robots: bool) -> Answer<Body> {
     digest(alloc, at, &response(rt, alloc, bytes), robots).expect(rt, "memory")
 }
 
 // What it answers where its body becomes the answer's.
-fn moved(rt: &impl Abort, alloc: Global, at: &Address, bytes: &[u8], robots: bool) -> Answer {
+fn moved(rt: &impl Abort, alloc: Global, at: &Address, bytes: &[u8], robots: bool) -> Answer<Body> {
     into_answer(alloc, at, response(rt, alloc, bytes), robots).expect(rt, "memory")
 }
 
 // What it answers where its body arrives in two pieces.
-fn in_pieces(rt: &impl Abort, alloc: Global, at: &Address, bytes: &[u8], robots: bool) -> Answer {
+fn in_pieces(
+    rt: &impl Abort,
+    alloc: Global,
+    at: &Address,
+    bytes: &[u8],
+    robots: bool,
+) -> Answer<Body> {
     let Response {
         status,
         content_type,
@@ -118,7 +128,7 @@ fn in_pieces(rt: &impl Abort, alloc: Global, at: &Address, bytes: &[u8], robots:
 }
 
 // Demands that an answer is what a row says. Its body is kept where the status is 2xx.
-fn demand_answer(rt: &impl Abort, alloc: Global, answer: &Answer, row: &Row<'_>) {
+fn demand_answer(rt: &impl Abort, alloc: Global, answer: &Answer<Body>, row: &Row<'_>) {
     let body = if row.head.starts_with("HTTP/1.1 2") {
         row.body
     } else {

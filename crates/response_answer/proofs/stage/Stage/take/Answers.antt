@@ -1,7 +1,7 @@
 -- A scanner that was fed stands for the longer front.
 use Rattle.std.proofs.Common.{subst}
 use Rattle.response_answer.specs.declared.stage.Stage.{Stage}
-use Rattle.response_answer.specs.declared.stage.Stage.TheVariants.{Page}
+use Rattle.response_answer.specs.declared.stage.Stage.TheVariants.{Page, Sheet}
 use Rattle.response_answer.specs.Digesting.{IsStageOf}
 use Rattle.response_answer.proofs.stage.Stage.take.Goals as goal
 
