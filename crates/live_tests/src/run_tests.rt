@@ -3,10 +3,11 @@
 use crate::texts::{arguments_of, behind, is_written, text_of, words_of};
 use address::{Address, Origin};
 use answer_notes::{Noted, Recording};
-use fetcher::{Answer, Ask, Fetcher};
+use fetcher::{Answer, Ask, Body, Fetcher};
 use follow_filters::Plan;
 use http_fetcher::HttpFetcher;
-use local_tree::{Folder, MemoryFolder, WriteFault, names, write_site};
+use local_names::{NameRules, names};
+use local_tree::{Folder, MemoryFolder, WriteFault, write_site};
 use memory_connect::{MemoryConnect, StoredAnswer};
 use options::read_order;
 use retriever::{HoldFault, System, run, run_program};
@@ -244,16 +245,59 @@ $ --page-requisites --map http://h/
 > fetched 3 kept 2 refused 0 failed 0
 = 0
 
-a page shown within a page leads no further
+what a page shown within a page shows comes too, and no link of either
 $ -p --map http://h/
 < page 200 http://h/
 < inline http://h/f
+< link http://h/k
 < page 200 http://h/f
 < inline http://h/g
 < link http://h/k
+< leaf 200 http://h/g
+< leaf 200 http://h/k
 > 0 200 http://h/ h/index.html
 > 1 200 http://h/f h/f
-> fetched 2 kept 2 refused 0 failed 0
+> 2 200 http://h/g h/g
+> fetched 3 kept 3 refused 0 failed 0
+= 0
+
+ten steps beyond the limit, and none more
+$ -p --map http://h/0
+< page 200 http://h/0
+< inline http://h/1
+< page 200 http://h/1
+< inline http://h/2
+< page 200 http://h/2
+< inline http://h/3
+< page 200 http://h/3
+< inline http://h/4
+< page 200 http://h/4
+< inline http://h/5
+< page 200 http://h/5
+< inline http://h/6
+< page 200 http://h/6
+< inline http://h/7
+< page 200 http://h/7
+< inline http://h/8
+< page 200 http://h/8
+< inline http://h/9
+< page 200 http://h/9
+< inline http://h/a
+< page 200 http://h/a
+< inline http://h/b
+< leaf 200 http://h/b
+> 0 200 http://h/0 h/0
+> 1 200 http://h/1 h/1
+> 2 200 http://h/2 h/2
+> 3 200 http://h/3 h/3
+> 4 200 http://h/4 h/4
+> 5 200 http://h/5 h/5
+> 6 200 http://h/6 h/6
+> 7 200 http://h/7 h/7
+> 8 200 http://h/8 h/8
+> 9 200 http://h/9 h/9
+> 10 200 http://h/a h/a
+> fetched 11 kept 11 refused 0 failed 0
 = 0
 
 the manual's site, no limit, and what its pages show
@@ -639,7 +683,7 @@ a record of an address that is refused
 $ --record http://h/
 < wgetr-record 1
 < fault connect http://k/
-< rules all https://h/
+< rules all ftp://h/
 > input address 3
 = 2";
 
@@ -759,9 +803,9 @@ $ wgetr -D a*b http://h/
 ! an element is letters, digits, -, _ and dots, as example.org (see wgetr --help)
 = 2
 
-$ wgetr example.org
+$ wgetr //example.org/
 > line start not-url
-! wgetr: START is no URL (did you mean http://example.org/?), in: example.org
+! wgetr: START is no URL (did you mean http://example.org/?), in: //example.org/
 ? START is an address in full, as http://example.org/path?query, without user name
 = 2
 
@@ -803,7 +847,7 @@ $ wgetr --resume held --save held http://h/
 > resume line 1
 = 2
 
-$ wgetr --resume https http://h/
+$ wgetr --resume ftp http://h/
 > resume address 2
 = 2
 
@@ -855,6 +899,8 @@ impl<'a> Fetcher for Asked<'a> {
     ghost use Rattle.std.specs.Prelude.{Bool};
     ghost use Rattle.http_fetcher.specs.Meanings.{MayAnswer, MayRule};
 
+    type Body = Body;
+
     ghost Site = { Bool };
 
     ghost site = { λ f. f.inner.robots };
@@ -865,7 +911,7 @@ impl<'a> Fetcher for Asked<'a> {
 
     ghost log = { λ f. f.inner.asks };
 
-    fn ask(&mut self, at: &Address) -> Result<Answer, AllocError> {
+    fn ask(&mut self, at: &Address) -> Result<Answer<Body>, AllocError> {
         self.inner.ask(at)
     }
 
@@ -939,7 +985,7 @@ impl<'a> System for Stored<'a> {
         match path {
             "none" => Err(ReadFault::Failed),
             "long" => Err(ReadFault::Long),
-            "https" => Ok(b"wgetr-record 1\nrules all https://h/\n".to_vec(alloc)?),
+            "ftp" => Ok(b"wgetr-record 1\nrules all ftp://h/\n".to_vec(alloc)?),
             "page" => Ok(b"wgetr-record 1\nfault connect http://h/\n".to_vec(alloc)?),
             _ => Ok(Vec::new(alloc)),
         }
@@ -1038,12 +1084,13 @@ page http://h/b 20\nHTTP/1.1 200 OK\r\n\r\nb\npage http://h/c 20\nHTTP/1.1 200 O
 fn put_kept(
     alloc: Global,
     folder: &mut MemoryFolder,
-    brought: &Result<Harvest, Halt>,
+    brought: &Result<Harvest<Body>, Halt<Body>>,
 ) -> Result<usize, AllocError> {
     let Ok(harvest) = brought else {
         return Ok(0);
     };
-    let given = names(alloc, harvest.kept())?;
+    let rules = NameRules::default();
+    let given = names(alloc, &rules, harvest.kept())?;
     match write_site(folder, given.as_slice(), harvest) {
         Ok(()) => Ok(given.len()),
         Err(WriteFault::Device(whole)) => Ok(whole),
