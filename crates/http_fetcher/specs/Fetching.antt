@@ -2,7 +2,7 @@
 use Rattle.std.specs.Prelude.{◌≡◌, ◌⊎◌, ℕ, Bool, true, false, List, [], Some}
 use Rattle.std.specs.Io.KnownBytes.{Appends, IsAtEnd, Keeps}
 use Rattle.address.specs.Address.{AddressText, OriginText, origin_of}
-use Rattle.response_reader.specs.Wire.{HasRisen, OfBytes, counted}
+use Rattle.response_reader.specs.Wire.{HasRisen, IsLostInTime, OfBytes, counted}
 use Rattle.response_reader.specs.Request.{request_text, kept_request_text}
 use Rattle.response_reader.specs.Reusable.{Reusable}
 use Rattle.response_reader.specs.Response.{ResponseParts, BeginsWithResponse}
@@ -101,13 +101,14 @@ module _ {W : Type 0} (wires : Wires W) where
   abbrev pub IsToldByWire : (OriginText → W → Type 0) → Question → Answer (List ℕ) → Type 0
   IsToldByWire gives question answer = (given : W) × gives (origin_of question.at) given × ComesOver question given answer
 
-  -- over a wire the request went out, or couldn't be written, and no byte came back: it had ended, or failed
+  -- over a wire the request went out, or couldn't be written, and no byte came back: it had ended, or failed, and not since a time
+  -- limit ran out
   abbrev pub IsSilentOn : Question → W → Type 0
   IsSilentOn question given =
       (asked : W) × (left : W)
-      × (HasRisen (wires.failed given) (wires.failed left)
+      × (IsLostInTime (wires.failed given) (wires.failed left) (wires.timed_out left)
       ⊎ (IsAsked question given asked × Keeps (wires.incoming asked) (wires.incoming left)
-      × (IsAtEnd (wires.incoming asked) ⊎ HasRisen (wires.failed asked) (wires.failed left))))
+      × (IsAtEnd (wires.incoming asked) ⊎ IsLostInTime (wires.failed asked) (wires.failed left) (wires.timed_out left))))
 
   -- the same over a wire that had served before
   abbrev pub IsSilent : (OriginText → W → Type 0) → Question → Type 0

@@ -1,11 +1,12 @@
 //! A fetcher that asks over connections, a new one for each question or one that served before (RFC 9112, sections 9.3 and 9.6).
 ghost use Rattle.std.specs.Prelude.{◌≡◌, ◌⊎◌, ◌≤◌, ◌+◌, ℕ, List, [], ◌∷◌, ◌++◌, true, false, length, IsTrue, Some, IfOk, IfSome, IfNone, OnOk, OnErr, MatchBool, codes};
 ghost use Rattle.std.specs.Io.KnownBytes.{Appends, IsAtEnd, Keeps};
-ghost use Rattle.response_reader.specs.Wire.{counted, HasRisen, OfBytes};
+ghost use Rattle.response_reader.specs.Wire.{counted, HasRisen, OfBytes, IsLostInTime};
 ghost use Rattle.response_reader.specs.Reusable.{Reusable};
 ghost use Rattle.address.specs.Address.{AddressText, origin_of};
 ghost use Rattle.response_answer.specs.KindsOfFaults.{kind_of_fault};
 ghost use Rattle.fetcher.specs.declared.fault_kind.FaultKind.{FaultKind};
+ghost use Rattle.fetcher.specs.declared.fault_kind.FaultKind.TheVariants as fault_kind;
 ghost use Rattle.fetcher.specs.declared.fetcher.Ask.TheVariants as ask;
 ghost use Rattle.fetcher.specs.Logs.{GainedAtMost};
 ghost use Rattle.answer_notes.specs.RobotsAnswers.{max_redirects};
@@ -27,8 +28,8 @@ use fetcher::{Answer, Ask, Body, FaultKind, Fetcher};
 use kept_bodies::Keeper;
 use response_answer::{PageSink, kind_of_fault};
 use response_reader::{
-    ReadFault, Reply, RequestFault, Room, read_if_any, read_into, read_reply, read_reply_if_any,
-    write_kept_request, write_request,
+    ReadFault, Reply, RequestFault, Room, Wire, read_if_any, read_into, read_reply,
+    read_reply_if_any, write_kept_request, write_request,
 };
 use robots_rules::RuleSet;
 use std::alloc::{AllocError, Global};
@@ -78,6 +79,17 @@ impl<C: Connect> Model for HttpFetcher<C> {
 struct Heard {
     told: Told,
     serves: bool,
+}
+
+// What is heard over a wire that failed while the request was written.
+fn unwritten() -> Heard
+    ensures told { result.told ≡ told.Fault fault_kind.Device }
+    ensures serves { result.serves ≡ false }
+{
+    Heard {
+        told: Told::Fault(FaultKind::Device),
+        serves: false,
+    }
 }
 
 impl<C: Connect> HttpFetcher<C> {
@@ -205,7 +217,7 @@ impl<C: Connect> HttpFetcher<C> {
     fn read_again(&mut self, wire: &mut C::Wire) -> Result<Option<Heard>, AllocError>
         ensures same { self.new ≡ self.old }
         ensures silent { IfOk result (λ o. IfNone o (Keeps (C.Wire.incoming wire.old) (C.Wire.incoming wire.new)
-            × (IsAtEnd (C.Wire.incoming wire.old) ⊎ HasRisen (C.Wire.failed wire.old) (C.Wire.failed wire.new)))) }
+            × (IsAtEnd (C.Wire.incoming wire.old) ⊎ IsLostInTime (C.Wire.failed wire.old) (C.Wire.failed wire.new) (C.Wire.timed_out wire.new)))) }
         ensures told { (at : AddressText) → IfOk result (λ o. IfSome o (λ h. OfBytes (C.Wire.incoming wire.old)
             (AnswersBytes (question_of self.old at) (C.Wire.failed wire.old) (C.Wire.failed wire.new) (answer_told self.old.robots at h.told)))) }
         ensures serves { IfOk result (λ o. IfSome o (λ h. IsTrue h.serves → Reusable (C.Wire.incoming wire.old) (C.Wire.incoming wire.new) true)) }
@@ -248,10 +260,7 @@ impl<C: Connect> HttpFetcher<C> {
     {
         match self.write(wire, at) {
             Ok(()) => self.read_told(wire),
-            Err(_) => Ok(Heard {
-                told: Told::Fault(FaultKind::Device),
-                serves: false,
-            }),
+            Err(_) => Ok(unwritten()),
         }
     }
 
@@ -264,7 +273,12 @@ impl<C: Connect> HttpFetcher<C> {
     {
         match self.write(wire, at) {
             Ok(()) => self.read_again(wire),
-            Err(_) => Ok(None),
+            Err(_) => {
+                if wire.has_timed_out() {
+                    return Ok(Some(unwritten()));
+                }
+                Ok(None)
+            }
         }
     }
 
@@ -528,7 +542,7 @@ impl<C: Connect> HttpFetcher<C> {
     ) -> Result<Option<HeardPage<K::Kept>>, AllocError>
         ensures same { self.new ≡ self.old }
         ensures silent { IfOk result (λ o. IfNone o (Keeps (C.Wire.incoming wire.old) (C.Wire.incoming wire.new)
-            × (IsAtEnd (C.Wire.incoming wire.old) ⊎ HasRisen (C.Wire.failed wire.old) (C.Wire.failed wire.new)))) }
+            × (IsAtEnd (C.Wire.incoming wire.old) ⊎ IsLostInTime (C.Wire.failed wire.old) (C.Wire.failed wire.new) (C.Wire.timed_out wire.new)))) }
         ensures told { IfOk result (λ o. IfSome o (λ h. StandsForOne K.holds h.answer (λ real. OfBytes (C.Wire.incoming wire.old)
             (AnswersBytes (question_of self.old at.now) (C.Wire.failed wire.old) (C.Wire.failed wire.new) real)))) }
         ensures serves { IfOk result (λ o. IfSome o (λ h. IsTrue h.serves → Reusable (C.Wire.incoming wire.old) (C.Wire.incoming wire.new) true)) }
@@ -562,7 +576,16 @@ impl<C: Connect> HttpFetcher<C> {
     {
         match self.write(wire, at) {
             Ok(()) => self.read_page_again(wire, at, sink),
-            Err(_) => Ok(None),
+            Err(_) => {
+                if wire.has_timed_out() {
+                    let answer = sink.fault(FaultKind::Device)?;
+                    return Ok(Some(HeardPage {
+                        answer,
+                        serves: false,
+                    }));
+                }
+                Ok(None)
+            }
         }
     }
 

@@ -4,7 +4,7 @@ ghost use Rattle.std.specs.Prelude.{◌≤◌, IfOk};
 use crate::network::{LATE, Network};
 use address::{Address, Origin};
 use http_fetcher::{Connect, ConnectFault};
-use response_reader::{TcpWire, Wire, WireFault};
+use response_reader::{ReadFault, Room, TcpWire, Wire, WireFault, read_reply_if_any};
 use std::alloc::Global;
 use std::io::{ErrorKind, Read, Write};
 use std::net::SocketAddr;
@@ -401,5 +401,27 @@ fn faults_of_streams_are_faults_of_wires(rt: HostRuntime) {
     ] {
         let failed = Err(WireFault::Failed);
         assert!(rt; answers(Err(kind), failed, failed), "{kind:?}");
+    }
+}
+
+/// What a question over a connection that served before comes to, if its stream answers each call so.
+fn told_by(alloc: Global, kind: ErrorKind) -> &'static str {
+    let mut room = Room::new();
+    let mut wire = TcpWire::new(Stuck(Err(kind)));
+    match read_reply_if_any(&mut room, alloc, &mut wire) {
+        Ok(Some(_)) => "answered",
+        Ok(None) => "silent",
+        Err(ReadFault::Device) => "lost",
+        Err(_) => "ill-formed",
+    }
+}
+
+#[test]
+fn a_time_limit_that_runs_out_is_no_end_of_a_kept_connection(rt: HostRuntime) {
+    for kind in [ErrorKind::WouldBlock, ErrorKind::TimedOut] {
+        assert!(rt; told_by(rt.alloc(), kind) == "lost", "{kind:?}");
+    }
+    for kind in [ErrorKind::ConnectionReset, ErrorKind::BrokenPipe] {
+        assert!(rt; told_by(rt.alloc(), kind) == "silent", "{kind:?}");
     }
 }

@@ -2,26 +2,27 @@
 use crate::connect_tests::origin;
 use crate::server::follow;
 use address::{Address, Origin};
-use fetcher::{Answer, Fetcher, Outcome};
+use fetcher::{Answer, Body, Fetcher, Outcome};
 use http_fetcher::{Connect, HttpFetcher};
 use response_reader::Wire;
 use std::alloc::Global;
 use std::fmt::Write as WriteText;
 use std::io;
-use std::io::{Read, Write};
+use std::io::{ErrorKind, Read, Write};
 use std::net::{Net, Shutdown, SocketAddr, TcpListener, TcpStream};
 use std::process::Abort;
 use std::sync::Wait;
-use std::sync::atomic::{AtomicU64, Ordering};
+use std::sync::atomic::{AtomicBool, AtomicU64, Ordering};
 use std::thread::join;
 use std::time::{Clock, Duration};
 use tcp_connect::{Hosts, Kept, TcpConnect};
 
-/// The system's network, with a clock that goes only where the test says so.
+/// The system's network, with a clock that goes only if the test says so, and which takes no connection while it refuses them.
 #[derive(Drop)]
 struct Still<'a, R: Net> {
     rt: &'a R,
     seconds: AtomicU64,
+    refuses: AtomicBool,
 }
 
 impl<'a, R: Net> Still<'a, R> {
@@ -29,6 +30,7 @@ impl<'a, R: Net> Still<'a, R> {
         Still {
             rt,
             seconds: AtomicU64::new(0),
+            refuses: AtomicBool::new(false),
         }
     }
 }
@@ -55,14 +57,18 @@ impl<R: Net> Net for Still<'_, R> {
     }
 
     fn connect(&self, addr: SocketAddr) -> io::Result<R::Stream> {
+        if self.refuses.load(Ordering::SeqCst) {
+            return Err(io::Error::from(ErrorKind::ConnectionRefused));
+        }
         self.rt.connect(addr)
     }
 }
 
 /// What befalls connections of which two to an origin may stand. The origins are 127.0.0.1 and so on, all of one server, and a
 /// connection has the number in which it was made. `make`, `take` and `give` are a worker's calls for an origin, `none` one that
-/// takes none; `sends` and `shuts` are what the server does with a connection, the worker's last, of which it reads a byte or the
-/// end; `ended` is one whose end the server reads, `waits` a number of seconds, `fills` so many origins of which one connection
+/// takes none, `elsewhere` one that takes none for another port of that host, `refused` one that makes none; `sends` and `shuts` are
+/// what the server does with a connection, the worker's last, of which it reads a byte or the end, and `breaks` resets the one that was
+/// made last; `ended` is one whose end the server reads, `waits` a number of seconds, `fills` so many origins of which one connection
 /// waits each, and `files` the moment at which those that wait are ended.
 const STEPS: &str = "make 1
 none 1
@@ -113,7 +119,35 @@ take 1
 take 1
 none 1
 give 1
-give 1";
+elsewhere 1
+give 1
+make 2
+refused 2
+make 2
+give 2
+give 2
+take 2
+take 2
+none 2
+give 2
+give 2
+make 4
+give 4
+waits 5
+make 5
+give 5
+ended 75
+make 3
+breaks 3
+give 3
+make 3
+make 3
+give 3
+give 3
+take 3
+take 3
+give 3
+give 3";
 
 /// The server, and its ends of the connections in the order in which they were made.
 #[derive(Drop)]
@@ -135,8 +169,11 @@ impl Server<'_> {
 
 /// Makes a worker's call. Whether it came as the word says.
 fn works<C: Connect>(connect: &mut C, wires: &mut Vec<C::Wire>, of: &Origin, word: &str) -> bool {
-    if word == "none" {
+    if word == "none" || word == "elsewhere" {
         return connect.take(of).is_none();
+    }
+    if word == "refused" {
+        return connect.connect(of).is_err();
     }
     if word == "give" {
         let Some(wire) = wires.pop() else {
@@ -166,7 +203,11 @@ fn goes<C: Connect>(
     word: &str,
     host: usize,
 ) -> bool {
-    let port = server.port;
+    let port = if word == "elsewhere" {
+        server.port ^ 1
+    } else {
+        server.port
+    };
     let text = format!(in alloc; "http://127.0.0.{host}:{port}/").expect(rt, "memory");
     let came = works(connect, wires, &origin(rt, alloc, text.as_str()), word);
     came && (word != "make" || server.accepts())
@@ -225,6 +266,17 @@ fn serves<W: Wire>(end: &mut TcpStream, wires: &mut [W], word: &str) -> bool {
     end.shutdown(Shutdown::Write).is_ok() && reads(wires) == Some(0)
 }
 
+/// Resets the connection that was made last, the worker's last: it is closed while a byte waits there. Whether the worker finds it
+/// broken.
+fn breaks<W: Wire>(server: &mut Server<'_>, wires: &mut [W]) -> bool {
+    let Some(wire) = wires.last_mut() else {
+        return false;
+    };
+    let is_sent = wire.write(b"x").is_ok();
+    drop(server.ends.pop());
+    is_sent && wire.read(&mut [0u8; 1]).is_err()
+}
+
 /// Takes a step of a worker or of the server. Whether it came as it says.
 fn steps<C: Connect>(
     rt: &impl Abort,
@@ -237,6 +289,9 @@ fn steps<C: Connect>(
 ) -> bool {
     if word == "fills" {
         return fills(rt, alloc, connect, wires, server, number);
+    }
+    if word == "breaks" {
+        return breaks(server, wires);
     }
     if word == "ended" || word == "sends" || word == "shuts" {
         return match server.ends.get_mut(number) {
@@ -265,6 +320,7 @@ fn take_steps<R: Net + Wait + Abort, C: Connect>(
         } else if word == "files" {
             kept.end_waiting(still);
         } else {
+            still.refuses.store(word == "refused", Ordering::SeqCst);
             let came = steps(rt, alloc, connect, wires, server, word, number);
             assert!(rt; came, "{line}");
         }
@@ -302,18 +358,19 @@ fn connections_that_wait_are_counted_and_those_that_died_are_dropped(rt: HostRun
 }
 
 /// What a server does by a script, the requests that it sees then, each as the number of its connection and what it asks for, and
-/// what one worker is told to its questions 1, 2 and so on. What was answered to `b` has a second answer behind it, `h` is answered
-/// by a byte alone and `-` by none.
+/// what one worker is told to its questions 1, 2 and so on. What was answered to `b` has a second answer after it, `d` is answered in
+/// chunks with a length besides, `h` by a byte alone and `-` by none.
 const EXCHANGES: &str = "aaa: 0/1 0/2 0/3: 1 2 3
 a,aa: 0/1 1/2 1/3: 1 2 3
 b,aa: 0/1 1/2 1/3: 1 2 3
+da,aa: 0/1 1/2 1/3: 1 2 3
 a-,aa: 0/1 0/2 1/2 1/3: 1 2 3
 a-,-,a: 0/1 0/2 1/2 2/3: 1 ended 3
 ah,a: 0/1 0/2 1/3: 1 ended 3
 -,a: 0/1 1/2: ended 2";
 
 /// The body that came, or the word of the fault.
-fn word_of(answer: &Answer) -> &str {
+fn word_of(answer: &Answer<Body>) -> &str {
     match &answer.outcome {
         Outcome::Fault(kind) => kind.word(),
         _ => str::from_utf8(answer.body.as_slice()).unwrap_or(""),
@@ -321,7 +378,7 @@ fn word_of(answer: &Answer) -> &str {
 }
 
 /// Asks for an address, and notes what is told behind a blank.
-fn note_answer<F: Fetcher>(
+fn note_answer<F: Fetcher<Body = Body>>(
     rt: &impl Abort,
     alloc: Global,
     fetcher: &mut F,

@@ -70,12 +70,18 @@ pub(crate) fn serve(
     requests
 }
 
-// What is answered to a request of a script, by its letter: its path, that with a second answer behind it, a byte, or nothing.
+/// A head with both fields that frame a body.
+const FRAMED_TWICE: &str =
+    "HTTP/1.1 200 OK\r\nTransfer-Encoding: chunked\r\nContent-Length: 1\r\n\r\n";
+
+// What is answered to a request of a script, by its letter: its path, that with a second answer after it, that framed by a length and by
+// chunks, a byte, or nothing.
 fn scripted(rt: &impl Abort, alloc: Global, letter: u8, path: char) -> String {
     let head = "HTTP/1.1 200 OK\r\nContent-Length: 1\r\n\r\n";
     let text = match letter {
         b'a' => format!(in alloc; "{head}{path}"),
         b'b' => format!(in alloc; "{head}{path}{head}x"),
+        b'd' => format!(in alloc; "{FRAMED_TWICE}1\r\n{path}\r\n0\r\n\r\n"),
         b'h' => String::from_str(alloc, "H"),
         _ => Ok(String::new(alloc)),
     };

@@ -452,6 +452,8 @@ impl<'a> Wire for StoredWire<'a> {
 
     ghost never_errs = { λ _. false };
 
+    ghost timed_out = { λ _. false };
+
     fn read(&mut self, room: &mut [u8]) -> Result<usize, WireFault>
         ensures bound { ReadsAtMost result room.new }
         ensures bytes { ReadConsumes self.old.rest self.new.rest result room.new }
@@ -509,5 +511,9 @@ impl<'a> Wire for StoredWire<'a> {
 
     fn failures(&self) -> u64 {
         self.failed
+    }
+
+    fn has_timed_out(&self) -> bool {
+        false
     }
 }

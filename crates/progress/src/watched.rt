@@ -159,6 +159,8 @@ impl<W: Wire + Drop> Wire for WatchedWire<W> {
 
     ghost never_errs = { λ w. W.never_errs w };
 
+    ghost timed_out = { λ w. W.timed_out w };
+
     fn read(&mut self, room: &mut [u8]) -> Result<usize, WireFault> {
         let answer = self.wire.read(room);
         self.bytes = self.bytes.saturating_add(bytes_of(&answer));
@@ -174,5 +176,9 @@ impl<W: Wire + Drop> Wire for WatchedWire<W> {
 
     fn failures(&self) -> u64 {
         self.wire.failures()
+    }
+
+    fn has_timed_out(&self) -> bool {
+        self.wire.has_timed_out()
     }
 }

@@ -52,7 +52,7 @@ impl<'a, R: Net + Wait + Clock + Eprint> Model for WatchedTcp<'a, R> {
 impl<S: Read + Write + Drop> Model for WatchedTcpWire<S> {
     ghost use Rattle.std.specs.Prelude.{ℕ, Bool};
 
-    ghost Value = { ℕ × Bool };
+    ghost Value = { ℕ × Bool × Bool };
 
     ghost view = { λ w. w.inner };
 }
@@ -163,6 +163,8 @@ impl<S: Read + Write + Drop> Wire for WatchedTcpWire<S> {
 
     ghost never_errs = { λ _. false };
 
+    ghost timed_out = { λ w. w.2 };
+
     fn read(&mut self, room: &mut [u8]) -> Result<usize, WireFault> {
         self.inner.read(room)
     }
@@ -173,5 +175,9 @@ impl<S: Read + Write + Drop> Wire for WatchedTcpWire<S> {
 
     fn failures(&self) -> u64 {
         self.inner.failures()
+    }
+
+    fn has_timed_out(&self) -> bool {
+        self.inner.has_timed_out()
     }
 }

@@ -1,11 +1,13 @@
-use Rattle.std.proofs.Common.{[], Some, None, refl, inl, inr}
+use Rattle.std.proofs.Common.{[], Some, None, refl, inl, inr, subst, sym, ◌∙◌}
 use Rattle.std.specs.Io.KnownBytes.{prepend_known}
 use Rattle.response_reader.specs.inner.Wire.{tally}
 use Rattle.response_reader.specs.ReadFaults.{IsReadFault}
+use Rattle.response_reader.specs.Wire.{OfBytes}
+use Rattle.response_reader.specs.declared.fault.ReadFault.{ReadFault}
 use Rattle.response_reader.specs.Response.{HandsOn}
 use Rattle.response_reader.specs.declared.fault.ReadFault.TheVariants.{Memory}
 use Rattle.response_reader.proofs.CountLemmas.{exit_is, fault_counts_after, fault_is, kept_by_fault, memory_is_not_device, ok_is_no_fault}
-use Rattle.response_reader.proofs.ReadLemmas.{told_memory}
+use Rattle.response_reader.proofs.ReadLemmas.{told_device, told_memory}
 use Rattle.response_reader.proofs.ReusableLemmas.{ahead_first, ends_first, told_first, reusable_first, none_counted, risen_of}
 use Rattle.response_reader.proofs.WireLemmas.{keeps_same, keeps_none, keeps_trans}
 use Rattle.response_reader.proofs.response.read_if_any.Goals as goal
@@ -79,19 +81,36 @@ returns-in-Ok-false g c =
       written = e.counts.kept;
     }
 
-pub returns-in-Err : goal.returns-in-Err
-returns-in-Err g c =
+pub returns-then-has_timed_out : goal.returns-then-has_timed_out
+returns-then-has_timed_out g c =
+    let e = c.in-Err.ensures in
+    let old = tally (g.W.Wire.failed c.args.wire.now) (g.W.Wire.reads_never_fail c.args.wire.now) (g.W.Wire.never_errs c.args.wire.now) (g.W.Wire.outgoing c.args.wire.now) (g.W.Wire.lost c.args.wire.now) c.in_ok-incoming.incoming.interrupted in
+    let new = tally (g.W.Wire.failed c.fill.new.wire) (g.W.Wire.reads_never_fail c.fill.new.wire) (g.W.Wire.never_errs c.fill.new.wire) (g.W.Wire.outgoing c.fill.new.wire) (g.W.Wire.lost c.fill.new.wire) c.fill.new.self.interrupted in
+    record {
+      silent = tt;
+      ends = tt;
+      untouched = tt;
+      response = tt;
+      reusable = tt;
+      fault = subst (λ (f : ReadFault). OfBytes (g.W.Wire.incoming c.args.wire.now) (IsReadFault f)) (sym e.device) (told_device (g.W.Wire.incoming c.args.wire.now));
+      device = λ _. risen_of (g.W.Wire.failed c.args.wire.now) old new c.in-Err.fault (none_counted _ _ c.in_ok-incoming.ensures.uninterrupted) e.counts e.device;
+      purpose = refl;
+      written = kept_by_fault c.in-Err.fault old new e.counts;
+    }
+
+pub returns-else-has_timed_out : goal.returns-else-has_timed_out
+returns-else-has_timed_out g c =
     let e = c.in-Err.ensures in
     let old = tally (g.W.Wire.failed c.args.wire.now) (g.W.Wire.reads_never_fail c.args.wire.now) (g.W.Wire.never_errs c.args.wire.now) (g.W.Wire.outgoing c.args.wire.now) (g.W.Wire.lost c.args.wire.now) c.in_ok-incoming.incoming.interrupted in
     let new = tally (g.W.Wire.failed c.fill.new.wire) (g.W.Wire.reads_never_fail c.fill.new.wire) (g.W.Wire.never_errs c.fill.new.wire) (g.W.Wire.outgoing c.fill.new.wire) (g.W.Wire.lost c.fill.new.wire) c.fill.new.self.interrupted in
     record {
       silent = e.same;
-      ends = inr (risen_of (g.W.Wire.failed c.args.wire.now) old new c.in-Err.field-0 (none_counted _ _ c.in_ok-incoming.ensures.uninterrupted) e.counts e.device);
+      ends = inr (risen_of (g.W.Wire.failed c.args.wire.now) old new c.in-Err.fault (none_counted _ _ c.in_ok-incoming.ensures.uninterrupted) e.counts e.device, sym c.has_timed_out.ensures ∙ c.if-has_timed_out.false);
       untouched = refl;
       response = tt;
       reusable = tt;
       fault = tt;
       device = λ is. absurd (ok_is_no_fault is);
       purpose = refl;
-      written = kept_by_fault c.in-Err.field-0 old new e.counts;
+      written = kept_by_fault c.in-Err.fault old new e.counts;
     }

@@ -52,12 +52,16 @@ returns-in-Ok-Some g c =
       refused = put.refused ∙ ap (λ (f : Fetching _). g.C.Connect.refused f.connect) same ∙ c.take.ensures.refused;
       gives = tt;
       silent = tt;
-      told = (said.0, said.1, rw (sym c.requires) (
-        put.made ∙ ap (λ (f : Fetching _). g.C.Connect.made f.connect) same ∙ c.take.ensures.made,
-        put.taken ∙ ap (λ (f : Fetching _). g.C.Connect.taken f.connect) same ∙ c.in-Some.ensures.taken,
-        keeps,
-        (c.in-Some.wire, c.in-Some.ensures.given, said.2),
-      ));
+      told = (
+        said.0,
+        said.1,
+        rw (sym c.requires) (
+          put.made ∙ ap (λ (f : Fetching _). g.C.Connect.made f.connect) same ∙ c.take.ensures.made,
+          put.taken ∙ ap (λ (f : Fetching _). g.C.Connect.taken f.connect) same ∙ c.in-Some.ensures.taken,
+          keeps,
+          (c.in-Some.wire, c.in-Some.ensures.given, said.2),
+        ),
+      );
       stands = stands_by g.C.Connect g.C.Wire.Wire _ _ _ (record { at = c.args.at.now; robots = c.self.inside.robots; keeps = c.self.inside.keeps })
           _ c.in-Ok-Some.heard.serves c.in-Some.wire c.page_again.new.wire c.requires c.take.ensures.stands
           (rw same at put.stands) (rw c.in-Ok-Some.field-0-is at c.in-Ok-Some.ensures.serves);

@@ -58,9 +58,12 @@ returns g c =
       notes = after.notes ∙ before.notes;
       most = subst (λ n. g.C.Connect.made new.connect ≤ n + 1) before.made after.most;
       one = λ none. subst (λ n. OnOk c.ask_page_anew.result (g.C.Connect.made new.connect ≡ counted n 1)) before.made after.one;
-      told = if_ok_on c.ask_page_anew.result _ _ _ after.one after.told (λ one a told.
-          (told.0, told.1, told_second g.C.Connect g.C.Wire.Wire old mid new c.args.at.now told.0 before.made before.refused before.robots before.keeps
-          (rw c.in-None.is at before.gives) (rw c.in-None.is at before.silent) after.taken one told.2));
+      told = if_ok_on c.ask_page_anew.result _ _ _ after.one after.told (λ one a told. (
+        told.0,
+        told.1,
+        told_second g.C.Connect g.C.Wire.Wire old mid new c.args.at.now told.0 before.made before.refused before.robots before.keeps
+            (rw c.in-None.is at before.gives) (rw c.in-None.is at before.silent) after.taken one told.2,
+      ));
       stands = stands_twice g.C.Connect g.C.Wire.Wire old mid new c.args.at.now before.robots before.keeps before.stands after.stands;
       may = if_ok_map c.ask_page_anew.result _ _ after.told (λ a told.
           (told.0, told.1, subst (λ b. MayAnswer b c.args.at.now told.0.outcome told.0.body) before.robots (may_answer_anew g.C.Connect g.C.Wire.Wire mid new c.args.at.now told.0 told.2)));

@@ -1,4 +1,6 @@
-use Rattle.std.proofs.Common.{inr}
+use Rattle.std.proofs.Common.{[], inl, inr, refl}
+use Rattle.fetcher.specs.declared.fault_kind.FaultKind.TheVariants.{Device}
+use Rattle.fetcher.specs.declared.outcome.Outcome.TheVariants.{Fault}
 use Rattle.http_fetcher.proofs.KeptLemmas.{if_ok_some_map}
 use Rattle.http_fetcher.proofs.http_fetcher.HttpFetcher.page_again.Goals as goal
 
@@ -6,3 +8,8 @@ pub returns-in-Ok-clause-told : goal.returns-in-Ok-clause-told
 returns-in-Ok-clause-told g c =
     if_ok_some_map c.read_page_again.result _ _ c.read_page_again.ensures.told
     (λ h said. (said.0, said.1, (c.write.new.wire, c.read_page_again.new.wire, inr ((c.in-Ok.ensures.written, c.write.ensures.read), c.read_page_again.ensures.written, said.2))))
+
+pub returns-then-has_timed_out-clause-told : goal.returns-then-has_timed_out-clause-told
+returns-then-has_timed_out-clause-told g c =
+    let heard = c.in_ok-answer-in-Err.ensures in
+    (record { outcome = Fault Device; body = [] }, (heard.outcome, heard.body), (c.write.new.wire, c.write.new.wire, inl (c.in-Err.ensures.device, refl, refl)))

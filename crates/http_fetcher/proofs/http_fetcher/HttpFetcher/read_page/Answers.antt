@@ -12,9 +12,11 @@ returns-in_ok-answer-in-Ok-clause-told g c =
     let (r, rest, is, step) = all.2 in
     let sunk = step c.begin.ensures in
     let answer = c.in_ok-answer-in-Ok.answer in
-    let says = subst (λ (f : Fetching _). answer.outcome ≡ digest_of f.robots c.args.at.now r) c.self.view_is (c.in_ok-answer-in-Ok.ensures.outcome r.head r.body sunk) in
-    (record { outcome = answer.outcome; body = kept_body r.head.status r.body }, (refl, c.in_ok-answer-in-Ok.ensures.body r.head r.body sunk),
-    (all.0, all.1, inl (r, (rest, is), says, refl)))
+    let says = subst (λ (f : Fetching _). answer.outcome ≡ digest_of f.robots c.args.at.now r) c.self.view_is (c.in_ok-answer-in-Ok.ensures.outcome r.head r.body sunk) in (
+      record { outcome = answer.outcome; body = kept_body r.head.status r.body },
+      (refl, c.in_ok-answer-in-Ok.ensures.body r.head r.body sunk),
+      (all.0, all.1, inl (r, (rest, is), says, refl)),
+    )
 
 pub returns-in-Err-clause-told : goal.returns-in-Err-clause-told
 returns-in-Err-clause-told g c =
