@@ -1,5 +1,5 @@
 //! What a live run takes of the network and the disk, by a handle of the system. No clause speaks of what these do, and no test
-//! alone: those of the whole program, `bench/check-main` and `bench/hostile`, go through it.
+//! alone: those of the whole program, `tests/check-main` and `tests/hostile`, go through it.
 #![tactic(auto)]
 
 mod asking;
@@ -7,10 +7,12 @@ mod disk;
 mod network;
 mod part_threads;
 mod shared_failures;
+mod stand_ins;
 
 pub use crate::asking::Asking;
 pub use crate::disk::{Disk, Saved};
 pub use crate::network::Network;
 pub use crate::part_threads::PartThreads;
 pub use crate::shared_failures::SharedFailures;
+pub use crate::stand_ins::StandIns;
 pub use tcp_fetcher::OverTcp;

@@ -175,8 +175,23 @@ fn refuse_no_file<R: Eprint, D: Files>(rt: &R, disk: &D, saved: &str) -> Result<
     }
 }
 
-// The whole entries of the journal beside a record that isn't saved to; nothing where there is no journal. One that is none is
-// handed out as it is, so that its line is told.
+// Whether a journal is at a path. What is neither a file nor nothing is refused, and a person is told: a link isn't followed, and
+// nobody waits at a pipe.
+fn is_beside<R: Eprint, D: Files>(rt: &R, disk: &D, path: &str) -> Result<bool, ReadFault> {
+    match look_for_file(disk, path) {
+        Ok(is_there) => Ok(is_there),
+        Err(e) if e.kind() == ErrorKind::AlreadyExists => {
+            let _ = eprintln!(rt;
+                "{path}: a link, a folder or a device isn't read as a journal; remove it"
+            );
+            Err(ReadFault::Failed)
+        }
+        Err(_) => Err(ReadFault::Failed),
+    }
+}
+
+// The whole entries of the journal beside a record that isn't saved to; nothing if there is no journal. One that is none is
+// handed out as it is, so that its line is reported.
 fn left_beside<R: Eprint, D: Files>(
     rt: &R,
     disk: &D,
@@ -184,6 +199,9 @@ fn left_beside<R: Eprint, D: Files>(
     saved: &str,
 ) -> Result<Vec<u8>, ReadFault> {
     let path = format!(in alloc; "{saved}.journal")?;
+    if !is_beside(rt, disk, path.as_str())? {
+        return Ok(Vec::new(alloc));
+    }
     let Some(mut text) = read_at(disk, alloc, path.as_str(), MAX_READ)? else {
         return Ok(Vec::new(alloc));
     };

@@ -2,7 +2,7 @@
 //! its arguments and its streams is stated at `retriever::run_program`; `main` only names them, and what the system gives.
 #![tactic(auto)]
 
-use host_system::{Network, PartThreads, SharedFailures};
+use host_system::{Network, PartThreads, SharedFailures, StandIns};
 use progress::{BehindLine, Progress};
 use record_journal::Saving;
 use retriever::run_program;
@@ -12,6 +12,8 @@ use std::{env, process};
 use tcp_connect::{Hosts, Kept};
 
 fn main(rt: HostRuntime) -> ExitCode {
+    // Before anything is opened, so that no file of the run takes the place of a stream that is closed.
+    let stand_ins = StandIns::open(&rt);
     let hosts = Hosts::new(rt.alloc());
     let kept = Kept::new(rt.alloc());
     let progress = Progress::new(&rt, rt.stderr().is_terminal());
@@ -40,5 +42,6 @@ fn main(rt: HostRuntime) -> ExitCode {
     );
     saving.end(&rt, &rt);
     failures.tell(&rt, &mut rt.stderr());
+    drop(stand_ins);
     ExitCode::from(status)
 }
