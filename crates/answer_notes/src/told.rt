@@ -24,7 +24,12 @@ impl Told {
 
     /// What it answers for the address that was asked. Where `robots` says so, a page that asks that its links aren't followed
     /// has no edges. The error is want of memory.
-    pub fn answer(&self, alloc: Global, at: &Address, robots: bool) -> Result<Answer<Body>, AllocError>
+    pub fn answer(
+        &self,
+        alloc: Global,
+        at: &Address,
+        robots: bool,
+    ) -> Result<Answer<Body>, AllocError>
         ensures outcome { IfOk result (λ a. a.outcome ≡ outcome_told robots at.now self.now) }
         ensures body { IfOk result (λ a. a.body ≡ body_told self.now) }
     {

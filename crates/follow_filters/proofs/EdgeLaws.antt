@@ -65,7 +65,7 @@ follows_stays plan page address here followed = (follows_of-is plan page address
 -- the parent rule of one start
 pub parent_of_one : (plan : Plan) (page address : List ℕ) → plan.others ≡ []
     → meets rule.Parent plan page address
-      ≡ (not plan.no_parent || not (bytes_eq (host_of address) (host_of plan.start)) || starts_with nat_eq (dir_of address) (dir_of plan.start))
+    ≡ (not plan.no_parent || not (bytes_eq (host_of address) (host_of plan.start)) || starts_with nat_eq (dir_of address) (dir_of plan.start))
 unfolding meets
 parent_of_one plan page address alone =
     rw alone (cases plan.no_parent (bytes_eq (host_of address) (host_of plan.start)) (starts_with nat_eq (dir_of address) (dir_of plan.start)))

@@ -86,7 +86,10 @@ fn has_host_of_some(starts: &Elements<Address>, address: &Address) -> bool
 fn is_below_some(starts: &Elements<Address>, address: &Address) -> bool
     ensures { result ≡ list_any (λ start. is_below address.now start) starts.now }
 {
-    starts.as_slice().iter().any(|start| is_below(address, start))
+    starts
+        .as_slice()
+        .iter()
+        .any(|start| is_below(address, start))
 }
 
 ghost use Rattle.follow_filters.specs.Rules.{kept_name};

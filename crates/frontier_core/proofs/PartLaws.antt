@@ -111,7 +111,7 @@ split_depth host p q r m split v d least = record {
       ⊎_elim
       (λ left. least.least route n (part_down host p q m split.left route start v n left walk).0)
       (λ right. absurd (split.apart v
-          (ends_home host p q m split.left first v d (one, begins, first_walk))
-          (part_down host p r m split.right route start v n right walk).1))
+      (ends_home host p q m split.left first v d (one, begins, first_walk))
+      (part_down host p r m split.right route start v n right walk).1))
       (split.either start among));
 }

@@ -69,14 +69,14 @@ held_start entries (first ∷ more) u e held =
     elim (held_start (put entries first (slot 0 Waiting)) more u e held) [
       | inl (among, is) ↦ inl (contains_tail first u more among, is)
       | inr was ↦ elim (compare_texts u first) [
-          | same k q ↦
-              (let now : lookup (put entries first (slot 0 Waiting)) u ≡ Some (slot 0 Waiting) =
-              subst (λ z. lookup (put entries first (slot 0 Waiting)) z ≡ Some (slot 0 Waiting)) (sym k) (lookup-put_same entries first (slot 0 Waiting)) in
-              let both : Some e ≡ Some (slot 0 Waiting) = sym was ∙ now in
-              let is : e ≡ slot 0 Waiting = cc in
-              inl (subst (λ z. Contains (first ∷ more) z) (sym k) (contains_head first more), is))
-          | other k q ↦ inr (sym (lookup-put_other entries first (slot 0 Waiting) u k) ∙ was)
-        ]
+        | same k q ↦
+            (let now : lookup (put entries first (slot 0 Waiting)) u ≡ Some (slot 0 Waiting) =
+            subst (λ z. lookup (put entries first (slot 0 Waiting)) z ≡ Some (slot 0 Waiting)) (sym k) (lookup-put_same entries first (slot 0 Waiting)) in
+            let both : Some e ≡ Some (slot 0 Waiting) = sym was ∙ now in
+            let is : e ≡ slot 0 Waiting = cc in
+            inl (subst (λ z. Contains (first ∷ more) z) (sym k) (contains_head first more), is))
+        | other k q ↦ inr (sym (lookup-put_other entries first (slot 0 Waiting) u k) ∙ was)
+      ]
     ]
 
 -- a slot that stands stays by being put there again

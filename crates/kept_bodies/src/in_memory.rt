@@ -85,10 +85,7 @@ impl Keeper for InMemory {
     }
 
     fn finish(&mut self) -> Result<Body, AllocError> {
-        Ok(Body::new(mem::replace(
-            &mut self.bytes,
-            Vec::new(self.alloc),
-        )))
+        Ok(Body::new(mem::replace(&mut self.bytes, Vec::new(self.alloc))))
     }
 
     fn empty(&mut self) -> Result<Body, AllocError> {

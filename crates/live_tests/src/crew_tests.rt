@@ -44,6 +44,8 @@ impl<'a> Meeting<'a> {
 impl<'a> Fetcher for Meeting<'a> {
     ghost use Rattle.std.specs.Prelude.{⊤};
 
+    type Body = Body;
+
     ghost Site = { Unit {0} };
 
     ghost site = { λ _. tt };
@@ -54,7 +56,7 @@ impl<'a> Fetcher for Meeting<'a> {
 
     ghost log = { λ s. s.log.items };
 
-    fn ask(&mut self, at: &Address) -> Result<Answer, AllocError> {
+    fn ask(&mut self, at: &Address) -> Result<Answer<Body>, AllocError> {
         self.log.push(Ask::Page(at.try_clone()?))?;
         Ok(Answer {
             outcome: self.outcome(at)?,

@@ -5,7 +5,7 @@ use crate::memory_tests::stored;
 use crate::texts::{behind, is_written, text_of, words_of};
 use address::{Address, Origin};
 use answer_notes::{Noted, Recording};
-use fetcher::{Answer, Ask, Fetcher};
+use fetcher::{Answer, Ask, Body, Fetcher};
 use http_fetcher::{Connect, HttpFetcher};
 use local_tree::MemoryFolder;
 use memory_connect::{MemoryConnect, StoredAnswer};
@@ -30,6 +30,8 @@ struct Counting<'a, C: Connect> {
 impl<C: Connect> Fetcher for Counting<'_, C> {
     ghost use Rattle.std.specs.Prelude.{⊤};
 
+    type Body = Body;
+
     ghost Site = { Unit {0} };
 
     ghost site = { λ _. tt };
@@ -40,7 +42,7 @@ impl<C: Connect> Fetcher for Counting<'_, C> {
 
     ghost log = { λ f. f.inner.asks };
 
-    fn ask(&mut self, at: &Address) -> Result<Answer, AllocError> {
+    fn ask(&mut self, at: &Address) -> Result<Answer<Body>, AllocError> {
         if self.asked.fetch_add(1, Ordering::SeqCst) >= self.most {
             return Err(AllocError);
         }

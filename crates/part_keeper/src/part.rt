@@ -15,11 +15,6 @@ pub struct Part {
 }
 
 /// The path of a part below the directory of a run's parts, whose workers have each their own.
-pub fn part_path(
-    alloc: Global,
-    dir: &str,
-    worker: u32,
-    number: u32,
-) -> Result<String, AllocError> {
+pub fn part_path(alloc: Global, dir: &str, worker: u32, number: u32) -> Result<String, AllocError> {
     format!(in alloc; "{dir}/{worker}/.wgetr%part.{number}")
 }

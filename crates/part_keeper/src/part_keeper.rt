@@ -4,10 +4,9 @@ ghost use Rattle.std.specs.Prelude.{◌≡◌, ◌+◌, ℕ, List, length, OnOk,
 use crate::part::{Part, part_path};
 use kept_bodies::Keeper;
 use std::alloc::{AllocError, Global};
-use std::fs;
 use std::fs::{File, Files};
-use std::io;
 use std::io::{Error, Write};
+use std::{fs, io};
 use streams::Close;
 
 /// How many bytes of a body stand in memory before it gets a file.

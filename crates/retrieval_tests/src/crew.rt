@@ -3,7 +3,7 @@
 use crate::retrieval::{Seen, asked, retrieved};
 use crate::rows::{behind, plan_of, text_of};
 use address::{Address, Origin};
-use fetcher::{Answer, Ask, Fetcher, Outcome};
+use fetcher::{Answer, Ask, Body, Fetcher, Outcome};
 use robots_rules::RuleSet;
 use site_maps::MapSite;
 use std::alloc::{AllocError, Global};
@@ -88,6 +88,8 @@ impl Fetcher for Crewed {
     ghost use Rattle.site_maps.specs.Maps.{says_of};
     ghost use Rattle.fetcher.specs.Sites.{SiteAnswers, GivesOutcome, GivesRules};
 
+    type Body = Body;
+
     ghost Site = { SiteAnswers };
 
     ghost site = { λ s. says_of s.site.answers s.site.rules };
@@ -98,7 +100,7 @@ impl Fetcher for Crewed {
 
     ghost log = { λ s. s.site.asks };
 
-    fn ask(&mut self, at: &Address) -> Result<Answer, AllocError> {
+    fn ask(&mut self, at: &Address) -> Result<Answer<Body>, AllocError> {
         self.waiting = self.most_waiting();
         if at.path_query() == "/" {
             self.nap();

@@ -4,7 +4,8 @@ use crate::rows::plan;
 use address::{Address, Origin};
 use fetcher::{Answer, Ask, Body, Fetcher};
 use harvest::Harvest;
-use local_tree::{Close, DiskFolder, Folder, Naming, Part, PartCrew, WriteFault, names};
+use local_names::{NameRules, names};
+use local_tree::{Close, DiskFolder, Folder, Naming, Part, PartCrew, WriteFault};
 use robots_rules::RuleSet;
 use site_maps::MapSite;
 use std::alloc::{AllocError, Global};
@@ -108,6 +109,8 @@ impl Fetcher for Pages {
     ghost use Rattle.site_maps.specs.Maps.{says_of};
     ghost use Rattle.fetcher.specs.Sites.{SiteAnswers, GivesRules};
 
+    type Body = Body;
+
     ghost Site = { SiteAnswers };
 
     ghost site = { λ s. says_of s.map.answers s.map.rules };
@@ -118,7 +121,7 @@ impl Fetcher for Pages {
 
     ghost log = { λ s. s.map.asks };
 
-    fn ask(&mut self, at: &Address) -> Result<Answer, AllocError> {
+    fn ask(&mut self, at: &Address) -> Result<Answer<Body>, AllocError> {
         let Answer { outcome, body: _ } = self.map.ask(at)?;
         let path = at.path_query().as_bytes().to_vec(self.alloc)?;
         Ok(Answer {
@@ -156,7 +159,7 @@ fn site_of(rt: &impl Abort, alloc: Global, pages: u16) -> Pages {
 }
 
 /// What is kept of such a site.
-fn harvest_of(rt: &impl Abort, alloc: Global, pages: u16) -> Harvest {
+fn harvest_of(rt: &impl Abort, alloc: Global, pages: u16) -> Harvest<Body> {
     let mut site = site_of(rt, alloc, pages);
     let plan = plan(rt, alloc, 1, 1_000);
     let Ok(harvest) = retrieve_in_order(alloc, &plan, &mut site) else {
@@ -170,13 +173,14 @@ fn harvest_of(rt: &impl Abort, alloc: Global, pages: u16) -> Harvest {
 /// What is kept of a site, and the names of its files.
 #[derive(Drop)]
 struct KeptSite {
-    harvest: Harvest,
+    harvest: Harvest<Body>,
     names: Vec<String>,
 }
 
 /// The names of a site's files. There are so many.
-fn names_of(rt: &impl Abort, alloc: Global, harvest: &Harvest, files: u16) -> Vec<String> {
-    let names = names(alloc, harvest.kept()).expect(rt, "memory");
+fn names_of(rt: &impl Abort, alloc: Global, harvest: &Harvest<Body>, files: u16) -> Vec<String> {
+    let rules = NameRules::default();
+    let names = names(alloc, &rules, harvest.kept()).expect(rt, "memory");
     assert_eq!(rt; names.len(), usize::from(files));
     names
 }

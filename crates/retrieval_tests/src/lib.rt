@@ -1,5 +1,5 @@
 //! Retrievals that were worked out by hand, and what is made of them: tests alone, of the frontier, of what it is made of and
-//! of those who drive it, in order and in threads, also over connections that fail, of the lock, of spools, of the names of pages,
+//! of those who drive it, in order and in threads, also over connections that fail, of the lock, of the names of pages,
 //! of folders in memory and on a disk, of journals, and of the report; and of growths of memory that are refused, to these and to
 //! what stands below them. They stand above these crates, so none is proved once more with them, and their proofs see clauses and
 //! no fields. What is large is let go by `drop`, which is cheaper to prove than its end of scope.
@@ -42,6 +42,5 @@ mod rows;
 #[cfg(test)]
 mod script;
 #[cfg(test)]
-mod spool_tests;
 #[cfg(test)]
 mod wire_tests;

@@ -1,6 +1,7 @@
 //! A retrieval that stops for want of memory keeps what it found.
 use crate::crew::{Crewed, fetchers};
 use crate::rows::plan_of;
+use fetcher::Body;
 use frontier_core::{Cause, Event};
 use std::alloc::Global;
 use std::process::Abort;
@@ -16,22 +17,22 @@ memory short
 ";
 
 /// How many addresses the harvest has an outcome of.
-fn record_count(harvest: &Harvest) -> usize {
+fn record_count(harvest: &Harvest<Body>) -> usize {
     harvest.records().len()
 }
 
 /// Whether the harvest has its plan.
-fn has_plan(harvest: &Harvest) -> bool {
+fn has_plan(harvest: &Harvest<Body>) -> bool {
     harvest.plan().is_some()
 }
 
 /// Whether the trace ends with a stop for want of memory.
-fn ends_for_memory(harvest: &Harvest) -> bool {
+fn ends_for_memory(harvest: &Harvest<Body>) -> bool {
     matches!(harvest.trace().last(), Some(Event::Stop(Cause::Memory)))
 }
 
 /// Whether the retrieval stopped for want of memory with one record, its plan, and a trace that ends so.
-fn kept_one(halt: &Halt) -> bool {
+fn kept_one(halt: &Halt<Body>) -> bool {
     let harvest = &halt.harvest;
     halt.cause == Cause::Memory
         && record_count(harvest) == 1
@@ -40,7 +41,7 @@ fn kept_one(halt: &Halt) -> bool {
 }
 
 /// The halt of a fetcher.
-fn halt_of(rt: &impl Abort, alloc: Global, fetcher: &mut Crewed) -> Halt {
+fn halt_of(rt: &impl Abort, alloc: Global, fetcher: &mut Crewed) -> Halt<Body> {
     let plan = plan_of(rt, alloc, PAIR);
     match retrieve_in_order(alloc, &plan, fetcher) {
         Ok(_harvest) => panic!(rt; "no halt"),

@@ -1,9 +1,10 @@
 //! The report and the status of a harvest that holds nothing.
+use fetcher::Body;
 use harvest::Harvest;
 use report::{exit_status, report_text};
 
 // Whether nothing is kept, and the status is that of success.
-fn is_empty(harvest: &Harvest) -> bool {
+fn is_empty(harvest: &Harvest<Body>) -> bool {
     harvest.kept().is_empty() && exit_status(harvest) == 0
 }
 

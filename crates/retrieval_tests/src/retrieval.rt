@@ -1,5 +1,5 @@
 //! A retrieval by several workers, or in order by one, and what the tests look at of what it brings. For tests.
-use fetcher::{Ask, Fetcher, Outcome};
+use fetcher::{Ask, Body, Fetcher, Outcome};
 use follow_filters::Plan;
 use frontier_core::{Cause, Event};
 use std::alloc::Global;
@@ -33,7 +33,7 @@ pub(crate) struct Seen {
 }
 
 /// The word of an entry: that it is refused, its fault, that it isn't there, or `-`.
-fn word(harvest: &Harvest, entry: &Entry) -> &'static str {
+fn word(harvest: &Harvest<Body>, entry: &Entry) -> &'static str {
     if entry.refused {
         return "rob";
     }
@@ -48,7 +48,7 @@ fn word(harvest: &Harvest, entry: &Entry) -> &'static str {
 }
 
 /// A line for each entry.
-fn report(rt: &impl Abort, alloc: Global, harvest: &Harvest) -> String {
+fn report(rt: &impl Abort, alloc: Global, harvest: &Harvest<Body>) -> String {
     let mut text = String::new(alloc);
     for entry in harvest.entries() {
         let word = word(harvest, entry);
@@ -59,7 +59,7 @@ fn report(rt: &impl Abort, alloc: Global, harvest: &Harvest) -> String {
 }
 
 /// The greatest depth of an entry.
-fn deepest(harvest: &Harvest) -> u32 {
+fn deepest(harvest: &Harvest<Body>) -> u32 {
     let mut deepest = 0u32;
     for entry in harvest.entries() {
         deepest = deepest.max(entry.depth);
@@ -68,7 +68,7 @@ fn deepest(harvest: &Harvest) -> u32 {
 }
 
 /// How many faults were recorded.
-fn faults(harvest: &Harvest) -> usize {
+fn faults(harvest: &Harvest<Body>) -> usize {
     let mut faults = 0usize;
     for (_, outcome) in harvest.records() {
         if outcome.is_fault() {
@@ -90,7 +90,7 @@ fn workers_in(trace: &[Event]) -> Option<usize> {
 }
 
 /// What is seen of a harvest.
-fn see(rt: &impl Abort, alloc: Global, end: &'static str, harvest: &Harvest) -> Seen {
+fn see(rt: &impl Abort, alloc: Global, end: &'static str, harvest: &Harvest<Body>) -> Seen {
     Seen {
         end,
         report: report(rt, alloc, harvest),
@@ -113,20 +113,28 @@ fn word_of(cause: Cause) -> &'static str {
 }
 
 /// What is seen of a harvest, which is let go.
-fn last_seen(rt: &impl Abort, alloc: Global, end: &'static str, harvest: Harvest) -> Seen {
+fn last_seen(rt: &impl Abort, alloc: Global, end: &'static str, harvest: Harvest<Body>) -> Seen {
     let seen = see(rt, alloc, end, &harvest);
     drop(harvest);
     seen
 }
 
 /// What is seen of a retrieval that found all, and its fetchers.
-fn seen_of_found<F: Drop>(rt: &impl Abort, alloc: Global, found: Retrieved<F>) -> (Seen, Vec<F>) {
+fn seen_of_found<F: Drop>(
+    rt: &impl Abort,
+    alloc: Global,
+    found: Retrieved<F, Body>,
+) -> (Seen, Vec<F>) {
     let Retrieved { harvest, fetchers } = found;
     (last_seen(rt, alloc, "whole", harvest), fetchers)
 }
 
 /// What is seen of a retrieval that stopped, and its fetchers.
-fn seen_of_stopped<F: Drop>(rt: &impl Abort, alloc: Global, stopped: Stopped<F>) -> (Seen, Vec<F>) {
+fn seen_of_stopped<F: Drop>(
+    rt: &impl Abort,
+    alloc: Global,
+    stopped: Stopped<F, Body>,
+) -> (Seen, Vec<F>) {
     let Stopped {
         cause,
         harvest,
@@ -139,7 +147,7 @@ fn seen_of_stopped<F: Drop>(rt: &impl Abort, alloc: Global, stopped: Stopped<F>)
 fn seen_of<F: Drop>(
     rt: &impl Abort,
     alloc: Global,
-    ended: Result<Retrieved<F>, Stopped<F>>,
+    ended: Result<Retrieved<F, Body>, Stopped<F, Body>>,
 ) -> (Seen, Vec<F>) {
     match ended {
         Ok(found) => seen_of_found(rt, alloc, found),
@@ -148,7 +156,7 @@ fn seen_of<F: Drop>(
 }
 
 /// Has a worker for each fetcher retrieve what the plan wants. Gives what is seen of it, and the fetchers.
-pub(crate) fn retrieved<F: Fetcher + Send, R: Abort + Threads + Wait + Sync>(
+pub(crate) fn retrieved<F: Fetcher<Body = Body> + Send, R: Abort + Threads + Wait + Sync>(
     rt: &R,
     alloc: Global,
     plan: &Plan,
@@ -161,7 +169,7 @@ pub(crate) fn retrieved<F: Fetcher + Send, R: Abort + Threads + Wait + Sync>(
 }
 
 /// Does so, and has it noted there how many addresses wait. Gives whether it ended well, and the fetchers.
-pub(crate) fn ends_well_noting<F: Fetcher + Send, R: Abort + Threads + Wait + Sync>(
+pub(crate) fn ends_well_noting<F: Fetcher<Body = Body> + Send, R: Abort + Threads + Wait + Sync>(
     rt: &R,
     alloc: Global,
     plan: &Plan,
@@ -178,13 +186,13 @@ pub(crate) fn ends_well_noting<F: Fetcher + Send, R: Abort + Threads + Wait + Sy
 }
 
 /// What is seen of a retrieval in order that stopped.
-fn seen_of_halt(rt: &impl Abort, alloc: Global, halt: Halt) -> Seen {
+fn seen_of_halt(rt: &impl Abort, alloc: Global, halt: Halt<Body>) -> Seen {
     let Halt { cause, harvest } = halt;
     last_seen(rt, alloc, word_of(cause), harvest)
 }
 
 /// Has one fetcher asked in order for what the plan wants. Gives what is seen of it.
-pub(crate) fn retrieved_in_order<F: Fetcher>(
+pub(crate) fn retrieved_in_order<F: Fetcher<Body = Body>>(
     rt: &impl Abort,
     alloc: Global,
     plan: &Plan,
@@ -197,7 +205,7 @@ pub(crate) fn retrieved_in_order<F: Fetcher>(
 }
 
 /// How many pages, and the rules of how many origins, all fetchers together were asked for.
-pub(crate) fn asked<F: Fetcher>(fetchers: &[F]) -> (usize, usize) {
+pub(crate) fn asked<F: Fetcher<Body = Body>>(fetchers: &[F]) -> (usize, usize) {
     let (mut pages, mut rules) = (0usize, 0usize);
     for fetcher in fetchers {
         for ask in fetcher.asks() {

@@ -26,8 +26,9 @@ use Rattle.harvest.specs.Pages.{IsKept}
 use Rattle.workers.specs.OneWorker.{AreByCrew}
 use Rattle.workers.specs.Retrieval.{IsRetrieved, IsPartRetrieved, IsStopped}
 use Rattle.workers.specs.Sites.{Fits, IsCompleteFor}
-use Rattle.local_tree.specs.Names.{IsNaming}
-use Rattle.local_tree.specs.PlainNames.{plain_name_of}
+use Rattle.local_names.specs.Names.{IsNaming}
+use Rattle.local_names.specs.PlainNames.{plain_name_of}
+use Rattle.local_names.specs.Rules.{usual_rules}
 use Rattle.report.specs.Entries.{harvest_lines_of}
 use Rattle.report.specs.ExitStatus.{exit_status, outcomes_in}
 use Rattle.report.specs.Named.{named_pages}
@@ -70,18 +71,18 @@ none_shown false trace is = refl
 
 -- the lines of a harvest have the names of its kept pages
 pub are_named : (plan : Plan) (h : Harvested (List ℕ)) (names : List (List ℕ)) → AreEntries h → AreRecords h → ArePages h → h.plan ≡ Some plan → IsOnce (keys h.state.entries)
-    → IsNaming (map plain_name_of h.kept) names → AreNamed plan (harvest_lines_of h names)
+    → IsNaming (map (plain_name_of usual_rules) h.kept) names → AreNamed plan (harvest_lines_of h names)
 are_named plan h names are records pages follows once naming =
-    let long : length names ≡ length h.kept = naming.count ∙ length-map h.kept plain_name_of in
+    let long : length names ≡ length h.kept = naming.count ∙ length-map h.kept (plain_name_of usual_rules) in
     let kept = subst (λ (o : Option Plan). MatchOption o (h.kept ≡ []) (λ plan. (u : Text) → Contains h.kept u ↔ IsKept plan (answers h.state) u)) follows pages.kept in
     record {
       kept = λ k d lt. line_to_keep plan h names are records once long kept _ (Contains-get_or (harvest_lines_of h names) k d lt);
-      names = subst (λ (given : List (List ℕ)). IsNaming (map plain_name_of (named_pages (harvest_lines_of h names))) given) (sym (names_of_lines h names are records pages long))
-          (subst (λ (kept : List Text). IsNaming (map plain_name_of kept) names) (sym (pages_of_lines h names are records pages long)) naming);
+      names = subst (λ (given : List (List ℕ)). IsNaming (map (plain_name_of usual_rules) (named_pages (harvest_lines_of h names))) given) (sym (names_of_lines h names are records pages long))
+          (subst (λ (kept : List Text). IsNaming (map (plain_name_of usual_rules) kept) names) (sym (pages_of_lines h names are records pages long)) naming);
     }
 
 pub retrieved : (order : Order) (may_say : Text → Outcome → List ℕ → Type 0) (may_rule : Text → RuleSetValue → Type 0) (whole : Answers) (asks : List Ask) (h : Harvested (List ℕ)) (names : List (List ℕ))
-    → Fits may_say may_rule whole → IsRetrieved may_say may_rule order.plan asks h → IsRead h → IsCompleteFor (policy order.plan) whole h.state → AreByCrew order.workers h.trace → IsNaming (map plain_name_of h.kept) names
+    → Fits may_say may_rule whole → IsRetrieved may_say may_rule order.plan asks h → IsRead h → IsCompleteFor (policy order.plan) whole h.state → AreByCrew order.workers h.trace → IsNaming (map (plain_name_of usual_rules) h.kept) names
     → Finishes order whole (shown_of order.trace h.trace) (Retrieved (harvest_lines_of h names))
 retrieved order may_say may_rule whole asks h names fits is read complete by_one naming =
     let sound = subst (λ (o : Option Plan). IfSome o (λ plan. IsSound (policy plan) h.state)) is.follows read.3 in (

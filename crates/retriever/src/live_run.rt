@@ -2,7 +2,7 @@
 ghost use Rattle.std.specs.Prelude.{◌≡◌, ◌<◌, ◌≤◌, ◌++◌, IfOk, Ok, length, map, string_bytes, vec_len};
 ghost use Rattle.report.specs.ExitStatus.{exit_status};
 ghost use Rattle.local_tree.specs.Folders.{holding};
-ghost use Rattle.local_tree.specs.Names.{AreDistinct};
+ghost use Rattle.local_names.specs.Names.{AreDistinct};
 ghost use Rattle.retriever.specs.Found.{Finds, outside, torn_line};
 ghost use Rattle.retriever.specs.Live.{Lives};
 ghost use Rattle.retriever.specs.inner.Live.{IsTornTold};
@@ -61,7 +61,11 @@ fn tell_halt<W: Write>(
 }
 
 // Tells a harvest's text, with the status of its report.
-fn tell_report<W: Write>(harvest: &Harvest<Body>, text: &str, writer: &mut W) -> Result<u8, WriteFailed>
+fn tell_report<W: Write>(
+    harvest: &Harvest<Body>,
+    text: &str,
+    writer: &mut W,
+) -> Result<u8, WriteFailed>
     ensures { IsToldAs (W.contents writer.old) (W.contents writer.new) result text.now (exit_status (map (λ recorded. recorded.1) harvest.now.records)) }
 {
     tell(writer, text.as_bytes(), exit_status(harvest))
@@ -187,7 +191,12 @@ fn status_told(told: Result<u8, WriteFailed>) -> u8
 
 /// Retrieves as [`live`] does, and gives what was retrieved beside the status. How many addresses wait is noted there, where a
 /// place is given for who looks on.
-pub(crate) fn live_shown<H: Threads + Wait + Sync, F: Fetcher<Body = Body> + Send, D: Folder, W: Write>(
+pub(crate) fn live_shown<
+    H: Threads + Wait + Sync,
+    F: Fetcher<Body = Body> + Send,
+    D: Folder,
+    W: Write,
+>(
     rt: &H,
     alloc: Global,
     order: &Order,

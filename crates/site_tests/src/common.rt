@@ -1,6 +1,6 @@
 //! What several modules need: parts of rows, addresses, texts that are long, bytes of texts, what a site says, and the end of a test.
 use address::{Address, Origin};
-use fetcher::{Answer, FaultKind, Fetcher, Outcome};
+use fetcher::{Answer, Body, FaultKind, Fetcher, Outcome};
 use std::alloc::Global;
 use std::process::Abort;
 
@@ -71,26 +71,43 @@ pub(crate) fn is_printed(rt: &impl Abort, alloc: Global, outcome: &Outcome, want
 }
 
 /// Whether an answer has a body of a length and an outcome, as a row says.
-fn is_answered(rt: &impl Abort, alloc: Global, answer: &Answer, row: &str) -> bool {
+fn is_answered(rt: &impl Abort, alloc: Global, answer: &Answer<Body>, row: &str) -> bool {
     let (len, outcome) = halves(row, " ");
     answer.body.as_slice().len() == number(len) && is_printed(rt, alloc, &answer.outcome, outcome)
 }
 
 /// Whether a site says of an address what a row says: the length of the body, and the outcome.
-fn says<F: Fetcher>(rt: &impl Abort, alloc: Global, site: &mut F, at: &str, row: &str) -> bool {
+fn says<F: Fetcher<Body = Body>>(
+    rt: &impl Abort,
+    alloc: Global,
+    site: &mut F,
+    at: &str,
+    row: &str,
+) -> bool {
     let answer = site.ask(&address(rt, alloc, at)).expect(rt, "memory");
     is_answered(rt, alloc, &answer, row)
 }
 
 /// Whether a site's rules say of an origin what a row says: a path, and whether it may be asked for.
-fn rules<F: Fetcher>(rt: &impl Abort, alloc: Global, site: &mut F, of: &str, row: &str) -> bool {
+fn rules<F: Fetcher<Body = Body>>(
+    rt: &impl Abort,
+    alloc: Global,
+    site: &mut F,
+    of: &str,
+    row: &str,
+) -> bool {
     let (path, wanted) = halves(row, " ");
     let rules = site.ask_robots(&origin(rt, alloc, of)).expect(rt, "memory");
     rules.allows(path) == (wanted == "yes")
 }
 
 /// Demands that a site, which nobody asked yet, says what each row says of an address or an origin, and notes each question once.
-pub(crate) fn says_all<F: Fetcher>(rt: &impl Abort, alloc: Global, site: &mut F, rows: &str) {
+pub(crate) fn says_all<F: Fetcher<Body = Body>>(
+    rt: &impl Abort,
+    alloc: Global,
+    site: &mut F,
+    rows: &str,
+) {
     for row in rows.lines() {
         let (of, said) = halves(row, " ");
         let is_so = if said.starts_with('/') {
@@ -105,7 +122,7 @@ pub(crate) fn says_all<F: Fetcher>(rt: &impl Abort, alloc: Global, site: &mut F,
 }
 
 /// How many edges a site's answer to an address has.
-pub(crate) fn edge_count<F: Fetcher>(
+pub(crate) fn edge_count<F: Fetcher<Body = Body>>(
     rt: &impl Abort,
     alloc: Global,
     site: &mut F,
@@ -124,19 +141,24 @@ fn fault_of(outcome: &Outcome) -> Option<FaultKind> {
 }
 
 /// Asks for a page, and gives the fault that answers.
-fn ask<F: Fetcher>(rt: &impl Abort, alloc: Global, site: &mut F, at: &str) -> Option<FaultKind> {
+fn ask<F: Fetcher<Body = Body>>(
+    rt: &impl Abort,
+    alloc: Global,
+    site: &mut F,
+    at: &str,
+) -> Option<FaultKind> {
     let answer = site.ask(&address(rt, alloc, at)).expect(rt, "memory");
     fault_of(&answer.outcome)
 }
 
 /// Asks for the rules of an origin.
-fn ask_robots<F: Fetcher>(rt: &impl Abort, alloc: Global, site: &mut F, of: &str) {
+fn ask_robots<F: Fetcher<Body = Body>>(rt: &impl Abort, alloc: Global, site: &mut F, of: &str) {
     let _ = site.ask_robots(&origin(rt, alloc, of)).expect(rt, "memory");
 }
 
 /// Asks a site, which nobody asked yet, for pages and, behind `robots:`, for the rules of origins, and gives the fault that answers
 /// the last page.
-pub(crate) fn ask_all<F: Fetcher>(
+pub(crate) fn ask_all<F: Fetcher<Body = Body>>(
     rt: &impl Abort,
     alloc: Global,
     site: &mut F,

@@ -1,6 +1,6 @@
 //! Maps in examples: what each line says, which line is bad, and each call once.
 use crate::common::{bytes_of, demand, edge_count, halves, says_all};
-use fetcher::SteadyFetcher;
+use fetcher::{Body, Fetcher, SteadyFetcher};
 use site_inputs::InputFault;
 use site_maps::MapSite;
 use std::alloc::Global;
@@ -174,7 +174,11 @@ http://h/ / yes
 const NOTED: &str = "[Page(\"http://h/\"), Rules(\"http://h\")]";
 
 // Whether a steady site, of whatever kind, answers and notes that.
-fn is_steady<F: SteadyFetcher>(rt: &impl Abort, alloc: Global, site: &mut F) -> bool {
+fn is_steady<F: SteadyFetcher + Fetcher<Body = Body>>(
+    rt: &impl Abort,
+    alloc: Global,
+    site: &mut F,
+) -> bool {
     says_all(rt, alloc, site, STEADY);
     let asks = format!(in alloc; "{:?}", site.asks()).expect(rt, "memory");
     asks.as_str() == NOTED

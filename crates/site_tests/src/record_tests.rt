@@ -55,7 +55,7 @@ line 2: wgetr-record 1~rules all\0http://h/~;
 line 2: wgetr-record 1~rules  all http://h/~;
 line 2: wgetr-record 1~rules some http://h/~;
 line 2: wgetr-record 1~rules all http://h/a~;
-address 2: wgetr-record 1~rules all https://h/a~;
+address 2: wgetr-record 1~rules all ftp://h/a~;
 line 2: wgetr-record 1~robots http://h/? 0~~;
 line 3: wgetr-record 1~rules all http://h/~robots http://h:80/ 0~~;
 line 4: wgetr-record 1~fault head http://h/a~page http://h/b 3~a~b~fault head http://h/a~;

@@ -75,7 +75,12 @@ fn step(places: &mut [usize], worker: u32) -> Option<usize> {
 }
 
 // Whether the page was noted next by this worker.
-fn is_page_next<B>(notes: &[PageNote<B>], places: &mut [usize], worker: u32, address: &Address) -> bool
+fn is_page_next<B>(
+    notes: &[PageNote<B>],
+    places: &mut [usize],
+    worker: u32,
+    address: &Address,
+) -> bool
     ensures { IsTrue result → IsOnce (addresses notes.now) → All (λ note. note.address ≡ address.now → note.worker ≡ worker) notes.now }
 {
     match step(places, worker) {

@@ -111,7 +111,13 @@ impl Board {
         let depth = self.depth_at(at);
         for k in 0..self.edge_count(at) {
             let (target, kind) = self.edge_at(at, k);
-            if self.leads_out(plan, self.address_at(at), target, kind, depth + weight(kind)) {
+            if self.leads_out(
+                plan,
+                self.address_at(at),
+                target,
+                kind,
+                depth + weight(kind),
+            ) {
                 return true;
             }
         }

@@ -3,7 +3,7 @@ ghost use Rattle.std.specs.Prelude.{◌≡◌, true};
 
 use crate::growth::common::address;
 use address::Address;
-use fetcher::{Answer, Outcome};
+use fetcher::{Answer, Body, Outcome};
 use response_answer::Digester;
 use response_reader::{Head, Sink};
 use std::alloc::{AllocError, Global};
@@ -63,7 +63,7 @@ fn is_taken(rt: &impl Abort, alloc: Global, at: &Address) -> bool {
 }
 
 /// What the response answers, or that memory was refused.
-fn digested(alloc: Global, at: &Address) -> Result<Answer, AllocError> {
+fn digested(alloc: Global, at: &Address) -> Result<Answer<Body>, AllocError> {
     let head = page_head();
     let mut digester = Digester::new(alloc, at, true)?;
     digester.head(&head)?;
@@ -87,7 +87,7 @@ fn leads(outcome: &Outcome) -> bool {
 }
 
 /// Whether an answer has the body, and leads where that does.
-fn is_whole(answer: &Answer) -> bool {
+fn is_whole(answer: &Answer<Body>) -> bool {
     let body = answer.body.as_slice();
     body.starts_with(FRONT.as_bytes()) && body.ends_with(REST.as_bytes()) && leads(&answer.outcome)
 }

@@ -1,6 +1,6 @@
 //! Retrievals of a site whose labels fall: where one is refused memory it stops for that, and asked for nothing twice.
 use crate::growth::common::plan;
-use fetcher::{Ask, Fetcher};
+use fetcher::{Ask, Body, Fetcher};
 use frontier_core::Cause;
 use site_inputs::InputFault;
 use site_maps::MapSite;
@@ -66,7 +66,7 @@ fn is_told(entry: &Entry, line: &str) -> bool {
 }
 
 /// Whether the whole site was found.
-fn is_whole(harvest: &Harvest) -> bool {
+fn is_whole(harvest: &Harvest<Body>) -> bool {
     let mut lines = ENTRIES.lines();
     for entry in harvest.entries() {
         if !is_told(entry, lines.next().unwrap_or("")) {
@@ -111,26 +111,26 @@ fn are_asked_once(fetchers: &[MapSite]) -> bool {
 }
 
 /// What a retrieval found, that ended well, is the whole site.
-fn end_well(rt: &impl Abort, harvest: Harvest) {
+fn end_well(rt: &impl Abort, harvest: Harvest<Body>) {
     assert!(rt; is_whole(&harvest));
     drop(harvest);
 }
 
 /// A retrieval that stopped did so for want of memory.
-fn stop(rt: &impl Abort, cause: Cause, harvest: Harvest) {
+fn stop(rt: &impl Abort, cause: Cause, harvest: Harvest<Body>) {
     assert!(rt; cause == Cause::Memory);
     drop(harvest);
 }
 
 /// A retrieval that ended well, and its fetchers.
-fn found(rt: &impl Abort, retrieved: Retrieved<MapSite>) -> (bool, Vec<MapSite>) {
+fn found(rt: &impl Abort, retrieved: Retrieved<MapSite, Body>) -> (bool, Vec<MapSite>) {
     let Retrieved { harvest, fetchers } = retrieved;
     end_well(rt, harvest);
     (true, fetchers)
 }
 
 /// A retrieval that stopped, and its fetchers.
-fn stopped(rt: &impl Abort, stopped: Stopped<MapSite>) -> (bool, Vec<MapSite>) {
+fn stopped(rt: &impl Abort, stopped: Stopped<MapSite, Body>) -> (bool, Vec<MapSite>) {
     let Stopped {
         cause,
         harvest,

@@ -23,5 +23,5 @@ returns g c =
 
 pub returns-in_err-push : goal.returns-in_err-push
 returns-in_err-push g c =
-    let failed = c.from_residual.ensures.0 in
+    let failed = c.from_residual-in_err-push.ensures.0 in
     record { count = IfOk-from_err _ _ failed; made = IfOk-from_err _ _ failed }
