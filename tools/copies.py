@@ -54,7 +54,7 @@ def stamp_of(library):
 
 def prove_libraries(to, names):
     """Proves what these crates of the copy stand on, and tells on standard error what isn't proved."""
-    proving = [os.path.abspath("bench/prove-libraries"), *names]
+    proving = [os.path.abspath("tools/prove-libraries"), *names]
     proved = subprocess.run(proving, cwd=to, stdin=subprocess.DEVNULL, stdout=subprocess.PIPE, text=True, errors="replace")
     if proved.returncode:
         print(proved.stdout, end="", file=sys.stderr)

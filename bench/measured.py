@@ -1,4 +1,4 @@
-"""Web servers for the scripts that measure, and how a program is measured beside them."""
+"""Web servers whose speed isn't what is measured, and how a program is measured beside them."""
 import asyncio
 import contextlib
 import mmap
@@ -10,24 +10,21 @@ import subprocess
 import sys
 import time
 
+sys.dont_write_bytecode = True
+sys.path.append(os.path.join(os.path.dirname(os.path.abspath(__file__)), "../tests"))
+from servers import PROGRAM, free_port
+
 # Sixteen requests that come together would wait for one process to read them one after another.
 PROCESSES = 4
-PROGRAM = os.path.join(os.path.dirname(os.path.dirname(os.path.abspath(__file__))), "crates", "wgetr", "out", "wgetr")
 
 
 def need(wgetr, *programs):
-    """Ends the script where wgetr or one of the other programs isn't there."""
+    """Ends the script if wgetr or one of the other programs isn't there."""
     missing = [program for program in programs if not shutil.which(program, path=os.environ["PATH"] + ":/usr/sbin")]
     if missing:
         sys.exit(f"{', '.join(missing)} is needed, and isn't there: apt-get install nginx-light wget wget2")
     if not os.access(wgetr, os.X_OK):
         sys.exit(f"{wgetr} isn't built yet: ./wgetr -h builds it")
-
-
-def free_port():
-    with socket.socket() as probe:
-        probe.bind(("127.0.0.1", 0))
-        return probe.getsockname()[1]
 
 
 def wait_for(port):

@@ -1,6 +1,6 @@
-// Refuses memory to a program from outside, for bench/growths. Preloaded, it counts the program's calls of malloc and realloc,
+// Refuses memory to a program from outside, for tests/growths. Preloaded, it counts the program's calls of malloc and realloc,
 // the two by which it takes memory, over all threads and from 1. Call number REFUSE_AT is refused, or each from number
-// REFUSE_FROM on. In the file REFUSE_TOLD stand two numbers of 8 bytes, at the end and after a crash too: how many calls there
+// REFUSE_FROM on. In the file REFUSE_TOLD are two numbers of 8 bytes, at the end and after a crash too: how many calls there
 // were, and how many of them were refused; so it is known whether a run met its refusal.
 //     cc -O1 -shared -fPIC -o refuse.so refuse.c -ldl
 #define _GNU_SOURCE
