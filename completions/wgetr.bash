@@ -1,4 +1,4 @@
-# Completions of bash for wgetr, made by bench/make-manual.
+# Completions of bash for wgetr, made by tools/make-manual.
 _wgetr() {
     local word=${COMP_WORDS[COMP_CWORD]} before=${COMP_WORDS[COMP_CWORD - 1]}
     # of --save=FILE bash makes three words
@@ -7,8 +7,8 @@ _wgetr() {
     case $before in
     --resume|--save) mapfile -t COMPREPLY < <(compgen -f -- "$word") ;;
     -P|--directory-prefix) mapfile -t COMPREPLY < <(compgen -d -- "$word") ;;
-    -l|--level|-D|--domains|--exclude-domains|-I|--include-directories|-X|--exclude-directories|-A|--accept|-R|--reject|-e|--execute|--workers|--per-host|--max-urls) COMPREPLY=() ;;
-    *) mapfile -t COMPREPLY < <(compgen -W "-r --recursive -l --level -p --page-requisites -np --no-parent -H --span-hosts -D --domains --exclude-domains -I --include-directories -X --exclude-directories -A --accept -R --reject -e --execute --workers --per-host --no-http-keep-alive --max-urls --map --record --resume -P --directory-prefix --trace --save -h --help -V --version" -- "$word") ;;
+    -l|--level|-D|--domains|--exclude-domains|-I|--include-directories|-X|--exclude-directories|-A|--accept|-R|--reject|-e|--execute|--workers|--per-host|--https-proxy|--max-urls|--progress|--compression) COMPREPLY=() ;;
+    *) mapfile -t COMPREPLY < <(compgen -W "-r --recursive -l --level -p --page-requisites -np --no-parent -H --span-hosts -D --domains --exclude-domains -I --include-directories -X --exclude-directories -A --accept -R --reject -e --execute --no-robots --workers --per-host --no-http-keep-alive --https-proxy --max-urls --map --record --resume -P --directory-prefix --trace --save -nv --no-verbose -x --force-directories --no-cookies --no-hsts --no-config --no-netrc --unlink --no-remove-listing --show-progress --no-xattr --no-strict-comments --no-follow-ftp --progress --compression -h --help -V --version" -- "$word") ;;
     esac
 }
 complete -o filenames -F _wgetr wgetr
