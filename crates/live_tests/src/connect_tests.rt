@@ -416,12 +416,20 @@ fn told_by(alloc: Global, kind: ErrorKind) -> &'static str {
     }
 }
 
+/// Whether a wire says that a time limit ran out, once a write over a stream that answers each call so has failed.
+fn is_late_to_write(kind: ErrorKind) -> bool {
+    let mut wire = TcpWire::new(Stuck(Err(kind)));
+    wire.write(b"ab").is_err() && wire.has_timed_out()
+}
+
 #[test]
 fn a_time_limit_that_runs_out_is_no_end_of_a_kept_connection(rt: HostRuntime) {
     for kind in [ErrorKind::WouldBlock, ErrorKind::TimedOut] {
         assert!(rt; told_by(rt.alloc(), kind) == "lost", "{kind:?}");
+        assert!(rt; is_late_to_write(kind), "{kind:?}");
     }
     for kind in [ErrorKind::ConnectionReset, ErrorKind::BrokenPipe] {
         assert!(rt; told_by(rt.alloc(), kind) == "silent", "{kind:?}");
+        assert!(rt; !is_late_to_write(kind), "{kind:?}");
     }
 }
