@@ -1,4 +1,6 @@
 pub mod Feeding
+pub mod Searching
+pub mod Passing
 pub mod Writing
 pub mod Moving
 pub mod Keeping

@@ -4,3 +4,4 @@ pub mod Places
 pub mod References
 pub mod Scanning
 pub mod Rewriting
+pub mod inner

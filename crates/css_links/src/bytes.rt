@@ -1,6 +1,6 @@
 //! Classes of bytes (CSS Syntax Level 3, section 4.2).
 ghost use Rattle.std.specs.Prelude.{◌≡◌};
-ghost use Rattle.css_links.specs.Bytes.{is_newline, is_white, is_quote, is_name, is_unfit};
+ghost use Rattle.css_links.specs.Bytes.{is_newline, is_white, is_quote, is_name, is_unfit, is_loud};
 
 /// A line feed, form feed or carriage return.
 pub(crate) fn is_newline(byte: u8) -> bool
@@ -39,4 +39,11 @@ pub(crate) fn is_unfit(byte: u8) -> bool
         || byte == 0x0b
         || (byte > 0 && byte < 9)
         || (byte > 13 && byte < 32)
+}
+
+/// A byte that does more between tokens than begin, continue or end a word.
+pub(crate) fn is_loud(byte: u8) -> bool
+    ensures { result ≡ is_loud byte }
+{
+    is_quote(byte) || byte == b'(' || byte == b'/' || byte == b'@' || byte == b'\\'
 }

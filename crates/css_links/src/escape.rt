@@ -1,10 +1,12 @@
 //! Escapes (CSS Syntax Level 3, sections 4.3.5, 4.3.7 and 4.3.11).
-ghost use Rattle.std.specs.Prelude.{◌≡◌, ◌<◌, ◌++◌, [], ◌∷◌, IfOk, OnOk, OnErr};
+ghost use Rattle.std.specs.Prelude.{◌≡◌, false, ◌<◌, ◌++◌, [], ◌∷◌, IfOk, OnOk, OnErr, string_bytes};
+ghost use Rattle.std.specs.Str.Lossy.{utf8_lossy};
 ghost use Rattle.std.specs.Char.{IsAsciiHexdigit};
 ghost use Rattle.css_links.specs.Escapes.{unescaped, digit, with_digit, character, plainly, begun, ended, numbered, returned, read_in, whole_in, says, read};
 
 use crate::bytes::{is_newline, is_white};
 use bstr::ByteVec;
+use memchr::memchr;
 use std::alloc::{AllocError, Global};
 
 /// Where in an escape the next byte stands.
@@ -17,6 +19,13 @@ pub(crate) enum Reading {
     Number(u8, u32),
     /// Behind a carriage return that was left out: a line feed belongs to it.
     Return,
+}
+
+/// Whether an escape may be in a text. If not, it says itself.
+pub(crate) fn has_escape(raw: &[u8]) -> bool
+    ensures { result ≡ false → unescaped raw.now ≡ raw.now }
+{
+    memchr(b'\\', raw).is_some()
 }
 
 /// A text with its escapes replaced.
@@ -33,6 +42,17 @@ pub(crate) fn unescaped(alloc: Global, raw: &[u8]) -> Result<Vec<u8>, AllocError
     }
     end(&mut text, reading)?;
     Ok(text)
+}
+
+/// A text with its escapes replaced, decoded as UTF-8.
+pub(crate) fn decoded(alloc: Global, raw: &[u8]) -> Result<String, AllocError>
+    ensures { IfOk result (λ text. string_bytes text ≡ utf8_lossy (unescaped raw.now)) }
+{
+    if !has_escape(raw) {
+        return String::from_utf8_lossy(alloc, raw);
+    }
+    let text = unescaped(alloc, raw)?;
+    String::from_utf8_lossy(alloc, &text)
 }
 
 // Puts down what one more byte says, and gives the next place.

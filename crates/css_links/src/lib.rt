@@ -20,6 +20,7 @@ mod place;
 mod rewriter;
 mod scanner;
 mod sheet_rewriter;
+mod span;
 mod turns;
 mod zone;
 

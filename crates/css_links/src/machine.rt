@@ -1,11 +1,15 @@
 //! A machine that reads a style sheet byte by byte (CSS Syntax Level 3, section 4.3).
-ghost use Rattle.std.specs.Prelude.{◌≡◌, ◌++◌, OnOk, IfOk};
+ghost use Rattle.std.specs.Prelude.{◌≡◌, ◌≤◌, ◌++◌, ◌∷◌, OnOk, IfOk, length, reverse};
 ghost use Rattle.css_links.specs.Scanning.{front_of};
-ghost use Rattle.css_links.specs.References.{nothing_read, left_open, left_open_in, ended, reference, step, turned};
+ghost use Rattle.css_links.specs.References.{front, nothing_read, left_open, left_open_in, ended, reference, step, fed, turned};
+ghost use Rattle.css_links.specs.inner.Spans.{until, from, ends_span};
+ghost use Rattle.css_links.specs.inner.Quiet.{lead_behind, place_after};
+ghost use Rattle.css_links.specs.declared.place.Place.TheVariants as places;
 
-use crate::escape::unescaped;
+use crate::escape::decoded;
 use crate::found::Found;
-use crate::place::{Part, Place, Turn};
+use crate::place::{Lead, Part, Place, Turn};
+use crate::span::{Span, from_star};
 use crate::turns::turn;
 use std::alloc::{AllocError, Global};
 
@@ -28,6 +32,72 @@ impl Machine {
             raw: Vec::new(alloc),
             found: Vec::new(alloc),
         }
+    }
+
+    /// Reads a byte, and of what follows it all that stays in the same part of the sheet. Gives what is left.
+    pub(crate) fn advance<'a>(&mut self, byte: u8, others: &'a [u8]) -> Result<&'a [u8], AllocError>
+        ensures gives { IfOk result (λ left. fed (front_of self.new) left.now ≡ fed (front_of self.old) (byte ∷ others.now)) }
+        ensures shorter { IfOk result (λ left. length left.now ≤ length others.now) }
+    {
+        self.step(byte)?;
+        self.run(others)
+    }
+
+    // Takes from the front of a text, many bytes at a time, what stays in the present part, and gives what is left.
+    fn run<'a>(&mut self, text: &'a [u8]) -> Result<&'a [u8], AllocError>
+        ensures gives { IfOk result (λ left. fed (front_of self.new) left.now ≡ fed (front_of self.old) text.now) }
+        ensures shorter { IfOk result (λ left. length left.now ≤ length text.now) }
+    {
+        match self.place {
+            Place::Between => self.quiet_run(text),
+            Place::Comment => Ok(from_star(text)),
+            Place::ImportComment => Ok(from_star(text)),
+            Place::Inside(part) => self.part_run(part, text),
+            _ => Ok(text),
+        }
+    }
+
+    fn part_run<'a>(&mut self, part: Part, text: &'a [u8]) -> Result<&'a [u8], AllocError>
+        requires { self.old.place ≡ places.Inside part }
+        ensures gives { IfOk result (λ left. fed (front_of self.new) left.now ≡ fed (front_of self.old) text.now) }
+        ensures shorter { IfOk result (λ left. length left.now ≤ length text.now) }
+    {
+        match part {
+            Part::Word(_) => self.text_run(Span::Name, text),
+            Part::Reference(quote) => self.text_run(Span::Quoted(quote), text),
+            Part::Other(quote) => Ok(Span::Quoted(quote).split(text).1),
+            Part::Bare => self.text_run(Span::Unquoted, text),
+            Part::Bad => Ok(Span::Bad.split(text).1),
+        }
+    }
+
+    // Puts what the part goes on with to its text.
+    fn text_run<'a>(&mut self, span: Span, text: &'a [u8]) -> Result<&'a [u8], AllocError>
+        ensures front { OnOk result (front_of self.new ≡ front self.old.place (self.old.raw.items ++ until (ends_span span) text.now) self.old.found.items) }
+        ensures left { IfOk result (λ left. left.now ≡ from (ends_span span) text.now) }
+        ensures shorter { IfOk result (λ left. length left.now ≤ length text.now) }
+    {
+        let (run, left) = span.split(text);
+        self.raw.extend_from_slice(run)?;
+        Ok(left)
+    }
+
+    // Between tokens: passes over words and what stands between them, and keeps the last word.
+    fn quiet_run<'a>(&mut self, text: &'a [u8]) -> Result<&'a [u8], AllocError>
+        ensures gives { IfOk result (λ left. fed (front_of self.new) left.now ≡ fed (front places.Between self.old.raw.items self.old.found.items) text.now) }
+        ensures shorter { IfOk result (λ left. length left.now ≤ length text.now) }
+    {
+        let (quiet, left) = Span::Quiet.split(text);
+        let (named, plain) = Span::Plain.split_end(quiet);
+        if named.is_empty() {
+            self.place = Place::Between;
+            return Ok(left);
+        }
+        let (before, word) = Span::Name.split_end(named);
+        self.raw.clear();
+        self.raw.extend_from_slice(word)?;
+        self.place = place_after(before, plain);
+        Ok(left)
     }
 
     /// Reads the next byte of the sheet.
@@ -72,8 +142,7 @@ impl Machine {
         ensures raw { self.new.raw.items ≡ self.old.raw.items }
         ensures place { self.new.place ≡ self.old.place }
     {
-        let text = unescaped(self.alloc, &self.raw)?;
-        let text = String::from_utf8_lossy(self.alloc, &text)?;
+        let text = decoded(self.alloc, &self.raw)?;
         if !text.is_empty() {
             self.found.push(Found { text })?;
         }
@@ -112,5 +181,25 @@ impl Machine {
         self.close()?;
         let Machine { found, .. } = self;
         Ok(found)
+    }
+}
+
+// The place at the end of a text between tokens, by what is before its last word and what is after it.
+fn place_after(before: &[u8], plain: &[u8]) -> Place
+    ensures { result ≡ place_after (reverse before.now) plain.now }
+{
+    match plain {
+        [] => Place::Inside(Part::Word(lead_behind(before))),
+        _ => Place::Between,
+    }
+}
+
+// What a word follows, by the bytes before it.
+fn lead_behind(before: &[u8]) -> Lead
+    ensures { result ≡ lead_behind (reverse before.now) }
+{
+    match before {
+        [.., last] if *last == b'#' => Lead::Hash,
+        _ => Lead::Nothing,
     }
 }

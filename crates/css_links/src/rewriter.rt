@@ -6,7 +6,7 @@ ghost use Rattle.css_links.specs.Rewriting.{IsWriting, IsAnew, changed, rewritte
 ghost use Rattle.css_links.specs.Scanning.{front_of, rewrite_of};
 
 use crate::change::Change;
-use crate::escape::unescaped;
+use crate::escape::decoded;
 use crate::machine::Machine;
 use crate::memory::Memory;
 use crate::place::{Place, Turn};
@@ -76,8 +76,7 @@ fn push_anew<C: Change>(
 ) -> Result<(), AllocError>
     ensures { OnOk result (out.new.items ≡ out.old.items ++ rewriting.anew (C.becomes change.now) raw.now) }
 {
-    let text = unescaped(alloc, raw)?;
-    let text = String::from_utf8_lossy(alloc, &text)?;
+    let text = decoded(alloc, raw)?;
     if text.is_empty() {
         return out.extend_from_slice(raw);
     }

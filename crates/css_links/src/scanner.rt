@@ -66,8 +66,8 @@ impl Scanner {
         }
         let mut left = piece;
         while let [byte, others @ ..] = left {
-            match self.machine.step(*byte) {
-                Ok(()) => left = others,
+            match self.machine.advance(*byte, others) {
+                Ok(rest) => left = rest,
                 Err(_) => {
                     self.failed = true;
                     return Err(Memory);

@@ -5,7 +5,7 @@ ghost use Rattle.css_links.specs.Places as places;
 ghost use Rattle.css_links.specs.declared.place.Lead.TheVariants as lead;
 
 use crate::bytes::{is_name, is_newline, is_quote, is_unfit, is_white};
-use crate::escape::unescaped;
+use crate::escape::{has_escape, unescaped};
 use crate::place::{Escape, Lead, Part, Place, Turn};
 use std::alloc::{AllocError, Global};
 
@@ -33,6 +33,9 @@ pub(crate) fn turn(alloc: Global, place: Place, raw: &[u8], byte: u8) -> Result<
 fn is_word(alloc: Global, word: &[u8], raw: &[u8]) -> Result<bool, AllocError>
     ensures { IfOk result (λ is. is ≡ places.is_word (lower word.now) raw.now) }
 {
+    if !has_escape(raw) {
+        return Ok(raw.eq_ignore_ascii_case(word));
+    }
     let text = unescaped(alloc, raw)?;
     Ok(text.eq_ignore_ascii_case(word))
 }
