@@ -1,6 +1,6 @@
 -- Tags and attributes that no rule asks for give nothing. No proof names an element or an attribute, so that a row of the link table
 -- changes none.
-use Rattle.std.proofs.Common.{◌≡◌, ℕ, Bool, true, false, ◌||◌, List, [], ◌∷◌, ◌++◌, None, if◌then◌else◌, refl, sym, ◌∙◌, ap, arith, append-nil}
+use Rattle.std.proofs.Common.{◌≡◌, ℕ, Bool, true, false, ◌||◌, List, [], ◌∷◌, ◌++◌, Option, Some, None, if◌then◌else◌, refl, sym, ◌∙◌, ap, arith, append-nil}
 use Rattle.std.proofs.lemmas.Grind.{flat_map-append}
 use Rattle.std.specs.Prelude.{option_map, codes}
 use Rattle.std.specs.Option.{option_or}
@@ -9,8 +9,9 @@ use Rattle.std.specs.List.{flat_map, list_any}
 use Rattle.html_links.specs.Pieces.{Attribute, Tag}
 use Rattle.html_links.specs.Values.{value_text_of, written, value_of}
 use Rattle.html_links.specs.declared.table.Form.{Form}
+use Rattle.html_links.specs.declared.links.LinkKind.{LinkKind}
 use Rattle.html_links.specs.declared.table.Form.TheVariants as form
-use Rattle.html_links.specs.Links.{Links, Row, link_table, kind_in, related, pressed, refreshed, link_by, row_links, table_links, sheet_links, links_of, base_of, is_nofollow, first_base, any_nofollow, with_tags}
+use Rattle.html_links.specs.Links.{Links, Row, link_table, kind_in, related, pressed, refreshed, link_with, link_by, row_links, table_links, sheet_links, links_of, base_of, is_nofollow, first_base, any_nofollow, with_tags}
 use Rattle.html_links.specs.Asked.{is_asked_element, is_asked_attribute, is_wanted, asked_attributes, given, asked}
 use Rattle.html_links.specs.declared.asked.Wanted.{Wanted}
 use Rattle.html_links.specs.declared.asked.Wanted.TheVariants as wanted
@@ -123,7 +124,49 @@ plain tag h =
     = none_holds _ _ _ h in
     record { links = rw (rows_nothing tag link_table tests.third) refl; base = rw tests.first refl; nofollow = rw tests.second refl }
 
--- what is given of it says the same
+-- a tag without attributes says nothing
+kind_alone : (f : Form) (k : Option LinkKind) → link_with f k None ≡ []
+kind_alone f None = refl
+kind_alone f (Some k) = refl
+
+rows_alone : (name : List ℕ) (rows : List Row) → flat_map (row_links (record { name = name; attributes = [] })) rows ≡ []
+rows_alone name [] = refl
+rows_alone name (r ∷ others) = go (bytes_eq name r.element) (rows_alone name others) where
+  go : (t : Bool) → flat_map (row_links (record { name = name; attributes = [] })) others ≡ []
+      → ((if t then link_by [] r else []) ++ flat_map (row_links (record { name = name; attributes = [] })) others) ≡ []
+  go true g = rw (kind_alone r.form (kind_in [] r.form)) g
+  go false g = g
+
+-- what a tag without attributes says
+record IsSilent (tag : Tag) : Type 0 where
+  links : links_of tag ≡ []
+  base : base_of tag ≡ None
+  nofollow : is_nofollow tag ≡ false
+
+if_same : {X : Type 0} (t : Bool) (x : X) → (if t then x else x) ≡ x
+if_same true x = refl
+if_same false x = refl
+
+silent : (name : List ℕ) → IsSilent (record { name = name; attributes = [] })
+unfolding links_of table_links base_of is_nofollow
+silent name = record { links = rw (rows_alone name link_table) refl; base = if_same (bytes_eq name (codes "base")) None; nofollow = if_same (bytes_eq name (codes "meta")) false }
+
+-- what is given of a tag that a rule names says the same
+all_links : (name : List ℕ) (kept : List Attribute) → flat_map links_of (given wanted.All name kept) ≡ links_of (record { name = name; attributes = kept })
+all_links name [] = sym (silent name).links
+all_links name (a ∷ others) = append-nil (links_of (record { name = name; attributes = a ∷ others }))
+
+all_base : (name : List ℕ) (kept : List Attribute) (others : List Tag)
+    → first_base (given wanted.All name kept ++ others) ≡ option_or (base_of (record { name = name; attributes = kept })) (first_base others)
+all_base name [] others = rw (silent name).base refl
+all_base name (a ∷ more) others = refl
+
+all_nofollow : (name : List ℕ) (kept : List Attribute) (others : List Tag)
+    → any_nofollow (given wanted.All name kept ++ others) ≡ (is_nofollow (record { name = name; attributes = kept }) || any_nofollow others)
+all_nofollow name [] others = rw (silent name).nofollow refl
+all_nofollow name (a ∷ more) others = refl
+
+-- so does what is given of another
 styled_links : (name : List ℕ) (kept all : List Attribute) → is_asked_element name ≡ false → value_of (codes "style") kept ≡ value_of (codes "style") all
     → flat_map links_of (given wanted.Style name kept) ≡ links_of (record { name = name; attributes = all })
 styled_links name [] all h same = ap sheet_links same ∙ sym (plain (record { name = name; attributes = all }) h).links
@@ -148,7 +191,9 @@ links_asked [] = refl
 links_asked (tag ∷ others) = go (is_asked_element tag.name) refl (links_asked others) where
   go : (t : Bool) → is_asked_element tag.name ≡ t → flat_map links_of (asked others) ≡ flat_map links_of others
       → flat_map links_of (given_if t tag ++ asked others) ≡ links_of tag ++ flat_map links_of others
-  go true e g = rw (links_kept tag, g) refl
+  go true e g =
+      flat_map-append links_of (given_if true tag) (asked others)
+      ∙ rw (all_links tag.name (kept_of tag.attributes), links_kept tag, g) refl
   go false e g =
       flat_map-append links_of (given_if false tag) (asked others)
       ∙ rw (styled_links tag.name (asked_attributes wanted.Style tag.attributes) tag.attributes e (value_kept wanted.Style (codes "style") tag.attributes refl), g) refl
@@ -158,7 +203,7 @@ base_asked [] = refl
 base_asked (tag ∷ others) = go (is_asked_element tag.name) refl (base_asked others) where
   go : (t : Bool) → is_asked_element tag.name ≡ t → first_base (asked others) ≡ first_base others
       → first_base (given_if t tag ++ asked others) ≡ option_or (base_of tag) (first_base others)
-  go true e g = rw (base_kept tag, g) refl
+  go true e g = all_base tag.name (kept_of tag.attributes) (asked others) ∙ rw (base_kept tag, g) refl
   go false e g = styled_base tag.name (asked_attributes wanted.Style tag.attributes) (asked others) e ∙ g ∙ rw (plain tag e).base refl
 
 nofollow_asked : (tags : List Tag) → any_nofollow (asked tags) ≡ any_nofollow tags
@@ -166,7 +211,7 @@ nofollow_asked [] = refl
 nofollow_asked (tag ∷ others) = go (is_asked_element tag.name) refl (nofollow_asked others) where
   go : (t : Bool) → is_asked_element tag.name ≡ t → any_nofollow (asked others) ≡ any_nofollow others
       → any_nofollow (given_if t tag ++ asked others) ≡ (is_nofollow tag || any_nofollow others)
-  go true e g = rw (nofollow_kept tag, g) refl
+  go true e g = all_nofollow tag.name (kept_of tag.attributes) (asked others) ∙ rw (nofollow_kept tag, g) refl
   go false e g = styled_nofollow tag.name (asked_attributes wanted.Style tag.attributes) (asked others) e ∙ g ∙ rw (plain tag e).nofollow refl
 
 -- what the tags that a rule asks for add is what all add

@@ -1,10 +1,12 @@
--- Rows of elements whose names begin with another byte say nothing of a name.
+-- Rows of elements, and attributes, whose names begin with another byte say nothing of a name.
 use Rattle.std.proofs.Common.{◌≡◌, ℕ, Bool, true, false, ◌||◌, ◌≤◌, ◌<◌, List, [], ◌∷◌, ◌++◌, if◌then◌else◌, length, get_or, refl, arith}
 use Rattle.std.specs.Str.{bytes_eq}
 use Rattle.std.specs.List.{flat_map, list_any}
 use Rattle.html_links.specs.Pieces.{Attribute}
 use Rattle.html_links.specs.Links.{Row, link_by, row_links, link_table, table_links}
-use Rattle.html_links.specs.inner.Rows.{begins_with, rows_with}
+use Rattle.html_links.specs.Asked.{asked_name, asked_names, is_asked_attribute}
+use Rattle.html_links.specs.declared.asked.AskedName.{AskedName}
+use Rattle.html_links.specs.inner.Rows.{begins_with, rows_with, names_with}
 
 -- a name that begins with another byte is another name
 pub differs : (first : ℕ) (others element : List ℕ) → begins_with first element ≡ false → bytes_eq (first ∷ others) element ≡ false
@@ -55,3 +57,26 @@ pub no_links : (name : List ℕ) (attributes : List Attribute) → length name <
 unfolding table_links link_table
 no_links [] attributes h = refl
 no_links (first ∷ name) attributes h = absurd (omega arith)
+
+-- ---- attributes
+
+named_among : (first : ℕ) (name : List ℕ) (names : List AskedName)
+    → list_any (λ n. bytes_eq (first ∷ name) (asked_name n)) (names_with first names) ≡ list_any (λ n. bytes_eq (first ∷ name) (asked_name n)) names
+named_among first name [] = refl
+named_among first name (n ∷ others) = go (begins_with first (asked_name n)) refl (named_among first name others) where
+  go : (t : Bool) → begins_with first (asked_name n) ≡ t
+      → list_any (λ m. bytes_eq (first ∷ name) (asked_name m)) (names_with first others) ≡ list_any (λ m. bytes_eq (first ∷ name) (asked_name m)) others
+      → list_any (λ m. bytes_eq (first ∷ name) (asked_name m)) (if t then n ∷ names_with first others else names_with first others)
+      ≡ (bytes_eq (first ∷ name) (asked_name n) || list_any (λ m. bytes_eq (first ∷ name) (asked_name m)) others)
+  go true e g = rw g refl
+  go false e g = rw (differs first name (asked_name n) e) g
+
+pub named_by : (name : List ℕ) (found : List AskedName) (other : ℕ) → 1 ≤ length name → found ≡ names_with (get_or name 0 other) asked_names
+    → list_any (λ n. bytes_eq name (asked_name n)) found ≡ is_asked_attribute name
+named_by [] found other h e = absurd (omega arith)
+named_by (first ∷ name) found other h e = rw e (named_among first name asked_names)
+
+-- no attribute has an empty name
+pub none_named : (name : List ℕ) → length name < 1 → is_asked_attribute name ≡ false
+none_named [] h = refl
+none_named (first ∷ name) h = absurd (omega arith)

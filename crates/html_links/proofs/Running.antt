@@ -3,14 +3,18 @@ use Rattle.std.proofs.Common.{◌≡◌, ℕ, ◌<◌, ◌≤◌, zero, suc, Boo
 use Rattle.std.proofs.lemmas.List.{take_all, drop_all}
 use Rattle.memchr.specs.Find.{Nowhere, is_byte, Passes}
 use Rattle.html_links.specs.Pieces.{until, from, beyond, lower, is, ends_tag_name, ends_attribute_name, ends_bare_value}
-use Rattle.html_links.specs.Markup.{Value, beyond_comment, start_tag, attributes, value_behind}
+use Rattle.html_links.specs.Contexts.{Context}
+use Rattle.html_links.specs.Markup.{Attributes, Value, mark, beyond_section, end_tag, attributes, value_behind}
+use Rattle.html_links.specs.declared.lexer.Section.{Section}
 use Rattle.html_links.specs.Asked.{asked_tags}
-use Rattle.html_links.specs.Lexing.{tags_after, tags_with, kept_with, with_named, in_tag_name, in_attribute_name, in_quoted_value, in_bare_value, in_raw_text}
+use Rattle.html_links.specs.Pieces.{Tag}
+use Rattle.html_links.specs.Lexing.{tags_after, tags_with, kept_with, with_named, in_end_tag_name, in_attribute_name, in_quoted_value, in_bare_value, in_raw_text}
 use Rattle.html_links.specs.declared.lexer.Lexer.{Lexer}
 use Rattle.html_links.specs.declared.raw_element.RawElement.{RawElement}
 use Rattle.std.proofs.lemmas.Bool.Decides.{nat_tests}
-use Rattle.html_links.proofs.Stepping.{text_other, comment_other}
+use Rattle.html_links.proofs.Stepping.{text_other, section_other}
 use Rattle.html_links.proofs.RawText.{raw_other}
+use Rattle.html_links.proofs.Tagging.{PutsEndName}
 
 -- what no byte before the one that stops changes is the same of what is left
 pub skipped : {X : Type 0} (stops : ℕ → Bool) (F : List ℕ → X) → ((b : ℕ) (bs : List ℕ) → stops b ≡ false → F (b ∷ bs) ≡ F bs)
@@ -24,14 +28,14 @@ skipped stops F step (b ∷ bs) rest = go (stops b) refl (skipped stops F step b
 other_is : (x b : ℕ) → (b == x) ≡ false → b ≡ x → ⊥
 other_is x b e f = grind (arith, nat_tests)
 
-pub text_over : (xs rest : List ℕ) → asked_tags (xs ++ rest) ≡ asked_tags (from (is 60) xs ++ rest)
-text_over = skipped (is 60) asked_tags (λ b bs e. text_other b bs (other_is 60 b e))
+pub text_over : (k : Context) (xs rest : List ℕ) → asked_tags k (xs ++ rest) ≡ asked_tags k (from (is 60) xs ++ rest)
+text_over k = skipped (is 60) (asked_tags k) (λ b bs e. text_other k b bs (other_is 60 b e))
 
-pub comment_over : (xs rest : List ℕ) → beyond_comment (xs ++ rest) ≡ beyond_comment (from (is 45) xs ++ rest)
-comment_over = skipped (is 45) beyond_comment (λ b bs e. comment_other b bs (other_is 45 b e))
+pub section_over : (s : Section) (xs rest : List ℕ) → beyond_section s (xs ++ rest) ≡ beyond_section s (from (is (mark s)) xs ++ rest)
+section_over s = skipped (is (mark s)) (beyond_section s) (λ b bs e. section_other s b bs (other_is (mark s) b e))
 
-pub raw_over : (element : RawElement) (xs rest : List ℕ) → in_raw_text element 0 (xs ++ rest) ≡ in_raw_text element 0 (from (is 60) xs ++ rest)
-raw_over element = skipped (is 60) (in_raw_text element 0) (λ b bs e. raw_other element b bs (other_is 60 b e))
+pub raw_over : (k : Context) (element : RawElement) (xs rest : List ℕ) → in_raw_text k element 0 (xs ++ rest) ≡ in_raw_text k element 0 (from (is 60) xs ++ rest)
+raw_over k element = skipped (is 60) (in_raw_text k element 0) (λ b bs e. raw_other k element b bs (other_is 60 b e))
 
 from_go : (stops : ℕ → Bool) (b : ℕ) (bs : List ℕ) → stops b ≡ false → from stops (b ∷ bs) ≡ from stops bs
 from_go stops b bs e = rw e refl
@@ -126,12 +130,14 @@ passed_from stops text i h e f = f ∙ ap (from stops) (drop_at text i h) ∙ fr
 
 -- ---- a lexer inside a tag
 
-pub tag_name_over : (name text rest : List ℕ)
-    → tags_after (start_tag (name ++ lower (until ends_tag_name (text ++ rest))) (attributes (from ends_tag_name (text ++ rest))))
-    ≡ tags_after (start_tag ((name ++ lower (until ends_tag_name text)) ++ lower (until ends_tag_name (from ends_tag_name text ++ rest))) (attributes (from ends_tag_name (from ends_tag_name text ++ rest))))
-tag_name_over name text rest =
-    ap (λ n. tags_after (start_tag n (attributes (from ends_tag_name (text ++ rest))))) (name_over ends_tag_name name text rest)
-    ∙ ap (λ t. tags_after (start_tag ((name ++ lower (until ends_tag_name text)) ++ lower (until ends_tag_name (from ends_tag_name text ++ rest))) (attributes t))) (from_over ends_tag_name text rest)
+-- what a tag gives by its name and what was found of its attributes, with a name that goes on
+pub tag_name_ran : (F : List ℕ → Attributes → List Tag) (name more text front behind rest : List ℕ) → more ≡ name ++ lower front → front ≡ until ends_tag_name text → behind ≡ from ends_tag_name text
+    → F (name ++ lower (until ends_tag_name (text ++ rest))) (attributes (from ends_tag_name (text ++ rest)))
+    ≡ F (more ++ lower (until ends_tag_name (behind ++ rest))) (attributes (from ends_tag_name (behind ++ rest)))
+tag_name_ran F name more text front behind rest named before left =
+    rw (named, before, left)
+    (ap (λ n. F n (attributes (from ends_tag_name (text ++ rest)))) (name_over ends_tag_name name text rest)
+    ∙ ap (λ t. F ((name ++ lower (until ends_tag_name text)) ++ lower (until ends_tag_name (from ends_tag_name text ++ rest))) (attributes t)) (from_over ends_tag_name text rest))
 
 pub attribute_name_over : (l new : Lexer) (text rest : List ℕ) → new ≡ record l { attribute = new.attribute }
     → ((name : List ℕ) (found : Value) → with_named l (new.attribute.items ++ name) found ≡ with_named l (l.attribute.items ++ (lower (until ends_attribute_name text) ++ name)) found)
@@ -165,10 +171,12 @@ bare_over l new text rest same kept =
     ∙ ap (λ t. tags_with l (kept_with l (new.value.items ++ more)) (attributes t)) (from_over ends_bare_value text rest)
     ∙ ap (λ (to : Lexer). tags_with to (kept_with to (new.value.items ++ more)) (attributes (from ends_bare_value (from ends_bare_value text ++ rest)))) (sym same)
 
-pub tag_name_ran : (l new : Lexer) (text front left rest : List ℕ) → new.name.items ≡ l.name.items ++ lower front → front ≡ until ends_tag_name text → left ≡ from ends_tag_name text
-    → in_tag_name l (text ++ rest) ≡ in_tag_name new (left ++ rest)
-tag_name_ran l new text front left rest name before behind =
-    tag_name_over l.name.items text rest
-    ∙ ap (λ f. tags_after (start_tag ((l.name.items ++ lower f) ++ lower (until ends_tag_name (from ends_tag_name text ++ rest))) (attributes (from ends_tag_name (from ends_tag_name text ++ rest))))) (sym before)
-    ∙ ap (λ n. tags_after (start_tag (n ++ lower (until ends_tag_name (from ends_tag_name text ++ rest))) (attributes (from ends_tag_name (from ends_tag_name text ++ rest))))) (sym name)
-    ∙ ap (λ t. tags_after (start_tag (new.name.items ++ lower (until ends_tag_name (t ++ rest))) (attributes (from ends_tag_name (t ++ rest))))) (sym behind)
+pub end_name_over : (l new : Lexer) (text rest : List ℕ) → new ≡ record l { name = new.name } → PutsEndName l new (until ends_tag_name text)
+    → in_end_tag_name l (text ++ rest) ≡ in_end_tag_name new (from ends_tag_name text ++ rest)
+end_name_over l new text rest same named =
+    let left = from ends_tag_name text ++ rest in
+    let more = lower (until ends_tag_name left) in
+    ap (λ n. tags_after l.context (end_tag n (attributes (from ends_tag_name (text ++ rest))))) (name_over ends_tag_name l.name.items text rest ∙ append_assoc l.name.items (lower (until ends_tag_name text)) more)
+    ∙ ap (λ t. tags_after l.context (end_tag (l.name.items ++ (lower (until ends_tag_name text) ++ more)) (attributes t))) (from_over ends_tag_name text rest)
+    ∙ sym (named more (attributes (from ends_tag_name left)))
+    ∙ ap (λ (to : Lexer). tags_after to.context (end_tag (new.name.items ++ more) (attributes (from ends_tag_name left)))) (sym same)

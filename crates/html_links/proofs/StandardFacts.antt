@@ -1,8 +1,11 @@
--- The standard's own names and samples hold of the definitions: links, raw text elements, character references, comments (HTML Standard, sections 4.2.4, 4.6.1, 13.1.2, 13.1.4 and 13.2.5).
+-- The standard's own names and samples hold of the definitions: links, raw text elements, character references, comments, foreign content (HTML Standard, sections 4.2.4, 4.6.1, 13.1.2, 13.1.4, 13.2.5 and 13.2.6.5).
 use Rattle.std.proofs.Common.{◌≡◌, ℕ, List, [], ◌∷◌, Option, Some, None, true, false, if◌then◌else◌, map, refl}
 use Rattle.std.specs.Str.{bytes_eq}
 use Rattle.std.specs.Prelude.{codes}
 use Rattle.html_links.specs.Pieces.{Tag}
+use Rattle.html_links.specs.Contexts.{outermost, broken, left}
+use Rattle.html_links.specs.declared.context.Syntax.{Syntax}
+use Rattle.html_links.specs.declared.context.Syntax.TheVariants as syntax
 use Rattle.html_links.specs.Markup.{is_raw, start_tags}
 use Rattle.html_links.specs.References.{Reference, reference_at}
 use Rattle.html_links.specs.Links.{Row, link_table, kind_in, related, pressed, refreshed, is_robots, forbids}
@@ -105,8 +108,32 @@ abbrev bare : List ℕ → List Tag
 bare name = record { name = name; attributes = [] } ∷ []
 
 -- start tags alone are tags, a comment ends at `-->`, and a script's content has none
-samples : map start_tags (codes "a<B>" ∷ codes "</b>" ∷ codes "<b" ∷ codes "< b>" ∷ codes "<!--<b>--><i>" ∷ codes "<!-- -- ><b>" ∷ codes "<!b><i>" ∷ codes "<?b><i>" ∷ codes "</ b><i>" ∷ codes "<title><b></title ><i>" ∷ [])
+samples : map (start_tags (outermost syntax.Html)) (codes "a<B>" ∷ codes "</b>" ∷ codes "<b" ∷ codes "< b>" ∷ codes "<!--<b>--><i>" ∷ codes "<!-- -- ><b>" ∷ codes "<!b><i>" ∷ codes "<?b><i>" ∷ codes "</ b><i>" ∷ codes "<title><b></title ><i>" ∷ [])
     ≡ bare (codes "b") ∷ [] ∷ [] ∷ [] ∷ bare (codes "i") ∷ [] ∷ bare (codes "i") ∷ bare (codes "i") ∷ bare (codes "i")
     ∷ (record { name = codes "title"; attributes = [] } ∷ bare (codes "i")) ∷ []
-unfolding start_tags
+unfolding start_tags broken left
 samples = refl
+
+-- the names of the start tags of a text
+abbrev names : Syntax → List ℕ → List (List ℕ)
+names s text = map (λ (tag : Tag). tag.name) (start_tags (outermost s) text)
+
+-- in foreign content no element begins raw text, until it ends, in an integration point, or behind a tag that ends it
+foreign : map (names syntax.Html) (codes "<svg><style><a></svg><style><a>" ∷ codes "<svg><desc><style><a>" ∷ codes "<svg><desc/><style><a>" ∷ codes "<math><mi><style><a></style></mi><style><a>" ∷ codes "<svg><p><style><a>" ∷ codes "<svg></p><style><a>" ∷ codes "<script/><a>" ∷ [])
+    ≡ (codes "svg" ∷ codes "style" ∷ codes "a" ∷ codes "style" ∷ []) ∷ (codes "svg" ∷ codes "desc" ∷ codes "style" ∷ [])
+    ∷ (codes "svg" ∷ codes "desc" ∷ codes "style" ∷ codes "a" ∷ []) ∷ (codes "math" ∷ codes "mi" ∷ codes "style" ∷ codes "style" ∷ codes "a" ∷ [])
+    ∷ (codes "svg" ∷ codes "p" ∷ codes "style" ∷ []) ∷ (codes "svg" ∷ codes "style" ∷ []) ∷ (codes "script" ∷ []) ∷ []
+unfolding start_tags broken left
+foreign = refl
+
+-- there and in XML a CDATA section is text
+sections : map (names syntax.Html) (codes "<svg><![CDATA[<a>]]]><i>" ∷ codes "<svg><![CDATA<a><i>" ∷ codes "<![CDATA[<a>]]><i>" ∷ [])
+    ≡ (codes "svg" ∷ codes "i" ∷ []) ∷ (codes "svg" ∷ codes "i" ∷ []) ∷ (codes "i" ∷ []) ∷ []
+unfolding start_tags broken left
+sections = refl
+
+-- in XML no element begins raw text
+xml : map (names syntax.Xml) (codes "<script/><a>" ∷ codes "<svg><desc><style><a>" ∷ codes "<![CDATA[<a>]]><i>" ∷ [])
+    ≡ (codes "script" ∷ codes "a" ∷ []) ∷ (codes "svg" ∷ codes "desc" ∷ codes "style" ∷ codes "a" ∷ []) ∷ (codes "i" ∷ []) ∷ []
+unfolding start_tags broken left
+xml = refl

@@ -3,6 +3,7 @@ use Rattle.std.specs.Prelude.{ℕ, Bool, false, ◌||◌, List, [], ◌∷◌, �
 use Rattle.std.specs.Str.{bytes_eq}
 use Rattle.std.specs.List.{list_any}
 use Rattle.html_links.specs.Pieces.{Attribute, Tag}
+use Rattle.html_links.specs.Contexts.{Context}
 use Rattle.html_links.specs.Markup.{start_tags}
 use Rattle.html_links.specs.declared.asked.AskedName.{AskedName}
 use Rattle.html_links.specs.declared.asked.AskedName.TheVariants.{Href, XlinkHref, Src, Background, LongDesc, LowSrc, Poster, Data, SrcSet, ImageSrcSet, Rel, OfType, HttpEquiv, Style, Name, Content}
@@ -14,27 +15,7 @@ use Rattle.html_links.specs.Links.{link_table}
 unfoldable pub is_asked_element : List ℕ → Bool
 is_asked_element name = bytes_eq name (codes "base") || bytes_eq name (codes "meta") || list_any (λ row. bytes_eq name row.element) link_table
 
--- attributes that a rule names
-abbrev pub is_asked_attribute : List ℕ → Bool
-is_asked_attribute name =
-    bytes_eq name (codes "href")
-    || bytes_eq name (codes "xlink:href")
-    || bytes_eq name (codes "src")
-    || bytes_eq name (codes "background")
-    || bytes_eq name (codes "longdesc")
-    || bytes_eq name (codes "lowsrc")
-    || bytes_eq name (codes "poster")
-    || bytes_eq name (codes "data")
-    || bytes_eq name (codes "srcset")
-    || bytes_eq name (codes "imagesrcset")
-    || bytes_eq name (codes "rel")
-    || bytes_eq name (codes "type")
-    || bytes_eq name (codes "http-equiv")
-    || bytes_eq name (codes "style")
-    || bytes_eq name (codes "name")
-    || bytes_eq name (codes "content")
-
--- their names
+-- the names of attributes that a rule names
 abbrev pub asked_name : AskedName → List ℕ
 asked_name Href = codes "href"
 asked_name XlinkHref = codes "xlink:href"
@@ -53,6 +34,14 @@ asked_name Style = codes "style"
 asked_name Name = codes "name"
 asked_name Content = codes "content"
 
+-- these attributes
+abbrev pub asked_names : List AskedName
+asked_names = Href ∷ XlinkHref ∷ Src ∷ Background ∷ LongDesc ∷ LowSrc ∷ Poster ∷ Data ∷ SrcSet ∷ ImageSrcSet ∷ Rel ∷ OfType ∷ HttpEquiv ∷ Style ∷ Name ∷ Content ∷ []
+
+-- whether a rule names attributes of that name
+abbrev pub is_asked_attribute : List ℕ → Bool
+is_asked_attribute name = list_any (λ n. bytes_eq name (asked_name n)) asked_names
+
 -- whether an attribute of that name is kept
 abbrev pub is_wanted : Wanted → List ℕ → Bool
 is_wanted wanted.Nothing name = false
@@ -68,18 +57,19 @@ abbrev pub asked_attributes : Wanted → List Attribute → List Attribute
 asked_attributes w [] = []
 asked_attributes w (a ∷ others) = if is_wanted w a.name then a ∷ asked_attributes w others else asked_attributes w others
 
--- a tag with the attributes that were kept; nothing, where it has none and no rule names its element
+-- a tag with the attributes that were kept; nothing, if none was
 abbrev pub given : Wanted → List ℕ → List Attribute → List Tag
 given wanted.Nothing name kept = []
 given wanted.Style name [] = []
 given wanted.Style name (a ∷ others) = record { name = name; attributes = a ∷ others } ∷ []
-given wanted.All name kept = record { name = name; attributes = kept } ∷ []
+given wanted.All name [] = []
+given wanted.All name (a ∷ others) = record { name = name; attributes = a ∷ others } ∷ []
 
 -- the tags that a rule asks for, with their attributes that a rule names
 abbrev pub asked : List Tag → List Tag
 asked [] = []
 asked (tag ∷ others) = given (wanted_of tag.name) tag.name (asked_attributes (wanted_of tag.name) tag.attributes) ++ asked others
 
--- those of a body
-unfoldable pub asked_tags : List ℕ → List Tag
-asked_tags body = asked (start_tags body)
+-- those of a text
+unfoldable pub asked_tags : Context → List ℕ → List Tag
+asked_tags k text = asked (start_tags k text)

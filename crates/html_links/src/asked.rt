@@ -1,7 +1,9 @@
 //! What the rules ask of start tags: elements and attributes by their names in lower case.
 ghost use Rattle.std.specs.Prelude.{◌≡◌, true, false, codes, MatchOption};
+ghost use Rattle.std.specs.List.{list_any};
 ghost use Rattle.std.specs.Str.{bytes_eq};
-ghost use Rattle.html_links.specs.Asked.{is_asked_element, is_asked_attribute, asked_name, wanted_of, is_wanted};
+ghost use Rattle.html_links.specs.Asked.{is_asked_element, is_asked_attribute, asked_name, asked_names, wanted_of, is_wanted};
+ghost use Rattle.html_links.specs.inner.Rows.{names_with};
 
 use crate::bytes::is_name;
 use crate::table::{has_row, rows_for};
@@ -40,41 +42,9 @@ impl AskedName {
     pub(crate) fn named(name: &[u8]) -> Option<AskedName>
         ensures { MatchOption result (is_asked_attribute name.now ≡ false) (λ n. name.now ≡ asked_name n) }
     {
-        // One by one, as the proof of a match over texts is several times as long.
-        if is_name(name, b"href") {
-            Some(AskedName::Href)
-        } else if is_name(name, b"xlink:href") {
-            Some(AskedName::XlinkHref)
-        } else if is_name(name, b"src") {
-            Some(AskedName::Src)
-        } else if is_name(name, b"background") {
-            Some(AskedName::Background)
-        } else if is_name(name, b"longdesc") {
-            Some(AskedName::LongDesc)
-        } else if is_name(name, b"lowsrc") {
-            Some(AskedName::LowSrc)
-        } else if is_name(name, b"poster") {
-            Some(AskedName::Poster)
-        } else if is_name(name, b"data") {
-            Some(AskedName::Data)
-        } else if is_name(name, b"srcset") {
-            Some(AskedName::SrcSet)
-        } else if is_name(name, b"imagesrcset") {
-            Some(AskedName::ImageSrcSet)
-        } else if is_name(name, b"rel") {
-            Some(AskedName::Rel)
-        } else if is_name(name, b"type") {
-            Some(AskedName::OfType)
-        } else if is_name(name, b"http-equiv") {
-            Some(AskedName::HttpEquiv)
-        } else if is_name(name, b"style") {
-            Some(AskedName::Style)
-        } else if is_name(name, b"name") {
-            Some(AskedName::Name)
-        } else if is_name(name, b"content") {
-            Some(AskedName::Content)
-        } else {
-            None
+        match name {
+            [first, ..] => find(names_with(*first), name),
+            [] => None,
         }
     }
 
@@ -112,6 +82,64 @@ impl AskedName {
             AskedName::Content => b"content",
         }
     }
+}
+
+// The attributes by the first letters of their names, so that most names are compared with few of them.
+static B: [AskedName; 1] = [AskedName::Background];
+
+static C: [AskedName; 1] = [AskedName::Content];
+
+static D: [AskedName; 1] = [AskedName::Data];
+
+static H: [AskedName; 2] = [AskedName::Href, AskedName::HttpEquiv];
+
+static I: [AskedName; 1] = [AskedName::ImageSrcSet];
+
+static L: [AskedName; 2] = [AskedName::LongDesc, AskedName::LowSrc];
+
+static N: [AskedName; 1] = [AskedName::Name];
+
+static P: [AskedName; 1] = [AskedName::Poster];
+
+static R: [AskedName; 1] = [AskedName::Rel];
+
+static S: [AskedName; 3] = [AskedName::Src, AskedName::SrcSet, AskedName::Style];
+
+static T: [AskedName; 1] = [AskedName::OfType];
+
+static X: [AskedName; 1] = [AskedName::XlinkHref];
+
+/// The attributes whose names begin with that byte.
+fn names_with(first: u8) -> &'static [AskedName]
+    ensures { result.now ≡ names_with first asked_names }
+{
+    match first {
+        b'b' => &B,
+        b'c' => &C,
+        b'd' => &D,
+        b'h' => &H,
+        b'i' => &I,
+        b'l' => &L,
+        b'n' => &N,
+        b'p' => &P,
+        b'r' => &R,
+        b's' => &S,
+        b't' => &T,
+        b'x' => &X,
+        _ => &[],
+    }
+}
+
+/// The one of these attributes that has that name.
+fn find(names: &[AskedName], name: &[u8]) -> Option<AskedName>
+    ensures { MatchOption result (list_any (λ n. bytes_eq name.now (asked_name n)) names.now ≡ false) (λ n. name.now ≡ asked_name n) }
+{
+    for asked in names {
+        if is_name(name, asked.name()) {
+            return Some(*asked);
+        }
+    }
+    None
 }
 
 /// Which attributes of a tag are kept.

@@ -19,7 +19,7 @@ impl RawElement {
     pub(crate) fn named(name: &[u8]) -> Option<RawElement>
         ensures { MatchOption result (is_raw name.now ≡ false) (λ e. name.now ≡ raw_name e) }
     {
-        // One by one, as in `AskedName::named`.
+        // One by one, as the proof of a match over texts is several times as long.
         if is_name(name, b"script") {
             Some(RawElement::Script)
         } else if is_name(name, b"style") {

@@ -6,6 +6,8 @@ use Rattle.html_links.specs.Lexing.{kept_with, remaining}
 
 -- a lexer behind an attribute of that value
 pub record HasRead (old : Lexer) (value : List ℕ) (new : Lexer) : Type 0 where
+  pub context : new.context ≡ old.context
+  pub opens : new.opens ≡ old.opens
   pub wanted : new.wanted ≡ old.wanted
   pub raw : new.raw ≡ old.raw
   pub name : new.name.items ≡ old.name.items

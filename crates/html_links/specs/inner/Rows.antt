@@ -1,8 +1,9 @@
--- Rows of the link table by the first bytes of their elements.
+-- Rows of the link table by the first bytes of their elements, and attributes by the first bytes of their names.
 use Rattle.std.specs.Prelude.{ℕ, Bool, false, List, [], ◌∷◌, if◌then◌else◌, ◌==◌}
 use Rattle.html_links.specs.Links.{Row}
 use Rattle.html_links.specs.Asked.{asked_name}
 use Rattle.html_links.specs.declared.table.Row as declared
+use Rattle.html_links.specs.declared.asked.AskedName.{AskedName}
 
 -- a row by its names
 abbrev pub named : declared.Row → Row
@@ -17,3 +18,8 @@ begins_with first (b ∷ bs) = first == b
 abbrev pub rows_with : ℕ → List Row → List Row
 rows_with first [] = []
 rows_with first (r ∷ others) = if begins_with first r.element then r ∷ rows_with first others else rows_with first others
+
+-- the attributes whose names begin with that byte
+abbrev pub names_with : ℕ → List AskedName → List AskedName
+names_with first [] = []
+names_with first (n ∷ others) = if begins_with first (asked_name n) then n ∷ names_with first others else names_with first others

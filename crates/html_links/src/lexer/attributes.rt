@@ -13,23 +13,36 @@ use std::mem;
 
 impl Lexer {
     ghost use Rattle.html_links.specs.Markup.{Value, attributes, value_behind, with_attribute};
-    ghost use Rattle.html_links.specs.Lexing.{with_named, tags_with, kept_with, before_attribute, in_attribute_name, after_attribute_name, before_value, in_quoted_value, in_bare_value};
+    ghost use Rattle.html_links.specs.Lexing.{with_named, tags_with, kept_with, between_attributes, before_attribute, in_attribute_name, after_attribute_name, before_value, in_quoted_value, in_bare_value};
     ghost use Rattle.html_links.specs.inner.Lexing.{HasRead, GivesTag, LeavesTag};
 
     pub(crate) fn before_attribute(&mut self, byte: u8) -> Result<bool, AllocError>
         ensures { IfOk result (λ ends. GivesTag (before_attribute self.old) byte ends self.new) }
     {
         if byte == b'>' {
-            return Ok(self.end_tag());
+            return self.end_tag(false);
         }
-        if is_white(byte) || byte == b'/' {
+        if is_white(byte) {
             self.mode = Mode::BeforeAttribute;
+            return Ok(false);
+        }
+        if byte == b'/' {
+            self.mode = Mode::SelfClosing;
             return Ok(false);
         }
         self.attribute.clear();
         self.push_name(&[byte])?;
         self.mode = Mode::AttributeName;
         Ok(false)
+    }
+
+    pub(crate) fn self_closing(&mut self, byte: u8) -> Result<bool, AllocError>
+        ensures { IfOk result (λ ends. GivesTag (between_attributes true self.old) byte ends self.new) }
+    {
+        if byte == b'>' {
+            return self.end_tag(true);
+        }
+        self.before_attribute(byte)
     }
 
     pub(crate) fn attribute_name(&mut self, byte: u8) -> Result<bool, AllocError>

@@ -1,7 +1,9 @@
 //! Names and ends of tags (HTML Standard, sections 13.2.5.6 to 13.2.5.8).
-ghost use Rattle.std.specs.Prelude.{◌≡◌, ℕ, List, ◌∷◌, ◌++◌, IfOk, OnOk, length, ◌≤◌};
+ghost use Rattle.std.specs.Prelude.{◌≡◌, true, false, ℕ, List, ◌∷◌, ◌++◌, MatchOption, IfOk, OnOk, length, ◌≤◌};
 ghost use Rattle.html_links.specs.Pieces.{from, lower, ends_tag_name};
+ghost use Rattle.html_links.specs.Markup.{begins_raw};
 ghost use Rattle.html_links.specs.Asked.{given, asked_tags};
+ghost use Rattle.html_links.specs.Lexing.{raw_name};
 
 use crate::asked::Wanted;
 use crate::bytes::{Span, ends_tag_name};
@@ -20,8 +22,9 @@ pub(crate) fn push_lower(name: &mut Vec<u8>, text: &[u8]) -> Result<(), AllocErr
 }
 
 impl Lexer {
-    ghost use Rattle.html_links.specs.Markup.{start_tag, end_tag, attributes};
-    ghost use Rattle.html_links.specs.Lexing.{remaining, content, tags_after, in_tag_name, in_end_tag_name, before_attribute};
+    ghost use Rattle.html_links.specs.Contexts.{opened};
+    ghost use Rattle.html_links.specs.Markup.{Attributes, start_tag, end_tag, attributes};
+    ghost use Rattle.html_links.specs.Lexing.{remaining, content, tags_after, in_tag_name, in_end_tag_name, in_raw_end, between_attributes, before_attribute};
     ghost use Rattle.html_links.specs.inner.Lexing.{GivesTag, LeavesTag, tag_if};
 
     pub(crate) fn tag_name(&mut self, byte: u8) -> Result<bool, AllocError>
@@ -36,13 +39,26 @@ impl Lexer {
         Ok(false)
     }
 
-    /// Goes on behind the name of a start tag, and settles whether a rule asks for the tag and what follows it.
+    /// Goes on after the name of a start tag, and settles what is kept of it and what it opens.
     fn begin_attributes(&mut self)
-        ensures { (rest : List ℕ) → tags_after (start_tag self.old.name.items (attributes rest)) ≡ before_attribute self.new rest }
+        ensures { (rest : List ℕ) → tags_after self.old.context (start_tag self.old.context self.old.name.items (attributes rest)) ≡ before_attribute self.new rest }
     {
         self.wanted = Wanted::in_start_tag(&self.name);
-        self.raw = RawElement::named(&self.name);
+        self.raw = self.raw_element();
+        self.opens = self.context.opens(&self.name);
+        self.context.break_out(&self.name);
         self.attributes.clear();
+    }
+
+    /// The element whose text follows the start tag of which this is the name.
+    fn raw_element(&self) -> Option<RawElement>
+        ensures { MatchOption result (begins_raw self.now.context self.now.name.items ≡ false) (λ e. (self.now.name.items ≡ raw_name e) × (begins_raw self.now.context self.now.name.items ≡ true)) }
+    {
+        if self.context.reads_html() {
+            RawElement::named(&self.name)
+        } else {
+            None
+        }
     }
 
     pub(crate) fn tag_name_run<'a>(&mut self, text: &'a [u8]) -> Result<&'a [u8], AllocError>
@@ -56,59 +72,90 @@ impl Lexer {
     }
 
     pub(crate) fn end_tag_name(&mut self, byte: u8) -> Result<bool, AllocError>
-        ensures { IfOk result (λ ends. GivesTag in_end_tag_name byte ends self.new) }
+        ensures { IfOk result (λ ends. GivesTag (in_end_tag_name self.old) byte ends self.new) }
     {
         if ends_tag_name(byte) {
-            return self.end_tag_named(byte);
+            self.context.leave(&self.name);
+            return self.end_tag_attributes(byte);
         }
+        self.push_end_name(&[byte])?;
         self.mode = Mode::EndTagName;
         Ok(false)
     }
 
-    /// Goes on behind the name of an end tag, of which nothing is kept.
-    pub(crate) fn end_tag_named(&mut self, byte: u8) -> Result<bool, AllocError>
-        ensures { IfOk result (λ ends. GivesTag (λ rest. asked_tags (end_tag (attributes rest)).rest) byte ends self.new) }
+    /// Puts bytes to the name of an end tag, if it may say something.
+    #[tactic(auto, using(crate::proofs::Tagging::end_put, crate::proofs::Tagging::end_unheeded))]
+    fn push_end_name(&mut self, bytes: &[u8]) -> Result<(), AllocError>
+        ensures same { OnOk result (self.new ≡ record self.old { name = self.new.name }) }
+        ensures named { OnOk result ((name : List ℕ) (found : Attributes) → tags_after self.old.context (end_tag (self.new.name.items ++ name) found) ≡ tags_after self.old.context (end_tag (self.old.name.items ++ (lower bytes.now ++ name)) found)) }
+    {
+        if self.context.heeds_end_tags() {
+            push_lower(&mut self.name, bytes)?;
+        }
+        Ok(())
+    }
+
+    /// Goes on after the name of an end tag, of which nothing is kept.
+    pub(crate) fn end_tag_attributes(&mut self, byte: u8) -> Result<bool, AllocError>
+        ensures { IfOk result (λ ends. GivesTag (in_raw_end self.old.context) byte ends self.new) }
     {
         self.wanted = Wanted::Nothing;
         self.raw = None;
+        self.opens = None;
         self.before_attribute(byte)
     }
 
-    pub(crate) fn end_tag_name_run<'a>(&mut self, text: &'a [u8]) -> &'a [u8]
-        ensures gives { LeavesTag in_end_tag_name text.now result.now self.new }
-        ensures shorter { length result.now ≤ length text.now }
+    pub(crate) fn end_tag_name_run<'a>(&mut self, text: &'a [u8]) -> Result<&'a [u8], AllocError>
+        ensures gives { IfOk result (λ left. LeavesTag (in_end_tag_name self.old) text.now left.now self.new) }
+        ensures shorter { IfOk result (λ left. length left.now ≤ length text.now) }
     {
+        let (name, left) = Span::TagName.split(text);
+        self.push_end_name(name)?;
         self.mode = Mode::EndTagName;
-        Span::TagName.split(text).1
+        Ok(left)
     }
 
-    /// Ends the tag at its `>`.
-    pub(crate) fn end_tag(&mut self) -> bool
-        ensures { GivesTag (before_attribute self.old) 62 result self.new }
+    /// Ends the tag at its `>`, after a `/` or not.
+    pub(crate) fn end_tag(&mut self, slash: bool) -> Result<bool, AllocError>
+        ensures { IfOk result (λ ends. GivesTag (between_attributes slash self.old) 62 ends self.new) }
     {
-        self.begin_content();
-        self.is_given()
+        self.begin_content(slash)?;
+        Ok(self.is_given())
     }
 
-    /// Whether the tag that has been read is a start tag that may have links.
+    /// Whether the tag that has been read is a start tag of which something was kept.
     fn is_given(&self) -> bool
         ensures { (name : List ℕ) → given self.now.wanted name self.now.attributes.items ≡ tag_if result name self.now.attributes.items }
     {
         match self.wanted {
             Wanted::Nothing => false,
-            Wanted::Style => !self.attributes.is_empty(),
-            Wanted::All => true,
+            Wanted::Style | Wanted::All => !self.attributes.is_empty(),
         }
     }
 
-    /// Goes on behind the tag that has been read.
-    fn begin_content(&mut self)
-        ensures rest { (rest : List ℕ) → asked_tags (content self.old.raw rest) ≡ remaining self.new rest }
-        ensures same { self.new ≡ record self.old { mode = self.new.mode } }
+    /// Goes on after the tag that has been read, which `/>` ends or not.
+    fn begin_content(&mut self, slash: bool) -> Result<(), AllocError>
+        ensures rest { OnOk result ((rest : List ℕ) → asked_tags (opened self.old.opens slash self.old.context) (content self.old.raw rest) ≡ remaining self.new rest) }
+        ensures same { OnOk result (self.new ≡ record self.old { mode = self.new.mode; context = self.new.context }) }
     {
+        self.open_element(slash)?;
         match self.raw {
             Some(element) => self.mode = Mode::RawText(element, 0),
             None => self.mode = Mode::Text,
         }
+        Ok(())
+    }
+
+    /// Opens the element of the tag that has been read, unless `/>` ends it.
+    fn open_element(&mut self, slash: bool) -> Result<(), AllocError>
+        ensures { OnOk result (self.new ≡ record self.old { context = opened self.old.opens slash self.old.context }) }
+    {
+        if slash {
+            return Ok(());
+        }
+        if let Some(scope) = self.opens {
+            self.context.enter(scope)?;
+        }
+        Ok(())
     }
 }

@@ -5,4 +5,4 @@ use Rattle.html_links.proofs.Running.{beyond_over}
 use Rattle.html_links.proofs.lexer.Lexer.passed_run.Goals as goal
 
 pub returns-clause-gives : goal.returns-clause-gives
-returns-clause-gives c = λ rest. rw c.from_byte.ensures.left (ap asked_tags (beyond_over (is 62) c.args.text.now rest))
+returns-clause-gives c = λ rest. rw c.from_byte.ensures.left (ap (asked_tags c.args.self.now.context) (beyond_over (is 62) c.args.text.now rest))

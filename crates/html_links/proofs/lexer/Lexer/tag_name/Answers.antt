@@ -1,4 +1,4 @@
-use Rattle.std.proofs.Common.{◌∷◌, sym, ◌∙◌}
+use Rattle.std.proofs.Common.{◌∷◌, sym, ◌∙◌, refl}
 use Rattle.html_links.specs.declared.lexer.Mode.TheVariants.{TagName}
 use Rattle.html_links.specs.Lexing.{in_tag_name, before_attribute}
 use Rattle.html_links.proofs.Tagging.{handed, tag_name_ended, tag_name_goes_on}
@@ -11,4 +11,5 @@ returns-then-ends_tag_name c =
 
 pub returns : goal.returns
 returns c = λ rest.
-    tag_name_goes_on c.args.self.now (record c.args.self.now { mode = TagName; name = c.push.new.self }) c.args.byte c.to_ascii_lowercase.result rest (sym c.ends_tag_name.ensures ∙ c.if-ends_tag_name.false) c.to_ascii_lowercase.ensures.value c.in_ok-push.ensures.items
+    tag_name_goes_on c.args.self.now (record c.args.self.now { mode = TagName; name = c.push.new.self }) c.args.byte c.to_ascii_lowercase.result rest
+    (sym c.ends_tag_name.ensures ∙ c.if-ends_tag_name.false) c.to_ascii_lowercase.ensures.value c.in_ok-push.ensures.items refl
