@@ -2,9 +2,10 @@
 use Rattle.std.specs.Prelude.{◌≡◌, ℕ, Bool, List, [], Option, Some, None}
 use Rattle.address.specs.Address.{AddressText}
 use Rattle.robots_rules.specs.Access.{RuleSetValue}
+use Rattle.kept_bodies.specs.Bodies.{BodyValue, no_body}
 use Rattle.fetcher.specs.declared.outcome.Outcome.{Outcome}
 use Rattle.fetcher.specs.declared.outcome.Outcome.TheVariants as outcome
-use Rattle.response_answer.specs.Digests.{digest_of, kept_body, target_of}
+use Rattle.response_answer.specs.Digests.{digest_of, body_of, target_of}
 use Rattle.answer_notes.specs.RobotsAnswers.{none_allowed, rules_by_status}
 use Rattle.answer_notes.specs.declared.told.Told.{Told}
 use Rattle.answer_notes.specs.declared.told.Told.TheVariants.{Whole, Fault}
@@ -15,9 +16,9 @@ outcome_told robots at (Whole response) = digest_of robots at response
 outcome_told robots at (Fault kind) = outcome.Fault kind
 
 -- the body that is kept of it
-abbrev pub body_told : Told → List ℕ
-body_told (Whole response) = kept_body response.head.status response.body
-body_told (Fault kind) = []
+abbrev pub body_told : Told → BodyValue
+body_told (Whole response) = body_of response.head response.body
+body_told (Fault kind) = no_body
 
 -- where it redirects from the address that was asked
 abbrev pub target_told : AddressText → Told → Option AddressText

@@ -37,7 +37,7 @@ impl Told {
             Told::Whole(given) => digest(alloc, at, given.response(), robots),
             Told::Fault(kind) => Ok(Answer {
                 outcome: Outcome::Fault(*kind),
-                body: Body::new(Vec::new(alloc)),
+                body: Body::none(alloc),
             }),
         }
     }
@@ -56,7 +56,7 @@ impl Told {
             Told::Whole(given) => into_answer(alloc, at, given.into_response(), robots),
             Told::Fault(kind) => Ok(Answer {
                 outcome: Outcome::Fault(kind),
-                body: Body::new(Vec::new(alloc)),
+                body: Body::none(alloc),
             }),
         }
     }

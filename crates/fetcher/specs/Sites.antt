@@ -1,6 +1,8 @@
 -- Steady sites: each address has one outcome there, which is no fault, and each origin one rule set.
 use Rattle.std.specs.Prelude.{◌≡◌, ℕ, false, List, [], refl}
 use Rattle.robots_rules.specs.Access.{RuleSetValue}
+use Rattle.kept_bodies.specs.Bodies.{BodyValue, no_body}
+use Rattle.kept_bodies.specs.declared.body_kind.BodyKind.TheVariants.{Html}
 use Rattle.fetcher.specs.declared.outcome.Outcome.{Outcome}
 use Rattle.fetcher.specs.declared.outcome.Outcome.TheVariants.{Page, Moved, Leaf, Fault}
 use Rattle.fetcher.specs.declared.status.TheConstants.{NOT_FOUND}
@@ -11,9 +13,14 @@ pub record SiteAnswers : Type 0 where
   pub outcome : List ℕ → Outcome
   pub rules : List ℕ → RuleSetValue
 
--- such a site gives an address its outcome, with an empty body
-abbrev pub GivesOutcome : SiteAnswers → List ℕ → Outcome → List ℕ → Type 0
-GivesOutcome site at x body = (x ≡ site.outcome at) × (body ≡ [])
+-- the body of an outcome that is told alone: no bytes, which are HTML if it is a page
+abbrev pub bare_body : Outcome → BodyValue
+bare_body (Page status links) = record { kind = Html; bytes = [] }
+bare_body other = no_body
+
+-- such a site gives an address its outcome, with the body of an outcome that is told alone
+abbrev pub GivesOutcome : SiteAnswers → List ℕ → Outcome → BodyValue → Type 0
+GivesOutcome site at x body = (x ≡ site.outcome at) × (body ≡ bare_body x)
 
 -- such a site gives an origin its rule set
 abbrev pub GivesRules : SiteAnswers → List ℕ → RuleSetValue → Type 0
@@ -54,7 +61,7 @@ pub without_faults-IsSteady : (site : SiteAnswers) → IsSteady GivesOutcome Giv
 without_faults-IsSteady site = (
   without_faults site,
   record {
-    given = λ at. ([], (refl, refl));
+    given = λ at. (bare_body (unless_fault (site.outcome at)), (refl, refl));
     only = λ at x body h. h.0;
     no_fault = λ at. is_fault-unless_fault (site.outcome at);
     given_rules = λ of. refl;

@@ -15,6 +15,6 @@ pub use answer::Answer;
 pub use edge::{Edge, EdgeKind, Edges};
 pub use fault_kind::{FaultClass, FaultKind};
 pub use fetcher::{Ask, Fetcher, SteadyFetcher};
-pub use kept_bodies::Body;
+pub use kept_bodies::{Body, BodyKind};
 pub use outcome::Outcome;
 pub use status::{FIRST_SUCCESS, LAST_SUCCESS, NOT_FOUND, REDIRECTS, is_redirect, is_successful};

@@ -190,11 +190,12 @@ impl<B: Drop> Harvest<B> {
 
 impl Harvest<Body> {
     ghost use Rattle.std.specs.Prelude.{◌≡◌, ◌<◌, Some, length, slice_get};
+    ghost use Rattle.kept_bodies.specs.Bodies.{bytes_of};
 
     /// The bytes of the page at that place in [`Harvest::kept`], counted from 0. Takes no memory.
     pub fn body(&self, i: usize) -> &[u8]
         requires { i < length self.now.kept }
-        ensures { slice_get self.now.bodies i ≡ Some result.now }
+        ensures { slice_get (bytes_of self.now.bodies) i ≡ Some result.now }
     {
         self.kept_body(i).as_slice()
     }

@@ -1,6 +1,7 @@
 -- How a chain of redirects grows.
 use Rattle.std.proofs.Common.{◌≡◌, ◌∙◌, ◌<◌, ◌≤◌, ◌+◌, ◌++◌, ℕ, zero, suc, List, [], ◌∷◌, inl, inr, arith, ap, subst, sym, length}
 use Rattle.std.proofs.lemmas.List.{length-append}
+use Rattle.kept_bodies.specs.Bodies.{BodyValue}
 use Rattle.address.specs.Address.{AddressText}
 use Rattle.robots_rules.specs.Access.{RuleSetValue}
 use Rattle.response_reader.specs.Wire.{counted}
@@ -15,7 +16,7 @@ use Rattle.http_fetcher.specs.Chains.{IsChain, SaysHop}
 use Rattle.http_fetcher.specs.Fetching.{Fetching, IsGiven, IsToldByTries}
 
 -- what was told over a connection is given, by a fetcher with the settings of another
-pub given_by : {C W : Type 0} (connects : Connects C W) (wires : Wires W) (first old new : Fetching C) (at : AddressText) (answer : Answer (List ℕ))
+pub given_by : {C W : Type 0} (connects : Connects C W) (wires : Wires W) (first old new : Fetching C) (at : AddressText) (answer : Answer BodyValue)
     → old.robots ≡ first.robots → old.keeps ≡ first.keeps → IsToldByTries connects wires old new at answer
     → IsGiven connects wires first at answer.outcome answer.body
 given_by connects wires first old new at answer robots keeps told =
@@ -30,15 +31,15 @@ pub may_follow : (x : Outcome) (body : List ℕ) (n : ℕ) (hop : Hop) (next : A
 may_follow x body n hop next is says = let leads : SaysHop x body n (Next next) = says_of x body n hop (Next next) is says in leads.0
 
 -- an answer that decides ends a chain
-pub chain_ends : (Told : AddressText → Outcome → List ℕ → Type 0) (n : ℕ) (at : AddressText) (rules : RuleSetValue) (x : Outcome) (body : List ℕ)
-    → Told at x body → SaysHop x body n (Last rules) → IsChain Told n at rules
+pub chain_ends : (Told : AddressText → Outcome → BodyValue → Type 0) (n : ℕ) (at : AddressText) (rules : RuleSetValue) (x : Outcome) (body : BodyValue)
+    → Told at x body → SaysHop x body.bytes n (Last rules) → IsChain Told n at rules
 unfolding IsChain
 chain_ends Told zero at rules x body told says = (x, body, told, says)
 chain_ends Told (suc n) at rules x body told says = (x, body, told, inl says)
 
 -- a chain goes on behind a redirect
-pub chain_goes_on : (Told : AddressText → Outcome → List ℕ → Type 0) (n m : ℕ) (at next : AddressText) (rules : RuleSetValue) (x : Outcome) (body : List ℕ)
-    → Told at x body → SaysHop x body n (Next next) → n ≡ m + 1 → IsChain Told m next rules → IsChain Told n at rules
+pub chain_goes_on : (Told : AddressText → Outcome → BodyValue → Type 0) (n m : ℕ) (at next : AddressText) (rules : RuleSetValue) (x : Outcome) (body : BodyValue)
+    → Told at x body → SaysHop x body.bytes n (Next next) → n ≡ m + 1 → IsChain Told m next rules → IsChain Told n at rules
 unfolding IsChain
 chain_goes_on Told zero m at next rules x body told says is chain = let none : 0 < 0 = says.0 in absurd (omega arith)
 chain_goes_on Told (suc n) m at next rules x body told says is chain =

@@ -1,6 +1,7 @@
 -- What came over connections that were kept.
 use Rattle.std.proofs.Common.{◌≡◌, ◌⊎◌, ◌∙◌, ℕ, List, Bool, true, Option, Result, Ok, Err, Some, None, inl, inr, subst}
 use Rattle.std.specs.Prelude.{IfOk, IfSome, IsTrue, OnOk}
+use Rattle.kept_bodies.specs.Bodies.{BodyValue}
 use Rattle.response_reader.specs.Wire.{counted}
 use Rattle.response_reader.specs.declared.wire.Wire.{Ghosts as Wires}
 use Rattle.address.specs.Address.{AddressText, OriginText, origin_of}
@@ -36,7 +37,7 @@ module _ {C W : Type 0} (connects : Connects C W) (wires : Wires W) where
       by (inr x) = inr (x.0 ∙ is, x.1, given, left, leaves x.2, x.3)
 
   -- an answer over a new connection, where before it none was taken, or one over which no byte came
-  pub told_second : (old mid new : Fetching C) (at : AddressText) (answer : Answer (List ℕ)) → connects.made mid.connect ≡ connects.made old.connect
+  pub told_second : (old mid new : Fetching C) (at : AddressText) (answer : Answer BodyValue) → connects.made mid.connect ≡ connects.made old.connect
       → connects.refused mid.connect ≡ connects.refused old.connect → mid.robots ≡ old.robots → mid.keeps ≡ old.keeps
       → Stays (connects.gives old.connect) (connects.gives mid.connect) → IsUntold connects wires old mid at
       → connects.taken new.connect ≡ connects.taken mid.connect → connects.made new.connect ≡ counted (connects.made mid.connect) 1

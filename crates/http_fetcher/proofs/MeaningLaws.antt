@@ -1,5 +1,6 @@
 -- What was told over connections is what the site may answer.
 use Rattle.std.proofs.Common.{ℕ, zero, suc, List, inl, inr}
+use Rattle.kept_bodies.specs.Bodies.{BodyValue}
 use Rattle.address.specs.Address.{AddressText}
 use Rattle.robots_rules.specs.Access.{RuleSetValue}
 use Rattle.response_reader.specs.declared.wire.Wire.{Ghosts as Wires}
@@ -11,22 +12,22 @@ use Rattle.http_fetcher.specs.Fetching.{AnswersBytes, ComesOver, Fetching, IsGiv
 use Rattle.http_fetcher.specs.Meanings.{MayAnswer}
 
 -- what bytes say may be answered
-may_answer_bytes : (question : Question) (before after : ℕ) (answer : Answer (List ℕ)) (bytes : List ℕ)
+may_answer_bytes : (question : Question) (before after : ℕ) (answer : Answer BodyValue) (bytes : List ℕ)
     → AnswersBytes question before after answer bytes → MayAnswer question.robots question.at answer.outcome answer.body
 may_answer_bytes question before after answer bytes (inl digest) = inl (bytes, digest)
 may_answer_bytes question before after answer bytes (inr (fault, kind, is, has, risen, outcome, none)) =
     inr (inl (bytes, (fault, kind, is, has, (outcome, none))))
 
 -- what comes over a wire may be answered
-may_answer_over : {W : Type 0} (wires : Wires W) (question : Question) (given : W) (answer : Answer (List ℕ))
+may_answer_over : {W : Type 0} (wires : Wires W) (question : Question) (given : W) (answer : Answer BodyValue)
     → ComesOver wires question given answer → MayAnswer question.robots question.at answer.outcome answer.body
 may_answer_over wires question given answer (asked, left, inl unwritten) = inr (inr (inr (unwritten.1, unwritten.2)))
 may_answer_over wires question given answer (asked, left, inr (sent, silent, (bytes, tells, answers))) =
     may_answer_bytes question (wires.failed asked) (wires.failed left) answer bytes answers
 
 -- a chain of answers that were told is one of answers that others were told too
-chain_of_more : (Told More : AddressText → Outcome → List ℕ → Type 0) (n : ℕ) (at : AddressText) (rules : RuleSetValue)
-    → ((at : AddressText) (x : Outcome) (body : List ℕ) → Told at x body → More at x body) → IsChain Told n at rules → IsChain More n at rules
+chain_of_more : (Told More : AddressText → Outcome → BodyValue → Type 0) (n : ℕ) (at : AddressText) (rules : RuleSetValue)
+    → ((at : AddressText) (x : Outcome) (body : BodyValue) → Told at x body → More at x body) → IsChain Told n at rules → IsChain More n at rules
 unfolding IsChain
 chain_of_more Told More zero at rules more (x, body, told, says) = (x, body, more at x body told, says)
 chain_of_more Told More (suc n) at rules more (x, body, told, inl ends) = (x, body, more at x body told, inl ends)
@@ -35,13 +36,13 @@ chain_of_more Told More (suc n) at rules more (x, body, told, inr (next, on, res
 
 module _ {C W : Type 0} (connects : Connects C W) (wires : Wires W) where
   -- what was told over a connection, or that none was made, may be answered
-  pub may_answer_anew : (old new : Fetching C) (at : AddressText) (answer : Answer (List ℕ))
+  pub may_answer_anew : (old new : Fetching C) (at : AddressText) (answer : Answer BodyValue)
       → IsToldAnew connects wires old new at answer → MayAnswer old.robots at answer.outcome answer.body
   may_answer_anew old new at answer (inl unmade) = inr (inr (inl (unmade.1, unmade.2)))
   may_answer_anew old new at answer (inr (given, gave, over)) = may_answer_over wires (question_of old at) given answer over
 
   -- what was told, over a connection that was kept or a new one, may be answered
-  pub may_answer : (old new : Fetching C) (at : AddressText) (answer : Answer (List ℕ))
+  pub may_answer : (old new : Fetching C) (at : AddressText) (answer : Answer BodyValue)
       → IsToldByTries connects wires old new at answer → MayAnswer old.robots at answer.outcome answer.body
   may_answer old new at answer (inl (made, taken, holds, (given, gave, over))) = may_answer_over wires (question_of old at) given answer over
   may_answer old new at answer (inr (made, before, told)) = may_answer_anew old new at answer told

@@ -1,6 +1,7 @@
 -- What was told of a hop says what its answer says.
 use Rattle.std.proofs.Common.{◌≡◌, ◌∙◌, ℕ, zero, suc, ◌==◌, ◌||◌, ◌⊎◌, Bool, true, false, List, Option, Some, None, refl, sym, subst, inl, inr}
 use Rattle.std.proofs.lemmas.Bool.{eqb-true, false≢true}
+use Rattle.kept_bodies.specs.Bodies.{BodyValue}
 use Rattle.address.specs.Address.{AddressText}
 use Rattle.robots_rules.specs.Access.{RuleSetValue}
 use Rattle.response_reader.specs.Response.{ResponseParts}
@@ -91,7 +92,7 @@ whole_says robots at r (suc left) (Last rules) (Some target) is h = let none = h
 
 -- what was told of an address says of a hop what its answer says
 pub tells_says : (robots : Bool) (at : AddressText) (told : Told) (left : ℕ) (hop : Hop) → IsHopTold at told left hop
-    → SaysHop (outcome_told robots at told) (body_told told) left hop
+    → SaysHop (outcome_told robots at told) (body_told told).bytes left hop
 tells_says robots at (Whole r) left hop h = whole_says robots at r left hop (target_of at r.head) refl h
 tells_says robots at (Fault kind) left (Next next) h = let some = h.1 in absurd cc
 tells_says robots at (Fault kind) left (Last rules) h = (tt, h.1)
@@ -101,7 +102,7 @@ pub tells_of : (at : AddressText) (told : Told) (left : ℕ) (hop read : Hop) �
 tells_of at told left hop read is tells = subst (λ h. IsHopTold at told left h) is tells
 
 -- an answer that says what was told over a connection was told over it
-pub told_by_answer : {C W : Type 0} (connects : Connects C W) (wires : Wires W) (old now new : Fetching C) (at : AddressText) (told : Told) (answer : Answer (List ℕ))
+pub told_by_answer : {C W : Type 0} (connects : Connects C W) (wires : Wires W) (old now new : Fetching C) (at : AddressText) (told : Told) (answer : Answer BodyValue)
     → now ≡ new → new.robots ≡ old.robots → answer.outcome ≡ outcome_told now.robots at told → answer.body ≡ body_told told
     → IsToldByTries connects wires old new at (answer_told old.robots at told) → IsToldByTries connects wires old now at answer
 told_by_answer connects wires old now new at told answer same is outcome_is body_is h =

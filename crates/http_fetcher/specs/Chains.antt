@@ -3,6 +3,7 @@ use Rattle.std.specs.Prelude.{◌≡◌, ◌<◌, ◌⊎◌, ⊤, ℕ, zero, suc
 use Rattle.address.specs.Address.{AddressText, OriginText}
 use Rattle.response_reader.specs.Wire.{counted}
 use Rattle.robots_rules.specs.Access.{RuleSetValue}
+use Rattle.kept_bodies.specs.Bodies.{BodyValue}
 use Rattle.fetcher.specs.declared.outcome.Outcome.{Outcome}
 use Rattle.fetcher.specs.declared.outcome.Outcome.TheVariants.{Page, Moved, Leaf, Fault}
 use Rattle.answer_notes.specs.RobotsAnswers.{all_allowed, none_allowed, rules_by_status}
@@ -34,11 +35,11 @@ SaysHop outcome file left (Next next) = (0 < left) × LeadsTo outcome next
 SaysHop outcome file left (Last rules) = IsLast outcome left × (rules ≡ rules_by outcome file)
 
 -- answers that were told give these rules: the first for this address, each further one for the target of a redirect, of which so many may still be followed
-unfoldable pub IsChain : (AddressText → Outcome → List ℕ → Type 0) → ℕ → AddressText → RuleSetValue → Type 0
-IsChain Told zero at rules = (x : Outcome) × (body : List ℕ) × Told at x body × SaysHop x body zero (Last rules)
+unfoldable pub IsChain : (AddressText → Outcome → BodyValue → Type 0) → ℕ → AddressText → RuleSetValue → Type 0
+IsChain Told zero at rules = (x : Outcome) × (body : BodyValue) × Told at x body × SaysHop x body.bytes zero (Last rules)
 IsChain Told (suc n) at rules =
-    (x : Outcome) × (body : List ℕ) × Told at x body
-    × (SaysHop x body (suc n) (Last rules) ⊎ ((next : AddressText) × SaysHop x body (suc n) (Next next) × IsChain Told n next rules))
+    (x : Outcome) × (body : BodyValue) × Told at x body
+    × (SaysHop x body.bytes (suc n) (Last rules) ⊎ ((next : AddressText) × SaysHop x body.bytes (suc n) (Next next) × IsChain Told n next rules))
 
 -- the rules stand at the end of a chain with one hop for each connection that was asked for between these counts
 abbrev pub CountsHops : ℕ → ℕ → OriginText → RuleSetValue → Type 0

@@ -10,6 +10,7 @@ use Rattle.response_reader.specs.ReadFaults.{IsReadFault}
 use Rattle.response_reader.specs.declared.fault.ReadFault.{ReadFault}
 use Rattle.response_reader.specs.declared.fault.ReadFault.TheVariants as read
 use Rattle.response_reader.specs.declared.wire.Wire.{Ghosts as Wires}
+use Rattle.kept_bodies.specs.Bodies.{BodyValue, no_body}
 use Rattle.fetcher.specs.declared.answer.Answer.{Answer}
 use Rattle.fetcher.specs.declared.fault_kind.FaultKind.{FaultKind}
 use Rattle.fetcher.specs.declared.fault_kind.FaultKind.TheVariants as kind
@@ -19,7 +20,7 @@ use Rattle.fetcher.specs.declared.outcome.Outcome.TheVariants.{Fault}
 use Rattle.answer_notes.specs.Tellings.{outcome_told, body_told}
 use Rattle.answer_notes.specs.declared.noted.Noted.{Noted}
 use Rattle.answer_notes.specs.declared.told.Told.{Told}
-use Rattle.response_answer.specs.Digests.{digest_of, kept_body}
+use Rattle.response_answer.specs.Digests.{digest_of, body_of}
 use Rattle.response_answer.specs.KindsOfFaults.{kind_of_fault}
 use Rattle.connect.specs.declared.connect.Connect.{Ghosts as Connects}
 
@@ -43,40 +44,40 @@ abbrev pub question_of : {C : Type 0} → Fetching C → AddressText → Questio
 question_of fetcher at = record { at = at; robots = fetcher.robots; keeps = fetcher.keeps }
 
 -- what was told of an address, as an answer
-abbrev pub answer_told : Bool → AddressText → Told → Answer (List ℕ)
+abbrev pub answer_told : Bool → AddressText → Told → Answer BodyValue
 answer_told robots at told = record { outcome = outcome_told robots at told; body = body_told told }
 
 -- an answer, whose body is kept somewhere, stands for this one
-abbrev pub IsKeptAs : {B : Type 0} → (B → List ℕ → Type 0) → Answer B → Answer (List ℕ) → Type 0
+abbrev pub IsKeptAs : {B : Type 0} → (B → BodyValue → Type 0) → Answer B → Answer BodyValue → Type 0
 IsKeptAs holds kept real = (kept.outcome ≡ real.outcome) × holds kept.body real.body
 
 -- P holds of some answer for which this one stands
-abbrev pub StandsForOne : {B : Type 0} → (B → List ℕ → Type 0) → Answer B → (Answer (List ℕ) → Type 0) → Type 0
-StandsForOne holds kept P = (real : Answer (List ℕ)) × IsKeptAs holds kept real × P real
+abbrev pub StandsForOne : {B : Type 0} → (B → BodyValue → Type 0) → Answer B → (Answer BodyValue → Type 0) → Type 0
+StandsForOne holds kept P = (real : Answer BodyValue) × IsKeptAs holds kept real × P real
 
 -- the answer is the digest of the response that begins the bytes
-abbrev pub IsDigestOf : Bool → AddressText → Outcome → List ℕ → List ℕ → Type 0
+abbrev pub IsDigestOf : Bool → AddressText → Outcome → BodyValue → List ℕ → Type 0
 IsDigestOf robots at x body bytes =
-    (r : ResponseParts) × BeginsWithResponse r bytes × (x ≡ digest_of robots at r) × (body ≡ kept_body r.head.status r.body)
+    (r : ResponseParts) × BeginsWithResponse r bytes × (x ≡ digest_of robots at r) × (body ≡ body_of r.head r.body)
 
 -- the answer is a fault of the bytes, in which no response was read; a lost connection is one only where the count of failed calls rose
-abbrev pub IsFaultOfBytes : ℕ → ℕ → Answer (List ℕ) → List ℕ → Type 0
+abbrev pub IsFaultOfBytes : ℕ → ℕ → Answer BodyValue → List ℕ → Type 0
 IsFaultOfBytes before after answer bytes =
     (fault : ReadFault) × (kind : FaultKind) × (kind_of_fault fault ≡ Some kind) × IsReadFault fault bytes
-    × (fault ≡ read.Device → HasRisen before after) × (answer.outcome ≡ Fault kind) × (answer.body ≡ [])
+    × (fault ≡ read.Device → HasRisen before after) × (answer.outcome ≡ Fault kind) × (answer.body ≡ no_body)
 
 -- the answer is what the bytes say
-abbrev pub AnswersBytes : Question → ℕ → ℕ → Answer (List ℕ) → List ℕ → Type 0
+abbrev pub AnswersBytes : Question → ℕ → ℕ → Answer BodyValue → List ℕ → Type 0
 AnswersBytes question before after answer bytes =
     IsDigestOf question.robots question.at answer.outcome answer.body bytes ⊎ IsFaultOfBytes before after answer bytes
 
 -- no connection was made
-abbrev pub IsUnmade : ℕ → ℕ → Answer (List ℕ) → Type 0
-IsUnmade before after answer = HasRisen before after × (answer.outcome ≡ Fault kind.Connect) × (answer.body ≡ [])
+abbrev pub IsUnmade : ℕ → ℕ → Answer BodyValue → Type 0
+IsUnmade before after answer = HasRisen before after × (answer.outcome ≡ Fault kind.Connect) × (answer.body ≡ no_body)
 
 -- the request couldn't be written, since the wire failed
-abbrev pub IsUnwritten : ℕ → ℕ → Answer (List ℕ) → Type 0
-IsUnwritten before after answer = HasRisen before after × (answer.outcome ≡ Fault kind.Device) × (answer.body ≡ [])
+abbrev pub IsUnwritten : ℕ → ℕ → Answer BodyValue → Type 0
+IsUnwritten before after answer = HasRisen before after × (answer.outcome ≡ Fault kind.Device) × (answer.body ≡ no_body)
 
 -- the request for an address, which asks to close the connection unless it is kept
 abbrev pub request_by : Bool → AddressText → List ℕ
@@ -90,7 +91,7 @@ module _ {W : Type 0} (wires : Wires W) where
       Appends (wires.outgoing given) (wires.outgoing asked) (request_by question.keeps question.at) × Keeps (wires.incoming given) (wires.incoming asked)
 
   -- the answer came over a wire: its request was written and nothing behind it, and the answer is what the wire then told
-  abbrev pub ComesOver : Question → W → Answer (List ℕ) → Type 0
+  abbrev pub ComesOver : Question → W → Answer BodyValue → Type 0
   ComesOver question given answer =
       (asked : W) × (left : W)
       × (IsUnwritten (wires.failed given) (wires.failed left) answer
@@ -98,7 +99,7 @@ module _ {W : Type 0} (wires : Wires W) where
       × OfBytes (wires.incoming asked) (AnswersBytes question (wires.failed asked) (wires.failed left) answer)))
 
   -- the same over a wire that was given for the address's origin
-  abbrev pub IsToldByWire : (OriginText → W → Type 0) → Question → Answer (List ℕ) → Type 0
+  abbrev pub IsToldByWire : (OriginText → W → Type 0) → Question → Answer BodyValue → Type 0
   IsToldByWire gives question answer = (given : W) × gives (origin_of question.at) given × ComesOver question given answer
 
   -- over a wire the request went out, or couldn't be written, and no byte came back: it had ended, or failed, and not since a time
@@ -139,7 +140,7 @@ module _ {C W : Type 0} (connects : Connects C W) (wires : Wires W) where
       → connects.stands old.connect of wire ⊎ ((at : AddressText) × IsKeptAfter (question_of old at) of wire)
 
   -- an answer comes over a connection that was kept, and no other is asked for
-  abbrev pub IsToldAgain : Fetching C → Fetching C → AddressText → Answer (List ℕ) → Type 0
+  abbrev pub IsToldAgain : Fetching C → Fetching C → AddressText → Answer BodyValue → Type 0
   IsToldAgain old new at answer =
       (connects.made new.connect ≡ connects.made old.connect)
       × (connects.taken new.connect ≡ counted (connects.taken old.connect) 1) × (old.keeps ≡ true)
@@ -153,20 +154,20 @@ module _ {C W : Type 0} (connects : Connects C W) (wires : Wires W) where
       × IsSilent wires (connects.stands old.connect) (question_of old at))
 
   -- no connection was made, or an answer comes over one that was
-  abbrev pub IsToldAnew : Fetching C → Fetching C → AddressText → Answer (List ℕ) → Type 0
+  abbrev pub IsToldAnew : Fetching C → Fetching C → AddressText → Answer BodyValue → Type 0
   IsToldAnew old new at answer =
       IsUnmade (connects.refused old.connect) (connects.refused new.connect) answer
       ⊎ IsToldByWire wires (connects.gives old.connect) (question_of old at) answer
 
   -- an answer comes over a connection that was kept, and no other is asked for; or one more is asked for, once, and before it
   -- none was taken, or one over which no byte came
-  abbrev pub IsToldByTries : Fetching C → Fetching C → AddressText → Answer (List ℕ) → Type 0
+  abbrev pub IsToldByTries : Fetching C → Fetching C → AddressText → Answer BodyValue → Type 0
   IsToldByTries old new at answer =
       IsToldAgain old new at answer
       ⊎ ((connects.made new.connect ≡ counted (connects.made old.connect) 1) × IsUntold old new at × IsToldAnew old new at answer)
 
   -- the same at some time, by what asks as this fetcher does
-  abbrev pub IsGiven : Fetching C → AddressText → Outcome → List ℕ → Type 0
+  abbrev pub IsGiven : Fetching C → AddressText → Outcome → BodyValue → Type 0
   IsGiven fetcher at x body =
       (by : C) × (after : C)
       × IsToldByTries (record fetcher { connect = by }) (record fetcher { connect = after }) at (record { outcome = x; body = body })

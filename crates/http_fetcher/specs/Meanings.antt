@@ -4,6 +4,7 @@ use Rattle.address.specs.Address.{AddressText, OriginText}
 use Rattle.robots_rules.specs.Access.{RuleSetValue}
 use Rattle.response_reader.specs.ReadFaults.{IsReadFault}
 use Rattle.response_reader.specs.declared.fault.ReadFault.{ReadFault}
+use Rattle.kept_bodies.specs.Bodies.{BodyValue, no_body}
 use Rattle.fetcher.specs.declared.fault_kind.FaultKind.{FaultKind}
 use Rattle.fetcher.specs.declared.fault_kind.FaultKind.TheVariants as kind
 use Rattle.fetcher.specs.declared.outcome.Outcome.{Outcome}
@@ -14,17 +15,17 @@ use Rattle.http_fetcher.specs.Chains.{IsChain}
 use Rattle.http_fetcher.specs.Fetching.{IsDigestOf}
 
 -- the answer is this fault, without a body
-abbrev pub IsNoResponse : FaultKind → Outcome → List ℕ → Type 0
-IsNoResponse kind x body = (x ≡ Fault kind) × (body ≡ [])
+abbrev pub IsNoResponse : FaultKind → Outcome → BodyValue → Type 0
+IsNoResponse kind x body = (x ≡ Fault kind) × (body ≡ no_body)
 
 -- the answer is the fault for which no response was read of these bytes
-abbrev pub IsUnread : Outcome → List ℕ → List ℕ → Type 0
+abbrev pub IsUnread : Outcome → BodyValue → List ℕ → Type 0
 IsUnread x body bytes =
     (fault : ReadFault) × (kind : FaultKind) × (kind_of_fault fault ≡ Some kind) × IsReadFault fault bytes × IsNoResponse kind x body
 
 -- what a site may answer for an address, where robots rules are honoured or not: what the response that begins some bytes answers,
 -- or the fault of such bytes; or no connection was made, or the request wasn't written
-abbrev pub MayAnswer : Bool → AddressText → Outcome → List ℕ → Type 0
+abbrev pub MayAnswer : Bool → AddressText → Outcome → BodyValue → Type 0
 MayAnswer robots at x body =
     ((bytes : List ℕ) × IsDigestOf robots at x body bytes)
     ⊎ ((bytes : List ℕ) × IsUnread x body bytes)

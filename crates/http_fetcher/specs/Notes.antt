@@ -2,6 +2,7 @@
 use Rattle.std.specs.Prelude.{◌≡◌, ℕ, Bool, List, [], ◌∷◌, ◌++◌}
 use Rattle.address.specs.Address.{AddressText, OriginText}
 use Rattle.robots_rules.specs.Access.{RuleSetValue}
+use Rattle.kept_bodies.specs.Bodies.{BodyValue}
 use Rattle.fetcher.specs.declared.answer.Answer.{Answer}
 use Rattle.answer_notes.specs.Tellings.{outcome_told, body_told}
 use Rattle.answer_notes.specs.HopChains.{HopValue, rules_of_hops}
@@ -10,7 +11,7 @@ use Rattle.answer_notes.specs.declared.noted.Noted.{Noted}
 use Rattle.answer_notes.specs.declared.noted.Noted.TheVariants.{Page, Chain}
 
 -- one note more stands there, of this address, and says this answer
-abbrev pub NotesPage : Bool → AddressText → Answer (List ℕ) → List Noted → List Noted → Type 0
+abbrev pub NotesPage : Bool → AddressText → Answer BodyValue → List Noted → List Noted → Type 0
 NotesPage robots at answer old new =
     (told : Told) × (new ≡ old ++ Page at told ∷ []) × (answer.outcome ≡ outcome_told robots at told) × (answer.body ≡ body_told told)
 

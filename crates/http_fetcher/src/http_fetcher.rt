@@ -9,6 +9,7 @@ ghost use Rattle.fetcher.specs.declared.fault_kind.FaultKind.{FaultKind};
 ghost use Rattle.fetcher.specs.declared.fault_kind.FaultKind.TheVariants as fault_kind;
 ghost use Rattle.fetcher.specs.declared.fetcher.Ask.TheVariants as ask;
 ghost use Rattle.fetcher.specs.Logs.{GainedAtMost};
+ghost use Rattle.kept_bodies.specs.Bodies.{no_body};
 ghost use Rattle.answer_notes.specs.RobotsAnswers.{max_redirects};
 ghost use Rattle.answer_notes.specs.Tellings.{outcome_told, body_told};
 ghost use Rattle.answer_notes.specs.HopChains.{rules_of_hops};
@@ -498,7 +499,7 @@ impl<C: Connect> HttpFetcher<C> {
         fault: ReadFault,
         sink: &mut PageSink<K>,
     ) -> Result<HeardPage<K::Kept>, AllocError>
-        ensures told { IfOk result (λ h. (kind : FaultKind) × (kind_of_fault fault ≡ Some kind) × (h.answer.outcome ≡ outcome.Fault kind) × K.holds h.answer.body []) }
+        ensures told { IfOk result (λ h. (kind : FaultKind) × (kind_of_fault fault ≡ Some kind) × (h.answer.outcome ≡ outcome.Fault kind) × K.holds h.answer.body no_body) }
         ensures serves { IfOk result (λ h. h.serves ≡ false) }
     {
         match kind_of_fault(fault) {

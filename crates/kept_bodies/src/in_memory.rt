@@ -1,45 +1,63 @@
 //! Bodies that are kept in memory.
 ghost use Rattle.std.specs.Prelude.{◌≡◌};
+ghost use Rattle.kept_bodies.specs.Bodies.{no_body};
 
+use crate::body_kind::BodyKind;
 use crate::keeper::Keeper;
 use std::alloc::{AllocError, Global};
 use std::marker::Model;
 use std::mem;
 
-/// A body that is kept in memory: its bytes. Contracts see the list of bytes.
+/// A body that is kept in memory: what it is, and its bytes. Contracts see both.
 #[derive(Drop, Debug)]
 pub struct Body {
+    kind: BodyKind,
     bytes: Vec<u8>,
 }
 
 impl Model for Body {
-    ghost use Rattle.std.specs.Prelude.{ℕ, List};
+    ghost use Rattle.kept_bodies.specs.Bodies.{BodyValue};
 
-    ghost Value = { List ℕ };
+    ghost Value = { BodyValue };
 
-    ghost view = { λ body. body.bytes.items };
+    ghost view = { λ body. record { kind = body.kind; bytes = body.bytes.items } };
 }
 
 impl Body {
-    /// The body of these bytes. Takes no memory.
-    pub fn new(bytes: Vec<u8>) -> Self
-        ensures { result ≡ bytes.items }
+    /// The body of this kind and these bytes. Takes no memory.
+    pub fn new(kind: BodyKind, bytes: Vec<u8>) -> Self
+        ensures kind { result.kind ≡ kind }
+        ensures bytes { result.bytes ≡ bytes.items }
     {
-        Body { bytes }
+        Body { kind, bytes }
+    }
+
+    /// No body: no bytes, of which nothing is known. Takes no memory.
+    pub fn none(alloc: Global) -> Self
+        ensures { result ≡ no_body }
+    {
+        Body::new(BodyKind::Other, Vec::new(alloc))
+    }
+
+    /// What it is.
+    pub fn kind(&self) -> BodyKind
+        ensures { result ≡ self.now.kind }
+    {
+        self.kind
     }
 
     /// The bytes in order.
     pub fn as_slice(&self) -> &[u8]
-        ensures { result.now ≡ self.now }
+        ensures { result.now ≡ self.now.bytes }
     {
         self.bytes.as_slice()
     }
 
     /// The bytes in order, given back. Takes no memory.
     pub fn into_vec(self) -> Vec<u8>
-        ensures { result.items ≡ self }
+        ensures { result.items ≡ self.bytes }
     {
-        let Body { bytes } = self;
+        let Body { kind: _kind, bytes } = self;
         bytes
     }
 }
@@ -72,7 +90,7 @@ impl InMemory {
 impl Keeper for InMemory {
     type Kept = Body;
 
-    ghost holds = { λ kept bytes. bytes ≡ kept };
+    ghost holds = { λ kept body. body ≡ kept };
 
     ghost begun = { λ keeper bytes. bytes ≡ keeper };
 
@@ -84,11 +102,11 @@ impl Keeper for InMemory {
         self.bytes.extend_from_slice(piece)
     }
 
-    fn finish(&mut self) -> Result<Body, AllocError> {
-        Ok(Body::new(mem::replace(&mut self.bytes, Vec::new(self.alloc))))
+    fn finish(&mut self, kind: BodyKind) -> Result<Body, AllocError> {
+        Ok(Body::new(kind, mem::replace(&mut self.bytes, Vec::new(self.alloc))))
     }
 
     fn empty(&mut self) -> Result<Body, AllocError> {
-        Ok(Body::new(Vec::new(self.alloc)))
+        Ok(Body::none(self.alloc))
     }
 }

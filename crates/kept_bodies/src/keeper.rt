@@ -1,6 +1,8 @@
 //! What keeps bodies.
 ghost use Rattle.std.specs.Prelude.{◌≡◌, ◌++◌, ℕ, List, [], IfOk, OnOk};
+ghost use Rattle.kept_bodies.specs.Bodies.{BodyValue, no_body};
 
+use crate::body_kind::BodyKind;
 use std::alloc::AllocError;
 
 /// Keeps bodies of responses, one after another, each while it arrives. What a keeper can't keep it tells by the body that it
@@ -9,8 +11,8 @@ pub trait Keeper: Drop {
     /// A body that was kept, or what stands for it.
     type Kept: Drop;
 
-    // Which bytes a kept body may have. One that tells nothing may have any.
-    ghost holds: { Self.Kept → List ℕ → Type 0 };
+    // Which body a kept one may be. One that tells nothing may be any.
+    ghost holds: { Self.Kept → BodyValue → Type 0 };
 
     // Which bytes may have been added since the body was begun.
     ghost begun: { Self → List ℕ → Type 0 };
@@ -23,11 +25,11 @@ pub trait Keeper: Drop {
     fn add(&mut self, piece: &[u8]) -> Result<(), AllocError>
         ensures { OnOk result ((front : List ℕ) → begun self.old front → begun self.new (front ++ piece.now)) };
 
-    /// The body that was begun, whole. The error is want of memory.
-    fn finish(&mut self) -> Result<Self::Kept, AllocError>
-        ensures { IfOk result (λ kept. (bytes : List ℕ) → begun self.old bytes → holds kept bytes) };
+    /// The body that was begun, whole, which is of this kind. The error is out of memory.
+    fn finish(&mut self, kind: BodyKind) -> Result<Self::Kept, AllocError>
+        ensures { IfOk result (λ kept. (bytes : List ℕ) → begun self.old bytes → holds kept (record { kind = kind; bytes = bytes })) };
 
-    /// A body of no bytes, where none was begun. The error is want of memory.
+    /// What is kept if there is no body. The error is out of memory.
     fn empty(&mut self) -> Result<Self::Kept, AllocError>
-        ensures { IfOk result (λ kept. holds kept []) };
+        ensures { IfOk result (λ kept. holds kept no_body) };
 }

@@ -1,5 +1,6 @@
 -- What writing the files of a site leaves in a folder.
 use Rattle.std.specs.Prelude.{◌≡◌, ℕ, ◌<◌, ◌+◌, List, [], Option, Some, None, Contains, ⊤, take, length, slice_index_or}
+use Rattle.kept_bodies.specs.Bodies.{BodyValue, bytes_of}
 use Rattle.local_tree.specs.Folders.{Files, Holding, HasMoreRefused}
 use Rattle.local_tree.specs.declared.site_files.WriteFault.{WriteFault}
 use Rattle.local_tree.specs.declared.site_files.WriteFault.TheVariants.{Device}
@@ -16,15 +17,15 @@ OfFiles None None P = ⊤
 OfFiles _ _ P = ⊥
 
 -- every file is whole, and nothing else changed
-abbrev pub IsWhole : List (List ℕ) → List (List ℕ) → Option Files → Option Files → Type 0
-IsWhole names bodies old new = OfFiles old new (AreWritten (length names) (length names) names bodies)
+abbrev pub IsWhole : List (List ℕ) → List BodyValue → Option Files → Option Files → Type 0
+IsWhole names bodies old new = OfFiles old new (AreWritten (length names) (length names) names (bytes_of bodies))
 
 -- so many files are whole, the next may hold anything, and nothing else changed; a put failed
-pub record IsTorn (names bodies : List (List ℕ)) (old new : Holding) (k : ℕ) : Type 0 where
+pub record IsTorn (names : List (List ℕ)) (bodies : List BodyValue) (old new : Holding) (k : ℕ) : Type 0 where
   pub place : k < length names
-  pub files : OfFiles old.files new.files (AreWritten k (k + 1) names bodies)
+  pub files : OfFiles old.files new.files (AreWritten k (k + 1) names (bytes_of bodies))
   pub risen : HasMoreRefused old.failed new.failed
 
 -- how a write ended that didn't end well
-abbrev pub IsTornBy : List (List ℕ) → List (List ℕ) → Holding → Holding → WriteFault → Type 0
+abbrev pub IsTornBy : List (List ℕ) → List BodyValue → Holding → Holding → WriteFault → Type 0
 IsTornBy names bodies old new (Device k) = IsTorn names bodies old new k

@@ -1,4 +1,5 @@
 //! A body in a file of its own.
+use kept_bodies::BodyKind;
 use std::alloc::{AllocError, Global};
 
 /// A body that a worker kept in a file of its own.
@@ -8,6 +9,8 @@ pub struct Part {
     pub worker: u32,
     /// The number of the file among the worker's.
     pub number: u32,
+    /// What the body is.
+    pub kind: BodyKind,
     /// How many bytes came.
     pub len: u64,
     /// Whether they stand there.

@@ -2,7 +2,7 @@
 ghost use Rattle.std.specs.Prelude.{◌≡◌, ◌+◌, ℕ, List, length, OnOk, IfOk, OnErr};
 
 use crate::part::{Part, part_path};
-use kept_bodies::Keeper;
+use kept_bodies::{BodyKind, Keeper};
 use std::alloc::{AllocError, Global};
 use std::fs::{File, Files};
 use std::io::{Error, Write};
@@ -141,8 +141,8 @@ where
 {
     type Kept = Part;
 
-    // A part tells how many bytes came.
-    ghost holds = { λ part bytes. length bytes ≡ part.len };
+    // A part tells what the body is, and how many bytes came.
+    ghost holds = { λ part body. (body.kind ≡ part.kind) × (length body.bytes ≡ part.len) };
 
     ghost begun = { λ keeper bytes. length bytes ≡ keeper.len };
 
@@ -167,7 +167,7 @@ where
         Ok(())
     }
 
-    fn finish(&mut self) -> Result<Part, AllocError> {
+    fn finish(&mut self, kind: BodyKind) -> Result<Part, AllocError> {
         self.keep(&[]);
         if self.error.is_none() {
             if let Err(error) = self.close() {
@@ -178,6 +178,7 @@ where
         let part = Part {
             worker: self.worker,
             number: self.number,
+            kind,
             len: self.len,
             is_whole: self.error.is_none(),
         };
@@ -189,6 +190,7 @@ where
         Ok(Part {
             worker: self.worker,
             number: self.number,
+            kind: BodyKind::Other,
             len: 0,
             is_whole: true,
         })

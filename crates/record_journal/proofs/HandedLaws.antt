@@ -1,6 +1,7 @@
 -- What a fetcher with a journal hands over, seen from before and behind its calls.
 use Rattle.std.proofs.Common.{◌≡◌, ◌∙◌, ◌⊎◌, ℕ, Bool, List, [], ◌∷◌, ◌++◌, Option, Result, Ok, Err, OnErr, sym, ap, subst, inl, inr}
 use Rattle.std.specs.Io.KnownBytes.{Appends}
+use Rattle.kept_bodies.specs.Bodies.{BodyValue}
 use Rattle.streams.specs.Streams.{AppendsFront}
 use Rattle.address.specs.Address.{AddressText}
 use Rattle.fetcher.specs.declared.answer.Answer.{Answer}
@@ -34,6 +35,6 @@ is_handed contents {n} {m} {j} {kept} old new same before note (inr (refused, mo
     )
 
 -- what was told says the answer that was made of it
-pub says_told : {S : Type 0} (says : S → AddressText → Outcome → List ℕ → Type 0) {was old : S} {honours robots : Bool} {at : AddressText} (told : Told) (a : Answer (List ℕ)) → was ≡ old → robots ≡ honours
+pub says_told : {S : Type 0} (says : S → AddressText → Outcome → BodyValue → Type 0) {was old : S} {honours robots : Bool} {at : AddressText} (told : Told) (a : Answer BodyValue) → was ≡ old → robots ≡ honours
     → a.outcome ≡ outcome_told robots at told → a.body ≡ body_told told → says was at (outcome_told honours at told) (body_told told) → says old at a.outcome a.body
 says_told says told a site robots outcome body said = rw (outcome, body, robots, sym site) said

@@ -1,6 +1,7 @@
 -- What a fetcher with a journal does with what it is told: the journal has it, or the fetcher keeps it.
 use Rattle.std.specs.Prelude.{◌≡◌, ◌⊎◌, ℕ, Bool, List, [], ◌∷◌, ◌++◌, Option}
 use Rattle.std.specs.Io.KnownBytes.{Appends}
+use Rattle.kept_bodies.specs.Bodies.{BodyValue}
 use Rattle.streams.specs.Streams.{AppendsFront}
 use Rattle.address.specs.Address.{AddressText, OriginText}
 use Rattle.robots_rules.specs.Access.{RuleSetValue}
@@ -30,7 +31,7 @@ abbrev pub IsStill : {F J : Type 0} → Journaling F J → Journaling F J → Ty
 IsStill old new = (new.journal ≡ old.journal) × (new.kept ≡ old.kept)
 
 -- a note of this address was handed over, which says this answer
-abbrev pub HandsPage : {F J : Type 0} → (J → Option (List ℕ)) → Bool → AddressText → Answer (List ℕ) → Journaling F J → Journaling F J → Type 0
+abbrev pub HandsPage : {F J : Type 0} → (J → Option (List ℕ)) → Bool → AddressText → Answer BodyValue → Journaling F J → Journaling F J → Type 0
 HandsPage contents robots at answer old new =
     (told : Told) × IsHanded contents (Page at told) old new × (answer.outcome ≡ outcome_told robots at told) × (answer.body ≡ body_told told)
 

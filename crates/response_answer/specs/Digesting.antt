@@ -6,14 +6,17 @@ use Rattle.css_links.specs.Scanning.{StandsFor as StandsForSheet}
 use Rattle.response_reader.specs.Fields.{HeadParts}
 use Rattle.response_answer.specs.declared.stage.Stage.{Stage}
 use Rattle.response_answer.specs.declared.stage.Stage.TheVariants.{Fresh, Redirect, Page, Sheet, Leaf}
-use Rattle.response_answer.specs.Digests.{target_of, named_from, is_document, is_sheet, kept_body}
+use Rattle.response_answer.specs.Digests.{target_of, named_from, syntax_of, is_document, is_sheet, kept_body, kind_of}
+use Rattle.kept_bodies.specs.declared.body_kind.BodyKind.{BodyKind}
 use Rattle.fetcher.specs.Statuses.{is_successful}
 
--- the address that was asked and whether robots rules are honoured, what the head says, the body that is kept, and whether memory ran out
+-- the address that was asked and whether robots rules are honoured, what the head says and what the body is by it, the bytes that
+-- are kept, and whether memory ran out
 pub record Digesting : Type 0 where
   pub at : AddressText
   pub robots : Bool
   pub stage : Stage
+  pub kind : BodyKind
   pub kept : List ℕ
   pub failed : Bool
 
@@ -37,7 +40,7 @@ IsStageOf head front (Redirect status location) =
     (status ≡ head.status) × (is_successful head.status ≡ false) × (is_document head ≡ false) × (is_sheet head ≡ false)
     × ((at : AddressText) → target_of at head ≡ named_from at location.items)
 IsStageOf head front (Page status scanner) =
-    (status ≡ head.status) × (is_successful head.status ≡ true) × (is_document head ≡ true) × RedirectsNowhere head × StandsFor scanner front
+    (status ≡ head.status) × (is_successful head.status ≡ true) × (is_document head ≡ true) × RedirectsNowhere head × StandsFor (syntax_of head) scanner front
 IsStageOf head front (Sheet status scanner) =
     (status ≡ head.status) × (is_successful head.status ≡ true) × (is_document head ≡ false) × (is_sheet head ≡ true) × RedirectsNowhere head
     × StandsForSheet scanner front
@@ -46,7 +49,8 @@ IsStageOf head front (Leaf status) = (status ≡ head.status) × (is_document he
 -- it works, and has taken this head, if any, and these bytes
 abbrev pub HasTaken : Digesting → Option HeadParts → List ℕ → Type 0
 HasTaken d None body = (d.failed ≡ false) × (d.kept ≡ []) × (body ≡ [])
-HasTaken d (Some head) body = (d.failed ≡ false) × IsStageOf head body d.stage × (d.kept ≡ kept_body head.status body)
+HasTaken d (Some head) body =
+    (d.failed ≡ false) × IsStageOf head body d.stage × (d.kept ≡ kept_body head.status body) × (d.kind ≡ kind_of head)
 
 -- it has taken a head
 abbrev pub has_head : Stage → Bool

@@ -6,11 +6,16 @@ use Rattle.httparse.specs.Grammar.{trim_ows}
 use Rattle.address.specs.Address.{AddressText, join_address}
 use Rattle.address.specs.declared.fault.AddressFault.{AddressFault}
 use Rattle.html_links.specs.Links.{Link, Links, links_of_body}
+use Rattle.html_links.specs.declared.context.Syntax.{Syntax}
+use Rattle.html_links.specs.declared.context.Syntax.TheVariants as syntax
 use Rattle.html_links.specs.declared.links.LinkKind.{LinkKind}
 use Rattle.css_links.specs.References.{references}
 use Rattle.html_links.specs.declared.links.LinkKind.TheVariants as link
 use Rattle.response_reader.specs.Fields.{HeadParts}
 use Rattle.response_reader.specs.Response.{ResponseParts}
+use Rattle.kept_bodies.specs.Bodies.{BodyValue}
+use Rattle.kept_bodies.specs.declared.body_kind.BodyKind.{BodyKind}
+use Rattle.kept_bodies.specs.declared.body_kind.BodyKind.TheVariants.{Html, Sheet, Other}
 use Rattle.fetcher.specs.Statuses.{is_redirect, is_successful}
 use Rattle.fetcher.specs.declared.edge.Edge.{Edge}
 use Rattle.fetcher.specs.declared.edge.EdgeKind.{EdgeKind}
@@ -50,6 +55,19 @@ is_html value =
 abbrev pub may_be_html : Option (List ℕ) → Bool
 may_be_html None = true
 may_be_html (Some value) = is_html value
+
+-- the media type of HTML that is written as XML (RFC 3236)
+unfoldable pub is_xhtml : List ℕ → Bool
+is_xhtml value = str_eq_ignore_ascii_case (media_type value) (codes "application/xhtml+xml")
+
+-- how a page with that field is read, or without one
+abbrev pub syntax_by : Option (List ℕ) → Syntax
+syntax_by None = syntax.Html
+syntax_by (Some value) = if is_xhtml value then syntax.Xml else syntax.Html
+
+-- how a page with this head is read (HTML Standard, section 14)
+abbrev pub syntax_of : HeadParts → Syntax
+syntax_of head = syntax_by head.content_type
 
 -- a body of HTML, in which links are looked for
 abbrev pub is_document : HeadParts → Bool
@@ -114,7 +132,7 @@ sheet_or_leaf at r =
 -- what a body that isn't a redirect's answers
 abbrev pub page_or_leaf : Bool → AddressText → ResponseParts → Outcome
 page_or_leaf robots at r =
-    if is_document r.head then Page r.head.status (page_edges robots at (links_of_body r.body)) else sheet_or_leaf at r
+    if is_document r.head then Page r.head.status (page_edges robots at (links_of_body (syntax_of r.head) r.body)) else sheet_or_leaf at r
 
 abbrev pub outcome_by : Bool → AddressText → ResponseParts → Option AddressText → Outcome
 outcome_by robots at r None = page_or_leaf robots at r
@@ -124,6 +142,18 @@ outcome_by robots at r (Some target) = Moved r.head.status target
 abbrev pub digest_of : Bool → AddressText → ResponseParts → Outcome
 digest_of robots at r = outcome_by robots at r (target_of at r.head)
 
--- the body that is kept of a response
+-- the bytes that are kept of a response's body
 abbrev pub kept_body : ℕ → List ℕ → List ℕ
 kept_body status body = if is_successful status then body else []
+
+-- what a body is by its Content-Type, whatever its coding (RFC 9110, section 8.3); without one it is HTML
+abbrev pub kind_by : Option (List ℕ) → BodyKind
+kind_by content_type = if may_be_html content_type then Html else (if says_css content_type then Sheet else Other)
+
+-- what the body is that is kept of a response with this head
+abbrev pub kind_of : HeadParts → BodyKind
+kind_of head = if is_successful head.status then kind_by head.content_type else Other
+
+-- the body that is kept of a response with this head
+abbrev pub body_of : HeadParts → List ℕ → BodyValue
+body_of head body = record { kind = kind_of head; bytes = kept_body head.status body }

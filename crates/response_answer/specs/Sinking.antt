@@ -3,15 +3,18 @@ use Rattle.std.specs.Prelude.{◌≡◌, ℕ, Bool, false, List, [], Option, Som
 use Rattle.response_reader.specs.Fields.{HeadParts}
 use Rattle.response_answer.specs.declared.stage.Stage.{Stage}
 use Rattle.response_answer.specs.Digesting.{IsStageOf}
-use Rattle.response_answer.specs.Digests.{kept_body}
+use Rattle.response_answer.specs.Digests.{kept_body, kind_of}
+use Rattle.kept_bodies.specs.declared.body_kind.BodyKind.{BodyKind}
 
--- what the head says, what keeps the body, and whether memory ran out
+-- what the head says and what the body is by it, what keeps the body, and whether memory ran out
 pub record Sinking (K : Type 0) : Type 0 where
   pub stage : Stage
+  pub kind : BodyKind
   pub keeper : K
   pub failed : Bool
 
 -- it works, and has taken this head, if any, and these bytes, of which those that are to be kept went to the keeper
 abbrev pub HasSunk : {K : Type 0} → (K → List ℕ → Type 0) → Sinking K → Option HeadParts → List ℕ → Type 0
 HasSunk begun s None body = (s.failed ≡ false) × begun s.keeper [] × (body ≡ [])
-HasSunk begun s (Some head) body = (s.failed ≡ false) × IsStageOf head body s.stage × begun s.keeper (kept_body head.status body)
+HasSunk begun s (Some head) body =
+    (s.failed ≡ false) × IsStageOf head body s.stage × begun s.keeper (kept_body head.status body) × (s.kind ≡ kind_of head)

@@ -3,14 +3,14 @@ ghost use Rattle.std.specs.Prelude.{◌≡◌, ◌⊎◌, ℕ, List, [], ◌++�
 ghost use Rattle.response_reader.specs.Fields.{HeadParts};
 ghost use Rattle.response_reader.specs.Passes.{head_parts, AddsPiece};
 ghost use Rattle.response_reader.specs.Refusals.{NotesRefusal};
-ghost use Rattle.response_answer.specs.Digests.{digest_of, kept_body};
+ghost use Rattle.response_answer.specs.Digests.{body_of, digest_of, kind_of};
 ghost use Rattle.response_answer.specs.Digesting.{HasTaken, IsStageOf, Purpose, has_head, purpose_of};
 ghost use Rattle.response_answer.specs.inner.HeadKinds.{kind_parts};
 
-use crate::head_kind::HeadKind;
+use crate::head_kind::{HeadKind, kind_of};
 use crate::stage::Stage;
 use address::Address;
-use fetcher::{Answer, Body};
+use fetcher::{Answer, Body, BodyKind};
 use response_reader::{Head, Sink};
 use std::alloc::{AllocError, Global};
 use std::marker::Model;
@@ -24,6 +24,7 @@ pub struct Digester {
     at: Address,
     robots: bool,
     stage: Stage,
+    kind: BodyKind,
     kept: Vec<u8>,
     failed: bool,
 }
@@ -33,7 +34,7 @@ impl Model for Digester {
 
     ghost Value = { Digesting };
 
-    ghost view = { λ d. record { at = d.at; robots = d.robots; stage = d.stage; kept = d.kept.items; failed = d.failed } };
+    ghost view = { λ d. record { at = d.at; robots = d.robots; stage = d.stage; kind = d.kind; kept = d.kept.items; failed = d.failed } };
 }
 
 impl Digester {
@@ -48,6 +49,7 @@ impl Digester {
             at: at.try_clone()?,
             robots,
             stage: Stage::Fresh,
+            kind: BodyKind::Other,
             kept: Vec::new(alloc),
             failed: false,
         })
@@ -56,17 +58,19 @@ impl Digester {
     // Takes the head.
     fn take_head(&mut self, head: &Head) -> Result<(), AllocError>
         ensures stage { OnOk result (IsStageOf (head_parts head.now) [] self.new.stage) }
+        ensures kind { OnOk result (self.new.kind ≡ kind_of (head_parts head.now)) }
         ensures kept { self.new.kept ≡ self.old.kept }
         ensures failed { self.new.failed ≡ self.old.failed }
         ensures purpose { purpose_of self.new ≡ purpose_of self.old }
     {
-        let kind = HeadKind {
+        let fields = HeadKind {
             status: head.status,
             content_type: &head.content_type,
             coded: head.coded,
             location: &head.location,
         };
-        self.stage = Stage::of(self.alloc, &kind)?;
+        self.stage = Stage::of(self.alloc, &fields)?;
+        self.kind = kind_of(&fields);
         Ok(())
     }
 
@@ -90,7 +94,7 @@ impl Digester {
         ensures outcome { IfOk result (λ a. (h : HeadParts) (body : List ℕ) → HasTaken self (Some h) body
             → a.outcome ≡ digest_of self.robots self.at (record { head = h; body = body })) }
         ensures body { IfOk result (λ a. (h : HeadParts) (body : List ℕ) → HasTaken self (Some h) body
-            → a.body ≡ kept_body h.status body) }
+            → a.body ≡ body_of h body) }
         ensures failed { self.failed ≡ true → IfOk result (λ _. ⊥) }
     {
         if self.failed {
@@ -101,13 +105,14 @@ impl Digester {
             at,
             robots,
             stage,
+            kind,
             kept,
             ..
         } = self;
         let outcome = stage.outcome(alloc, &at, robots)?;
         Ok(Answer {
             outcome,
-            body: Body::new(kept),
+            body: Body::new(kind, kept),
         })
     }
 }

@@ -2,10 +2,12 @@
 ghost use Rattle.std.specs.Prelude.{◌≡◌, ◌==◌, option_map, vec_items};
 ghost use Rattle.std.specs.List.{before_first, position};
 ghost use Rattle.std.specs.Str.{str_eq_ignore_ascii_case};
-ghost use Rattle.response_answer.specs.Digests.{is_css, is_html, media_type, may_be_html, is_document, is_sheet, says_css};
+ghost use Rattle.response_answer.specs.Digests.{is_css, is_html, is_xhtml, kind_by, kind_of, media_type, may_be_html, is_document, is_sheet, says_css, syntax_by, syntax_of};
 ghost use Rattle.response_answer.specs.inner.HeadKinds.{kind_parts};
 
 use fetcher::is_successful;
+use html_links::Syntax;
+use kept_bodies::BodyKind;
 use response_reader::trim_blanks;
 
 /// The fields of a head, wherever they are kept.
@@ -24,11 +26,41 @@ pub(crate) fn is_document(head: &HeadKind<'_>) -> bool
     is_successful(head.status) && !head.coded && may_be_html(head.content_type)
 }
 
+/// How the body after this head is read, if it is a page.
+pub(crate) fn page_syntax(head: &HeadKind<'_>) -> Syntax
+    ensures { result ≡ syntax_of (kind_parts head.now) }
+{
+    syntax_by(head.content_type)
+}
+
 /// Whether the body after this head is a style sheet, whose references are looked for.
 pub(crate) fn is_sheet(head: &HeadKind<'_>) -> bool
     ensures { result ≡ is_sheet (kind_parts head.now) }
 {
     is_successful(head.status) && !head.coded && says_css(head.content_type)
+}
+
+/// What the body is that is kept of a response with this head.
+pub(crate) fn kind_of(head: &HeadKind<'_>) -> BodyKind
+    ensures { result ≡ kind_of (kind_parts head.now) }
+{
+    if !is_successful(head.status) {
+        return BodyKind::Other;
+    }
+    kind_by(head.content_type)
+}
+
+// What a body with this Content-Type is.
+fn kind_by(content_type: &Option<Vec<u8>>) -> BodyKind
+    ensures { result ≡ kind_by (option_map vec_items content_type.now) }
+{
+    if may_be_html(content_type) {
+        BodyKind::Html
+    } else if says_css(content_type) {
+        BodyKind::Sheet
+    } else {
+        BodyKind::Other
+    }
 }
 
 fn first_semicolon(value: &[u8]) -> Option<usize>
@@ -67,6 +99,30 @@ fn is_html(value: &[u8]) -> bool
 {
     let media_type = media_type(value);
     is_type(media_type, b"text/html") || is_type(media_type, b"application/xhtml+xml")
+}
+
+// Whether a Content-Type is that of HTML that is written as XML (RFC 3236).
+#[tactic(auto, unfolding(crate::specs::Digests::is_xhtml))]
+fn is_xhtml(value: &[u8]) -> bool
+    ensures { result ≡ is_xhtml value.now }
+{
+    is_type(media_type(value), b"application/xhtml+xml")
+}
+
+// How a page with this Content-Type is read.
+fn syntax_by(content_type: &Option<Vec<u8>>) -> Syntax
+    ensures { result ≡ syntax_by (option_map vec_items content_type.now) }
+{
+    match content_type {
+        Some(value) => {
+            if is_xhtml(value) {
+                Syntax::Xml
+            } else {
+                Syntax::Html
+            }
+        },
+        None => Syntax::Html,
+    }
 }
 
 // Whether a Content-Type is that of style sheets (RFC 2318).

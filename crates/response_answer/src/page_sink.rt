@@ -3,17 +3,18 @@ ghost use Rattle.std.specs.Prelude.{◌≡◌, ◌⊎◌, ℕ, List, [], ◌++�
 ghost use Rattle.response_reader.specs.Fields.{HeadParts};
 ghost use Rattle.response_reader.specs.Passes.{head_parts, AddsPiece};
 ghost use Rattle.response_reader.specs.Refusals.{NotesRefusal};
-ghost use Rattle.response_answer.specs.Digests.{digest_of, kept_body};
+ghost use Rattle.response_answer.specs.Digests.{body_of, digest_of, kind_of};
+ghost use Rattle.kept_bodies.specs.Bodies.{no_body};
 ghost use Rattle.response_answer.specs.Digesting.{IsStageOf, has_head};
 ghost use Rattle.fetcher.specs.declared.outcome.Outcome.TheVariants as outcome;
 ghost use Rattle.response_answer.specs.Sinking.{HasSunk};
 ghost use Rattle.response_answer.specs.inner.HeadKinds.{kind_parts};
 
-use crate::head_kind::HeadKind;
+use crate::head_kind::{HeadKind, kind_of};
 use crate::stage::Stage;
 use address::Address;
 use fetcher::{Answer, FaultKind, Outcome};
-use kept_bodies::Keeper;
+use kept_bodies::{BodyKind, Keeper};
 use response_reader::{Head, Sink};
 use std::alloc::{AllocError, Global};
 use std::marker::Model;
@@ -26,6 +27,7 @@ use std::mem;
 pub struct PageSink<K: Keeper> {
     alloc: Global,
     stage: Stage,
+    kind: BodyKind,
     keeper: K,
     failed: bool,
 }
@@ -35,7 +37,7 @@ impl<K: Keeper> Model for PageSink<K> {
 
     ghost Value = { Sinking K };
 
-    ghost view = { λ s. record { stage = s.stage; keeper = s.keeper; failed = s.failed } };
+    ghost view = { λ s. record { stage = s.stage; kind = s.kind; keeper = s.keeper; failed = s.failed } };
 }
 
 impl<K: Keeper> PageSink<K> {
@@ -44,6 +46,7 @@ impl<K: Keeper> PageSink<K> {
         PageSink {
             alloc,
             stage: Stage::Fresh,
+            kind: BodyKind::Other,
             keeper,
             failed: false,
         }
@@ -61,16 +64,18 @@ impl<K: Keeper> PageSink<K> {
     // Takes the head.
     fn take_head(&mut self, head: &Head) -> Result<(), AllocError>
         ensures stage { OnOk result (IsStageOf (head_parts head.now) [] self.new.stage) }
+        ensures kind { OnOk result (self.new.kind ≡ kind_of (head_parts head.now)) }
         ensures keeper { self.new.keeper ≡ self.old.keeper }
         ensures failed { self.new.failed ≡ self.old.failed }
     {
-        let kind = HeadKind {
+        let fields = HeadKind {
             status: head.status,
             content_type: &head.content_type,
             coded: head.coded,
             location: &head.location,
         };
-        self.stage = Stage::of(self.alloc, &kind)?;
+        self.stage = Stage::of(self.alloc, &fields)?;
+        self.kind = kind_of(&fields);
         Ok(())
     }
 
@@ -88,11 +93,11 @@ impl<K: Keeper> PageSink<K> {
 
     // The body that is kept of the response.
     fn finish_body(&mut self) -> Result<K::Kept, AllocError>
-        ensures body { IfOk result (λ kept. (h : HeadParts) (body : List ℕ) → HasSunk K.begun self.old (Some h) body → K.holds kept (kept_body h.status body)) }
+        ensures body { IfOk result (λ kept. (h : HeadParts) (body : List ℕ) → HasSunk K.begun self.old (Some h) body → K.holds kept (body_of h body)) }
         ensures stage { self.new.stage ≡ self.old.stage }
     {
         if self.stage.keeps_body() {
-            self.keeper.finish()
+            self.keeper.finish(self.kind)
         } else {
             self.keeper.empty()
         }
@@ -101,7 +106,7 @@ impl<K: Keeper> PageSink<K> {
     /// The answer where no response was read, for this reason. The error is want of memory.
     pub fn fault(&mut self, kind: FaultKind) -> Result<Answer<K::Kept>, AllocError>
         ensures outcome { IfOk result (λ a. a.outcome ≡ outcome.Fault kind) }
-        ensures body { IfOk result (λ a. K.holds a.body []) }
+        ensures body { IfOk result (λ a. K.holds a.body no_body) }
     {
         let body = self.keeper.empty()?;
         Ok(Answer {
@@ -117,7 +122,7 @@ impl<K: Keeper> PageSink<K> {
         ensures outcome { IfOk result (λ a. (h : HeadParts) (body : List ℕ) → HasSunk K.begun self.old (Some h) body
             → a.outcome ≡ digest_of robots at.now (record { head = h; body = body })) }
         ensures body { IfOk result (λ a. (h : HeadParts) (body : List ℕ) → HasSunk K.begun self.old (Some h) body
-            → K.holds a.body (kept_body h.status body)) }
+            → K.holds a.body (body_of h body)) }
         ensures failed { self.old.failed ≡ true → IfOk result (λ _. ⊥) }
     {
         if self.failed {

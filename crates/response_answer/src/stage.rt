@@ -6,7 +6,7 @@ ghost use Rattle.fetcher.specs.Statuses.{is_successful};
 ghost use Rattle.response_answer.specs.Digesting.{IsStageOf, has_head};
 ghost use Rattle.response_answer.specs.inner.HeadKinds.{kind_parts};
 
-use crate::head_kind::{HeadKind, is_document, is_sheet};
+use crate::head_kind::{HeadKind, is_document, is_sheet, page_syntax};
 use crate::links::{named, page_edges, sheet_edges};
 use address::Address;
 use css_links::Scanner as SheetScanner;
@@ -44,7 +44,7 @@ impl Stage {
             };
         }
         if is_document(head) {
-            return Ok(Stage::Page(head.status, Scanner::new(alloc)));
+            return Ok(Stage::Page(head.status, Scanner::with_syntax(alloc, page_syntax(head))));
         }
         if is_sheet(head) {
             return Ok(Stage::Sheet(head.status, SheetScanner::new(alloc)));

@@ -1,9 +1,10 @@
 //! What a response that is kept answers (RFC 9110, section 15).
 ghost use Rattle.std.specs.Prelude.{◌≡◌, IfOk};
 ghost use Rattle.response_reader.specs.Whole.{response_parts};
-ghost use Rattle.response_answer.specs.Digests.{digest_of, kept_body, target_of};
+ghost use Rattle.response_answer.specs.Digests.{body_of, digest_of, target_of};
+ghost use Rattle.response_answer.specs.inner.HeadKinds.{kind_parts};
 
-use crate::head_kind::HeadKind;
+use crate::head_kind::{HeadKind, kind_of};
 use crate::links::named;
 use crate::stage::Stage;
 use address::Address;
@@ -21,9 +22,10 @@ pub fn digest(
     robots: bool,
 ) -> Result<Answer<Body>, AllocError>
     ensures outcome { IfOk result (λ a. a.outcome ≡ digest_of robots at.now (response_parts response.now)) }
-    ensures body { IfOk result (λ a. a.body ≡ kept_body response.now.status response.now.body.items) }
+    ensures body { IfOk result (λ a. a.body ≡ body_of (response_parts response.now).head response.now.body.items) }
 {
     let outcome = outcome_of(alloc, at, response, robots)?;
+    let kind = kind_of(&head_of(response));
     let body = if is_successful(response.status) {
         Vec::from_slice(alloc, &response.body)?
     } else {
@@ -31,7 +33,7 @@ pub fn digest(
     };
     Ok(Answer {
         outcome,
-        body: Body::new(body),
+        body: Body::new(kind, body),
     })
 }
 
@@ -43,9 +45,10 @@ pub fn into_answer(
     robots: bool,
 ) -> Result<Answer<Body>, AllocError>
     ensures outcome { IfOk result (λ a. a.outcome ≡ digest_of robots at.now (response_parts response)) }
-    ensures body { IfOk result (λ a. a.body ≡ kept_body response.status response.body.items) }
+    ensures body { IfOk result (λ a. a.body ≡ body_of (response_parts response).head response.body.items) }
 {
     let outcome = outcome_of(alloc, at, &response, robots)?;
+    let kind = kind_of(&head_of(&response));
     let Response { status, body, .. } = response;
     let kept = if is_successful(status) {
         body
@@ -54,7 +57,7 @@ pub fn into_answer(
     };
     Ok(Answer {
         outcome,
-        body: Body::new(kept),
+        body: Body::new(kind, kept),
     })
 }
 
@@ -71,6 +74,18 @@ pub fn redirect_target(at: &Address, response: &Response) -> Result<Option<Addre
     }
 }
 
+// The fields of the head of a whole response.
+fn head_of<'a>(response: &'a Response) -> HeadKind<'a>
+    ensures { kind_parts result ≡ (response_parts response.now).head }
+{
+    HeadKind {
+        status: response.status,
+        content_type: &response.content_type,
+        coded: response.coded,
+        location: &response.location,
+    }
+}
+
 // What became of the address that a whole response answers.
 fn outcome_of(
     alloc: Global,
@@ -80,13 +95,7 @@ fn outcome_of(
 ) -> Result<Outcome, AllocError>
     ensures { IfOk result (λ x. x ≡ digest_of robots at.now (response_parts response.now)) }
 {
-    let head = HeadKind {
-        status: response.status,
-        content_type: &response.content_type,
-        coded: response.coded,
-        location: &response.location,
-    };
-    let mut stage = Stage::of(alloc, &head)?;
+    let mut stage = Stage::of(alloc, &head_of(response))?;
     stage.take(&response.body)?;
     stage.outcome(alloc, at, robots)
 }

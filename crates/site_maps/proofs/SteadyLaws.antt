@@ -4,6 +4,7 @@ use Rattle.std.specs.Prelude.{IfOk, unwrap_or}
 use Rattle.std.specs.List.{list_any}
 use Rattle.std.specs.Map.{lookup, values_of}
 use Rattle.std.specs.Str.{bytes_eq}
+use Rattle.kept_bodies.specs.Bodies.{BodyValue}
 use Rattle.fetcher.specs.declared.answer.Answer.{Answer}
 use Rattle.fetcher.specs.declared.outcome.Outcome.{Outcome}
 use Rattle.fetcher.specs.declared.outcome.Outcome.TheVariants.{Page, Moved, Leaf, Fault}
@@ -43,7 +44,7 @@ unless_fault_same (Leaf status) h = refl
 unless_fault_same (Fault kind) h = absurd cc
 
 -- what a site answers that never fails, the site without its faults answers too
-pub told_steady : {E : Type 0} (r : Result (Answer (List ℕ)) E) (site : SiteAnswers) (at : List ℕ) → is_fault (site.outcome at) ≡ false
+pub told_steady : {E : Type 0} (r : Result (Answer BodyValue) E) (site : SiteAnswers) (at : List ℕ) → is_fault (site.outcome at) ≡ false
     → IfOk r (λ a. GivesOutcome site at a.outcome a.body) → IfOk r (λ a. GivesOutcome (without_faults site) at a.outcome a.body)
 told_steady (Ok a) site at never h = (h.0 ∙ sym (unless_fault_same (site.outcome at) never), h.1)
 told_steady (Err e) site at never h = h

@@ -18,9 +18,9 @@ struct Stated {
     rules: IndexMap<Origin, KeptRules>,
 }
 
-/// A site in memory, read from a map. It gives each address one outcome, with an empty body, and
-/// each origin one rule set. Copies share the map; each has its own asks. Contracts see the answers
-/// and the rule sets that the map states, and what was asked.
+/// A site in memory, read from a map. It gives each address one outcome, with a body of no bytes, which is
+/// HTML if the outcome is a page, and each origin one rule set. Copies share the map; each has its own asks. Contracts see the
+/// answers and the rule sets that the map states, and what was asked.
 pub struct MapSite {
     alloc: Global,
     stated: Arc<Stated>,
@@ -176,15 +176,12 @@ impl Fetcher for MapSite {
 
     ghost log = { λ m. m.asks };
 
-    /// Asks for the page of an address. The answer is what the map says of it, with an empty
-    /// body; the ask is logged first, and the map stays what it is.
+    /// Asks for the page of an address. The answer is what the map says of it, with a body of
+    /// no bytes, which is HTML if it is a page; the ask is logged first, and the map stays what it is.
     fn ask(&mut self, at: &Address) -> Result<Answer<Body>, AllocError> {
         self.asks.push(Ask::Page(at.try_clone()?))?;
         let outcome = self.outcome(at)?;
-        Ok(Answer {
-            outcome,
-            body: Body::new(Vec::new(self.alloc)),
-        })
+        Ok(Answer::bare(self.alloc, outcome))
     }
 
     /// Asks for the robots rules of an origin. They are those that the map states, and allow

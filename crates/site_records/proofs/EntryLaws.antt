@@ -5,6 +5,7 @@ use Rattle.std.specs.Option.{is_some}
 use Rattle.std.specs.Map.{lookup}
 use Rattle.std.specs.Str.{bytes_eq, IsUtf8}
 use Rattle.std.proofs.lemmas.List.Quantifiers.{position-Some}
+use Rattle.kept_bodies.specs.Bodies.{BodyValue}
 use Rattle.address.specs.Address.{origin_of, path_query_of}
 use Rattle.robots_rules.specs.Access.{RuleSetValue}
 use Rattle.robots_rules.specs.Groups.{rules_in}
@@ -32,7 +33,7 @@ none_left None b e f = refl
 none_left (Some x) b e f = absurd cc
 
 -- a text that isn't read as an address
-pub unread : (answers : List (AddressText × Answer (List ℕ))) (text : List ℕ) (f : InputLineFault) → (f ≡ Memory) ⊎ ((f ≡ Address) × ¬ IsNamed text) → IsStated answers text f
+pub unread : (answers : List (AddressText × Answer BodyValue)) (text : List ℕ) (f : InputLineFault) → (f ≡ Memory) ⊎ ((f ≡ Address) × ¬ IsNamed text) → IsStated answers text f
 unread answers text f (inl e) = rw e tt
 unread answers text f (inr h) = rw h.0 h.1
 
@@ -69,7 +70,7 @@ takes old new s behind taken e named_is root states keeps lines = record {
 }
 
 -- the answer of a page is what its bytes are read as
-pub page_states : (robots : Bool) (text : List ℕ) (n : ℕ) (behind bytes after at : List ℕ) (a : Answer (List ℕ)) → HasBytes behind n bytes after → IsReadAs robots at bytes a
+pub page_states : (robots : Bool) (text : List ℕ) (n : ℕ) (behind bytes after at : List ℕ) (a : Answer BodyValue) → HasBytes behind n bytes after → IsReadAs robots at bytes a
     → named text ≡ at → States robots (page text n) behind (answered at a) after
 page_states robots text n behind bytes after at a has read is = (bytes, a, has, rw is read, rw is refl)
 

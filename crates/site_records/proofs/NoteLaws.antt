@@ -3,6 +3,7 @@ use Rattle.std.proofs.Common.{◌≡◌, ℕ, ◌++◌, ◌∙◌, Bool, true, f
 use Rattle.std.specs.Map.{lookup}
 use Rattle.std.specs.Str.{bytes_eq}
 use Rattle.std.proofs.lemmas.List.{append-nil}
+use Rattle.kept_bodies.specs.Bodies.{BodyValue}
 use Rattle.address.specs.Address.{AddressText}
 use Rattle.fetcher.specs.declared.answer.Answer.{Answer}
 use Rattle.answer_notes.specs.Tellings.{outcome_told, body_told}
@@ -24,7 +25,7 @@ read_as_told robots at bytes (told.Whole r) is = inl (record { response = r; beg
 read_as_told robots at bytes (told.Fault kind) (fault, text, of, kind_is) = inr (record { fault = fault; kind = kind; text = text; of_bytes = of; kind_is = kind_is; answer = refl })
 
 -- an answer is what is told where its parts are
-pub answer_is : (robots : Bool) (at : AddressText) (t : Told) (a : Answer (List ℕ)) → a.outcome ≡ outcome_told robots at t → a.body ≡ body_told t
+pub answer_is : (robots : Bool) (at : AddressText) (t : Told) (a : Answer BodyValue) → a.outcome ≡ outcome_told robots at t → a.body ≡ body_told t
     → a ≡ record { outcome = outcome_told robots at t; body = body_told t }
 answer_is robots at t a outcome body = λ i. record { outcome = outcome i; body = body i }
 

@@ -5,6 +5,7 @@ use Rattle.std.proofs.lemmas.List.{take-append-drop, length-append, map-append}
 use Rattle.std.proofs.lemmas.Bool.{eqb-true}
 use Rattle.std.proofs.lemmas.Slice.Eq.{bytes_eq-Decides}
 use Rattle.std.proofs.Math.Seq.{take-append_seam}
+use Rattle.kept_bodies.specs.Bodies.{BodyValue}
 use Rattle.site_inputs.specs.declared.input_fault.InputLineFault.TheVariants.{Line, Address, Memory}
 use Rattle.address.specs.Address.{AddressText, OriginText}
 use Rattle.robots_rules.specs.Access.{RuleSetValue}
@@ -137,7 +138,7 @@ goes_on robots bytes old new number lines rest after so_far r less =
     }
 
 -- a bad entry is the first
-pub first_bad_at : (robots : Bool) (bytes : List ℕ) (old : Reading) (number : ℕ) (rest : List ℕ) (IsBadSo : Version → List (AddressText × Answer (List ℕ)) → List (OriginText × RuleSetValue) → Option ℕ → List ℕ → Type 0)
+pub first_bad_at : (robots : Bool) (bytes : List ℕ) (old : Reading) (number : ℕ) (rest : List ℕ) (IsBadSo : Version → List (AddressText × Answer BodyValue) → List (OriginText × RuleSetValue) → Option ℕ → List ℕ → Type 0)
     (place : Option ℕ) (line : ℕ) → IsReadTo robots bytes old number rest → rest ≢ [] → line ≡ number + 1 + lines_ahead place
     → IsBadSo old.version old.answers.entries old.rules.entries place rest → FirstBad robots bytes line IsBadSo
 first_bad_at robots bytes old number rest IsBadSo place line s more is bad = record {

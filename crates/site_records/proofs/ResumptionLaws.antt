@@ -4,6 +4,7 @@ use Rattle.std.specs.Map.{lookup}
 use Rattle.std.specs.Str.{bytes_eq}
 use Rattle.std.proofs.lemmas.List.{drop-append-le, take-append-le, length-append}
 use Rattle.std.proofs.lemmas.List.Elements.{All-push}
+use Rattle.kept_bodies.specs.Bodies.{BodyValue}
 use Rattle.address.specs.Address.{AddressText, OriginText}
 use Rattle.robots_rules.specs.Access.{RuleSetValue}
 use Rattle.fetcher.specs.declared.answer.Answer.{Answer}
@@ -19,7 +20,7 @@ gained ask (Ok x) ok err = inr ok
 gained ask (Err e) ok err = err
 
 -- one more ask, of what isn't stated
-pub spared_more : {answers : List (AddressText × Answer (List ℕ))} {rules : List (OriginText × RuleSetValue)} {since : ℕ} {old new : List Ask} (ask : Ask)
+pub spared_more : {answers : List (AddressText × Answer BodyValue)} {rules : List (OriginText × RuleSetValue)} {since : ℕ} {old new : List Ask} (ask : Ask)
     → IsSpared answers rules since old → IsUnstated answers rules ask → GainedAtMost old new ask → IsSpared answers rules since new
 spared_more {answers} {rules} {since} ask h u (inl e) = subst (IsSpared answers rules since) (sym e) h
 spared_more {answers} {rules} {since} {old} {new} ask h u (inr e) =
@@ -56,13 +57,13 @@ same_site {F} {S} site log r inner asks is before =
     ap (λ s. with s (take r.since (log inner))) is ∙ ap (with (site r.inner)) before
 
 -- an answer that is stated, and one of the fetcher where none is
-pub says_stated : {S : Type 0} (says : S → List ℕ → Outcome → List ℕ → Type 0) (site : Resumption S) (at : List ℕ) (a : Answer (List ℕ))
+pub says_stated : {S : Type 0} (says : S → List ℕ → Outcome → BodyValue → Type 0) (site : Resumption S) (at : List ℕ) (a : Answer BodyValue)
     → lookup (bytes_eq at) site.answers ≡ Some a → SaysOr says site at a.outcome a.body
-says_stated says site at a is = subst (λ o. MatchOption o (says site.inner at a.outcome a.body) (λ (b : Answer (List ℕ)). (a.outcome ≡ b.outcome) × (a.body ≡ b.body))) (sym is) (refl, refl)
+says_stated says site at a is = subst (λ o. MatchOption o (says site.inner at a.outcome a.body) (λ (b : Answer BodyValue). (a.outcome ≡ b.outcome) × (a.body ≡ b.body))) (sym is) (refl, refl)
 
-pub says_inner : {S : Type 0} (says : S → List ℕ → Outcome → List ℕ → Type 0) (site : Resumption S) (at : List ℕ) (x : Outcome) (body : List ℕ)
+pub says_inner : {S : Type 0} (says : S → List ℕ → Outcome → BodyValue → Type 0) (site : Resumption S) (at : List ℕ) (x : Outcome) (body : BodyValue)
     → lookup (bytes_eq at) site.answers ≡ None → says site.inner at x body → SaysOr says site at x body
-says_inner says site at x body is h = subst (λ o. MatchOption o (says site.inner at x body) (λ (b : Answer (List ℕ)). (x ≡ b.outcome) × (body ≡ b.body))) (sym is) h
+says_inner says site at x body is h = subst (λ o. MatchOption o (says site.inner at x body) (λ (b : Answer BodyValue). (x ≡ b.outcome) × (body ≡ b.body))) (sym is) h
 
 -- the same of rule sets
 pub rules_stated : {S : Type 0} (rules : S → List ℕ → RuleSetValue → Type 0) (site : Resumption S) (of : List ℕ) (r : RuleSetValue)
@@ -75,15 +76,15 @@ rules_inner rules site of r is h = subst (λ o. MatchOption o (rules site.inner 
 
 -- ---- a steady site
 
-given_or : {S : Type 0} (says : S → List ℕ → Outcome → List ℕ → Type 0) (site : S) (x : Outcome) (at : List ℕ) (o : Option (Answer (List ℕ)))
-    → ((a : Answer (List ℕ)) → o ≡ Some a → says site at a.outcome a.body) → ((y : Outcome) (body : List ℕ) → says site at y body → y ≡ x)
-    → ((body : List ℕ) × says site at x body) → (body : List ℕ) × MatchOption o (says site at x body) (λ a. (x ≡ a.outcome) × (body ≡ a.body))
+given_or : {S : Type 0} (says : S → List ℕ → Outcome → BodyValue → Type 0) (site : S) (x : Outcome) (at : List ℕ) (o : Option (Answer BodyValue))
+    → ((a : Answer BodyValue) → o ≡ Some a → says site at a.outcome a.body) → ((y : Outcome) (body : BodyValue) → says site at y body → y ≡ x)
+    → ((body : BodyValue) × says site at x body) → (body : BodyValue) × MatchOption o (says site at x body) (λ a. (x ≡ a.outcome) × (body ≡ a.body))
 given_or says site x at None are only given = given
 given_or says site x at (Some a) are only given = (a.body, (sym (only a.outcome a.body (are a refl)), refl))
 
-only_or : {S : Type 0} (says : S → List ℕ → Outcome → List ℕ → Type 0) (site : S) (x : Outcome) (at : List ℕ) (o : Option (Answer (List ℕ)))
-    → ((a : Answer (List ℕ)) → o ≡ Some a → says site at a.outcome a.body) → ((y : Outcome) (body : List ℕ) → says site at y body → y ≡ x)
-    → (y : Outcome) (body : List ℕ) → MatchOption o (says site at y body) (λ a. (y ≡ a.outcome) × (body ≡ a.body)) → y ≡ x
+only_or : {S : Type 0} (says : S → List ℕ → Outcome → BodyValue → Type 0) (site : S) (x : Outcome) (at : List ℕ) (o : Option (Answer BodyValue))
+    → ((a : Answer BodyValue) → o ≡ Some a → says site at a.outcome a.body) → ((y : Outcome) (body : BodyValue) → says site at y body → y ≡ x)
+    → (y : Outcome) (body : BodyValue) → MatchOption o (says site at y body) (λ a. (y ≡ a.outcome) × (body ≡ a.body)) → y ≡ x
 only_or says site x at None are only y body h = only y body h
 only_or says site x at (Some a) are only y body h = h.0 ∙ only a.outcome a.body (are a refl)
 
@@ -100,7 +101,7 @@ rules_only_or rules site x of None are only r h = only r h
 rules_only_or rules site x of (Some stated) are only r h = h ∙ only stated (are stated refl)
 
 -- answers of a steady site, and the site behind them, are that site
-pub resumed_is_steady : {S : Type 0} (says : S → List ℕ → Outcome → List ℕ → Type 0) (rules : S → List ℕ → RuleSetValue → Type 0) (site : Resumption S) (answers : SiteAnswers)
+pub resumed_is_steady : {S : Type 0} (says : S → List ℕ → Outcome → BodyValue → Type 0) (rules : S → List ℕ → RuleSetValue → Type 0) (site : Resumption S) (answers : SiteAnswers)
     → AreAnswers says rules site.inner answers → AreOf says rules site.inner site.answers site.rules → AreAnswers (SaysOr says) (RulesOr rules) site answers
 resumed_is_steady says rules site answers steady are = record {
   given = λ at. given_or says site.inner (answers.outcome at) at (lookup (bytes_eq at) site.answers) (are.answers_are at) (steady.only at) (steady.given at);

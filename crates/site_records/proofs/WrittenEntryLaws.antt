@@ -16,6 +16,7 @@ use Rattle.std.proofs.lemmas.List.Splits.{slice_split_at, slice_split_none}
 use Rattle.std.proofs.lemmas.List.Elements.{All-nil, All-cons, All-head, All-tail, All-append, All-weaker}
 use Rattle.std.proofs.lemmas.Fmt.{decimal_is_IsNumeral, decimal_digit, first_decimal, decimal_nonempty, digits_decimal, digits_value-decimal}
 use Rattle.std.proofs.Math.Seq.{take-append_seam, drop-append-add, get_or-append_seam}
+use Rattle.kept_bodies.specs.Bodies.{BodyValue}
 use Rattle.address.specs.Address.{AddressText, OriginText, IsAddress, IsAddressByte, IsOrigin, origin_of, path_query_of}
 use Rattle.fetcher.specs.declared.answer.Answer.{Answer}
 use Rattle.response_reader.specs.declared.limits.TheConstants.{MAX_HEADS}
@@ -25,7 +26,7 @@ use Rattle.response_reader.proofs.WrittenLemmas.{written_reads_back}
 use Rattle.site_inputs.specs.Names.{recorded as named}
 use Rattle.site_inputs.specs.Fields.{fields}
 use Rattle.answer_notes.specs.RobotsAnswers.{max_redirects}
-use Rattle.response_answer.specs.Digests.{digest_of, kept_body}
+use Rattle.response_answer.specs.Digests.{digest_of, body_of}
 use Rattle.answer_notes.specs.HopChains.{HopValue, AreHops, IsAdmitted, robots_file}
 use Rattle.answer_notes.specs.declared.told.Told.{Told}
 use Rattle.answer_notes.specs.declared.told.Told.TheVariants as told
@@ -167,8 +168,8 @@ line_is line behind plain = record {
 }
 
 -- the answer of a response
-abbrev pub answer_of : Bool → AddressText → ResponseParts → Answer (List ℕ)
-answer_of robots at r = record { outcome = digest_of robots at r; body = kept_body r.head.status r.body }
+abbrev pub answer_of : Bool → AddressText → ResponseParts → Answer BodyValue
+answer_of robots at r = record { outcome = digest_of robots at r; body = body_of r.head r.body }
 
 -- what is written of a page is an entry, which states the answer of its response, whatever stands behind it
 pub page_is_entry : (version : Version) (robots : Bool) (at : AddressText) (r : ResponseParts) (after : List ℕ) → IsAddress at → CanBeGiven r → length (head_text r) ≤ MAX_HEADS

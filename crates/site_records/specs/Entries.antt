@@ -3,6 +3,7 @@ use Rattle.std.specs.Prelude.{◌≡◌, ◌≢◌, ◌<◌, ⊤, ℕ, ◌+◌, 
 use Rattle.std.specs.List.{position}
 use Rattle.std.specs.Map.{lookup}
 use Rattle.std.specs.Str.{bytes_eq}
+use Rattle.kept_bodies.specs.Bodies.{BodyValue, no_body}
 use Rattle.address.specs.Address.{AddressText, OriginText, origin_of, path_query_of}
 use Rattle.robots_rules.specs.Access.{RuleSetValue}
 use Rattle.robots_rules.specs.Groups.{rules_in}
@@ -12,7 +13,7 @@ use Rattle.response_reader.specs.declared.fault.ReadFault.{ReadFault}
 use Rattle.fetcher.specs.declared.answer.Answer.{Answer}
 use Rattle.fetcher.specs.declared.fault_kind.FaultKind.{FaultKind}
 use Rattle.fetcher.specs.declared.outcome.Outcome.TheVariants.{Fault}
-use Rattle.response_answer.specs.Digests.{digest_of, kept_body}
+use Rattle.response_answer.specs.Digests.{digest_of, body_of}
 use Rattle.response_answer.specs.KindsOfFaults.{kind_of_fault}
 use Rattle.answer_notes.specs.RobotsAnswers.{max_redirects}
 use Rattle.answer_notes.specs.Tellings.{target_told}
@@ -26,7 +27,7 @@ use Rattle.site_records.specs.EntryLines.{Statement, page, fault, file, free, cl
 -- what an entry states
 pub data Entry : Type 0 where
   -- the address has this answer
-  answered : AddressText → Answer (List ℕ) → Entry
+  answered : AddressText → Answer BodyValue → Entry
   -- the origin has these rules
   ruled : OriginText → RuleSetValue → Entry
   -- the robots file of the origin, and the redirects behind it, have these answers
@@ -41,18 +42,18 @@ lines_of (chained of hops) = length hops + 1
 -- ---- what bytes answer
 
 -- the answer without a response
-abbrev pub no_response : FaultKind → Answer (List ℕ)
-no_response kind = record { outcome = Fault kind; body = [] }
+abbrev pub no_response : FaultKind → Answer BodyValue
+no_response kind = record { outcome = Fault kind; body = no_body }
 
 -- the bytes begin with a response, and the answer is its digest
-pub record IsDigest (robots : Bool) (at : AddressText) (bytes : List ℕ) (a : Answer (List ℕ)) : Type 0 where
+pub record IsDigest (robots : Bool) (at : AddressText) (bytes : List ℕ) (a : Answer BodyValue) : Type 0 where
   pub response : ResponseParts
   pub begins : BeginsWithResponse response bytes
   pub outcome : a.outcome ≡ digest_of robots at response
-  pub body : a.body ≡ kept_body response.head.status response.body
+  pub body : a.body ≡ body_of response.head response.body
 
 -- the bytes have a fault for which no response is read of them, and the answer is this fault
-pub record IsRefusal (bytes : List ℕ) (a : Answer (List ℕ)) : Type 0 where
+pub record IsRefusal (bytes : List ℕ) (a : Answer BodyValue) : Type 0 where
   pub fault : ReadFault
   pub kind : FaultKind
   pub text : IsTextFault fault
@@ -61,7 +62,7 @@ pub record IsRefusal (bytes : List ℕ) (a : Answer (List ℕ)) : Type 0 where
   pub answer : a ≡ no_response kind
 
 -- what bytes answer as the response for an address
-abbrev pub IsReadAs : Bool → AddressText → List ℕ → Answer (List ℕ) → Type 0
+abbrev pub IsReadAs : Bool → AddressText → List ℕ → Answer BodyValue → Type 0
 IsReadAs robots at bytes a = IsDigest robots at bytes a ⊎ IsRefusal bytes a
 
 -- ---- the text of an entry
@@ -132,7 +133,7 @@ pub record IsBegun (of : OriginText) (text : List ℕ) (hops : List HopValue) (a
 -- a line that says this and what is behind it state the entry, and after follows
 abbrev pub States : Bool → Statement → List ℕ → Entry → List ℕ → Type 0
 States robots (page text n) behind e after =
-    (bytes : List ℕ) × (a : Answer (List ℕ)) × HasBytes behind n bytes after × IsReadAs robots (named text) bytes a × (e ≡ answered (named text) a)
+    (bytes : List ℕ) × (a : Answer BodyValue) × HasBytes behind n bytes after × IsReadAs robots (named text) bytes a × (e ≡ answered (named text) a)
 States robots (fault kind text) behind e after = (after ≡ behind) × (e ≡ answered (named text) (no_response kind))
 States robots (file text n) behind e after =
     (bytes : List ℕ) × HasBytes behind n bytes after × (e ≡ ruled (origin_of (named text)) (rules_in bytes))
@@ -161,13 +162,13 @@ pub record IsEntry (version : Version) (robots : Bool) (text : List ℕ) (e : En
 -- ---- what is stated once more
 
 -- the entry is about an address, or an origin, that these answers and rules don't name
-abbrev pub IsNew : List (AddressText × Answer (List ℕ)) → List (OriginText × RuleSetValue) → Entry → Type 0
+abbrev pub IsNew : List (AddressText × Answer BodyValue) → List (OriginText × RuleSetValue) → Entry → Type 0
 IsNew answers rules (answered at a) = lookup (bytes_eq at) answers ≡ None
 IsNew answers rules (ruled of r) = lookup (bytes_eq of) rules ≡ None
 IsNew answers rules (chained of hops) = lookup (bytes_eq of) rules ≡ None
 
 -- the line is about an address, or an origin, that they name
-abbrev pub IsRepeated : List (AddressText × Answer (List ℕ)) → List (OriginText × RuleSetValue) → Statement → Type 0
+abbrev pub IsRepeated : List (AddressText × Answer BodyValue) → List (OriginText × RuleSetValue) → Statement → Type 0
 IsRepeated answers rules (page text n) = IsSome (lookup (bytes_eq (named text)) answers)
 IsRepeated answers rules (fault kind text) = IsSome (lookup (bytes_eq (named text)) answers)
 IsRepeated answers rules s = IsSome (lookup (bytes_eq (origin_of (named (text_of s)))) rules)
@@ -198,7 +199,7 @@ IsOpen (chain text n) behind = LeadsOn (origin_of (named text)) n behind
 IsOpen s behind = ⊥
 
 -- what is wrong with a line that says this, beyond its form and its address: the place of a robots address, a repetition, bytes that aren't there, or a chain that leads on
-abbrev pub IsMisplaced : List (AddressText × Answer (List ℕ)) → List (OriginText × RuleSetValue) → Statement → List ℕ → Type 0
+abbrev pub IsMisplaced : List (AddressText × Answer BodyValue) → List (OriginText × RuleSetValue) → Statement → List ℕ → Type 0
 IsMisplaced answers rules s behind = ¬ IsAtRoot s ⊎ (IsRepeated answers rules s ⊎ (¬ HasItsBytes s behind ⊎ IsOpen s behind))
 
 -- ---- what is wrong with a hop
@@ -236,21 +237,21 @@ IsBadBehind (chain text n) behind k IsBad = IsBadRow (origin_of (named text)) n 
 IsBadBehind s behind k IsBad = ⊥
 
 -- the text begins with a chain's line that is good by itself, and the hop at this place is bad so
-abbrev pub HasBadHop : Version → List (AddressText × Answer (List ℕ)) → List (OriginText × RuleSetValue) → ℕ → List ℕ → (Option AddressText → List ℕ → Type 0) → Type 0
+abbrev pub HasBadHop : Version → List (AddressText × Answer BodyValue) → List (OriginText × RuleSetValue) → ℕ → List ℕ → (Option AddressText → List ℕ → Type 0) → Type 0
 HasBadHop version answers rules k text IsBad =
     (s : Statement) × (behind : List ℕ) × Begins version text s behind × IsNamed (text_of s) × IsAtRoot s × ¬ IsRepeated answers rules s × IsBadBehind s behind k IsBad
 
 -- ---- what is wrong with an entry: with its own line, or with the hop at a place of its chain
 
 -- the line has no form or is misplaced below these answers and rules; the hop has no form, or isn't where the chain leads, or its bytes aren't there
-abbrev pub IsBadLine : Version → List (AddressText × Answer (List ℕ)) → List (OriginText × RuleSetValue) → Option ℕ → List ℕ → Type 0
+abbrev pub IsBadLine : Version → List (AddressText × Answer BodyValue) → List (OriginText × RuleSetValue) → Option ℕ → List ℕ → Type 0
 IsBadLine version answers rules None text =
     ((s : Statement) (behind : List ℕ) → ¬ Begins version text s behind)
     ⊎ ((s : Statement) × (behind : List ℕ) × Begins version text s behind × IsNamed (text_of s) × IsMisplaced answers rules s behind)
 IsBadLine version answers rules (Some k) text = HasBadHop version answers rules k text IsBadHopLine
 
 -- the line, or the hop, has a form, and its address is refused
-abbrev pub IsBadAddress : Version → List (AddressText × Answer (List ℕ)) → List (OriginText × RuleSetValue) → Option ℕ → List ℕ → Type 0
+abbrev pub IsBadAddress : Version → List (AddressText × Answer BodyValue) → List (OriginText × RuleSetValue) → Option ℕ → List ℕ → Type 0
 IsBadAddress version answers rules None text = (s : Statement) × (behind : List ℕ) × Begins version text s behind × ¬ IsNamed (text_of s)
 IsBadAddress version answers rules (Some k) text = HasBadHop version answers rules k text (λ lead rest. IsBadHopAddress rest)
 

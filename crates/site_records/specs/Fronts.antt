@@ -1,5 +1,6 @@
 -- The whole front of a record that was cut at any byte, as one is whose writer was stopped.
 use Rattle.std.specs.Prelude.{◌≡◌, ◌≢◌, ◌≤◌, ◌+◌, ◌⊎◌, ◌++◌, ⊤, ℕ, zero, suc, Bool, List, [], ◌∷◌, Option, length, map, flat_map, take, drop}
+use Rattle.kept_bodies.specs.Bodies.{BodyValue}
 use Rattle.address.specs.Address.{AddressText, OriginText}
 use Rattle.robots_rules.specs.Access.{RuleSetValue}
 use Rattle.fetcher.specs.declared.answer.Answer.{Answer}
@@ -59,8 +60,8 @@ IsFrontRead robots bytes site len =
     ⊎ (IsTornFirst bytes × (len ≡ 0) × (site ≡ record { answers = []; rules = []; notes = []; asks = [] }))
 
 -- the entry is bad so, and the text doesn't end within it
-abbrev pub IsBadWhole : (Version → List (AddressText × Answer (List ℕ)) → List (OriginText × RuleSetValue) → Option ℕ → List ℕ → Type 0)
-    → Version → List (AddressText × Answer (List ℕ)) → List (OriginText × RuleSetValue) → Option ℕ → List ℕ → Type 0
+abbrev pub IsBadWhole : (Version → List (AddressText × Answer BodyValue) → List (OriginText × RuleSetValue) → Option ℕ → List ℕ → Type 0)
+    → Version → List (AddressText × Answer BodyValue) → List (OriginText × RuleSetValue) → Option ℕ → List ℕ → Type 0
 IsBadWhole IsBad version answers rules place rest = IsBad version answers rules place rest × ¬ IsTornEntry version rest
 
 -- what a fault says of the bytes: the first line, unless it is torn, or a line of the first entry that is bad and not torn; of Memory nothing

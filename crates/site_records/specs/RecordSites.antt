@@ -1,5 +1,6 @@
 -- Sites that are read from a record, as contracts see them.
 use Rattle.std.specs.Prelude.{ℕ, List}
+use Rattle.kept_bodies.specs.Bodies.{BodyValue}
 use Rattle.address.specs.Address.{AddressText, OriginText}
 use Rattle.robots_rules.specs.Access.{RuleSetValue}
 use Rattle.fetcher.specs.declared.answer.Answer.{Answer}
@@ -8,7 +9,7 @@ use Rattle.answer_notes.specs.declared.noted.Noted.{Noted}
 
 -- the answers and the rule sets that the record states, each in its order, the notes that are kept of it, and what was asked
 pub record RecordValue : Type 0 where
-  pub answers : List (AddressText × Answer (List ℕ))
+  pub answers : List (AddressText × Answer BodyValue)
   pub rules : List (OriginText × RuleSetValue)
   pub notes : List Noted
   pub asks : List Ask

@@ -2,6 +2,7 @@
 use Rattle.std.specs.Prelude.{◌≡◌, ◌≢◌, ℕ, ◌+◌, ◌⊎◌, Bool, Option, Some, None, List, [], ◌∷◌, ◌++◌, unwrap_or, codes}
 use Rattle.std.specs.Map.{lookup}
 use Rattle.std.specs.Str.{bytes_eq}
+use Rattle.kept_bodies.specs.Bodies.{BodyValue, no_body}
 use Rattle.address.specs.Address.{AddressText, OriginText}
 use Rattle.robots_rules.specs.Access.{RuleSetValue}
 use Rattle.fetcher.specs.declared.answer.Answer.{Answer}
@@ -19,7 +20,7 @@ use Rattle.site_records.specs.Entries.{Entry, answered, ruled, chained, lines_of
 -- ---- what is stated
 
 -- the answers that entries state
-abbrev pub answers_of : List Entry → List (AddressText × Answer (List ℕ))
+abbrev pub answers_of : List Entry → List (AddressText × Answer BodyValue)
 answers_of [] = []
 answers_of (answered at a ∷ more) = (at, a) ∷ answers_of more
 answers_of (ruled of r ∷ more) = answers_of more
@@ -33,24 +34,24 @@ rules_of (ruled of r ∷ more) = (of, r) ∷ rules_of more
 rules_of (chained of hops ∷ more) = (of, rules_of_hops hops) ∷ rules_of more
 
 -- nothing is found, and there is no body (RFC 9110, section 15.5.5)
-abbrev pub not_found : Answer (List ℕ)
-not_found = record { outcome = Leaf NOT_FOUND; body = [] }
+abbrev pub not_found : Answer BodyValue
+not_found = record { outcome = Leaf NOT_FOUND; body = no_body }
 
 -- what a record of these answers says of an address: what it states, and not found of an address that it doesn't name
-abbrev pub answer_in : List (AddressText × Answer (List ℕ)) → AddressText → Answer (List ℕ)
+abbrev pub answer_in : List (AddressText × Answer BodyValue) → AddressText → Answer BodyValue
 answer_in answers at = unwrap_or (lookup (bytes_eq at) answers) not_found
 
 -- the one answer of each address, and the one rule set of each origin
 pub record RecordedAnswers : Type 0 where
-  pub answer : AddressText → Answer (List ℕ)
+  pub answer : AddressText → Answer BodyValue
   pub rules : OriginText → RuleSetValue
 
 -- what a record of these answers and these rule sets says
-abbrev pub says_of : List (AddressText × Answer (List ℕ)) → List (OriginText × RuleSetValue) → RecordedAnswers
+abbrev pub says_of : List (AddressText × Answer BodyValue) → List (OriginText × RuleSetValue) → RecordedAnswers
 says_of answers rules = record { answer = answer_in answers; rules = rules_at rules }
 
 -- such a site gives an address its answer
-abbrev pub GivesAnswer : RecordedAnswers → AddressText → Outcome → List ℕ → Type 0
+abbrev pub GivesAnswer : RecordedAnswers → AddressText → Outcome → BodyValue → Type 0
 GivesAnswer site at x body = (x ≡ (site.answer at).outcome) × (body ≡ (site.answer at).body)
 
 -- such a site gives an origin its rule set
@@ -90,7 +91,7 @@ lines_ahead None = 0
 lines_ahead (Some k) = k + 1
 
 -- behind the good entries above it an entry is bad so, in its own line or in a hop, and this is the number of that line
-pub record FirstBad (robots : Bool) (bytes : List ℕ) (number : ℕ) (IsBad : Version → List (AddressText × Answer (List ℕ)) → List (OriginText × RuleSetValue) → Option ℕ → List ℕ → Type 0) : Type 0 where
+pub record FirstBad (robots : Bool) (bytes : List ℕ) (number : ℕ) (IsBad : Version → List (AddressText × Answer BodyValue) → List (OriginText × RuleSetValue) → Option ℕ → List ℕ → Type 0) : Type 0 where
   pub version : Version
   pub text : List ℕ
   pub begins : bytes ≡ version_line version ++ text

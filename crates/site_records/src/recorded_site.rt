@@ -178,7 +178,7 @@ impl RecordedSite {
             Some(answer) => Ok(answer),
             None => Ok(Answer {
                 outcome: Outcome::Leaf(NOT_FOUND),
-                body: Body::new(Vec::new(self.alloc)),
+                body: Body::none(self.alloc),
             }),
         }
     }

@@ -10,6 +10,9 @@ pub(crate) fn copy_of(alloc: Global, answer: &Answer<Body>) -> Result<Answer<Bod
 {
     Ok(Answer {
         outcome: answer.outcome.try_clone()?,
-        body: Body::new(Vec::from_slice(alloc, answer.body.as_slice())?),
+        body: Body::new(
+            answer.body.kind(),
+            Vec::from_slice(alloc, answer.body.as_slice())?,
+        ),
     })
 }

@@ -1,5 +1,7 @@
 //! Responses in examples: what each answers, whole and in pieces, and each call once.
-use crate::common::{address, bytes_of as text_bytes, demand, halves, is_printed, repeated};
+use crate::common::{
+    address, bytes_of as text_bytes, demand, halves, is_printed, is_told, repeated,
+};
 use address::Address;
 use fetcher::Body;
 use response_reader::{Head, ReadFault, Response, Sink, SliceWire, read_response};
@@ -11,23 +13,25 @@ use std::alloc::Global;
 use std::process::Abort;
 
 // Rows: a head with CR LF as `|`, before it `robots=off` where robots rules aren't honoured, a body, and what they answer for
-// `http://h/d/p.html`.
+// `http://h/d/p.html`: what the body is that is kept, and the outcome.
 const ANSWERS: &str =
-    "HTTP/1.1 200 OK|Content-Type: text/html|| => <base href=\"/b/\"><a href=\"x?a=1&amp;b=2\"><a href=//k/x><a href='https://h/s'><a href=http://u@h/><a href=http://h:x/><A HREF=\"#top\"><!--<a href=c>--><script>\"<a href=s>\"</script><img src=i.png><link rel=\"Stylesheet\" href=s.css> => Page(200, Edges { items: [Edge { target: \"http://h/b/x?a=1&b=2\", kind: Link }, Edge { target: \"http://k/x\", kind: Link }, Edge { target: \"http://h/b/\", kind: Link }, Edge { target: \"http://h/b/i.png\", kind: Inline }, Edge { target: \"http://h/b/s.css\", kind: Inline }] })
-HTTP/1.1 200 OK|| => <meta name=robots content=\"a, NONE\"><a href=b> => Page(200, Edges { items: [] })
-robots=off HTTP/1.1 200 OK|| => <meta name=robots content=\"a, NONE\"><a href=b> => Page(200, Edges { items: [Edge { target: \"http://h/d/b\", kind: Link }] })
-HTTP/1.1 203 X|Content-Type: application/XHTML+xml ; a=b|| => <a href=/> => Page(203, Edges { items: [Edge { target: \"http://h/\", kind: Link }] })
-HTTP/1.1 200 OK|Content-Encoding: gzip|| => <a href=b> => Leaf(200)
-HTTP/1.1 200 OK|Content-Type:|| => <a href=b> => Leaf(200)
-HTTP/1.1 200 OK|Content-Type: Text/CSS; charset=utf-8|| => @import \"/a.css\";b{src:url(../i.png#x) url( 'c d.png' )}/*url(n)*/p{content:\"url(o)\"} => Page(200, Edges { items: [Edge { target: \"http://h/a.css\", kind: Inline }, Edge { target: \"http://h/i.png\", kind: Inline }, Edge { target: \"http://h/d/c%20d.png\", kind: Inline }] })
-HTTP/1.1 200 OK|Content-Type: text/css|Content-Encoding: gzip|| => @import \"a\"; => Leaf(200)
-HTTP/1.1 404 X|Content-Type: text/css|| => @import \"a\"; => Leaf(404)
-HTTP/1.1 404 X|Content-Type: text/html|| => <a href=b> => Leaf(404)
-HTTP/1.1 302 X|Location: ../x#f|| => a => Moved(302, \"http://h/x\")
-HTTP/1.1 308 X|Location:|| =>  => Moved(308, \"http://h/d/p.html\")
-HTTP/1.1 302 X|Location: https://h/|| => a => Leaf(302)
-HTTP/1.1 300 X|Location: /x|| => a => Leaf(300)
-HTTP/1.1 301 X|| =>  => Leaf(301)
+    "HTTP/1.1 200 OK|Content-Type: text/html|| => <base href=\"/b/\"><a href=\"x?a=1&amp;b=2\"><a href=//k/x><a href='https://h/s'><a href=http://u@h/><a href=http://h:x/><A HREF=\"#top\"><!--<a href=c>--><script>\"<a href=s>\"</script><img src=i.png><link rel=\"Stylesheet\" href=s.css> => Html Page(200, Edges { items: [Edge { target: \"http://h/b/x?a=1&b=2\", kind: Link }, Edge { target: \"http://k/x\", kind: Link }, Edge { target: \"http://h/b/\", kind: Link }, Edge { target: \"http://h/b/i.png\", kind: Inline }, Edge { target: \"http://h/b/s.css\", kind: Inline }] })
+HTTP/1.1 200 OK|| => <meta name=robots content=\"a, NONE\"><a href=b> => Html Page(200, Edges { items: [] })
+robots=off HTTP/1.1 200 OK|| => <meta name=robots content=\"a, NONE\"><a href=b> => Html Page(200, Edges { items: [Edge { target: \"http://h/d/b\", kind: Link }] })
+HTTP/1.1 203 X|Content-Type: application/XHTML+xml ; a=b|| => <a href=/> => Html Page(203, Edges { items: [Edge { target: \"http://h/\", kind: Link }] })
+HTTP/1.1 200 OK|Content-Encoding: gzip|| => <a href=b> => Html Leaf(200)
+HTTP/1.1 200 OK|Content-Type:|| => <a href=b> => Other Leaf(200)
+HTTP/1.1 200 OK|Content-Type: IMAGE/PNG|| => <a href=b> => Other Leaf(200)
+HTTP/1.1 200 OK|Content-Type: TEXT/HTML;charset=x|| => a => Html Page(200, Edges { items: [] })
+HTTP/1.1 200 OK|Content-Type: Text/CSS; charset=utf-8|| => @import \"/a.css\";b{src:url(../i.png#x) url( 'c d.png' )}/*url(n)*/p{content:\"url(o)\"} => Sheet Page(200, Edges { items: [Edge { target: \"http://h/a.css\", kind: Inline }, Edge { target: \"http://h/i.png\", kind: Inline }, Edge { target: \"http://h/d/c%20d.png\", kind: Inline }] })
+HTTP/1.1 200 OK|Content-Type: text/css|Content-Encoding: gzip|| => @import \"a\"; => Sheet Leaf(200)
+HTTP/1.1 404 X|Content-Type: text/css|| => @import \"a\"; => Other Leaf(404)
+HTTP/1.1 404 X|Content-Type: text/html|| => <a href=b> => Other Leaf(404)
+HTTP/1.1 302 X|Location: ../x#f|| => a => Other Moved(302, \"http://h/x\")
+HTTP/1.1 308 X|Location:|| =>  => Other Moved(308, \"http://h/d/p.html\")
+HTTP/1.1 302 X|Location: https://h/|| => a => Other Leaf(302)
+HTTP/1.1 300 X|Location: /x|| => a => Other Leaf(300)
+HTTP/1.1 301 X|| =>  => Other Leaf(301)
 ";
 
 /// What a row of these says.
@@ -36,17 +40,17 @@ struct Row<'a> {
     robots: bool,
     head: &'a str,
     body: &'a str,
-    outcome: &'a str,
+    said: &'a str,
 }
 
 fn row_of(line: &str) -> Row<'_> {
     let (head, rest) = halves(line, " => ");
-    let (body, outcome) = halves(rest, " => ");
+    let (body, said) = halves(rest, " => ");
     Row {
         robots: !head.starts_with("robots=off "),
         head: head.strip_prefix("robots=off ").unwrap_or(head),
         body,
-        outcome,
+        said,
     }
 }
 
@@ -134,11 +138,7 @@ fn demand_answer(rt: &impl Abort, alloc: Global, answer: &Answer<Body>, row: &Ro
     } else {
         ""
     };
-    demand(
-        rt,
-        is_printed(rt, alloc, &answer.outcome, row.outcome),
-        row.head,
-    );
+    demand(rt, is_told(rt, alloc, answer, row.said), row.head);
     demand(rt, answer.body.as_slice() == body.as_bytes(), row.head);
 }
 

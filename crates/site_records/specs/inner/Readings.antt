@@ -2,6 +2,7 @@
 use Rattle.std.specs.Prelude.{◌≡◌, ◌≢◌, ◌⊎◌, ◌++◌, ◌+◌, ⊤, ℕ, List, [], ◌∷◌, Option, Some, None, Result, Ok, Err, MatchResult, IsSome, codes}
 use Rattle.std.specs.Map.{lookup}
 use Rattle.std.specs.Str.{bytes_eq}
+use Rattle.kept_bodies.specs.Bodies.{BodyValue}
 use Rattle.address.specs.Address.{AddressText, OriginText, origin_of, path_query_of}
 use Rattle.robots_rules.specs.Access.{RuleSetValue}
 use Rattle.fetcher.specs.declared.answer.Answer.{Answer}
@@ -37,13 +38,13 @@ abbrev pub KeepsNote : Reading → Noted → Reading → Type 0
 KeepsNote old note new = Keeps old (note_entry old.robots note) new
 
 -- the text names no address, or one for which an answer is kept
-abbrev pub IsStated : List (AddressText × Answer (List ℕ)) → List ℕ → InputLineFault → Type 0
+abbrev pub IsStated : List (AddressText × Answer BodyValue) → List ℕ → InputLineFault → Type 0
 IsStated answers text Line = IsNamed text × IsSome (lookup (bytes_eq (named text)) answers)
 IsStated answers text Address = ¬ IsNamed text
 IsStated answers text Memory = ⊤
 
 -- the text names an address for which no answer is kept, or is refused
-abbrev pub NamesUnstated : List (AddressText × Answer (List ℕ)) → List ℕ → Result AddressText InputLineFault → Type 0
+abbrev pub NamesUnstated : List (AddressText × Answer BodyValue) → List ℕ → Result AddressText InputLineFault → Type 0
 NamesUnstated answers text result =
     MatchResult result (λ at. IsNamed text × (named text ≡ at) × (lookup (bytes_eq at) answers ≡ None)) (λ f. IsStated answers text f)
 

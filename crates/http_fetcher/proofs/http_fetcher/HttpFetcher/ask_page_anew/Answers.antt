@@ -1,5 +1,6 @@
 -- What is asked over a new connection changes nothing but what makes the connections.
 use Rattle.std.proofs.Common.{◌≡◌, ◌∙◌, [], inl, inr, refl, sym, ap, subst}
+use Rattle.kept_bodies.specs.Bodies.{no_body}
 use Rattle.response_reader.specs.Wire.{counted}
 use Rattle.fetcher.specs.declared.fault_kind.FaultKind.TheVariants.{Connect}
 use Rattle.fetcher.specs.declared.outcome.Outcome.TheVariants.{Fault}
@@ -61,7 +62,7 @@ returns-in-Err-Failed g c =
       most = one_made _ _ c.connect.ensures.made;
       taken = c.connect.ensures.taken;
       told = if_ok_two c.fault.result _ _ _ c.fault.ensures.outcome c.fault.ensures.body (λ a outcome holds.
-          (record { outcome = Fault Connect; body = [] }, (outcome, holds), inl (risen _ _ (rw c.in-Err-Failed.field-0-is at c.in-Err-Failed.ensures.refused), refl, refl)));
+          (record { outcome = Fault Connect; body = no_body }, (outcome, holds), inl (risen _ _ (rw c.in-Err-Failed.field-0-is at c.in-Err-Failed.ensures.refused), refl, refl)));
       stands = λ of wire stood. inl (c.connect.ensures.stands of wire stood);
     })
 

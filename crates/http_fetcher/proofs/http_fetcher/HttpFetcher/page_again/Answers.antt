@@ -1,4 +1,5 @@
 use Rattle.std.proofs.Common.{[], inl, inr, refl}
+use Rattle.kept_bodies.specs.Bodies.{no_body}
 use Rattle.fetcher.specs.declared.fault_kind.FaultKind.TheVariants.{Device}
 use Rattle.fetcher.specs.declared.outcome.Outcome.TheVariants.{Fault}
 use Rattle.http_fetcher.proofs.KeptLemmas.{if_ok_some_map}
@@ -12,4 +13,4 @@ returns-in-Ok-clause-told g c =
 pub returns-then-has_timed_out-clause-told : goal.returns-then-has_timed_out-clause-told
 returns-then-has_timed_out-clause-told g c =
     let heard = c.in_ok-answer-in-Err.ensures in
-    (record { outcome = Fault Device; body = [] }, (heard.outcome, heard.body), (c.write.new.wire, c.write.new.wire, inl (c.in-Err.ensures.device, refl, refl)))
+    (record { outcome = Fault Device; body = no_body }, (heard.outcome, heard.body), (c.write.new.wire, c.write.new.wire, inl (c.in-Err.ensures.device, refl, refl)))

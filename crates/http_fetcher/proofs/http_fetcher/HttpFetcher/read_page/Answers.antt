@@ -1,7 +1,8 @@
 -- The answer stands for that of the response which the sink took, or for the fault of the bytes.
 use Rattle.std.proofs.Common.{◌≡◌, [], Err, ap, inl, inr, refl, subst}
+use Rattle.kept_bodies.specs.Bodies.{no_body}
 use Rattle.fetcher.specs.declared.outcome.Outcome.TheVariants.{Fault}
-use Rattle.response_answer.specs.Digests.{digest_of, kept_body}
+use Rattle.response_answer.specs.Digests.{digest_of, body_of}
 use Rattle.response_answer.proofs.DigestLemmas.{if_ok_map}
 use Rattle.http_fetcher.specs.Fetching.{Fetching}
 use Rattle.http_fetcher.proofs.http_fetcher.HttpFetcher.read_page.Goals as goal
@@ -13,7 +14,7 @@ returns-in_ok-answer-in-Ok-clause-told g c =
     let sunk = step c.begin.ensures in
     let answer = c.in_ok-answer-in-Ok.answer in
     let says = subst (λ (f : Fetching _). answer.outcome ≡ digest_of f.robots c.args.at.now r) c.self.view_is (c.in_ok-answer-in-Ok.ensures.outcome r.head r.body sunk) in (
-      record { outcome = answer.outcome; body = kept_body r.head.status r.body },
+      record { outcome = answer.outcome; body = body_of r.head r.body },
       (refl, c.in_ok-answer-in-Ok.ensures.body r.head r.body sunk),
       (all.0, all.1, inl (r, (rest, is), says, refl)),
     )
@@ -23,4 +24,4 @@ returns-in-Err-clause-told g c =
     let all = c.in-Err.ensures.fault in
     if_ok_map c.unread_page.result _ _ c.unread_page.ensures.told (λ h told.
     let (kind, is, outcome, holds) = told in
-    (record { outcome = Fault kind; body = [] }, (outcome, holds), (all.0, all.1, inr (c.in-Err.fault, kind, is, all.2, (λ device. c.in-Err.ensures.device (ap Err device)), refl, refl))))
+    (record { outcome = Fault kind; body = no_body }, (outcome, holds), (all.0, all.1, inr (c.in-Err.fault, kind, is, all.2, (λ device. c.in-Err.ensures.device (ap Err device)), refl, refl))))

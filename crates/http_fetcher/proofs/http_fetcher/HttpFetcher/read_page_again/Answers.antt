@@ -1,7 +1,8 @@
 -- The answer stands for that of the response which the sink took, or for the fault of the bytes.
 use Rattle.std.proofs.Common.{◌≡◌, [], Err, ap, inl, inr, refl, subst}
+use Rattle.kept_bodies.specs.Bodies.{no_body}
 use Rattle.fetcher.specs.declared.outcome.Outcome.TheVariants.{Fault}
-use Rattle.response_answer.specs.Digests.{digest_of, kept_body}
+use Rattle.response_answer.specs.Digests.{digest_of, body_of}
 use Rattle.http_fetcher.specs.Fetching.{Fetching}
 use Rattle.http_fetcher.proofs.http_fetcher.HttpFetcher.read_page_again.Goals as goal
 
@@ -12,7 +13,7 @@ returns-in_ok-answer-in-Ok-Some-clause-told g c =
     let sunk = step c.begin.ensures in
     let answer = c.in_ok-answer-in-Ok-Some.answer in
     let says = subst (λ (f : Fetching _). answer.outcome ≡ digest_of f.robots c.args.at.now r) c.self.view_is (c.in_ok-answer-in-Ok-Some.ensures.outcome r.head r.body sunk) in (
-      record { outcome = answer.outcome; body = kept_body r.head.status r.body },
+      record { outcome = answer.outcome; body = body_of r.head r.body },
       (refl, c.in_ok-answer-in-Ok-Some.ensures.body r.head r.body sunk),
       (all.0, all.1, inl (r, (rest, is), says, refl)),
     )
@@ -21,4 +22,4 @@ pub returns-in_ok-heard-in-Err-clause-told : goal.returns-in_ok-heard-in-Err-cla
 returns-in_ok-heard-in-Err-clause-told g c =
     let all = c.in-Err.ensures.fault in
     let (kind, is, outcome, holds) = c.in_ok-heard-in-Err.ensures.told in
-    (record { outcome = Fault kind; body = [] }, (outcome, holds), (all.0, all.1, inr (c.in-Err.fault, kind, is, all.2, (λ device. c.in-Err.ensures.device (ap Err device)), refl, refl)))
+    (record { outcome = Fault kind; body = no_body }, (outcome, holds), (all.0, all.1, inr (c.in-Err.fault, kind, is, all.2, (λ device. c.in-Err.ensures.device (ap Err device)), refl, refl)))

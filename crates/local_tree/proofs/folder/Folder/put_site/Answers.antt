@@ -4,6 +4,7 @@ use Rattle.std.specs.Result.{is_err}
 use Rattle.std.specs.String.{string_bytes}
 use Rattle.std.proofs.lemmas.List.{length-map, get_or-map}
 use Rattle.std.proofs.lemmas.Option.{get_or_from_slice_get}
+use Rattle.kept_bodies.specs.Bodies.{bytes_of}
 use Rattle.local_tree.specs.Folders.{one_more_refused}
 use Rattle.local_tree.specs.SiteFiles.{AreWritten, OfFiles}
 use Rattle.local_tree.proofs.SiteFilesLaws.{none_written, made, failed, same_count, one_more, put_written, put_torn, risen}
@@ -12,7 +13,7 @@ use Rattle.local_tree.proofs.folder.Folder.put_site.Goals as goal
 pub loop-i-preserved : goal.loop-i-preserved
 loop-i-preserved g c =
     let names = map string_bytes c.args.names.now in
-    let bodies = c.args.harvest.now.bodies in
+    let bodies = bytes_of c.args.harvest.now.bodies in
     let ended : is_err c.put.result ≡ false = sym c.is_err.ensures.value ∙ c.if-is_err.false in
     let below = c.loop-i-test.true in
     let long : length names ≡ length c.args.names.now = length-map c.args.names.now string_bytes in
@@ -27,7 +28,7 @@ loop-i-preserved g c =
 pub returns-then-is_err-clause-torn : goal.returns-then-is_err-clause-torn
 returns-then-is_err-clause-torn g c =
     let names = map string_bytes c.args.names.now in
-    let bodies = c.args.harvest.now.bodies in
+    let bodies = bytes_of c.args.harvest.now.bodies in
     let ended : is_err c.put.result ≡ true = sym c.is_err.ensures.value ∙ c.if-is_err.true in
     let below = c.loop-i-test.true in
     let long : length names ≡ length c.args.names.now = length-map c.args.names.now string_bytes in
@@ -41,12 +42,12 @@ returns-then-is_err-clause-torn g c =
     }
 
 pub loop-i-init : goal.loop-i-init
-loop-i-init g c = record { files = none_written (map string_bytes c.args.names.now) c.args.harvest.now.bodies (g.Self.Folder.files c.args.self.now); quiet = refl }
+loop-i-init g c = record { files = none_written (map string_bytes c.args.names.now) (bytes_of c.args.harvest.now.bodies) (g.Self.Folder.files c.args.self.now); quiet = refl }
 
 pub returns : goal.returns
 returns g c =
     let names = map string_bytes c.args.names.now in
-    let bodies = c.args.harvest.now.bodies in
+    let bodies = bytes_of c.args.harvest.now.bodies in
     let long : length names ≡ length c.args.names.now = length-map c.args.names.now string_bytes in
     let all : c.loop-i.i ≡ length names = omega (arith, long) in
     record {
