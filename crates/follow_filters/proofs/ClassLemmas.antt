@@ -1,5 +1,5 @@
 -- Reading the items of a class from the left.
-use Rattle.std.proofs.Common.{◌≡◌, ◌≢◌, ◌⊎◌, ⊎_elim, if◌then◌else◌, get_or, drop, length, ◌∙◌, ℕ, ◌<◌, ◌≤◌, ◌==◌, Bool, true, false, inl, inr, List, [], ◌∷◌, ◌++◌, Option, Some, None, option_map, nat_lt, refl, sym, ap, append_assoc, arith}
+use Rattle.std.proofs.Common.{◌≡◌, ◌≢◌, ◌⊎◌, ⊎_elim, if◌then◌else◌, get_or, drop, length, ◌∙◌, ℕ, ◌<◌, ◌≤◌, ◌==◌, Bool, true, false, inl, inr, List, [], ◌∷◌, ◌++◌, Option, Some, None, option_map, is_some, nat_lt, refl, sym, ap, append_assoc, arith}
 use Rattle.std.proofs.lemmas.Bool.Decides.{nat_tests, Decides-eqb}
 use Rattle.std.proofs.lemmas.Bool.{cases_Bool}
 use Rattle.follow_filters.specs.declared.class.Range.{Range}
@@ -76,3 +76,35 @@ pub some_class : (is_negated : Bool) (ranges : List Range) → length ranges ≢
     → class_with is_negated (Some ranges) ≡ Some (record { is_negated = is_negated; ranges = ranges })
 some_class is_negated [] some = absurd (some refl)
 some_class is_negated (r ∷ rs) some = refl
+
+-- ---- whether a class can be read
+
+-- a range that isn't crossed is read if those after it are
+pub then_range-some : (first : Range) (others : Option (List Range)) → first.low ≤ first.high → is_some (then_range first others) ≡ is_some others
+then_range-some first others ordered =
+    let straight : nat_lt first.high first.low ≡ false = grind (arith, nat_tests) in
+    ap (λ b. is_some (if b then None else option_map (λ rs. first ∷ rs) others)) straight ∙ mapped others
+  where
+    mapped : (o : Option (List Range)) → is_some (option_map (λ (rs : List Range). first ∷ rs) o) ≡ is_some o
+    mapped None = refl
+    mapped (Some rs) = refl
+
+-- ranges make a class if there is one
+then_class : (is_negated : Bool) (first : Range) (others : Option (List Range)) → is_some (class_with is_negated (then_range first others)) ≡ is_some (then_range first others)
+then_class is_negated first others = go (nat_lt first.high first.low) others
+  where
+    go : (b : Bool) (o : Option (List Range)) → is_some (class_with is_negated (if b then None else option_map (λ (rs : List Range). first ∷ rs) o)) ≡ is_some (if b then None else option_map (λ (rs : List Range). first ∷ rs) o)
+    go true o = refl
+    go false None = refl
+    go false (Some rs) = refl
+
+-- items make a class if there are some and they are ranges
+pub class_with-some : (is_negated : Bool) (items : List ℕ) → length items ≢ 0 → is_some (class_with is_negated (ranges_of items)) ≡ is_some (ranges_of items)
+class_with-some is_negated [] full = absurd (full refl)
+class_with-some is_negated (x ∷ []) full = then_class is_negated (range x x) (Some [])
+class_with-some is_negated (x ∷ d ∷ []) full = then_class is_negated (range x x) (ranges_of (d ∷ []))
+class_with-some is_negated (x ∷ d ∷ y ∷ items) full = go (d == 45)
+  where
+    go : (b : Bool) → is_some (class_with is_negated (if b then then_range (range x y) (ranges_of items) else then_range (range x x) (ranges_of (d ∷ y ∷ items)))) ≡ is_some (if b then then_range (range x y) (ranges_of items) else then_range (range x x) (ranges_of (d ∷ y ∷ items)))
+    go true = then_class is_negated (range x y) (ranges_of items)
+    go false = then_class is_negated (range x x) (ranges_of (d ∷ y ∷ items))

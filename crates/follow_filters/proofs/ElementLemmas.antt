@@ -7,7 +7,7 @@ use Rattle.std.proofs.lemmas.List.Sums.{suffix_len-take_no}
 use Rattle.std.proofs.Math.Seq.{take-length}
 use Rattle.std.specs.List.{suffix_len, prefix_len}
 use Rattle.follow_filters.specs.Domains.{without_dot, is_domain, read_domain}
-use Rattle.follow_filters.specs.Directories.{without_closing_slashes, is_directory, read_directory}
+use Rattle.follow_filters.specs.Directories.{without_closing_slashes}
 
 -- a text that begins with a dot
 pub without_dot-dotted : (text rest : List ℕ) → text ≡ 46 ∷ rest → without_dot text ≡ rest
@@ -55,11 +55,3 @@ read_domain-good text good = ap (λ b. if b then Some (without_dot text) else No
 pub read_domain-bad : (text : List ℕ) → is_domain (without_dot text) ≡ false → read_domain text ≡ None
 unfolding read_domain
 read_domain-bad text bad = ap (λ b. if b then Some (without_dot text) else None) bad
-
-pub read_directory-good : (text : List ℕ) → is_directory text ≡ true → read_directory text ≡ Some (without_closing_slashes text)
-unfolding read_directory
-read_directory-good text good = ap (λ b. if b then Some (without_closing_slashes text) else None) good
-
-pub read_directory-bad : (text : List ℕ) → is_directory text ≡ false → read_directory text ≡ None
-unfolding read_directory
-read_directory-bad text bad = ap (λ b. if b then Some (without_closing_slashes text) else None) bad

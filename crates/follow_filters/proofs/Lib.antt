@@ -1,7 +1,9 @@
 pub mod StandardFacts
 pub mod TextLemmas
+pub mod NameLemmas
 pub mod PatternLemmas
 pub mod RulesLemmas
+pub mod DirectoryLemmas
 pub mod Meaning
 pub mod EdgeLaws
 pub mod ElementLemmas

@@ -1,45 +1,45 @@
 -- Lists of elements, from the left.
-use Rattle.std.proofs.Common.{zero, suc, ◌≡◌, ◌∙◌, ℕ, ◌+◌, ◌<◌, ◌==◌, true, false, not, List, [], ◌∷◌, ◌++◌, cond, take, drop, length, filter, Option, Some, None, option_map, refl, sym, ap, subst, ⊎_elim, arith, append-nil, Bor, MatchOption}
+use Rattle.std.proofs.Common.{zero, suc, ◌≡◌, ◌∙◌, ℕ, ◌+◌, ◌<◌, ◌==◌, Bool, true, false, not, List, [], ◌∷◌, ◌++◌, cond, take, drop, length, filter, Option, Some, None, option_map, refl, sym, ap, subst, ⊎_elim, arith, append-nil, Bor, MatchOption}
 use Rattle.std.proofs.lemmas.Bool.{cases_Bool}
 use Rattle.std.specs.List.{slice_split, onto_first, position_or_len}
 use Rattle.std.specs.Option.{option_and_then}
 use Rattle.follow_filters.specs.Lists.{is_comma, elements_in, read_all, read_list}
 use Rattle.follow_filters.proofs.ClassLemmas.{behind, behind-more}
 
--- a list with a comma at its place n
-pub split-at : (xs : List ℕ) (n : ℕ) → position_or_len is_comma xs ≡ n → n < length xs → slice_split is_comma xs ≡ take n xs ∷ slice_split is_comma (drop (suc n) xs)
-split-at [] n at below = absurd (omega arith)
-split-at (x ∷ xs) zero at below =
+-- a list with a mark at its place n
+pub split-at : (mark : ℕ → Bool) (xs : List ℕ) (n : ℕ) → position_or_len mark xs ≡ n → n < length xs → slice_split mark xs ≡ take n xs ∷ slice_split mark (drop (suc n) xs)
+split-at mark [] n at below = absurd (omega arith)
+split-at mark (x ∷ xs) zero at below =
     ⊎_elim
-    (λ yes. ap (λ b. cond b ([] ∷ slice_split is_comma xs) (onto_first x (slice_split is_comma xs))) yes)
+    (λ yes. ap (λ b. cond b ([] ∷ slice_split mark xs) (onto_first x (slice_split mark xs))) yes)
     (λ no.
-    let bad : 1 + position_or_len is_comma xs ≡ 0 = subst (λ b. cond (not b) (1 + position_or_len is_comma xs) 0 ≡ 0) no at in
+    let bad : 1 + position_or_len mark xs ≡ 0 = subst (λ b. cond (not b) (1 + position_or_len mark xs) 0 ≡ 0) no at in
     absurd (omega arith))
-    (cases_Bool (is_comma x))
-split-at (x ∷ xs) (suc m) at below =
+    (cases_Bool (mark x))
+split-at mark (x ∷ xs) (suc m) at below =
     ⊎_elim
     (λ yes.
-    let bad : 0 ≡ suc m = subst (λ b. cond (not b) (1 + position_or_len is_comma xs) 0 ≡ suc m) yes at in
+    let bad : 0 ≡ suc m = subst (λ b. cond (not b) (1 + position_or_len mark xs) 0 ≡ suc m) yes at in
     absurd (omega arith))
     (λ no.
-    let later : 1 + position_or_len is_comma xs ≡ suc m = subst (λ b. cond (not b) (1 + position_or_len is_comma xs) 0 ≡ suc m) no at in
-    ap (λ b. cond b ([] ∷ slice_split is_comma xs) (onto_first x (slice_split is_comma xs))) no
-    ∙ ap (onto_first x) (split-at xs m (omega arith) (omega arith)))
-    (cases_Bool (is_comma x))
+    let later : 1 + position_or_len mark xs ≡ suc m = subst (λ b. cond (not b) (1 + position_or_len mark xs) 0 ≡ suc m) no at in
+    ap (λ b. cond b ([] ∷ slice_split mark xs) (onto_first x (slice_split mark xs))) no
+    ∙ ap (onto_first x) (split-at mark xs m (omega arith) (omega arith)))
+    (cases_Bool (mark x))
 
--- a list without a comma
-pub split-whole : (xs : List ℕ) → position_or_len is_comma xs ≡ length xs → slice_split is_comma xs ≡ xs ∷ []
-split-whole [] none = refl
-split-whole (x ∷ xs) none =
+-- a list without a mark
+pub split-whole : (mark : ℕ → Bool) (xs : List ℕ) → position_or_len mark xs ≡ length xs → slice_split mark xs ≡ xs ∷ []
+split-whole mark [] none = refl
+split-whole mark (x ∷ xs) none =
     ⊎_elim
     (λ yes.
-    let bad : 0 ≡ suc (length xs) = subst (λ b. cond (not b) (1 + position_or_len is_comma xs) 0 ≡ suc (length xs)) yes none in
+    let bad : 0 ≡ suc (length xs) = subst (λ b. cond (not b) (1 + position_or_len mark xs) 0 ≡ suc (length xs)) yes none in
     absurd (omega arith))
     (λ no.
-    let later : 1 + position_or_len is_comma xs ≡ suc (length xs) = subst (λ b. cond (not b) (1 + position_or_len is_comma xs) 0 ≡ suc (length xs)) no none in
-    ap (λ b. cond b ([] ∷ slice_split is_comma xs) (onto_first x (slice_split is_comma xs))) no
-    ∙ ap (onto_first x) (split-whole xs (omega arith)))
-    (cases_Bool (is_comma x))
+    let later : 1 + position_or_len mark xs ≡ suc (length xs) = subst (λ b. cond (not b) (1 + position_or_len mark xs) 0 ≡ suc (length xs)) no none in
+    ap (λ b. cond b ([] ∷ slice_split mark xs) (onto_first x (slice_split mark xs))) no
+    ∙ ap (onto_first x) (split-whole mark xs (omega arith)))
+    (cases_Bool (mark x))
 
 -- an element is read, or is empty, and the elements behind it
 pub elements_in-more : {X : Type 0} (read : List ℕ → Option X) (front : List X) (list first rest : List ℕ) (x : X) → slice_split is_comma list ≡ first ∷ slice_split is_comma rest → (length first == 0) ≡ false → read first ≡ Some x → behind (front ++ x ∷ []) (read_list read rest) ≡ behind front (read_list read list)

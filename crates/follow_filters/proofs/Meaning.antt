@@ -10,6 +10,8 @@ use Rattle.std.specs.List.{Any, starts_with, ends_with, list_any, list_all}
 use Rattle.std.specs.Str.{str_to_ascii_lowercase}
 use Rattle.part_match.specs.Cuts.{Matches}
 use Rattle.part_match.proofs.Decided.{is_match-cuts}
+use Rattle.fetcher.specs.declared.edge.EdgeKind.{EdgeKind}
+use Rattle.fetcher.specs.declared.edge.EdgeKind.TheVariants.{Link, Inline, Redirect}
 use Rattle.address.specs.Address.{host_of, dir_of, file_of, path_query_of}
 use Rattle.follow_filters.specs.declared.plan.Plan.{Plan}
 use Rattle.follow_filters.specs.declared.pattern.Part.{Part}
@@ -18,10 +20,11 @@ use Rattle.follow_filters.specs.declared.rule.Rule.TheVariants as rule
 use Rattle.follow_filters.specs.Plans.{starts}
 use Rattle.follow_filters.specs.Texts.{BeginsWith, EndsIn}
 use Rattle.follow_filters.specs.Domains.{IsInDomain, is_in_domain}
-use Rattle.follow_filters.specs.Directories.{IsInDirectory, is_in_directory}
+use Rattle.follow_filters.specs.Directories.{IsInDirectory, is_in_directory, read_names, names_in}
 use Rattle.follow_filters.specs.Exempt.{IsExempt, is_exempt_file}
-use Rattle.follow_filters.specs.Patterns.{MatchesFile, is_file_match, matches_read, read_pattern, is_run, takes}
-use Rattle.follow_filters.specs.Rules.{rules, Meets, Passes, is_absent, meets, first_unmet, passes_of, follows_of, Follows, IsFirstUnmetBy, edge_verdict, verdict_from, keeps_of, keeps_name, KeepsPage, kept_name}
+use Rattle.follow_filters.specs.Patterns.{MatchesFile, is_file_match, matches_read, read_pattern, is_run, takes_in}
+use Rattle.follow_filters.proofs.DirectoryLemmas.{begins_with_read-Decides}
+use Rattle.follow_filters.specs.Rules.{rules, HasStartHost, has_start_host, IsShown, is_shown, LeadsAnywhere, leads_anywhere, Meets, Passes, is_absent, meets, first_unmet, passes_of, follows_of, Follows, IsFirstUnmetBy, edge_verdict, verdict_from, keeps_of, keeps_name, names_some, IsNamedBy, KeepsPage, kept_name, full_name}
 
 -- ---- fronts and backs of texts
 
@@ -43,23 +46,23 @@ is_in_domain-Decides domain host =
     Decides-or _ _ (bytes_eq-Decides (str_to_ascii_lowercase host) (str_to_ascii_lowercase domain))
     (ends_with-Decides (str_to_ascii_lowercase host) (codes "." ++ str_to_ascii_lowercase domain))
 
-is_in_directory-Decides : (element dir : List ℕ) → Decides (is_in_directory element dir) (IsInDirectory element dir)
+is_in_directory-Decides : (ignores_case : Bool) (element dir : List ℕ) → Decides (is_in_directory ignores_case element dir) (IsInDirectory ignores_case element dir)
 unfolding is_in_directory
-is_in_directory-Decides element dir = starts_with-Decides dir (element ++ codes "/")
+is_in_directory-Decides ignores_case element dir = begins_with_read-Decides ignores_case (read_names element) (names_in dir)
 
 is_exempt_file-Decides : (file : List ℕ) → Decides (is_exempt_file file) (IsExempt file)
 is_exempt_file-Decides file =
     Decides-or _ _ (bytes_eq-Decides file []) (Decides-or _ _ (ends_with-Decides file (codes ".htm")) (ends_with-Decides file (codes ".html")))
 
-matches_read-Decides : (read : Option (List Part)) (file : List ℕ) → Decides (matches_read read file) ((parts : List Part) × (read ≡ Some parts) × Matches is_run takes parts file)
-matches_read-Decides None file = (λ yes. cc, λ match. let none = match.1 in cc)
-matches_read-Decides (Some parts) file =
-    let cut = is_match-cuts is_run takes parts file in
-    (λ yes. (parts, refl, cut.0 yes), λ match. cut.1 (subst (λ ps. Matches is_run takes ps file) (let same = match.1 in cc) match.2))
+matches_read-Decides : (ignores_case : Bool) (read : Option (List Part)) (file : List ℕ) → Decides (matches_read ignores_case read file) ((parts : List Part) × (read ≡ Some parts) × Matches is_run (takes_in ignores_case) parts file)
+matches_read-Decides ignores_case None file = (λ yes. cc, λ match. let none = match.1 in cc)
+matches_read-Decides ignores_case (Some parts) file =
+    let cut = is_match-cuts is_run (takes_in ignores_case) parts file in
+    (λ yes. (parts, refl, cut.0 yes), λ match. cut.1 (subst (λ ps. Matches is_run (takes_in ignores_case) ps file) (let same = match.1 in cc) match.2))
 
-is_file_match-Decides : (element file : List ℕ) → Decides (is_file_match element file) (MatchesFile element file)
+is_file_match-Decides : (ignores_case : Bool) (element file : List ℕ) → Decides (is_file_match ignores_case element file) (MatchesFile ignores_case element file)
 unfolding is_file_match
-is_file_match-Decides element file = matches_read-Decides (read_pattern element) file
+is_file_match-Decides ignores_case element file = matches_read-Decides ignores_case (read_pattern element) file
 
 -- some element of a list passes a test
 any-Decides : {X : Type 0} (p : X → Bool) (P : X → Type 0) → ((x : X) → Decides (p x) (P x)) → (xs : List X) → Decides (list_any p xs) (Any P xs)
@@ -98,23 +101,44 @@ where_both true true z p q = (λ yes set h. q.0 yes, λ all. q.1 (all refl (p.0 
 where_both true false z p q = (λ yes set h. let no = p.1 h in cc, λ all. refl)
 where_both false y z p q = (λ yes set h. cc, λ all. refl)
 
-pub meets-Decides : (r : Rule) (plan : Plan) (page address : List ℕ) → Decides (meets r plan page address) (Meets r plan page address)
+-- a fact where a flag is set
+where_set : {Q : Type 0} (x y : Bool) → Decides y Q → Decides (not x || y) (x ≡ true → Q)
+where_set true y q = (λ yes set. q.0 yes, λ all. q.1 (all refl))
+where_set false y q = (λ yes set. cc, λ all. refl)
+
+has_start_host-Decides : (plan : Plan) (address : List ℕ) → Decides (has_start_host plan address) (HasStartHost plan address)
+has_start_host-Decides plan address = any-Decides _ _ (λ start. bytes_eq-Decides (host_of address) (host_of start)) (starts plan)
+
+is_shown-Decides : (plan : Plan) (page : List ℕ) (kind : EdgeKind) → Decides (is_shown plan page kind) (IsShown plan page kind)
+is_shown-Decides plan page Link = (λ yes. cc, λ never. absurd never)
+is_shown-Decides plan page Inline = (λ yes. tt, λ always. refl)
+is_shown-Decides plan page Redirect = Decides-not _ (has_start_host-Decides plan page)
+
+leads_anywhere-Decides : (plan : Plan) (page : List ℕ) (kind : EdgeKind) → Decides (leads_anywhere plan page kind) (LeadsAnywhere plan page kind)
+leads_anywhere-Decides plan page kind = Decides-and _ _ (is_shown-Decides plan page kind) (λ yes. yes, λ yes. yes)
+
+pub meets-Decides : (r : Rule) (plan : Plan) (page : List ℕ) (kind : EdgeKind) (address : List ℕ) → Decides (meets r plan page kind address) (Meets r plan page kind address)
 unfolding meets
-meets-Decides rule.RobotsFile plan page address = Decides-not _ (bytes_eq-Decides (path_query_of address) (codes "/robots.txt"))
-meets-Decides rule.Host plan page address = unless _ _ (bytes_eq-Decides (host_of address) (host_of page))
-meets-Decides rule.Parent plan page address =
-    where_both _ _ _ (any-Decides _ _ (λ start. bytes_eq-Decides (host_of address) (host_of start)) (starts plan))
-    (any-Decides _ _ (λ start. Decides-and _ _ (bytes_eq-Decides (host_of address) (host_of start)) (starts_with-Decides (dir_of address) (dir_of start))) (starts plan))
-meets-Decides rule.Domain plan page address =
-    unless_fact _ _ (is_absent-Decides plan.domains) (any-Decides _ _ (λ d. is_in_domain-Decides d (host_of address)) plan.domains)
-meets-Decides rule.ExcludedDomain plan page address = Decides-not _ (any-Decides _ _ (λ d. is_in_domain-Decides d (host_of address)) plan.exclude_domains)
-meets-Decides rule.NotIncluded plan page address =
-    unless_fact _ _ (is_absent-Decides plan.include_dirs) (any-Decides _ _ (λ d. is_in_directory-Decides d (dir_of address)) plan.include_dirs)
-meets-Decides rule.Excluded plan page address = Decides-not _ (any-Decides _ _ (λ d. is_in_directory-Decides d (dir_of address)) plan.exclude_dirs)
-meets-Decides rule.NotAccepted plan page address =
-    unless_facts _ _ _ (is_exempt_file-Decides (file_of address)) (is_absent-Decides plan.accept) (any-Decides _ _ (λ p. is_file_match-Decides p (file_of address)) plan.accept)
-meets-Decides rule.Rejected plan page address =
-    unless_fact _ _ (is_exempt_file-Decides (file_of address)) (Decides-not _ (any-Decides _ _ (λ p. is_file_match-Decides p (file_of address)) plan.reject))
+meets-Decides rule.RobotsFile plan page kind address = Decides-not _ (bytes_eq-Decides (path_query_of address) (codes "/robots.txt"))
+meets-Decides rule.Host plan page kind address =
+    unless_fact _ _ (leads_anywhere-Decides plan page kind)
+    (unless _ _ (Decides-and _ _ (bytes_eq-Decides (host_of address) (host_of page)) (where_set _ _ (has_start_host-Decides plan page))))
+meets-Decides rule.Parent plan page kind address =
+    unless_fact _ _ (leads_anywhere-Decides plan page kind)
+    (where_both _ _ _ (has_start_host-Decides plan address)
+    (any-Decides _ _ (λ start. Decides-and _ _ (bytes_eq-Decides (host_of address) (host_of start)) (starts_with-Decides (dir_of address) (dir_of start))) (starts plan)))
+meets-Decides rule.Domain plan page kind address =
+    unless_fact _ _ (leads_anywhere-Decides plan page kind)
+    (unless_fact _ _ (is_absent-Decides plan.domains) (any-Decides _ _ (λ d. is_in_domain-Decides d (host_of address)) plan.domains))
+meets-Decides rule.ExcludedDomain plan page kind address =
+    unless_fact _ _ (leads_anywhere-Decides plan page kind) (Decides-not _ (any-Decides _ _ (λ d. is_in_domain-Decides d (host_of address)) plan.exclude_domains))
+meets-Decides rule.NotIncluded plan page kind address =
+    unless_fact _ _ (is_absent-Decides plan.include_dirs) (any-Decides _ _ (λ d. is_in_directory-Decides plan.ignore_case d (dir_of address)) plan.include_dirs)
+meets-Decides rule.Excluded plan page kind address = Decides-not _ (any-Decides _ _ (λ d. is_in_directory-Decides plan.ignore_case d (dir_of address)) plan.exclude_dirs)
+meets-Decides rule.NotAccepted plan page kind address =
+    unless_facts _ _ _ (is_exempt_file-Decides (file_of address)) (is_absent-Decides plan.accept) (any-Decides _ _ (λ p. is_file_match-Decides plan.ignore_case p (file_of address)) plan.accept)
+meets-Decides rule.Rejected plan page kind address =
+    unless_fact _ _ (is_exempt_file-Decides (file_of address)) (Decides-not _ (any-Decides _ _ (λ p. is_file_match-Decides plan.ignore_case p (file_of address)) plan.reject))
 
 -- ---- all rules
 
@@ -148,23 +172,23 @@ listed rule.NotAccepted = (omega arith, refl)
 listed rule.Rejected = (omega arith, refl)
 
 -- what each rule of a list says, its tests say together
-all_met : (plan : Plan) (page address : List ℕ) (rs : List Rule) → ((r : Rule) → meets r plan page address ≡ true) → list_all (λ r. meets r plan page address) rs ≡ true
-all_met plan page address [] each = refl
-all_met plan page address (r ∷ rs) each = and_from _ _ (each r) (all_met plan page address rs each)
+all_met : (plan : Plan) (page : List ℕ) (kind : EdgeKind) (address : List ℕ) (rs : List Rule) → ((r : Rule) → meets r plan page kind address ≡ true) → list_all (λ r. meets r plan page kind address) rs ≡ true
+all_met plan page kind address [] each = refl
+all_met plan page kind address (r ∷ rs) each = and_from _ _ (each r) (all_met plan page kind address rs each)
 
 -- the test `follows_of` holds of a page and a text just where they meet each of the nine rules, for every plan: a law for definitions
 -- of other crates that take a test
-pub follows_of-is : (plan : Plan) (page address : List ℕ) → IsTrue (follows_of plan page address) ↔ Follows plan page address
+pub follows_of-is : (plan : Plan) (page : List ℕ) (kind : EdgeKind) (address : List ℕ) → IsTrue (follows_of plan page kind address) ↔ Follows plan page kind address
 unfolding follows_of
-follows_of-is plan page address = (
-  λ yes r. (meets-Decides r plan page address).0
-      (subst (λ s. meets s plan page address ≡ true) (listed r).1 (passed (λ s. meets s plan page address) rules (place r) rule.Rejected (listed r).0 yes)),
-  λ pass. all_met plan page address rules (λ r. (meets-Decides r plan page address).1 (pass r)),
+follows_of-is plan page kind address = (
+  λ yes r. (meets-Decides r plan page kind address).0
+      (subst (λ s. meets s plan page kind address ≡ true) (listed r).1 (passed (λ s. meets s plan page kind address) rules (place r) rule.Rejected (listed r).0 yes)),
+  λ pass. all_met plan page kind address rules (λ r. (meets-Decides r plan page kind address).1 (pass r)),
 )
 
 -- the same of the start's edges
 pub passes_of-is : (plan : Plan) (address : List ℕ) → IsTrue (passes_of plan address) ↔ Passes plan address
-passes_of-is plan address = follows_of-is plan plan.start address
+passes_of-is plan address = follows_of-is plan plan.start Link address
 
 -- ---- the first rule that isn't met
 
@@ -176,9 +200,9 @@ find-list_all q (r ∷ rs) =
     let both : (b : Bool) → P b = elim [ true ↦ find-list_all q rs | false ↦ refl ] in
     both (q r)
 
-pub verdict-follows : (plan : Plan) (page address : List ℕ) → is_ok (edge_verdict plan page address) ≡ follows_of plan page address
+pub verdict-follows : (plan : Plan) (page : List ℕ) (kind : EdgeKind) (address : List ℕ) → is_ok (edge_verdict plan page kind address) ≡ follows_of plan page kind address
 unfolding follows_of first_unmet
-verdict-follows plan page address = find-list_all (λ r. meets r plan page address) rules
+verdict-follows plan page kind address = find-list_all (λ r. meets r plan page kind address) rules
 
 -- what is found first stands behind what passes the test, and fails it
 find-split : (q : Rule → Bool) (rs : List Rule) (u : Rule) → find (λ r. not (q r)) rs ≡ Some u → (before after : List Rule) × (rs ≡ before ++ u ∷ after) × All (λ r. q r ≡ true) before × (q u ≡ false)
@@ -196,36 +220,38 @@ find-split q (r ∷ rs) u found =
     (cases_Bool (q r))
 
 -- what the first unmet rule, or none, says of the rules
-means_from : (plan : Plan) (page address : List ℕ) (found : Option Rule) → first_unmet plan page address ≡ found → MatchResult (verdict_from found) (λ nothing. Follows plan page address) (IsFirstUnmetBy plan page address)
+means_from : (plan : Plan) (page : List ℕ) (kind : EdgeKind) (address : List ℕ) (found : Option Rule) → first_unmet plan page kind address ≡ found → MatchResult (verdict_from found) (λ nothing. Follows plan page kind address) (IsFirstUnmetBy plan page kind address)
 unfolding first_unmet
-means_from plan page address None none =
-    (follows_of-is plan page address).0 (sym (verdict-follows plan page address) ∙ ap (λ o. is_ok (verdict_from o)) none)
-means_from plan page address (Some unmet) found =
-    let split = find-split (λ r. meets r plan page address) rules unmet found in
-    (split.0, split.1, split.2, λ k d below. (meets-Decides (get_or split.0 k d) plan page address).0 (split.3 k d below), λ met. let yes = (meets-Decides unmet plan page address).1 met in let no = split.4 in cc)
+means_from plan page kind address None none =
+    (follows_of-is plan page kind address).0 (sym (verdict-follows plan page kind address) ∙ ap (λ o. is_ok (verdict_from o)) none)
+means_from plan page kind address (Some unmet) found =
+    let split = find-split (λ r. meets r plan page kind address) rules unmet found in
+    (split.0, split.1, split.2, λ k d below. (meets-Decides (get_or split.0 k d) plan page kind address).0 (split.3 k d below), λ met. let yes = (meets-Decides unmet plan page kind address).1 met in let no = split.4 in cc)
 
-pub verdict-means : (plan : Plan) (page address : List ℕ) → MatchResult (edge_verdict plan page address) (λ nothing. Follows plan page address) (IsFirstUnmetBy plan page address)
-verdict-means plan page address = means_from plan page address (first_unmet plan page address) refl
+pub verdict-means : (plan : Plan) (page : List ℕ) (kind : EdgeKind) (address : List ℕ) → MatchResult (edge_verdict plan page kind address) (λ nothing. Follows plan page kind address) (IsFirstUnmetBy plan page kind address)
+verdict-means plan page kind address = means_from plan page kind address (first_unmet plan page kind address) refl
 
 -- what an answer that is the verdict says
-pub told : (plan : Plan) (page address : List ℕ) (answer : Result (Unit {0}) Rule) → answer ≡ edge_verdict plan page address → (is_ok answer ≡ follows_of plan page address) × MatchResult answer (λ nothing. Follows plan page address) (IsFirstUnmetBy plan page address)
-told plan page address answer is = (
-  ap is_ok is ∙ verdict-follows plan page address,
-  subst (λ a. MatchResult a (λ nothing. Follows plan page address) (IsFirstUnmetBy plan page address)) (sym is) (verdict-means plan page address),
+pub told : (plan : Plan) (page : List ℕ) (kind : EdgeKind) (address : List ℕ) (answer : Result (Unit {0}) Rule) → answer ≡ edge_verdict plan page kind address → (is_ok answer ≡ follows_of plan page kind address) × MatchResult answer (λ nothing. Follows plan page kind address) (IsFirstUnmetBy plan page kind address)
+told plan page kind address answer is = (
+  ap is_ok is ∙ verdict-follows plan page kind address,
+  subst (λ a. MatchResult a (λ nothing. Follows plan page kind address) (IsFirstUnmetBy plan page kind address)) (sym is) (verdict-means plan page kind address),
 )
 
 -- ---- which pages are kept
 
+is_named-Decides : (ignores_case : Bool) (patterns : List (List ℕ)) (address : List ℕ) → Decides (names_some ignores_case patterns (kept_name address) (full_name address)) (IsNamedBy ignores_case patterns address)
+is_named-Decides ignores_case patterns address =
+    any-Decides _ _ (λ p. Decides-or _ _ (is_file_match-Decides ignores_case p (kept_name address)) (is_file_match-Decides ignores_case p (full_name address))) patterns
+
 pub keeps_of-is : (plan : Plan) (address : List ℕ) → Decides (keeps_of plan address) (KeepsPage plan address)
 unfolding keeps_of
 keeps_of-is plan address =
-    Decides-and _ _
-    (unless_fact _ _ (is_absent-Decides plan.accept) (any-Decides _ _ (λ p. is_file_match-Decides p (kept_name address)) plan.accept))
-    (Decides-not _ (any-Decides _ _ (λ p. is_file_match-Decides p (kept_name address)) plan.reject))
+    Decides-and _ _ (unless_fact _ _ (is_absent-Decides plan.accept) (is_named-Decides plan.ignore_case plan.accept address)) (Decides-not _ (is_named-Decides plan.ignore_case plan.reject address))
 
-pub kept : (plan : Plan) (address name : List ℕ) (answer : Bool) → answer ≡ keeps_name plan name → name ≡ kept_name address → (answer ≡ keeps_of plan address) × (IsTrue answer ↔ KeepsPage plan address)
+pub kept : (plan : Plan) (address name full : List ℕ) (answer : Bool) → answer ≡ keeps_name plan name full → name ≡ kept_name address → full ≡ full_name address → (answer ≡ keeps_of plan address) × (IsTrue answer ↔ KeepsPage plan address)
 unfolding keeps_of
-kept plan address name answer is named =
-    let value : answer ≡ keeps_of plan address = is ∙ ap (keeps_name plan) named in
+kept plan address name full answer is named whole =
+    let value : answer ≡ keeps_of plan address = is ∙ ap (λ n. keeps_name plan n full) named ∙ ap (keeps_name plan (kept_name address)) whole in
     let means = keeps_of-is plan address in
     (value, (λ yes. means.0 (sym value ∙ yes), λ keeps. value ∙ means.1 keeps))

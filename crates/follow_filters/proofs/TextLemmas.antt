@@ -9,7 +9,6 @@ use Rattle.std.proofs.lemmas.Slice.Eq.{bytes_eq-Decides}
 use Rattle.std.specs.List.{starts_with, ends_with}
 use Rattle.std.specs.Char.{to_ascii_lowercase}
 use Rattle.follow_filters.specs.Domains.{is_in_domain}
-use Rattle.follow_filters.specs.Directories.{is_in_directory}
 use Rattle.std.specs.Str.{str_to_ascii_lowercase}
 
 -- the rest of a slice
@@ -56,8 +55,3 @@ pub is_in_domain-below : (domain host : List ℕ) → (str_to_ascii_lowercase ho
 unfolding is_in_domain
 is_in_domain-below domain host differ =
     ⊎_elim (λ yes. absurd (differ ((bytes_eq-Decides (str_to_ascii_lowercase host) (str_to_ascii_lowercase domain)).0 yes))) (λ no. rw no refl) (cases_Bool (bytes_eq (str_to_ascii_lowercase host) (str_to_ascii_lowercase domain)))
-
--- a directory is an element or below it where it begins with it, and a slash follows
-pub is_in_directory-split : (element dir : List ℕ) → is_in_directory element dir ≡ (starts_with nat_eq dir element && starts_with nat_eq (drop (length element) dir) (codes "/"))
-unfolding is_in_directory
-is_in_directory-split element dir = starts_with-append dir element (codes "/")

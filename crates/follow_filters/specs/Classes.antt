@@ -1,5 +1,6 @@
 -- Classes of bytes in a pattern, as `[a-c]` (GNU Wget manual, section Types of Files).
-use Rattle.std.specs.Prelude.{ℕ, Bool, true, false, not, ◌&&◌, ◌==◌, nat_le, nat_lt, List, [], ◌∷◌, Option, Some, None, option_map, if◌then◌else◌}
+use Rattle.std.specs.Prelude.{ℕ, Bool, true, false, not, ◌&&◌, ◌||◌, ◌==◌, nat_le, nat_lt, List, [], ◌∷◌, Option, Some, None, option_map, if◌then◌else◌}
+use Rattle.std.specs.Char.{to_ascii_lowercase, to_ascii_uppercase}
 use Rattle.std.specs.List.{list_any}
 use Rattle.follow_filters.specs.declared.class.Range.{Range}
 use Rattle.follow_filters.specs.ClassValues.{ClassValue}
@@ -15,6 +16,14 @@ class_names class byte = list_any (λ range. is_in byte range) class.ranges
 -- a class takes what its ranges name, or where it is negated what none names
 abbrev pub class_takes : ClassValue → ℕ → Bool
 class_takes class byte = if class.is_negated then not (class_names class byte) else class_names class byte
+
+-- a range of the class names the byte in lower or in upper case
+abbrev pub class_names_letter : ClassValue → ℕ → Bool
+class_names_letter class byte = class_names class (to_ascii_lowercase byte) || class_names class (to_ascii_uppercase byte)
+
+-- what a class takes if the case of letters doesn't count
+abbrev pub class_takes_any_case : ClassValue → ℕ → Bool
+class_takes_any_case class byte = if class.is_negated then not (class_names_letter class byte) else class_names_letter class byte
 
 -- ---- how a class is written
 

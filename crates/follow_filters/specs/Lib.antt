@@ -3,12 +3,13 @@ pub mod Wildcards
 pub mod Limits
 pub mod Elements
 pub mod Domains
-pub mod Directories
 pub mod ClassValues
 pub mod Classes
 pub mod Patterns
+pub mod Lists
+pub mod Directories
 pub mod Exempt
 pub mod Plans
+pub mod KeptNames
 pub mod Rules
 pub mod Levels
-pub mod Lists

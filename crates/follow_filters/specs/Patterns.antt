@@ -1,12 +1,13 @@
 -- Patterns of file names, and what they match (GNU Wget manual, section Types of Files).
 use Rattle.std.specs.Prelude.{◌≡◌, zero, suc, ℕ, Bool, true, false, ◌==◌, List, [], ◌∷◌, map, take, drop, ◌+◌, length, Option, Some, None, option_map, if◌then◌else◌}
+use Rattle.std.specs.Char.{to_ascii_lowercase}
 use Rattle.std.specs.Option.{option_and_then}
 use Rattle.std.specs.List.{list_any, position}
 use Rattle.part_match.specs.Cuts.{Matches, is_match}
 use Rattle.follow_filters.specs.declared.pattern.Part.{Part}
 use Rattle.follow_filters.specs.declared.pattern.Part.TheVariants as part
 use Rattle.follow_filters.specs.Wildcards.{is_wildcard}
-use Rattle.follow_filters.specs.Classes.{class_takes, bracketed_class}
+use Rattle.follow_filters.specs.Classes.{class_takes, class_takes_any_case, bracketed_class}
 
 -- the part matches any run of bytes
 abbrev pub is_run : Part → Bool
@@ -19,6 +20,17 @@ takes part.Run byte = false
 takes part.Any byte = true
 takes (part.Byte wanted) byte = byte == wanted
 takes (part.Class class) byte = class_takes class byte
+
+-- the part matches the one byte, and the case of letters doesn't count
+unfoldable pub takes_any_case : Part → ℕ → Bool
+takes_any_case part.Run byte = false
+takes_any_case part.Any byte = true
+takes_any_case (part.Byte wanted) byte = to_ascii_lowercase byte == to_ascii_lowercase wanted
+takes_any_case (part.Class class) byte = class_takes_any_case class byte
+
+-- the part matches the one byte, if the case of letters is ignored or not
+abbrev pub takes_in : Bool → Part → ℕ → Bool
+takes_in ignores_case part byte = if ignores_case then takes_any_case part byte else takes part byte
 
 -- ---- how a pattern is written
 
@@ -61,17 +73,17 @@ read_pattern element =
 abbrev pub read_element : List ℕ → Option (List ℕ)
 read_element element = option_map (λ parts. element) (read_pattern element)
 
--- ---- what a pattern matches
+-- ---- what a pattern matches; of all it is asked first whether the case of letters is ignored
 
 -- the text can be cut into pieces that the pattern's parts match one by one
-abbrev pub MatchesFile : List ℕ → List ℕ → Type 0
-MatchesFile element file = (parts : List Part) × (read_pattern element ≡ Some parts) × Matches is_run takes parts file
+abbrev pub MatchesFile : Bool → List ℕ → List ℕ → Type 0
+MatchesFile ignores_case element file = (parts : List Part) × (read_pattern element ≡ Some parts) × Matches is_run (takes_in ignores_case) parts file
 
 -- the same of the parts that were read, as a test
-abbrev pub matches_read : Option (List Part) → List ℕ → Bool
-matches_read None file = false
-matches_read (Some parts) file = is_match is_run takes parts file
+abbrev pub matches_read : Bool → Option (List Part) → List ℕ → Bool
+matches_read ignores_case None file = false
+matches_read ignores_case (Some parts) file = is_match is_run (takes_in ignores_case) parts file
 
 -- the element matches the file name, as a test
-unfoldable pub is_file_match : List ℕ → List ℕ → Bool
-is_file_match element file = matches_read (read_pattern element) file
+unfoldable pub is_file_match : Bool → List ℕ → List ℕ → Bool
+is_file_match ignores_case element file = matches_read ignores_case (read_pattern element) file

@@ -17,6 +17,8 @@ pub record IsUnfiltered (plan : Plan) : Type 0 where
   pub exclude_dirs : plan.exclude_dirs ≡ []
   pub accept : plan.accept ≡ []
   pub reject : plan.reject ≡ []
+  pub ignore_case : plan.ignore_case ≡ false
   pub robots : plan.robots ≡ false
   pub page_requisites : plan.page_requisites ≡ false
+  pub span_requisites : plan.span_requisites ≡ false
   pub per_host : plan.per_host ≡ 2

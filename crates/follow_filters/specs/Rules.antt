@@ -1,7 +1,9 @@
 -- The rules of following: each is a statement on an edge, that is a page and the address to which it leads, and a plan (GNU Wget manual, chapter Following Links).
-use Rattle.std.specs.Prelude.{◌≡◌, ◌≢◌, ◌↔◌, IsTrue, ℕ, Bool, true, false, not, ◌&&◌, ◌||◌, ◌==◌, length, if◌then◌else◌, List, [], ◌∷◌, ◌++◌, codes, nat_eq, bytes_eq, Option, Some, None, Result, Ok, Err}
+use Rattle.std.specs.Prelude.{◌≡◌, ◌≢◌, ◌⊎◌, ⊤, ℕ, Bool, true, false, not, ◌&&◌, ◌||◌, ◌==◌, length, if◌then◌else◌, List, [], ◌∷◌, ◌++◌, codes, nat_eq, bytes_eq, Option, Some, None, Result, Ok, Err}
 use Rattle.std.specs.List.{All, Any, starts_with, list_any, list_all, find}
-use Rattle.address.specs.Address.{host_of, dir_of, file_of, path_query_of, is_robots_file}
+use Rattle.fetcher.specs.declared.edge.EdgeKind.{EdgeKind}
+use Rattle.fetcher.specs.declared.edge.EdgeKind.TheVariants.{Link, Inline, Redirect}
+use Rattle.address.specs.Address.{host_of, dir_of, file_of, query_of, path_query_of, is_robots_file}
 use Rattle.follow_filters.specs.declared.plan.Plan.{Plan}
 use Rattle.follow_filters.specs.declared.rule.Rule.{Rule}
 use Rattle.follow_filters.specs.declared.rule.Rule.TheVariants as rule
@@ -36,37 +38,55 @@ HasStartHost plan address = Any (λ start. HasHostOf address start) (starts plan
 abbrev pub IsBelowStart : Plan → List ℕ → Type 0
 IsBelowStart plan address = Any (λ start. IsBelow address start) (starts plan)
 
--- the address, to which an edge of the page leads, meets the rule
-abbrev pub Meets : Rule → Plan → List ℕ → List ℕ → Type 0
-Meets rule.RobotsFile plan page address = path_query_of address ≢ codes "/robots.txt"
-Meets rule.Host plan page address = plan.span_hosts ≡ false → HasHostOf address page
-Meets rule.Parent plan page address = plan.no_parent ≡ true → HasStartHost plan address → IsBelowStart plan address
-Meets rule.Domain plan page address = plan.domains ≢ [] → Any (λ d. IsInDomain d (host_of address)) plan.domains
-Meets rule.ExcludedDomain plan page address = ¬ Any (λ d. IsInDomain d (host_of address)) plan.exclude_domains
-Meets rule.NotIncluded plan page address = plan.include_dirs ≢ [] → Any (λ d. IsInDirectory d (dir_of address)) plan.include_dirs
-Meets rule.Excluded plan page address = ¬ Any (λ d. IsInDirectory d (dir_of address)) plan.exclude_dirs
-Meets rule.NotAccepted plan page address =
-    ¬ IsExempt (file_of address) → plan.accept ≢ [] → Any (λ p. MatchesFile p (file_of address)) plan.accept
-Meets rule.Rejected plan page address =
-    ¬ IsExempt (file_of address) → ¬ Any (λ p. MatchesFile p (file_of address)) plan.reject
+-- the edge shows its target in the page, or redirects from a page that is on no start's host: no one else leads there
+abbrev pub IsShown : Plan → List ℕ → EdgeKind → Type 0
+IsShown plan page Link = ⊥
+IsShown plan page Inline = ⊤
+IsShown plan page Redirect = ¬ HasStartHost plan page
 
--- the edge of the page that leads to the address is followed: it meets each rule
-abbrev pub Follows : Plan → List ℕ → List ℕ → Type 0
-Follows plan page address = (rule : Rule) → Meets rule plan page address
+-- the rules on host, parent and domains don't hold for the edge: requisites are spanned, and it is one of those
+abbrev pub LeadsAnywhere : Plan → List ℕ → EdgeKind → Type 0
+LeadsAnywhere plan page kind = IsShown plan page kind × (plan.span_requisites ≡ true)
+
+-- the address is on the page's host; if requisites are spanned, that is a start's too: links stay at home
+abbrev pub StaysHome : Plan → List ℕ → List ℕ → Type 0
+StaysHome plan page address = HasHostOf address page × (plan.span_requisites ≡ true → HasStartHost plan page)
+
+-- the address, to which an edge of the page leads, meets the rule
+abbrev pub Meets : Rule → Plan → List ℕ → EdgeKind → List ℕ → Type 0
+Meets rule.RobotsFile plan page kind address = path_query_of address ≢ codes "/robots.txt"
+Meets rule.Host plan page kind address = ¬ LeadsAnywhere plan page kind → plan.span_hosts ≡ false → StaysHome plan page address
+Meets rule.Parent plan page kind address =
+    ¬ LeadsAnywhere plan page kind → plan.no_parent ≡ true → HasStartHost plan address → IsBelowStart plan address
+Meets rule.Domain plan page kind address =
+    ¬ LeadsAnywhere plan page kind → plan.domains ≢ [] → Any (λ d. IsInDomain d (host_of address)) plan.domains
+Meets rule.ExcludedDomain plan page kind address =
+    ¬ LeadsAnywhere plan page kind → ¬ Any (λ d. IsInDomain d (host_of address)) plan.exclude_domains
+Meets rule.NotIncluded plan page kind address =
+    plan.include_dirs ≢ [] → Any (λ d. IsInDirectory plan.ignore_case d (dir_of address)) plan.include_dirs
+Meets rule.Excluded plan page kind address = ¬ Any (λ d. IsInDirectory plan.ignore_case d (dir_of address)) plan.exclude_dirs
+Meets rule.NotAccepted plan page kind address =
+    ¬ IsExempt (file_of address) → plan.accept ≢ [] → Any (λ p. MatchesFile plan.ignore_case p (file_of address)) plan.accept
+Meets rule.Rejected plan page kind address =
+    ¬ IsExempt (file_of address) → ¬ Any (λ p. MatchesFile plan.ignore_case p (file_of address)) plan.reject
+
+-- the page's edge of the kind that leads to the address is followed: it meets each rule
+abbrev pub Follows : Plan → List ℕ → EdgeKind → List ℕ → Type 0
+Follows plan page kind address = (rule : Rule) → Meets rule plan page kind address
 
 -- the first rule that the edge doesn't meet: it meets those before it
-abbrev pub IsFirstUnmetBy : Plan → List ℕ → List ℕ → Rule → Type 0
-IsFirstUnmetBy plan page address unmet =
+abbrev pub IsFirstUnmetBy : Plan → List ℕ → EdgeKind → List ℕ → Rule → Type 0
+IsFirstUnmetBy plan page kind address unmet =
     (before after : List Rule) × (rules ≡ before ++ unmet ∷ after)
-    × All (λ rule. Meets rule plan page address) before × (¬ Meets unmet plan page address)
+    × All (λ rule. Meets rule plan page kind address) before × (¬ Meets unmet plan page kind address)
 
--- the address passes the filters: an edge of the start is followed to it
+-- the address passes the filters: a link of the start is followed to it
 abbrev pub Passes : Plan → List ℕ → Type 0
-Passes plan address = Follows plan plan.start address
+Passes plan address = Follows plan plan.start Link address
 
--- the first rule that the address doesn't meet, where the start leads to it
+-- the first rule that the address doesn't meet, if a link of the start leads to it
 abbrev pub IsFirstUnmet : Plan → List ℕ → Rule → Type 0
-IsFirstUnmet plan address unmet = IsFirstUnmetBy plan plan.start address unmet
+IsFirstUnmet plan address unmet = IsFirstUnmetBy plan plan.start Link address unmet
 
 -- ---- the same as tests
 
@@ -91,43 +111,61 @@ abbrev pub is_in_some_domain : List (List ℕ) → List ℕ → Bool
 is_in_some_domain domains host = list_any (λ d. is_in_domain d host) domains
 
 -- the directory is one of the list or below one
-abbrev pub is_in_some_directory : List (List ℕ) → List ℕ → Bool
-is_in_some_directory directories dir = list_any (λ d. is_in_directory d dir) directories
+abbrev pub is_in_some_directory : Bool → List (List ℕ) → List ℕ → Bool
+is_in_some_directory ignores_case directories dir = list_any (λ d. is_in_directory ignores_case d dir) directories
 
 -- a pattern of the list matches the file name
-abbrev pub matches_some : List (List ℕ) → List ℕ → Bool
-matches_some patterns file = list_any (λ p. is_file_match p file) patterns
+abbrev pub matches_some : Bool → List (List ℕ) → List ℕ → Bool
+matches_some ignores_case patterns file = list_any (λ p. is_file_match ignores_case p file) patterns
 
 -- the list wasn't given
 abbrev pub is_absent : List (List ℕ) → Bool
 is_absent [] = true
 is_absent (first ∷ others) = false
 
+-- the edge shows its target in the page, or redirects from a page that is on no start's host
+abbrev pub is_shown : Plan → List ℕ → EdgeKind → Bool
+is_shown plan page Link = false
+is_shown plan page Inline = true
+is_shown plan page Redirect = not (has_start_host plan page)
+
+-- the rules on host, parent and domains don't hold for the edge
+abbrev pub leads_anywhere : Plan → List ℕ → EdgeKind → Bool
+leads_anywhere plan page kind = is_shown plan page kind && plan.span_requisites
+
+-- the address is on the page's host, and if requisites are spanned that is a start's
+abbrev pub stays_home : Plan → List ℕ → List ℕ → Bool
+stays_home plan page address = has_host_of address page && (not plan.span_requisites || has_start_host plan page)
+
 -- the address, to which an edge of the page leads, meets the rule
-unfoldable pub meets : Rule → Plan → List ℕ → List ℕ → Bool
-meets rule.RobotsFile plan page address = not (is_robots_file address)
-meets rule.Host plan page address = plan.span_hosts || has_host_of address page
-meets rule.Parent plan page address =
-    not plan.no_parent || not (has_start_host plan address) || is_below_start plan address
-meets rule.Domain plan page address = is_absent plan.domains || is_in_some_domain plan.domains (host_of address)
-meets rule.ExcludedDomain plan page address = not (is_in_some_domain plan.exclude_domains (host_of address))
-meets rule.NotIncluded plan page address = is_absent plan.include_dirs || is_in_some_directory plan.include_dirs (dir_of address)
-meets rule.Excluded plan page address = not (is_in_some_directory plan.exclude_dirs (dir_of address))
-meets rule.NotAccepted plan page address =
-    is_exempt_file (file_of address) || is_absent plan.accept || matches_some plan.accept (file_of address)
-meets rule.Rejected plan page address = is_exempt_file (file_of address) || not (matches_some plan.reject (file_of address))
+unfoldable pub meets : Rule → Plan → List ℕ → EdgeKind → List ℕ → Bool
+meets rule.RobotsFile plan page kind address = not (is_robots_file address)
+meets rule.Host plan page kind address = leads_anywhere plan page kind || (plan.span_hosts || stays_home plan page address)
+meets rule.Parent plan page kind address =
+    leads_anywhere plan page kind || (not plan.no_parent || not (has_start_host plan address) || is_below_start plan address)
+meets rule.Domain plan page kind address =
+    leads_anywhere plan page kind || (is_absent plan.domains || is_in_some_domain plan.domains (host_of address))
+meets rule.ExcludedDomain plan page kind address =
+    leads_anywhere plan page kind || not (is_in_some_domain plan.exclude_domains (host_of address))
+meets rule.NotIncluded plan page kind address =
+    is_absent plan.include_dirs || is_in_some_directory plan.ignore_case plan.include_dirs (dir_of address)
+meets rule.Excluded plan page kind address = not (is_in_some_directory plan.ignore_case plan.exclude_dirs (dir_of address))
+meets rule.NotAccepted plan page kind address =
+    is_exempt_file (file_of address) || is_absent plan.accept || matches_some plan.ignore_case plan.accept (file_of address)
+meets rule.Rejected plan page kind address =
+    is_exempt_file (file_of address) || not (matches_some plan.ignore_case plan.reject (file_of address))
 
 -- the first rule that the edge doesn't meet
-unfoldable pub first_unmet : Plan → List ℕ → List ℕ → Option Rule
-first_unmet plan page address = find (λ r. not (meets r plan page address)) rules
+unfoldable pub first_unmet : Plan → List ℕ → EdgeKind → List ℕ → Option Rule
+first_unmet plan page kind address = find (λ r. not (meets r plan page kind address)) rules
 
--- the edge of the page that leads to the address is followed
-unfoldable pub follows_of : Plan → List ℕ → List ℕ → Bool
-follows_of plan page address = list_all (λ r. meets r plan page address) rules
+-- the page's edge of the kind that leads to the address is followed
+unfoldable pub follows_of : Plan → List ℕ → EdgeKind → List ℕ → Bool
+follows_of plan page kind address = list_all (λ r. meets r plan page kind address) rules
 
 -- the address passes the filters
 abbrev pub passes_of : Plan → List ℕ → Bool
-passes_of plan address = follows_of plan plan.start address
+passes_of plan address = follows_of plan plan.start Link address
 
 -- nothing where the edge is followed, else the first rule that it doesn't meet
 abbrev pub verdict_from : Option Rule → Result (Unit {0}) Rule
@@ -135,29 +173,40 @@ verdict_from None = Ok tt
 verdict_from (Some unmet) = Err unmet
 
 -- what `Plan::follows` answers
-abbrev pub edge_verdict : Plan → List ℕ → List ℕ → Result (Unit {0}) Rule
-edge_verdict plan page address = verdict_from (first_unmet plan page address)
+abbrev pub edge_verdict : Plan → List ℕ → EdgeKind → List ℕ → Result (Unit {0}) Rule
+edge_verdict plan page kind address = verdict_from (first_unmet plan page kind address)
 
 -- what `Plan::passes` answers
 abbrev pub verdict_of : Plan → List ℕ → Result (Unit {0}) Rule
-verdict_of plan address = edge_verdict plan plan.start address
+verdict_of plan address = edge_verdict plan plan.start Link address
 
 -- ---- which pages are kept
 
--- the name under which a page is kept: its file name, or `index.html` where that is empty
+-- the name of a page: its file name, or `index.html` if that is empty
 abbrev pub kept_name : List ℕ → List ℕ
 kept_name address = if length (file_of address) == 0 then codes "index.html" else file_of address
 
+-- the name with the query after it
+abbrev pub full_name : List ℕ → List ℕ
+full_name address = kept_name address ++ query_of address
+
+-- a pattern of the list matches the page's name, with its query or without
+abbrev pub IsNamedBy : Bool → List (List ℕ) → List ℕ → Type 0
+IsNamedBy ignores_case patterns address =
+    Any (λ p. MatchesFile ignores_case p (kept_name address) ⊎ MatchesFile ignores_case p (full_name address)) patterns
+
 -- a page of this address is kept: its name meets the accept and the reject list; no name is exempt
 abbrev pub KeepsPage : Plan → List ℕ → Type 0
-KeepsPage plan address =
-    (plan.accept ≢ [] → Any (λ p. MatchesFile p (kept_name address)) plan.accept)
-    × (¬ Any (λ p. MatchesFile p (kept_name address)) plan.reject)
+KeepsPage plan address = (plan.accept ≢ [] → IsNamedBy plan.ignore_case plan.accept address) × (¬ IsNamedBy plan.ignore_case plan.reject address)
 
--- the name meets the accept and the reject list
-abbrev pub keeps_name : Plan → List ℕ → Bool
-keeps_name plan name = (is_absent plan.accept || matches_some plan.accept name) && not (matches_some plan.reject name)
+-- a pattern of the list matches the one name or the other
+abbrev pub names_some : Bool → List (List ℕ) → List ℕ → List ℕ → Bool
+names_some ignores_case patterns name full = list_any (λ p. is_file_match ignores_case p name || is_file_match ignores_case p full) patterns
+
+-- the name, without its query and with it, meets the accept and the reject list
+abbrev pub keeps_name : Plan → List ℕ → List ℕ → Bool
+keeps_name plan name full = (is_absent plan.accept || names_some plan.ignore_case plan.accept name full) && not (names_some plan.ignore_case plan.reject name full)
 
 -- a page of this address is kept, as a test
 unfoldable pub keeps_of : Plan → List ℕ → Bool
-keeps_of plan address = keeps_name plan (kept_name address)
+keeps_of plan address = keeps_name plan (kept_name address) (full_name address)

@@ -1,5 +1,5 @@
 //! Classes of bytes in a pattern, as `[a-c]` (GNU Wget manual, section Types of Files).
-ghost use Rattle.std.specs.Prelude.{◌≡◌, ◌<◌, [], length, Some, MatchOption, MatchResult};
+ghost use Rattle.std.specs.Prelude.{◌≡◌, ◌<◌, [], length, Some, MatchOption, MatchResult, is_some};
 ghost use Rattle.follow_filters.specs.Classes.{bracketed_class, class_with, ranges_of, then_range};
 ghost use Rattle.follow_filters.specs.Elements.{IsFaultOf};
 
@@ -41,7 +41,8 @@ impl Range {
 }
 
 impl Class {
-    ghost use Rattle.follow_filters.specs.Classes.{class_names, class_takes, bracketed_class};
+    ghost use Rattle.std.specs.Prelude.{is_some};
+    ghost use Rattle.follow_filters.specs.Classes.{class_names, class_takes, class_names_letter, class_takes_any_case, bracketed_class};
     ghost use Rattle.follow_filters.specs.Elements.{ReadsElement};
 
     /// Reads what stands between the brackets of a class: a `!` where one comes first, and one or
@@ -57,6 +58,14 @@ impl Class {
         Ok(Class { is_negated, ranges })
     }
 
+    /// Whether a class can be read of what is between its brackets. Takes no memory.
+    pub(crate) fn is_spelled(inner: &[u8]) -> bool
+        ensures { result ≡ is_some (bracketed_class inner.now) }
+    {
+        let (_, items) = split_negation(inner);
+        !items.is_empty() && are_spelled(items)
+    }
+
     fn names(&self, byte: u8) -> bool
         ensures { result ≡ class_names self.now byte }
     {
@@ -70,6 +79,24 @@ impl Class {
             !self.names(byte)
         } else {
             self.names(byte)
+        }
+    }
+
+    // Whether a range names the byte in lower or in upper case.
+    fn names_letter(&self, byte: u8) -> bool
+        ensures { result ≡ class_names_letter self.now byte }
+    {
+        self.names(byte.to_ascii_lowercase()) || self.names(byte.to_ascii_uppercase())
+    }
+
+    /// What the class takes if the case of letters doesn't count.
+    pub(crate) fn takes_any_case(&self, byte: u8) -> bool
+        ensures { result ≡ class_takes_any_case self.now byte }
+    {
+        if self.is_negated {
+            !self.names_letter(byte)
+        } else {
+            self.names_letter(byte)
         }
     }
 }
@@ -106,6 +133,20 @@ fn split_item(items: &[u8]) -> Option<(Range, &[u8])>
             behind,
         )),
     }
+}
+
+// Whether the items of a class spell ranges.
+fn are_spelled(items: &[u8]) -> bool
+    ensures { result ≡ is_some (ranges_of items.now) }
+{
+    let mut rest = items;
+    while let Some((range, behind)) = split_item(rest) {
+        if range.low > range.high {
+            return false;
+        }
+        rest = behind;
+    }
+    true
 }
 
 // The ranges that the items of a class spell.

@@ -3,7 +3,8 @@ ghost use Rattle.std.specs.Prelude.{◌≡◌};
 
 use crate::class::Class;
 use crate::elements::ElementFault;
-use crate::spelling::read_parts;
+use crate::kept_name::KeptName;
+use crate::parts::Parts;
 use std::alloc::{AllocError, Global};
 use std::marker::Model;
 
@@ -46,7 +47,7 @@ impl part_match::Part for Part {
 #[derive(Drop)]
 pub struct Pattern {
     text: String,
-    parts: Vec<Part>,
+    parts: Parts,
 }
 
 // Contracts see a pattern as its text; its parts are what the text spells.
@@ -59,12 +60,13 @@ impl Model for Pattern {
 
     ghost view = { λ p. string_bytes p.text };
 
-    ghost invariant = { λ p. read_pattern (string_bytes p.text) ≡ Some p.parts.items };
+    ghost invariant = { λ p. read_pattern (string_bytes p.text) ≡ Some p.parts };
 }
 
 impl Pattern {
-    ghost use Rattle.std.specs.Prelude.{◌≡◌, IfOk};
+    ghost use Rattle.std.specs.Prelude.{◌≡◌, ◌||◌, IfOk};
     ghost use Rattle.follow_filters.specs.Elements.{ReadsElement};
+    ghost use Rattle.follow_filters.specs.KeptNames.{text_of_name};
     ghost use Rattle.follow_filters.specs.Patterns.{is_file_match, read_element};
 
     /// Reads a pattern of whole file names, or a suffix of them where the text has none of `*`, `?`,
@@ -73,18 +75,38 @@ impl Pattern {
     pub fn read(alloc: Global, text: &str) -> Result<Pattern, ElementFault>
         ensures { ReadsElement result (read_element text.now) }
     {
-        let parts = read_parts(alloc, text.as_bytes())?;
+        let parts = Parts::read(alloc, text.as_bytes())?;
         Ok(Pattern {
             text: String::from_str(alloc, text)?,
             parts,
         })
     }
 
-    /// Whether the pattern matches the file name. Takes no memory.
-    pub fn matches(&self, file: &str) -> bool
-        ensures { result ≡ is_file_match self.now file.now }
+    /// Whether the pattern matches the file name; if `ignores_case`, letters of ASCII match in either
+    /// case. Takes no memory.
+    pub fn matches(&self, file: &str, ignores_case: bool) -> bool
+        ensures { result ≡ is_file_match ignores_case self.now file.now }
     {
-        part_match::matches(self.parts.as_slice(), file.as_bytes())
+        self.parts.matches(file.as_bytes(), ignores_case)
+    }
+
+    // Whether the pattern matches the name, with its query or without.
+    pub(crate) fn names(&self, name: KeptName<'_>, ignores_case: bool) -> bool
+        ensures { result ≡ (is_file_match ignores_case self.now name.entry.file.now || is_file_match ignores_case self.now (text_of_name name.entry)) }
+    {
+        self.matches_file(name, ignores_case) || self.matches_full(name, ignores_case)
+    }
+
+    fn matches_file(&self, name: KeptName<'_>, ignores_case: bool) -> bool
+        ensures { result ≡ is_file_match ignores_case self.now name.entry.file.now }
+    {
+        self.parts.matches(name.file(), ignores_case)
+    }
+
+    fn matches_full(&self, name: KeptName<'_>, ignores_case: bool) -> bool
+        ensures { result ≡ is_file_match ignores_case self.now (text_of_name name.entry) }
+    {
+        self.parts.matches(name, ignores_case)
     }
 
     /// The pattern as it was read. Takes no memory.

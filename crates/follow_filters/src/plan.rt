@@ -45,10 +45,15 @@ pub struct Plan {
     pub accept: Elements<Pattern>,
     /// The patterns of the file names that are neither followed nor kept.
     pub reject: Elements<Pattern>,
+    /// Whether the patterns of directories and file names match ASCII letters in either case.
+    pub ignore_case: bool,
     /// Whether robots files are honoured.
     pub robots: bool,
     /// Whether what a page shows within itself may lie one hop beyond the limit, and so may where that redirects.
     pub page_requisites: bool,
+    /// Whether what a page shows within itself may lie anywhere, whatever hosts, parents and domains are
+    /// left out; the links of a page that is on no start's host then lead nowhere, unless hosts are spanned.
+    pub span_requisites: bool,
     /// How many addresses may be held, 1 to 1,000,000.
     pub max_urls: u32,
     /// How many requests may be out to one origin at a time, 1 to 16; its robots file counts.
@@ -90,8 +95,10 @@ impl Plan {
             exclude_dirs: Elements::none(alloc),
             accept: Elements::none(alloc),
             reject: Elements::none(alloc),
+            ignore_case: false,
             robots: false,
             page_requisites: false,
+            span_requisites: false,
             max_urls,
             per_host: 2,
         }
@@ -113,8 +120,10 @@ impl Plan {
             exclude_dirs: self.exclude_dirs.clone()?,
             accept: self.accept.clone()?,
             reject: self.reject.clone()?,
+            ignore_case: self.ignore_case,
             robots: self.robots,
             page_requisites: self.page_requisites,
+            span_requisites: self.span_requisites,
             max_urls: self.max_urls,
             per_host: self.per_host,
         })

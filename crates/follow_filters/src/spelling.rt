@@ -1,5 +1,5 @@
 //! How patterns are written (GNU Wget manual, section Types of Files).
-ghost use Rattle.std.specs.Prelude.{◌≡◌, ◌≤◌, ◌∷◌, map, length, Some, IfOk, IfSome, ◌<◌, position, MatchResult};
+ghost use Rattle.std.specs.Prelude.{◌≡◌, ◌≤◌, ◌∷◌, map, length, Some, IfOk, IfSome, ◌<◌, None, is_some, position, MatchOption, MatchResult};
 ghost use Rattle.follow_filters.specs.Elements.{IsFaultOf};
 ghost use Rattle.follow_filters.specs.declared.pattern.Part.TheVariants as part;
 ghost use Rattle.follow_filters.specs.Patterns.{is_end, first_part, parts_spelled, read_pattern};
@@ -34,8 +34,8 @@ fn suffix_parts(alloc: Global, suffix: &[u8]) -> Result<Vec<Part>, AllocError>
     Ok(parts)
 }
 
-// The parts that a text spells.
-fn spelled_parts(alloc: Global, text: &[u8]) -> Result<Vec<Part>, ElementFault>
+/// The parts that a text spells.
+pub(crate) fn spelled_parts(alloc: Global, text: &[u8]) -> Result<Vec<Part>, ElementFault>
     ensures { MatchResult result (λ v. parts_spelled text.now ≡ Some v.items) (IsFaultOf (parts_spelled text.now)) }
 {
     let mut parts = Vec::new(alloc);
@@ -67,6 +67,35 @@ fn split_part<'a>(
         }
         None => Err(ElementFault::Bad),
     }
+}
+
+/// Whether a text spells parts. Takes no memory.
+pub(crate) fn is_spelled(text: &[u8]) -> bool
+    ensures { result ≡ is_some (parts_spelled text.now) }
+{
+    let mut rest = text;
+    while let Some((first, behind)) = rest.split_first() {
+        let Some(after) = after_part(*first, behind) else {
+            return false;
+        };
+        rest = after;
+    }
+    true
+}
+
+// What is after the part with which a byte and the text after it begin, if they begin with one.
+fn after_part(first: u8, text: &[u8]) -> Option<&[u8]>
+    ensures { MatchOption result (first_part first text.now ≡ None)
+        (λ after. (part : _) × (first_part first text.now ≡ Some (part, after.now)) × (length after.now ≤ length text.now)) }
+{
+    if first != b'[' {
+        return Some(text);
+    }
+    let end = class_end(text)?;
+    if !Class::is_spelled(&text[..end]) {
+        return None;
+    }
+    Some(&text[end + 1..])
 }
 
 // Where the first `]` stands.

@@ -18,8 +18,8 @@ IsHome host q u = (start : Text) × Contains q.starts start × (host u ≡ host 
 pub record IsPart (host : Text → Text) (p q : Policy) : Type 0 where
   pub among : (start : Text) → Contains q.starts start → Contains p.starts start
   pub home : (start : Text) → Contains p.starts start → IsHome host q start → Contains q.starts start
-  pub follows : (page target : Text) → IsHome host q page → p.follows page target ≡ q.follows page target
-  pub stays : (page target : Text) → p.follows page target ≡ true → host target ≡ host page
+  pub follows : (page : Text) (kind : EdgeKind) (target : Text) → IsHome host q page → p.follows page kind target ≡ q.follows page kind target
+  pub stays : (page : Text) (kind : EdgeKind) (target : Text) → p.follows page kind target ≡ true → host target ≡ host page
   pub bound : (kind : EdgeKind) → p.bound kind ≡ q.bound kind
   pub robots : p.robots ≡ q.robots
   pub origin : (u : Text) → p.origin u ≡ q.origin u
@@ -46,11 +46,11 @@ module _ (host : Text → Text) (p q : Policy) (m : Answers) (part : IsPart host
 
   part_admits : (u : Text) → IsHome host q u → (edge : Edge) (sum : ℕ) → admits p u edge sum ≡ admits q u edge sum
   part_admits u at_home edge sum =
-      ap (λ b. b && within (p.bound edge.kind) sum) (part.follows u edge.target at_home) ∙ ap (λ o. q.follows u edge.target && within o sum) (part.bound edge.kind)
+      ap (λ b. b && within (p.bound edge.kind) sum) (part.follows u edge.kind edge.target at_home) ∙ ap (λ o. q.follows u edge.kind edge.target && within o sum) (part.bound edge.kind)
 
   -- an edge that is followed stays at home
   next_home : (u : Text) → IsHome host q u → (edge : Edge) (sum : ℕ) → admits p u edge sum ≡ true → IsHome host q edge.target
-  next_home u (start, among, is) edge sum adm = (start, among, part.stays u edge.target (and_true _ _ adm).0 ∙ is)
+  next_home u (start, among, is) edge sum adm = (start, among, part.stays u edge.kind edge.target (and_true _ _ adm).0 ∙ is)
 
   walk_up : (walk : List Edge) (u : Text) (n : ℕ) (v : Text) (d : ℕ) → IsHome host q u → Walk q m (u, n) walk (v, d) → Walk p m (u, n) walk (v, d)
   walk_up [] u n v d at_home h = h

@@ -17,7 +17,7 @@ pub record IsSame (p q : Policy) : Type 0 where
   pub there : (start : Text) → Contains p.starts start → Contains q.starts start
   pub back : (start : Text) → Contains q.starts start → Contains p.starts start
   pub bound : (kind : EdgeKind) → p.bound kind ≡ q.bound kind
-  pub follows : (page target : Text) → p.follows page target ≡ q.follows page target
+  pub follows : (page : Text) (kind : EdgeKind) (target : Text) → p.follows page kind target ≡ q.follows page kind target
   pub robots : p.robots ≡ q.robots
   pub origin : (u : Text) → p.origin u ≡ q.origin u
   pub allows : (rules : RuleSetValue) (u : Text) → p.allows rules u ≡ q.allows rules u
@@ -27,7 +27,7 @@ same_turned p q like = record {
   there = like.back;
   back = like.there;
   bound = λ kind. sym (like.bound kind);
-  follows = λ page target. sym (like.follows page target);
+  follows = λ page kind target. sym (like.follows page kind target);
   robots = sym like.robots;
   origin = λ u. sym (like.origin u);
   allows = λ rules u. sym (like.allows rules u);
@@ -54,7 +54,7 @@ same_open p q m like u =
 
 same_admits : (p q : Policy) → IsSame p q → (u : Text) (edge : Edge) (sum : ℕ) → admits p u edge sum ≡ admits q u edge sum
 same_admits p q like u edge sum =
-    ap (λ b. b && within (p.bound edge.kind) sum) (like.follows u edge.target) ∙ ap (λ o. q.follows u edge.target && within o sum) (like.bound edge.kind)
+    ap (λ b. b && within (p.bound edge.kind) sum) (like.follows u edge.kind edge.target) ∙ ap (λ o. q.follows u edge.kind edge.target && within o sum) (like.bound edge.kind)
 
 same_walk : (p q : Policy) (m : Answers) → IsSame p q → (walk : List Edge) (u : Text) (n : ℕ) (v : Text) (d : ℕ) → Walk p m (u, n) walk (v, d) → Walk q m (u, n) walk (v, d)
 same_walk p q m like [] u n v d h = h

@@ -46,7 +46,7 @@ a]? a]b yes
 // Whether a row's pattern is read, and matches or doesn't, as the row says.
 fn matches_as(alloc: Global, row: &str) -> bool {
     match Pattern::read(alloc, field(row, ' ', 0)) {
-        Ok(read) => read.matches(field(row, ' ', 1)) == (field(row, ' ', 2) == "yes"),
+        Ok(read) => read.matches(field(row, ' ', 1), false) == (field(row, ' ', 2) == "yes"),
         Err(_) => false,
     }
 }
@@ -60,7 +60,7 @@ fn patterns_match_as_the_shell_does(rt: HostRuntime) {
 
 // Rows end with `|`: what a text is to be read as, and the text.
 const BAD: &str = "pattern [a|pattern []|pattern [!]|pattern []a]|pattern [b-a]x|\
-    directory a|directory /a*|directory |domain .|domain |domain a/b|domain bücher.de";
+    directory [a|directory /a/[b-a]|directory /[a/b]|domain .|domain |domain a/b|domain bücher.de";
 
 // The fault of a row's text, where it has one.
 fn fault_of(alloc: Global, row: &str) -> Option<ElementFault> {
@@ -93,7 +93,7 @@ fn are_of(
     path: &str,
     name: &str,
 ) -> bool {
-    directory.as_str() == path && domain.as_str() == name && pattern.matches(name)
+    directory.as_str() == path && domain.as_str() == name && pattern.matches(name, false)
 }
 
 // Whether a path is read as a directory, and its name as a domain and a pattern.

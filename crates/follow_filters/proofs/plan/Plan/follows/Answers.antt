@@ -6,15 +6,15 @@ use Rattle.follow_filters.proofs.plan.Plan.follows.Goals as goal
 pub returns-in-Some : goal.returns-in-Some
 unfolding first_unmet
 returns-in-Some c =
-    let found : Some c.in-Some.rule ≡ first_unmet c.args.self.now c.args.page.now c.args.address.now = sym c.in-Some.is ∙ c.first_unmet.ensures in
-    let is : Err c.in-Some.rule ≡ edge_verdict c.args.self.now c.args.page.now c.args.address.now = ap verdict_from found in
-    let says = told c.args.self.now c.args.page.now c.args.address.now (Err c.in-Some.rule) is in
+    let found : Some c.in-Some.rule ≡ first_unmet c.args.self.now c.args.page.now c.args.kind c.args.address.now = sym c.in-Some.is ∙ c.first_unmet.ensures in
+    let is : Err c.in-Some.rule ≡ edge_verdict c.args.self.now c.args.page.now c.args.kind c.args.address.now = ap verdict_from found in
+    let says = told c.args.self.now c.args.page.now c.args.kind c.args.address.now (Err c.in-Some.rule) is in
     record { value = is; follows = says.0; means = says.1 }
 
 pub returns-in-None : goal.returns-in-None
 unfolding first_unmet
 returns-in-None c =
-    let found : None ≡ first_unmet c.args.self.now c.args.page.now c.args.address.now = sym c.in-None.is ∙ c.first_unmet.ensures in
-    let is : Ok tt ≡ edge_verdict c.args.self.now c.args.page.now c.args.address.now = ap verdict_from found in
-    let says = told c.args.self.now c.args.page.now c.args.address.now (Ok tt) is in
+    let found : None ≡ first_unmet c.args.self.now c.args.page.now c.args.kind c.args.address.now = sym c.in-None.is ∙ c.first_unmet.ensures in
+    let is : Ok tt ≡ edge_verdict c.args.self.now c.args.page.now c.args.kind c.args.address.now = ap verdict_from found in
+    let says = told c.args.self.now c.args.page.now c.args.kind c.args.address.now (Ok tt) is in
     record { value = is; follows = says.0; means = says.1 }
