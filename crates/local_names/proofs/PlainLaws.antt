@@ -1,5 +1,5 @@
 -- Plain names of addresses: their segments, that each name made of one stays inside its folder, and how they are written.
-use Rattle.std.proofs.Common.{zero, suc, ◌≡◌, ◌≢◌, ℕ, ◌+◌, ◌-◌, ◌<◌, ◌≤◌, ◌==◌, min, Bool, true, false, cond, Option, Some, None, List, [], ◌∷◌, ◌++◌, length, map, get_or, take, drop, codes, All, sym, refl, ap, ◌∙◌, subst, inl, inr, arith, append_assoc}
+use Rattle.std.proofs.Common.{zero, suc, ◌≡◌, ◌≢◌, ℕ, ◌+◌, ◌-◌, ◌<◌, ◌≤◌, ◌==◌, min, Bool, true, false, not, cond, Option, Some, None, List, [], ◌∷◌, ◌++◌, length, map, get_or, take, drop, codes, All, sym, refl, ap, ◌∙◌, subst, inl, inr, arith, append_assoc}
 use denote.Ref.{Bor}
 use Rattle.std.proofs.lemmas.Bool.{eqb-true, cond_both, cond-true, cases_lt}
 use Rattle.std.proofs.lemmas.List.{append-nil, map-append, get_or-map, length-map, length-append, nil_from_length, take_rest, drop_all}
@@ -16,12 +16,12 @@ use Rattle.address.specs.Address.{AddressText, IsAddress, scheme_text, scheme_of
 use Rattle.address.specs.declared.scheme.Scheme.{Scheme}
 use Rattle.address.specs.declared.scheme.Scheme.TheVariants.{Http, Https}
 use Rattle.local_names.specs.declared.rules.NameRules.{NameRules}
-use Rattle.local_names.specs.PlainNames.{slash, is_slash, has_bytes, units_of, marked_units, with_letters, port_mark, query_mark, host_units, dir_segments, path_units, or_index, default_page, file_units, last_units, scheme_segment, host_segment, front_segments, local_segment, segments_of, plain_name_of}
+use Rattle.local_names.specs.PlainNames.{slash, is_slash, has_bytes, units_of, marked_units, with_letters, port_mark, query_mark, host_units, dir_segments, path_units, or_index, default_page, file_units, last_units, scheme_segment, host_segment, front_segments, is_part, local_segment, local_segments, segments_of, plain_name_of}
 use Rattle.local_names.specs.Names.{numbered_name, IsNaming}
-use Rattle.local_names.specs.LocalNames.{IsInner, StaysInside, IsShort, HasShortSegments, IsUncontrolled, IsText}
+use Rattle.local_names.specs.LocalNames.{IsInner, StaysInside, IsShort, HasShortSegments, IsUncontrolled, IsText, IsNoPart}
 use Rattle.local_names.specs.inner.Units.{lent_bytes, below, all_below}
 use Rattle.local_names.proofs.NamingLaws.{numbered_name-suc}
-use Rattle.local_names.proofs.UnitLaws.{IsSegmentByte, IsUnit, IsSegment, units_are, units_present, marked_are, local_segment_is, local_segment_short, all_front, all_back}
+use Rattle.local_names.proofs.UnitLaws.{IsSegmentByte, IsUnit, IsSegment, units_are, units_present, marked_are, local_segment_is, local_segment_short, first_no_part, part_before_slash, part_before_dot, all_front, all_back}
 use Rattle.local_names.proofs.SegmentLaws.{split_joined, joined_onto_last, joined_text, numbered_segment_is}
 
 -- ---- segments of a path, as they are read
@@ -64,12 +64,13 @@ uncut k dirs all is =
 
 -- ---- names to which segments are added
 
-pub all_below-append : (name : List ℕ) (xs ys : List (List ℕ)) → all_below name (xs ++ ys) ≡ all_below (all_below name xs) ys
+pub all_below-append : (name : List ℕ) (xs ys : List (List (List ℕ))) → all_below name (xs ++ ys) ≡ all_below (all_below name xs) ys
 all_below-append name [] ys = refl
 all_below-append name (x ∷ xs) ys = all_below-append (below name x) xs ys
 
-below_some : (name segment : List ℕ) → has_bytes name ≡ true → below name segment ≡ name ++ slash ∷ segment
-below_some name segment has = ap (λ t. t ++ segment) (cond-true (has_bytes name) (name ++ slash ∷ []) [] has) ∙ append_assoc name (slash ∷ []) segment
+below_some : (name : List ℕ) (units : List (List ℕ)) → has_bytes name ≡ true → below name units ≡ name ++ slash ∷ local_segment false units
+below_some name units has =
+    ap (λ b. cond b (name ++ slash ∷ []) [] ++ local_segment (not b) units) has ∙ append_assoc name (slash ∷ []) (local_segment false units)
 
 has_more : (xs ys : List ℕ) (y : ℕ) → has_bytes (xs ++ y ∷ ys) ≡ true
 has_more [] ys y = refl
@@ -79,36 +80,37 @@ join_front : (first segment : List ℕ) (rest : List (List ℕ)) → join_with_b
 join_front first segment [] = refl
 join_front first segment (next ∷ rest) = append_assoc first (slash ∷ segment) (slash ∷ join_with_byte slash (next ∷ rest))
 
-below_joined : (first : List ℕ) (rest : List (List ℕ)) → has_bytes first ≡ true → all_below first rest ≡ join_with_byte slash (first ∷ rest)
+below_joined : (first : List ℕ) (rest : List (List (List ℕ))) → has_bytes first ≡ true → all_below first rest ≡ join_with_byte slash (first ∷ map (local_segment false) rest)
 below_joined first [] has = refl
-below_joined first (segment ∷ rest) has =
-    ap (λ name. all_below name rest) (below_some first segment has)
+below_joined first (units ∷ rest) has =
+    let segment = local_segment false units in
+    ap (λ name. all_below name rest) (below_some first units has)
     ∙ below_joined (first ++ slash ∷ segment) rest (has_more first segment slash)
-    ∙ join_front first segment rest
+    ∙ join_front first segment (map (local_segment false) rest)
 
 present_has : (segment : List ℕ) → segment ≢ [] → has_bytes segment ≡ true
 present_has [] present = absurd (present refl)
 present_has (b ∷ segment) present = refl
 
-pub all_joined : (segments : List (List ℕ)) → All IsSegment segments → all_below [] segments ≡ join_with_byte slash segments
+pub all_joined : (segments : List (List (List ℕ))) → All IsSegment (local_segments segments) → all_below [] segments ≡ join_with_byte slash (local_segments segments)
 all_joined [] all = refl
-all_joined (first ∷ rest) all = below_joined first rest (present_has first ((All-head IsSegment first rest all).inner).present)
+all_joined (units ∷ rest) all =
+    let first = local_segment true units in
+    below_joined first rest (present_has first ((All-head IsSegment first (map (local_segment false) rest) all).inner).present)
 
 -- ---- as the code writes it
 
 pub front_steps : (rules : NameRules) (page : AddressText) (old scheme host : List ℕ) → rules.has_directories ≡ true
-    → scheme ≡ all_below old (map local_segment (scheme_segment rules page)) → host ≡ all_below scheme (map local_segment (host_segment rules page))
-    → all_below host (map local_segment (map (path_units rules) (drop rules.cut_dirs (dir_segments (dir_of page))))) ≡ all_below old (map local_segment (front_segments rules page))
+    → scheme ≡ all_below old (scheme_segment rules page) → host ≡ all_below scheme (host_segment rules page)
+    → all_below host (map (path_units rules) (drop rules.cut_dirs (dir_segments (dir_of page)))) ≡ all_below old (front_segments rules page)
 front_steps rules page old scheme host has es eh =
     let one = scheme_segment rules page in
     let two = host_segment rules page in
     let dirs = map (path_units rules) (drop rules.cut_dirs (dir_segments (dir_of page))) in
-    let f = map local_segment in
-    ap (λ n. all_below n (f dirs)) (eh ∙ ap (λ n. all_below n (f two)) es)
-    ∙ sym (all_below-append (all_below old (f one)) (f two) (f dirs))
-    ∙ sym (all_below-append old (f one) (f two ++ f dirs))
-    ∙ ap (all_below old) (ap (λ x. f one ++ x) (sym (map-append local_segment two dirs)) ∙ sym (map-append local_segment one (two ++ dirs)))
-    ∙ ap (λ segments. all_below old (f segments)) (sym (cond-true rules.has_directories (one ++ (two ++ dirs)) [] has))
+    ap (λ n. all_below n dirs) (eh ∙ ap (λ n. all_below n two) es)
+    ∙ sym (all_below-append (all_below old one) two dirs)
+    ∙ sym (all_below-append old one (two ++ dirs))
+    ∙ ap (all_below old) (sym (cond-true rules.has_directories (one ++ (two ++ dirs)) [] has))
 
 pub query_behind : (text dir file query : List ℕ) → text ≡ dir ++ (file ++ query) → drop (length dir + length file) text ≡ query
 query_behind text dir file query is =
@@ -196,30 +198,38 @@ front_are rules page is =
 pub segments_are : (rules : NameRules) (page : AddressText) → IsAddress page → All IsSegment (segments_of rules page)
 unfolding segments_of
 segments_are rules page is =
-    let units = front_segments rules page ++ last_units rules page ∷ [] in
-    All-map IsSegment local_segment units
-    (All-weaker AreUnits (λ us. IsSegment (local_segment us)) (λ us are. local_segment_is us are.all are.some) units
-    (All-append AreUnits (front_segments rules page) (last_units rules page ∷ []) (front_are rules page is) (All-cons AreUnits (last_units rules page) [] (last_are rules page) (All-nil AreUnits))))
+    all_are (front_segments rules page ++ last_units rules page ∷ [])
+    (All-append AreUnits (front_segments rules page) (last_units rules page ∷ []) (front_are rules page is) (All-cons AreUnits (last_units rules page) [] (last_are rules page) (All-nil AreUnits)))
+  where
+    all_are : (segments : List (List (List ℕ))) → All AreUnits segments → All IsSegment (local_segments segments)
+    all_are [] all = All-nil IsSegment
+    all_are (first ∷ others) all =
+        let own = All-head AreUnits first others all in
+        All-cons IsSegment (local_segment true first) (map (local_segment false) others) (local_segment_is true first own.all own.some)
+        (All-map IsSegment (local_segment false) others
+        (All-weaker AreUnits (λ us. IsSegment (local_segment false us)) (λ us are. local_segment_is false us are.all are.some) others (All-tail AreUnits first others all)))
 
 segments_are_short : (rules : NameRules) (page : AddressText) → All IsShort (segments_of rules page)
 unfolding segments_of
-segments_are_short rules page =
-    let units = front_segments rules page ++ last_units rules page ∷ [] in
-    All-map IsShort local_segment units (λ k d below. local_segment_short (get_or units k d))
+segments_are_short rules page = all_are (front_segments rules page ++ last_units rules page ∷ [])
+  where
+    all_are : (segments : List (List (List ℕ))) → All IsShort (local_segments segments)
+    all_are [] = All-nil IsShort
+    all_are (first ∷ others) =
+        All-cons IsShort (local_segment true first) (map (local_segment false) others) (local_segment_short true first)
+        (All-map IsShort (local_segment false) others (λ k d below. local_segment_short false (get_or others k d)))
 
 -- the plain name, step by step
 pub plain_steps : (rules : NameRules) (page : AddressText) → IsAddress page → (none front name : List ℕ) (last : List (List ℕ)) → none ≡ []
-    → front ≡ all_below none (map local_segment (front_segments rules page)) → last ≡ last_units rules page → name ≡ below front (local_segment last) → name ≡ plain_name_of rules page
+    → front ≡ all_below none (front_segments rules page) → last ≡ last_units rules page → name ≡ below front last → name ≡ plain_name_of rules page
 unfolding plain_name_of segments_of
 plain_steps rules page is none front name last en ef el e =
-    let f = map local_segment in
     let fronts = front_segments rules page in
     let own = last_units rules page in
-    e ∙ ap (λ us. below front (local_segment us)) el
-    ∙ ap (λ n. below n (local_segment own)) (ef ∙ ap (λ n. all_below n (f fronts)) en)
-    ∙ sym (all_below-append [] (f fronts) (local_segment own ∷ []))
-    ∙ ap (all_below []) (sym (map-append local_segment fronts (own ∷ [])))
-    ∙ all_joined (f (fronts ++ own ∷ [])) (segments_are rules page is)
+    e ∙ ap (below front) el
+    ∙ ap (λ n. below n own) (ef ∙ ap (λ n. all_below n fronts) en)
+    ∙ sym (all_below-append [] fronts (own ∷ []))
+    ∙ all_joined (fronts ++ own ∷ []) (segments_are rules page is)
 
 -- ---- names that are made of segments
 
@@ -245,12 +255,22 @@ joined_short : (segments : List (List ℕ)) → 0 < length segments → All IsSe
 joined_short [] some all short = absurd (omega arith)
 joined_short (first ∷ rest) some all short = subst (All IsShort) (sym (split_joined first rest (bytes_of (first ∷ rest) all))) short
 
+-- the last of the segments, behind these
+last_segment : List (List (List ℕ)) → List (List ℕ) → List ℕ
+last_segment [] units = local_segment true units
+last_segment (front ∷ fronts) units = local_segment false units
+
+apart : (fronts : List (List (List ℕ))) (units : List (List ℕ)) → local_segments (fronts ++ units ∷ []) ≡ local_segments fronts ++ last_segment fronts units ∷ []
+unfolding last_segment
+apart [] units = refl
+apart (front ∷ fronts) units = ap (λ segments. local_segment true front ∷ segments) (map-append (local_segment false) fronts (units ∷ []))
+
 segments_some : (rules : NameRules) (page : AddressText) → 0 < length (segments_of rules page)
 unfolding segments_of
 segments_some rules page =
     let fronts = front_segments rules page in
     let own = last_units rules page in
-    omega (arith, length-map (fronts ++ own ∷ []) local_segment, length-append fronts (own ∷ []))
+    omega (arith, ap length (apart fronts own), length-append (local_segments fronts) (last_segment fronts own ∷ []))
 
 pub numbered_short : (rules : NameRules) (page : AddressText) (number : ℕ) → IsAddress page → HasShortSegments (numbered_name (plain_name_of rules page) number)
 unfolding plain_name_of
@@ -269,13 +289,13 @@ onto_last (first ∷ mids) last suffix = joined_onto_last first mids last suffix
 pub numbered_made : (rules : NameRules) (page : AddressText) (number : ℕ) → IsAddress page → IsMade (numbered_name (plain_name_of rules page) number)
 unfolding plain_name_of segments_of
 numbered_made rules page number is =
-    let fronts = map local_segment (front_segments rules page) in
-    let last = local_segment (last_units rules page) in
-    let apart : map local_segment (front_segments rules page ++ last_units rules page ∷ []) ≡ fronts ++ last ∷ [] = map-append local_segment (front_segments rules page) (last_units rules page ∷ []) in
-    let all : All IsSegment (fronts ++ last ∷ []) = subst (All IsSegment) apart (segments_are rules page is) in
+    let fronts = local_segments (front_segments rules page) in
+    let last = last_segment (front_segments rules page) (last_units rules page) in
+    let both : local_segments (front_segments rules page ++ last_units rules page ∷ []) ≡ fronts ++ last ∷ [] = apart (front_segments rules page) (last_units rules page) in
+    let all : All IsSegment (fronts ++ last ∷ []) = subst (All IsSegment) both (segments_are rules page is) in
     let front = all_front IsSegment fronts (last ∷ []) all in
     let own : IsSegment last = All-head IsSegment last [] (all_back IsSegment fronts (last ∷ []) all) in
-    let plain : plain_name_of rules page ≡ join_with_byte slash (fronts ++ last ∷ []) = ap (join_with_byte slash) apart in
+    let plain : plain_name_of rules page ≡ join_with_byte slash (fronts ++ last ∷ []) = ap (join_with_byte slash) both in
     numbered fronts last number front own (plain_name_of rules page) plain
   where
     numbered : (fronts : List (List ℕ)) (last : List ℕ) (number : ℕ) → All IsSegment fronts → IsSegment last → (plain : List ℕ) → plain ≡ join_with_byte slash (fronts ++ last ∷ []) → IsMade (numbered_name plain number)
@@ -283,6 +303,38 @@ numbered_made rules page number is =
     numbered fronts last (suc k) front own plain is =
         let suffix = 46 ∷ decimal (suc k) in
         subst IsMade (sym (numbered_name-suc plain k ∙ ap (λ name. name ++ suffix) is ∙ onto_last fronts last suffix)) (made_of fronts (last ++ suffix) front (numbered_segment_is last (suc k) own))
+
+-- ---- no name is that of a part
+
+joined_no_part : (segments : List (List (List ℕ))) → 0 < length segments → is_part (join_with_byte slash (local_segments segments)) ≡ false
+joined_no_part [] some = absurd (omega arith)
+joined_no_part (first ∷ []) some = first_no_part first
+joined_no_part (first ∷ (next ∷ others)) some =
+    part_before_slash (local_segment true first) (join_with_byte slash (map (local_segment false) (next ∷ others))) (first_no_part first)
+
+plain_no_part : (rules : NameRules) (page : AddressText) → is_part (plain_name_of rules page) ≡ false
+unfolding plain_name_of segments_of
+plain_no_part rules page =
+    let fronts = front_segments rules page in
+    let own = last_units rules page in
+    joined_no_part (fronts ++ own ∷ []) (omega (arith, length-append fronts (own ∷ [])))
+
+plain_some : (rules : NameRules) (page : AddressText) → IsAddress page → 0 < length (plain_name_of rules page)
+plain_some rules page is = made_some (plain_name_of rules page) (numbered_made rules page 0 is)
+  where
+    joined_some : (first : List ℕ) (rest : List (List ℕ)) → first ≢ [] → (name : List ℕ) → name ≡ join_with_byte slash (first ∷ rest) → 0 < length name
+    joined_some [] rest present name is = absurd (present refl)
+    joined_some (b ∷ first) [] present name is = omega (arith, ap length is)
+    joined_some (b ∷ first) (next ∷ rest) present name is = omega (arith, ap length is)
+
+    made_some : (name : List ℕ) → IsMade name → 0 < length name
+    made_some name made = let first = All-head IsSegment made.first made.rest made.all in joined_some made.first made.rest first.inner.present name made.is
+
+pub numbered_no_part : (rules : NameRules) (page : AddressText) (number : ℕ) → IsAddress page → IsNoPart (numbered_name (plain_name_of rules page) number)
+numbered_no_part rules page zero is = plain_no_part rules page
+numbered_no_part rules page (suc k) is =
+    let own = plain_name_of rules page in
+    subst IsNoPart (sym (numbered_name-suc own k)) (part_before_dot own (decimal (suc k)) (plain_some rules page is) (plain_no_part rules page))
 
 -- ---- all names of a list
 

@@ -11,7 +11,7 @@ use Rattle.std.specs.Fmt.{decimal, digits, digits_onto, digit_glyph}
 use Rattle.std.specs.List.{slice_split, join_with_byte}
 use Rattle.local_names.specs.PlainNames.{slash, is_slash}
 use Rattle.local_names.specs.LocalNames.{IsUncontrolled}
-use Rattle.local_names.proofs.UnitLaws.{IsSegmentByte, IsSegment, uncontrolled}
+use Rattle.local_names.proofs.UnitLaws.{IsSegmentByte, IsSegment, uncontrolled, not_short}
 
 not_slash : (byte : ℕ) → byte ≢ slash → is_slash byte ≡ false
 not_slash byte differs = ne_eqb byte slash differs
@@ -81,9 +81,6 @@ some_digit k n =
 pub decimal_present : (n : ℕ) → 1 ≤ length (decimal n)
 unfolding digits
 decimal_present n = some_digit 63 n
-
-not_short : (xs ys : List ℕ) → length ys < length xs → xs ≢ ys
-not_short xs ys longer e = let same : length xs ≡ length ys = ap length e in omega arith
 
 present_length : (xs : List ℕ) → xs ≢ [] → 1 ≤ length xs
 present_length [] present = absurd (present refl)

@@ -142,13 +142,13 @@ path_segments page is =
 servable_bytes : (text : List ℕ) → IsServable text → All IsSegmentByte text
 servable_bytes text is = λ k d below. (let shown = controlled_not _ (is.bytes k d below) in (shown.0, shown.1, λ e. both_ways (is_slash _) (is.inner k d below) (ap is_slash e)))
 
-servable_kept : (text : List ℕ) → IsServable text → local_segment (units_of usual_chars text) ≡ text
+servable_kept : (text : List ℕ) → IsServable text → local_segment false (units_of usual_chars text) ≡ text
 servable_kept text is = local_segment_kept text is.utf8 (servable_bytes text is) is.named is.short
 
-dirs_kept : (raws : List (List ℕ)) → All IsServable (map percent_decode raws) → map local_segment (map (path_units usual_rules) raws) ≡ map percent_decode raws
+dirs_kept : (raws : List (List ℕ)) → All IsServable (map percent_decode raws) → map (local_segment false) (map (path_units usual_rules) raws) ≡ map percent_decode raws
 dirs_kept [] all = refl
 dirs_kept (raw ∷ raws) all =
-    ap (λ segment. segment ∷ map local_segment (map (path_units usual_rules) raws)) (servable_kept (percent_decode raw) (All-head IsServable (percent_decode raw) (map percent_decode raws) all))
+    ap (λ segment. segment ∷ map (local_segment false) (map (path_units usual_rules) raws)) (servable_kept (percent_decode raw) (All-head IsServable (percent_decode raw) (map percent_decode raws) all))
     ∙ ap (λ segments. percent_decode raw ∷ segments) (dirs_kept raws (All-tail IsServable (percent_decode raw) (map percent_decode raws) all))
 
 -- a byte that every name may have, as a test for a text that is written out
@@ -173,17 +173,17 @@ index_bytes = All-weaker (λ byte. is_usual byte ≡ true) IsSegmentByte usual_b
 index_ascii : All (λ byte. byte < 128) (codes "index.html")
 index_ascii = All-weaker (λ byte. is_usual byte ≡ true) (λ byte. byte < 128) usual_ascii (codes "index.html") index_usual
 
-index_kept : local_segment (units_of usual_chars (codes "index.html")) ≡ codes "index.html"
+index_kept : local_segment false (units_of usual_chars (codes "index.html")) ≡ codes "index.html"
 index_kept = local_segment_kept (codes "index.html") (IsUtf8-from_ascii (codes "index.html") (IsAscii-from_all (codes "index.html") index_ascii)) index_bytes refl (omega arith)
 
 no_query : (units : List (List ℕ)) (query : List ℕ) → query ≡ [] → units ++ marked_units (with_letters usual_chars) (query_mark usual_chars) (percent_decode query) ≡ units
 no_query units query none =
     ap (λ text. units ++ marked_units (with_letters usual_chars) (query_mark usual_chars) text) (ap percent_decode none ∙ percent_decode-nil) ∙ append-nil units
 
-last_kept : (file query : List ℕ) → query ≡ [] → All IsServable (map percent_decode (filter has_bytes (file ∷ []))) → local_segment (file_units usual_rules file ++ marked_units (with_letters usual_chars) (query_mark usual_chars) (percent_decode query)) ∷ [] ≡ map percent_decode (filter has_bytes (file ∷ [])) ++ index_in file
-last_kept [] query none all = ap (λ units. local_segment units ∷ []) (no_query (file_units usual_rules []) query none) ∙ ap (λ segment. segment ∷ []) index_kept
+last_kept : (file query : List ℕ) → query ≡ [] → All IsServable (map percent_decode (filter has_bytes (file ∷ []))) → local_segment false (file_units usual_rules file ++ marked_units (with_letters usual_chars) (query_mark usual_chars) (percent_decode query)) ∷ [] ≡ map percent_decode (filter has_bytes (file ∷ [])) ++ index_in file
+last_kept [] query none all = ap (λ units. local_segment false units ∷ []) (no_query (file_units usual_rules []) query none) ∙ ap (λ segment. segment ∷ []) index_kept
 last_kept (b ∷ file) query none all =
-    ap (λ units. local_segment units ∷ []) (no_query (file_units usual_rules (b ∷ file)) query none)
+    ap (λ units. local_segment false units ∷ []) (no_query (file_units usual_rules (b ∷ file)) query none)
     ∙ ap (λ segment. segment ∷ []) (servable_kept (percent_decode (b ∷ file)) (All-head IsServable (percent_decode (b ∷ file)) [] all))
 
 front_of_all : {X : Type 0} (P : X → Type 0) (xs ys : List X) → All P (xs ++ ys) → All P xs × All P ys
@@ -191,7 +191,7 @@ front_of_all P [] ys all = (All-nil P, all)
 front_of_all P (x ∷ xs) ys all =
     let later = front_of_all P xs ys (All-tail P x (xs ++ ys) all) in (All-cons P x xs (All-head P x (xs ++ ys) all) later.0, later.1)
 
-segments_served : (page : AddressText) → IsAddress page → HasServablePath page → segments_of usual_rules page ≡ local_segment (host_units usual_rules page) ∷ served_segments page
+segments_served : (page : AddressText) → IsAddress page → HasServablePath page → segments_of usual_rules page ≡ local_segment true (host_units usual_rules page) ∷ served_segments page
 unfolding segments_of
 segments_served page is servable =
     let dirs = dir_segments (dir_of page) in
@@ -200,16 +200,16 @@ segments_served page is servable =
     let apart : map percent_decode (dir_segments (path_of page)) ≡ map percent_decode dirs ++ map percent_decode files =
     ap (map percent_decode) (path_segments page is) ∙ map-append percent_decode dirs files in
     let both = front_of_all IsServable (map percent_decode dirs) (map percent_decode files) (subst (All IsServable) apart servable.segments) in
-    let host = local_segment (host_units usual_rules page) in
+    let host = local_segment true (host_units usual_rules page) in
     let served : served_segments page ≡ map percent_decode dirs ++ (map percent_decode files ++ index_in file) =
     ap (λ segments. segments ++ index_in file) (decoded_segments (path_of page) servable.segments ∙ apart) ∙ append_assoc (map percent_decode dirs) (map percent_decode files) (index_in file) in
     ap (λ segments. host ∷ segments)
-    (map-append local_segment (map (path_units usual_rules) dirs) (last_units usual_rules page ∷ [])
-    ∙ ap (λ segments. segments ++ local_segment (last_units usual_rules page) ∷ []) (dirs_kept dirs both.0)
+    (map-append (local_segment false) (map (path_units usual_rules) dirs) (last_units usual_rules page ∷ [])
+    ∙ ap (λ segments. segments ++ local_segment false (last_units usual_rules page) ∷ []) (dirs_kept dirs both.0)
     ∙ ap (λ segments. map percent_decode dirs ++ segments) (last_kept file (query_of page) servable.no_query both.1)
     ∙ sym served)
 
-plain_served : (page : AddressText) → IsAddress page → HasServablePath page → plain_name_of usual_rules page ≡ join_with_byte slash (local_segment (host_units usual_rules page) ∷ served_segments page)
+plain_served : (page : AddressText) → IsAddress page → HasServablePath page → plain_name_of usual_rules page ≡ join_with_byte slash (local_segment true (host_units usual_rules page) ∷ served_segments page)
 unfolding plain_name_of
 plain_served page is servable = ap (join_with_byte slash) (segments_served page is servable)
 

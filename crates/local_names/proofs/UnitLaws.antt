@@ -1,27 +1,27 @@
 -- Units: what each has, those of a text, and what is left when they are cut.
-use Rattle.std.proofs.Common.{zero, suc, ◌≡◌, ◌≢◌, ℕ, ◌+◌, ◌-◌, ◌≤◌, ◌<◌, ◌==◌, nat_lt, Bool, true, false, not, ◌&&◌, ◌||◌, cond, Option, Some, None, List, [], ◌∷◌, ◌++◌, length, take, drop, map, codes, get_or, All, refl, sym, ap, ◌∙◌, subst, inl, inr, arith, length-append, replicate}
-use Rattle.std.proofs.lemmas.Bool.{cond_both, cond-true, cond-false, both_ways, and_parts, cases_lt, lt-ltb, ltb-true, ltb-false, false_from_ne_true, ne_eqb}
+use Rattle.std.proofs.Common.{zero, suc, ◌≡◌, ◌≢◌, ℕ, ◌+◌, ◌-◌, ◌≤◌, ◌<◌, ◌==◌, nat_eq, nat_lt, Bool, true, false, not, ◌&&◌, ◌||◌, cond, Option, Some, None, List, [], ◌∷◌, ◌++◌, length, take, drop, map, codes, get_or, All, refl, sym, ap, ◌∙◌, subst, inl, inr, arith, length-append, replicate}
+use Rattle.std.proofs.lemmas.Bool.{cond_both, cond-true, cond-false, both_ways, and_parts, cases_lt, lt-ltb, ltb-true, ltb-false, false_from_ne_true, ne_eqb, eq-eqb, eqb-true}
 use Rattle.std.proofs.lemmas.Bool.Decides.{nat_tests}
 use Rattle.std.proofs.lemmas.List.{append-nil, length-map, drop_at, take_rest}
-use Rattle.std.proofs.lemmas.List.Elements.{All-nil, All-cons, All-head, All-tail, All-append, All-map, All-weaker, All-from_get_or}
+use Rattle.std.proofs.lemmas.List.Elements.{All-nil, All-cons, All-head, All-tail, All-append, All-map, All-drop, All-weaker, All-from_get_or}
 use Rattle.std.proofs.lemmas.Str.{length-encode, len_utf8_bounds, encode_ascii, inside_one}
 use Rattle.std.specs.Char.{encode_utf8}
-use Rattle.std.specs.List.{list_all, concat}
+use Rattle.std.specs.List.{starts_with, list_all, concat}
 use Rattle.std.specs.Str.{IsUtf8, all_scalars, encode_utf8_all}
 use Rattle.bstr.specs.Utf8.{Decoded, decoded, good, pieces}
 use Rattle.bstr.proofs.lemmas.EncodeLemmas.{decoded-encode}
 use Rattle.bstr.proofs.lemmas.PieceLemmas.{piece-bounds, pieces-nil, pieces-step}
 use Rattle.percent_encoding.specs.Percent.{percent_encode_byte}
 use Rattle.percent_encoding.proofs.PercentLemmas.{IsEscapeByte, All-percent_encode_byte}
-use Rattle.local_names.specs.declared.plain_name.TheConstants.{MAX_SEGMENT}
+use Rattle.local_names.specs.declared.plain_name.TheConstants.{MAX_SEGMENT, PART}
 use Rattle.local_names.specs.declared.rules.CharRules.{CharRules}
 use Rattle.local_names.specs.declared.rules.LetterCase.{LetterCase}
 use Rattle.local_names.specs.declared.rules.LetterCase.TheVariants.{AsIs, Lower, Upper}
 use Rattle.local_names.specs.Rules.{usual_chars}
-use Rattle.local_names.specs.PlainNames.{slash, is_slash, is_dot, is_control, is_kept, in_case, piece_units, units_by, units_of, marked_units, without_dots, cut, local_segment}
+use Rattle.local_names.specs.PlainNames.{slash, is_slash, is_dot, is_control, is_kept, in_case, piece_units, units_by, units_of, marked_units, without_dots, cut, is_part, cut_in, local_segment}
 use Rattle.local_names.specs.declared.unit.Unit.{Unit}
 use Rattle.local_names.specs.declared.unit.Unit.TheVariants.{Escape}
-use Rattle.local_names.specs.inner.Units.{unit_text, started}
+use Rattle.local_names.specs.inner.Units.{unit_text, started, is_new}
 use Rattle.local_names.specs.LocalNames.{IsInner, IsShort}
 
 -- ---- what each unit has
@@ -293,6 +293,10 @@ pub started_some : (name : List ℕ) → 0 < length name → name ++ slash ∷ [
 started_some [] some = absurd (omega arith)
 started_some (b ∷ name) some = refl
 
+pub started_new : (name : List ℕ) → is_new (started name) ≡ is_new name
+started_new [] = refl
+started_new (b ∷ name) = refl
+
 pub filled : (units : List Unit) → map unit_text (replicate (length units) (Escape 46)) ≡ map (λ dot. percent_encode_byte 46) (map unit_text units)
 filled [] = refl
 filled (unit ∷ units) = ap (λ us. percent_encode_byte 46 ∷ us) (filled units)
@@ -350,31 +354,114 @@ no_dot_first (unit ∷ units) rest some e =
     let first : 37 ≡ 46 = sym (ap (λ (xs : List ℕ). get_or (xs ++ others) 0 0) escaped_dot) ∙ ap (λ xs. get_or xs 0 0) e in
     omega (arith, first)
 
-local_inner : (n : ℕ) (units : List (List ℕ)) → 6 ≤ n → All IsUnit units → 0 < length units → IsInner (cut n (without_dots units))
-local_inner n units room all some =
-    cond_both (list_all is_dot (concat units)) (map (λ dot. percent_encode_byte 46) units) units (λ us. IsInner (cut n us))
-    (λ dots. (
+not_dots : (units : List (List ℕ)) (text : List ℕ) → list_all is_dot text ≡ true → list_all is_dot (concat units) ≡ false → concat units ≡ text → ⊥
+not_dots units text dots mixed is = both_ways (list_all is_dot (concat units)) mixed (ap (list_all is_dot) is ∙ dots)
+
+-- units that name neither a directory nor the one above it
+record AreNamed (units : List (List ℕ)) : Type 0 where
+  all : All IsUnit units
+  some : 0 < length units
+  not_here : concat units ≡ codes "." → ⊥
+  not_above : concat units ≡ codes ".." → ⊥
+
+without_dots_named : (units : List (List ℕ)) → All IsUnit units → 0 < length units → AreNamed (without_dots units)
+without_dots_named units all some =
+    let escapes = map (λ (dot : List ℕ). percent_encode_byte 46) units in
     let long = length-map units (λ (dot : List ℕ). percent_encode_byte 46) in
-    cut_inner n (map (λ dot. percent_encode_byte 46) units) room (escaped_dots_are units) (omega (arith, long)) (no_dot_first units [] some) (no_dot_first units (46 ∷ []) some)))
-    (λ mixed. cut_inner n units room all some
-    (λ e. both_ways (list_all is_dot (concat units)) mixed (ap (list_all is_dot) e))
-    (λ e. both_ways (list_all is_dot (concat units)) mixed (ap (list_all is_dot) e)))
+    cond_both (list_all is_dot (concat units)) escapes units AreNamed
+    (λ dots. record { all = escaped_dots_are units; some = omega (arith, long); not_here = no_dot_first units [] some; not_above = no_dot_first units (46 ∷ []) some })
+    (λ mixed. record { all = all; some = some; not_here = not_dots units (codes ".") refl mixed; not_above = not_dots units (codes "..") refl mixed })
 
-local_bytes : (n : ℕ) (units : List (List ℕ)) → All IsUnit units → All IsSegmentByte (cut n (without_dots units))
-local_bytes n units all =
-    All-cut n (without_dots units) (cond_both (list_all is_dot (concat units)) (map (λ dot. percent_encode_byte 46) units) units (All IsUnit) (λ _. escaped_dots_are units) (λ _. all))
+pub not_short : (xs ys : List ℕ) → length ys < length xs → xs ≢ ys
+not_short xs ys longer e = let same : length xs ≡ length ys = ap length e in omega arith
 
-pub local_segment_is : (units : List (List ℕ)) → All IsUnit units → 0 < length units → IsSegment (local_segment units)
-local_segment_is units all some =
-    record { inner = local_inner MAX_SEGMENT units (omega arith) all some; bytes = local_bytes MAX_SEGMENT units all }
+-- a segment whose first dot is escaped
+first_escaped : ℕ → List (List ℕ) → List ℕ
+first_escaped room units = percent_encode_byte 46 ++ cut (room - 3) (drop 1 units)
 
-pub local_segment_short : (units : List (List ℕ)) → IsShort (local_segment units)
-local_segment_short units = length-cut MAX_SEGMENT (without_dots units)
+length-first_escaped : (room : ℕ) (units : List (List ℕ)) → length (first_escaped room units) ≡ 3 + length (cut (room - 3) (drop 1 units))
+unfolding first_escaped
+length-first_escaped room units = length-append (percent_encode_byte 46) (cut (room - 3) (drop 1 units)) ∙ ap (λ n. n + length (cut (room - 3) (drop 1 units))) (length-escape 46)
 
-pub local_segment_kept : (text : List ℕ) → IsUtf8 text → All IsSegmentByte text → list_all is_dot text ≡ false → IsShort text → local_segment (units_of usual_chars text) ≡ text
+first_escaped_is : (room : ℕ) (units : List (List ℕ)) → All IsUnit units → IsSegment (first_escaped room units)
+unfolding first_escaped
+first_escaped_is room units all =
+    let text = first_escaped room units in
+    let long = length-first_escaped room units in
+    record {
+      inner = record { present = not_short text [] (omega (arith, long)); not_here = not_short text (codes ".") (omega (arith, long)); not_above = not_short text (codes "..") (omega (arith, long)) };
+      bytes = All-append IsSegmentByte (percent_encode_byte 46) (cut (room - 3) (drop 1 units)) ((escape_is_unit 46).bytes) (All-cut (room - 3) (drop 1 units) (All-drop IsUnit 1 units all));
+    }
+
+cut_in_is : (is_first : Bool) (room : ℕ) (units : List (List ℕ)) → 6 ≤ room → AreNamed units → IsSegment (cut_in is_first room units)
+unfolding first_escaped
+cut_in_is is_first room units wide named =
+    cond_both (is_first && is_part (cut room units)) (first_escaped room units) (cut room units) IsSegment
+    (λ _. first_escaped_is room units named.all)
+    (λ _. record { inner = cut_inner room units wide named.all named.some named.not_here named.not_above; bytes = All-cut room units named.all })
+
+length-cut_in : (is_first : Bool) (room : ℕ) (units : List (List ℕ)) → 3 ≤ room → length (cut_in is_first room units) ≤ room
+unfolding first_escaped
+length-cut_in is_first room units wide =
+    cond_both (is_first && is_part (cut room units)) (first_escaped room units) (cut room units) (λ text. length text ≤ room)
+    (λ _. omega (arith, length-first_escaped room units, length-cut (room - 3) (drop 1 units)))
+    (λ _. length-cut room units)
+
+escape_no_part : (rest : List ℕ) → is_part (percent_encode_byte 46 ++ rest) ≡ false
+escape_no_part rest = ap (λ (first : List ℕ). is_part (first ++ rest)) escaped_dot
+
+cut_in_no_part : (room : ℕ) (units : List (List ℕ)) → is_part (cut_in true room units) ≡ false
+cut_in_no_part room units =
+    cond_both (is_part (cut room units)) (percent_encode_byte 46 ++ cut (room - 3) (drop 1 units)) (cut room units) (λ text. is_part text ≡ false)
+    (λ _. escape_no_part (cut (room - 3) (drop 1 units))) (λ other. other)
+
+pub local_segment_is : (is_first : Bool) (units : List (List ℕ)) → All IsUnit units → 0 < length units → IsSegment (local_segment is_first units)
+local_segment_is is_first units all some = cut_in_is is_first MAX_SEGMENT (without_dots units) (omega arith) (without_dots_named units all some)
+
+pub local_segment_short : (is_first : Bool) (units : List (List ℕ)) → IsShort (local_segment is_first units)
+local_segment_short is_first units = length-cut_in is_first MAX_SEGMENT (without_dots units) (omega arith)
+
+pub first_no_part : (units : List (List ℕ)) → is_part (local_segment true units) ≡ false
+first_no_part units = cut_in_no_part MAX_SEGMENT (without_dots units)
+
+pub local_segment_kept : (text : List ℕ) → IsUtf8 text → All IsSegmentByte text → list_all is_dot text ≡ false → IsShort text → local_segment false (units_of usual_chars text) ≡ text
 local_segment_kept text utf8 all mixed short =
     let units = units_of usual_chars text in
     let is = kept_text text utf8 all in
     ap (cut MAX_SEGMENT) (cond-false (list_all is_dot (concat units)) (map (λ dot. percent_encode_byte 46) units) units (ap (list_all is_dot) is ∙ mixed))
     ∙ cut_all MAX_SEGMENT units (subst (λ t. length t ≤ MAX_SEGMENT) (sym is) short)
     ∙ is
+
+-- ---- names of parts
+
+-- a text before a byte that the front of a part hasn't
+front_before : (needle xs ys : List ℕ) (mark : ℕ) → All (λ byte. byte ≢ mark) needle → starts_with nat_eq (xs ++ mark ∷ ys) needle ≡ true → starts_with nat_eq xs needle ≡ true
+front_before [] xs ys mark apart begins = refl
+front_before (b ∷ needle) [] ys mark apart begins =
+    absurd (All-head (λ byte. byte ≢ mark) b needle apart (eqb-true b mark ((and_parts (nat_eq b mark) _ begins).0)))
+front_before (b ∷ needle) (x ∷ xs) ys mark apart begins =
+    let both = and_parts (nat_eq b x) (starts_with nat_eq (xs ++ mark ∷ ys) needle) begins in
+    ap (λ t. t && starts_with nat_eq xs needle) both.0 ∙ front_before needle xs ys mark (All-tail (λ byte. byte ≢ mark) b needle apart) both.1
+
+off_from_not : (b : Bool) → not b ≡ true → b ≡ false
+off_from_not true e = cc
+off_from_not false e = refl
+
+apart_from : (mark : ℕ) (text : List ℕ) → list_all (λ byte. not (byte == mark)) text ≡ true → All (λ byte. byte ≢ mark) text
+apart_from mark [] all = All-nil (λ byte. byte ≢ mark)
+apart_from mark (b ∷ text) all =
+    let both = and_parts (not (b == mark)) (list_all (λ byte. not (byte == mark)) text) all in
+    All-cons (λ byte. byte ≢ mark) b text (λ e. other b e both.0) (apart_from mark text both.1)
+  where
+    other : (b : ℕ) → b ≡ mark → not (b == mark) ≡ true → ⊥
+    other b e differs = both_ways (b == mark) (off_from_not (b == mark) differs) (eq-eqb b mark e)
+
+pub part_before_slash : (xs ys : List ℕ) → is_part xs ≡ false → is_part (xs ++ slash ∷ ys) ≡ false
+part_before_slash xs ys none = false_from_ne_true _ (λ begins. both_ways (is_part xs) none (front_before PART.now xs ys slash (apart_from slash PART.now refl) begins))
+
+pub part_before_dot : (xs ys : List ℕ) → 0 < length xs → is_part xs ≡ false → is_part (xs ++ 46 ∷ ys) ≡ false
+part_before_dot [] ys some none = absurd (omega arith)
+part_before_dot (x ∷ xs) ys some none =
+    false_from_ne_true _ (λ begins.
+    let both = and_parts (nat_eq 46 x) (starts_with nat_eq (xs ++ 46 ∷ ys) (drop 1 PART.now)) begins in
+    both_ways (is_part (x ∷ xs)) none (ap (λ t. t && starts_with nat_eq xs (drop 1 PART.now)) both.0 ∙ front_before (drop 1 PART.now) xs ys 46 (apart_from 46 (drop 1 PART.now) refl) both.1))

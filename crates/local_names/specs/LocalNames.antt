@@ -1,7 +1,7 @@
 -- What keeps a name inside its folder, and a segment within what disks take.
 use Rattle.std.specs.Prelude.{◌≡◌, ◌≢◌, ℕ, false, ◌≤◌, List, [], length, codes, All, IsUtf8}
 use Rattle.std.specs.List.{slice_split}
-use Rattle.local_names.specs.PlainNames.{is_slash, is_control}
+use Rattle.local_names.specs.PlainNames.{is_slash, is_control, is_part}
 use Rattle.local_names.specs.Names.{numbered_name}
 use Rattle.local_names.specs.declared.plain_name.TheConstants.{MAX_SEGMENT}
 
@@ -34,3 +34,7 @@ IsUncontrolled byte = is_control byte ≡ false
 pub record IsText (name : List ℕ) : Type 0 where
   pub utf8 : IsUtf8 name
   pub bytes : All IsUncontrolled name
+
+-- the name isn't that of a part
+abbrev pub IsNoPart : List ℕ → Type 0
+IsNoPart name = is_part name ≡ false

@@ -1,8 +1,8 @@
 -- Plain names: the name that a page has if nothing stands in its way. It is made of the page's address and the rules alone, host
 -- and path becoming directories (GNU Wget manual, Directory Options).
-use Rattle.std.specs.Prelude.{ℕ, Bool, true, false, not, ◌==◌, ◌&&◌, ◌||◌, ◌-◌, nat_lt, Option, Some, None, List, [], ◌∷◌, ◌++◌, map, take, drop, length, codes, string_bytes, if◌then◌else◌}
+use Rattle.std.specs.Prelude.{ℕ, Bool, true, false, not, ◌==◌, ◌&&◌, ◌||◌, ◌-◌, nat_eq, nat_lt, Option, Some, None, List, [], ◌∷◌, ◌++◌, map, take, drop, length, codes, string_bytes, if◌then◌else◌}
 use Rattle.std.specs.Char.{encode_utf8, to_ascii_lowercase, to_ascii_uppercase}
-use Rattle.std.specs.List.{slice_split, list_all, concat, filter, join_with_byte}
+use Rattle.std.specs.List.{slice_split, starts_with, list_all, concat, filter, join_with_byte}
 use Rattle.std.specs.declared.string.String.{String}
 use Rattle.bstr.specs.Utf8.{Decoded, pieces}
 use Rattle.percent_encoding.specs.Percent.{percent_encode_byte, percent_decode}
@@ -11,7 +11,7 @@ use Rattle.local_names.specs.declared.rules.CharRules.{CharRules}
 use Rattle.local_names.specs.declared.rules.LetterCase.{LetterCase}
 use Rattle.local_names.specs.declared.rules.LetterCase.TheVariants.{AsIs, Lower, Upper}
 use Rattle.local_names.specs.declared.rules.NameRules.{NameRules}
-use Rattle.local_names.specs.declared.plain_name.TheConstants.{MAX_SEGMENT}
+use Rattle.local_names.specs.declared.plain_name.TheConstants.{MAX_SEGMENT, PART}
 
 -- what stands between the segments of a name
 abbrev pub slash : ℕ
@@ -92,9 +92,23 @@ abbrev pub cut : ℕ → List Unit → List ℕ
 cut room [] = []
 cut room (unit ∷ units) = if nat_lt room (length unit) then [] else (unit ++ cut (room - length unit) units)
 
--- the segment as it stands in a name: its dots escaped, and then cut
-abbrev pub local_segment : List Unit → List ℕ
-local_segment units = cut MAX_SEGMENT (without_dots units)
+-- the text begins as the name of a part: of what a folder writes directly below itself, before it gets a page's name
+abbrev pub is_part : List ℕ → Bool
+is_part text = starts_with nat_eq text PART.now
+
+-- the same of a segment, of which the first has its first dot escaped if it would begin so
+abbrev pub cut_in : Bool → ℕ → List Unit → List ℕ
+cut_in is_first room units =
+    if is_first && is_part (cut room units) then (percent_encode_byte 46 ++ cut (room - 3) (drop 1 units)) else cut room units
+
+-- the segment as it stands in a name, first or after others: its dots escaped, and then cut
+abbrev pub local_segment : Bool → List Unit → List ℕ
+local_segment is_first units = cut_in is_first MAX_SEGMENT (without_dots units)
+
+-- the segments as they stand in a name
+abbrev pub local_segments : List (List Unit) → List (List ℕ)
+local_segments [] = []
+local_segments (first ∷ others) = local_segment true first ∷ map (local_segment false) others
 
 -- ---- the segments of a page's name
 
@@ -151,7 +165,7 @@ front_segments rules page =
 
 -- the segments of a page's name: its directories, and the last
 unfoldable pub segments_of : NameRules → AddressText → List (List ℕ)
-segments_of rules page = map local_segment (front_segments rules page ++ last_units rules page ∷ [])
+segments_of rules page = local_segments (front_segments rules page ++ last_units rules page ∷ [])
 
 -- the plain name of a page
 unfoldable pub plain_name_of : NameRules → AddressText → List ℕ

@@ -1,5 +1,5 @@
 -- What a web server opens that serves the folder of a host: names are made so that it finds them.
-use Rattle.std.specs.Prelude.{◌≡◌, ℕ, false, ◌<◌, List, [], ◌∷◌, ◌++◌, map, take, length, codes, All, IsUtf8, slice_index_or, if◌then◌else◌}
+use Rattle.std.specs.Prelude.{◌≡◌, ℕ, true, false, ◌<◌, List, [], ◌∷◌, ◌++◌, map, take, length, codes, All, IsUtf8, slice_index_or, if◌then◌else◌}
 use Rattle.std.specs.List.{slice_split, list_all, filter, join_with_byte}
 use Rattle.percent_encoding.specs.Percent.{percent_decode}
 use Rattle.address.specs.Address.{AddressText, dir_of, file_of, query_of}
@@ -39,4 +39,4 @@ abbrev pub AreServed : List AddressText → List (List ℕ) → Type 0
 AreServed pages names =
     (i : ℕ) → i < length pages → HasServablePath (slice_index_or pages i [])
     → IsFree (map (plain_name_of usual_rules) pages) (take i names) (plain_name_of usual_rules (slice_index_or pages i []))
-    → slice_index_or names i [] ≡ join_with_byte slash (local_segment (host_units usual_rules (slice_index_or pages i [])) ∷ served_segments (slice_index_or pages i []))
+    → slice_index_or names i [] ≡ join_with_byte slash (local_segment true (host_units usual_rules (slice_index_or pages i [])) ∷ served_segments (slice_index_or pages i []))

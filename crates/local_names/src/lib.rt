@@ -15,7 +15,7 @@
 
 pub use crate::local_name::is_local_name;
 pub use crate::naming::{ascend, names};
-pub use crate::plain_name::MAX_SEGMENT;
+pub use crate::plain_name::{MAX_SEGMENT, PART};
 pub use crate::rules::{CharRules, LetterCase, NameRules};
 
 mod free_name;

@@ -8,7 +8,7 @@ ghost use Rattle.address.specs.Address.{IsAddress};
 ghost use Rattle.address.specs.AddressOrder.{IsAscending};
 ghost use Rattle.local_names.specs.PlainNames.{plain_name_of};
 ghost use Rattle.local_names.specs.Names.{IsNaming, AreDistinct, AreApart};
-ghost use Rattle.local_names.specs.LocalNames.{StaysInside, HasShortSegments, IsText};
+ghost use Rattle.local_names.specs.LocalNames.{StaysInside, HasShortSegments, IsText, IsNoPart};
 ghost use Rattle.local_names.specs.Rules.{usual_rules};
 ghost use Rattle.local_names.specs.Served.{AreServed};
 ghost use Rattle.local_names.specs.inner.Taken.{lent_text, text_cmp, HasSameNames, AreLeast, IsNoted, remembered};
@@ -178,7 +178,8 @@ fn assign(alloc: Global, plain: &[String]) -> Result<Vec<String>, AllocError>
 /// port unless it is the scheme's), the segments of the path, and in the last one, `index.html` if it is
 /// empty, the query. Path and query are decoded once; what no name can have is escaped again. Each
 /// segment is cut to [`MAX_SEGMENT`] bytes. If a name is a directory of another page's, or was given,
-/// `.1`, `.2`, .. is added. The rules say otherwise of some of it. The error is that memory is wanting.
+/// `.1`, `.2`, .. is added. A name that would begin as [`PART`](crate::PART) has its first dot escaped. The rules say otherwise of
+/// some of it. The error is that memory is wanting.
 ///
 /// By the usual rules the names of `http://h/a`, `http://h/a/%C3%A4` and `http://h:81/b?c` are `h/a.1`,
 /// `h/a/ä` and `h:81/b?c`.
@@ -196,6 +197,9 @@ pub fn names(alloc: Global, rules: &NameRules, pages: &[Address]) -> Result<Vec<
     ensures inside { IfOk result (λ names. All StaysInside (map string_bytes names.items)) }
     ensures short { IfOk result (λ names. All HasShortSegments (map string_bytes names.items)) }
     ensures text { IfOk result (λ names. All IsText (map string_bytes names.items)) }
+
+    // None begins as the name of a part does.
+    ensures no_part { IfOk result (λ names. All IsNoPart (map string_bytes names.items)) }
 
     // By the usual rules a web server finds the pages by their paths.
     ensures served { IfOk result (λ names. rules.now ≡ usual_rules → AreServed pages.now (map string_bytes names.items)) }

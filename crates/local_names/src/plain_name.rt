@@ -3,7 +3,7 @@
 ghost use Rattle.std.specs.Prelude.{◌≡◌, ◌++◌, ◌∷◌, [], IfOk, OnOk, map, drop, string_bytes};
 ghost use Rattle.address.specs.Address.{IsAddress, port_of, port_text, query_of};
 ghost use Rattle.percent_encoding.specs.Percent.{percent_decode};
-ghost use Rattle.local_names.specs.PlainNames.{is_slash, port_mark, query_mark, local_segment, host_units, dir_segments, path_units, default_page, file_units, last_units, scheme_segment, host_segment, front_segments, plain_name_of};
+ghost use Rattle.local_names.specs.PlainNames.{is_slash, port_mark, query_mark, host_units, dir_segments, path_units, default_page, file_units, last_units, scheme_segment, host_segment, front_segments, plain_name_of};
 ghost use Rattle.local_names.specs.inner.Units.{unit_text, lent_bytes, all_below};
 
 use crate::rules::{CharRules, NameRules};
@@ -14,6 +14,10 @@ use std::alloc::{AllocError, Global};
 
 /// The most bytes of a segment of a name; an added number isn't counted.
 pub const MAX_SEGMENT: usize = 200;
+
+/// How a folder begins the name of a part: of what it writes directly below itself, and which gets a page's name when it is whole.
+/// No page has a name that begins so.
+pub const PART: &str = ".wgetr%part";
 
 // The text with its escapes decoded.
 fn decoded(alloc: Global, text: &[u8]) -> Result<Vec<u8>, AllocError>
@@ -138,7 +142,7 @@ fn push_scheme(
     rules: &NameRules,
     page: &Address,
 ) -> Result<(), AllocError>
-    ensures { OnOk result (string_bytes name.new ≡ all_below (string_bytes name.old) (map local_segment (scheme_segment rules.now page.now))) }
+    ensures { OnOk result (string_bytes name.new ≡ all_below (string_bytes name.old) (scheme_segment rules.now page.now)) }
 {
     if !rules.has_protocol {
         return Ok(());
@@ -157,7 +161,7 @@ fn push_host(
     page: &Address,
 ) -> Result<(), AllocError>
     requires { IsAddress page.now }
-    ensures { OnOk result (string_bytes name.new ≡ all_below (string_bytes name.old) (map local_segment (host_segment rules.now page.now))) }
+    ensures { OnOk result (string_bytes name.new ≡ all_below (string_bytes name.old) (host_segment rules.now page.now)) }
 {
     if !rules.has_host {
         return Ok(());
@@ -172,7 +176,7 @@ fn push_dirs(
     rules: &NameRules,
     dirs: &[&[u8]],
 ) -> Result<(), AllocError>
-    ensures { OnOk result (string_bytes name.new ≡ all_below (string_bytes name.old) (map local_segment (map (path_units rules.now) (map lent_bytes dirs.now)))) }
+    ensures { OnOk result (string_bytes name.new ≡ all_below (string_bytes name.old) (map (path_units rules.now) (map lent_bytes dirs.now))) }
 {
     for dir in dirs {
         push_segment(name, path_units(alloc, rules, dir)?)?;
@@ -187,7 +191,7 @@ fn push_uncut(
     rules: &NameRules,
     dir: &str,
 ) -> Result<(), AllocError>
-    ensures { OnOk result (string_bytes name.new ≡ all_below (string_bytes name.old) (map local_segment (map (path_units rules.now) (drop rules.now.cut_dirs (dir_segments dir.now))))) }
+    ensures { OnOk result (string_bytes name.new ≡ all_below (string_bytes name.old) (map (path_units rules.now) (drop rules.now.cut_dirs (dir_segments dir.now)))) }
 {
     let dirs = dir_segments(alloc, dir.as_bytes())?;
     push_dirs(alloc, name, rules, &dirs[rules.cut_dirs.min(dirs.len())..])
@@ -201,7 +205,7 @@ fn push_front(
     page: &Address,
 ) -> Result<(), AllocError>
     requires { IsAddress page.now }
-    ensures { OnOk result (string_bytes name.new ≡ all_below (string_bytes name.old) (map local_segment (front_segments rules.now page.now))) }
+    ensures { OnOk result (string_bytes name.new ≡ all_below (string_bytes name.old) (front_segments rules.now page.now)) }
 {
     if !rules.has_directories {
         return Ok(());

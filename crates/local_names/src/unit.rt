@@ -1,12 +1,11 @@
 //! Units: what a name is made of, and never cut within.
-ghost use Rattle.std.specs.Prelude.{◌≡◌, ◌<◌, ◌++◌, ◌||◌, OnOk, Some, map, string_bytes, length};
-ghost use Rattle.local_names.specs.declared.plain_name.TheConstants.{MAX_SEGMENT};
+ghost use Rattle.std.specs.Prelude.{◌≡◌, ◌<◌, ◌≤◌, ◌-◌, ◌++◌, ◌||◌, OnOk, Some, map, drop, string_bytes, length};
 ghost use Rattle.std.specs.List.{list_all};
 ghost use Rattle.percent_encoding.specs.Percent.{percent_encode_byte};
-ghost use Rattle.local_names.specs.PlainNames.{is_control, is_slash, is_refused_by_windows, is_kept, in_case, piece_units, units_of, marked_units, without_dots, cut, local_segment};
-ghost use Rattle.local_names.specs.inner.Units.{unit_text, is_dot_unit, started, below};
+ghost use Rattle.local_names.specs.PlainNames.{is_control, is_slash, is_refused_by_windows, is_kept, in_case, piece_units, units_of, marked_units, without_dots, cut, is_part, cut_in};
+ghost use Rattle.local_names.specs.inner.Units.{unit_text, is_dot_unit, started, is_new, below};
 
-use crate::plain_name::MAX_SEGMENT;
+use crate::plain_name::{MAX_SEGMENT, PART};
 use crate::rules::{CharRules, LetterCase};
 use bstr::decode_utf8;
 use percent_encoding::percent_encode_byte;
@@ -178,11 +177,11 @@ fn escape_dots(units: &mut Vec<Unit>)
     }
 }
 
-// Adds the first units to a name for which a segment has room.
-fn push_cut(name: &mut String, units: &[Unit]) -> Result<(), AllocError>
-    ensures { OnOk result (string_bytes name.new ≡ string_bytes name.old ++ cut MAX_SEGMENT (map unit_text units.now)) }
+// Adds the first units to a name for which there is room.
+fn push_cut(name: &mut String, room: usize, units: &[Unit]) -> Result<(), AllocError>
+    ensures { OnOk result (string_bytes name.new ≡ string_bytes name.old ++ cut room (map unit_text units.now)) }
 {
-    let mut room = MAX_SEGMENT;
+    let mut room = room;
     for unit in units {
         let len = unit.len();
         if len > room {
@@ -190,6 +189,38 @@ fn push_cut(name: &mut String, units: &[Unit]) -> Result<(), AllocError>
         }
         unit.push_onto(name)?;
         room -= len;
+    }
+    Ok(())
+}
+
+// Whether the text begins as what a folder writes before it gets its name.
+fn is_part(text: &str) -> bool
+    ensures { result ≡ is_part text.now }
+{
+    text.as_bytes().starts_with(PART.as_bytes())
+}
+
+// Writes a name's first segment anew, with its first dot escaped.
+fn escape_first(name: &mut String, room: usize, units: &[Unit]) -> Result<(), AllocError>
+    requires room { 3 ≤ room }
+    requires some { 0 < length units.now }
+    ensures { OnOk result (string_bytes name.new ≡ percent_encode_byte 46 ++ cut (room - 3) (drop 1 (map unit_text units.now))) }
+{
+    name.clear();
+    name.push_str(percent_encode_byte(b'.'))?;
+    push_cut(name, room - 3, &units[1..])
+}
+
+// Adds the first units to a name for which there is room. If nothing stands there and they would begin as a part does, their first
+// dot is escaped.
+fn push_apart(name: &mut String, room: usize, units: &[Unit]) -> Result<(), AllocError>
+    requires { 3 ≤ room }
+    ensures { OnOk result (string_bytes name.new ≡ string_bytes name.old ++ cut_in (is_new (string_bytes name.old)) room (map unit_text units.now)) }
+{
+    let is_new = name.is_empty();
+    push_cut(name, room, units)?;
+    if is_new && is_part(name.as_str()) {
+        return escape_first(name, room, units);
     }
     Ok(())
 }
@@ -207,9 +238,9 @@ fn push_slash(name: &mut String) -> Result<(), AllocError>
 
 /// Adds a segment of these units to a name, below those that are there.
 pub(crate) fn push_segment(name: &mut String, mut units: Vec<Unit>) -> Result<(), AllocError>
-    ensures { OnOk result (string_bytes name.new ≡ below (string_bytes name.old) (local_segment (map unit_text units.items))) }
+    ensures { OnOk result (string_bytes name.new ≡ below (string_bytes name.old) (map unit_text units.items)) }
 {
     escape_dots(&mut units);
     push_slash(name)?;
-    push_cut(name, &units)
+    push_apart(name, MAX_SEGMENT, &units)
 }

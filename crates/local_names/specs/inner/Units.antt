@@ -1,12 +1,12 @@
 -- Units as the code has them, and names to which segments are added.
-use Rattle.std.specs.Prelude.{ℕ, Bool, List, [], ◌∷◌, ◌++◌, if◌then◌else◌}
+use Rattle.std.specs.Prelude.{ℕ, Bool, not, List, [], ◌∷◌, ◌++◌, if◌then◌else◌}
 use Rattle.std.specs.Char.{encode_utf8}
 use Rattle.std.specs.List.{list_all}
 use denote.Ref.{Bor}
 use Rattle.percent_encoding.specs.Percent.{percent_encode_byte}
 use Rattle.local_names.specs.declared.unit.Unit.{Unit}
 use Rattle.local_names.specs.declared.unit.Unit.TheVariants.{Char, Escape}
-use Rattle.local_names.specs.PlainNames.{slash, is_dot, has_bytes}
+use Rattle.local_names.specs.PlainNames.{slash, is_dot, has_bytes, local_segment}
 
 -- the bytes of a unit
 abbrev pub unit_text : Unit → List ℕ
@@ -25,11 +25,15 @@ lent_bytes bytes = bytes.now
 abbrev pub started : List ℕ → List ℕ
 started name = if has_bytes name then (name ++ slash ∷ []) else []
 
+-- no segment was added to the name
+abbrev pub is_new : List ℕ → Bool
+is_new name = not (has_bytes name)
+
 -- the name with one segment more
-abbrev pub below : List ℕ → List ℕ → List ℕ
-below name segment = started name ++ segment
+abbrev pub below : List ℕ → List (List ℕ) → List ℕ
+below name units = started name ++ local_segment (is_new name) units
 
 -- the name with these segments more
-abbrev pub all_below : List ℕ → List (List ℕ) → List ℕ
+abbrev pub all_below : List ℕ → List (List (List ℕ)) → List ℕ
 all_below name [] = name
-all_below name (segment ∷ segments) = all_below (below name segment) segments
+all_below name (units ∷ others) = all_below (below name units) others

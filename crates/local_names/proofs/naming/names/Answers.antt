@@ -3,9 +3,9 @@ use Rattle.std.proofs.lemmas.List.{length-map}
 use Rattle.std.specs.String.{string_bytes}
 use Rattle.local_names.specs.PlainNames.{plain_name_of}
 use Rattle.local_names.specs.Names.{numbered_name, IsNaming}
-use Rattle.local_names.specs.LocalNames.{StaysInside, HasShortSegments, IsUncontrolled}
+use Rattle.local_names.specs.LocalNames.{StaysInside, HasShortSegments, IsUncontrolled, IsNoPart}
 use Rattle.local_names.proofs.NamingLaws.{IsNaming-sole, IsNaming-distinct, IsNaming-apart}
-use Rattle.local_names.proofs.PlainLaws.{all_names, numbered_made, made_stays_inside, made_text, numbered_short, texts}
+use Rattle.local_names.proofs.PlainLaws.{all_names, numbered_made, made_stays_inside, made_text, numbered_short, numbered_no_part, texts}
 use Rattle.local_names.proofs.ServedLaws.{served_names}
 use Rattle.local_names.proofs.naming.names.Goals as goal
 
@@ -26,5 +26,6 @@ returns c =
       inside = all_names StaysInside rules pages names naming addresses (λ page k is. made_stays_inside (numbered_name (plain_name_of rules page) k) (numbered_made rules page k is));
       short = all_names HasShortSegments rules pages names naming addresses (numbered_short rules);
       text = texts c.in_ok-assign.field-0.items (all_names (All IsUncontrolled) rules pages names naming addresses (λ page k is. made_text (numbered_name (plain_name_of rules page) k) (numbered_made rules page k is)));
+      no_part = all_names IsNoPart rules pages names naming addresses (numbered_no_part rules);
       served = λ usual. served_names pages names (subst (λ r. IsNaming (map (plain_name_of r) pages) names) usual naming) addresses;
     }
