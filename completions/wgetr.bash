@@ -5,10 +5,10 @@ _wgetr() {
     [[ $before == = ]] && before=${COMP_WORDS[COMP_CWORD - 2]}
     [[ $word == = ]] && word=
     case $before in
-    --resume|--save) mapfile -t COMPREPLY < <(compgen -f -- "$word") ;;
+    --resume|-o|--output-file|-a|--append-output|--save) mapfile -t COMPREPLY < <(compgen -f -- "$word") ;;
     -P|--directory-prefix) mapfile -t COMPREPLY < <(compgen -d -- "$word") ;;
-    -l|--level|-D|--domains|--exclude-domains|-I|--include-directories|-X|--exclude-directories|-A|--accept|-R|--reject|-e|--execute|--workers|--per-host|--https-proxy|--max-urls|--progress|--compression) COMPREPLY=() ;;
-    *) mapfile -t COMPREPLY < <(compgen -W "-r --recursive -l --level -p --page-requisites -np --no-parent -H --span-hosts -D --domains --exclude-domains -I --include-directories -X --exclude-directories -A --accept -R --reject -e --execute --no-robots --workers --per-host --no-http-keep-alive --https-proxy --max-urls --map --record --resume -P --directory-prefix --trace --save -nv --no-verbose -x --force-directories --no-cookies --no-hsts --no-config --no-netrc --unlink --no-remove-listing --show-progress --no-xattr --no-strict-comments --no-follow-ftp --progress --compression -h --help -V --version" -- "$word") ;;
+    -l|--level|-D|--domains|--exclude-domains|-I|--include-directories|-X|--exclude-directories|-A|--accept|-R|--reject|-e|--execute|--workers|--per-host|--https-proxy|--max-urls|--cut-dirs|--default-page|--restrict-file-names|--progress|--compression) COMPREPLY=() ;;
+    *) mapfile -t COMPREPLY < <(compgen -W "-r --recursive -l --level -p --page-requisites --span-requisites -np --no-parent -H --span-hosts -D --domains --exclude-domains -I --include-directories -X --exclude-directories -A --accept -R --reject --ignore-case -e --execute --no-robots --workers --per-host --no-http-keep-alive --https-proxy --no-proxy --max-urls --map --record --resume -P --directory-prefix -nd --no-directories -x --force-directories -nH --no-host-directories --protocol-directories --cut-dirs --default-page --restrict-file-names -q --quiet -o --output-file -a --append-output --trace --save -nv --no-verbose --no-cookies --no-hsts --no-config --no-netrc --unlink --no-remove-listing --show-progress --no-xattr --no-strict-comments --no-follow-ftp --progress --compression -h --help -V --version" -- "$word") ;;
     esac
 }
 complete -o filenames -F _wgetr wgetr

@@ -15,8 +15,10 @@ use Rattle.options.specs.declared.fault.LineFault.TheVariants as fault
 use Rattle.options.specs.Line.{rows, refusals}
 use Rattle.follow_filters.specs.declared.limit.Limit.{Limit}
 use Rattle.options.specs.Given.{level_of}
-use Rattle.options.specs.Order.{Counts, proxy_of, start_of, started_at, are_good, counts_of, patterns_of, directories_of, domains_of, order_of_rows, order_of_written, are_taken, words_refused, AnswersOrder, without_kind, ordered}
-use Rattle.options.specs.inner.Order.{Both, StartsAt, FailsToStart, FailsToFilter, fault_of_kind}
+use Rattle.options.specs.Asked.{without_kind, words_refused}
+use Rattle.options.specs.Naming.{Naming, naming_of}
+use Rattle.options.specs.Order.{Counts, proxy_of, start_of, started_at, are_good, counts_of, patterns_of, directories_of, domains_of, order_of_rows, order_of_written, are_taken, AnswersOrder, ordered}
+use Rattle.options.specs.inner.Order.{Both, StartsAt, FailsToStart, FailsToFilter, Settles, fault_of_kind}
 
 pub starts-at : (found : List Row) (start : List ℕ) → start_of found ≡ Ok start → is_robots_file start ≡ false → StartsAt found start
 starts-at found start is page next =
@@ -54,21 +56,25 @@ pub bad-proxy : (found : List Row) (n : Counts) → are_good found ≡ true → 
 unfolding order_of_rows
 bad-proxy found n words counts proxy = rw (words, counts, proxy) refl
 
-pub bad-level : (found : List Row) (n : Counts) (x : Option (List ℕ)) → are_good found ≡ true → counts_of found ≡ Some n → proxy_of found ≡ Some x → level_of found ≡ None → order_of_rows found ≡ Err fault.Depth
+pub bad-names : (found : List Row) (n : Counts) (x : Option (List ℕ)) → are_good found ≡ true → counts_of found ≡ Some n → proxy_of found ≡ Some x → naming_of found ≡ None → order_of_rows found ≡ Err words_refused
 unfolding order_of_rows
-bad-level found n x words counts proxy level = rw (words, counts, proxy, level) refl
+bad-names found n x words counts proxy names = rw (words, counts, proxy, names) refl
 
-pub bad-filters : (found : List Row) (n : Counts) (x : Option (List ℕ)) (l : Limit) (why : LineFault) → are_good found ≡ true → counts_of found ≡ Some n → proxy_of found ≡ Some x → level_of found ≡ Some l → FailsToFilter found why → order_of_rows found ≡ Err why
+pub bad-level : (found : List Row) (n : Counts) (x : Option (List ℕ)) (m : Naming) → Settles found n x m → level_of found ≡ None → order_of_rows found ≡ Err fault.Depth
 unfolding order_of_rows
-bad-filters found n x l why words counts proxy level fails = rw (words, counts, proxy, level) (fails.1 _)
+bad-level found n x m settles level = rw (settles.words, settles.counted, settles.proxied, settles.named, level) refl
 
-pub bad-start : (found : List Row) (n : Counts) (x : Option (List ℕ)) (l : Limit) (p d h : List (List ℕ) × List (List ℕ)) (why : LineFault) → are_good found ≡ true → counts_of found ≡ Some n → proxy_of found ≡ Some x → level_of found ≡ Some l → patterns_of found ≡ Some p → directories_of found ≡ Some d → domains_of found ≡ Some h → FailsToStart found why → order_of_rows found ≡ Err why
+pub bad-filters : (found : List Row) (n : Counts) (x : Option (List ℕ)) (m : Naming) (l : Limit) (why : LineFault) → Settles found n x m → level_of found ≡ Some l → FailsToFilter found why → order_of_rows found ≡ Err why
 unfolding order_of_rows
-bad-start found n x l p d h why words counts proxy level patterns directories domains fails = rw (words, counts, proxy, level, patterns, directories, domains) (fails.1 _)
+bad-filters found n x m l why settles level fails = rw (settles.words, settles.counted, settles.proxied, settles.named, level) (fails.1 _)
 
-pub good-order : (found : List Row) (n : Counts) (x : Option (List ℕ)) (l : Limit) (p d h : List (List ℕ) × List (List ℕ)) (start : List ℕ) → are_good found ≡ true → counts_of found ≡ Some n → proxy_of found ≡ Some x → level_of found ≡ Some l → patterns_of found ≡ Some p → directories_of found ≡ Some d → domains_of found ≡ Some h → StartsAt found start → order_of_rows found ≡ Ok (ordered found n x l p d h start)
+pub bad-start : (found : List Row) (n : Counts) (x : Option (List ℕ)) (m : Naming) (l : Limit) (p d h : List (List ℕ) × List (List ℕ)) (why : LineFault) → Settles found n x m → level_of found ≡ Some l → patterns_of found ≡ Some p → directories_of found ≡ Some d → domains_of found ≡ Some h → FailsToStart found why → order_of_rows found ≡ Err why
 unfolding order_of_rows
-good-order found n x l p d h start words counts proxy level patterns directories domains starts = rw (words, counts, proxy, level, patterns, directories, domains) (starts _)
+bad-start found n x m l p d h why settles level patterns directories domains fails = rw (settles.words, settles.counted, settles.proxied, settles.named, level, patterns, directories, domains) (fails.1 _)
+
+pub good-order : (found : List Row) (n : Counts) (x : Option (List ℕ)) (m : Naming) (l : Limit) (p d h : List (List ℕ) × List (List ℕ)) (start : List ℕ) → Settles found n x m → level_of found ≡ Some l → patterns_of found ≡ Some p → directories_of found ≡ Some d → domains_of found ≡ Some h → StartsAt found start → order_of_rows found ≡ Ok (ordered found n x m l p d h start)
+unfolding order_of_rows
+good-order found n x m l p d h start settles level patterns directories domains starts = rw (settles.words, settles.counted, settles.proxied, settles.named, level, patterns, directories, domains) (starts _)
 
 -- ---- refused words
 

@@ -28,14 +28,16 @@ abbrev forms_of : Row Text → Text × Text × Option Text
 forms_of row = (row.short, row.name, value_name row.kind)
 
 -- docs/OPTIONS.md
-forms : map forms_of table ≡ (codes "r", codes "recursive", None) ∷ (codes "l", codes "level", Some (codes "N")) ∷ (codes "p", codes "page-requisites", None)
+forms : map forms_of table ≡ (codes "r", codes "recursive", None) ∷ (codes "l", codes "level", Some (codes "N")) ∷ (codes "p", codes "page-requisites", None) ∷ ([], codes "span-requisites", None)
     ∷ (codes "n", codes "n", Some (codes "p")) ∷ (codes "np", codes "no-parent", None) ∷ (codes "H", codes "span-hosts", None)
     ∷ (codes "D", codes "domains", Some (codes "LIST")) ∷ ([], codes "exclude-domains", Some (codes "LIST")) ∷ (codes "I", codes "include-directories", Some (codes "LIST"))
-    ∷ (codes "X", codes "exclude-directories", Some (codes "LIST")) ∷ (codes "A", codes "accept", Some (codes "LIST")) ∷ (codes "R", codes "reject", Some (codes "LIST"))
+    ∷ (codes "X", codes "exclude-directories", Some (codes "LIST")) ∷ (codes "A", codes "accept", Some (codes "LIST")) ∷ (codes "R", codes "reject", Some (codes "LIST")) ∷ ([], codes "ignore-case", None)
     ∷ (codes "e", codes "execute", Some (codes "COMMAND")) ∷ ([], codes "no-robots", None) ∷ ([], codes "workers", Some (codes "N")) ∷ ([], codes "per-host", Some (codes "N"))
-    ∷ ([], codes "no-http-keep-alive", None) ∷ ([], codes "https-proxy", Some (codes "URL")) ∷ ([], codes "max-urls", Some (codes "N")) ∷ ([], codes "map", None) ∷ ([], codes "record", None) ∷ ([], codes "resume", Some (codes "FILE"))
-    ∷ (codes "P", codes "directory-prefix", Some (codes "DIR")) ∷ ([], codes "trace", None) ∷ ([], codes "save", Some (codes "FILE"))
-    ∷ (codes "nv", codes "no-verbose", None) ∷ (codes "x", codes "force-directories", None) ∷ ([], codes "no-cookies", None) ∷ ([], codes "no-hsts", None) ∷ ([], codes "no-config", None)
+    ∷ ([], codes "no-http-keep-alive", None) ∷ ([], codes "https-proxy", Some (codes "URL")) ∷ ([], codes "no-proxy", None) ∷ ([], codes "max-urls", Some (codes "N")) ∷ ([], codes "map", None) ∷ ([], codes "record", None) ∷ ([], codes "resume", Some (codes "FILE"))
+    ∷ (codes "P", codes "directory-prefix", Some (codes "DIR")) ∷ (codes "nd", codes "no-directories", None) ∷ (codes "x", codes "force-directories", None)
+    ∷ (codes "nH", codes "no-host-directories", None) ∷ ([], codes "protocol-directories", None) ∷ ([], codes "cut-dirs", Some (codes "N")) ∷ ([], codes "default-page", Some (codes "NAME"))
+    ∷ ([], codes "restrict-file-names", Some (codes "MODES")) ∷ (codes "q", codes "quiet", None) ∷ (codes "o", codes "output-file", Some (codes "FILE")) ∷ (codes "a", codes "append-output", Some (codes "FILE")) ∷ ([], codes "trace", None) ∷ ([], codes "save", Some (codes "FILE"))
+    ∷ (codes "nv", codes "no-verbose", None) ∷ ([], codes "no-cookies", None) ∷ ([], codes "no-hsts", None) ∷ ([], codes "no-config", None)
     ∷ ([], codes "no-netrc", None) ∷ ([], codes "unlink", None) ∷ ([], codes "no-remove-listing", None) ∷ ([], codes "show-progress", None) ∷ ([], codes "no-xattr", None)
     ∷ ([], codes "no-strict-comments", None) ∷ ([], codes "no-follow-ftp", None) ∷ ([], codes "progress", Some (codes "TYPE")) ∷ ([], codes "compression", Some (codes "none")) ∷ []
 unfolding table

@@ -15,8 +15,9 @@ use Rattle.options.specs.declared.said.Saying.{Saying}
 use Rattle.options.specs.declared.said.Saying.TheVariants as saying
 use Rattle.options.specs.declared.table.Command.{Command}
 use Rattle.options.specs.declared.table.Row.{Row}
+use Rattle.options.specs.Asked.{wish_after, wish_in}
 use Rattle.options.specs.Meant.{begun_of, beginning}
-use Rattle.options.specs.Said.{after_front, beside, command_meaning, commanded, heard_as, heard_letter, heard_letters, is_negative, is_switch, is_word, letter_by, letter_in, letter_or, meaning_of, named, named_by, negative, sense, value_meaning, valued}
+use Rattle.options.specs.Said.{after_front, beside, command_meaning, commanded, heard_as, heard_letter, heard_letters, is_negative, is_switch, is_word, letter_by, letter_in, letter_or, letter_with, meaning_of, named, named_by, negative, sense, value_meaning, valued}
 use Rattle.options.specs.Table.{table}
 use Rattle.options.specs.Written.{first_start, first_unread, value_after, value_from}
 use Rattle.options.specs.inner.Meant.{joined}
@@ -114,41 +115,61 @@ behind_letter (l ∷ []) c t rest one e = go (l == c) refl
     go false is = let none : None ≡ Some rest = rw is at e in cc
 behind_letter (l ∷ m ∷ more) c t rest one e = let bad : length (l ∷ m ∷ more) ≡ 1 = grind (arith, nat_tests) in absurd (omega arith)
 
-by_letter : (row : Row Text) (rest name left : Text) → letter_by row rest ≡ letter.Goes name left → left ≡ rest
-by_letter row rest name left e = go (is_switch row.kind) refl
+with_letter : (said : Meaning Text) (rest name value left : Text) → letter_with rest said ≡ letter.Goes name value left → left ≡ rest
+with_letter (meaning.Means n v) rest name value left e = cc
+with_letter (meaning.Waits n) rest name value left e = cc
+with_letter meaning.Unknown rest name value left e = cc
+
+by_letter : (row : Row Text) (rest name value left : Text) → letter_by row rest ≡ letter.Goes name value left → left ≡ rest
+by_letter row rest name value left e = go (is_switch row.kind) refl
   where
     go : (b : Bool) → is_switch row.kind ≡ b → left ≡ rest
-    go true is = let same : letter.Goes row.name rest ≡ letter.Goes name left = rw is at e in cc
-    go false is = let same : letter.Is (valued row.name (beside rest)) ≡ letter.Goes name left = rw is at e in cc
+    go true is =
+        let same : letter_with rest (meaning_of row.name row.kind true None) ≡ letter.Goes name value left = rw is at e in
+        with_letter (meaning_of row.name row.kind true None) rest name value left same
+    go false is = let same : letter.Is (valued row.name (beside rest)) ≡ letter.Goes name value left = rw is at e in cc
 
-letter_in-rest : (c : ℕ) (t name rest : Text) (rows : List (Row Text)) → letter_in (c ∷ t) rows ≡ letter.Goes name rest → rest ≡ t
-letter_in-rest c t name rest [] e = cc
-letter_in-rest c t name rest (row ∷ rows) e = go (length row.short == 1) refl (after_front row.short (c ∷ t)) refl (letter_in-rest c t name rest rows)
+letter_in-rest : (c : ℕ) (t name value rest : Text) (rows : List (Row Text)) → letter_in (c ∷ t) rows ≡ letter.Goes name value rest → rest ≡ t
+letter_in-rest c t name value rest [] e = cc
+letter_in-rest c t name value rest (row ∷ rows) e = go (length row.short == 1) refl (after_front row.short (c ∷ t)) refl (letter_in-rest c t name value rest rows)
   where
-    go : (b : Bool) → (length row.short == 1) ≡ b → (found : Option Text) → after_front row.short (c ∷ t) ≡ found → (letter_in (c ∷ t) rows ≡ letter.Goes name rest → rest ≡ t) → rest ≡ t
+    go : (b : Bool) → (length row.short == 1) ≡ b → (found : Option Text) → after_front row.short (c ∷ t) ≡ found → (letter_in (c ∷ t) rows ≡ letter.Goes name value rest → rest ≡ t) → rest ≡ t
     go true one (Some left) is more =
-        let by : letter_by row left ≡ letter.Goes name rest = rw (one, is) at e in
-        by_letter row left name rest by ∙ behind_letter row.short c t left one is
+        let by : letter_by row left ≡ letter.Goes name value rest = rw (one, is) at e in
+        by_letter row left name value rest by ∙ behind_letter row.short c t left one is
     go true one None is more = more (rw (one, is) at e)
     go false one found is more = more (rw one at e)
 
--- letters of which the first one is an option that is on
-pub heard-goes : (word letters name rest : Text) → (length letters == 0) ≡ false → letter.Goes name rest ≡ letter_in letters table
-    → heard_letters word letters ≡ record (heard_letters word rest) { said = saying.Says name (codes "on") ∷ (heard_letters word rest).said }
-heard-goes word [] name rest some e = let bad : (0 == 0) ≡ false = some in absurd (grind (arith, nat_tests))
-heard-goes word (c ∷ t) name rest some e =
+-- letters of which the first one is an option that is on or off
+pub heard-goes : (word letters name value rest : Text) → (length letters == 0) ≡ false → letter.Goes name value rest ≡ letter_in letters table
+    → heard_letters word letters ≡ record (heard_letters word rest) { said = saying.Says name value ∷ (heard_letters word rest).said }
+heard-goes word [] name value rest some e = let bad : (0 == 0) ≡ false = some in absurd (grind (arith, nat_tests))
+heard-goes word (c ∷ t) name value rest some e =
     ap (λ l. heard_letter word l (heard_letters word t)) (sym e)
-    ∙ ap (λ (left : Text). record (heard_letters word left) { said = saying.Says name (codes "on") ∷ (heard_letters word left).said }) (sym (letter_in-rest c t name rest table (sym e)))
+    ∙ ap (λ (left : Text). record (heard_letters word left) { said = saying.Says name value ∷ (heard_letters word left).said }) (sym (letter_in-rest c t name value rest table (sym e)))
 
 -- letters of which the first one ends the word
 pub heard-is : (word letters : Text) (is : Meaning Text) → (length letters == 0) ≡ false → letter.Is is ≡ letter_in letters table → heard_letters word letters ≡ heard_as word is
 heard-is word [] is some e = let bad : (0 == 0) ≡ false = some in absurd (grind (arith, nat_tests))
 heard-is word (c ∷ t) is some e = ap (λ l. heard_letter word l (heard_letters word t)) (sym e)
 
+-- what letters ask for of which the first one is an option that is on or off
+pub wishes-goes : (letters name value rest : Text) → (length letters == 0) ≡ false → letter.Goes name value rest ≡ letter_in letters table → wish_in letters ≡ wish_in rest
+wishes-goes [] name value rest some e = let bad : (0 == 0) ≡ false = some in absurd (grind (arith, nat_tests))
+wishes-goes (c ∷ t) name value rest some e =
+    ap (λ l. wish_after (c ∷ t) l (wish_in t)) (sym e) ∙ ap wish_in (sym (letter_in-rest c t name value rest table (sym e)))
+
+-- and of which the first one ends the word
+pub wishes-is : (letters : Text) (is : Meaning Text) → (length letters == 0) ≡ false → letter.Is is ≡ letter_in letters table → wish_in letters ≡ wish_after letters (letter.Is is) None
+wishes-is [] is some e = let bad : (0 == 0) ≡ false = some in absurd (grind (arith, nat_tests))
+wishes-is (c ∷ t) meaning.Unknown some e = ap (λ l. wish_after (c ∷ t) l (wish_in t)) (sym e)
+wishes-is (c ∷ t) (meaning.Means name value) some e = ap (λ l. wish_after (c ∷ t) l (wish_in t)) (sym e)
+wishes-is (c ∷ t) (meaning.Waits name) some e = ap (λ l. wish_after (c ∷ t) l (wish_in t)) (sym e)
+
 -- the letters behind a letter are fewer
-pub fewer : (letters name rest : Text) → (length letters == 0) ≡ false → letter.Goes name rest ≡ letter_in letters table → length rest < length letters
-fewer [] name rest some e = let bad : (0 == 0) ≡ false = some in absurd (grind (arith, nat_tests))
-fewer (c ∷ t) name rest some e = let same = letter_in-rest c t name rest table (sym e) in rw same (omega arith)
+pub fewer : (letters name value rest : Text) → (length letters == 0) ≡ false → letter.Goes name value rest ≡ letter_in letters table → length rest < length letters
+fewer [] name value rest some e = let bad : (0 == 0) ≡ false = some in absurd (grind (arith, nat_tests))
+fewer (c ∷ t) name value rest some e = let same = letter_in-rest c t name value rest table (sym e) in rw same (omega arith)
 
 -- ---- a value with its option
 

@@ -36,7 +36,7 @@ accepted_start =
 abbrev pub wrong_start : AddressFault → Option (List ℕ)
 wrong_start refused.TooLong = Some (codes "START is too long")
 wrong_start refused.NotUrl = Some (codes "START is no URL")
-wrong_start refused.NotHttp = Some (codes "START isn't an http address, and http alone is spoken: there is no TLS here, which https needs")
+wrong_start refused.NotHttp = Some (codes "START isn't an http address, and an https one needs --https-proxy, a proxy that speaks TLS")
 wrong_start refused.UserInfo = Some (codes "START has a user name or a password")
 wrong_start refused.Memory = None
 
@@ -64,7 +64,7 @@ told_on line.Pattern =
     (codes "an element is a suffix, or a pattern with *, ? and classes as [a-z], each closed (see wgetr --help)"))
 told_on line.Directory =
     Some (Correction (codes "an element of -I, --include-directories or -X, --exclude-directories is no directory")
-    (codes "an element begins with / and has none of *, ?, [ and ] (see wgetr --help)"))
+    (codes "an element is a directory, as /a or /a*/b, its classes as [a-z] closed and without / (see wgetr --help)"))
 told_on line.Domain =
     Some (Correction (codes "an element of -D, --domains or --exclude-domains is no domain")
     (codes "an element is letters, digits, -, _ and dots, as example.org (see wgetr --help)"))

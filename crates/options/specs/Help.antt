@@ -21,6 +21,7 @@ short_text short = if length short == 0 then [] else codes "  -" ++ short ++ cod
 abbrev pub value_name : Kind Text → Option Text
 value_name kind.Flag = None
 value_name kind.Holds = None
+value_name (kind.Opposite other) = None
 value_name (kind.Value name) = Some name
 value_name (kind.List name) = Some name
 value_name (kind.Usual name usual) = Some name
@@ -39,6 +40,7 @@ left_text row = in_columns 7 (short_text row.short) ++ codes "--" ++ row.name ++
 abbrev pub usual_text : Kind Text → Text
 usual_text kind.Flag = []
 usual_text kind.Holds = []
+usual_text (kind.Opposite other) = []
 usual_text (kind.Value name) = []
 usual_text (kind.List name) = []
 usual_text (kind.Usual name usual) = codes " (" ++ usual ++ codes ")"

@@ -1,13 +1,13 @@
 -- What was likely meant by words that are refused.
 use Rattle.std.specs.Prelude.{◌&&◌, ◌||◌, ◌==◌, ◌++◌, ℕ, Bool, true, false, not, List, [], ◌∷◌, Option, Some, None, Ok, Err, Result, bytes_eq, codes, length, nat_eq, nat_le, nat_lt, unwrap_or, if◌then◌else◌}
-use Rattle.std.specs.List.{after_first, before_first, flat_map, list_any, starts_with}
+use Rattle.std.specs.List.{after_first, before_first, find, flat_map, list_any, starts_with}
 use Rattle.std.specs.Option.{option_map_or}
 use Rattle.std.specs.Str.{chars}
 use Rattle.strsim.specs.Edits.{osa_table}
 use Rattle.clap.specs.Walk.{Text}
 use Rattle.clap.specs.declared.error.ErrorKind.{ErrorKind}
 use Rattle.clap.specs.declared.error.ErrorKind.TheVariants as kind
-use Rattle.address.specs.Address.{read_address}
+use Rattle.address.specs.Address.{read_address, read_either}
 use Rattle.address.specs.declared.fault.AddressFault.{AddressFault}
 use Rattle.address.specs.declared.fault.AddressFault.TheVariants as refused
 use Rattle.options.specs.declared.fault.LineFault.{LineFault}
@@ -18,7 +18,8 @@ use Rattle.options.specs.declared.said.Meaning.TheVariants as meaning
 use Rattle.options.specs.Meant.{fronts, long_name, meant}
 use Rattle.options.specs.Said.{named, sayings}
 use Rattle.options.specs.Table.{table, wget}
-use Rattle.options.specs.Written.{first_start, first_unread}
+use Rattle.options.specs.Start.{with_scheme}
+use Rattle.options.specs.Written.{first_unread, starts_in}
 
 -- ---- forms of options
 
@@ -130,9 +131,18 @@ address_text (Ok address) = codes " (did you mean " ++ address ++ codes "?)"
 abbrev pub scheme_hint : Text → Text
 scheme_hint start = if has_scheme start then [] else address_text (read_address (codes "http://" ++ start))
 
--- of the start of words
+-- it is no address
+abbrev pub is_wrong : Result Text AddressFault → Bool
+is_wrong (Err why) = true
+is_wrong (Ok address) = false
+
+-- a start that is no address, neither http nor https
+abbrev pub is_no_start : Text → Bool
+is_no_start start = is_wrong (read_either (with_scheme start))
+
+-- of the first start of words that is no address
 abbrev pub start_hint : List Text → Text
-start_hint words = scheme_hint (unwrap_or (first_start (sayings words)) [])
+start_hint words = scheme_hint (unwrap_or (find is_no_start (starts_in (sayings words))) [])
 
 -- ---- what is said of a fault
 

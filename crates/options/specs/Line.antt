@@ -25,6 +25,7 @@ number_rule most rule = record rule { parser = Some (value.Signed (pos 1) (pos m
 abbrev pub with_kind : Kind Text → Rule → Rule
 with_kind kind.Flag rule = record rule { action = Some SetTrue }
 with_kind kind.Holds rule = record rule { action = Some SetTrue }
+with_kind (kind.Opposite other) rule = record rule { action = Some SetTrue }
 with_kind (kind.Value name) rule = rule
 with_kind (kind.List name) rule = rule
 with_kind (kind.Usual name usual) rule = rule

@@ -1,8 +1,7 @@
 -- What the words order, or why they are refused: one function of the words.
-use Rattle.std.specs.Prelude.{◌≡◌, ◌⊎◌, ◌==◌, ℕ, length, option_and_then, Bool, true, false, not, ◌&&◌, List, [], ◌∷◌, codes, Option, Some, None, is_some, unwrap_or, bytes_eq, option_map, Result, Ok, Err, MatchResult, if◌then◌else◌}
+use Rattle.std.specs.Prelude.{◌≡◌, ◌⊎◌, ◌==◌, ℕ, length, option_and_then, Bool, true, false, not, ◌&&◌, List, [], ◌∷◌, ◌++◌, codes, Option, Some, None, is_some, nat_lt, unwrap_or, bytes_eq, option_map, Result, Ok, Err, MatchResult, if◌then◌else◌}
 use Rattle.clap.specs.Kinds.{Kinds}
 use Rattle.clap.specs.Walk.{Row, Text, first_of}
-use Rattle.clap.specs.declared.error.ErrorKind.TheVariants.{InvalidValue}
 use Rattle.address.specs.Address.{read_address, read_either, origin_of, path_query_of, is_robots_file}
 use Rattle.address.specs.declared.fault.AddressFault.{AddressFault}
 use Rattle.follow_filters.specs.declared.limit.Limit.{Limit}
@@ -14,15 +13,18 @@ use Rattle.follow_filters.specs.Patterns.{read_element}
 use Rattle.options.specs.declared.order.TheConstants.{DEFAULT_MAX_URLS, DEFAULT_PER_HOST, DEFAULT_WORKERS, MAX_WORKERS}
 use Rattle.options.specs.declared.order.Source.{Source}
 use Rattle.options.specs.declared.order.Source.TheVariants.{Map, Recorded, Live}
+use Rattle.options.specs.declared.order.Log.{Log}
 use Rattle.options.specs.declared.order.Order.{Order}
 use Rattle.options.specs.declared.fault.LineFault.{LineFault}
 use Rattle.options.specs.declared.fault.LineFault.TheVariants as fault
+use Rattle.options.specs.Asked.{refusal_of, without_kind, words_refused}
 use Rattle.options.specs.Line.{rows, refusals}
 use Rattle.options.specs.Given.{is_set, level_of, number_given, list_of}
+use Rattle.options.specs.Naming.{Naming, naming_by, naming_of}
 use Rattle.options.specs.declared.said.Saying.{Saying}
 use Rattle.options.specs.Said.{sayings}
 use Rattle.options.specs.Start.{with_scheme}
-use Rattle.options.specs.Written.{SayTheSame, first_unread, written}
+use Rattle.options.specs.Written.{SayTheSame, first_unread, others_in, written}
 
 -- ---- words that `clap` takes and that are refused all the same
 
@@ -50,15 +52,20 @@ pub record Ordered : Type 0 where
   pub exclude_dirs : List (List ℕ)
   pub accept : List (List ℕ)
   pub reject : List (List ℕ)
+  pub ignore_case : Bool
   pub robots : Bool
   pub page_requisites : Bool
+  pub span_requisites : Bool
   pub max_urls : ℕ
   pub per_host : ℕ
   pub workers : ℕ
   pub keeps_connections : Bool
   pub source : Source
   pub trace : Bool
+  pub quiet : Bool
+  pub log : Option (Text × Bool)
   pub prefix : List ℕ
+  pub names : Naming
   pub proxy : Option (List ℕ)
   pub resume : Option Text
   pub save : Option Text
@@ -109,9 +116,13 @@ unfoldable pub proxy_by : Option Text → Option (Option (List ℕ))
 proxy_by None = Some None
 proxy_by (Some value) = option_map Some (root_origin (read_address value))
 
+-- the value that names the proxy, unless none is to be asked
+abbrev pub proxy_value : List Row → Option Text
+proxy_value found = if is_set (codes "no-proxy") found then None else first_of (codes "https-proxy") found
+
 -- the proxy that speaks TLS, if one is given
 abbrev pub proxy_of : List Row → Option (Option (List ℕ))
-proxy_of found = proxy_by (first_of (codes "https-proxy") found)
+proxy_of found = proxy_by (proxy_value found)
 
 -- a start; https is one where a proxy is given
 abbrev pub read_start : Bool → Text → Result (List ℕ) AddressFault
@@ -121,7 +132,7 @@ read_start true text = read_either text
 -- the start, or why it is no address; `http` is its scheme where it has none
 unfoldable pub start_of : List Row → Result (List ℕ) AddressFault
 start_of found =
-    read_start (is_some (first_of (codes "https-proxy") found)) (with_scheme (unwrap_or (first_of (codes "start") found) []))
+    read_start (is_some (proxy_value found)) (with_scheme (unwrap_or (first_of (codes "start") found) []))
 
 -- the start, and what follows from it
 abbrev pub started_at : {Y : Type 0} → Result (List ℕ) AddressFault → (List ℕ → Result Y LineFault) → Result Y LineFault
@@ -149,14 +160,14 @@ folder_of (Some path) = if length path == 0 then codes "." else path
 abbrev pub prefix_of : List Row → Text
 prefix_of found = folder_of (first_of (codes "directory-prefix") found)
 
--- words that are refused, of whatever kind
-abbrev pub words_refused : LineFault
-words_refused = fault.Words InvalidValue
+-- the file that takes what is told, and whether it keeps what it has
+unfoldable pub log_of : List Row → Option (Text × Bool)
+log_of found = option_map (λ path. (path, is_some (first_of (codes "append-output") found))) (first_of (codes "output-file") found)
 
--- what the options order with these numbers, this proxy, this level, these lists and this start; without `-r` no link is followed and no robots
--- file is honoured
-abbrev pub ordered : List Row → Counts → Option (List ℕ) → Limit → (patterns directories domains : List (List ℕ) × List (List ℕ)) → List ℕ → Ordered
-ordered found counts proxy level patterns directories domains start = record {
+-- what the options order with these numbers, this proxy, these names, this level, these lists and this start; without `-r` no link is followed and
+-- no robots file is honoured
+abbrev pub ordered : List Row → Counts → Option (List ℕ) → Naming → Limit → (patterns directories domains : List (List ℕ) × List (List ℕ)) → List ℕ → Ordered
+ordered found counts proxy names level patterns directories domains start = record {
   start = start;
   others = [];
   limit = limit_within level found;
@@ -168,15 +179,20 @@ ordered found counts proxy level patterns directories domains start = record {
   exclude_dirs = directories.1;
   accept = patterns.0;
   reject = patterns.1;
+  ignore_case = is_set (codes "ignore-case") found;
   robots = honours_robots found;
   page_requisites = is_set (codes "page-requisites") found;
+  span_requisites = is_set (codes "span-requisites") found;
   max_urls = counts.max_urls;
   per_host = counts.per_host;
   workers = counts.workers;
   keeps_connections = not (is_set (codes "no-http-keep-alive") found);
   source = source_of found;
   trace = is_set (codes "trace") found;
+  quiet = is_set (codes "quiet") found;
+  log = log_of found;
   prefix = prefix_of found;
+  names = names;
   proxy = proxy;
   resume = first_of (codes "resume") found;
   save = first_of (codes "save") found;
@@ -188,11 +204,12 @@ order_of_rows found =
     if not (are_good found) then Err words_refused
     else found_or (counts_of found) words_refused (λ counts.
     found_or (proxy_of found) words_refused (λ proxy.
+    found_or (naming_of found) words_refused (λ names.
     found_or (level_of found) fault.Depth (λ level.
     found_or (patterns_of found) fault.Pattern (λ patterns.
     found_or (directories_of found) fault.Directory (λ directories.
     found_or (domains_of found) fault.Domain (λ domains.
-    started_at (start_of found) (λ start. Ok (ordered found counts proxy level patterns directories domains start))))))))
+    started_at (start_of found) (λ start. Ok (ordered found counts proxy names level patterns directories domains start)))))))))
 
 -- words with no kind of refusal are taken
 abbrev pub are_taken : Kinds → Bool
@@ -203,9 +220,34 @@ are_taken (kind ∷ kinds) = false
 unfoldable pub order_of_written : List Text → Result Ordered LineFault
 order_of_written words = if are_taken (refusals words) then order_of_rows (rows words) else Err words_refused
 
--- what is ordered by what is said, or the lowest fault: each word is read
+-- these starts after those that were read before, or what is wrong with the first that is none
+abbrev pub starts_after : List (List ℕ) → Bool → List Text → Result (List (List ℕ)) LineFault
+starts_after before by_proxy [] = Ok before
+starts_after before by_proxy (text ∷ texts) =
+    started_at (read_start by_proxy (with_scheme text)) (λ start. starts_after (before ++ start ∷ []) by_proxy texts)
+
+-- the order with these starts besides its own; all of them are among the addresses that it may hold
+abbrev pub besides : Ordered → List (List ℕ) → Result Ordered LineFault
+besides order others = if nat_lt (length others) order.max_urls then Ok (record order { others = others }) else Err words_refused
+
+abbrev pub started_besides : Ordered → Result (List (List ℕ)) LineFault → Result Ordered LineFault
+started_besides order (Err why) = Err why
+started_besides order (Ok others) = besides order others
+
+-- the order with the starts that these texts name besides its own; of these too https is one if a proxy is given
+abbrev pub with_others : List Text → Result Ordered LineFault → Result Ordered LineFault
+with_others texts (Err why) = Err why
+with_others texts (Ok order) = started_besides order (starts_after [] (is_some order.proxy) texts)
+
+-- the fault of the first word that isn't read, or this
+abbrev pub read_or : Option Text → Result Ordered LineFault → Result Ordered LineFault
+read_or None result = result
+read_or (Some word) result = Err (refusal_of word)
+
+-- what is ordered by what is said, or the lowest fault, that of the first start before those of others: each word is read, and the first that
+-- isn't may ask for the help
 unfoldable pub order_said : List (Saying Text) → Result Ordered LineFault
-order_said said = if is_some (first_unread said) then Err words_refused else order_of_written (written said)
+order_said said = read_or (first_unread said) (with_others (others_in said) (order_of_written (written said)))
 
 -- what the words order, or the lowest fault
 abbrev pub order_of : List Text → Result Ordered LineFault
@@ -216,6 +258,10 @@ abbrev pub OrdersBySayings : List Text → Type 0
 OrdersBySayings words = (others : List Text) → SayTheSame words others → order_of words ≡ order_of others
 
 -- ---- what `read_order` answers
+
+-- what a log says
+abbrev pub log_by : Log → Text × Bool
+log_by log = (log.path, log.appends)
 
 -- what an order says
 abbrev pub ordered_by : Order → Ordered
@@ -231,15 +277,20 @@ ordered_by order = record {
   exclude_dirs = order.plan.exclude_dirs;
   accept = order.plan.accept;
   reject = order.plan.reject;
+  ignore_case = order.plan.ignore_case;
   robots = order.plan.robots;
   page_requisites = order.plan.page_requisites;
+  span_requisites = order.plan.span_requisites;
   max_urls = order.plan.max_urls;
   per_host = order.plan.per_host;
   workers = order.workers;
   keeps_connections = order.keeps_connections;
   source = order.source;
   trace = order.trace;
+  quiet = order.quiet;
+  log = option_map log_by order.log;
   prefix = order.prefix;
+  names = naming_by order.names;
   proxy = order.proxy;
   resume = order.resume;
   save = order.save;
@@ -248,11 +299,6 @@ ordered_by order = record {
 -- how many connections to a server may stand at a time, where they are kept
 abbrev pub kept_of : Order → Option ℕ
 kept_of order = if order.keeps_connections then Some order.plan.per_host else None
-
--- the fault, but for the kind of refused words
-abbrev pub without_kind : LineFault → LineFault
-without_kind (fault.Words kind) = words_refused
-without_kind other = other
 
 -- the result is the expected order, or the expected fault, unless memory ran out
 abbrev pub AnswersOrder : Result Order LineFault → Result Ordered LineFault → Type 0

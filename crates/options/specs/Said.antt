@@ -71,12 +71,14 @@ valued name (Some value) = meaning.Means name value
 abbrev pub meaning_of : Text → Kind Text → Bool → Option Text → Meaning Text
 meaning_of name kind.Flag on value = switched name on value
 meaning_of name kind.Holds on value = held (switched name on value)
+meaning_of name (kind.Opposite other) on value = switched other (not on) value
 meaning_of name other on value = valued name value
 
 -- the option is on or off
 abbrev pub is_switch : Kind Text → Bool
 is_switch kind.Flag = true
 is_switch kind.Holds = true
+is_switch (kind.Opposite other) = true
 is_switch other = false
 
 -- the one name is the other one behind `no-`
@@ -174,8 +176,14 @@ heard_as word other = record { said = saying_of word (settled other) ∷ []; sta
 abbrev pub beside : Text → Option Text
 beside rest = if length rest == 0 then None else Some rest
 
+-- the letter of an option that is on or off means this, and the word goes on
+abbrev pub letter_with : Text → Meaning Text → Letter Text
+letter_with rest (meaning.Means name value) = letter.Goes name value rest
+letter_with rest other = letter.Is other
+
 abbrev pub letter_by : Row Text → Text → Letter Text
-letter_by row rest = if is_switch row.kind then letter.Goes row.name rest else letter.Is (valued row.name (beside rest))
+letter_by row rest =
+    if is_switch row.kind then letter_with rest (meaning_of row.name row.kind true None) else letter.Is (valued row.name (beside rest))
 
 abbrev pub letter_or : Row Text → Option Text → Letter Text → Letter Text
 letter_or row None other = other
@@ -187,9 +195,9 @@ letter_in letters [] = letter.Is meaning.Unknown
 letter_in letters (row ∷ rows) =
     if length row.short == 1 then letter_or row (after_front row.short letters) (letter_in letters rows) else letter_in letters rows
 
--- the option is on, and the word goes on; or the rest of the word is its value
+-- the option is on or off, and the word goes on; or the rest of the word is its value
 abbrev pub heard_letter : Text → Letter Text → Hearing → Hearing
-heard_letter word (letter.Goes name rest) more = record more { said = saying.Says name (codes "on") ∷ more.said }
+heard_letter word (letter.Goes name value rest) more = record more { said = saying.Says name value ∷ more.said }
 heard_letter word (letter.Is meaning) more = heard_as word meaning
 
 -- the letters behind a dash, of this word

@@ -11,6 +11,7 @@ use Rattle.options.specs.declared.table.TheConstants.{COMMANDS, OWN, TABLE, WGET
 abbrev pub kind_by : {T : Type 0} → (T → Text) → Kind T → Kind Text
 kind_by read kind.Flag = kind.Flag
 kind_by read kind.Holds = kind.Holds
+kind_by read (kind.Opposite other) = kind.Opposite (read other)
 kind_by read (kind.Value name) = kind.Value (read name)
 kind_by read (kind.List name) = kind.List (read name)
 kind_by read (kind.Usual name usual) = kind.Usual (read name) (read usual)

@@ -1,5 +1,5 @@
--- The words written out: each option at most once, by its long form and with the value that counts, and the starts behind `--`.
-use Rattle.std.specs.Prelude.{◌≡◌, ◌&&◌, ◌==◌, ◌++◌, Bool, true, false, not, List, [], ◌∷◌, Option, Some, None, All, bytes_eq, codes, length, if◌then◌else◌}
+-- The words written out: each option at most once, by its long form and with the value that counts, and the first start after `--`.
+use Rattle.std.specs.Prelude.{◌≡◌, ◌&&◌, ◌||◌, ◌==◌, ◌++◌, Bool, true, false, not, List, [], ◌∷◌, Option, Some, None, All, bytes_eq, codes, drop, length, if◌then◌else◌}
 use Rattle.std.specs.List.{flat_map}
 use Rattle.clap.specs.Walk.{Text}
 use Rattle.options.specs.declared.said.Saying.{Saying}
@@ -21,9 +21,13 @@ added adds None value = value
 added adds (Some earlier) value =
     if adds && not (length earlier == 0) && not (length value == 0) then earlier ++ codes "," ++ value else value
 
+-- what is said of the one option is said of the other, too: `-a` names a file as `-o` does
+abbrev pub says_also : Text → Text → Bool
+says_also said name = bytes_eq said name || (bytes_eq said (codes "append-output") && bytes_eq name (codes "output-file"))
+
 -- the value of an option of this name behind what was said before
 abbrev pub value_after : Text → Bool → Option Text → Saying Text → Option Text
-value_after name adds before (saying.Says said value) = if bytes_eq said name then Some (added adds before value) else before
+value_after name adds before (saying.Says said value) = if says_also said name then Some (added adds before value) else before
 value_after name adds before other = before
 
 abbrev pub value_from : Text → Bool → Option Text → List (Saying Text) → Option Text
@@ -42,6 +46,7 @@ form_word name = codes "--" ++ name
 abbrev pub value_words : Text → Kind Text → Text → List Text
 value_words name kind.Flag value = if bytes_eq value (codes "on") then form_word name ∷ [] else []
 value_words name kind.Holds value = []
+value_words name (kind.Opposite other) value = []
 value_words name other value = (form_word name ++ codes "=" ++ value) ∷ []
 
 abbrev pub row_words : Row Text → Option Text → List Text
@@ -57,13 +62,9 @@ start_words other = []
 abbrev pub starts_in : List (Saying Text) → List Text
 starts_in said = flat_map start_words said
 
--- what is said, written out
-unfoldable pub written : List (Saying Text) → List Text
-written said = flat_map (λ row. row_words row (value_of said row)) table ++ codes "--" ∷ starts_in said
-
--- the words written out
-abbrev pub written_out : List Text → List Text
-written_out words = written (sayings words)
+-- the starts after the first
+abbrev pub others_in : List (Saying Text) → List Text
+others_in said = drop 1 (starts_in said)
 
 -- the first start
 abbrev pub first_start : List (Saying Text) → Option Text
@@ -71,6 +72,19 @@ first_start [] = None
 first_start (saying.Starts word ∷ said) = Some word
 first_start (saying.Says name value ∷ said) = first_start said
 first_start (saying.Unread word ∷ said) = first_start said
+
+-- a word, if there is one
+abbrev pub if_any : Option Text → List Text
+if_any None = []
+if_any (Some word) = word ∷ []
+
+-- what is said, written out with the first start alone
+unfoldable pub written : List (Saying Text) → List Text
+written said = flat_map (λ row. row_words row (value_of said row)) table ++ codes "--" ∷ if_any (first_start said)
+
+-- the words written out
+abbrev pub written_out : List Text → List Text
+written_out words = written (sayings words)
 
 -- the first word that isn't read
 abbrev pub first_unread : List (Saying Text) → Option Text

@@ -37,7 +37,7 @@ fn wrong_start(refused: AddressFault) -> Option<&'static str>
         AddressFault::TooLong => Some("START is too long"),
         AddressFault::NotUrl => Some("START is no URL"),
         AddressFault::NotHttp => Some(
-            "START isn't an http address, and http alone is spoken: there is no TLS here, which https needs",
+            "START isn't an http address, and an https one needs --https-proxy, a proxy that speaks TLS",
         ),
         AddressFault::UserInfo => Some("START has a user name or a password"),
         AddressFault::Memory => None,
@@ -80,7 +80,7 @@ fn advice_on(wrong: LineFault) -> Option<Advice>
         )),
         LineFault::Directory => Some(Advice::Correction(
             "an element of -I, --include-directories or -X, --exclude-directories is no directory",
-            "an element begins with / and has none of *, ?, [ and ] (see wgetr --help)",
+            "an element is a directory, as /a or /a*/b, its classes as [a-z] closed and without / (see wgetr --help)",
         )),
         LineFault::Domain => Some(Advice::Correction(
             "an element of -D, --domains or --exclude-domains is no domain",

@@ -1,8 +1,9 @@
 //! Why words are refused.
+use crate::asked::is_asking;
 use address::AddressFault;
 use clap::error::ErrorKind;
 
-/// Why words are no order. Of several faults the lowest in this order is named, want of memory aside.
+/// Why words are no order, or what they ask for. Of several faults the lowest in this order is named, want of memory aside.
 #[derive(Clone, Copy, PartialEq, Eq, Debug)]
 pub enum LineFault {
     /// An option is unknown, is given twice, lacks its value or has a value out of its range; the
@@ -22,4 +23,19 @@ pub enum LineFault {
     StartIsRobots,
     /// There was no memory to hold the order.
     Memory,
+}
+
+impl LineFault {
+    ghost use Rattle.std.specs.Prelude.{◌≡◌};
+    ghost use Rattle.options.specs.Asked.{asks};
+
+    /// Whether the words ask for the help, or for name and version, and nothing is wrong with them. Takes no memory.
+    pub fn asks(&self) -> bool
+        ensures { result ≡ asks self.now }
+    {
+        match self {
+            LineFault::Words(kind) => is_asking(*kind),
+            _ => false,
+        }
+    }
 }

@@ -1,11 +1,13 @@
 //! What is found for an option: flags, levels, numbers and lists.
-ghost use Rattle.std.specs.Prelude.{◌≡◌, true, ◌<◌, ◌≤◌, option_map, Some, None, IfSome, MatchResult};
+ghost use Rattle.std.specs.Prelude.{◌≡◌, ◌⊎◌, true, ◌<◌, ◌≤◌, option_map, Some, None, IfSome, MatchResult};
 ghost use Rattle.clap.specs.Words.{found_of, rows_of, first_of};
 ghost use Rattle.follow_filters.specs.Elements.{ReadsElement};
 ghost use Rattle.follow_filters.specs.Levels.{number_in};
 ghost use Rattle.follow_filters.specs.Limits.{is_in_range};
+ghost use Rattle.options.specs.declared.fault.LineFault.TheVariants as fault;
 ghost use Rattle.options.specs.Given.{is_set, number_within, number_given, level_of, list_of};
 
+use crate::fault::LineFault;
 use clap::ArgMatches;
 use follow_filters::{Element, ElementFault, Elements, Limit};
 use std::alloc::Global;
@@ -24,8 +26,8 @@ pub(crate) fn is_set(matches: &ArgMatches, id: &str) -> bool
     given(matches, id) == Some("true")
 }
 
-// The number that a text is.
-fn number_in(text: &str) -> Option<u32>
+/// The number that a text is.
+pub(crate) fn number_in(text: &str) -> Option<u32>
     ensures { result ≡ number_in text.now }
 {
     text.parse().ok()
@@ -76,4 +78,21 @@ pub(crate) fn list<T: Element>(
     ensures { ReadsElement result (list_of T.read_of id.now (rows_of (found_of matches.now))) }
 {
     Elements::read(alloc, given(matches, id).unwrap_or(""))
+}
+
+/// The elements of an option's list; `bad` if one is bad.
+pub(crate) fn elements<T: Element>(
+    alloc: Global,
+    matches: &ArgMatches,
+    id: &str,
+    bad: LineFault,
+) -> Result<Elements<T>, LineFault>
+    ensures { MatchResult result (λ es. list_of T.read_of id.now (rows_of (found_of matches.now)) ≡ Some es)
+        (λ f. ((f ≡ bad) × (list_of T.read_of id.now (rows_of (found_of matches.now)) ≡ None)) ⊎ (f ≡ fault.Memory)) }
+{
+    match list(alloc, matches, id) {
+        Ok(elements) => Ok(elements),
+        Err(ElementFault::Bad) => Err(bad),
+        Err(ElementFault::Memory) => Err(LineFault::Memory),
+    }
 }

@@ -14,7 +14,7 @@ const HEAD: &str = "\
 wgetr retrieves a site recursively and reports what it found: it follows links\n\
 by GNU Wget's rules and heeds robots files.\n\
 \n\
-usage: wgetr [OPTION]... START\n       \
+usage: wgetr [OPTION]... START...\n       \
 wgetr [OPTION]... --map START < MAP\n       \
 wgetr [OPTION]... --record START < RECORD\n";
 
@@ -59,7 +59,7 @@ fn value_name(kind: &Kind<&'static str>) -> Option<&'static str>
     ensures { option_map (λ name. name.now) result ≡ value_name (kind_in kind.now) }
 {
     match kind {
-        Kind::Flag | Kind::Holds => None,
+        Kind::Flag | Kind::Holds | Kind::Opposite(_) => None,
         Kind::Value(name) | Kind::List(name) => Some(*name),
         Kind::Usual(name, _) => Some(*name),
         Kind::Number(_, _) => Some("N"),
@@ -105,7 +105,7 @@ fn usual_text(alloc: Global, kind: &Kind<&'static str>) -> Result<String, AllocE
     ensures { IfOk result (λ text. string_bytes text ≡ usual_text (kind_in kind.now)) }
 {
     match kind {
-        Kind::Flag | Kind::Holds => Ok(String::new(alloc)),
+        Kind::Flag | Kind::Holds | Kind::Opposite(_) => Ok(String::new(alloc)),
         Kind::Value(_) | Kind::List(_) => Ok(String::new(alloc)),
         Kind::Usual(_, usual) => format!(in alloc; " ({usual})"),
         Kind::Number(most, usual) => range_text(alloc, *most, *usual),

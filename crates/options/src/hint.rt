@@ -1,7 +1,7 @@
 //! What was likely meant by words that are refused.
 ghost use Rattle.std.specs.Prelude.{◌≡◌, ◌≢◌, ◌++◌, Err, codes, IfOk, OnOk, length, map, option_map, string_bytes};
-ghost use Rattle.std.specs.List.{list_any};
-ghost use Rattle.options.specs.Hints.{address_text, first_near, foreign_text, form_hint, form_of, forms_text, front_hint, has_scheme, hint_on, is_form_of, is_known, is_near, is_own, kind_hint, long_hint, name_hint, near_text, nearest, scheme_hint, several_text, start_hint, unread_hint, words_hint};
+ghost use Rattle.std.specs.List.{find, list_any};
+ghost use Rattle.options.specs.Hints.{address_text, first_near, foreign_text, form_hint, form_of, forms_text, front_hint, has_scheme, hint_on, is_form_of, is_no_start, is_known, is_near, is_own, kind_hint, long_hint, name_hint, near_text, nearest, scheme_hint, several_text, start_hint, unread_hint, words_hint};
 ghost use Rattle.options.specs.inner.Said.{meaning_in};
 ghost use Rattle.options.specs.inner.Table.{row_in};
 ghost use Rattle.address.specs.declared.fault.AddressFault.TheVariants as address_fault;
@@ -9,8 +9,9 @@ ghost use Rattle.address.specs.declared.fault.AddressFault.TheVariants as addres
 use crate::fault::LineFault;
 use crate::meant::{fronts, long_name, meant};
 use crate::said::{Meaning, named, sayings};
+use crate::start::with_scheme;
 use crate::table::{Row, option_rows, wget_forms};
-use crate::written::{first_start, first_unread};
+use crate::written::{first_unread, starts};
 use address::{Address, AddressFault};
 use clap::error::ErrorKind;
 use std::alloc::{AllocError, Global};
@@ -254,12 +255,38 @@ fn scheme_hint(alloc: Global, start: &str) -> Result<String, AllocError>
     address_text(alloc, Address::read(alloc, full.as_str()))
 }
 
-// What is said of the start of words.
+// Whether a start is no address, neither http nor https.
+fn is_no_start(alloc: Global, start: &str) -> Result<bool, AllocError>
+    ensures { IfOk result (λ wrong. wrong ≡ is_no_start start.now) }
+{
+    let text = with_scheme(alloc, start)?;
+    match Address::read_either(alloc, text.as_str()) {
+        Ok(_address) => Ok(false),
+        Err(AddressFault::Memory) => Err(AllocError),
+        Err(_) => Ok(true),
+    }
+}
+
+// The first of these starts that is no address.
+fn first_wrong<'a>(alloc: Global, starts: &[&'a str]) -> Result<Option<&'a str>, AllocError>
+    ensures { IfOk result (λ wrong. option_map (λ start. start.now) wrong ≡ find is_no_start (map (λ start. start.now) starts.now)) }
+{
+    for start in starts {
+        if is_no_start(alloc, start)? {
+            return Ok(Some(*start));
+        }
+    }
+    Ok(None)
+}
+
+// What is said of the first start of words that is no address.
 fn start_hint(alloc: Global, words: &[&str]) -> Result<String, AllocError>
     ensures { IfOk result (λ text. string_bytes text ≡ start_hint (map (λ word. word.now) words.now)) }
 {
     let said = sayings(alloc, words)?;
-    scheme_hint(alloc, first_start(&said).unwrap_or(""))
+    let starts = starts(alloc, &said)?;
+    let wrong = first_wrong(alloc, &starts)?;
+    scheme_hint(alloc, wrong.unwrap_or(""))
 }
 
 // What is said of words that are refused for this kind.

@@ -4,13 +4,16 @@
 #![tactic(auto)]
 
 mod advice;
+mod asked;
 mod fault;
 mod given;
 mod help;
 mod hint;
 mod line;
 mod meant;
+mod naming;
 mod order;
+mod others;
 mod read;
 mod said;
 mod start;
@@ -20,5 +23,5 @@ mod written;
 pub use crate::advice::{advice_text, no_text_advice};
 pub use crate::fault::LineFault;
 pub use crate::help::{VERSION, help_text};
-pub use crate::order::{MAX_WORKERS, Order, Prefix, Source};
+pub use crate::order::{FilePath, Log, MAX_WORKERS, Order, Prefix, Source};
 pub use crate::read::read_order;

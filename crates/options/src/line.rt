@@ -34,7 +34,9 @@ fn of_kind<'a>(alloc: Global, name: &'a str, kind: &Kind<&'static str>) -> Arg<'
     ensures own { result.global ≡ false }
 {
     match kind {
-        Kind::Flag | Kind::Holds => Arg::new(alloc, name).action(ArgAction::SetTrue),
+        Kind::Flag | Kind::Holds | Kind::Opposite(_) => {
+            Arg::new(alloc, name).action(ArgAction::SetTrue)
+        }
         Kind::Value(_) | Kind::List(_) | Kind::Usual(_, _) => Arg::new(alloc, name),
         Kind::Number(most, _) => number(alloc, name, *most),
     }

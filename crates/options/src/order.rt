@@ -1,9 +1,12 @@
 //! What the words order.
-ghost use Rattle.std.specs.Prelude.{◌≡◌, ◌<◌, ◌≤◌, IfOk};
+ghost use Rattle.std.specs.Prelude.{◌≡◌, ◌<◌, ◌≤◌, IfOk, false, length};
+ghost use Rattle.std.specs.List.{list_any};
+ghost use Rattle.address.specs.Address.{is_robots_file};
 ghost use Rattle.options.specs.declared.order.TheConstants.{MAX_WORKERS};
 
-use address::Origin;
-use follow_filters::Plan;
+use address::{Address, Origin};
+use follow_filters::{Elements, Plan};
+use local_names::NameRules;
 use std::alloc::{AllocError, Global};
 use std::marker::Model;
 
@@ -96,6 +99,15 @@ impl FilePath {
     }
 }
 
+/// A file that takes what is told in place of standard output and standard error.
+#[derive(Drop)]
+pub struct Log {
+    /// Which file; `-` is standard output.
+    pub path: FilePath,
+    /// Whether it keeps what it has.
+    pub appends: bool,
+}
+
 /// What to retrieve, from where, and what to do with it.
 #[derive(Drop)]
 pub struct Order {
@@ -109,8 +121,14 @@ pub struct Order {
     pub source: Source,
     /// Whether the trace is shown before the report.
     pub trace: bool,
+    /// Whether nothing is told.
+    pub quiet: bool,
+    /// The file that takes what is told.
+    pub log: Option<Log>,
     /// The folder below which files are put.
     pub prefix: Prefix,
+    /// What shapes the names of files.
+    pub names: NameRules,
     /// The proxy that is asked for https addresses.
     pub proxy: Option<Origin>,
     /// The record whose answers aren't asked for again.
@@ -121,9 +139,73 @@ pub struct Order {
     pub ghost workers_in_range: { workers ≤ MAX_WORKERS },
 }
 
+// The same plan with these starts besides its own.
+fn with_starts(plan: Plan, others: Elements<Address>) -> Plan
+    requires pages { list_any is_robots_file others ≡ false }
+    requires in_range { length others < plan.max_urls }
+    ensures start { result.start ≡ plan.start }
+    ensures limit { result.limit ≡ plan.limit }
+    ensures span_hosts { result.span_hosts ≡ plan.span_hosts }
+    ensures no_parent { result.no_parent ≡ plan.no_parent }
+    ensures domains { result.domains ≡ plan.domains }
+    ensures exclude_domains { result.exclude_domains ≡ plan.exclude_domains }
+    ensures include_dirs { result.include_dirs ≡ plan.include_dirs }
+    ensures exclude_dirs { result.exclude_dirs ≡ plan.exclude_dirs }
+    ensures accept { result.accept ≡ plan.accept }
+    ensures reject { result.reject ≡ plan.reject }
+    ensures ignore_case { result.ignore_case ≡ plan.ignore_case }
+    ensures robots { result.robots ≡ plan.robots }
+    ensures page_requisites { result.page_requisites ≡ plan.page_requisites }
+    ensures span_requisites { result.span_requisites ≡ plan.span_requisites }
+    ensures max_urls { result.max_urls ≡ plan.max_urls }
+    ensures per_host { result.per_host ≡ plan.per_host }
+    ensures others { result.others ≡ others }
+{
+    let Plan {
+        start,
+        others: _others,
+        limit,
+        span_hosts,
+        no_parent,
+        domains,
+        exclude_domains,
+        include_dirs,
+        exclude_dirs,
+        accept,
+        reject,
+        ignore_case,
+        robots,
+        page_requisites,
+        span_requisites,
+        max_urls,
+        per_host,
+    } = plan;
+    Plan {
+        start,
+        others,
+        limit,
+        span_hosts,
+        no_parent,
+        domains,
+        exclude_domains,
+        include_dirs,
+        exclude_dirs,
+        accept,
+        reject,
+        ignore_case,
+        robots,
+        page_requisites,
+        span_requisites,
+        max_urls,
+        per_host,
+    }
+}
+
 impl Order {
-    ghost use Rattle.std.specs.Prelude.{◌≡◌};
-    ghost use Rattle.options.specs.Order.{kept_of};
+    ghost use Rattle.std.specs.Prelude.{◌≡◌, false, length};
+    ghost use Rattle.std.specs.List.{list_any};
+    ghost use Rattle.address.specs.Address.{is_robots_file};
+    ghost use Rattle.options.specs.Order.{kept_of, ordered_by};
 
     /// The proxy that is asked for https addresses. Takes no memory; the error is that 2^63 copies are there.
     pub fn proxy(&self) -> Result<Option<Origin>, AllocError>
@@ -133,6 +215,50 @@ impl Order {
             Some(proxy) => Ok(Some(proxy.try_clone()?)),
             None => Ok(None),
         }
+    }
+
+    /// The same order with these starts besides its own.
+    pub(crate) fn with_others(self, others: Elements<Address>) -> Order
+        requires pages { list_any is_robots_file others ≡ false }
+        requires in_range { length others < self.plan.max_urls }
+        ensures { ordered_by result ≡ record (ordered_by self) { others = others } }
+    {
+        let Order {
+            plan,
+            workers,
+            keeps_connections,
+            source,
+            trace,
+            quiet,
+            log,
+            prefix,
+            names,
+            proxy,
+            resume,
+            save,
+        } = self;
+        Order {
+            plan: with_starts(plan, others),
+            workers,
+            keeps_connections,
+            source,
+            trace,
+            quiet,
+            log,
+            prefix,
+            names,
+            proxy,
+            resume,
+            save,
+        }
+    }
+
+    /// The file that takes what is told. Takes no memory.
+    pub fn into_log(self) -> Option<Log>
+        ensures { result ≡ self.log }
+    {
+        let Order { log, .. } = self;
+        log
     }
 
     /// How many connections to a server may stand at a time, where they are kept: as many as there are requests to it.

@@ -1,5 +1,5 @@
 //! Words are read as an order, or refused by the lowest fault.
-ghost use Rattle.std.specs.Prelude.{◌≡◌, ◌≢◌, ◌⊎◌, ℕ, List, true, ◌<◌, ◌≤◌, codes, false, not, is_none, option_map, if◌then◌else◌, Some, None, Ok, Err, map, string_bytes, IfOk, MatchOption, MatchResult};
+ghost use Rattle.std.specs.Prelude.{◌≡◌, ◌≢◌, ◌⊎◌, ℕ, List, true, ◌<◌, ◌≤◌, codes, drop, false, not, is_none, option_map, if◌then◌else◌, Some, None, Ok, Err, map, string_bytes, IfOk, IfSome, MatchOption, MatchResult};
 ghost use Rattle.clap.specs.Words.{found_of, rows_of, first_of, kind_of};
 ghost use Rattle.address.specs.Address as address;
 ghost use Rattle.address.specs.Address.{is_robots_file};
@@ -11,28 +11,34 @@ ghost use Rattle.follow_filters.specs.declared.plan.TheConstants.{MAX_PER_HOST, 
 ghost use Rattle.options.specs.declared.order.TheConstants.{MAX_WORKERS};
 ghost use Rattle.follow_filters.specs.declared.limit.Limit.TheVariants.{AtMost};
 ghost use Rattle.options.specs.Given.{level_of, list_of};
-ghost use Rattle.options.specs.Order.{AnswersOrder, OrdersBySayings, order_of, order_of_rows, order_of_written, order_said, are_good, is_plain_value, both, counts_of, patterns_of, directories_of, domains_of, start_of, source_of, honours_robots, limit_within, ordered, ordered_by, folder_of, prefix_of, proxy_by, proxy_of, read_start, root_origin, without_kind, words_refused};
+ghost use Rattle.options.specs.Naming.{naming_by};
+ghost use Rattle.options.specs.Order.{AnswersOrder, OrdersBySayings, order_of, order_of_rows, order_of_written, order_said, are_good, is_plain_value, both, counts_of, patterns_of, directories_of, domains_of, start_of, source_of, honours_robots, limit_within, ordered, ordered_by, folder_of, prefix_of, log_by, log_of, proxy_by, proxy_of, proxy_value, read_start, root_origin};
+ghost use Rattle.options.specs.Asked.{refusal_of, without_kind, words_refused};
 ghost use Rattle.options.specs.inner.Said.{saying_in};
-ghost use Rattle.options.specs.inner.Order.{StartsAt, FailsToStart, FailsToFilter, fault_of_kind};
+ghost use Rattle.options.specs.inner.Order.{StartsAt, FailsToStart, FailsToFilter, IsNoStart, Settles, fault_of_kind, unasked};
+ghost use Rattle.options.specs.Start.{with_scheme};
+ghost use Rattle.options.specs.Written.{written};
 
+use crate::asked::{is_asking, wish_fault, wish_of};
 use crate::fault::LineFault;
-use crate::given::{given, is_set, level, list, number};
+use crate::given::{elements, given, is_set, level, number};
 use crate::line::parse;
-use crate::meant::meant;
+use crate::naming::names;
 use crate::order::{
-    DEFAULT_MAX_URLS, DEFAULT_PER_HOST, DEFAULT_WORKERS, FilePath, MAX_WORKERS, Order, Prefix,
+    DEFAULT_MAX_URLS, DEFAULT_PER_HOST, DEFAULT_WORKERS, FilePath, Log, MAX_WORKERS, Order, Prefix,
     Source,
 };
+use crate::others::with_others;
 use crate::said::{Saying, sayings};
 use crate::start::with_scheme;
-use crate::written::{first_unread, written};
+use crate::written::{first_unread, starts, written};
 use address::{Address, AddressFault, Origin};
 use clap::error::ErrorKind;
 use clap::{ArgMatches, Error};
 use follow_filters::{
-    Directory, Domain, Element, ElementFault, Elements, Limit, MAX_PER_HOST, MAX_URLS, Pattern,
-    Plan,
+    Directory, Domain, Element, Elements, Limit, MAX_PER_HOST, MAX_URLS, Pattern, Plan,
 };
+use local_names::NameRules;
 use std::alloc::{AllocError, Global};
 
 // The numbers of workers, requests out to an origin, and addresses.
@@ -49,12 +55,21 @@ struct Counts {
     ghost max_urls_in_range: { max_urls ≤ MAX_URLS },
 }
 
-// The folder below which files are put, and the records that are resumed and saved.
+// Numbers, the proxy and what shapes names.
+#[derive(Drop)]
+struct Settings {
+    counts: Counts,
+    proxy: Option<Origin>,
+    names: NameRules,
+}
+
+// The folder below which files are put, the records that are resumed and saved, and the file that takes what is told.
 #[derive(Drop)]
 struct Paths {
     prefix: Prefix,
     resume: Option<FilePath>,
     save: Option<FilePath>,
+    log: Option<Log>,
 }
 
 // The lists of an option and of its opposite.
@@ -84,13 +99,14 @@ fn is_plain_value(value: Option<&str>) -> bool
 
 // What is wrong with words that `clap` takes: an encoding of bodies is asked for.
 #[tactic(auto, unfolding(crate::specs::Order::are_good))]
-fn word_fault(matches: &ArgMatches) -> Option<ErrorKind>
-    ensures { is_none result ≡ are_good (rows_of (found_of matches.now)) }
+fn word_fault(matches: &ArgMatches) -> Option<LineFault>
+    ensures good { is_none result ≡ are_good (rows_of (found_of matches.now)) }
+    ensures refused { IfSome result (λ f. f ≡ words_refused) }
 {
     if is_plain_value(given(matches, "compression")) {
         None
     } else {
-        Some(ErrorKind::InvalidValue)
+        Some(LineFault::Words(ErrorKind::InvalidValue))
     }
 }
 
@@ -104,23 +120,6 @@ fn read_counts(matches: &ArgMatches) -> Option<Counts>
         per_host: number(matches, "per-host", MAX_PER_HOST, DEFAULT_PER_HOST)?,
         max_urls: number(matches, "max-urls", MAX_URLS, DEFAULT_MAX_URLS)?,
     })
-}
-
-// The elements of an option's list; `bad` where one is bad.
-fn elements<T: Element>(
-    alloc: Global,
-    matches: &ArgMatches,
-    id: &str,
-    bad: LineFault,
-) -> Result<Elements<T>, LineFault>
-    ensures { MatchResult result (λ es. list_of T.read_of id.now (rows_of (found_of matches.now)) ≡ Some es)
-        (λ f. ((f ≡ bad) × (list_of T.read_of id.now (rows_of (found_of matches.now)) ≡ None)) ⊎ (f ≡ fault.Memory)) }
-{
-    match list(alloc, matches, id) {
-        Ok(elements) => Ok(elements),
-        Err(ElementFault::Bad) => Err(bad),
-        Err(ElementFault::Memory) => Err(LineFault::Memory),
-    }
 }
 
 // The elements of two options' lists; `bad` where one is bad.
@@ -230,16 +229,32 @@ fn start(alloc: Global, matches: &ArgMatches) -> Result<Address, LineFault>
 fn read_start(alloc: Global, matches: &ArgMatches) -> Result<Address, AddressFault>
     ensures { address.Gives result (start_of (rows_of (found_of matches.now))) }
 {
-    let Ok(text) = with_scheme(alloc, given(matches, "start").unwrap_or("")) else {
+    read_typed(
+        alloc,
+        proxy_value(matches).is_some(),
+        given(matches, "start").unwrap_or(""),
+    )
+}
+
+// A start as it is typed. Https is one if a proxy is given.
+fn read_typed(alloc: Global, by_proxy: bool, text: &str) -> Result<Address, AddressFault>
+    ensures { address.Gives result (read_start by_proxy (with_scheme text.now)) }
+{
+    let Ok(text) = with_scheme(alloc, text) else {
         return Err(AddressFault::Memory);
     };
-    let start = read_by(
-        alloc,
-        given(matches, "https-proxy").is_some(),
-        text.as_str(),
-    );
+    let start = read_by(alloc, by_proxy, text.as_str());
     drop(text);
     start
+}
+
+/// A start as it is typed, which is an address and no robots file. Https is one if a proxy is given.
+pub(crate) fn read_page(alloc: Global, by_proxy: bool, text: &str) -> Result<Address, LineFault>
+    ensures { MatchResult result
+        (λ a. (read_start by_proxy (with_scheme text.now) ≡ Ok a) × (is_robots_file a ≡ false))
+        (λ f. IsNoStart (read_start by_proxy (with_scheme text.now)) f ⊎ (f ≡ fault.Memory)) }
+{
+    page_of(read_typed(alloc, by_proxy, text))
 }
 
 // A start. Https is one where a proxy is given.
@@ -250,6 +265,17 @@ fn read_by(alloc: Global, by_proxy: bool, text: &str) -> Result<Address, Address
         Address::read_either(alloc, text)
     } else {
         Address::read(alloc, text)
+    }
+}
+
+// The value that names the proxy, unless none is to be asked.
+fn proxy_value<'a>(matches: &ArgMatches<'a>) -> Option<&'a str>
+    ensures { option_map (λ s. s.now) result ≡ proxy_value (rows_of (found_of matches.now)) }
+{
+    if is_set(matches, "no-proxy") {
+        None
+    } else {
+        given(matches, "https-proxy")
     }
 }
 
@@ -321,58 +347,92 @@ fn fault_of(error: &Error) -> LineFault
 {
     match error.kind() {
         ErrorKind::OutOfMemory => LineFault::Memory,
-        kind => LineFault::Words(kind),
+        kind => unasked(kind),
     }
+}
+
+// What is wrong with words that ask for nothing, whatever `clap` says of them.
+fn unasked(kind: ErrorKind) -> LineFault
+    ensures value { result ≡ unasked kind }
+    ensures refused { without_kind result ≡ words_refused }
+{
+    if is_asking(kind) {
+        return LineFault::Words(ErrorKind::InvalidValue);
+    }
+    LineFault::Words(kind)
+}
+
+// The numbers, the proxy and what shapes names, which are words like others: their faults come before those of levels and lists.
+fn read_settings(alloc: Global, matches: &ArgMatches) -> Result<Settings, LineFault>
+    ensures { MatchResult result
+        (λ s. Settles (rows_of (found_of matches.now)) (record { workers = s.counts.workers; per_host = s.counts.per_host; max_urls = s.counts.max_urls }) s.proxy (naming_by s.names))
+        (λ f. ((without_kind f ≡ words_refused) × (order_of_rows (rows_of (found_of matches.now)) ≡ Err words_refused)) ⊎ (f ≡ fault.Memory)) }
+{
+    if let Some(fault) = word_fault(matches) {
+        return Err(fault);
+    }
+    let Some(counts) = read_counts(matches) else {
+        return Err(LineFault::Words(ErrorKind::InvalidValue));
+    };
+    let proxy = match proxy_by(alloc, proxy_value(matches)) {
+        Ok(proxy) => proxy,
+        Err(fault) => return Err(fault),
+    };
+    let names = match names(alloc, matches) {
+        Ok(names) => names,
+        Err(fault) => {
+            drop(proxy);
+            return Err(fault);
+        }
+    };
+    Ok(Settings {
+        counts,
+        proxy,
+        names,
+    })
 }
 
 // The order of what is found for each option, or the lowest fault.
 fn order_of_matches(alloc: Global, matches: &ArgMatches) -> Result<Order, LineFault>
     ensures { AnswersOrder result (order_of_rows (rows_of (found_of matches.now))) }
 {
-    if let Some(kind) = word_fault(matches) {
-        return Err(LineFault::Words(kind));
-    }
-    let Some(counts) = read_counts(matches) else {
-        return Err(LineFault::Words(ErrorKind::InvalidValue));
-    };
-    let proxy = match proxy_by(alloc, given(matches, "https-proxy")) {
-        Ok(proxy) => proxy,
+    let settings = match read_settings(alloc, matches) {
+        Ok(settings) => settings,
         Err(fault) => return Err(fault),
     };
     let Some(level) = level(matches) else {
-        drop(proxy);
+        drop(settings);
         return Err(LineFault::Depth);
     };
     let filters = match read_filters(alloc, matches) {
         Ok(filters) => filters,
         Err(fault) => {
-            drop(proxy);
+            drop(settings);
             return Err(fault);
         }
     };
     let page = match start(alloc, matches) {
         Ok(page) => page,
         Err(fault) => {
-            drop(proxy);
+            drop(settings);
             drop(filters);
             return Err(fault);
         }
     };
     let Ok(paths) = read_paths(alloc, matches) else {
-        drop(proxy);
+        drop(settings);
         drop(filters);
         drop(page);
         return Err(LineFault::Memory);
     };
-    Ok(filled(alloc, matches, counts, proxy, level, filters, page, paths))
+    Ok(filled(alloc, matches, settings, level, filters, page, paths))
 }
 
 // The order of what was read and of the other options.
 fn filled(
     alloc: Global,
     matches: &ArgMatches,
-    counts: Counts,
-    proxy: Option<Origin>,
+    settings: Settings,
     level: Limit,
     filters: Filters,
     start: Address,
@@ -383,9 +443,15 @@ fn filled(
     requires prefix { paths.prefix ≡ prefix_of (rows_of (found_of matches.now)) }
     requires resume { paths.resume ≡ first_of (codes "resume") (rows_of (found_of matches.now)) }
     requires save { paths.save ≡ first_of (codes "save") (rows_of (found_of matches.now)) }
-    ensures { ordered_by result ≡ ordered (rows_of (found_of matches.now)) (record { workers = counts.workers; per_host = counts.per_host; max_urls = counts.max_urls })
-        proxy level (filters.names.given, filters.names.excluded) (filters.places.given, filters.places.excluded) (filters.hosts.given, filters.hosts.excluded) start }
+    requires log { option_map log_by paths.log ≡ log_of (rows_of (found_of matches.now)) }
+    ensures { ordered_by result ≡ ordered (rows_of (found_of matches.now)) (record { workers = settings.counts.workers; per_host = settings.counts.per_host; max_urls = settings.counts.max_urls })
+        settings.proxy (naming_by settings.names) level (filters.names.given, filters.names.excluded) (filters.places.given, filters.places.excluded) (filters.hosts.given, filters.hosts.excluded) start }
 {
+    let Settings {
+        counts,
+        proxy,
+        names: naming,
+    } = settings;
     let Filters {
         names,
         places,
@@ -404,8 +470,10 @@ fn filled(
             exclude_dirs: places.excluded,
             accept: names.given,
             reject: names.excluded,
+            ignore_case: is_set(matches, "ignore-case"),
             robots: honours_robots(matches),
             page_requisites: is_set(matches, "page-requisites"),
+            span_requisites: is_set(matches, "span-requisites"),
             max_urls: counts.max_urls,
             per_host: counts.per_host,
         },
@@ -413,7 +481,10 @@ fn filled(
         keeps_connections: !is_set(matches, "no-http-keep-alive"),
         source: source(matches),
         trace: is_set(matches, "trace"),
+        quiet: is_set(matches, "quiet"),
+        log: paths.log,
         prefix: paths.prefix,
+        names: naming,
         proxy,
         resume: paths.resume,
         save: paths.save,
@@ -466,19 +537,34 @@ fn file(alloc: Global, matches: &ArgMatches, id: &str) -> Result<Option<FilePath
     }
 }
 
+// The file that takes what is told.
+#[tactic(auto, unfolding(crate::specs::Order::log_of))]
+fn log(alloc: Global, matches: &ArgMatches) -> Result<Option<Log>, AllocError>
+    ensures { IfOk result (λ log. option_map log_by log ≡ log_of (rows_of (found_of matches.now))) }
+{
+    let appends = given(matches, "append-output").is_some();
+    match file(alloc, matches, "output-file")? {
+        Some(path) => Ok(Some(Log { path, appends })),
+        None => Ok(None),
+    }
+}
+
 // The folder and the files that the words name.
 fn read_paths(alloc: Global, matches: &ArgMatches) -> Result<Paths, AllocError>
     ensures prefix { IfOk result (λ p. p.prefix ≡ prefix_of (rows_of (found_of matches.now))) }
     ensures resume { IfOk result (λ p. p.resume ≡ first_of (codes "resume") (rows_of (found_of matches.now))) }
     ensures save { IfOk result (λ p. p.save ≡ first_of (codes "save") (rows_of (found_of matches.now))) }
+    ensures log { IfOk result (λ p. option_map log_by p.log ≡ log_of (rows_of (found_of matches.now))) }
 {
     let prefix = prefix(alloc, matches)?;
     let resume = file(alloc, matches, "resume")?;
     let save = file(alloc, matches, "save")?;
+    let log = log(alloc, matches)?;
     Ok(Paths {
         prefix,
         resume,
         save,
+        log,
     })
 }
 
@@ -499,7 +585,7 @@ fn unread_kind(kind: ErrorKind) -> LineFault
     match kind {
         ErrorKind::OutOfMemory => LineFault::Memory,
         ErrorKind::MissingRequiredArgument => LineFault::Words(ErrorKind::InvalidValue),
-        kind => LineFault::Words(kind),
+        kind => unasked(kind),
     }
 }
 
@@ -518,20 +604,38 @@ fn kind_alone(alloc: Global, word: &str) -> Result<ErrorKind, AllocError> {
     Ok(kind_of_words(alloc, words.as_slice()))
 }
 
-// What is wrong with a word that isn't read.
+// What is wrong with a word that isn't read, or what it asks for.
 fn unread_fault(alloc: Global, word: &str) -> LineFault
-    ensures { (without_kind result ≡ words_refused) ⊎ (result ≡ fault.Memory) }
+    ensures { (without_kind result ≡ refusal_of word.now) ⊎ (result ≡ fault.Memory) }
 {
-    let form = meant(word);
-    if form == "--help" {
-        return LineFault::Words(ErrorKind::DisplayHelp);
-    }
-    if form == "--version" {
-        return LineFault::Words(ErrorKind::DisplayVersion);
+    if let Some(wish) = wish_of(word) {
+        return wish_fault(wish);
     }
     match kind_alone(alloc, word) {
         Ok(kind) => unread_kind(kind),
         Err(_) => LineFault::Memory,
+    }
+}
+
+// Reads what is said by words, with the first start alone.
+fn read_first(alloc: Global, said: &[Saying<&str>]) -> Result<Order, LineFault>
+    ensures { AnswersOrder result (order_of_written (written (map saying_in said.now))) }
+{
+    let Ok(words) = written(alloc, said) else {
+        return Err(LineFault::Memory);
+    };
+    let order = read_written(alloc, words.as_slice());
+    drop(words);
+    order
+}
+
+// The starts after the first.
+fn after_first<'a, 'b>(starts: &'b [&'a str]) -> &'b [&'a str]
+    ensures { result.now ≡ drop 1 starts.now }
+{
+    match starts {
+        [_, others @ ..] => others,
+        [] => starts,
     }
 }
 
@@ -542,11 +646,16 @@ fn read_said(alloc: Global, said: &[Saying<&str>]) -> Result<Order, LineFault>
     if let Some(word) = first_unread(said) {
         return Err(unread_fault(alloc, word));
     }
-    let Ok(words) = written(alloc, said) else {
+    let order = match read_first(alloc, said) {
+        Ok(order) => order,
+        Err(fault) => return Err(fault),
+    };
+    let Ok(starts) = starts(alloc, said) else {
+        drop(order);
         return Err(LineFault::Memory);
     };
-    let order = read_written(alloc, words.as_slice());
-    drop(words);
+    let order = with_others(alloc, order, after_first(starts.as_slice()));
+    drop(starts);
     order
 }
 

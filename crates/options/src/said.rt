@@ -3,7 +3,7 @@
 ghost use Rattle.std.specs.Prelude.{◌≡◌, ◌++◌, ◌∷◌, [], IfOk, List, MatchResult, OnOk, codes, map, option_map};
 ghost use Rattle.clap.specs.Lexer.{name_and_value};
 ghost use Rattle.clap.specs.Walk.{Text};
-ghost use Rattle.options.specs.Said.{after_front, at_end, beside, command_meaning, commanded, heard, heard_as, heard_in, heard_letters, heard_short, held, is_negative, is_no, is_switch, is_word, letter_by, letter_in, long_meaning, meaning_of, named, negative, on_off, plain, said_from, saying_of, sayings, sense, settled, switched, trimmed, truth, truth_of, value_meaning, valued};
+ghost use Rattle.options.specs.Said.{after_front, at_end, beside, command_meaning, commanded, heard, heard_as, heard_in, heard_letters, heard_short, held, is_negative, is_no, is_switch, is_word, letter_by, letter_in, letter_with, long_meaning, meaning_of, named, negative, on_off, plain, said_from, saying_of, sayings, sense, settled, switched, trimmed, truth, truth_of, value_meaning, valued};
 ghost use Rattle.options.specs.Meant.{without_dash};
 ghost use Rattle.options.specs.Table.{commands};
 ghost use Rattle.options.specs.inner.Said.{letter_by_code, meaning_in, saying_in, state_in};
@@ -39,8 +39,8 @@ pub(crate) enum Meaning<T> {
 /// What a letter behind a dash means.
 #[derive(Clone, Copy)]
 pub(crate) enum Letter<T> {
-    /// The option of this name is on, and these letters follow.
-    Goes(T, T),
+    /// The option of this name has this value, `on` or `off`, and these letters follow.
+    Goes(T, T, T),
     /// The word ends with this.
     Is(Meaning<T>),
 }
@@ -141,6 +141,7 @@ fn meaning_of<'a>(
     match kind {
         Kind::Flag => switched(name, on, value),
         Kind::Holds => held(switched(name, on, value)),
+        Kind::Opposite(other) => switched(*other, !on, value),
         Kind::Value(_) | Kind::List(_) | Kind::Usual(_, _) | Kind::Number(_, _) => {
             valued(name, value)
         }
@@ -152,7 +153,7 @@ fn is_switch(kind: &Kind<&'static str>) -> bool
     ensures { result ≡ is_switch (kind_in kind.now) }
 {
     match kind {
-        Kind::Flag | Kind::Holds => true,
+        Kind::Flag | Kind::Holds | Kind::Opposite(_) => true,
         Kind::Value(_) | Kind::List(_) | Kind::Usual(_, _) | Kind::Number(_, _) => false,
     }
 }
@@ -337,18 +338,28 @@ fn beside(rest: &str) -> Option<&str>
     if rest.is_empty() { None } else { Some(rest) }
 }
 
+// What the letter of an option that is on or off means, with the letters that follow.
+fn letter_with<'a>(rest: &'a str, meaning: Meaning<&'a str>) -> Letter<&'a str>
+    ensures { letter_by_code result ≡ letter_with rest.entry.now (meaning_in meaning.entry) }
+{
+    match meaning {
+        Meaning::Means(name, value) => Letter::Goes(name, value, rest),
+        other => Letter::Is(other),
+    }
+}
+
 fn letter_by<'a>(row: &Row<&'static str>, rest: &'a str) -> Letter<&'a str>
     ensures { letter_by_code result ≡ letter_by (row_in row.now) rest.entry.now }
 {
     if is_switch(&row.kind) {
-        Letter::Goes(row.name, rest)
+        letter_with(rest, meaning_of(row.name, &row.kind, true, None))
     } else {
         Letter::Is(valued(row.name, beside(rest)))
     }
 }
 
-// The first of these options whose letter the letters begin with.
-fn letter_in<'a>(letters: &'a str, rows: &[Row<&'static str>]) -> Letter<&'a str>
+/// The first of these options whose letter the letters begin with.
+pub(crate) fn letter_in<'a>(letters: &'a str, rows: &[Row<&'static str>]) -> Letter<&'a str>
     ensures { letter_by_code result ≡ letter_in letters.entry.now (map row_in rows.now) }
 {
     for row in rows {
@@ -374,8 +385,8 @@ fn hear_letters<'a>(
     let mut letters = letters;
     while !letters.is_empty() {
         match letter_in(letters, option_rows()) {
-            Letter::Goes(name, rest) => {
-                said.push(Saying::Says(name, "on"))?;
+            Letter::Goes(name, value, rest) => {
+                said.push(Saying::Says(name, value))?;
                 letters = rest;
             }
             Letter::Is(meaning) => return hear_as(alloc, said, word, meaning),

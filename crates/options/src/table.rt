@@ -14,6 +14,8 @@ pub(crate) enum Kind<T> {
     Flag,
     /// Nothing, and what it asks for is so already: it is taken, and its opposite isn't.
     Holds,
+    /// Nothing: it is the opposite of the option of this name, and the two are one option.
+    Opposite(T),
     /// A value, of this name in the help.
     Value(T),
     /// A list of this name in the help: several of them add up, and an empty one clears what was before it.
@@ -40,7 +42,7 @@ pub(crate) struct Row<T> {
 }
 
 /// The options.
-const TABLE: [Row<&str>; 39] = [
+const TABLE: [Row<&str>; 51] = [
     Row {
         short: "r",
         name: "recursive",
@@ -61,6 +63,13 @@ const TABLE: [Row<&str>; 39] = [
         kind: Kind::Flag,
         heading: "",
         says: "also what pages show, as pictures and styles",
+    },
+    Row {
+        short: "",
+        name: "span-requisites",
+        kind: Kind::Flag,
+        heading: "",
+        says: "what pages show, from other hosts too",
     },
     Row {
         short: "n",
@@ -126,6 +135,13 @@ const TABLE: [Row<&str>; 39] = [
         says: "no names with these suffixes or patterns",
     },
     Row {
+        short: "",
+        name: "ignore-case",
+        kind: Kind::Flag,
+        heading: "",
+        says: "letters of -A, -R, -I and -X in either case",
+    },
+    Row {
         short: "e",
         name: "execute",
         kind: Kind::Value("COMMAND"),
@@ -169,6 +185,13 @@ const TABLE: [Row<&str>; 39] = [
     },
     Row {
         short: "",
+        name: "no-proxy",
+        kind: Kind::Flag,
+        heading: "",
+        says: "no proxy, in spite of --https-proxy",
+    },
+    Row {
+        short: "",
         name: "max-urls",
         kind: Kind::Number(MAX_URLS, DEFAULT_MAX_URLS),
         heading: "",
@@ -203,6 +226,76 @@ const TABLE: [Row<&str>; 39] = [
         says: "put files below DIR",
     },
     Row {
+        short: "nd",
+        name: "no-directories",
+        kind: Kind::Flag,
+        heading: "",
+        says: "all files in DIR itself",
+    },
+    Row {
+        short: "x",
+        name: "force-directories",
+        kind: Kind::Opposite("no-directories"),
+        heading: "",
+        says: "a folder for each directory, without -nd",
+    },
+    Row {
+        short: "nH",
+        name: "no-host-directories",
+        kind: Kind::Flag,
+        heading: "",
+        says: "no folder for the host",
+    },
+    Row {
+        short: "",
+        name: "protocol-directories",
+        kind: Kind::Flag,
+        heading: "",
+        says: "a folder for the scheme, as http",
+    },
+    Row {
+        short: "",
+        name: "cut-dirs",
+        kind: Kind::Usual("N", "0"),
+        heading: "",
+        says: "leave out N directories of the path",
+    },
+    Row {
+        short: "",
+        name: "default-page",
+        kind: Kind::Usual("NAME", "index.html"),
+        heading: "",
+        says: "a page without a name is NAME",
+    },
+    Row {
+        short: "",
+        name: "restrict-file-names",
+        kind: Kind::List("MODES"),
+        heading: "",
+        says: "unix, windows, ascii, lowercase, uppercase",
+    },
+    Row {
+        short: "q",
+        name: "quiet",
+        kind: Kind::Flag,
+        heading: "",
+        says: "tell nothing, except of refused words",
+    },
+    Row {
+        short: "o",
+        name: "output-file",
+        kind: Kind::Value("FILE"),
+        heading: "",
+        says: "write report and failures into FILE",
+    },
+    Row {
+        short: "a",
+        name: "append-output",
+        kind: Kind::Value("FILE"),
+        heading: "",
+        says: "likewise, after what FILE has",
+    },
+    Row {
         short: "",
         name: "trace",
         kind: Kind::Flag,
@@ -222,13 +315,6 @@ const TABLE: [Row<&str>; 39] = [
         kind: Kind::Holds,
         heading: "\nTaken, since it is so already:\n",
         says: "a line for each file",
-    },
-    Row {
-        short: "x",
-        name: "force-directories",
-        kind: Kind::Holds,
-        heading: "",
-        says: "a folder for each directory",
     },
     Row {
         short: "",
@@ -327,7 +413,7 @@ pub(crate) fn option_rows() -> &'static [Row<&'static str>]
 
 /// The forms of Wget's options: all long ones, in the order of their letters, and the short ones that aren't among the options
 /// above. One of two letters is the first letter's, as `nc`.
-const WGET: [&str; 267] = [
+const WGET: [&str; 262] = [
     "--accept",
     "--accept-regex",
     "--adjust-extension",
@@ -568,10 +654,7 @@ const WGET: [&str; 267] = [
     "--warc-tempdir",
     "--xattr",
     "-b",
-    "-o",
-    "-a",
     "-d",
-    "-q",
     "-v",
     "-i",
     "-F",
@@ -587,8 +670,6 @@ const WGET: [&str; 267] = [
     "-Q",
     "-4",
     "-6",
-    "-nd",
-    "-nH",
     "-E",
     "-U",
     "-k",
@@ -607,19 +688,21 @@ pub(crate) fn wget_forms() -> &'static [&'static str]
 }
 
 /// The long forms of options that Wget doesn't have, and of their opposites.
-const OWN: [&str; 14] = [
+const OWN: [&str; 16] = [
     "--https-proxy",
     "--map",
     "--max-urls",
     "--no-map",
     "--no-record",
     "--no-robots",
+    "--no-span-requisites",
     "--no-trace",
     "--per-host",
     "--record",
     "--resume",
     "--robots",
     "--save",
+    "--span-requisites",
     "--trace",
     "--workers",
 ];
@@ -642,10 +725,14 @@ pub(crate) struct Command<T> {
 }
 
 /// The commands of wgetrc whose options are here.
-const COMMANDS: [Command<&str>; 28] = [
+const COMMANDS: [Command<&str>; 37] = [
     Command {
         name: "accept",
         option: "accept",
+    },
+    Command {
+        name: "addhostdir",
+        option: "host-directories",
     },
     Command {
         name: "compression",
@@ -654,6 +741,14 @@ const COMMANDS: [Command<&str>; 28] = [
     Command {
         name: "cookies",
         option: "cookies",
+    },
+    Command {
+        name: "cutdirs",
+        option: "cut-dirs",
+    },
+    Command {
+        name: "defaultpage",
+        option: "default-page",
     },
     Command {
         name: "dirprefix",
@@ -688,8 +783,16 @@ const COMMANDS: [Command<&str>; 28] = [
         option: "http-keep-alive",
     },
     Command {
+        name: "ignorecase",
+        option: "ignore-case",
+    },
+    Command {
         name: "includedirectories",
         option: "include-directories",
+    },
+    Command {
+        name: "logfile",
+        option: "output-file",
     },
     Command {
         name: "netrc",
@@ -712,6 +815,14 @@ const COMMANDS: [Command<&str>; 28] = [
         option: "progress",
     },
     Command {
+        name: "protocoldirectories",
+        option: "protocol-directories",
+    },
+    Command {
+        name: "quiet",
+        option: "quiet",
+    },
+    Command {
         name: "reclevel",
         option: "level",
     },
@@ -726,6 +837,10 @@ const COMMANDS: [Command<&str>; 28] = [
     Command {
         name: "removelisting",
         option: "remove-listing",
+    },
+    Command {
+        name: "restrictfilenames",
+        option: "restrict-file-names",
     },
     Command {
         name: "robots",
@@ -746,6 +861,10 @@ const COMMANDS: [Command<&str>; 28] = [
     Command {
         name: "unlink",
         option: "unlink",
+    },
+    Command {
+        name: "useproxy",
+        option: "proxy",
     },
     Command {
         name: "verbose",

@@ -1,7 +1,7 @@
-//! Words are written out: each option at most once, by its long form and with the value that counts, and the starts behind `--`.
+//! Words are written out: each option at most once, by its long form and with the value that counts, and the first start after `--`.
 ghost use Rattle.std.specs.Prelude.{◌≡◌, ◌++◌, IfOk, None, OnOk, codes, map, option_map, string_bytes};
 ghost use Rattle.std.specs.List.{flat_map};
-ghost use Rattle.options.specs.Written.{added, first_start, first_unread, form_word, is_list, row_words, starts_in, value_from, value_words, value_of, written};
+ghost use Rattle.options.specs.Written.{added, first_start, first_unread, form_word, if_any, is_list, row_words, says_also, starts_in, value_from, value_words, value_of, written};
 ghost use Rattle.options.specs.inner.Said.{saying_in};
 ghost use Rattle.options.specs.inner.Table.{kind_in, row_in};
 
@@ -15,7 +15,8 @@ fn is_list(kind: &Kind<&'static str>) -> bool
 {
     match kind {
         Kind::List(_) => true,
-        Kind::Flag | Kind::Holds | Kind::Value(_) | Kind::Usual(_, _) | Kind::Number(_, _) => false,
+        Kind::Flag | Kind::Holds | Kind::Opposite(_) => false,
+        Kind::Value(_) | Kind::Usual(_, _) | Kind::Number(_, _) => false,
     }
 }
 
@@ -40,6 +41,13 @@ fn added(
     Ok(sum)
 }
 
+// Whether what is said of the one option is said of the other, too.
+fn says_also(said: &str, name: &str) -> bool
+    ensures { result ≡ says_also said.now name.now }
+{
+    said == name || (said == "append-output" && name == "output-file")
+}
+
 // The value that counts of what is said of the option of this name.
 fn value_in(
     alloc: Global,
@@ -52,7 +60,7 @@ fn value_in(
     let mut value = None;
     for saying in said {
         if let Saying::Says(option, text) = saying {
-            if *option == name {
+            if says_also(option, name) {
                 value = Some(added(alloc, adds, value, text)?);
             }
         }
@@ -83,7 +91,7 @@ fn push_value(
                 words.push(format!(in alloc; "--{name}")?)?;
             }
         }
-        Kind::Holds => {}
+        Kind::Holds | Kind::Opposite(_) => {}
         Kind::Value(_) | Kind::List(_) | Kind::Usual(_, _) | Kind::Number(_, _) => {
             words.push(value_word(alloc, name, value)?)?;
         }
@@ -122,30 +130,40 @@ fn push_rows(
     Ok(())
 }
 
-// Adds the starts.
-fn push_starts(
-    alloc: Global,
-    words: &mut Vec<String>,
-    said: &[Saying<&str>],
-) -> Result<(), AllocError>
-    ensures { OnOk result (map string_bytes words.new.items ≡ map string_bytes words.old.items ++ starts_in (map saying_in said.now)) }
+// Adds a word, if there is one.
+fn push_if_any(alloc: Global, words: &mut Vec<String>, word: Option<&str>) -> Result<(), AllocError>
+    ensures { OnOk result (map string_bytes words.new.items ≡ map string_bytes words.old.items ++ if_any (option_map (λ w. w.now) word.entry)) }
 {
-    for saying in said {
-        if let Saying::Starts(word) = saying {
-            words.push(String::from_str(alloc, word)?)?;
-        }
+    if let Some(word) = word {
+        words.push(String::from_str(alloc, word)?)?;
     }
     Ok(())
 }
 
-/// What is said, written out.
+/// The starts, in their order.
+pub(crate) fn starts<'a>(
+    alloc: Global,
+    said: &[Saying<&'a str>],
+) -> Result<Vec<&'a str>, AllocError>
+    ensures { IfOk result (λ starts. map (λ word. word.now) starts.items ≡ starts_in (map saying_in said.now)) }
+{
+    let mut starts = Vec::new(alloc);
+    for saying in said {
+        if let Saying::Starts(word) = saying {
+            starts.push(*word)?;
+        }
+    }
+    Ok(starts)
+}
+
+/// What is said, written out with the first start alone.
 pub(crate) fn written(alloc: Global, said: &[Saying<&str>]) -> Result<Vec<String>, AllocError>
     ensures { IfOk result (λ words. map string_bytes words.items ≡ written (map saying_in said.now)) }
 {
     let mut words = Vec::new(alloc);
     push_rows(alloc, &mut words, option_rows(), said)?;
     words.push(String::from_str(alloc, "--")?)?;
-    push_starts(alloc, &mut words, said)?;
+    push_if_any(alloc, &mut words, first_start(said))?;
     Ok(words)
 }
 

@@ -70,13 +70,20 @@ pub(crate) fn is_printed(rt: &impl Abort, alloc: Global, outcome: &Outcome, want
     text.as_str() == wanted
 }
 
-/// Whether an answer has a body of a length and an outcome, as a row says.
-fn is_answered(rt: &impl Abort, alloc: Global, answer: &Answer<Body>, row: &str) -> bool {
-    let (len, outcome) = halves(row, " ");
-    answer.body.as_slice().len() == number(len) && is_printed(rt, alloc, &answer.outcome, outcome)
+/// Whether an answer is printed so: what its body is, and its outcome.
+pub(crate) fn is_told(rt: &impl Abort, alloc: Global, answer: &Answer<Body>, wanted: &str) -> bool {
+    let kind = answer.body.kind();
+    let text = format!(in alloc; "{kind:?} {:?}", answer.outcome).expect(rt, "memory");
+    text.as_str() == wanted
 }
 
-/// Whether a site says of an address what a row says: the length of the body, and the outcome.
+/// Whether an answer has a body of a length, is of a kind and has an outcome, as a row says.
+fn is_answered(rt: &impl Abort, alloc: Global, answer: &Answer<Body>, row: &str) -> bool {
+    let (len, said) = halves(row, " ");
+    answer.body.as_slice().len() == number(len) && is_told(rt, alloc, answer, said)
+}
+
+/// Whether a site says of an address what a row says: the length of the body, what it is, and the outcome.
 fn says<F: Fetcher<Body = Body>>(
     rt: &impl Abort,
     alloc: Global,

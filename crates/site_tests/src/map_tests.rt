@@ -21,16 +21,17 @@ page 200 http://h/c
 link http://h/a
 ";
 
-// What the map of `SITE` says of each address, a row for each: the address, the length of its body, and the outcome. It
+// What the map of `SITE` says of each address, a row for each: the address, the length of its body, what it is,
+// and the outcome. It
 // doesn't name the last.
 const ANSWERS: &str =
-    "http://h/ 0 Page(200, Edges { items: [Edge { target: \"http://h/a\", kind: Link }, Edge { target: \"http://h/i.gif\", kind: Inline }, Edge { target: \"http://h/a\", kind: Link }] })
-http://h/a 0 Moved(302, \"http://k/\")
-http://h/b 0 Page(203, Edges { items: [] })
-http://h/i.gif 0 Leaf(999)
-http://k/ 0 Fault(HeadLong)
-http://h/c 0 Page(200, Edges { items: [Edge { target: \"http://h/a\", kind: Link }] })
-http://h/z 0 Leaf(404)
+    "http://h/ 0 Html Page(200, Edges { items: [Edge { target: \"http://h/a\", kind: Link }, Edge { target: \"http://h/i.gif\", kind: Inline }, Edge { target: \"http://h/a\", kind: Link }] })
+http://h/a 0 Other Moved(302, \"http://k/\")
+http://h/b 0 Html Page(203, Edges { items: [] })
+http://h/i.gif 0 Other Leaf(999)
+http://k/ 0 Other Fault(HeadLong)
+http://h/c 0 Html Page(200, Edges { items: [Edge { target: \"http://h/a\", kind: Link }] })
+http://h/z 0 Other Leaf(404)
 ";
 
 fn site_of(rt: &impl Abort, alloc: Global, map: &str) -> MapSite {
@@ -167,7 +168,7 @@ fn a_map_with_a_fault_line_is_not_steady(rt: HostRuntime) {
 }
 
 // What a steady site is asked here, and how it notes that.
-const STEADY: &str = "http://h/ 0 Page(200, Edges { items: [] })
+const STEADY: &str = "http://h/ 0 Html Page(200, Edges { items: [] })
 http://h/ / yes
 ";
 

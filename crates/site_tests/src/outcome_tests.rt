@@ -1,7 +1,8 @@
 //! Outcomes and their parts, each call once.
 use crate::common::address;
 use fetcher::{
-    Ask, Body, Edge, EdgeKind, Edges, FaultClass, FaultKind, Outcome, is_redirect, is_successful,
+    Ask, Body, BodyKind, Edge, EdgeKind, Edges, FaultClass, FaultKind, Outcome, is_redirect,
+    is_successful,
 };
 use std::alloc::Global;
 use std::process::Abort;
@@ -61,7 +62,9 @@ fn asks_for(rt: &impl Abort, ask: &Ask, text: &str) -> bool {
 fn parts_come_back_as_they_were(rt: HostRuntime) {
     let alloc = rt.alloc();
     let bytes = [7, 8].to_vec(alloc).expect(&rt, "memory");
-    assert!(rt; Body::new(bytes).into_vec().as_slice() == [7, 8].as_slice());
+    let body = Body::new(BodyKind::Sheet, bytes);
+    assert!(rt; body.kind() == BodyKind::Sheet);
+    assert!(rt; body.into_vec().as_slice() == [7, 8].as_slice());
     let ask = Ask::Page(address(&rt, alloc, "http://h/"));
     assert!(rt; asks_for(&rt, &ask, "http://h/"));
 }

@@ -31,17 +31,18 @@ rules none HTTP://K:80/#x
 rules all http://l/
 ";
 
-// What the record of `SITE` says of each address, a row for each: the address, the length of its body, and the outcome. It
+// What the record of `SITE` says of each address, a row for each: the address, the length of its body, what it is,
+// and the outcome. It
 // doesn't name the last.
 const ANSWERS: &str =
-    "http://h/ 10 Page(200, Edges { items: [Edge { target: \"http://h/b\", kind: Link }] })
-http://h/short 0 Fault(Ended)
-http://h/more 1 Leaf(200)
-http://h/m 0 Moved(301, \"http://h/n\")
-http://h/q 46 Page(200, Edges { items: [] })
-http://h/0 0 Fault(Ended)
-http://k/ 0 Fault(HeadLong)
-http://h/z 0 Leaf(404)
+    "http://h/ 10 Html Page(200, Edges { items: [Edge { target: \"http://h/b\", kind: Link }] })
+http://h/short 0 Other Fault(Ended)
+http://h/more 1 Other Leaf(200)
+http://h/m 0 Other Moved(301, \"http://h/n\")
+http://h/q 46 Html Page(200, Edges { items: [] })
+http://h/0 0 Other Fault(Ended)
+http://k/ 0 Other Fault(HeadLong)
+http://h/z 0 Other Leaf(404)
 ";
 
 // Bad records: which line is named, and behind it the text up to its `;`, a line feed written `~` and CR LF `|`.
@@ -168,7 +169,7 @@ http://m/ /a yes
 http://n/ /a yes
 http://o/ /a no
 http://l/ /a yes
-http://h/z 0 Fault(Head)
+http://h/z 0 Other Fault(Head)
 ";
 
 #[test]

@@ -134,10 +134,10 @@ fault connect http://h/lost~rules none http://h/~";
 
 // What the record says, and what the site behind it, of addresses and of the rules of origins.
 const RESUMED: &str =
-    "http://h/ 10 Page(200, Edges { items: [Edge { target: \"http://h/b\", kind: Link }] })
-http://h/lost 0 Fault(Connect)
-http://h/b 2 Leaf(203)
-http://h/c 0 Leaf(404)
+    "http://h/ 10 Html Page(200, Edges { items: [Edge { target: \"http://h/b\", kind: Link }] })
+http://h/lost 0 Other Fault(Connect)
+http://h/b 2 Sheet Page(203, Edges { items: [] })
+http://h/c 0 Other Leaf(404)
 http://h/ /a no
 http://k/ /a yes";
 
@@ -166,7 +166,7 @@ fn what_a_record_says_is_not_asked_for_again(rt: HostRuntime) {
     let answers = site_of(
         &rt,
         alloc,
-        "http://h/b HTTP/1.1 203 |Content-Type: a/b||ab\nhttp://h/lost HTTP/1.1 200 ||",
+        "http://h/b HTTP/1.1 203 |Content-Type: TEXT/CSS ; a=b||ab\nhttp://h/lost HTTP/1.1 200 ||",
     );
     assert!(rt; asks_for_the_rest(&rt, alloc, MemoryConnect::new(alloc, &answers, &[])));
 }

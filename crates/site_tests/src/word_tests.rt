@@ -3,6 +3,7 @@ use crate::common::{demand, halves, repeated};
 use address::AddressFault;
 use clap::error::ErrorKind;
 use follow_filters::{Limit, Plan};
+use local_names::NameRules;
 use options::{LineFault, Order, Source, advice_text, help_text, no_text_advice, read_order};
 use std::alloc::Global;
 use std::process::Abort;
@@ -46,10 +47,10 @@ depth => -l 1000001 http://h/
 read => -l 1000000 http://h/
 depth => -l +1 http://h/
 pattern => -A [a http://h/
-pattern => -A [a,b]* -I a http://h/
+pattern => -A [a,b]* -I [a http://h/
 pattern => -A gif -R [a http://h/
-directory => -I a -D a/b http://h/
-directory => -I /a -X a http://h/
+directory => -I [a -D a/b http://h/
+directory => -I /a -X [a http://h/
 domain => -D a/b https://h/
 domain => -D a --exclude-domains a/b a
 read => a
@@ -68,8 +69,11 @@ words: bad value => --https-proxy=http://p/a -l x https://h/
 words: bad value => --https-proxy=p:3128 http://h/
 start: user info => http://u@h/
 start: robots => http://h/robots.txt
-words: unknown => http://h/ http://k/
-words: unknown => -q -l x http://h/
+read => http://h/ http://k/ http://h/
+start: not url => http://h/ //k/
+start: robots => http://h/ http://k/robots.txt a:b
+words: bad value => --max-urls=2 http://h/ http://k/ http://l/
+words: unknown => -F -l x http://h/
 read => -rp --page-requisites http://h/
 words: bad value => -npr http://h/
 words: bad value => -pnr http://h/
@@ -96,6 +100,16 @@ words: out of range => --workers 0 http://h/
 words: out of range => --workers 65 -l x a
 words: out of range => --per-host 17 http://h/
 words: bad value => -nq http://h/
+start: not http => --https-proxy=http://p/ --no-proxy https://h/
+read => --no-proxy --proxy --https-proxy=http://p/ https://h/
+read => --no-proxy --https-proxy=https://p/ http://h/
+words: bad value => --cut-dirs=x http://h/
+words: bad value => --default-page=.. http://h/
+words: bad value => --default-page=a/b -l x http://h/
+words: bad value => --default-page= http://h/
+words: bad value => --restrict-file-names=windows,vms http://h/
+words: bad value => -e restrict_file_names=Windows http://h/
+read => --restrict-file-names=unix,ascii,nocontrol --restrict-file-names=lowercase --cut-dirs=0 http://h/
 words: bad value => -e robots=of http://h/
 words: help => -h
 words: help => --hel
@@ -254,6 +268,54 @@ fn no_parent_and_requisites_are_told_apart(rt: HostRuntime) {
     }
 }
 
+// Rows: whether names have directories, one for the scheme and one for the host, and how many of the path are left out; after
+// `=>` the words.
+const SHAPES: &str = "true false true 0 => http://h/
+false false false 2 => -nd -nH --cut-dirs 2 http://h/
+true false true 0 => -nd -x http://h/
+false true true 0 => -rx --no-dir --proto http://h/
+true false true 0 => -nd --directories -nH --host-directories http://h/
+false false true 1 => --no-force-directories -e cut_dirs=1 http://h/
+true true false 0 => -e dir_struct=off -e dirstruct=on -e add-hostdir=no -e ProtocolDirectories=1 http://h/
+";
+
+// Whether an order's names are shaped so.
+fn shapes(rt: &impl Abort, alloc: Global, rules: &NameRules, expected: &str) -> bool {
+    let said = format!(in alloc;
+        "{} {} {} {}",
+        rules.has_directories, rules.has_protocol, rules.has_host, rules.cut_dirs
+    );
+    said.expect(rt, "memory").as_str() == expected
+}
+
+#[test]
+fn words_shape_names(rt: HostRuntime) {
+    for row in SHAPES.lines() {
+        let (expected, text) = halves(row, " => ");
+        let order = order_of(&rt, rt.alloc(), text);
+        demand(&rt, shapes(&rt, rt.alloc(), &order.names, expected), row);
+        drop(order);
+    }
+}
+
+// Whether what is told goes into this file, and is added to what that has.
+fn is_logged(order: &Order, path: &str, appends: bool) -> bool {
+    match &order.log {
+        Some(log) => log.path.as_str() == path && log.appends == appends,
+        None => false,
+    }
+}
+
+#[test]
+fn a_log_has_the_last_name_and_is_kept_if_it_is_added_to(rt: HostRuntime) {
+    let order = order_of(&rt, rt.alloc(), "-a x -q -o y http://h/");
+    assert!(rt; order.quiet && is_logged(&order, "y", true));
+    drop(order);
+    let order = order_of(&rt, rt.alloc(), "-ox -q --no-quiet http://h/");
+    assert!(rt; !order.quiet && is_logged(&order, "x", false));
+    drop(order);
+}
+
 #[test]
 fn the_last_value_counts_and_lists_add_up(rt: HostRuntime) {
     let words = "-l1 -P x -A pdf --accept= -A gif -R a -A png -Py --reject= -l2 http://h/ -r";
@@ -267,7 +329,7 @@ const HELP: &str = "\
 wgetr retrieves a site recursively and reports what it found: it follows links
 by GNU Wget's rules and heeds robots files.
 
-usage: wgetr [OPTION]... START
+usage: wgetr [OPTION]... START...
        wgetr [OPTION]... --map START < MAP
        wgetr [OPTION]... --record START < RECORD
 
@@ -275,6 +337,7 @@ What is followed:
   -r,  --recursive                 follow links
   -l,  --level=N                   at most N hops; 0 and inf are no limit (5)
   -p,  --page-requisites           also what pages show, as pictures and styles
+       --span-requisites           what pages show, from other hosts too
   -np, --no-parent                 only the directory of START and below
   -H,  --span-hosts                other hosts too
   -D,  --domains=LIST              only hosts of these domains
@@ -283,6 +346,7 @@ What is followed:
   -X,  --exclude-directories=LIST  not these directories
   -A,  --accept=LIST               only names with these suffixes or patterns
   -R,  --reject=LIST               no names with these suffixes or patterns
+       --ignore-case               letters of -A, -R, -I and -X in either case
 
 How it is asked for:
   -e,  --execute=COMMAND           as a line of wgetrc: robots=off, reclevel=2
@@ -291,6 +355,7 @@ How it is asked for:
        --per-host=N                N requests at a time to a server, 1 to 16 (2)
        --no-http-keep-alive        a connection of its own for each request
        --https-proxy=URL           https by a proxy, as http://127.0.0.1:3128/
+       --no-proxy                  no proxy, in spite of --https-proxy
        --max-urls=N                at most N addresses, 1 to 1000000 (100000)
 
 Where the site is:
@@ -300,12 +365,21 @@ Where the site is:
 
 What becomes of it:
   -P,  --directory-prefix=DIR      put files below DIR (.)
+  -nd, --no-directories            all files in DIR itself
+  -x,  --force-directories         a folder for each directory, without -nd
+  -nH, --no-host-directories       no folder for the host
+       --protocol-directories      a folder for the scheme, as http
+       --cut-dirs=N                leave out N directories of the path (0)
+       --default-page=NAME         a page without a name is NAME (index.html)
+       --restrict-file-names=MODES unix, windows, ascii, lowercase, uppercase
+  -q,  --quiet                     tell nothing, except of refused words
+  -o,  --output-file=FILE          write report and failures into FILE
+  -a,  --append-output=FILE        likewise, after what FILE has
        --trace                     the trace before the report
        --save=FILE                 write what the site answered into this record
 
 Taken, since it is so already:
   -nv, --no-verbose                a line for each file
-  -x,  --force-directories         a folder for each directory
        --no-cookies                no cookies
        --no-hsts                   no list of hosts that want https
        --no-config                 no start-up files
@@ -352,16 +426,16 @@ const ADVICE: &str = "\
 --no-cl http://h/ => unexpected argument found: --no-cl (an option of Wget that wgetr doesn't have)|wgetr --help says which words are accepted
 -nc http://h/ => one of the values isn't valid for an argument: -nc (an option of Wget that wgetr doesn't have)|wgetr --help says which words are accepted
 -e robots=of http://h/ => one of the values isn't valid for an argument|wgetr --help says which words are accepted
-http://h/ http://k/ => unexpected argument found|wgetr --help says which words are accepted
+h/ http://k/ //example.org/ => START is no URL (did you mean http://example.org/?)|START is an address in full, as http://example.org/path?query, without user name and password, with at most 8192 bytes and a host of at most 255 (see wgetr --help)
 //example.org/ => START is no URL (did you mean http://example.org/?)|START is an address in full, as http://example.org/path?query, without user name and password, with at most 8192 bytes and a host of at most 255 (see wgetr --help)
--r example.org:/a => START isn't an http address, and http alone is spoken: there is no TLS here, which https needs (did you mean http://example.org/a?)|START is an address in full, as http://example.org/path?query, without user name and password, with at most 8192 bytes and a host of at most 255 (see wgetr --help)
-https://h/ => START isn't an http address, and http alone is spoken: there is no TLS here, which https needs|START is an address in full, as http://example.org/path?query, without user name and password, with at most 8192 bytes and a host of at most 255 (see wgetr --help)
-a:b => START isn't an http address, and http alone is spoken: there is no TLS here, which https needs|START is an address in full, as http://example.org/path?query, without user name and password, with at most 8192 bytes and a host of at most 255 (see wgetr --help)
+-r example.org:/a => START isn't an http address, and an https one needs --https-proxy, a proxy that speaks TLS (did you mean http://example.org/a?)|START is an address in full, as http://example.org/path?query, without user name and password, with at most 8192 bytes and a host of at most 255 (see wgetr --help)
+https://h/ => START isn't an http address, and an https one needs --https-proxy, a proxy that speaks TLS|START is an address in full, as http://example.org/path?query, without user name and password, with at most 8192 bytes and a host of at most 255 (see wgetr --help)
+a:b => START isn't an http address, and an https one needs --https-proxy, a proxy that speaks TLS|START is an address in full, as http://example.org/path?query, without user name and password, with at most 8192 bytes and a host of at most 255 (see wgetr --help)
 http://a@h/ => START has a user name or a password|START is an address in full, as http://example.org/path?query, without user name and password, with at most 8192 bytes and a host of at most 255 (see wgetr --help)
 http://h/robots.txt => START is a robots file|START is any other page (see wgetr --help)
 -l x http://h/ => the value of -l, --level is no level|a level is inf or decimal digits, at most 1000000 (see wgetr --help)
 -A [a http://h/ => an element of -A, --accept or -R, --reject is no pattern|an element is a suffix, or a pattern with *, ? and classes as [a-z], each closed (see wgetr --help)
--X a http://h/ => an element of -I, --include-directories or -X, --exclude-directories is no directory|an element begins with / and has none of *, ?, [ and ] (see wgetr --help)
+-X [a http://h/ => an element of -I, --include-directories or -X, --exclude-directories is no directory|an element is a directory, as /a or /a*/b, its classes as [a-z] closed and without / (see wgetr --help)
 -D a*b http://h/ => an element of -D, --domains or --exclude-domains is no domain|an element is letters, digits, -, _ and dots, as example.org (see wgetr --help)
 ";
 

@@ -1,11 +1,15 @@
 -- What proofs alone need beside `Order`.
-use Rattle.std.specs.Prelude.{◌≡◌, ℕ, List, Result, Err}
+use Rattle.std.specs.Prelude.{◌≡◌, ◌⊎◌, ℕ, true, List, Option, Some, Result, Ok, Err, if◌then◌else◌}
 use Rattle.clap.specs.Walk.{Row}
 use Rattle.clap.specs.declared.error.ErrorKind.{ErrorKind}
 use Rattle.clap.specs.declared.error.ErrorKind.TheVariants.{OutOfMemory}
+use Rattle.address.specs.Address.{is_robots_file}
+use Rattle.address.specs.declared.fault.AddressFault.{AddressFault}
 use Rattle.options.specs.declared.fault.LineFault.{LineFault}
 use Rattle.options.specs.declared.fault.LineFault.TheVariants as fault
-use Rattle.options.specs.Order.{Ordered, patterns_of, directories_of, domains_of, start_of, started_at, found_or, without_kind}
+use Rattle.options.specs.Asked.{is_asking, without_kind, words_refused}
+use Rattle.options.specs.Naming.{Naming, naming_of}
+use Rattle.options.specs.Order.{Counts, Ordered, are_good, counts_of, proxy_of, patterns_of, directories_of, domains_of, start_of, started_at, found_or}
 
 -- the options start at this address
 abbrev pub StartsAt : List Row → List ℕ → Type 0
@@ -14,6 +18,19 @@ StartsAt found start = (next : List ℕ → Result Ordered LineFault) → starte
 -- the options start nowhere, for this fault
 abbrev pub FailsToStart : List Row → LineFault → Type 0
 FailsToStart found why = (without_kind why ≡ why) × ((next : List ℕ → Result Ordered LineFault) → started_at (start_of found) next ≡ Err why)
+
+-- what was read is no start, for this fault
+abbrev pub IsNoStart : Result (List ℕ) AddressFault → LineFault → Type 0
+IsNoStart read why =
+    ((address : List ℕ) × (read ≡ Ok address) × (is_robots_file address ≡ true) × (why ≡ fault.StartIsRobots))
+    ⊎ ((wrong : AddressFault) × (read ≡ Err wrong) × (why ≡ fault.Start wrong))
+
+-- the options have values that may be, and these are the numbers, the proxy and what shapes names
+pub record Settles (found : List Row) (counts : Counts) (proxy : Option (List ℕ)) (names : Naming) : Type 0 where
+  pub words : are_good found ≡ true
+  pub counted : counts_of found ≡ Some counts
+  pub proxied : proxy_of found ≡ Some proxy
+  pub named : naming_of found ≡ Some names
 
 -- the lists of an option and of its opposite
 abbrev pub Both : Type 0
@@ -30,7 +47,11 @@ filtered found next =
 abbrev pub FailsToFilter : List Row → LineFault → Type 0
 FailsToFilter found why = (without_kind why ≡ why) × ((next : Both → Both → Both → Result Ordered LineFault) → filtered found next ≡ Err why)
 
--- want of memory, or the kind of what is wrong with the words
+-- what is wrong with words that ask for nothing
+abbrev pub unasked : ErrorKind → LineFault
+unasked kind = if is_asking kind then words_refused else fault.Words kind
+
+-- memory ran out, or the kind of what is wrong with words that ask for nothing
 abbrev pub fault_of_kind : ErrorKind → LineFault
 fault_of_kind OutOfMemory = fault.Memory
-fault_of_kind kind = fault.Words kind
+fault_of_kind kind = unasked kind

@@ -18,7 +18,7 @@ meaning_in meaning.Unknown = meaning.Unknown
 
 -- a letter, as the code has it
 abbrev pub letter_by_code : Letter (Bor Text) → Letter Text
-letter_by_code (letter.Goes name rest) = letter.Goes name.now rest.now
+letter_by_code (letter.Goes name value rest) = letter.Goes name.now value.now rest.now
 letter_by_code (letter.Is meaning) = letter.Is (meaning_in meaning)
 
 -- what a word says, as the code has it

@@ -1,7 +1,9 @@
--- Each word is read, or the first that isn't is named.
-use Rattle.std.proofs.Common.{◌∙◌, ap, inl, inr, map, string_bytes, subst, sym, ⊎_elim}
-use Rattle.std.specs.Prelude.{Err}
-use Rattle.options.specs.Order.{AnswersOrder, order_of_written}
+-- Each word is read, or the first that isn't is named; the other starts follow the first.
+use Rattle.std.proofs.Common.{◌∙◌, ap, drop, inl, inr, map, subst, sym, ⊎_elim}
+use Rattle.std.specs.Prelude.{Err, Ok}
+use Rattle.std.proofs.lemmas.List.{drop-map}
+use Rattle.options.specs.Order.{AnswersOrder, ordered_by, with_others}
+use Rattle.options.specs.Written.{others_in}
 use Rattle.options.specs.inner.Said.{saying_in}
 use Rattle.options.proofs.SameLemmas.{order_read, order_unread}
 use Rattle.options.proofs.read.read_said.Goals as goal
@@ -14,11 +16,21 @@ returns-in-Some c =
     (λ memory. inr memory)
     c.unread_fault.ensures
 
+pub returns-in-Err : goal.returns-in-Err
+returns-in-Err c =
+    let said = map saying_in c.args.said.now in
+    ⊎_elim
+    (λ refused. inl (order_read said (sym c.in_default.ensures) ∙ ap (with_others (others_in said)) refused))
+    (λ memory. inr memory)
+    c.in-Err.ensures
+
 pub returns : goal.returns
 returns c =
     let said = map saying_in c.args.said.now in
-    let words = ap (map string_bytes) c.as_slice.ensures.value ∙ c.in-Ok.ensures in
+    let starts = sym c.in-Ok-starts.ensures in
     subst
-    (AnswersOrder c.read_written-order.result)
-    (ap order_of_written words ∙ sym (order_read said (sym c.in_default.ensures)))
-    c.read_written-order.ensures
+    (AnswersOrder c.with_others-order.result)
+    (ap (λ texts. with_others texts (Ok (ordered_by c.in-Ok.order))) (ap (map (λ word. word.now)) (c.after_first.ensures ∙ ap (drop 1) c.as_slice.ensures.value) ∙ sym (drop-map (λ word. word.now) 1 c.in-Ok-starts.starts.items) ∙ ap (drop 1) c.in-Ok-starts.ensures)
+    ∙ ap (with_others (others_in said)) (sym c.in-Ok.ensures)
+    ∙ sym (order_read said (sym c.in_default.ensures)))
+    c.with_others-order.ensures

@@ -13,14 +13,14 @@ pub loop-letters-smaller : goal.loop-letters-smaller
 loop-letters-smaller c =
     let some = sym c.is_empty.ensures ∙ c.loop-letters-test.true in
     let is = c.in-Goes.ensures ∙ ap (letter_in c.loop-letters.letters.now) c.option_rows.ensures in
-    fewer c.loop-letters.letters.now c.in-Goes.name.now c.in-Goes.rest.now some is
+    fewer c.loop-letters.letters.now c.in-Goes.name.now c.in-Goes.value.now c.in-Goes.rest.now some is
 
 pub loop-letters-preserved : goal.loop-letters-preserved
 loop-letters-preserved c =
     let before = c.loop-letters in
     let some = sym c.is_empty.ensures ∙ c.loop-letters-test.true in
     let is = c.in-Goes.ensures ∙ ap (letter_in before.letters.now) c.option_rows.ensures in
-    let goes = heard-goes c.args.word.now before.letters.now c.in-Goes.name.now c.in-Goes.rest.now some is in
+    let goes = heard-goes c.args.word.now before.letters.now c.in-Goes.name.now c.in-Goes.value.now c.in-Goes.rest.now some is in
     let more = (heard_letters c.args.word.now c.in-Goes.rest.now).said in
     record {
       said =
