@@ -5,6 +5,7 @@
 mod asking;
 mod disk;
 mod network;
+mod output;
 mod part_threads;
 mod shared_failures;
 mod stand_ins;
@@ -12,6 +13,7 @@ mod stand_ins;
 pub use crate::asking::Asking;
 pub use crate::disk::{Disk, Saved};
 pub use crate::network::Network;
+pub use crate::output::Output;
 pub use crate::part_threads::PartThreads;
 pub use crate::shared_failures::SharedFailures;
 pub use crate::stand_ins::StandIns;

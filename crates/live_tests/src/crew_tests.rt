@@ -60,7 +60,7 @@ impl<'a> Fetcher for Meeting<'a> {
         self.log.push(Ask::Page(at.try_clone()?))?;
         Ok(Answer {
             outcome: self.outcome(at)?,
-            body: Body::new(Vec::new(self.alloc)),
+            body: Body::none(self.alloc),
         })
     }
 

@@ -560,8 +560,8 @@ $ -A [a http://h/
 > line pattern
 = 2
 
-a directory without a slash
-$ -I a http://h/
+a directory with a class that isn't closed
+$ -I [a http://h/
 > line directory
 = 2
 
@@ -570,10 +570,14 @@ $ -D a/b http://h/
 > line domain
 = 2
 
-two starts
-$ http://h/ http://k/
-> line words
-= 2
+two starts, one of them twice
+$ --map http://k/ h/b http://k/
+< page 200 http://h/b
+< page 200 http://k/
+> 0 200 http://h/b h/b
+> 0 200 http://k/ k/index.html
+> fetched 2 kept 2 refused 0 failed 0
+= 0
 
 a site on the network
 $ http://h/
@@ -779,9 +783,9 @@ $ wgetr -r --workers 2 http://h/
 > fetched 2 kept 1 refused 0 failed 1
 = 8
 
-$ wgetr -q
+$ wgetr -F
 > line words
-! wgetr: unexpected argument found: -q (an option of Wget that wgetr doesn't have), in: -q
+! wgetr: unexpected argument found: -F (an option of Wget that wgetr doesn't have), in: -F
 ! wgetr --help says which words are accepted
 = 2
 
@@ -791,10 +795,10 @@ $ wgetr -A [a http://h/
 ! an element is a suffix, or a pattern with *, ? and classes as [a-z], each closed (see wgetr --help)
 = 2
 
-$ wgetr -X a http://h/
+$ wgetr -X [a http://h/
 > line directory
-! wgetr: an element of -I, --include-directories or -X, --exclude-directories is no directory, in: -X a http://h/
-! an element begins with / and has none of *, ?, [ and ] (see wgetr --help)
+! wgetr: an element of -I, --include-directories or -X, --exclude-directories is no directory, in: -X [a http://h/
+! an element is a directory, as /a or /a*/b, its classes as [a-z] closed and without / (see wgetr --help)
 = 2
 
 $ wgetr -D a*b http://h/
@@ -811,7 +815,7 @@ $ wgetr //example.org/
 
 $ wgetr https://h/
 > line start not-http
-! wgetr: START isn't an http address, and http alone is spoken: there is no TLS here, which https needs, in: https://h/
+! wgetr: START isn't an http address, and an https one needs --https-proxy, a proxy that speaks TLS, in: https://h/
 ? START is an address in full
 = 2
 
@@ -868,19 +872,18 @@ $ wgetr -r --max-urls 1 --save full http://h/
 > record not written
 = 1
 
-$ wgetr -h
-> line words
-? wgetr retrieves a site recursively
-= 2
+$ wgetr -V
+> wgetr 1.0
+= 0
 
-$ wgetr --version
-> line words
-! wgetr 1.0
-= 2
+$ wgetr -l x --version
+> wgetr 1.0
+= 0
 
-$ wgetr --help
+$ wgetr --levl --version
 > line words
-? wgetr retrieves a site recursively
+! wgetr: unexpected argument found: --levl (did you mean --level?), in: --levl --version
+! wgetr --help says which words are accepted
 = 2
 
 $ wgetr -r -l 1 -e robots=off --workers 1 --per-host 1 --map http://h/

@@ -122,11 +122,11 @@ impl Fetcher for Pages {
     ghost log = { λ s. s.map.asks };
 
     fn ask(&mut self, at: &Address) -> Result<Answer<Body>, AllocError> {
-        let Answer { outcome, body: _ } = self.map.ask(at)?;
+        let Answer { outcome, body } = self.map.ask(at)?;
         let path = at.path_query().as_bytes().to_vec(self.alloc)?;
         Ok(Answer {
             outcome,
-            body: Body::new(path),
+            body: Body::new(body.kind(), path),
         })
     }
 

@@ -28,7 +28,7 @@ use Rattle.workers.specs.Retrieval.{IsRetrieved, IsPartRetrieved, IsStopped}
 use Rattle.workers.specs.Sites.{Fits, IsCompleteFor}
 use Rattle.local_names.specs.Names.{IsNaming}
 use Rattle.local_names.specs.PlainNames.{plain_name_of}
-use Rattle.local_names.specs.Rules.{usual_rules}
+use Rattle.local_names.specs.declared.rules.NameRules.{NameRules}
 use Rattle.report.specs.Entries.{harvest_lines_of}
 use Rattle.report.specs.ExitStatus.{exit_status, outcomes_in}
 use Rattle.report.specs.Named.{named_pages}
@@ -41,6 +41,7 @@ use Rattle.retriever.specs.inner.Parts.{IsOutputOf, IsRetrievalTold, IsRead, is_
 use Rattle.retriever.specs.Retrieved.{IsPartOf, AreEventsOf, AreShown, HasStopped, Retrieved, Stopped, Finishes}
 use Rattle.retriever.specs.declared.told.Output.{Output}
 use Rattle.std.specs.declared.alloc.AllocError.{AllocError}
+use Rattle.kept_bodies.specs.Bodies.{BodyValue}
 use Rattle.retriever.specs.Site.{AreNamed, whole_of, without_bodies}
 use Rattle.retriever.proofs.FoundLaws.{are_lines}
 
@@ -52,7 +53,7 @@ map_fits site = record { outcomes = λ u x body says. ap Some (sym says.0); rule
 pub record_fits : (site : RecordedAnswers) → Fits (GivesAnswer site) (RecordGivesRules site) (whole_of (without_bodies site))
 record_fits site = record { outcomes = λ u x body says. ap Some (sym says.0); rules = λ o rules is. ap Some (sym is) }
 
-told_part : (may_say : Text → Outcome → List ℕ → Type 0) (may_rule : Text → RuleSetValue → Type 0) (whole m : Answers) → Fits may_say may_rule whole → IsTold may_say may_rule m
+told_part : (may_say : Text → Outcome → BodyValue → Type 0) (may_rule : Text → RuleSetValue → Type 0) (whole m : Answers) → Fits may_say may_rule whole → IsTold may_say may_rule m
     → IsPartOf m whole
 told_part may_say may_rule whole m fits told = record {
   outcomes = λ u x is. (let (body, says) = told.outcomes u x is in fits.outcomes u x body says);
@@ -70,41 +71,41 @@ none_shown false trace is = refl
 -- ---- a harvest
 
 -- the lines of a harvest have the names of its kept pages
-pub are_named : (plan : Plan) (h : Harvested (List ℕ)) (names : List (List ℕ)) → AreEntries h → AreRecords h → ArePages h → h.plan ≡ Some plan → IsOnce (keys h.state.entries)
-    → IsNaming (map (plain_name_of usual_rules) h.kept) names → AreNamed plan (harvest_lines_of h names)
-are_named plan h names are records pages follows once naming =
-    let long : length names ≡ length h.kept = naming.count ∙ length-map h.kept (plain_name_of usual_rules) in
+pub are_named : (plan : Plan) (rules : NameRules) (h : Harvested BodyValue) (names : List (List ℕ)) → AreEntries h → AreRecords h → ArePages h → h.plan ≡ Some plan → IsOnce (keys h.state.entries)
+    → IsNaming (map (plain_name_of rules) h.kept) names → AreNamed plan rules (harvest_lines_of h names)
+are_named plan rules h names are records pages follows once naming =
+    let long : length names ≡ length h.kept = naming.count ∙ length-map h.kept (plain_name_of rules) in
     let kept = subst (λ (o : Option Plan). MatchOption o (h.kept ≡ []) (λ plan. (u : Text) → Contains h.kept u ↔ IsKept plan (answers h.state) u)) follows pages.kept in
     record {
       kept = λ k d lt. line_to_keep plan h names are records once long kept _ (Contains-get_or (harvest_lines_of h names) k d lt);
-      names = subst (λ (given : List (List ℕ)). IsNaming (map (plain_name_of usual_rules) (named_pages (harvest_lines_of h names))) given) (sym (names_of_lines h names are records pages long))
-          (subst (λ (kept : List Text). IsNaming (map (plain_name_of usual_rules) kept) names) (sym (pages_of_lines h names are records pages long)) naming);
+      names = subst (λ (given : List (List ℕ)). IsNaming (map (plain_name_of rules) (named_pages (harvest_lines_of h names))) given) (sym (names_of_lines h names are records pages long))
+          (subst (λ (kept : List Text). IsNaming (map (plain_name_of rules) kept) names) (sym (pages_of_lines h names are records pages long)) naming);
     }
 
-pub retrieved : (order : Order) (may_say : Text → Outcome → List ℕ → Type 0) (may_rule : Text → RuleSetValue → Type 0) (whole : Answers) (asks : List Ask) (h : Harvested (List ℕ)) (names : List (List ℕ))
-    → Fits may_say may_rule whole → IsRetrieved may_say may_rule order.plan asks h → IsRead h → IsCompleteFor (policy order.plan) whole h.state → AreByCrew order.workers h.trace → IsNaming (map (plain_name_of usual_rules) h.kept) names
+pub retrieved : (order : Order) (may_say : Text → Outcome → BodyValue → Type 0) (may_rule : Text → RuleSetValue → Type 0) (whole : Answers) (asks : List Ask) (h : Harvested BodyValue) (names : List (List ℕ))
+    → Fits may_say may_rule whole → IsRetrieved may_say may_rule order.plan asks h → IsRead h → IsCompleteFor (policy order.plan) whole h.state → AreByCrew order.workers h.trace → IsNaming (map (plain_name_of order.names) h.kept) names
     → Finishes order whole (shown_of order.trace h.trace) (Retrieved (harvest_lines_of h names))
 retrieved order may_say may_rule whole asks h names fits is read complete by_one naming =
     let sound = subst (λ (o : Option Plan). IfSome o (λ plan. IsSound (policy plan) h.state)) is.follows read.3 in (
       are_lines (policy order.plan) whole h names read.0 read.1 sound.addresses sound.few complete is.quiet,
-      are_named order.plan h names read.0 read.1 read.2 is.follows sound.addresses naming,
+      are_named order.plan order.names h names read.0 read.1 read.2 is.follows sound.addresses naming,
       are_shown order.trace (AreEventsOf order.workers order.plan whole IsQuiet) h.trace (by_one, h.state, is.replay, told_part may_say may_rule whole (answers h.state) fits is.told, is.quiet),
     )
 
 -- the exit status of a report is that of its lines
-pub status_of : (order : Order) (h : Harvested (List ℕ)) (names : List (List ℕ)) → IsRead h → h.plan ≡ Some order.plan → exit_status (map (λ recorded. recorded.1) h.records) ≡ exit_status (outcomes_in (harvest_lines_of h names))
+pub status_of : (order : Order) (h : Harvested BodyValue) (names : List (List ℕ)) → IsRead h → h.plan ≡ Some order.plan → exit_status (map (λ recorded. recorded.1) h.records) ≡ exit_status (outcomes_in (harvest_lines_of h names))
 status_of order h names read follows =
     same_status h names read.0 read.1 (subst (λ (o : Option Plan). IfSome o (λ plan. IsSound (policy plan) h.state)) follows read.3).addresses
 
 -- ---- a stop
 
-stop_events : (order : Order) (may_say : Text → Outcome → List ℕ → Type 0) (may_rule : Text → RuleSetValue → Type 0) (whole : Answers) (asks : List Ask) (cause : Cause) (h : Harvested (List ℕ))
+stop_events : (order : Order) (may_say : Text → Outcome → BodyValue → Type 0) (may_rule : Text → RuleSetValue → Type 0) (whole : Answers) (asks : List Ask) (cause : Cause) (h : Harvested BodyValue)
     → Fits may_say may_rule whole → IsPartRetrieved may_say may_rule order.plan asks cause h → AreByCrew order.workers h.trace
     → AreShown order.trace (AreEventsOf order.workers order.plan whole (HasStopped cause)) (shown_of order.trace h.trace)
 stop_events order may_say may_rule whole asks cause h fits part by_one =
     are_shown order.trace (AreEventsOf order.workers order.plan whole (HasStopped cause)) h.trace (by_one, h.state, part.replay, told_part may_say may_rule whole (answers h.state) fits part.told, part.stopped)
 
-pub stopped : (order : Order) (may_say : Text → Outcome → List ℕ → Type 0) (may_rule : Text → RuleSetValue → Type 0) (whole : Answers) (asks : List Ask) (cause : Cause) (h : Harvested (List ℕ))
+pub stopped : (order : Order) (may_say : Text → Outcome → BodyValue → Type 0) (may_rule : Text → RuleSetValue → Type 0) (whole : Answers) (asks : List Ask) (cause : Cause) (h : Harvested BodyValue)
     → Fits may_say may_rule whole → (cause ≢ why.Mismatch → IsStopped may_say may_rule order.plan asks cause h)
     → (cause ≡ why.Full → HasTooMany (policy order.plan) whole) → (order.workers ≡ 1 → cause ≢ why.Mismatch) → (cause ≢ why.Mismatch → AreByCrew order.workers h.trace)
     → Finishes order whole (shown_of (is_borne_out cause && order.trace) h.trace) (Stopped cause)
@@ -123,13 +124,13 @@ stopped order may_say may_rule whole asks why.Mismatch h fits stop many never by
 -- ---- either
 
 -- what is told of either is told of how the retrieval of the site finishes
-pub told_finishes : (order : Order) (may_say : Text → Outcome → List ℕ → Type 0) (may_rule : Text → RuleSetValue → Type 0) (whole : Answers) (asks : List Ask) (r : Result (Harvested (List ℕ)) (Halt (List ℕ)))
+pub told_finishes : (order : Order) (may_say : Text → Outcome → BodyValue → Type 0) (may_rule : Text → RuleSetValue → Type 0) (whole : Answers) (asks : List Ask) (r : Result (Harvested BodyValue) (Halt BodyValue))
     (result : Result Output AllocError) → Fits may_say may_rule whole → IfOk r (λ h. IsRetrieved may_say may_rule order.plan asks h)
     → IfOk r (λ h. IsCompleteFor (policy order.plan) whole h.state)
     → IfErr r (λ halt. halt.cause ≢ why.Mismatch → IsStopped may_say may_rule order.plan asks halt.cause halt.harvest)
     → IfErr r (λ halt. halt.cause ≡ why.Full → HasTooMany (policy order.plan) whole) → (order.workers ≡ 1 → IfErr r (λ halt. halt.cause ≢ why.Mismatch))
     → IfOk r (λ h. AreByCrew order.workers h.trace) × IfErr r (λ halt. halt.cause ≢ why.Mismatch → AreByCrew order.workers halt.harvest.trace)
-    → IfOk result (λ output. IsRetrievalTold order.trace r (string_bytes output.text) output.status) → IfOk result (λ output. IsOutputOf order whole (string_bytes output.text) output.status)
+    → IfOk result (λ output. IsRetrievalTold order.names order.trace r (string_bytes output.text) output.status) → IfOk result (λ output. IsOutputOf order whole (string_bytes output.text) output.status)
 told_finishes order may_say may_rule whole asks (Ok h) (Ok output) fits is complete stop many never by told =
     let (read, names, naming, text, status) = told in
     record {
@@ -150,7 +151,7 @@ told_finishes order may_say may_rule whole asks (Err halt) (Ok output) fits is c
 told_finishes order may_say may_rule whole asks r (Err e) fits is complete stop many never by told = told
 
 -- copies fit where the site does
-pub copies_fit : {F : Type 0} (m : Meaning F (List ℕ)) (whole : Answers) (one : F) (count : ℕ) (copies : List F) → copies ≡ replicate count one → Fits (m.says (m.site one)) (m.rules (m.site one)) whole
+pub copies_fit : {F : Type 0} (m : Meaning F BodyValue) (whole : Answers) (one : F) (count : ℕ) (copies : List F) → copies ≡ replicate count one → Fits (m.says (m.site one)) (m.rules (m.site one)) whole
     → AllFit m copies whole
 copies_fit {F = F} m whole one count copies are fits =
     subst (λ (fs : List F). AllFit m fs whole) (sym are) (All-replicate (λ (copy : F). Fits (m.says (m.site copy)) (m.rules (m.site copy)) whole) count one fits)

@@ -3,6 +3,7 @@ use Rattle.std.proofs.Common.{◌≡◌, ◌≢◌, ◌⊎◌, ◌∙◌, ◌++�
 use Rattle.std.specs.Prelude.{IfSome, IfOk, IfErr, Result, Ok, Err}
 use Rattle.std.specs.List.{AllZip}
 use Rattle.std.proofs.lemmas.List.{length-map}
+use Rattle.kept_bodies.specs.Bodies.{BodyValue}
 use Rattle.follow_filters.specs.declared.plan.Plan.{Plan}
 use Rattle.options.specs.declared.order.Order.{Order}
 use Rattle.fetcher.specs.declared.fetcher.Fetcher.{Ghosts as Meaning}
@@ -26,7 +27,7 @@ use Rattle.workers.specs.declared.retrieval.Halt.{Halt}
 use Rattle.local_tree.specs.Folders.{Holding}
 use Rattle.local_names.specs.Names.{IsNaming}
 use Rattle.local_names.specs.PlainNames.{plain_name_of}
-use Rattle.local_names.specs.Rules.{usual_rules}
+use Rattle.local_names.specs.declared.rules.NameRules.{NameRules}
 use Rattle.local_tree.specs.SiteFiles.{IsWhole, IsTorn}
 use Rattle.report.specs.Entries.{harvest_lines_of}
 use Rattle.report.specs.Named.{names_in}
@@ -56,11 +57,11 @@ complete_for p s complete = record {
 
 -- ---- a harvest
 
-retrieved : {F : Type 0} (crew : Crew F) (plan : Plan) (h : Harvested (List ℕ)) (names : List (List ℕ)) → IsRetrieved (MaySay crew) (MaySayRules crew) plan (asks_of crew) h → IsRead h
-    → IsNaming (map (plain_name_of usual_rules) h.kept) names → AreOfCrew crew h.trace → IsRetrievedLive crew plan h.trace (harvest_lines_of h names) h.bodies
-retrieved crew plan h names is read naming by =
+retrieved : {F : Type 0} (crew : Crew F) (plan : Plan) (rules : NameRules) (h : Harvested BodyValue) (names : List (List ℕ)) → IsRetrieved (MaySay crew) (MaySayRules crew) plan (asks_of crew) h → IsRead h
+    → IsNaming (map (plain_name_of rules) h.kept) names → AreOfCrew crew h.trace → IsRetrievedLive crew plan rules h.trace (harvest_lines_of h names) h.bodies
+retrieved crew plan rules h names is read naming by =
     let sound = subst (λ (o : Option Plan). IfSome o (λ plan. IsSound (policy plan) h.state)) is.follows read.3 in
-    let long : length names ≡ length h.kept = naming.count ∙ length-map h.kept (plain_name_of usual_rules) in
+    let long : length names ≡ length h.kept = naming.count ∙ length-map h.kept (plain_name_of rules) in
     record {
       state = h.state;
       replay = is.replay;
@@ -69,16 +70,16 @@ retrieved crew plan h names is read naming by =
       found = record {
         asked = are_asked (MaySay crew) (MaySayRules crew) plan (asks_of crew) h.state is.once is.recorded is.complete is.told;
         reported = are_lines (policy plan) (answers h.state) h names read.0 read.1 sound.addresses sound.few (complete_for (policy plan) h.state is.complete) is.quiet;
-        named = are_named plan h names read.0 read.1 read.2 is.follows sound.addresses naming;
+        named = are_named plan rules h names read.0 read.1 read.2 is.follows sound.addresses naming;
         kept = subst (λ (pages : List Text). AllZip (IsBodyOf (MaySay crew) (answers h.state)) pages h.bodies) (sym (pages_of_lines h names read.0 read.1 read.2 long)) is.bodies;
       };
     }
 
 -- the names in the lines of a harvest are those that were given
-given : (h : Harvested (List ℕ)) (names : List (List ℕ)) → IsRead h → IsNaming (map (plain_name_of usual_rules) h.kept) names → names ≡ names_in (harvest_lines_of h names)
-given h names read naming = sym (names_of_lines h names read.0 read.1 read.2 (naming.count ∙ length-map h.kept (plain_name_of usual_rules)))
+given : (rules : NameRules) (h : Harvested BodyValue) (names : List (List ℕ)) → IsRead h → IsNaming (map (plain_name_of rules) h.kept) names → names ≡ names_in (harvest_lines_of h names)
+given rules h names read naming = sym (names_of_lines h names read.0 read.1 read.2 (naming.count ∙ length-map h.kept (plain_name_of rules)))
 
-part_retrieved : {F : Type 0} (crew : Crew F) (plan : Plan) (cause : Cause) (h : Harvested (List ℕ)) → IsPartRetrieved (MaySay crew) (MaySayRules crew) plan (asks_of crew) cause h
+part_retrieved : {F : Type 0} (crew : Crew F) (plan : Plan) (cause : Cause) (h : Harvested BodyValue) → IsPartRetrieved (MaySay crew) (MaySayRules crew) plan (asks_of crew) cause h
     → (cause ≡ why.Full → HasTooMany (policy plan) (answers h.state)) → AreOfCrew crew h.trace → IsStoppedLive crew plan cause h.trace
 part_retrieved crew plan cause h part many by = record {
   state = h.state;
@@ -102,7 +103,7 @@ module _ {F : Type 0} (crew : Crew F) (order : Order) (old new : Holding) (IsTol
   abbrev pub EndsTold : Type 0
   EndsTold = (shown : List Event) × (ending : LiveEnd) × EndsLive crew order old new shown ending × IsTold (trace_text shown ++ live_text ending) (live_status ending)
 
-  ended : (h : Harvested (List ℕ)) → IsRetrieved (MaySay crew) (MaySayRules crew) order.plan (asks_of crew) h → AreOfCrew crew h.trace → IsPutOf IsTold order.trace (Ok h) old new → EndsTold
+  ended : (h : Harvested BodyValue) → IsRetrieved (MaySay crew) (MaySayRules crew) order.plan (asks_of crew) h → AreOfCrew crew h.trace → IsPutOf IsTold order.names order.trace (Ok h) old new → EndsTold
   ended h is by (inl (same, told)) = ([], Finished (Stopped why.Memory), (made_once (asks_of crew) is.once, inl refl, inl same), told)
   ended h is by (inr (read, names, naming, inl (whole, quiet, told))) =
       let lines = harvest_lines_of h names in (
@@ -111,9 +112,9 @@ module _ {F : Type 0} (crew : Crew F) (order : Order) (old new : Holding) (IsTol
         (
           h.trace,
           h.bodies,
-          retrieved crew order.plan h names is read naming by,
+          retrieved crew order.plan order.names h names is read naming by,
           refl,
-          (subst (λ (given : List (List ℕ)). IsWhole given h.bodies old.files new.files) (given h names read naming) whole, quiet),
+          (subst (λ (given : List (List ℕ)). IsWhole given h.bodies old.files new.files) (given order.names h names read naming) whole, quiet),
         ),
         subst (λ (wanted : ℕ). IsTold (trace_text (shown_of order.trace h.trace) ++ report_text lines) wanted) (status_of order h names read is.follows) told,
       )
@@ -124,9 +125,9 @@ module _ {F : Type 0} (crew : Crew F) (order : Order) (old new : Holding) (IsTol
         (
           h.trace,
           h.bodies,
-          retrieved crew order.plan h names is read naming by,
+          retrieved crew order.plan order.names h names is read naming by,
           refl,
-          subst (λ (given : List (List ℕ)). IsTorn given h.bodies old new whole) (given h names read naming) torn,
+          subst (λ (given : List (List ℕ)). IsTorn given h.bodies old new whole) (given order.names h names read naming) torn,
         ),
         subst (λ (text : List ℕ). IsTold text 3) (append_assoc (trace_text (shown_of order.trace h.trace)) (report_text lines) (torn_line whole)) told,
       )
@@ -141,20 +142,20 @@ module _ {F : Type 0} (crew : Crew F) (order : Order) (old new : Holding) (IsTol
         harvest_lines_of h names,
         h.bodies,
         whole,
-        retrieved crew order.plan h names is read naming by,
-        subst (λ (given : List (List ℕ)). IsTorn given h.bodies old new whole) (given h names read naming) torn,
+        retrieved crew order.plan order.names h names is read naming by,
+        subst (λ (given : List (List ℕ)). IsTorn given h.bodies old new whole) (given order.names h names read naming) torn,
       ),
     ),
     told,
   )
 
   -- a stop whose trace there was memory for
-  part_stopped : (cause : Cause) (h : Harvested (List ℕ)) → IsStopped (MaySay crew) (MaySayRules crew) order.plan (asks_of crew) cause h → (cause ≡ why.Full → HasTooMany (policy order.plan) (answers h.state))
+  part_stopped : (cause : Cause) (h : Harvested BodyValue) → IsStopped (MaySay crew) (MaySayRules crew) order.plan (asks_of crew) cause h → (cause ≡ why.Full → HasTooMany (policy order.plan) (answers h.state))
       → AreOfCrew crew h.trace → (shown_of order.trace h.trace ≡ []) ⊎ ((events : List Event) × IsStoppedLive crew order.plan cause events × (shown_of order.trace h.trace ≡ shown_of order.trace events))
   part_stopped cause h (inl part) many by = inr (h.trace, part_retrieved crew order.plan cause h part many by, refl)
   part_stopped cause h (inr empty) many by = inl (none_shown order.trace h.trace empty.trace)
 
-  stopped : (cause : Cause) (h : Harvested (List ℕ)) → (cause ≢ why.Mismatch → IsStopped (MaySay crew) (MaySayRules crew) order.plan (asks_of crew) cause h) → (cause ≡ why.Full → HasTooMany (policy order.plan) (answers h.state))
+  stopped : (cause : Cause) (h : Harvested BodyValue) → (cause ≢ why.Mismatch → IsStopped (MaySay crew) (MaySayRules crew) order.plan (asks_of crew) cause h) → (cause ≡ why.Full → HasTooMany (policy order.plan) (answers h.state))
       → (length crew.first ≡ 1 → cause ≢ why.Mismatch) → (cause ≢ why.Mismatch → AreOfCrew crew h.trace) → new ≡ old → IsHaltTold IsTold order.trace (record { cause = cause; harvest = h }) → EndsTold
   stopped why.Full h stop many one by same (inl told) =
       elim (stop (λ is. cc)) [
@@ -178,18 +179,18 @@ module _ {F : Type 0} (crew : Crew F) (order : Order) (old new : Holding) (IsTol
 
 module _ {F : Type 0} (crew : Crew F) where
   -- what is put and told of what a crew retrieved is an end, by what is known of its fetchers
-  pub crew_ends : (order : Order) (r : Result (Harvested (List ℕ)) (Halt (List ℕ))) (old new : Holding) (IsTold : List ℕ → ℕ → Type 0) → IfOk r (IsRetrieved (MaySay crew) (MaySayRules crew) order.plan (asks_of crew))
+  pub crew_ends : (order : Order) (r : Result (Harvested BodyValue) (Halt BodyValue)) (old new : Holding) (IsTold : List ℕ → ℕ → Type 0) → IfOk r (IsRetrieved (MaySay crew) (MaySayRules crew) order.plan (asks_of crew))
       → IfErr r (λ halt. halt.cause ≢ why.Mismatch → IsStopped (MaySay crew) (MaySayRules crew) order.plan (asks_of crew) halt.cause halt.harvest)
       → IfErr r (λ halt. halt.cause ≡ why.Full → HasTooMany (policy order.plan) (answers halt.harvest.state) × IsOverfull (policy order.plan) halt.harvest.state)
       → (length crew.first ≡ 1 → IfErr r (λ halt. halt.cause ≢ why.Mismatch))
       → IfOk r (λ h. AreOfCrew crew h.trace) × IfErr r (λ halt. halt.cause ≢ why.Mismatch → AreOfCrew crew halt.harvest.trace)
-      → IsPutOf IsTold order.trace r old new → EndsTold crew order old new IsTold
+      → IsPutOf IsTold order.names order.trace r old new → EndsTold crew order old new IsTold
   crew_ends order (Ok h) old new IsTold is stop full one by put = ended crew order old new IsTold h is by.0 put
   crew_ends order (Err halt) old new IsTold is stop full one by put =
       stopped crew order old new IsTold halt.cause halt.harvest stop (λ why. (full why).0) one by.1 put.0 put.1
 
   -- what two clauses say of a crew's trace is what one says
-  pub of_crew : (r : Result (Harvested (List ℕ)) (Halt (List ℕ))) (count : ℕ) → count ≡ length crew.first
+  pub of_crew : (r : Result (Harvested BodyValue) (Halt BodyValue)) (count : ℕ) → count ≡ length crew.first
       → IfOk r (λ h. AreByCrew count h.trace) × IfErr r (λ halt. halt.cause ≢ why.Mismatch → AreByCrew count halt.harvest.trace)
       → IfOk r (λ h. AreOwn crew.means 0 crew.first crew.left h.trace)
       × IfErr r (λ halt. halt.cause ≢ why.Mismatch → AreOwn crew.means 0 crew.first crew.left halt.harvest.trace)
@@ -198,7 +199,7 @@ module _ {F : Type 0} (crew : Crew F) where
   of_crew (Err halt) count long numbered own = (tt, λ other. (subst (λ (n : ℕ). AreByCrew n halt.harvest.trace) long (numbered.1 other), own.1 other))
 
 -- an end whose text is delivered is a live retrieval
-pub lives_from : {F E : Type 0} (m : Meaning F (List ℕ)) (order : Order) (olds news : List F) (before after : Outside) (told : Result ℕ E) (status : ℕ) → AreLater m olds news → status ≡ status_told told
+pub lives_from : {F E : Type 0} (m : Meaning F BodyValue) (order : Order) (olds news : List F) (before after : Outside) (told : Result ℕ E) (status : ℕ) → AreLater m olds news → status ≡ status_told told
     → EndsTold (crew_of m olds news) order before.folder after.folder (IsToldAs before.written after.written told) → Lives m order olds before after status
 lives_from m order olds news before after told status later same (shown, ending, ends, written) = record {
   left = news;
@@ -235,7 +236,7 @@ untraced_end crew order old new shown (Finished (Stopped why.Memory)) (once, inr
 untraced_end crew order old new shown (Finished (Stopped why.Mismatch)) (many, none, same) off = ap trace_text none
 
 -- a live retrieval found what it comes to
-pub finds_of_lives : {F : Type 0} (m : Meaning F (List ℕ)) (order : Order) (fetchers : List F) (before after : Outside) (status : ℕ) → Lives m order fetchers before after status
+pub finds_of_lives : {F : Type 0} (m : Meaning F BodyValue) (order : Order) (fetchers : List F) (before after : Outside) (status : ℕ) → Lives m order fetchers before after status
     → Finds m order fetchers before after status
 finds_of_lives m order fetchers before after status lives =
     let crew = crew_of m fetchers lives.left in

@@ -1,6 +1,6 @@
 -- The report of a retrieval is determined by its plan and the whole site: by whatever words, by however many workers, it is the
 -- same text, byte for byte.
-use Rattle.std.proofs.Common.{◌≡◌, ℕ, List, Some, map, refl, sym, ap, ◌∙◌, subst, arith}
+use Rattle.std.proofs.Common.{◌≡◌, ℕ, List, [], ◌∷◌, Some, map, refl, sym, ap, ◌∙◌, subst, arith}
 use Rattle.std.specs.Prelude.{◌&&◌, is_some}
 use Rattle.follow_filters.specs.Rules.{keeps_of}
 use Rattle.std.specs.List.{AllZip}
@@ -12,7 +12,7 @@ use Rattle.frontier_core.specs.Tables.{Text}
 use Rattle.frontier_core.specs.declared.event.Event.{Event}
 use Rattle.local_names.specs.Names.{IsNaming}
 use Rattle.local_names.specs.PlainNames.{plain_name_of}
-use Rattle.local_names.specs.Rules.{usual_rules}
+use Rattle.local_names.specs.declared.rules.NameRules.{NameRules}
 use Rattle.local_names.proofs.NamingLaws.{IsNaming-sole}
 use Rattle.options.specs.declared.order.Order.{Order}
 use Rattle.report.specs.Named.{is_to_keep, has_succeeded, named_pages, names_in}
@@ -32,8 +32,8 @@ sole_fate p m u Refused (Asked x) one other = absurd (false≢true (sym one ∙ 
 sole_fate p m u Refused Refused one other = refl
 
 -- each line of the one report has its like in the other
-each_told : (plan : Plan) (m : Answers) (xs ys : List Line) → AreLines (policy plan) m xs → AreLines (policy plan) m ys → AreNamed plan xs → AreNamed plan ys → HasEach xs ys
-each_told plan m xs ys lines others named others_named a (k, lt, is) =
+each_told : (plan : Plan) (rules : NameRules) (m : Answers) (xs ys : List Line) → AreLines (policy plan) m xs → AreLines (policy plan) m ys → AreNamed plan rules xs → AreNamed plan rules ys → HasEach xs ys
+each_told plan rules m xs ys lines others named others_named a (k, lt, is) =
     let p = policy plan in
     let one : IsDepth p m a.address a.depth × IsFate p m a.address a.fate = subst (λ (line : Line). IsDepth p m line.address line.depth × IsFate p m line.address line.fate) is (lines.each k a lt) in
     let (i, b, within, at, same) = others.all a.address (one.0.reached.0, a.depth, one.0.reached.1) in
@@ -47,17 +47,27 @@ each_told plan m xs ys lines others named others_named a (k, lt, is) =
     (b, (i, within, at), record { address = sym same; depth = depth; fate = fate; named = kept ∙ (alike ∙ sym kept') })
 
 -- what is known of a site has the lines of one report
-pub sole_lines : (plan : Plan) (m : Answers) (xs ys : List Line) → AreLines (policy plan) m xs → AreLines (policy plan) m ys → AreNamed plan xs → AreNamed plan ys → xs ≡ ys
-sole_lines plan m xs ys lines others named others_named =
+pub sole_lines : (plan : Plan) (rules : NameRules) (m : Answers) (xs ys : List Line) → AreLines (policy plan) m xs → AreLines (policy plan) m ys → AreNamed plan rules xs → AreNamed plan rules ys → xs ≡ ys
+sole_lines plan rules m xs ys lines others named others_named =
     let alike : AllZip AreAlike xs ys =
-    all_alike xs ys lines.ascending others.ascending (each_told plan m xs ys lines others named others_named) (each_told plan m ys xs others lines others_named named) in
-    let naming = subst (λ (pages : List Text). IsNaming (map (plain_name_of usual_rules) pages) (names_in xs)) (same_pages xs ys alike) named.names in
-    same_lines xs ys alike (IsNaming-sole (map (plain_name_of usual_rules) (named_pages ys)) (names_in ys) (names_in xs) others_named.names naming)
+    all_alike xs ys lines.ascending others.ascending (each_told plan rules m xs ys lines others named others_named) (each_told plan rules m ys xs others lines others_named named) in
+    let naming = subst (λ (pages : List Text). IsNaming (map (plain_name_of rules) pages) (names_in xs)) (same_pages xs ys alike) named.names in
+    same_lines xs ys alike (IsNaming-sole (map (plain_name_of rules) (named_pages ys)) (names_in ys) (names_in xs) others_named.names naming)
 
--- orders of one plan, of one site, come to one report, however many workers each orders and whatever is shown of their traces
-pub sole_report : (order other : Order) (whole : Answers) (shown others : List Event) (xs ys : List Line) → order.plan ≡ other.plan → Finishes order whole shown (Retrieved xs)
+-- rules by which each page has one plain name have one naming
+same_named : (plan : Plan) (rules others : NameRules) (lines : List Line) → ((page : Text) → plain_name_of rules page ≡ plain_name_of others page) → AreNamed plan rules lines → AreNamed plan others lines
+same_named plan rules others lines same named =
+    record { kept = named.kept; names = subst (λ plain. IsNaming plain (names_in lines)) (same_map (named_pages lines)) named.names }
+  where
+    same_map : (pages : List Text) → map (plain_name_of rules) pages ≡ map (plain_name_of others) pages
+    same_map [] = refl
+    same_map (page ∷ pages) = ap (λ name. name ∷ map (plain_name_of rules) pages) (same page) ∙ ap (λ names. plain_name_of others page ∷ names) (same_map pages)
+
+-- orders of one plan, by whose rules each page has one plain name, come to one report of one site, however many workers each orders
+-- and whatever is shown of their traces
+pub sole_report : (order other : Order) (whole : Answers) (shown others : List Event) (xs ys : List Line) → order.plan ≡ other.plan → ((page : Text) → plain_name_of order.names page ≡ plain_name_of other.names page) → Finishes order whole shown (Retrieved xs)
     → Finishes other whole others (Retrieved ys) → finish_text (Retrieved xs) ≡ finish_text (Retrieved ys)
-sole_report order other whole shown others xs ys plans one two =
+sole_report order other whole shown others xs ys plans names one two =
     let lines = subst (λ (plan : Plan). AreLines (policy plan) whole xs) plans one.0 in
-    let named = subst (λ (plan : Plan). AreNamed plan xs) plans one.1 in
-    ap report_text (sole_lines other.plan whole xs ys lines two.0 named two.1)
+    let named = same_named other.plan order.names other.names xs names (subst (λ (plan : Plan). AreNamed plan order.names xs) plans one.1) in
+    ap report_text (sole_lines other.plan other.names whole xs ys lines two.0 named two.1)

@@ -3,8 +3,10 @@
 use Rattle.std.specs.Prelude.{◌≡◌, ◌≢◌, ◌⊎◌, ℕ, List, [], ◌++◌, length, codes, Option, Contains, false}
 use Rattle.std.specs.Fmt.{decimal}
 use Rattle.std.specs.List.{AllZip}
+use Rattle.kept_bodies.specs.Bodies.{BodyValue}
 use Rattle.follow_filters.specs.declared.plan.Plan.{Plan}
 use Rattle.options.specs.declared.order.Order.{Order}
+use Rattle.local_names.specs.declared.rules.NameRules.{NameRules}
 use Rattle.fetcher.specs.declared.fetcher.Ask.{Ask}
 use Rattle.fetcher.specs.declared.fetcher.Ask.TheVariants as ask
 use Rattle.fetcher.specs.declared.fetcher.Fetcher.{Ghosts as Meaning}
@@ -31,16 +33,16 @@ use Rattle.retriever.specs.Site.{AreLines, AreNamed}
 
 -- what the fetchers of a retrieval mean, and what they are at its start and at its end, in their order
 pub record Crew (F : Type 0) : Type 1 where
-  pub means : Meaning F (List ℕ)
+  pub means : Meaning F BodyValue
   pub first : List F
   pub left : List F
 
 -- the fetchers of this meaning that were those and are these
-abbrev pub crew_of : {F : Type 0} → Meaning F (List ℕ) → List F → List F → Crew F
+abbrev pub crew_of : {F : Type 0} → Meaning F BodyValue → List F → List F → Crew F
 crew_of m first left = record { means = m; first = first; left = left }
 
 -- some fetcher that was asked for the address may say this of it
-abbrev pub MaySay : {F : Type 0} → Crew F → Text → Outcome → List ℕ → Type 0
+abbrev pub MaySay : {F : Type 0} → Crew F → Text → Outcome → BodyValue → Type 0
 MaySay crew = SomeSays crew.means crew.first crew.left
 
 -- some fetcher that was asked for the origin's rules may say that they are these
@@ -54,11 +56,12 @@ asks_of crew = all_gained crew.means crew.first crew.left
 -- ---- what was found
 
 -- Just this is recorded of what the fetchers were asked, each ask made once. The lines are those of the breadth-first retrieval of
--- what is recorded, and the bodies those of the pages with names, each one that the fetchers may have answered.
-pub record IsFound {F : Type 0} (crew : Crew F) (plan : Plan) (recorded_as : Answers) (lines : List Line) (bodies : List (List ℕ)) : Type 0 where
+-- what is recorded, whose pages have their names by these rules, and the bodies those of the pages with names, each one that the
+-- fetchers may have answered.
+pub record IsFound {F : Type 0} (crew : Crew F) (plan : Plan) (rules : NameRules) (recorded_as : Answers) (lines : List Line) (bodies : List BodyValue) : Type 0 where
   pub asked : AreAsked (MaySay crew) (MaySayRules crew) plan (asks_of crew) recorded_as
   pub reported : AreLines (policy plan) recorded_as lines
-  pub named : AreNamed plan lines
+  pub named : AreNamed plan rules lines
   pub kept : AllZip (IsBodyOf (MaySay crew) recorded_as) (named_pages lines) bodies
 
 -- This is recorded of what the fetchers were asked before the retrieval stopped: what was asked for, each once, is wanted by what
@@ -101,11 +104,11 @@ live_status (Finished finish) = finish_status finish
 live_status (Torn lines whole) = 3
 
 -- so many of the files of these lines are whole, the next may hold anything, and all else is as before
-abbrev pub IsTornAt : List Line → List (List ℕ) → Holding → Holding → ℕ → Type 0
+abbrev pub IsTornAt : List Line → List BodyValue → Holding → Holding → ℕ → Type 0
 IsTornAt lines bodies old new whole = IsTorn (names_in lines) bodies old new whole
 
 -- all files of these lines are whole, and all else is as before
-abbrev pub IsWholeAt : List Line → List (List ℕ) → Holding → Holding → Type 0
+abbrev pub IsWholeAt : List Line → List BodyValue → Holding → Holding → Type 0
 IsWholeAt lines bodies old new = IsWhole (names_in lines) bodies old.files new.files × (new.failed ≡ old.failed)
 
 -- The retrieval that is ordered found what is to be found, and this came of it. Before its end nothing is put into the folder.
@@ -113,20 +116,20 @@ IsWholeAt lines bodies old new = IsWhole (names_in lines) bodies old.files new.f
 -- and may do so when a put has failed. A check of several workers may fail; then nothing more is said.
 abbrev pub EndsFound : {F : Type 0} → Crew F → Order → Holding → Holding → LiveEnd → Type 0
 EndsFound crew order old new (Finished (Retrieved lines)) =
-    (m : Answers) × (bodies : List (List ℕ)) × IsFound crew order.plan m lines bodies × IsWholeAt lines bodies old new
+    (m : Answers) × (bodies : List BodyValue) × IsFound crew order.plan order.names m lines bodies × IsWholeAt lines bodies old new
 EndsFound crew order old new (Torn lines whole) =
-    (m : Answers) × (bodies : List (List ℕ)) × IsFound crew order.plan m lines bodies × IsTornAt lines bodies old new whole
+    (m : Answers) × (bodies : List BodyValue) × IsFound crew order.plan order.names m lines bodies × IsTornAt lines bodies old new whole
 EndsFound crew order old new (Finished (Stopped cause.Full)) = (m : Answers) × IsPartFound crew order.plan m × HasTooMany (policy order.plan) m × (new ≡ old)
 EndsFound crew order old new (Finished (Stopped cause.Memory)) =
     AreMadeOnce (asks_of crew)
-    × ((new ≡ old) ⊎ ((m : Answers) × (lines : List Line) × (bodies : List (List ℕ)) × (whole : ℕ) × IsFound crew order.plan m lines bodies
+    × ((new ≡ old) ⊎ ((m : Answers) × (lines : List Line) × (bodies : List BodyValue) × (whole : ℕ) × IsFound crew order.plan order.names m lines bodies
     × IsTornAt lines bodies old new whole))
 EndsFound crew order old new (Finished (Stopped cause.Mismatch)) = (length crew.first ≢ 1) × (new ≡ old)
 
 -- A live retrieval with these fetchers, one for each worker: it found what is to be found, by what the fetchers were asked and
 -- may have answered until its end. Either the writer gained that end's text, behind a trace where one is ordered, and the
 -- status is the end's, or the writer failed behind a front of it, and the status is 1.
-pub record Finds {F : Type 0} (m : Meaning F (List ℕ)) (order : Order) (fetchers : List F) (before after : Outside) (status : ℕ) : Type 0 where
+pub record Finds {F : Type 0} (m : Meaning F BodyValue) (order : Order) (fetchers : List F) (before after : Outside) (status : ℕ) : Type 0 where
   pub left : List F
   pub later : AreLater m fetchers left
   pub ending : LiveEnd

@@ -50,7 +50,7 @@ TellsFault IsWrong known fault.Memory = Unit {0}
 -- This is found of a whole site: the lines of its report, or more addresses than the plan lets be held. Memory may run out at any
 -- time, and a check of several workers may fail.
 abbrev pub IsFoundOf : Order → Answers → Finish → Type 0
-IsFoundOf order whole (Retrieved lines) = AreLines (policy order.plan) whole lines × AreNamed order.plan lines
+IsFoundOf order whole (Retrieved lines) = AreLines (policy order.plan) whole lines × AreNamed order.plan order.names lines
 IsFoundOf order whole (Stopped cause.Full) = HasTooMany (policy order.plan) whole
 IsFoundOf order whole (Stopped cause.Memory) = Unit {0}
 IsFoundOf order whole (Stopped cause.Mismatch) = order.workers ≢ 1

@@ -5,6 +5,7 @@ pub mod Run
 pub mod Parts
 pub mod InputFound
 pub mod Advice
+pub mod Telling
 pub mod Program
 pub mod Found
 pub mod Live

@@ -1,7 +1,9 @@
 -- How a live retrieval came to what it found: the events that led there, and what is shown of them.
 use Rattle.std.specs.Prelude.{◌≡◌, ◌≢◌, ◌⊎◌, ℕ, List, [], ◌++◌, length, Some}
+use Rattle.kept_bodies.specs.Bodies.{BodyValue}
 use Rattle.follow_filters.specs.declared.plan.Plan.{Plan}
 use Rattle.options.specs.declared.order.Order.{Order}
+use Rattle.local_names.specs.declared.rules.NameRules.{NameRules}
 use Rattle.fetcher.specs.declared.fetcher.Fetcher.{Ghosts as Meaning}
 use Rattle.frontier_core.specs.Routes.{HasTooMany}
 use Rattle.frontier_core.specs.Machine.{State, answers, IsQuiet}
@@ -30,12 +32,12 @@ abbrev pub AreOfCrew : {F : Type 0} → Crew F → List Event → Type 0
 AreOfCrew crew events = AreByCrew (length crew.first) events × AreOwn crew.means 0 crew.first crew.left events
 
 -- The fetchers were asked, and these events of their workers happened, until nothing was left to do, and this was found.
-pub record IsRetrievedLive {F : Type 0} (crew : Crew F) (plan : Plan) (events : List Event) (lines : List Line) (bodies : List (List ℕ)) : Type 0 where
+pub record IsRetrievedLive {F : Type 0} (crew : Crew F) (plan : Plan) (rules : NameRules) (events : List Event) (lines : List Line) (bodies : List BodyValue) : Type 0 where
   pub state : State
   pub replay : IsReplay (policy plan) events state
   pub by : AreOfCrew crew events
   pub quiet : IsQuiet state
-  pub found : IsFound crew plan (answers state) lines bodies
+  pub found : IsFound crew plan rules (answers state) lines bodies
 
 -- The fetchers were asked, and these events of their workers happened, until the retrieval stopped for the cause: what was
 -- asked for is recorded or was given up. The table is full only where what is recorded has more candidates than the plan lets be
@@ -56,23 +58,23 @@ pub record IsStoppedLive {F : Type 0} (crew : Crew F) (plan : Plan) (why : Cause
 -- nothing more is said.
 abbrev pub EndsLive : {F : Type 0} → Crew F → Order → Holding → Holding → List Event → LiveEnd → Type 0
 EndsLive crew order old new shown (Finished (Retrieved lines)) =
-    (events : List Event) × (bodies : List (List ℕ)) × IsRetrievedLive crew order.plan events lines bodies × (shown ≡ shown_of order.trace events)
+    (events : List Event) × (bodies : List BodyValue) × IsRetrievedLive crew order.plan order.names events lines bodies × (shown ≡ shown_of order.trace events)
     × IsWholeAt lines bodies old new
 EndsLive crew order old new shown (Torn lines whole) =
-    (events : List Event) × (bodies : List (List ℕ)) × IsRetrievedLive crew order.plan events lines bodies × (shown ≡ shown_of order.trace events)
+    (events : List Event) × (bodies : List BodyValue) × IsRetrievedLive crew order.plan order.names events lines bodies × (shown ≡ shown_of order.trace events)
     × IsTornAt lines bodies old new whole
 EndsLive crew order old new shown (Finished (Stopped cause.Full)) =
     (events : List Event) × IsStoppedLive crew order.plan cause.Full events × (shown ≡ shown_of order.trace events) × (new ≡ old)
 EndsLive crew order old new shown (Finished (Stopped cause.Memory)) =
     AreMadeOnce (asks_of crew) × ((shown ≡ []) ⊎ ((events : List Event) × IsStoppedLive crew order.plan cause.Memory events × (shown ≡ shown_of order.trace events)))
-    × ((new ≡ old) ⊎ ((events : List Event) × (lines : List Line) × (bodies : List (List ℕ)) × (whole : ℕ) × IsRetrievedLive crew order.plan events lines bodies
+    × ((new ≡ old) ⊎ ((events : List Event) × (lines : List Line) × (bodies : List BodyValue) × (whole : ℕ) × IsRetrievedLive crew order.plan order.names events lines bodies
     × IsTornAt lines bodies old new whole))
 EndsLive crew order old new shown (Finished (Stopped cause.Mismatch)) = (length crew.first ≢ 1) × (shown ≡ []) × (new ≡ old)
 
 -- A live retrieval with these fetchers, one for each worker: it comes to an end, by what the fetchers were asked and may
 -- have answered until then. Either the writer gained that end's text, behind what is shown of the trace, and the status is
 -- the end's, or the writer failed behind a front of it, and the status is 1.
-pub record Lives {F : Type 0} (m : Meaning F (List ℕ)) (order : Order) (fetchers : List F) (before after : Outside) (status : ℕ) : Type 0 where
+pub record Lives {F : Type 0} (m : Meaning F BodyValue) (order : Order) (fetchers : List F) (before after : Outside) (status : ℕ) : Type 0 where
   pub left : List F
   pub later : AreLater m fetchers left
   pub shown : List Event

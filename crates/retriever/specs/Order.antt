@@ -1,6 +1,7 @@
 -- What the words of a run order of a site that its input tells, or what is wrong with them.
 use Rattle.std.specs.Prelude.{◌≡◌, ◌≢◌, ◌⊎◌, ℕ, List, Ok, Err}
-use Rattle.options.specs.Order.{Ordered, order_of, ordered_by, without_kind}
+use Rattle.options.specs.Asked.{without_kind}
+use Rattle.options.specs.Order.{Ordered, order_of, ordered_by}
 use Rattle.options.specs.declared.fault.LineFault.TheVariants as line
 use Rattle.options.specs.declared.order.Order.{Order}
 use Rattle.options.specs.declared.order.Source.TheVariants as source

@@ -2,7 +2,7 @@
 use Rattle.std.specs.Prelude.{◌≡◌, ◌⊎◌, ◌++◌, ℕ, Bool, true, false, List, [], codes, Option}
 use Rattle.std.specs.Io.KnownBytes.{Appends}
 use Rattle.frontier_core.specs.declared.event.Event.{Event}
-use Rattle.retriever.specs.Run.{fault_words, fault_status}
+use Rattle.retriever.specs.Run.{fault_text, fault_status}
 use Rattle.streams.specs.Streams.{AppendsFront}
 use Rattle.retriever.specs.declared.fault.Fault.{Fault}
 
@@ -10,10 +10,10 @@ use Rattle.retriever.specs.declared.fault.Fault.{Fault}
 abbrev pub IsDelivered : Option (List ℕ) → Option (List ℕ) → List ℕ → ℕ → ℕ → Type 0
 IsDelivered old new text wanted status = ((status ≡ wanted) × Appends old new text) ⊎ ((status ≡ 1) × AppendsFront old new text)
 
--- the line of the fault is delivered with its status, or that of want of memory
+-- the text of the fault is delivered with its status, or that of want of memory
 abbrev pub IsFaultDelivered : Option (List ℕ) → Option (List ℕ) → Fault → ℕ → Type 0
 IsFaultDelivered old new wrong status =
-    IsDelivered old new (fault_words wrong ++ codes "\n") (fault_status wrong) status
+    IsDelivered old new (fault_text wrong) (fault_status wrong) status
     ⊎ IsDelivered old new (codes "stopped memory\n") 1 status
 
 -- what is shown of a trace: all of it, or nothing

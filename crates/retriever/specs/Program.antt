@@ -1,12 +1,12 @@
 -- What the program makes of its arguments, and what a person is told of them.
-use Rattle.std.specs.Prelude.{◌≡◌, ◌⊎◌, ◌++◌, ℕ, List, Option, String, codes, drop, map, string_bytes}
+use Rattle.std.specs.Prelude.{◌≡◌, ◌⊎◌, ℕ, List, Option, String, codes, drop, map, string_bytes}
 use Rattle.std.specs.declared.io.ErrorKind.{ErrorKind}
 use Rattle.std.specs.declared.io.ErrorKind.TheVariants.{OutOfMemory}
 use Rattle.retriever.specs.Advice.{said_of}
 use Rattle.options.specs.declared.order.Order.{Order}
 use Rattle.retriever.specs.Order.{IsLiveOrder, IsRefused}
 use Rattle.retriever.specs.Parts.{IsDelivered, IsFaultDelivered}
-use Rattle.retriever.specs.Run.{fault_words, fault_status}
+use Rattle.retriever.specs.Run.{fault_text, fault_status}
 use Rattle.retriever.specs.Systems.{Means, LivesIn}
 use Rattle.streams.specs.Streams.{AppendsFront}
 use Rattle.retriever.specs.declared.fault.Fault.{Fault}
@@ -31,11 +31,11 @@ pub record Outputs (E : Type 0) : Type 0 where
 abbrev pub outputs : {E : Type 0} → (E → Option (List ℕ)) → Option (List ℕ) → E → Outputs E
 outputs contents written errors = record { written = written; errors = errors; told = contents errors }
 
--- The line of a fault of the words is delivered with its status, and what is wrong, or a front of it, was written to a person;
+-- The text of a fault of the words, or what they ask for, is delivered with its status, and what is wrong, or a front of it, was written to a person;
 -- or the line of want of memory is delivered, and nothing was written to a person.
 abbrev pub IsExplained : {E : Type 0} → List (List ℕ) → Fault → Outputs E → Outputs E → ℕ → Type 0
 IsExplained words wrong before after status =
-    (IsDelivered before.written after.written (fault_words wrong ++ codes "\n") (fault_status wrong) status × AppendsFront before.told after.told (said_of words wrong))
+    (IsDelivered before.written after.written (fault_text wrong) (fault_status wrong) status × AppendsFront before.told after.told (said_of words wrong))
     ⊎ (IsDelivered before.written after.written (codes "stopped memory\n") 1 status × (after.errors ≡ before.errors))
 
 -- what is wrong with the words is told, in its line and to a person

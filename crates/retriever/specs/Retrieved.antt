@@ -45,7 +45,7 @@ pub data Finish : Type 0 where
 -- may be nothing to show. A check of several workers may fail; one worker has none
 abbrev pub Finishes : Order → Answers → List Event → Finish → Type 0
 Finishes order whole shown (Retrieved lines) =
-    AreLines (policy order.plan) whole lines × AreNamed order.plan lines × AreShown order.trace (AreEventsOf order.workers order.plan whole IsQuiet) shown
+    AreLines (policy order.plan) whole lines × AreNamed order.plan order.names lines × AreShown order.trace (AreEventsOf order.workers order.plan whole IsQuiet) shown
 Finishes order whole shown (Stopped cause.Full) =
     HasTooMany (policy order.plan) whole × AreShown order.trace (AreEventsOf order.workers order.plan whole (HasStopped cause.Full)) shown
 Finishes order whole shown (Stopped cause.Memory) =

@@ -1,5 +1,5 @@
 -- What a run of the program writes for its words and its input, and the status with which it ends.
-use Rattle.std.specs.Prelude.{◌≡◌, ◌≤◌, ◌<◌, ◌⊎◌, ℕ, List, ◌++◌, length, codes, Option, Err}
+use Rattle.std.specs.Prelude.{◌≡◌, ◌≤◌, ◌<◌, ◌⊎◌, ℕ, List, [], ◌++◌, length, codes, Option, Err, if◌then◌else◌}
 use Rattle.std.specs.Fmt.{decimal}
 use Rattle.std.specs.Io.KnownBytes.{Appends}
 use Rattle.address.specs.declared.fault.AddressFault.{AddressFault}
@@ -8,7 +8,9 @@ use Rattle.fetcher.specs.Sites.{SiteAnswers}
 use Rattle.site_inputs.specs.declared.input_fault.InputFault.{InputFault}
 use Rattle.site_inputs.specs.declared.input_fault.InputFault.TheVariants as input
 use Rattle.frontier_core.specs.declared.event.Event.{Event}
-use Rattle.options.specs.Order.{order_of, without_kind}
+use Rattle.options.specs.Advice.{advice_text}
+use Rattle.options.specs.Asked.{asks, without_kind}
+use Rattle.options.specs.Order.{order_of}
 use Rattle.options.specs.declared.fault.LineFault.{LineFault}
 use Rattle.options.specs.declared.fault.LineFault.TheVariants as line
 use Rattle.options.specs.declared.order.Order.{Order}
@@ -80,11 +82,20 @@ fault_words (fault.Read wrong) = reading_words wrong
 fault_words (fault.Input wrong) = input_words wrong
 fault_words fault.Memory = codes "stopped memory"
 
--- 2 for what the words or the input say, 1 for what memory, a reader or a plan's bound stopped
+-- what is written in place of a report: the help, or name and version, if the words ask for it, else the line of what is wrong
+abbrev pub fault_text : Fault → List ℕ
+fault_text (fault.Line wrong) = if asks wrong then advice_text [] wrong else line_words wrong ++ codes "\n"
+fault_text wrong = fault_words wrong ++ codes "\n"
+
+-- of words: 1 if memory ran out, else 2
+abbrev pub wrong_status : LineFault → ℕ
+wrong_status line.Memory = 1
+wrong_status (line.Start refused.Memory) = 1
+wrong_status _ = 2
+
+-- 2 for what the words or the input say, 1 for what memory, a reader or a plan's bound stopped; 0 if the words ask for the help or the version
 abbrev pub fault_status : Fault → ℕ
-fault_status (fault.Line line.Memory) = 1
-fault_status (fault.Line (line.Start refused.Memory)) = 1
-fault_status (fault.Line _) = 2
+fault_status (fault.Line wrong) = if asks wrong then 0 else wrong_status wrong
 fault_status fault.NotText = 2
 fault_status fault.NoSite = 2
 fault_status (fault.Read reading.Long) = 2
@@ -116,7 +127,7 @@ pub data Ending : Type 0 where
 
 -- the text of an ending
 abbrev pub ending_text : Ending → List ℕ
-ending_text (Failed wrong) = fault_words wrong ++ codes "\n"
+ending_text (Failed wrong) = fault_text wrong
 ending_text (Ended trace finish) = trace ++ finish_text finish
 
 -- the status of an ending

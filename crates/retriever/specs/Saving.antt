@@ -1,6 +1,7 @@
 -- What a live retrieval that saves its answers writes into their record, and what it tells of that.
 use Rattle.std.specs.Prelude.{◌≡◌, ◌⊎◌, ◌==◌, ℕ, List, [], ◌++◌, flat_map, codes, length, map, Option, Result, Ok, Err, if◌then◌else◌}
 use Rattle.std.specs.Io.KnownBytes.{Appends}
+use Rattle.kept_bodies.specs.Bodies.{BodyValue}
 use Rattle.options.specs.declared.order.Order.{Order}
 use Rattle.fetcher.specs.declared.fetcher.Ask.{Ask}
 use Rattle.fetcher.specs.declared.fetcher.Fetcher.{Ghosts as Meaning}
@@ -53,12 +54,12 @@ outside_saved folder written saved = record { folder = folder; written = written
 
 -- what fetchers mean, what each noted, and the notes that are given
 pub record Notes (F : Type 0) : Type 1 where
-  pub means : Meaning F (List ℕ)
+  pub means : Meaning F BodyValue
   pub noted : F → List Noted
   pub given : List Noted
 
 -- these notes
-abbrev pub notes_of : {F : Type 0} → Meaning F (List ℕ) → (F → List Noted) → List Noted → Notes F
+abbrev pub notes_of : {F : Type 0} → Meaning F BodyValue → (F → List Noted) → List Noted → Notes F
 notes_of m noted given = record { means = m; noted = noted; given = given }
 
 -- A live retrieval, as `Lives` has it, whose record is saved at its end, whatever that is: what was given, and behind it what
@@ -80,7 +81,7 @@ abbrev pub resuming_of : {F : Type 0} → (F → List Ask) → RecordValue → F
 resuming_of log recorded inner = record { recorded = recorded; inner = inner; asks = []; since = length (log inner) }
 
 -- what such fetchers mean, by what those mean that they ask
-abbrev pub resuming_means : {F : Type 0} → Meaning F (List ℕ) → Meaning (Resuming F) (List ℕ)
+abbrev pub resuming_means : {F : Type 0} → Meaning F BodyValue → Meaning (Resuming F) BodyValue
 resuming_means m =
     record { Site = Resumption m.Site; site = resumption_of m.site m.log; says = SaysOr m.says; rules = RulesOr m.rules; log = λ r. r.asks }
 
@@ -90,12 +91,12 @@ noted_within noted resuming = noted resuming.inner
 
 -- what fetchers mean, what each noted, and the record that is resumed
 pub record Resumes (F : Type 0) : Type 1 where
-  pub means : Meaning F (List ℕ)
+  pub means : Meaning F BodyValue
   pub noted : F → List Noted
   pub recorded : RecordValue
 
 -- this record is resumed
-abbrev pub resumes : {F : Type 0} → Meaning F (List ℕ) → (F → List Noted) → RecordValue → Resumes F
+abbrev pub resumes : {F : Type 0} → Meaning F BodyValue → (F → List Noted) → RecordValue → Resumes F
 resumes m noted recorded = record { means = m; noted = noted; recorded = recorded }
 
 -- The same by fetchers that ask those given for what the record doesn't state, where the notes of the record are what is saved

@@ -13,7 +13,7 @@ use Rattle.frontier_core.specs.Routes.{Policy, Answers, IsCandidate, IsDepth, is
 use Rattle.follow_filters.specs.declared.plan.Plan.{Plan}
 use Rattle.local_names.specs.Names.{IsNaming}
 use Rattle.local_names.specs.PlainNames.{plain_name_of}
-use Rattle.local_names.specs.Rules.{usual_rules}
+use Rattle.local_names.specs.declared.rules.NameRules.{NameRules}
 use Rattle.report.specs.Named.{is_to_keep, named_pages, names_in}
 use Rattle.report.specs.Report.{Line, Fate, Asked, Refused, AreAscending}
 
@@ -72,7 +72,7 @@ pub record AreLines (p : Policy) (m : Answers) (lines : List Line) : Type 0 wher
   pub few : length lines ≤ p.max_urls
 
 -- Just the pages to keep have a name, and it is the one that the list of all of them gives it, in the order of their
--- addresses (GNU Wget manual, Directory Options).
-pub record AreNamed (plan : Plan) (lines : List Line) : Type 0 where
+-- addresses, by these rules (GNU Wget manual, Directory Options).
+pub record AreNamed (plan : Plan) (rules : NameRules) (lines : List Line) : Type 0 where
   pub kept : All (λ line. is_some line.name ≡ is_to_keep plan line) lines
-  pub names : IsNaming (map (plain_name_of usual_rules) (named_pages lines)) (names_in lines)
+  pub names : IsNaming (map (plain_name_of rules) (named_pages lines)) (names_in lines)

@@ -1,6 +1,7 @@
 -- What a live run makes of an order by what a system gives it.
 use Rattle.std.specs.Prelude.{◌≡◌, ◌⊎◌, ℕ, Bool, is_some, true, false, List, All, Option, Some, None, MatchOption, codes, length, map}
 use Rattle.std.specs.declared.io.Write.{Ghosts as Writers}
+use Rattle.kept_bodies.specs.Bodies.{BodyValue}
 use Rattle.options.specs.declared.order.Order.{Order}
 use Rattle.options.specs.Order.{kept_of}
 use Rattle.fetcher.specs.declared.fetcher.Fetcher.{Ghosts as Fetchers}
@@ -25,13 +26,13 @@ use Rattle.live_system.specs.declared.system.System.{Ghosts as Systems}
 pub record Means (S F D V : Type 0) : Type 1 where
   pub gives : Systems S F D V
   pub system : S
-  pub fetchers : Fetchers F (List ℕ)
+  pub fetchers : Fetchers F BodyValue
   pub noted : F → List Noted
   pub folders : Folders D
   pub records : Writers V
 
 -- what belongs to a system
-abbrev pub means : {S F D V : Type 0} → Systems S F D V → S → Fetchers F (List ℕ) → (F → List Noted) → Folders D → Writers V → Means S F D V
+abbrev pub means : {S F D V : Type 0} → Systems S F D V → S → Fetchers F BodyValue → (F → List Noted) → Folders D → Writers V → Means S F D V
 means gives system fetchers noted folders records =
     record { gives = gives; system = system; fetchers = fetchers; noted = noted; folders = folders; records = records }
 

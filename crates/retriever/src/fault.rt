@@ -1,9 +1,11 @@
 //! Faults of a run: the line that is written in place of a report, and the status.
-ghost use Rattle.std.specs.Prelude.{◌≡◌, ◌++◌, IfOk, codes, string_bytes};
-ghost use Rattle.retriever.specs.Run.{start_words, line_words, reading_words, input_words, fault_words};
+ghost use Rattle.std.specs.Prelude.{◌≡◌, ◌++◌, IfOk, codes, string_bytes, if◌then◌else◌};
+ghost use Rattle.retriever.specs.declared.fault.Fault.TheVariants.{Line};
+ghost use Rattle.options.specs.Asked.{asks};
+ghost use Rattle.retriever.specs.Run.{start_words, line_words, reading_words, input_words, fault_text, wrong_status};
 
 use address::AddressFault;
-use options::LineFault;
+use options::{LineFault, advice_text};
 use site_inputs::InputFault;
 use std::alloc::{AllocError, Global};
 use streams::ReadFault;
@@ -11,7 +13,7 @@ use streams::ReadFault;
 /// Why a run has no report.
 #[derive(Clone, Copy)]
 pub(crate) enum Fault {
-    /// The words are no order.
+    /// The words are no order, or ask for the help or the version.
     Line(LineFault),
     /// A word of the command line isn't UTF-8.
     NotText,
@@ -29,18 +31,32 @@ impl Fault {
     ghost use Rattle.std.specs.Prelude.{◌≡◌};
     ghost use Rattle.retriever.specs.Run.{fault_status};
 
-    /// The status with which a run ends: 2 for what the words or the input say, else 1.
+    /// The status with which a run ends: 0 if the words ask for the help or the version, 2 for what else they or the input say, and
+    /// else 1.
     pub(crate) fn status(&self) -> u8
         ensures { result ≡ fault_status self.now }
     {
         match self {
-            Fault::Line(LineFault::Memory | LineFault::Start(AddressFault::Memory)) => 1,
-            Fault::Line(_) | Fault::NotText | Fault::NoSite | Fault::Read(ReadFault::Long) => 2,
+            Fault::Line(wrong) => line_status(*wrong),
+            Fault::NotText | Fault::NoSite | Fault::Read(ReadFault::Long) => 2,
             Fault::Read(ReadFault::Failed | ReadFault::Memory) => 1,
             Fault::Input(InputFault::Memory) => 1,
             Fault::Input(InputFault::Line(_) | InputFault::Address(_)) => 2,
             Fault::Memory => 1,
         }
+    }
+}
+
+// The status of words that are no order.
+fn line_status(wrong: LineFault) -> u8
+    ensures { result ≡ if asks wrong then 0 else wrong_status wrong }
+{
+    if wrong.asks() {
+        return 0;
+    }
+    match wrong {
+        LineFault::Memory | LineFault::Start(AddressFault::Memory) => 1,
+        _ => 2,
     }
 }
 
@@ -95,12 +111,22 @@ fn input_text(alloc: Global, wrong: InputFault) -> Result<String, AllocError>
     }
 }
 
-/// The line of a fault.
+// What the words ask for, or the line of what is wrong with them.
+fn line_text(alloc: Global, wrong: LineFault) -> Result<String, AllocError>
+    ensures { IfOk result (λ text. string_bytes text ≡ fault_text (Line wrong)) }
+{
+    if wrong.asks() {
+        return advice_text(alloc, wrong, &[]);
+    }
+    with_newline(alloc, line_words(wrong))
+}
+
+/// The line of a fault, or the help, or name and version, if the words ask for it.
 pub(crate) fn fault_text(alloc: Global, fault: Fault) -> Result<String, AllocError>
-    ensures { IfOk result (λ text. string_bytes text ≡ fault_words fault ++ codes "\n") }
+    ensures { IfOk result (λ text. string_bytes text ≡ fault_text fault) }
 {
     let words = match fault {
-        Fault::Line(wrong) => line_words(wrong),
+        Fault::Line(wrong) => return line_text(alloc, wrong),
         Fault::NotText => "line words",
         Fault::NoSite => "line no-site",
         Fault::Read(wrong) => reading_words(wrong),

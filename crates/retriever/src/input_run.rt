@@ -58,7 +58,7 @@ fn retrieve<H: Threads + Wait + Sync, F: Copied>(
     let (retrieved, copies) = workers::retrieve_shown(rt, alloc, &order.plan, copies, None);
     // They are dropped before a report is made.
     drop(copies);
-    let told = told_of(alloc, order.trace, &retrieved);
+    let told = told_of(alloc, &order.names, order.trace, &retrieved);
     drop(retrieved);
     told
 }
@@ -123,7 +123,7 @@ pub(crate) fn deliver<W: Write>(writer: &mut W, text: &[u8], status: u8) -> u8
     }
 }
 
-/// Writes the line of a fault, and gives its status; where memory runs out, the line of that.
+/// Writes the line of a fault, or what the words ask for, and gives its status; if memory runs out, the line of that.
 pub(crate) fn refuse<W: Write>(alloc: Global, fault: Fault, writer: &mut W) -> u8
     ensures { IsFaultDelivered (W.contents writer.old) (W.contents writer.new) fault result }
 {

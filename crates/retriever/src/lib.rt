@@ -8,6 +8,7 @@ pub use crate::input_run::{run, run_of_order};
 pub use crate::live_run::live;
 pub use crate::program::run_program;
 pub use crate::saved_run::live_resumed;
+pub use crate::telling::{Telling, telling_of};
 pub use live_system::{HoldFault, System};
 pub use streams::{ReadFault, read_input};
 
@@ -19,4 +20,5 @@ mod live_run;
 mod program;
 mod resume_fault;
 mod saved_run;
+mod telling;
 mod told;

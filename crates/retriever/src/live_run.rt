@@ -15,6 +15,7 @@ use crate::told::{halt_text, telling_of};
 use fetcher::Fetcher;
 use frontier_core::Cause;
 use kept_bodies::Body;
+use local_names::NameRules;
 use local_tree::{Folder, WriteFault, write_site};
 use options::Order;
 use report::exit_status;
@@ -138,18 +139,19 @@ fn put_and_tell<D: Folder, W: Write>(
     }
 }
 
-// Puts and tells a harvest; where there is no memory for its names and its text nothing is put.
+// Puts and tells a harvest, whose kept pages have their names by these rules; where there is no memory for its names and its text nothing is put.
 fn finish_harvest<D: Folder, W: Write>(
     alloc: Global,
+    rules: &NameRules,
     is_shown: bool,
     harvest: &Harvest<Body>,
     folder: &mut D,
     writer: &mut W,
 ) -> Result<u8, WriteFailed>
-    ensures { IsPutOf (IsToldAs (W.contents writer.old) (W.contents writer.new) result) is_shown (Ok harvest.now)
+    ensures { IsPutOf (IsToldAs (W.contents writer.old) (W.contents writer.new) result) rules.now is_shown (Ok harvest.now)
         (holding D.files D.failed folder.old) (holding D.files D.failed folder.new) }
 {
-    match telling_of(alloc, is_shown, harvest) {
+    match telling_of(alloc, rules, is_shown, harvest) {
         Ok(telling) => put_and_tell(
             alloc,
             telling.names.as_slice(),
@@ -162,19 +164,20 @@ fn finish_harvest<D: Folder, W: Write>(
     }
 }
 
-/// Puts and tells what was retrieved. The error is that the writer failed.
+/// Puts and tells what was retrieved, whose kept pages have their names by these rules. The error is that the writer failed.
 pub(crate) fn finish<D: Folder, W: Write>(
     alloc: Global,
+    rules: &NameRules,
     is_shown: bool,
     retrieved: &Result<Harvest<Body>, Halt<Body>>,
     folder: &mut D,
     writer: &mut W,
 ) -> Result<u8, WriteFailed>
-    ensures { IsPutOf (IsToldAs (W.contents writer.old) (W.contents writer.new) result) is_shown retrieved.now
+    ensures { IsPutOf (IsToldAs (W.contents writer.old) (W.contents writer.new) result) rules.now is_shown retrieved.now
         (holding D.files D.failed folder.old) (holding D.files D.failed folder.new) }
 {
     match retrieved {
-        Ok(harvest) => finish_harvest(alloc, is_shown, harvest, folder, writer),
+        Ok(harvest) => finish_harvest(alloc, rules, is_shown, harvest, folder, writer),
         Err(halt) => tell_halt(alloc, is_shown, halt, writer),
     }
 }
@@ -213,12 +216,12 @@ pub(crate) fn live_shown<
     let (retrieved, left) = workers::retrieve_shown(rt, alloc, &order.plan, fetchers, waiting);
     // They are dropped before a report is made.
     drop(left);
-    let status = status_told(finish(alloc, order.trace, &retrieved, folder, writer));
+    let status = status_told(finish(alloc, &order.names, order.trace, &retrieved, folder, writer));
     (status, retrieved)
 }
 
 /// Retrieves the live site that the order says by these fetchers, a worker for each, 1 to 64 of them: asks for what its plan
-/// wants, puts the kept pages into the folder, each whole and under its name, and then writes the report, behind the trace
+/// wants, puts the kept pages into the folder, each whole and under its name by the order's rules, and then writes the report, behind the trace
 /// where the order asks for it. Answers the status: that of [`exit_status`] for a report. Where a put fails no other is made,
 /// and the line `files written K` stands behind the report, K being how many files are whole; the status is 3. Where the
 /// retrieval stopped the line of its cause stands in place of the report, nothing is put, and the status is 1; so it is where

@@ -1,5 +1,5 @@
 //! The program on its words, its three streams and the system: what a person is told, and the run, or the live retrieval.
-ghost use Rattle.std.specs.Prelude.{◌≡◌, ◌≢◌, ◌⊎◌, ◌++◌, ℕ, List, [], codes, IfOk, IfErr, Ok, drop, map, string_bytes};
+ghost use Rattle.std.specs.Prelude.{◌≡◌, ◌≢◌, ◌⊎◌, ℕ, List, [], IfOk, IfErr, Ok, drop, map, string_bytes};
 ghost use Rattle.std.specs.IoError.{error_kind};
 ghost use Rattle.std.specs.Vec.Iter.{into_iter_items};
 ghost use Rattle.options.specs.Order.{order_of, ordered_by};
@@ -7,7 +7,7 @@ ghost use Rattle.retriever.specs.Advice.{said_of};
 ghost use Rattle.retriever.specs.Order.{AreForInput, AreForLive};
 ghost use Rattle.retriever.specs.Program.{IsExplained, IsFaultTold, LivesFor, outputs, words_behind, words_fault};
 ghost use Rattle.retriever.specs.inner.Program.{Starts, all_streams};
-ghost use Rattle.retriever.specs.Run.{Runs, fault_words};
+ghost use Rattle.retriever.specs.Run.{Runs, fault_text};
 ghost use Rattle.retriever.specs.Systems.{means};
 ghost use Rattle.streams.specs.Streams.{AppendsFront};
 
@@ -24,8 +24,8 @@ use std::sync::Wait;
 use std::thread::Threads;
 use streams::write_text;
 
-// All words of the command line, the program's name first.
-fn all_words(alloc: Global, args: Args) -> Result<Vec<String>, AllocError>
+/// All words of the command line, the program's name first.
+pub(crate) fn all_words(alloc: Global, args: Args) -> Result<Vec<String>, AllocError>
     ensures { IfOk result (λ all. all.items ≡ into_iter_items args) }
 {
     let mut all = Vec::new(alloc);
@@ -35,8 +35,8 @@ fn all_words(alloc: Global, args: Args) -> Result<Vec<String>, AllocError>
     Ok(all)
 }
 
-// The texts of the words behind the program's name.
-fn texts_behind(alloc: Global, all: &[String]) -> Result<Vec<&str>, AllocError>
+/// The texts of the words behind the program's name.
+pub(crate) fn texts_behind(alloc: Global, all: &[String]) -> Result<Vec<&str>, AllocError>
     ensures { IfOk result (λ texts. map (λ text. text.now) texts.items ≡ map string_bytes (drop 1 all.now)) }
 {
     let mut texts = Vec::new(alloc);
@@ -62,9 +62,10 @@ fn words_fault(error: &io::Error) -> Fault
 // What is written where words are refused.
 #[derive(Drop)]
 struct Refusal {
-    // For a person; empty where there is nothing to tell.
+    // For a person; empty if there is nothing to tell.
     advice: String,
-    line: String,
+    // In place of a report.
+    text: String,
 }
 
 // What a person is told of a fault of these words. It is empty for other faults.
@@ -72,6 +73,7 @@ fn advice_for(alloc: Global, fault: Fault, words: &[&str]) -> Result<String, All
     ensures { IfOk result (λ text. string_bytes text ≡ said_of (map (λ word. word.now) words.now) fault) }
 {
     match fault {
+        Fault::Line(wrong) if wrong.asks() => Ok(String::new(alloc)),
         Fault::Line(wrong) => advice_text(alloc, wrong, words),
         Fault::NotText => no_text_advice(alloc, words),
         Fault::NoSite | Fault::Read(_) | Fault::Input(_) | Fault::Memory => Ok(String::new(alloc)),
@@ -81,11 +83,11 @@ fn advice_for(alloc: Global, fault: Fault, words: &[&str]) -> Result<String, All
 // Both texts for a fault of these words.
 fn refusal_of(alloc: Global, fault: Fault, words: &[&str]) -> Result<Refusal, AllocError>
     ensures advice { IfOk result (λ refusal. string_bytes refusal.advice ≡ said_of (map (λ word. word.now) words.now) fault) }
-    ensures line { IfOk result (λ refusal. string_bytes refusal.line ≡ fault_words fault ++ codes "\n") }
+    ensures text { IfOk result (λ refusal. string_bytes refusal.text ≡ fault_text fault) }
 {
     let advice = advice_for(alloc, fault, words)?;
-    let line = fault_text(alloc, fault)?;
-    Ok(Refusal { advice, line })
+    let text = fault_text(alloc, fault)?;
+    Ok(Refusal { advice, text })
 }
 
 // Tells a person this, if anything. Where the writer fails the run goes on: its line and its status say what went wrong,
@@ -100,7 +102,8 @@ fn tell<E: Write>(advice: &str, errors: &mut E)
     let _ = write_text(errors, advice.as_bytes());
 }
 
-// Tells a person what is wrong with the words, and nothing of other faults, and writes the line of it. Answers the status. Both
+// Tells a person what is wrong with the words, and nothing of other faults, and writes the line of it, or what the words ask for.
+// Answers the status. Both
 // texts are made before either is written, so that no person is told of words whose line is that memory ran out.
 fn explain<W: Write, E: Write>(
     alloc: Global,
@@ -116,7 +119,7 @@ fn explain<W: Write, E: Write>(
     match refusal_of(alloc, fault, words) {
         Ok(refusal) => {
             tell(refusal.advice.as_str(), errors);
-            deliver(writer, refusal.line.as_bytes(), fault.status())
+            deliver(writer, refusal.text.as_bytes(), fault.status())
         }
         Err(_) => deliver(writer, b"stopped memory\n", 1),
     }

@@ -1,9 +1,7 @@
 //! What is told of a retrieval: its report, or the line of the cause for which it stopped.
 ghost use Rattle.std.specs.Prelude.{◌≡◌, ◌++◌, ◌&&◌, IfOk, OnOk, length, map, string_bytes};
-ghost use Rattle.address.specs.AddressOrder.{IsAscending};
 ghost use Rattle.local_names.specs.Names.{AreDistinct, IsNaming};
 ghost use Rattle.local_names.specs.PlainNames.{plain_name_of};
-ghost use Rattle.local_names.specs.Rules.{usual_rules};
 ghost use Rattle.report.specs.Entries.{harvest_lines_of};
 ghost use Rattle.report.specs.Report.{report_text};
 ghost use Rattle.retriever.specs.Parts.{shown_of};
@@ -12,7 +10,6 @@ ghost use Rattle.retriever.specs.Retrieved.{Stopped};
 ghost use Rattle.retriever.specs.Run.{finish_text};
 ghost use Rattle.report.specs.Trace.{trace_text};
 
-use address::Address;
 use frontier_core::{Cause, Event};
 use kept_bodies::Body;
 use local_names::{NameRules, names};
@@ -44,24 +41,15 @@ fn push_shown(text: &mut String, is_shown: bool, trace: &[Event]) -> Result<(), 
     Ok(())
 }
 
-// The names of these pages by the usual rules.
-fn usual_names(alloc: Global, pages: &[Address]) -> Result<Vec<String>, AllocError>
-    requires { IsAscending pages.now }
-    ensures naming { IfOk result (λ names. IsNaming (map (plain_name_of usual_rules) pages.now) (map string_bytes names.items)) }
-    ensures count { IfOk result (λ names. length names.items ≡ length pages.now) }
-    ensures distinct { IfOk result (λ names. AreDistinct (map string_bytes names.items)) }
-{
-    names(alloc, &NameRules::default(), pages)
-}
-
-/// The names of a harvest's kept pages, and its text: its trace, where it is to be shown, and its report, in which these pages
-/// have their names.
+/// The names of a harvest's kept pages by these rules, and its text: its trace, if it is to be shown, and its report, in which
+/// these pages have their names.
 pub(crate) fn telling_of(
     alloc: Global,
+    rules: &NameRules,
     is_shown: bool,
     harvest: &Harvest<Body>,
 ) -> Result<Telling, AllocError>
-    ensures naming { IfOk result (λ telling. IsNaming (map (plain_name_of usual_rules) harvest.now.kept) (map string_bytes telling.names.items)) }
+    ensures naming { IfOk result (λ telling. IsNaming (map (plain_name_of rules.now) harvest.now.kept) (map string_bytes telling.names.items)) }
     ensures count { IfOk result (λ telling. length telling.names.items ≡ length harvest.now.kept) }
     ensures distinct { IfOk result (λ telling. AreDistinct (map string_bytes telling.names.items)) }
     ensures text { IfOk result (λ telling. string_bytes telling.text
@@ -69,7 +57,7 @@ pub(crate) fn telling_of(
     ensures read { IfOk result (λ telling. IsRead harvest.now) }
 {
     let trace = harvest.trace();
-    let names = usual_names(alloc, harvest.kept())?;
+    let names = names(alloc, rules, harvest.kept())?;
     let report = report_text(alloc, harvest, names.as_slice())?;
     let mut text = String::new(alloc);
     push_shown(&mut text, is_shown, trace)?;
@@ -103,17 +91,18 @@ pub(crate) fn halt_text(
     Ok(text)
 }
 
-/// What is told of what was retrieved.
+/// What is told of what was retrieved, whose kept pages have their names by these rules.
 pub(crate) fn told_of(
     alloc: Global,
+    rules: &NameRules,
     is_shown: bool,
     retrieved: &Result<Harvest<Body>, Halt<Body>>,
 ) -> Result<Output, AllocError>
-    ensures { IfOk result (λ output. IsRetrievalTold is_shown retrieved.now (string_bytes output.text) output.status) }
+    ensures { IfOk result (λ output. IsRetrievalTold rules.now is_shown retrieved.now (string_bytes output.text) output.status) }
 {
     match retrieved {
         Ok(harvest) => {
-            let Telling { names: _, text } = telling_of(alloc, is_shown, harvest)?;
+            let Telling { names: _, text } = telling_of(alloc, rules, is_shown, harvest)?;
             let status = exit_status(harvest);
             Ok(Output { text, status })
         }

@@ -2,11 +2,11 @@
 //! its arguments and its streams is stated at `retriever::run_program`; `main` only names them, and what the system gives.
 #![tactic(auto)]
 
-use host_system::{Network, PartThreads, SharedFailures, StandIns};
+use host_system::{Network, Output, PartThreads, SharedFailures, StandIns};
 use progress::{BehindLine, Progress};
 use record_journal::Saving;
-use retriever::run_program;
-use std::io::IsTerminal;
+use retriever::{run_program, telling_of};
+use std::io::{IsTerminal, Write};
 use std::process::ExitCode;
 use std::{env, process};
 use tcp_connect::{Hosts, Kept};
@@ -14,12 +14,28 @@ use tcp_connect::{Hosts, Kept};
 fn main(rt: HostRuntime) -> ExitCode {
     // Before anything is opened, so that no file of the run takes the place of a stream that is closed.
     let stand_ins = StandIns::open(&rt);
+    let failures = SharedFailures::new(rt.alloc());
+    let Ok(telling) = telling_of(rt.alloc(), env::args(&rt)) else {
+        let _ = rt.stdout().write_all(b"stopped memory\n");
+        return ExitCode::from(1);
+    };
+    let Some(output) = Output::open(
+        &rt,
+        &failures,
+        rt.stdout(),
+        telling.is_quiet,
+        telling.file(),
+    ) else {
+        failures.tell(&rt, &mut rt.stderr());
+        return ExitCode::from(3);
+    };
+    let takes_failures = output.takes_failures();
     let hosts = Hosts::new(rt.alloc());
     let kept = Kept::new(rt.alloc());
-    let progress = Progress::new(&rt, rt.stderr().is_terminal());
+    let is_shown = rt.stderr().is_terminal() && !telling.is_quiet;
+    let progress = Progress::new(&rt, is_shown);
     let saving = Saving::new();
     let crew = PartThreads::new(&rt, &rt);
-    let failures = SharedFailures::new(rt.alloc());
     let network = Network::new(
         &rt,
         rt.alloc(),
@@ -31,17 +47,22 @@ fn main(rt: HostRuntime) -> ExitCode {
         &failures,
         process::id(rt.process()),
     );
+    let mut writer = BehindLine::new(output, &progress);
     let status = run_program(
         &rt,
         rt.alloc(),
         &network,
         env::args(&rt),
         &mut rt.stdin(),
-        &mut BehindLine::new(rt.stdout(), &progress),
+        &mut writer,
         &mut rt.stderr(),
     );
     saving.end(&rt, &rt);
-    failures.tell(&rt, &mut rt.stderr());
+    if takes_failures {
+        failures.tell(&rt, &mut writer);
+    } else {
+        failures.tell(&rt, &mut rt.stderr());
+    }
     drop(stand_ins);
     ExitCode::from(status)
 }

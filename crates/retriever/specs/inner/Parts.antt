@@ -1,6 +1,7 @@
 -- What proofs alone need beside `Parts`.
 use Rattle.std.specs.Prelude.{◌≡◌, ◌≢◌, ◌⊎◌, ◌++◌, ◌&&◌, ℕ, Bool, true, false, List, map, Option, Result, Ok, Err, IfSome}
 use Rattle.std.specs.Io.KnownBytes.{Appends}
+use Rattle.kept_bodies.specs.Bodies.{BodyValue}
 use Rattle.options.specs.declared.order.Order.{Order}
 use Rattle.options.specs.declared.order.Source.TheVariants as source
 use Rattle.fetcher.specs.Sites.{SiteAnswers}
@@ -15,7 +16,7 @@ use Rattle.harvest.specs.Harvests.{Harvested}
 use Rattle.workers.specs.declared.retrieval.Halt.{Halt}
 use Rattle.local_names.specs.Names.{IsNaming}
 use Rattle.local_names.specs.PlainNames.{plain_name_of}
-use Rattle.local_names.specs.Rules.{usual_rules}
+use Rattle.local_names.specs.declared.rules.NameRules.{NameRules}
 use Rattle.report.specs.Entries.{harvest_lines_of}
 use Rattle.report.specs.ExitStatus.{exit_status}
 use Rattle.report.specs.Report.{report_text}
@@ -64,15 +65,15 @@ is_borne_out cause.Mismatch = false
 
 -- what is said of a harvest beside its contents: the entries, the records and the kept pages say what its state holds,
 -- which is sound
-abbrev pub IsRead : Harvested (List ℕ) → Type 0
+abbrev pub IsRead : Harvested BodyValue → Type 0
 IsRead h = AreEntries h × AreRecords h × ArePages h × IfSome h.plan (λ plan. IsSound (policy plan) h.state)
 
--- what is told of a retrieval: its report, in which the kept pages have their names, and the status of its records, of a
+-- what is told of a retrieval: its report, in which the kept pages have their names by these rules, and the status of its records, of a
 -- harvest that was read, or the cause for which it stopped; before either what is shown of its trace, which is nothing where a
 -- check failed
-abbrev pub IsRetrievalTold : Bool → Result (Harvested (List ℕ)) (Halt (List ℕ)) → List ℕ → ℕ → Type 0
-IsRetrievalTold is_shown (Ok h) text status =
-    IsRead h × (names : List (List ℕ)) × IsNaming (map (plain_name_of usual_rules) h.kept) names × (text ≡ trace_text (shown_of is_shown h.trace) ++ report_text (harvest_lines_of h names))
+abbrev pub IsRetrievalTold : NameRules → Bool → Result (Harvested BodyValue) (Halt BodyValue) → List ℕ → ℕ → Type 0
+IsRetrievalTold rules is_shown (Ok h) text status =
+    IsRead h × (names : List (List ℕ)) × IsNaming (map (plain_name_of rules) h.kept) names × (text ≡ trace_text (shown_of is_shown h.trace) ++ report_text (harvest_lines_of h names))
     × (status ≡ exit_status (map (λ recorded. recorded.1) h.records))
-IsRetrievalTold is_shown (Err halt) text status =
+IsRetrievalTold rules is_shown (Err halt) text status =
     (text ≡ trace_text (shown_of (is_borne_out halt.cause && is_shown) halt.harvest.trace) ++ finish_text (Stopped halt.cause)) × (status ≡ 1)

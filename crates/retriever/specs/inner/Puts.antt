@@ -1,6 +1,7 @@
 -- What is put into a folder and told of what was retrieved, before it is said what that is. How a text is told, with the
 -- status that belongs to it, is left to who says it.
 use Rattle.std.specs.Prelude.{◌≡◌, ◌⊎◌, ◌&&◌, ℕ, Bool, List, ◌++◌, map, codes, Result, Ok, Err}
+use Rattle.kept_bodies.specs.Bodies.{BodyValue}
 use Rattle.frontier_core.specs.declared.event.Cause.{Cause}
 use Rattle.frontier_core.specs.declared.event.Cause.TheVariants as cause
 use Rattle.harvest.specs.Harvests.{Harvested}
@@ -8,7 +9,7 @@ use Rattle.workers.specs.declared.retrieval.Halt.{Halt}
 use Rattle.local_tree.specs.Folders.{Holding}
 use Rattle.local_names.specs.Names.{IsNaming}
 use Rattle.local_names.specs.PlainNames.{plain_name_of}
-use Rattle.local_names.specs.Rules.{usual_rules}
+use Rattle.local_names.specs.declared.rules.NameRules.{NameRules}
 use Rattle.local_tree.specs.SiteFiles.{IsWhole, IsTorn}
 use Rattle.local_tree.specs.declared.site_files.WriteFault.{WriteFault}
 use Rattle.local_tree.specs.declared.site_files.WriteFault.TheVariants.{Device}
@@ -29,7 +30,7 @@ bare_cause cause.Memory = cause.Memory
 bare_cause cause.Mismatch = cause.Mismatch
 
 -- the line of a retrieval that stopped is told, behind what is shown of its trace, or without that for want of memory
-abbrev pub IsHaltTold : (List ℕ → ℕ → Type 0) → Bool → Halt (List ℕ) → Type 0
+abbrev pub IsHaltTold : (List ℕ → ℕ → Type 0) → Bool → Halt BodyValue → Type 0
 IsHaltTold IsTold is_shown halt =
     IsTold (trace_text (shown_of (is_borne_out halt.cause && is_shown) halt.harvest.trace) ++ finish_text (Stopped halt.cause)) 1
     ⊎ IsTold (finish_text (Stopped (bare_cause halt.cause))) 1
@@ -39,20 +40,20 @@ abbrev pub files_whole : WriteFault → ℕ
 files_whole (Device whole) = whole
 
 -- these files were put, and then this text was told with this status, or a put failed
-abbrev pub IsPutAndTold : (List ℕ → ℕ → Type 0) → List (List ℕ) → List (List ℕ) → List ℕ × ℕ → Holding → Holding → Type 0
+abbrev pub IsPutAndTold : (List ℕ → ℕ → Type 0) → List (List ℕ) → List BodyValue → List ℕ × ℕ → Holding → Holding → Type 0
 IsPutAndTold IsTold names bodies (text, wanted) old new =
     (IsWhole names bodies old.files new.files × (new.failed ≡ old.failed) × IsTold text wanted)
     ⊎ ((whole : ℕ) × IsTorn names bodies old new whole × IsTornTold IsTold text whole)
 
 -- the text of a harvest whose kept pages have these names
-abbrev pub harvest_text : Bool → Harvested (List ℕ) → List (List ℕ) → List ℕ
+abbrev pub harvest_text : Bool → Harvested BodyValue → List (List ℕ) → List ℕ
 harvest_text is_shown h names = trace_text (shown_of is_shown h.trace) ++ report_text (harvest_lines_of h names)
 
 -- what is put and told of what was retrieved: the kept pages and the report of a harvest that was read, or the line of the
 -- cause for which it stopped; or there is no memory for it, and nothing is put
-abbrev pub IsPutOf : (List ℕ → ℕ → Type 0) → Bool → Result (Harvested (List ℕ)) (Halt (List ℕ)) → Holding → Holding → Type 0
-IsPutOf IsTold is_shown (Ok h) old new =
+abbrev pub IsPutOf : (List ℕ → ℕ → Type 0) → NameRules → Bool → Result (Harvested BodyValue) (Halt BodyValue) → Holding → Holding → Type 0
+IsPutOf IsTold rules is_shown (Ok h) old new =
     ((new ≡ old) × IsTold (codes "stopped memory\n") 1)
-    ⊎ (IsRead h × (names : List (List ℕ)) × IsNaming (map (plain_name_of usual_rules) h.kept) names
+    ⊎ (IsRead h × (names : List (List ℕ)) × IsNaming (map (plain_name_of rules) h.kept) names
     × IsPutAndTold IsTold names h.bodies (harvest_text is_shown h names, exit_status (map (λ recorded. recorded.1) h.records)) old new)
-IsPutOf IsTold is_shown (Err halt) old new = (new ≡ old) × IsHaltTold IsTold is_shown halt
+IsPutOf IsTold rules is_shown (Err halt) old new = (new ≡ old) × IsHaltTold IsTold is_shown halt

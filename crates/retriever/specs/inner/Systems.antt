@@ -3,6 +3,7 @@ use Rattle.std.specs.Prelude.{◌≡◌, ◌&&◌, ℕ, Bool, is_none, false, Li
 use Rattle.options.specs.Order.{kept_of}
 use Rattle.options.specs.declared.order.Order.{Order}
 use Rattle.fetcher.specs.declared.fetcher.Fetcher.{Ghosts as Fetchers}
+use Rattle.kept_bodies.specs.Bodies.{BodyValue}
 use Rattle.site_records.specs.RecordSites.{RecordValue}
 use Rattle.site_records.specs.Resumption.{Resuming}
 use Rattle.retriever.specs.Found.{outside}
@@ -21,7 +22,7 @@ is_plain resume save = is_none resume && is_none save
 
 module _ {S F D V : Type 0} (m : Means S F D V) (order : Order) where
   -- the live retrieval that is ordered, by these fetchers, into a folder that the system opens at the order's prefix
-  pub record LivesInto {X : Type 0} (means : Fetchers X (List ℕ)) (fetchers : List X) (before after : Option (List ℕ)) (status : ℕ) : Type 0 where
+  pub record LivesInto {X : Type 0} (means : Fetchers X BodyValue) (fetchers : List X) (before after : Option (List ℕ)) (status : ℕ) : Type 0 where
     pub folder : D
     pub opened : m.gives.opens m.system order.prefix folder
     pub left : D

@@ -1,5 +1,6 @@
 -- The files are whole, or so many are as the fault says.
 use Rattle.std.proofs.Common.{◌≡◌, ℕ, List, inl, inr, sym, subst}
+use Rattle.kept_bodies.specs.Bodies.{BodyValue}
 use Rattle.local_tree.specs.Folders.{Holding}
 use Rattle.local_tree.specs.SiteFiles.{IsTorn, IsTornBy}
 use Rattle.local_tree.specs.declared.site_files.WriteFault.{WriteFault}
@@ -7,7 +8,7 @@ use Rattle.local_tree.specs.declared.site_files.WriteFault.TheVariants.{Device}
 use Rattle.retriever.specs.inner.Puts.{files_whole}
 use Rattle.retriever.proofs.live_run.put_and_tell.Goals as goal
 
-torn_is : (names bodies : List (List ℕ)) (old new : Holding) (fault : WriteFault) (whole : ℕ) → whole ≡ files_whole fault → IsTornBy names bodies old new fault
+torn_is : (names : List (List ℕ)) (bodies : List BodyValue) (old new : Holding) (fault : WriteFault) (whole : ℕ) → whole ≡ files_whole fault → IsTornBy names bodies old new fault
     → IsTorn names bodies old new whole
 torn_is names bodies old new (Device k) whole is torn = subst (λ (n : ℕ). IsTorn names bodies old new n) (sym is) torn
 

@@ -9,7 +9,7 @@ pub returns-in-Ok : goal.returns-in-Ok
 returns-in-Ok g c =
     let words = map (λ word. word.now) c.args.words.now in
     let advice = c.as_str.ensures.value ∙ c.in-Ok.ensures.advice in
-    let line = c.as_bytes.ensures.value ∙ c.in-Ok.ensures.line in
+    let line = c.as_bytes.ensures.value ∙ c.in-Ok.ensures.text in
     let before = g.W.Write.contents c.args.writer.now in
     let after = g.W.Write.contents c.deliver.new.writer in
     record {

@@ -1,0 +1,78 @@
+//! Where a run tells what it has to tell: on standard output and standard error, nowhere, or into a file.
+ghost use Rattle.std.specs.Prelude.{◌≡◌, ◌≢◌, IfErr, IfOk, map, option_map, string_bytes};
+ghost use Rattle.std.specs.Vec.Iter.{into_iter_items};
+ghost use Rattle.options.specs.Order.{log_by, order_of};
+ghost use Rattle.retriever.specs.Program.{words_behind};
+ghost use Rattle.retriever.specs.Telling.{telling_by};
+
+use crate::program::{all_words, texts_behind};
+use options::{LineFault, Log, read_order};
+use std::alloc::{AllocError, Global};
+use std::env::Args;
+use std::io;
+
+/// Where a run tells what it has to tell.
+#[derive(Drop)]
+pub struct Telling {
+    /// Nothing is told.
+    pub is_quiet: bool,
+    /// The file that takes the report and what failed; without one they go to standard output and standard error.
+    pub log: Option<Log>,
+}
+
+impl Telling {
+    /// The path of that file, and whether it keeps what it has. Takes no memory.
+    pub fn file(&self) -> Option<(&str, bool)> {
+        match &self.log {
+            Some(log) => Some((log.path.as_str(), log.appends)),
+            None => None,
+        }
+    }
+}
+
+// What is told of refused words goes to standard output and standard error.
+fn standard() -> Telling
+    ensures { (result.is_quiet, option_map log_by result.log) ≡ telling_by (Err LineFault.Memory) }
+{
+    Telling {
+        is_quiet: false,
+        log: None,
+    }
+}
+
+// By these words.
+fn telling_of_words(alloc: Global, words: &[&str]) -> Result<Telling, AllocError>
+    ensures { IfOk result (λ t. (t.is_quiet, option_map log_by t.log) ≡ telling_by (order_of (map (λ word. word.now) words.now))) }
+{
+    match read_order(alloc, words) {
+        Ok(order) => Ok(Telling {
+            is_quiet: order.quiet,
+            log: order.into_log(),
+        }),
+        Err(LineFault::Memory) => Err(AllocError),
+        Err(_) => Ok(standard()),
+    }
+}
+
+// By these words, the program's name first.
+fn telling_of_all(alloc: Global, all: &[String]) -> Result<Telling, AllocError>
+    ensures { IfOk result (λ t. (t.is_quiet, option_map log_by t.log) ≡ telling_by (order_of (words_behind all.now))) }
+{
+    let words = texts_behind(alloc, all)?;
+    telling_of_words(alloc, words.as_slice())
+}
+
+/// Where the program tells what it has to tell, by its arguments, the program's name first: what they order says it, and what is
+/// told of refused words goes to standard output and standard error. The error is that memory ran out.
+pub fn telling_of(alloc: Global, args: io::Result<Args>) -> Result<Telling, AllocError>
+    ensures ordered { IfOk args (λ all. IfOk result (λ t. (t.is_quiet, option_map log_by t.log) ≡ telling_by (order_of (words_behind (into_iter_items all))))) }
+    ensures refused { IfErr args (λ error. IfOk result (λ t. (t.is_quiet, option_map log_by t.log) ≡ telling_by (Err LineFault.Memory))) }
+{
+    match args {
+        Ok(args) => {
+            let all = all_words(alloc, args)?;
+            telling_of_all(alloc, all.as_slice())
+        }
+        Err(_) => Ok(standard()),
+    }
+}
