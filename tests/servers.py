@@ -36,15 +36,16 @@ class Site:
 
     An answer is bytes, or a function of the connection and the request that sends what it likes and says whether the connection
     is kept. A connection is closed after `most` requests (None: it is kept for any number), and if `idle` seconds pass between two.
-    With `greet` no request is read: that function gets the connection instead.
+    With `greet` no request is read: that function gets the connection instead. It listens at some ports of its own choice, or at
+    these addresses.
     """
 
-    def __init__(self, answers=None, most=1, idle=None, greet=None, ports=1):
+    def __init__(self, answers=None, most=1, idle=None, greet=None, ports=1, addresses=None):
         self.answers, self.most, self.idle, self.greet = answers or {}, most, idle, greet
         # What was asked for, where from each connection came, and how many connections are being served.
         self.asked, self.opened, self.serving = [], [], 0
         self.change = threading.Condition()
-        self.listeners = [socket.create_server(("127.0.0.1", 0), backlog=256) for _ in range(ports)]
+        self.listeners = [socket.create_server(it, backlog=256) for it in addresses or [("127.0.0.1", 0)] * ports]
         self.ports = [it.getsockname()[1] for it in self.listeners]
         self.port, self.host = self.ports[0], f"127.0.0.1:{self.ports[0]}"
         self.accepting = [threading.Thread(target=self.accept, args=(it,), daemon=True) for it in self.listeners]
