@@ -1,11 +1,8 @@
-//! Servers for tests: one answers requests by what a table says of their first line, one by a script.
+//! A server for tests, which answers requests by a script.
 use std::alloc::Global;
 use std::io::{Read, Write};
 use std::net::TcpListener;
 use std::process::Abort;
-
-/// The front of a request's text, and what is answered to such a request.
-pub(crate) type Answered = (&'static str, &'static str);
 
 // The text of one request, up to its empty line, and what came with that; shorter where the peer ends or fails.
 fn read_request<S: Read>(rt: &impl Abort, alloc: Global, stream: &mut S) -> Vec<u8> {
@@ -21,53 +18,6 @@ fn read_request<S: Read>(rt: &impl Abort, alloc: Global, stream: &mut S) -> Vec<
         }
     }
     text
-}
-
-// The bytes that answer a request.
-fn answer_to(table: &[Answered], request: &[u8]) -> &'static [u8] {
-    for (front, answer) in table {
-        if request.starts_with(front.as_bytes()) {
-            return answer.as_bytes();
-        }
-    }
-    b"HTTP/1.1 404 Not Found\r\nContent-Length: 0\r\n\r\n"
-}
-
-// Answers the request of a connection, and notes it. Whether one came.
-fn answer<S: Read + Write>(
-    rt: &impl Abort,
-    alloc: Global,
-    stream: &mut S,
-    table: &[Answered],
-    requests: &mut Vec<Vec<u8>>,
-) -> bool {
-    let request = read_request(rt, alloc, stream);
-    if request.is_empty() {
-        return false;
-    }
-    // A peer that has gone needs no answer.
-    let _ = stream.write_all(answer_to(table, &request));
-    requests.push(request).expect(rt, "memory");
-    true
-}
-
-/// Answers connections one after another until one brings no request, and gives the texts of the requests that came.
-pub(crate) fn serve(
-    rt: &impl Abort,
-    alloc: Global,
-    listener: &TcpListener,
-    table: &[Answered],
-) -> Vec<Vec<u8>> {
-    let mut requests = Vec::new(alloc);
-    for stream in listener.incoming() {
-        let Ok(mut stream) = stream else {
-            continue;
-        };
-        if !answer(rt, alloc, &mut stream, table, &mut requests) {
-            break;
-        }
-    }
-    requests
 }
 
 /// A head with both fields that frame a body.

@@ -6,7 +6,6 @@
 //! written `|`.
 
 use std::alloc::Global;
-use std::env::Args;
 use std::process::Abort;
 
 /// What stands behind the first mark of its kind.
@@ -82,14 +81,4 @@ pub(crate) fn words_of<'a>(
         words.push(word).expect(rt, "memory");
     }
     words
-}
-
-/// The words of a line as the system gives them to a program.
-pub(crate) fn arguments_of(rt: &impl Abort, alloc: Global, line: &str) -> Args {
-    let mut all = Vec::new(alloc);
-    for word in line.split(' ') {
-        let word = String::from_str(alloc, word).expect(rt, "memory");
-        all.push(word).expect(rt, "memory");
-    }
-    all.into_iter()
 }

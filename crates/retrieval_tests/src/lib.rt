@@ -1,24 +1,18 @@
-//! Retrievals that were worked out by hand, and what is made of them: tests alone, of the frontier, of what it is made of and
-//! of those who drive it, in order and in threads, also over connections that fail, of the lock, of the names of pages,
-//! of folders in memory and on a disk, of journals, and of the report; and of growths of memory that are refused, to these and to
-//! what stands below them. They stand above these crates, so none is proved once more with them, and their proofs see clauses and
-//! no fields. What is large is let go by `drop`, which is cheaper to prove than its end of scope.
+//! Parts of retrievals and what is made of these: tests alone, of what a frontier is made of, of one whose worker asks in order over
+//! connections that fail, of the lock, of the names of pages, of folders in memory and on a disk, of journals, and of the report;
+//! and of growths of memory that are refused, to frontiers, to crews and to what stands below them. What retrievals find, by any
+//! number of workers, is in `tests/runs`. They stand above these crates, so none is proved once more with them, and their proofs
+//! see clauses and no fields. What is large is let go by `drop`, which is cheaper to prove than its end of scope.
 #![tactic(auto)]
 
 #[cfg(test)]
 mod agenda_tests;
-#[cfg(test)]
-mod crew;
-#[cfg(test)]
-mod crew_tests;
 #[cfg(test)]
 mod disk;
 #[cfg(test)]
 mod disk_site_tests;
 #[cfg(test)]
 mod disk_tests;
-#[cfg(test)]
-mod frontier_tests;
 #[cfg(test)]
 mod growth;
 #[cfg(test)]
@@ -27,8 +21,6 @@ mod journal_tests;
 mod label_tests;
 #[cfg(test)]
 mod lock_tests;
-#[cfg(test)]
-mod long_crew_tests;
 #[cfg(test)]
 mod memory_tests;
 #[cfg(test)]
@@ -39,8 +31,5 @@ mod report_tests;
 mod retrieval;
 #[cfg(test)]
 mod rows;
-#[cfg(test)]
-mod script;
-#[cfg(test)]
 #[cfg(test)]
 mod wire_tests;

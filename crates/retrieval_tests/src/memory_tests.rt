@@ -1,20 +1,56 @@
 //! A retrieval that stops for want of memory keeps what it found.
-use crate::crew::{Crewed, fetchers};
-use crate::rows::plan_of;
-use fetcher::Body;
+use crate::rows::plan;
+use address::{Address, Origin};
+use fetcher::{Answer, Ask, Body, Fetcher};
 use frontier_core::{Cause, Event};
-use std::alloc::Global;
+use robots_rules::RuleSet;
+use site_maps::MapSite;
+use std::alloc::{AllocError, Global};
 use std::process::Abort;
 use workers::{Halt, Harvest, retrieve_in_order};
 
-/// The start leads to `/a`, for which there is no memory. The form is told in `rows.rt`.
-const PAIR: &str = "hops 3
-most 100
-robots on
-memory short
-< page 200 http://h/
-< link http://h/a
+/// The start leads to `/a`, for which there is no memory.
+const PAIR: &str = "page 200 http://h/
+link http://h/a
 ";
+
+/// A map's site that finds memory for its start alone.
+#[derive(Drop)]
+struct Poor {
+    site: MapSite,
+}
+
+impl Fetcher for Poor {
+    ghost use Rattle.std.specs.Prelude.{⊤};
+
+    type Body = Body;
+
+    ghost Site = { Unit {0} };
+
+    ghost site = { λ _. tt };
+
+    ghost says = { λ _ _ _ _. ⊤ };
+
+    ghost rules = { λ _ _ _. ⊤ };
+
+    ghost log = { λ f. f.site.asks };
+
+    fn ask(&mut self, at: &Address) -> Result<Answer<Body>, AllocError> {
+        if at.path_query() == "/" {
+            self.site.ask(at)
+        } else {
+            Err(AllocError)
+        }
+    }
+
+    fn ask_robots(&mut self, of: &Origin) -> Result<RuleSet, AllocError> {
+        self.site.ask_robots(of)
+    }
+
+    fn asks(&self) -> &[Ask] {
+        self.site.asks()
+    }
+}
 
 /// How many addresses the harvest has an outcome of.
 fn record_count(harvest: &Harvest<Body>) -> usize {
@@ -40,25 +76,24 @@ fn kept_one(halt: &Halt<Body>) -> bool {
         && ends_for_memory(harvest)
 }
 
-/// The halt of a fetcher.
-fn halt_of(rt: &impl Abort, alloc: Global, fetcher: &mut Crewed) -> Halt<Body> {
-    let plan = plan_of(rt, alloc, PAIR);
-    match retrieve_in_order(alloc, &plan, fetcher) {
+/// The halt of a retrieval of such a site.
+fn halt_of(rt: &impl Abort, alloc: Global) -> Halt<Body> {
+    let plan = plan(rt, alloc, 3, 100);
+    let mut poor = Poor {
+        site: MapSite::read(alloc, PAIR.as_bytes()).expect(rt, "a map"),
+    };
+    let ended = retrieve_in_order(alloc, &plan, &mut poor);
+    drop(plan);
+    drop(poor);
+    match ended {
         Ok(_harvest) => panic!(rt; "no halt"),
-        Err(halt) => {
-            drop(plan);
-            halt
-        }
+        Err(halt) => halt,
     }
 }
 
 #[test]
 fn a_stop_for_memory_keeps_what_was_found(rt: HostRuntime) {
-    let mut fetchers = fetchers(&rt, rt.alloc(), PAIR, 1, 1);
-    for fetcher in &mut fetchers {
-        let halt = halt_of(&rt, rt.alloc(), fetcher);
-        assert!(rt; kept_one(&halt));
-        drop(halt);
-    }
-    drop(fetchers);
+    let halt = halt_of(&rt, rt.alloc());
+    assert!(rt; kept_one(&halt));
+    drop(halt);
 }

@@ -15,7 +15,7 @@ const SITE: &str =
 http://h/a HTTP/1.1 200 |Content-Length: 1||A
 http://h/b HTTP/1.1 200 ||B";
 
-/// What is found of it in the form of `rows.rt`, where at each line behind `!` connections fail: behind a connection's number
+/// What is found of it, behind `>`, where at each line behind `!` connections fail: behind a connection's number
 /// stands that of the call, `connect`, or `idle` for its end while it is kept. The first connection serves the start with calls 0
 /// and 1, the robots file with 2 and 3, `/a` with 4 and 5, `/b` with 6 and 7, and its end is read with 8.
 const FAILING: &str = "! 0 2
@@ -128,10 +128,10 @@ fn finds<C: Connect>(rt: &impl Abort, alloc: Global, connect: C, wanted: &str) -
     plan.robots = true;
     plan.span_hosts = true;
     let mut fetcher = HttpFetcher::new(alloc, connect, true).keeping();
-    let seen = retrieved_in_order(rt, alloc, &plan, &mut fetcher);
+    let report = retrieved_in_order(rt, alloc, &plan, &mut fetcher);
     drop(plan);
     drop(fetcher);
-    seen.end == "whole" && seen.report.as_str() == wanted
+    report.as_str() == wanted
 }
 
 #[test]

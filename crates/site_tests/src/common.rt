@@ -1,6 +1,6 @@
 //! What several modules need: parts of rows, addresses, texts that are long, bytes of texts, what a site says, and the end of a test.
 use address::{Address, Origin};
-use fetcher::{Answer, Body, FaultKind, Fetcher, Outcome};
+use fetcher::{Answer, Body, Fetcher, Outcome};
 use std::alloc::Global;
 use std::process::Abort;
 
@@ -128,34 +128,9 @@ pub(crate) fn says_all<F: Fetcher<Body = Body>>(
     demand(rt, is_noted, "each question is noted once");
 }
 
-/// How many edges a site's answer to an address has.
-pub(crate) fn edge_count<F: Fetcher<Body = Body>>(
-    rt: &impl Abort,
-    alloc: Global,
-    site: &mut F,
-    at: &str,
-) -> usize {
-    let answer = site.ask(&address(rt, alloc, at)).expect(rt, "memory");
-    answer.outcome.edge_count()
-}
-
-/// The fault of an outcome that is one.
-fn fault_of(outcome: &Outcome) -> Option<FaultKind> {
-    match outcome {
-        Outcome::Fault(kind) => Some(*kind),
-        _ => None,
-    }
-}
-
-/// Asks for a page, and gives the fault that answers.
-fn ask<F: Fetcher<Body = Body>>(
-    rt: &impl Abort,
-    alloc: Global,
-    site: &mut F,
-    at: &str,
-) -> Option<FaultKind> {
-    let answer = site.ask(&address(rt, alloc, at)).expect(rt, "memory");
-    fault_of(&answer.outcome)
+/// Asks for a page.
+fn ask<F: Fetcher<Body = Body>>(rt: &impl Abort, alloc: Global, site: &mut F, at: &str) {
+    let _ = site.ask(&address(rt, alloc, at)).expect(rt, "memory");
 }
 
 /// Asks for the rules of an origin.
@@ -163,22 +138,19 @@ fn ask_robots<F: Fetcher<Body = Body>>(rt: &impl Abort, alloc: Global, site: &mu
     let _ = site.ask_robots(&origin(rt, alloc, of)).expect(rt, "memory");
 }
 
-/// Asks a site, which nobody asked yet, for pages and, behind `robots:`, for the rules of origins, and gives the fault that answers
-/// the last page.
+/// Asks a site, which nobody asked yet, for pages and, behind `robots:`, for the rules of origins.
 pub(crate) fn ask_all<F: Fetcher<Body = Body>>(
     rt: &impl Abort,
     alloc: Global,
     site: &mut F,
     questions: &str,
-) -> Option<FaultKind> {
-    let mut fault = None;
+) {
     for question in questions.split(' ') {
         match question.strip_prefix("robots:") {
             Some(of) => ask_robots(rt, alloc, site, of),
-            None => fault = ask(rt, alloc, site, question),
+            None => ask(rt, alloc, site, question),
         }
     }
     let is_noted = site.asks().len() == questions.split(' ').count();
     demand(rt, is_noted, "each question is noted once");
-    fault
 }

@@ -1,6 +1,5 @@
-//! Connections in memory: what each answers to the text of a request, and that each is ended.
+//! Connections in memory: what each answers to the text of a request.
 use crate::common::{address, bytes_of, demand, halves, origin};
-use crate::kept_tests::asked;
 use address::Origin;
 use response_reader::Wire;
 use site_answer::{Connect, MemoryConnect, StoredAnswer};
@@ -72,20 +71,4 @@ fn a_connection_answers_the_text_of_a_request(rt: HostRuntime) {
     let answers = site_of(&rt, alloc, "http://h:81/x?y HTTP/1.1 203 ||ab");
     let mut connect = MemoryConnect::new(alloc, &answers, &[]);
     answers_all(&rt, alloc, &mut connect, &origin(&rt, alloc, "http://k/"));
-}
-
-// A page, one that is cut, and a robots file behind a redirect.
-const ENDING: &str = "http://h/ HTTP/1.1 200 ||a\nhttp://h/cut HTTP/1.1 2\n\
-http://h/robots.txt HTTP/1.1 302 |Location: /r|Content-Length: 0||\nhttp://h/r HTTP/1.1 200 ||";
-
-// Each connection that is asked for is ended, whatever came over it.
-#[test]
-fn each_connection_is_ended_once(rt: HostRuntime) {
-    let alloc = rt.alloc();
-    let pages = "http://h/ http://h/cut http://h/none";
-    let (counts, _) = asked(&rt, alloc, ENDING, &[], false, pages);
-    assert!(rt; counts.ended == 3);
-    let all = "http://h/ http://h/cut http://h/none robots:http://h/";
-    let (counts, _) = asked(&rt, alloc, ENDING, &[], false, all);
-    assert!(rt; counts.ended == 5);
 }

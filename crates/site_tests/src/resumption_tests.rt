@@ -65,7 +65,7 @@ fn noted_by<C: Connect>(rt: &impl Abort, alloc: Global, connect: C, records: boo
     } else {
         HttpFetcher::new(alloc, connect, true)
     };
-    let _ = ask_all(rt, alloc, &mut fetcher, QUESTIONS);
+    ask_all(rt, alloc, &mut fetcher, QUESTIONS);
     let noted = noted(rt, alloc, fetcher.notes());
     drop(fetcher);
     noted

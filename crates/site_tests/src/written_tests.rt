@@ -6,7 +6,7 @@ use answer_notes::Noted;
 use http_fetcher::{Connect, HttpFetcher};
 use memory_connect::MemoryConnect;
 use site_inputs::InputFault;
-use site_records::{RecordFault, RecordedSite, read_front, write_record};
+use site_records::{RecordFault, read_front, write_record};
 use std::alloc::Global;
 use std::process::Abort;
 
@@ -51,7 +51,7 @@ fn are_written(rt: &impl Abort, alloc: Global, notes: &[Noted], text: &[u8]) -> 
 // Whether all that a fetcher notes is written.
 fn writes_what_it_noted<C: Connect>(rt: &impl Abort, alloc: Global, connect: C) -> bool {
     let mut fetcher = HttpFetcher::recording(alloc, connect, true);
-    let _ = ask_all(rt, alloc, &mut fetcher, QUESTIONS);
+    ask_all(rt, alloc, &mut fetcher, QUESTIONS);
     let is_written = are_written(rt, alloc, fetcher.notes(), &bytes_of(rt, alloc, WRITTEN));
     drop(fetcher);
     is_written
@@ -67,7 +67,7 @@ fn what_is_noted_is_written_once(rt: HostRuntime) {
 // Whether nothing is written of the one page that is asked for.
 fn leaves_it_out<C: Connect>(rt: &impl Abort, alloc: Global, connect: C) -> bool {
     let mut fetcher = HttpFetcher::recording(alloc, connect, true);
-    let _ = ask_all(rt, alloc, &mut fetcher, "http://h/");
+    ask_all(rt, alloc, &mut fetcher, "http://h/");
     let is_empty = is_record(rt, alloc, fetcher.notes(), b"wgetr-record 2\n");
     drop(fetcher);
     is_empty
@@ -120,25 +120,4 @@ fn a_record_that_is_cut_is_read_as_far_as_it_is_whole(rt: HostRuntime) {
     assert!(rt; fronts_are_read(alloc, &text));
     let bad = b"wgetr-record 2\nfault x http://h/\npage";
     assert!(rt; read_front(alloc, bad, true).err() == Some(InputFault::Line(2)));
-}
-
-// A record of version 1, and the same as it is written again.
-const FIRST: &str =
-    "wgetr-record 1~fault connect http://h/~page http://h/a 26~HTTP/1.0 203 X||b~c~~d|~\
-robots http://h/ 3~a:b~rules all http://k/~rules none http://l/~";
-
-const SECOND: &str =
-    "wgetr-record 2~fault connect http://h/~page http://h/a 44~HTTP/1.1 203 |Content-Length: 8||b~c~~d|~\
-chain http://h/ 1~hop http://h/robots.txt 39~HTTP/1.1 200 |Content-Length: 3||a:b~\
-chain http://k/ 1~hop http://k/robots.txt 36~HTTP/1.1 404 |Content-Length: 0||~\
-chain http://l/ 1~hopfault device http://l/robots.txt~";
-
-#[test]
-fn a_record_of_the_first_version_is_written_again_as_one_of_the_second(rt: HostRuntime) {
-    let alloc = rt.alloc();
-    let site = RecordedSite::read_noted(alloc, &bytes_of(&rt, alloc, FIRST), true);
-    let site = site.expect(&rt, "a record");
-    let second = bytes_of(&rt, alloc, SECOND);
-    assert!(rt; is_record(&rt, alloc, site.notes(), &second));
-    drop(site);
 }
