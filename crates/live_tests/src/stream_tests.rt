@@ -1,15 +1,9 @@
-//! Runs over readers and writers that are interrupted, or fail at one of their calls and would work afterwards.
-use crate::memory_tests::{SITE, WHOLE, has_front, live_by, stored};
-use local_tree::MemoryFolder;
-use memory_connect::StoredAnswer;
-use retriever::run;
+//! Readers and writers that are interrupted, or fail at one of their calls and would work afterwards.
 use std::alloc::Global;
 use std::io;
 use std::io::{Error, ErrorKind, Read, Write};
 use std::process::Abort;
-use std::sync::Wait;
-use std::thread::Threads;
-use streams::{ReadFault, read_input};
+use streams::{Pieces, ReadFault, read_input, write_text};
 
 /// What befalls the calls of a stream.
 #[derive(Clone, Copy, Debug)]
@@ -92,56 +86,38 @@ fn lengthened(rt: &impl Abort, alloc: Global, front: &str, letters: u32) -> Stri
     text
 }
 
-/// Whether a run on such an input writes this, with this status, and reads no more often.
-fn bears<R: Abort + Threads + Wait + Sync>(
-    rt: &R,
-    alloc: Global,
-    input: &str,
-    trouble: Trouble,
-    text: &str,
-    status: u8,
-    calls: u32,
-) -> bool {
-    let kind = if input.starts_with("wgetr") {
-        "--record"
-    } else {
-        "--map"
-    };
-    let rest = input.as_bytes();
+/// Whether an input is read whole, or isn't read as its reader failed, and the reader is read so often.
+fn bears(alloc: Global, input: &str, trouble: Trouble, is_read: bool, calls: u32) -> bool {
     let mut reader = Slow {
-        rest,
+        rest: input.as_bytes(),
         trouble,
         calls: 0,
     };
-    let mut written: Vec<u8> = Vec::new(alloc);
-    let ended = run(rt, alloc, &[kind, "http://h/"], &mut reader, &mut written);
-    written.as_slice() == text.as_bytes() && ended == status && reader.calls == calls
+    let is_so = match read_input(alloc, &mut reader, 10_000) {
+        Ok(read) => is_read && read.as_slice() == input.as_bytes(),
+        Err(fault) => !is_read && fault == ReadFault::Failed,
+    };
+    is_so && reader.calls == calls
 }
 
 #[test]
 fn interrupted_reads_are_counted_over_the_whole_input(rt: HostRuntime) {
     let alloc = rt.alloc();
     let input = lengthened(&rt, alloc, "# ", 1_200);
-    let whole = "0 404 http://h/ -\nfetched 1 kept 0 refused 0 failed 1\n";
-    for (interrupted, text, status, calls) in [
-        (999, whole, 8, 2_202),
-        (1000, "input read\n", 1, 1_999),
-    ] {
+    for (interrupted, is_read, calls) in [(999, true, 2_202), (1000, false, 1_999)] {
         let trouble = Trouble::Interrupts(interrupted);
-        assert!(rt; bears(&rt, alloc, input.as_str(), trouble, text, status, calls));
+        assert!(rt; bears(alloc, input.as_str(), trouble, is_read, calls));
     }
 }
 
 #[test]
 fn a_reader_that_failed_is_not_read_again(rt: HostRuntime) {
-    for (input, calls) in [("page 200 http://h/\n", 20u32), ("wgetr-record 1\n", 16)] {
-        for call in 0..calls {
-            let trouble = Trouble::Fails(call);
-            assert!(rt;
-                bears(&rt, rt.alloc(), input, trouble, "input read\n", 1, call + 1),
-                "{call}"
-            );
-        }
+    for call in 0..20u32 {
+        let trouble = Trouble::Fails(call);
+        assert!(rt;
+            bears(rt.alloc(), "page 200 http://h/\n", trouble, false, call + 1),
+            "{call}"
+        );
     }
 }
 
@@ -155,89 +131,66 @@ fn writer_with(alloc: Global, piece: usize, trouble: Trouble) -> Narrow {
     }
 }
 
-/// How a run over such a writer ends whose address has 1,200 bytes, and whose report 1,245.
-fn ends_over<R: Abort + Threads + Wait + Sync>(rt: &R, alloc: Global, writer: &mut Narrow) -> u8 {
-    let start = lengthened(rt, alloc, "http://h/", 1_191);
-    let words = ["--map", start.as_str()];
-    run(rt, alloc, &words, &mut b"".as_slice(), writer)
+/// Whether a text is written in two pieces.
+fn writes_pieces(rt: &impl Abort, alloc: Global, text: &[u8], writer: &mut Narrow) -> bool {
+    let (front, rest) = text.split_at(text.len() / 2);
+    let mut pieces = Pieces::new(alloc);
+    pieces.push_lent(front).expect(rt, "memory");
+    pieces.push_lent(rest).expect(rt, "memory");
+    pieces.write(writer).is_ok()
 }
 
+/// Whether a text is written over such writers, of a byte at a time, or isn't: whole, and in two pieces.
+fn takes(rt: &impl Abort, alloc: Global, text: &[u8], trouble: Trouble, is_taken: bool) -> bool {
+    let mut whole = writer_with(alloc, 1, trouble);
+    let mut parted = writer_with(alloc, 1, trouble);
+    write_text(&mut whole, text).is_ok() == is_taken
+        && writes_pieces(rt, alloc, text, &mut parted) == is_taken
+}
+
+// The text takes 1,245 writes and a flush.
 #[test]
-fn a_writer_that_is_interrupted_too_often_or_takes_nothing_ends_with_status_1(rt: HostRuntime) {
-    for (trouble, status) in [
-        (Trouble::Interrupts(999), 8),
-        (Trouble::Interrupts(1000), 1),
-        (Trouble::TakesNothing(0), 1),
-        (Trouble::TakesNothing(1_244), 1),
-        (Trouble::TakesNothing(1_245), 1),
+fn a_writer_that_is_interrupted_too_often_or_takes_nothing_fails(rt: HostRuntime) {
+    let text = lengthened(&rt, rt.alloc(), "", 1_245);
+    for (trouble, is_taken) in [
+        (Trouble::Interrupts(999), true),
+        (Trouble::Interrupts(1000), false),
+        (Trouble::TakesNothing(0), false),
+        (Trouble::TakesNothing(1_244), false),
+        (Trouble::TakesNothing(1_245), false),
+        (Trouble::TakesNothing(1_246), true),
     ] {
-        let mut writer = writer_with(rt.alloc(), 1, trouble);
         assert!(rt;
-            ends_over(&rt, rt.alloc(), &mut writer) == status,
+            takes(&rt, rt.alloc(), text.as_bytes(), trouble, is_taken),
             "{trouble:?}"
         );
     }
 }
 
-/// Whether the writer has this text, and the status is this; or, where its call failed, it has a front, the status is 1, and
-/// that call was the last.
-fn has_told(writer: &Narrow, call: u32, text: &str, ended: u8, status: u8) -> bool {
+/// Whether the writer has this text, and it was written; or, where its call failed, it has a front, and that call was the last.
+fn has_front(writer: &Narrow, call: u32, text: &[u8], is_written: bool) -> bool {
     if writer.calls <= call {
-        return writer.held.as_slice() == text.as_bytes() && ended == status;
+        return is_written && writer.held.as_slice() == text;
     }
-    text.as_bytes().starts_with(&writer.held) && ended == 1 && writer.calls == call + 1
+    !is_written && text.starts_with(&writer.held) && writer.calls == call + 1
 }
 
-/// Whether a live run whose third put fails tells what it is to over such a writer.
-fn tells<R: Abort + Threads + Wait + Sync>(
-    rt: &R,
-    alloc: Global,
-    answers: &[StoredAnswer],
-    text: &str,
-    call: u32,
-    trouble: Trouble,
-) -> bool {
-    let mut folder = MemoryFolder::failing_at(alloc, 2);
-    let mut writer = writer_with(alloc, 10, trouble);
-    let ended = live_by(
-        rt,
-        alloc,
-        1,
-        "-r http://h/",
-        answers,
-        &[],
-        &mut folder,
-        &mut writer,
-    );
-    has_told(&writer, call, text, ended, 3) && has_front(&folder, 2)
+/// Whether a text is written over such writers, of ten bytes at a time, as far as it is to be: whole, and in two pieces.
+fn stops(rt: &impl Abort, alloc: Global, text: &[u8], call: u32, trouble: Trouble) -> bool {
+    let mut whole = writer_with(alloc, 10, trouble);
+    let mut parted = writer_with(alloc, 10, trouble);
+    let is_written = write_text(&mut whole, text).is_ok();
+    let are_written = writes_pieces(rt, alloc, text, &mut parted);
+    has_front(&whole, call, text, is_written) && has_front(&parted, call, text, are_written)
 }
 
-/// Whether a run over such a writer does.
-fn tells_of_a_map<R: Abort + Threads + Wait + Sync>(
-    rt: &R,
-    alloc: Global,
-    call: u32,
-    trouble: Trouble,
-) -> bool {
-    let text = "0 404 http://h/ -\nfetched 1 kept 0 refused 0 failed 1\n";
-    let mut writer = writer_with(alloc, 10, trouble);
-    let words = ["--map", "http://h/"];
-    let ended = run(rt, alloc, &words, &mut b"".as_slice(), &mut writer);
-    has_told(&writer, call, text, ended, 8)
-}
-
-// The live report takes eleven writes and a flush, and the line behind it two and one; the other six and one.
+// The text takes six writes and a flush.
 #[test]
 fn a_writer_that_failed_holds_a_front_and_is_not_written_again(rt: HostRuntime) {
-    let answers = stored(&rt, rt.alloc(), SITE);
-    let text = format!(in rt.alloc(); "{WHOLE}files written 2\n").expect(&rt, "memory");
-    for call in 0..16u32 {
+    let text = b"0 404 http://h/ -\nfetched 1 kept 0 refused 0 failed 1\n";
+    for call in 0..9u32 {
         for trouble in [Trouble::Fails(call), Trouble::TakesNothing(call)] {
-            assert!(rt;
-                tells(&rt, rt.alloc(), &answers, text.as_str(), call, trouble)
-                    && tells_of_a_map(&rt, rt.alloc(), call, trouble),
-                "{trouble:?}"
-            );
+            assert!(rt; stops(&rt, rt.alloc(), text, call, trouble), "{trouble:?}");
         }
     }
 }

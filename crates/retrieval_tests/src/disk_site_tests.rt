@@ -397,56 +397,6 @@ fn what_a_crew_leaves_out_or_moves_is_put_all_the_same(rt: HostRuntime) {
     }
 }
 
-/// At which file a directory stands in its place, and how many entries the host's directory has then: the start, and a directory
-/// for each directory of the site up to there, of which each has 42 or 43 pages.
-const PLACES: &[(usize, usize)] = &[
-    (0, 1),
-    (1, 2),
-    (2, 2),
-    (42, 2),
-    (43, 3),
-    (130, 5),
-    (256, 7),
-    (257, 7),
-    (299, 8),
-];
-
-/// Makes a directory in the place of a site's file.
-fn occupy<R: Abort + Files + AllocGlobal>(rt: &R, site: &KeptSite, place: usize) {
-    let name = site.names.get(place).expect(rt, "a name");
-    let path = format!(in rt.alloc(); "disk/{name}").expect(rt, "memory");
-    fs::create_dir_all(rt, path.as_str()).expect(rt, "the disk");
-}
-
-/// Whether a site is put as far as its file whose place is taken, and the host's directory has so many entries then.
-fn stops_at<R: Abort + Threads + Files + AllocGlobal + Clone + Drop>(
-    rt: &R,
-    disk: &Disk,
-    site: &KeptSite,
-    place: usize,
-    directories: usize,
-) -> bool {
-    put_by_threads(rt, disk, site) == (place, Some(ErrorKind::AlreadyExists))
-        && are_put(rt, site, place)
-        && entries(rt, "disk") == 1
-        && entries(rt, "disk/h") == directories
-}
-
-#[test]
-fn no_file_is_put_behind_one_that_cannot_be(rt: HostRuntime) {
-    let site = kept_site(&rt, rt.alloc(), 300);
-    for (place, directories) in PLACES {
-        let disk = disk(rt, rt.alloc(), Mishap::Holds(u64::MAX)).expect(&rt, "memory");
-        occupy(&rt, &site, *place);
-        assert!(rt;
-            stops_at(&rt, &disk, &site, *place, *directories),
-            "{place}"
-        );
-        drop(disk);
-    }
-    drop(site);
-}
-
 /// How many bytes the files of a site have in all.
 fn size_of(site: &KeptSite) -> u64 {
     let mut bytes = 0u64;

@@ -1,7 +1,7 @@
-//! Files on a disk: made with their directories, replaced, and never put through a link; a disk that fails, and one that another
-//! process uses. Files in memory, and a put that fails. Names stand in a text with a blank between two.
+//! Files on a disk: made with their directories, and replaced; a disk that fails, and one that another process uses. Names stand in a
+//! text with a blank between two.
 use crate::disk::{Disk, Log, Mishap};
-use local_tree::{Close, DiskFolder, Folder, MemoryFolder};
+use local_tree::{Close, DiskFolder, Folder};
 use std::alloc::Global;
 use std::fs;
 use std::fs::Files;
@@ -45,11 +45,6 @@ fn is_absent(rt: &impl Files, path: &str) -> bool {
 // A file of this text.
 fn write(rt: &(impl Abort + Files), path: &str, text: &str) {
     fs::write(rt, path, text).expect(rt, "the disk");
-}
-
-// A link to there.
-fn link(rt: &(impl Abort + Files), target: &str, path: &str) {
-    rt.symlink(target, path).expect(rt, "the disk");
 }
 
 // A folder on the disk.
@@ -115,34 +110,6 @@ fn put_below<R: Abort + Files + AllocGlobal>(rt: &R, folder: &mut impl Folder) {
 #[test]
 fn files_are_put_below_the_folder(rt: HostRuntime) {
     put_below(&rt, &mut folder(&rt, rt.alloc(), "tree/of files"));
-}
-
-// A folder `inside` with links that lead out of it.
-fn make_links(rt: &(impl Abort + Files)) {
-    fs::create_dir_all(rt, "inside/h").expect(rt, "the disk");
-    fs::create_dir_all(rt, "outside").expect(rt, "the disk");
-    write(rt, "outside/kept", "as it was");
-    link(rt, "../../outside", "inside/h/d");
-    link(rt, "../../outside/kept", "inside/h/f");
-    link(rt, "../../outside/new", "inside/h/g");
-    link(rt, "../outside", "inside/k");
-    link(rt, "../outside/kept", "inside/.wgetr%part7");
-}
-
-// Whether a folder that is `inside` refuses what would lead out of it, and nothing else.
-fn stays_inside(rt: &(impl Files + AllocGlobal), folder: &mut impl Folder) -> bool {
-    puts_none(folder, "h/d/kept h/d h/f h/g k/kept k/x/y")
-        && puts_all(folder, "h/e")
-        && holds(rt, "outside/kept", b"as it was")
-        && is_absent(rt, "outside/new")
-}
-
-#[test]
-fn links_are_not_followed(rt: HostRuntime) {
-    make_links(&rt);
-    let mut folder = folder(&rt, rt.alloc(), "inside");
-    assert!(rt; stays_inside(&rt, &mut folder));
-    drop(folder);
 }
 
 // The folder `disk` with a file, and beside it another.
@@ -388,59 +355,4 @@ fn a_folder_says_why_a_put_failed(rt: HostRuntime) {
     // What the system says has its number (errno(3), Linux: not a directory).
     let number = number_of_refusal(&rt, &mut folder(&rt, rt.alloc(), "reasons/h/c/d"));
     assert!(rt; number == Some(20));
-}
-
-// A name of 50 directories, each of 100 letters.
-fn long_name(rt: &impl Abort, alloc: Global) -> String {
-    let mut name = String::from_str(alloc, "h").expect(rt, "memory");
-    for _ in 0..50u8 {
-        name.push_str("/").expect(rt, "memory");
-        for _ in 0..100u8 {
-            name.push_str("a").expect(rt, "memory");
-        }
-    }
-    name
-}
-
-// Whether a folder refuses that name, and no other.
-fn refuses_long_name(rt: &impl Abort, alloc: Global, folder: &mut impl Folder) -> bool {
-    let name = long_name(rt, alloc);
-    puts_none(folder, name.as_str()) && puts_all(folder, "h/b")
-}
-
-#[test]
-fn names_too_long_for_the_disk_are_refused(rt: HostRuntime) {
-    let mut folder = folder(&rt, rt.alloc(), "long");
-    assert!(rt; refuses_long_name(&rt, rt.alloc(), &mut folder));
-    drop(folder);
-}
-
-// Whether the folder has `a` and `b`, each with its own text, and nothing of `c`.
-fn has_two(folder: &MemoryFolder) -> bool {
-    folder.file("a") == Some(b"a".as_slice())
-        && folder.file("b") == Some(b"b".as_slice())
-        && folder.file("c").is_none()
-}
-
-// Whether the second put into a folder fails, and no other.
-fn fails_once(folder: &mut MemoryFolder) -> bool {
-    puts_all(folder, "a")
-        && puts_none(folder, "b")
-        && puts_all(folder, "b a")
-        && has_two(folder)
-        && folder.failures() == 1
-}
-
-#[test]
-fn a_put_in_memory_fails_where_it_is_to(rt: HostRuntime) {
-    let mut folder = MemoryFolder::failing_at(rt.alloc(), 1);
-    assert!(rt; fails_once(&mut folder));
-    drop(folder);
-}
-
-#[test]
-fn a_put_in_memory_fails_nowhere_else(rt: HostRuntime) {
-    let mut folder = MemoryFolder::new(rt.alloc());
-    assert!(rt; puts_all(&mut folder, "a b") && folder.failures() == 0);
-    drop(folder);
 }
