@@ -220,10 +220,18 @@ def is_unprintable(c):
 
 
 def urls_of_sheet(text):
-    """What a sheet refers to: its URL tokens, the strings in its `url` functions, and the strings behind `@import`."""
-    tokens, urls = list(Sheet(text).tokens()), []
+    """What a sheet refers to: its URL tokens, the strings in its `url` functions, those behind `@import`, and those that are
+    arguments of `image-set` (CSS Images 4, section 2.4), unless that is itself within one."""
+    tokens, urls, open_functions = list(Sheet(text).tokens()), [], []
     for i, (kind, value) in enumerate(tokens):
-        if kind == "url":
+        if kind == "function":
+            is_set = value.lower() in ("image-set", "-webkit-image-set") and "set" not in open_functions
+            open_functions.append("set" if is_set else "other")
+        elif (kind, value) == ("other", "("):
+            open_functions.append("other")
+        elif (kind, value) == ("other", ")") and open_functions:
+            open_functions.pop()
+        if kind == "url" or kind == "string" and open_functions[-1:] == ["set"]:
             urls.append(value)
         elif kind == "function" and value.lower() == "url" or kind == "at" and value.lower() == "import":
             behind = i + 1
@@ -449,8 +457,9 @@ class Page:
             else:
                 self.at = it.start()
                 return self.text[begun:self.at]
+        # (docs/PROFILE.md: an element that the page's end cuts says nothing)
         self.at = len(self.text)
-        return self.text[begun:]
+        return ""
 
 
 def lower(text):

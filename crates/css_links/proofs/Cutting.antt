@@ -1,17 +1,18 @@
 -- The pieces of a sheet that is written anew.
-use Rattle.std.proofs.Common.{◌≡◌, ℕ, List, [], ◌∷◌, ◌++◌, refl, sym, ap, ◌∙◌, subst, append_assoc, append-nil}
+use Rattle.std.proofs.Common.{◌≡◌, ◌==◌, ℕ, Bool, true, false, if◌then◌else◌, List, [], ◌∷◌, ◌++◌, refl, sym, ap, ◌∙◌, subst, append_assoc, append-nil}
 use Rattle.std.proofs.lemmas.Grind.{flat_map-append}
 use Rattle.std.specs.List.{flat_map}
 use Rattle.css_links.specs.Places.{turn}
-use Rattle.css_links.specs.References.{Front, front, reference, turned, ended, references}
+use Rattle.css_links.specs.References.{Front, front, reference, noted, within, without, string_at, turned, ended, references}
 use Rattle.css_links.specs.Rewriting.{Change, anew, zone, Rewrite, held_in, white_in, white_at, out_at, out_with, out_of, white_of, rewrite_step, nothing_written, rewrite_fed, closed_in, rewritten, Piece, bytes_of, references_of, bytes_anew, IsAnew}
 use Rattle.css_links.specs.Rewriting.Piece.{Bytes, Value}
 use Rattle.css_links.specs.declared.zone.Zone.{Zone}
 use Rattle.css_links.specs.declared.zone.Zone.TheVariants as zones
 use Rattle.css_links.specs.declared.place.Turn.{Turn}
-use Rattle.css_links.specs.declared.place.Turn.TheVariants.{At, Anew, First, With, Refer}
+use Rattle.css_links.specs.declared.place.Turn.TheVariants.{At, Anew, First, With, Refer, Quote, UrlQuote, Open, Close}
 use Rattle.css_links.specs.declared.place.Place.{Place}
-use Rattle.css_links.specs.declared.place.Place.TheVariants.{Between}
+use Rattle.css_links.specs.declared.place.Place.TheVariants.{Between, Inside}
+use Rattle.css_links.specs.declared.place.Part.TheVariants.{Reference, Other}
 use Rattle.css_links.proofs.Moving.{Free, MoveAt, MoveAnew, MoveWith, MoveRefer, Move, moves}
 use Rattle.css_links.proofs.Keeping.{free_held, front_fed, open_in_zone, open_place}
 
@@ -27,7 +28,7 @@ Unbegun zones.Ended raw = Unit
 pub record Cuts (change : Change) (z : Zone) (f : Front) (out white sheet : List ℕ) : Type 0 where
   pub pieces : List Piece
   pub text : flat_map bytes_of pieces ++ held_in z f.raw white ≡ sheet
-  pub references : flat_map references_of pieces ≡ f.found
+  pub references : flat_map references_of pieces ≡ f.seen.found
   pub anew : flat_map (bytes_anew change) pieces ≡ out
   pub unbegun : Unbegun z f.raw
 
@@ -53,7 +54,7 @@ held_more pieces held sheet b e = sym (append_assoc (flat_map bytes_of pieces) h
 -- ---- one more byte
 
 at_cuts : (change : Change) (zp zq : Zone) (f : Front) (out white sheet : List ℕ) (b : ℕ) (q : Place) → MoveAt zp zq q b → Cuts change zp f out white sheet
-    → Cuts change zq (front q f.raw f.found) (out_at zq out (held_in zp f.raw white) b) (white_at zq zp white b) (sheet ++ b ∷ [])
+    → Cuts change zq (front q f.raw f.seen) (out_at zq out (held_in zp f.raw white) b) (white_at zq zp white b) (sheet ++ b ∷ [])
 at_cuts change zp zones.Outside f out white sheet b q m k = record {
   pieces = k.pieces ++ Bytes (held_in zp f.raw white ++ b ∷ []) ∷ [];
   text = text_more k.pieces (held_in zp f.raw white) sheet b k.text;
@@ -85,7 +86,7 @@ at_cuts change zones.Ended zones.Ended f out white sheet b q m k = record {
 at_cuts change _ _ f out white sheet b q m k = absurd m
 
 -- a byte where nothing is held back, behind which nothing is
-free_cuts : (change : Change) (zp zq : Zone) (f g : Front) (out white next sheet : List ℕ) (b : ℕ) → Free zp → g.found ≡ f.found → held_in zq g.raw next ≡ [] → Unbegun zq g.raw → Cuts change zp f out white sheet
+free_cuts : (change : Change) (zp zq : Zone) (f g : Front) (out white next sheet : List ℕ) (b : ℕ) → Free zp → g.seen.found ≡ f.seen.found → held_in zq g.raw next ≡ [] → Unbegun zq g.raw → Cuts change zp f out white sheet
     → Cuts change zq g (out ++ b ∷ []) next (sheet ++ b ∷ [])
 free_cuts change zp zq f g out white next sheet b free e h u k = record {
   pieces = k.pieces ++ Bytes (b ∷ []) ∷ [];
@@ -117,8 +118,8 @@ outside_unbegun : (zq : Zone) (raw : List ℕ) → zq ≡ zones.Outside → Unbe
 outside_unbegun zq raw e = subst (λ (z : Zone). Unbegun z raw) (sym e) tt
 
 with_cuts : (change : Change) (zp zq : Zone) (f : Front) (out white sheet : List ℕ) (b : ℕ) (q : Place) → MoveWith zp zq → Cuts change zp f out white sheet
-    → Cuts change zq (front q (f.raw ++ b ∷ []) f.found) (out_with zq out b) white (sheet ++ b ∷ [])
-with_cuts change zones.Outside zones.Outside f out white sheet b q m k = free_cuts change zones.Outside zones.Outside f (front q (f.raw ++ b ∷ []) f.found) out white white sheet b tt refl refl tt k
+    → Cuts change zq (front q (f.raw ++ b ∷ []) f.seen) (out_with zq out b) white (sheet ++ b ∷ [])
+with_cuts change zones.Outside zones.Outside f out white sheet b q m k = free_cuts change zones.Outside zones.Outside f (front q (f.raw ++ b ∷ []) f.seen) out white white sheet b tt refl refl tt k
 with_cuts change (zones.Quoted quote) (zones.Quoted other) f out white sheet b q m k = record {
   pieces = k.pieces;
   text = held_more k.pieces f.raw sheet b k.text;
@@ -155,7 +156,7 @@ two_more : {X : Type 0} (of : Piece → List X) (pieces : List Piece) (raw bytes
 two_more of pieces raw bytes = flat_map-append of pieces (Value raw ∷ Bytes bytes ∷ []) ∙ ap (λ xs. flat_map of pieces ++ (of (Value raw) ++ xs)) (append-nil (of (Bytes bytes)))
 
 refer_cuts : (change : Change) (zp : Zone) (f : Front) (out white next sheet : List ℕ) (b : ℕ) → MoveRefer zp b → Cuts change zp f out white sheet
-    → Cuts change zones.Outside (front Between [] (f.found ++ reference f.raw)) (out ++ (anew change f.raw ++ (white_in zp white ++ b ∷ []))) next (sheet ++ b ∷ [])
+    → Cuts change zones.Outside (front Between [] (noted f.seen (reference f.raw))) (out ++ (anew change f.raw ++ (white_in zp white ++ b ∷ []))) next (sheet ++ b ∷ [])
 refer_cuts change zp f out white next sheet b m k = record {
   pieces = k.pieces ++ (Value f.raw ∷ Bytes (white_in zp white ++ b ∷ []) ∷ []);
   text =
@@ -168,16 +169,30 @@ refer_cuts change zp f out white next sheet b m k = record {
   unbegun = tt;
 }
 
+-- a string between tokens
+string_held : (depth quote : ℕ) (white : List ℕ) → held_in (zone (Inside (string_at depth quote))) [] white ≡ []
+string_held depth quote white = go (depth == 1) where
+  go : (t : Bool) → held_in (zone (Inside (if t then Reference quote else Other quote))) [] white ≡ []
+  go true = refl
+  go false = refl
+
 cuts_step : (change : Change) (w : Rewrite) (sheet : List ℕ) (b : ℕ) → Cuts change (zone w.front.place) w.front w.out w.white sheet
     → Cuts change (zone (rewrite_step change w b).front.place) (rewrite_step change w b).front (rewrite_step change w b).out (rewrite_step change w b).white (sheet ++ b ∷ [])
 cuts_step change w sheet b k = go (turn w.front.place w.front.raw b) (moves w.front.place w.front.raw b) where
   go : (t : Turn) → Move (zone w.front.place) b t
       → Cuts change (zone (turned w.front b t).place) (turned w.front b t) (out_of change w b t) (white_of w b t) (sheet ++ b ∷ [])
   go (At q) m = at_cuts change (zone w.front.place) (zone q) w.front w.out w.white sheet b q m k
-  go (Anew q) m = free_cuts change (zone w.front.place) (zone q) w.front (front q [] w.front.found) w.out w.white w.white sheet b m.0 refl (nothing_held (zone q) q w.white m.1) (nothing_unbegun (zone q)) k
-  go (First q) m = free_cuts change (zone w.front.place) (zone q) w.front (front q (b ∷ []) w.front.found) w.out w.white w.white sheet b m.0 refl (outside_held (zone q) (b ∷ []) w.white m.1) (outside_unbegun (zone q) (b ∷ []) m.1) k
+  go (Anew q) m = free_cuts change (zone w.front.place) (zone q) w.front (front q [] w.front.seen) w.out w.white w.white sheet b m.0 refl (nothing_held (zone q) q w.white m.1) (nothing_unbegun (zone q)) k
+  go (First q) m = free_cuts change (zone w.front.place) (zone q) w.front (front q (b ∷ []) w.front.seen) w.out w.white w.white sheet b m.0 refl (outside_held (zone q) (b ∷ []) w.white m.1) (outside_unbegun (zone q) (b ∷ []) m.1) k
   go (With q) m = with_cuts change (zone w.front.place) (zone q) w.front w.out w.white sheet b q m k
   go Refer m = refer_cuts change (zone w.front.place) w.front w.out w.white w.white sheet b m k
+  go (Quote quote) m =
+      let p = Inside (string_at w.front.seen.depth quote) in
+      free_cuts change (zone w.front.place) (zone p) w.front (front p [] w.front.seen) w.out w.white w.white sheet b m.0 refl (string_held w.front.seen.depth quote w.white) (nothing_unbegun (zone p)) k
+  go (UrlQuote quote) m =
+      free_cuts change (zone w.front.place) (zones.Quoted quote) w.front (front (Inside (Reference quote)) [] (within false w.front.seen)) w.out w.white w.white sheet b m.0 refl refl tt k
+  go (Open set) m = free_cuts change (zone w.front.place) zones.Outside w.front (front Between w.front.raw (within set w.front.seen)) w.out w.white w.white sheet b m refl refl tt k
+  go Close m = free_cuts change (zone w.front.place) zones.Outside w.front (front Between w.front.raw (without w.front.seen)) w.out w.white w.white sheet b m refl refl tt k
 
 cuts_fed : (change : Change) (w : Rewrite) (sheet bs : List ℕ) → Cuts change (zone w.front.place) w.front w.out w.white sheet
     → Cuts change (zone (rewrite_fed change w bs).front.place) (rewrite_fed change w bs).front (rewrite_fed change w bs).out (rewrite_fed change w bs).white (sheet ++ bs)
@@ -229,7 +244,7 @@ is_anew change sheet =
       sheet_bytes = sym (flat_map-append bytes_of k.pieces (pieces_closed z w.front.raw w.white) ∙ ap (λ xs. flat_map bytes_of k.pieces ++ xs) (closed_bytes z w.front.raw w.white) ∙ k.text);
       sheet_references =
           ap (λ (f : Front). ended f) (sym (front_fed change nothing_written sheet))
-          ∙ ap (λ xs. w.front.found ++ xs) (open_place w.front.place w.front.raw ∙ sym (closed_references z w.front.raw w.white))
+          ∙ ap (λ xs. w.front.seen.found ++ xs) (open_place w.front.place w.front.raw ∙ sym (closed_references z w.front.raw w.white))
           ∙ ap (λ xs. xs ++ flat_map references_of (pieces_closed z w.front.raw w.white)) (sym k.references)
           ∙ sym (flat_map-append references_of k.pieces (pieces_closed z w.front.raw w.white));
       other_bytes =

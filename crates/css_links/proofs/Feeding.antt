@@ -12,6 +12,11 @@ pub fed_on : (old new : Front) (left piece front : List ℕ) → length left < 1
 fed_on old new [] piece front short e stands = e ∙ ap (λ s. fed s piece) stands ∙ sym (fed-append nothing_read front piece)
 fed_on old new (b ∷ bs) piece front short e stands = absurd (omega arith)
 
+-- the same by fronts
+pub fed_whole : (old new : Front) (left piece : List ℕ) → length left < 1 → fed new left ≡ fed old piece → new ≡ fed old piece
+fed_whole old new [] piece short e = e
+fed_whole old new (b ∷ bs) piece short e = absurd (omega arith)
+
 -- at the end of the sheet what was found is what the whole gives
 pub finished : (found : List (List ℕ)) (s : ScanProgress) (sheet : List ℕ) → StandsFor s sheet → found ≡ ended s.front → found ≡ references sheet
 unfolding references

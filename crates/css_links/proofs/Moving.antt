@@ -3,14 +3,14 @@ use Rattle.std.proofs.Common.{◌≡◌, ◌==◌, ◌&&◌, ◌||◌, ℕ, nat_
 use Rattle.std.proofs.lemmas.Bool.{eqb-true}
 use Rattle.std.specs.Char.{is_ascii_hexdigit}
 use Rattle.css_links.specs.Bytes.{is_newline, is_white, is_quote, is_name, is_unfit}
-use Rattle.css_links.specs.Places.{is_word, between, slash, comment, import, import_comment, behind_word, word, reference_string, other_string, bare, bad, url_begun, url_ended, inside, put, continued, broken, escaped, turn}
+use Rattle.css_links.specs.Places.{is_word, between, slash, comment, import, import_comment, function, behind_word, word, reference_string, other_string, bare, bad, url_begun, url_ended, inside, put, continued, broken, escaped, turn}
 use Rattle.css_links.specs.Rewriting.{part_zone, zone}
 use Rattle.css_links.specs.declared.zone.Zone.{Zone}
 use Rattle.css_links.specs.declared.zone.Zone.TheVariants as zones
 use Rattle.css_links.specs.declared.place.Lead.{Lead}
 use Rattle.css_links.specs.declared.place.Lead.TheVariants as lead
 use Rattle.css_links.specs.declared.place.Turn.{Turn}
-use Rattle.css_links.specs.declared.place.Turn.TheVariants.{At, Anew, First, With, Refer}
+use Rattle.css_links.specs.declared.place.Turn.TheVariants.{At, Anew, First, With, Refer, Quote, UrlQuote, Open, Close}
 use Rattle.css_links.specs.declared.place.Part.{Part}
 use Rattle.css_links.specs.declared.place.Part.TheVariants.{Word, Reference, Other, Bare, Bad}
 use Rattle.css_links.specs.declared.place.Escape.{Escape}
@@ -65,6 +65,10 @@ Move z b (Anew q) = Free z × MoveAnew (zone q) q
 Move z b (First q) = Free z × (zone q ≡ zones.Outside)
 Move z b (With q) = MoveWith z (zone q)
 Move z b Refer = MoveRefer z b
+Move z b (Quote quote) = Free z × (is_quote quote ≡ true)
+Move z b (UrlQuote quote) = Free z × (is_quote quote ≡ true)
+Move z b (Open set) = Free z
+Move z b Close = Free z
 
 if_move : (z : Zone) (b : ℕ) (c : Bool) (x y : Turn) → (c ≡ true → Move z b x) → (c ≡ false → Move z b y) → Move z b (if c then x else y)
 if_move z b true x y h k = h refl
@@ -73,11 +77,13 @@ if_move z b false x y h k = k refl
 between_moves : (b : ℕ) → Move zones.Outside b (between b)
 between_moves b =
     if_move zones.Outside b (b == 47) _ _ (λ _. tt)
-    (λ _. if_move zones.Outside b (is_quote b) _ _ (λ _. (tt, tt))
+    (λ _. if_move zones.Outside b (is_quote b) _ _ (λ e. (tt, e))
+    (λ _. if_move zones.Outside b (b == 40) _ _ (λ _. tt)
+    (λ _. if_move zones.Outside b (b == 41) _ _ (λ _. tt)
     (λ _. if_move zones.Outside b (b == 35) _ _ (λ _. (tt, tt))
     (λ _. if_move zones.Outside b (b == 64) _ _ (λ _. (tt, tt))
     (λ _. if_move zones.Outside b (b == 92) _ _ (λ _. (tt, refl))
-    (λ _. if_move zones.Outside b (is_name b) _ _ (λ _. (tt, refl)) (λ _. tt))))))
+    (λ _. if_move zones.Outside b (is_name b) _ _ (λ _. (tt, refl)) (λ _. tt))))))))
 
 slash_moves : (b : ℕ) → Move zones.Outside b (slash b)
 slash_moves b = if_move zones.Outside b (b == 42) _ _ (λ _. tt) (λ _. between_moves b)
@@ -94,8 +100,11 @@ import_moves b =
 import_comment_moves : (b : ℕ) → Move zones.Outside b (import_comment b)
 import_comment_moves b = if_move zones.Outside b (b == 42) _ _ (λ _. tt) (λ _. tt)
 
+function_moves : (raw : List ℕ) (b : ℕ) → Move zones.Outside b (function raw)
+function_moves raw b = if_move zones.Outside b (is_word (codes "url") raw) _ _ (λ _. (tt, refl)) (λ _. tt)
+
 behind_moves : (l : Lead) (raw : List ℕ) (b : ℕ) → Move zones.Outside b (behind_word l raw b)
-behind_moves lead.Nothing raw b = if_move zones.Outside b (b == 40 && is_word (codes "url") raw) _ _ (λ _. (tt, refl)) (λ _. between_moves b)
+behind_moves lead.Nothing raw b = if_move zones.Outside b (b == 40) _ _ (λ _. function_moves raw b) (λ _. between_moves b)
 behind_moves lead.Hash raw b = between_moves b
 behind_moves lead.At raw b = if_move zones.Outside b (is_word (codes "import") raw) _ _ (λ _. import_moves b) (λ _. between_moves b)
 
@@ -134,7 +143,7 @@ begun_bare_moves b white =
 begun_moves : (b : ℕ) → Move zones.Begun b (url_begun b)
 begun_moves b =
     if_move zones.Begun b (is_white b) _ _ (λ _. refl)
-    (λ white. if_move zones.Begun b (is_quote b) _ _ (λ e. (tt, (refl, e))) (λ _. begun_bare_moves b white))
+    (λ white. if_move zones.Begun b (is_quote b) _ _ (λ e. (tt, e)) (λ _. begun_bare_moves b white))
 
 ended_moves : (b : ℕ) → Move zones.Ended b (url_ended b)
 ended_moves b =

@@ -6,7 +6,7 @@ use Rattle.memchr.specs.Find.{Nowhere, is_byte, Passes, IsFirstByte}
 use Rattle.css_links.specs.Bytes.{is_newline, is_white, is_quote, is_name, is_unfit, is_loud}
 use Rattle.css_links.specs.Escapes.{says, read, unescaped}
 use Rattle.css_links.specs.Places.{turn, between, word, comment, import_comment, other_string, reference_string, bare, bad}
-use Rattle.css_links.specs.References.{Front, front, step, fed}
+use Rattle.css_links.specs.References.{Seen, Front, front, step, fed}
 use Rattle.css_links.specs.inner.Spans.{until, from, is, ends_span}
 use Rattle.css_links.specs.inner.Quiet.{lead_behind, place_in, raw_in, place_after, named_end, place_behind, raw_behind}
 use Rattle.css_links.specs.declared.escape.Reading.TheVariants.{Plain}
@@ -25,7 +25,7 @@ use Rattle.css_links.proofs.Searching.{until_from, end_is}
 -- ---- places that bytes leave as they are
 
 -- bytes that lead to the place in which they stand
-pub passed_at : (p : Place) (stops : ℕ → Bool) (r : List ℕ) (f : List (List ℕ)) → ((b : ℕ) → stops b ≡ false → turn p r b ≡ At p)
+pub passed_at : (p : Place) (stops : ℕ → Bool) (r : List ℕ) (f : Seen) → ((b : ℕ) → stops b ≡ false → turn p r b ≡ At p)
     → (xs : List ℕ) → fed (front p r f) (from stops xs) ≡ fed (front p r f) xs
 passed_at p stops r f stays [] = refl
 passed_at p stops r f stays (b ∷ bs) = go (stops b) refl (passed_at p stops r f stays bs) where
@@ -35,7 +35,7 @@ passed_at p stops r f stays (b ∷ bs) = go (stops b) refl (passed_at p stops r 
   go false e h = rw (stays b e) h
 
 -- bytes with which the text of their place goes on
-pub passed_with : (p : Place) (stops : ℕ → Bool) (f : List (List ℕ)) → ((r : List ℕ) (b : ℕ) → stops b ≡ false → turn p r b ≡ With p)
+pub passed_with : (p : Place) (stops : ℕ → Bool) (f : Seen) → ((r : List ℕ) (b : ℕ) → stops b ≡ false → turn p r b ≡ With p)
     → (r xs : List ℕ) → fed (front p (r ++ until stops xs) f) (from stops xs) ≡ fed (front p r f) xs
 passed_with p stops f stays r [] = rw (append-nil r) refl
 passed_with p stops f stays r (b ∷ bs) = go (stops b) refl (passed_with p stops f stays (r ++ b ∷ []) bs) where
@@ -44,13 +44,13 @@ passed_with p stops f stays r (b ∷ bs) = go (stops b) refl (passed_with p stop
   go true e h = rw (append-nil r) refl
   go false e h = rw (stays r b e) (rw (append_assoc r (b ∷ []) (until stops bs)) at h)
 
-pub comment_passed : (r : List ℕ) (f : List (List ℕ)) (xs : List ℕ) → fed (front Comment r f) (from (is 42) xs) ≡ fed (front Comment r f) xs
+pub comment_passed : (r : List ℕ) (f : Seen) (xs : List ℕ) → fed (front Comment r f) (from (is 42) xs) ≡ fed (front Comment r f) xs
 comment_passed r f = passed_at Comment (is 42) r f (λ b e. rw e refl)
 
-pub import_comment_passed : (r : List ℕ) (f : List (List ℕ)) (xs : List ℕ) → fed (front ImportComment r f) (from (is 42) xs) ≡ fed (front ImportComment r f) xs
+pub import_comment_passed : (r : List ℕ) (f : Seen) (xs : List ℕ) → fed (front ImportComment r f) (from (is 42) xs) ≡ fed (front ImportComment r f) xs
 import_comment_passed r f = passed_at ImportComment (is 42) r f (λ b e. rw e refl)
 
-pub other_passed : (quote : ℕ) (r : List ℕ) (f : List (List ℕ)) (xs : List ℕ)
+pub other_passed : (quote : ℕ) (r : List ℕ) (f : Seen) (xs : List ℕ)
     → fed (front (Inside (Other quote)) r f) (from (ends_span (span.Quoted quote)) xs) ≡ fed (front (Inside (Other quote)) r f) xs
 other_passed quote r f = passed_at (Inside (Other quote)) (ends_span (span.Quoted quote)) r f stays where
   stays : (b : ℕ) → ends_span (span.Quoted quote) b ≡ false → other_string quote b ≡ At (Inside (Other quote))
@@ -59,12 +59,12 @@ other_passed quote r f = passed_at (Inside (Other quote)) (ends_span (span.Quote
       let two = or_parts (is_newline b) (b == 92) one.1 in
       rw (one.0, two.0, two.1) refl
 
-pub bad_passed : (r : List ℕ) (f : List (List ℕ)) (xs : List ℕ) → fed (front (Inside Bad) r f) (from (ends_span span.Bad) xs) ≡ fed (front (Inside Bad) r f) xs
+pub bad_passed : (r : List ℕ) (f : Seen) (xs : List ℕ) → fed (front (Inside Bad) r f) (from (ends_span span.Bad) xs) ≡ fed (front (Inside Bad) r f) xs
 bad_passed r f = passed_at (Inside Bad) (ends_span span.Bad) r f stays where
   stays : (b : ℕ) → ends_span span.Bad b ≡ false → bad b ≡ At (Inside Bad)
   stays b e = let one = or_parts (b == 41) (b == 92) e in rw (one.0, one.1) refl
 
-pub reference_passed : (quote : ℕ) (f : List (List ℕ)) (r xs : List ℕ)
+pub reference_passed : (quote : ℕ) (f : Seen) (r xs : List ℕ)
     → fed (front (Inside (Reference quote)) (r ++ until (ends_span (span.Quoted quote)) xs) f) (from (ends_span (span.Quoted quote)) xs) ≡ fed (front (Inside (Reference quote)) r f) xs
 reference_passed quote f = passed_with (Inside (Reference quote)) (ends_span (span.Quoted quote)) f stays where
   stays : (r : List ℕ) (b : ℕ) → ends_span (span.Quoted quote) b ≡ false → reference_string quote b ≡ With (Inside (Reference quote))
@@ -73,7 +73,7 @@ reference_passed quote f = passed_with (Inside (Reference quote)) (ends_span (sp
       let two = or_parts (is_newline b) (b == 92) one.1 in
       rw (one.0, two.0, two.1) refl
 
-pub bare_passed : (f : List (List ℕ)) (r xs : List ℕ)
+pub bare_passed : (f : Seen) (r xs : List ℕ)
     → fed (front (Inside Bare) (r ++ until (ends_span span.Unquoted) xs) f) (from (ends_span span.Unquoted) xs) ≡ fed (front (Inside Bare) r f) xs
 bare_passed f = passed_with (Inside Bare) (ends_span span.Unquoted) f stays where
   stays : (r : List ℕ) (b : ℕ) → ends_span span.Unquoted b ≡ false → bare b ≡ With (Inside Bare)
@@ -87,7 +87,7 @@ is_true : (t : Bool) → not t ≡ false → t ≡ true
 is_true true e = refl
 is_true false e = sym e
 
-pub word_passed : (l : Lead) (f : List (List ℕ)) (r xs : List ℕ)
+pub word_passed : (l : Lead) (f : Seen) (r xs : List ℕ)
     → fed (front (Inside (Word l)) (r ++ until (ends_span span.Name) xs) f) (from (ends_span span.Name) xs) ≡ fed (front (Inside (Word l)) r f) xs
 word_passed l f = passed_with (Inside (Word l)) (ends_span span.Name) f stays where
   stays : (r : List ℕ) (b : ℕ) → ends_span span.Name b ≡ false → word l r b ≡ With (Inside (Word l))
@@ -106,24 +106,25 @@ record IsPlain (b : ℕ) : Type 0 where
   slash : (b == 47) ≡ false
   quote : is_quote b ≡ false
   paren : (b == 40) ≡ false
+  close : (b == 41) ≡ false
   at : (b == 64) ≡ false
   escape : (b == 92) ≡ false
   hash : (b == 35) ≡ false
   name : is_name b ≡ false
 
 between_plain : (b : ℕ) → IsPlain b → between b ≡ At Between
-between_plain b p = rw (p.slash, p.quote, p.hash, p.at, p.escape, p.name) refl
+between_plain b p = rw (p.slash, p.quote, p.paren, p.close, p.hash, p.at, p.escape, p.name) refl
 
 -- the places where words are passed over: between tokens, and in a word that is no at-keyword
 abbrev Passing : Place → Type 0
 Passing p = (p ≡ Between) ⊎ ((p ≡ Inside (Word lead.Nothing)) ⊎ (p ≡ Inside (Word lead.Hash)))
 
-plain_step : (p : Place) (r : List ℕ) (f : List (List ℕ)) (b : ℕ) → Passing p → IsPlain b → step (front p r f) b ≡ front Between r f
+plain_step : (p : Place) (r : List ℕ) (f : Seen) (b : ℕ) → Passing p → IsPlain b → step (front p r f) b ≡ front Between r f
 plain_step p r f b (inl e) plain = rw e (rw (between_plain b plain) refl)
-plain_step p r f b (inr (inl e)) plain = rw e (rw (plain.slash, plain.quote, plain.paren, plain.hash, plain.at, plain.escape, plain.name) refl)
-plain_step p r f b (inr (inr e)) plain = rw e (rw (plain.slash, plain.quote, plain.hash, plain.at, plain.escape, plain.name) refl)
+plain_step p r f b (inr (inl e)) plain = rw e (rw (plain.slash, plain.quote, plain.paren, plain.close, plain.hash, plain.at, plain.escape, plain.name) refl)
+plain_step p r f b (inr (inr e)) plain = rw e (rw (plain.slash, plain.quote, plain.paren, plain.close, plain.hash, plain.at, plain.escape, plain.name) refl)
 
-hash_step : (p : Place) (r : List ℕ) (f : List (List ℕ)) → Passing p → step (front p r f) 35 ≡ front (Inside (Word lead.Hash)) [] f
+hash_step : (p : Place) (r : List ℕ) (f : Seen) → Passing p → step (front p r f) 35 ≡ front (Inside (Word lead.Hash)) [] f
 hash_step p r f (inl e) = rw e refl
 hash_step p r f (inr (inl e)) = rw e refl
 hash_step p r f (inr (inr e)) = rw e refl
@@ -148,35 +149,37 @@ between_behind p plain (n ∷ named) before = refl
 record IsNamed (b : ℕ) : Type 0 where
   slash : (b == 47) ≡ false
   quote : is_quote b ≡ false
+  paren : (b == 40) ≡ false
+  close : (b == 41) ≡ false
   at : (b == 64) ≡ false
   escape : (b == 92) ≡ false
   hash : (b == 35) ≡ false
   name : is_name b ≡ true
 
-first_step : (p : Place) (r : List ℕ) (f : List (List ℕ)) (b : ℕ) → p ≡ Between → IsNamed b → step (front p r f) b ≡ front (Inside (Word lead.Nothing)) (b ∷ []) f
-first_step p r f b e n = rw e (rw (n.slash, n.quote, n.hash, n.at, n.escape, n.name) refl)
+first_step : (p : Place) (r : List ℕ) (f : Seen) (b : ℕ) → p ≡ Between → IsNamed b → step (front p r f) b ≡ front (Inside (Word lead.Nothing)) (b ∷ []) f
+first_step p r f b e n = rw e (rw (n.slash, n.quote, n.paren, n.close, n.hash, n.at, n.escape, n.name) refl)
 
-with_step : (l : Lead) (r : List ℕ) (f : List (List ℕ)) (b : ℕ) → is_name b ≡ true → step (front (Inside (Word l)) r f) b ≡ front (Inside (Word l)) (r ++ b ∷ []) f
+with_step : (l : Lead) (r : List ℕ) (f : Seen) (b : ℕ) → is_name b ≡ true → step (front (Inside (Word l)) r f) b ≡ front (Inside (Word l)) (r ++ b ∷ []) f
 with_step l r f b e = rw e refl
 
 reverse_more : (b : ℕ) (xs : List ℕ) → reverse (b ∷ xs) ≡ reverse xs ++ b ∷ []
 reverse_more b xs = reverse-append (b ∷ []) xs
 
 -- what comes after bytes of which the last is a `#`, a byte of a name, or another one
-hash_behind : (bs : List ℕ) (r : List ℕ) (f : List (List ℕ)) → front (place_behind (35 ∷ bs)) (raw_behind r (35 ∷ bs)) f ≡ front (Inside (Word lead.Hash)) [] f
+hash_behind : (bs : List ℕ) (r : List ℕ) (f : Seen) → front (place_behind (35 ∷ bs)) (raw_behind r (35 ∷ bs)) f ≡ front (Inside (Word lead.Hash)) [] f
 hash_behind bs r f = refl
 
-name_behind : (b : ℕ) (bs : List ℕ) (r : List ℕ) (f : List (List ℕ)) → is_name b ≡ true
+name_behind : (b : ℕ) (bs : List ℕ) (r : List ℕ) (f : Seen) → is_name b ≡ true
     → front (place_behind (b ∷ bs)) (raw_behind r (b ∷ bs)) f ≡ front (Inside (Word (lead_behind (from (ends_span span.Name) bs)))) (reverse (b ∷ until (ends_span span.Name) bs)) f
 name_behind b bs r f e = rw e (rw e refl)
 
-plain_behind : (b : ℕ) (bs : List ℕ) (r : List ℕ) (f : List (List ℕ)) → is_name b ≡ false → (b == 35) ≡ false
+plain_behind : (b : ℕ) (bs : List ℕ) (r : List ℕ) (f : Seen) → is_name b ≡ false → (b == 35) ≡ false
     → front (place_behind (b ∷ bs)) (raw_behind r (b ∷ bs)) f ≡ front Between (raw_behind r bs) f
 plain_behind b bs r f e h =
     rw (e, h) (ap (λ p. front p (raw_behind r bs) f) (between_behind b (until (ends_span span.Plain) bs) (named_end bs) (from (ends_span span.Name) (named_end bs))))
 
 -- a byte of a name after such bytes
-name_more : (r : List ℕ) (f : List (List ℕ)) (b : ℕ) (bs : List ℕ) → IsNamed b
+name_more : (r : List ℕ) (f : Seen) (b : ℕ) (bs : List ℕ) → IsNamed b
     → step (front (place_behind bs) (raw_behind r bs) f) b ≡ front (Inside (Word (lead_behind (from (ends_span span.Name) bs)))) (reverse (b ∷ until (ends_span span.Name) bs)) f
 name_more r f b [] n = first_step Between r f b refl n
 name_more r f b (c ∷ cs) n = go (c == 35) refl where
@@ -197,7 +200,7 @@ name_more r f b (c ∷ cs) n = go (c == 35) refl where
   go false h = plain h (is_name c) refl
 
 -- a byte that isn't loud after such bytes
-quiet_more : (r : List ℕ) (f : List (List ℕ)) (b : ℕ) (bs : List ℕ) → is_loud b ≡ false
+quiet_more : (r : List ℕ) (f : Seen) (b : ℕ) (bs : List ℕ) → is_loud b ≡ false
     → step (front (place_behind bs) (raw_behind r bs) f) b ≡ front (place_behind (b ∷ bs)) (raw_behind r (b ∷ bs)) f
 quiet_more r f b bs quiet = go (b == 35) refl where
   passing : Passing (place_behind bs)
@@ -207,15 +210,17 @@ quiet_more r f b bs quiet = go (b == 35) refl where
   other h true e =
       let one = or_parts (is_quote b) _ quiet in
       let two = or_parts (b == 40) _ one.1 in
-      let three = or_parts (b == 47) _ two.1 in
+      let close = or_parts (b == 41) _ two.1 in
+      let three = or_parts (b == 47) _ close.1 in
       let four = or_parts (b == 64) (b == 92) three.1 in
-      name_more r f b bs (record { slash = three.0; quote = one.0; at = four.0; escape = four.1; hash = h; name = e }) ∙ sym (name_behind b bs r f e)
+      name_more r f b bs (record { slash = three.0; quote = one.0; paren = two.0; close = close.0; at = four.0; escape = four.1; hash = h; name = e }) ∙ sym (name_behind b bs r f e)
   other h false e =
       let one = or_parts (is_quote b) _ quiet in
       let two = or_parts (b == 40) _ one.1 in
-      let three = or_parts (b == 47) _ two.1 in
+      let close = or_parts (b == 41) _ two.1 in
+      let three = or_parts (b == 47) _ close.1 in
       let four = or_parts (b == 64) (b == 92) three.1 in
-      plain_step (place_behind bs) (raw_behind r bs) f b passing (record { slash = three.0; quote = one.0; paren = two.0; at = four.0; escape = four.1; hash = h; name = e })
+      plain_step (place_behind bs) (raw_behind r bs) f b passing (record { slash = three.0; quote = one.0; paren = two.0; close = close.0; at = four.0; escape = four.1; hash = h; name = e })
       ∙ sym (plain_behind b bs r f e h)
 
   go : (t : Bool) → (b == 35) ≡ t → step (front (place_behind bs) (raw_behind r bs) f) b ≡ front (place_behind (b ∷ bs)) (raw_behind r (b ∷ bs)) f
@@ -227,7 +232,7 @@ abbrev AreQuiet : List ℕ → Type 0
 AreQuiet [] = Unit
 AreQuiet (b ∷ bs) = (is_loud b ≡ false) × AreQuiet bs
 
-quiet_fed : (r : List ℕ) (f : List (List ℕ)) (back : List ℕ) → AreQuiet back → fed (front Between r f) (reverse back) ≡ front (place_behind back) (raw_behind r back) f
+quiet_fed : (r : List ℕ) (f : Seen) (back : List ℕ) → AreQuiet back → fed (front Between r f) (reverse back) ≡ front (place_behind back) (raw_behind r back) f
 quiet_fed r f [] q = refl
 quiet_fed r f (b ∷ bs) q =
     ap (fed (front Between r f)) (reverse_more b bs)
@@ -251,7 +256,7 @@ quiet_until (b ∷ bs) = go (is_loud b) refl (quiet_until bs) where
   go false e q = (e, q)
 
 -- what is passed over between tokens, up to the first loud byte
-pub quiet_passed : (r : List ℕ) (f : List (List ℕ)) (quiet left text : List ℕ) → quiet ≡ until is_loud text → left ≡ from is_loud text
+pub quiet_passed : (r : List ℕ) (f : Seen) (quiet left text : List ℕ) → quiet ≡ until is_loud text → left ≡ from is_loud text
     → fed (front (place_behind (reverse quiet)) (raw_behind r (reverse quiet)) f) left ≡ fed (front Between r f) text
 quiet_passed r f quiet left text is_quiet is_left =
     let silent = subst AreQuiet (sym is_quiet) (quiet_until text) in
@@ -282,7 +287,7 @@ raw_none r (x ∷ n) word h = absurd (omega arith)
 named_is : (quiet named : List ℕ) → named ≡ reverse (named_end (reverse quiet)) → named_end (reverse quiet) ≡ reverse named
 named_is quiet named e = sym (reverse-reverse (named_end (reverse quiet))) ∙ ap reverse (sym e)
 
-pub quiet_without_words : (r : List ℕ) (f : List (List ℕ)) (quiet left text named : List ℕ) → quiet ≡ until is_loud text → left ≡ from is_loud text
+pub quiet_without_words : (r : List ℕ) (f : Seen) (quiet left text named : List ℕ) → quiet ≡ until is_loud text → left ≡ from is_loud text
     → named ≡ reverse (named_end (reverse quiet)) → length named ≡ 0 → fed (front Between r f) left ≡ fed (front Between r f) text
 quiet_without_words r f quiet left text named is_quiet is_left is_named none =
     let back = reverse quiet in
@@ -292,7 +297,7 @@ quiet_without_words r f quiet left text named is_quiet is_left is_named none =
     (sym (raw_none r (named_end back) (until (ends_span span.Name) (named_end back)) empty))
     ∙ quiet_passed r f quiet left text is_quiet is_left
 
-pub quiet_with_words : (r : List ℕ) (f : List (List ℕ)) (quiet left text named plain before word : List ℕ) → quiet ≡ until is_loud text → left ≡ from is_loud text
+pub quiet_with_words : (r : List ℕ) (f : Seen) (quiet left text named plain before word : List ℕ) → quiet ≡ until is_loud text → left ≡ from is_loud text
     → named ≡ reverse (named_end (reverse quiet)) → quiet ≡ named ++ plain → before ≡ reverse (from (ends_span span.Name) (reverse named)) → named ≡ before ++ word
     → 0 < length named → fed (front (place_after (reverse before) plain) word f) left ≡ fed (front Between r f) text
 quiet_with_words r f quiet left text named plain before word is_quiet is_left is_named whole is_before named_whole some =

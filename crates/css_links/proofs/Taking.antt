@@ -6,7 +6,7 @@ use Rattle.css_links.specs.Scanning.{behind}
 use Rattle.css_links.specs.declared.zone.Zone.{Zone}
 use Rattle.css_links.specs.declared.zone.Zone.TheVariants as zones
 use Rattle.css_links.specs.declared.place.Turn.{Turn}
-use Rattle.css_links.specs.declared.place.Turn.TheVariants.{At, Anew, First, With, Refer}
+use Rattle.css_links.specs.declared.place.Turn.TheVariants.{At, Anew, First, With, Refer, Quote, UrlQuote, Open, Close}
 
 at_behind : (z : Zone) (taken out held : List ℕ) (b : ℕ) → out_at z (taken ++ out) held b ≡ taken ++ out_at z out held b
 at_behind zones.Outside taken out held b = append_assoc taken out (held ++ b ∷ [])
@@ -27,6 +27,10 @@ out_behind change taken w b (At p) = at_behind (zone p) taken w.out (held w) b
 out_behind change taken w b (Anew p) = append_assoc taken w.out (b ∷ [])
 out_behind change taken w b (First p) = append_assoc taken w.out (b ∷ [])
 out_behind change taken w b (With p) = with_behind (zone p) taken w.out b
+out_behind change taken w b (Quote quote) = append_assoc taken w.out (b ∷ [])
+out_behind change taken w b (UrlQuote quote) = append_assoc taken w.out (b ∷ [])
+out_behind change taken w b (Open set) = append_assoc taken w.out (b ∷ [])
+out_behind change taken w b Close = append_assoc taken w.out (b ∷ [])
 out_behind change taken w b Refer = append_assoc taken w.out (anew change w.front.raw ++ (white_in (zone w.front.place) w.white ++ b ∷ []))
 
 white_behind : (taken : List ℕ) (w : Rewrite) (b : ℕ) (t : Turn) → white_of (behind taken w) b t ≡ white_of w b t
@@ -35,6 +39,10 @@ white_behind taken w b (Anew p) = refl
 white_behind taken w b (First p) = refl
 white_behind taken w b (With p) = refl
 white_behind taken w b Refer = refl
+white_behind taken w b (Quote quote) = refl
+white_behind taken w b (UrlQuote quote) = refl
+white_behind taken w b (Open set) = refl
+white_behind taken w b Close = refl
 
 same : (v w : Rewrite) → v.front ≡ w.front → v.out ≡ w.out → v.white ≡ w.white → v ≡ w
 same v w e f g = rw (e, f, g) refl

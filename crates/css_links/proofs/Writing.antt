@@ -5,10 +5,10 @@ use Rattle.std.proofs.lemmas.List.Elements.{All-head, All-tail}
 use Rattle.css_links.specs.Bytes.{is_quote, is_white, is_unfit}
 use Rattle.css_links.specs.Escapes.{Text, read, plainly, says, unescaped}
 use Rattle.css_links.specs.Places.{bare, url_begun}
-use Rattle.css_links.specs.References.{front, turned, fed}
+use Rattle.css_links.specs.References.{Seen, front, turned, fed}
 use Rattle.css_links.specs.Rewriting.{written_byte, written, IsWritableByte}
 use Rattle.css_links.specs.declared.escape.Reading.TheVariants.{Plain}
-use Rattle.css_links.specs.declared.place.Turn.TheVariants.{At, Anew, With, Refer}
+use Rattle.css_links.specs.declared.place.Turn.TheVariants.{At, With, Refer, UrlQuote}
 use Rattle.css_links.specs.declared.place.Escape.TheVariants.{Begun}
 use Rattle.css_links.specs.declared.place.Part.TheVariants.{Reference, Bare, Bad}
 use Rattle.css_links.specs.declared.place.Place.{Place}
@@ -69,7 +69,7 @@ four (x ∷ xs) a b c d = ap (λ ys. x ∷ ys) (four xs a b c d)
 
 -- a text that is read from one place leads to that other, with the text put down
 abbrev pub LeadsOn : Place → Place → List ℕ → Type 0
-LeadsOn p q text = (raw : List ℕ) (found : List (List ℕ)) → fed (front p raw found) text ≡ front q (raw ++ text) found
+LeadsOn p q text = (raw : List ℕ) (found : Seen) → fed (front p raw found) text ≡ front q (raw ++ text) found
 
 -- the escapes, read in a place
 escapes_lead : (p q : Place) (b : ℕ) → LeadsOn p q (codes "\\22 ") → LeadsOn p q (codes "\\27 ") → LeadsOn p q (codes "\\28 ") → LeadsOn p q (codes "\\29 ")
@@ -118,7 +118,7 @@ bare_goes_on b e1 e2 e3 e4 = go (b == 41) (is_white b) (b == 92) (is_unfit b) e1
 
 begun_goes_on : (b : ℕ) → is_white b ≡ false → is_quote b ≡ false → bare b ≡ With (Inside Bare) → url_begun b ≡ With (Inside Bare)
 begun_goes_on b e1 e2 e = go (is_white b) (is_quote b) e1 e2 where
-  go : (t1 t2 : Bool) → t1 ≡ false → t2 ≡ false → (if t1 then At UrlBegun else if t2 then Anew (Inside (Reference b)) else bare b) ≡ With (Inside Bare)
+  go : (t1 t2 : Bool) → t1 ≡ false → t2 ≡ false → (if t1 then At UrlBegun else if t2 then UrlQuote b else bare b) ≡ With (Inside Bare)
   go t1 t2 f1 f2 = rw (f1, f2) e
 
 leads_bare : (b : ℕ) → IsWritableByte b → LeadsOn (Inside Bare) (Inside Bare) (written_byte b)

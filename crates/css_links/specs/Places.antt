@@ -1,6 +1,7 @@
 -- Places in a style sheet: where the next byte stands, and what it changes (CSS Syntax Level 3, section 4.3, narrowed to
--- comments, words, strings and URLs; CSS Cascading and Inheritance, section 2, for `@import`).
-use Rattle.std.specs.Prelude.{ℕ, ◌+◌, Bool, ◌&&◌, ◌||◌, List, nat_lt, if◌then◌else◌, ◌==◌, codes}
+-- comments, words, strings, URLs and functions; CSS Cascading and Inheritance, section 2, for `@import`; CSS Images Module
+-- Level 4, section 2.4, for `image-set`).
+use Rattle.std.specs.Prelude.{ℕ, ◌+◌, Bool, false, ◌&&◌, ◌||◌, List, nat_lt, if◌then◌else◌, ◌==◌, codes}
 use Rattle.std.specs.Char.{is_ascii_hexdigit}
 use Rattle.std.specs.Str.{bytes_eq}
 use Rattle.css_links.specs.Bytes.{is_newline, is_white, is_quote, is_name, is_unfit, lower}
@@ -12,7 +13,7 @@ use Rattle.css_links.specs.declared.place.Part.TheVariants.{Word, Reference, Oth
 use Rattle.css_links.specs.declared.place.Escape.{Escape}
 use Rattle.css_links.specs.declared.place.Escape.TheVariants.{Begun, Digits, Return}
 use Rattle.css_links.specs.declared.place.Turn.{Turn}
-use Rattle.css_links.specs.declared.place.Turn.TheVariants.{At, Anew, First, With, Refer}
+use Rattle.css_links.specs.declared.place.Turn.TheVariants.{At, Anew, First, With, Refer, Quote, UrlQuote, Open, Close}
 use Rattle.css_links.specs.declared.place.Place.{Place}
 use Rattle.css_links.specs.declared.place.Place.TheVariants.{Between, Slash, Comment, CommentStar, Import, ImportSlash, ImportComment, ImportCommentStar, Inside, Escaped, UrlBegun, UrlEnded}
 
@@ -22,13 +23,19 @@ use Rattle.css_links.specs.declared.place.Place.TheVariants.{Between, Slash, Com
 abbrev pub is_word : List ℕ → List ℕ → Bool
 is_word word raw = bytes_eq (lower (unescaped raw)) word
 
+-- whether it is the name of the function of an image set
+abbrev pub is_set : List ℕ → Bool
+is_set raw = is_word (codes "image-set") raw || is_word (codes "-webkit-image-set") raw
+
 -- ---- the places: what the next byte does there
 
 -- between words, strings, URLs and comments
 abbrev pub between : ℕ → Turn
 between b =
     if b == 47 then At Slash
-    else if is_quote b then Anew (Inside (Other b))
+    else if is_quote b then Quote b
+    else if b == 40 then Open false
+    else if b == 41 then Close
     else if b == 35 then Anew (Inside (Word lead.Hash))
     else if b == 64 then Anew (Inside (Word lead.At))
     else if b == 92 then First (Escaped (Word lead.Nothing) Begun)
@@ -63,9 +70,13 @@ import_comment b = if b == 42 then At ImportCommentStar else At ImportComment
 abbrev pub import_comment_star : ℕ → Turn
 import_comment_star b = if b == 47 then At Import else import_comment b
 
--- behind a word: `url(` begins a URL (section 4.3.4)
+-- behind a word and `(`: `url(` begins a URL, any other word is the name of a function (section 4.3.4)
+abbrev pub function : List ℕ → Turn
+function raw = if is_word (codes "url") raw then Anew UrlBegun else Open (is_set raw)
+
+-- behind a word
 abbrev pub behind_word : Lead → List ℕ → ℕ → Turn
-behind_word lead.Nothing raw b = if b == 40 && is_word (codes "url") raw then Anew UrlBegun else between b
+behind_word lead.Nothing raw b = if b == 40 then function raw else between b
 behind_word lead.Hash raw b = between b
 behind_word lead.At raw b = if is_word (codes "import") raw then import b else between b
 
@@ -111,7 +122,7 @@ bad b =
 abbrev pub url_begun : ℕ → Turn
 url_begun b =
     if is_white b then At UrlBegun
-    else if is_quote b then Anew (Inside (Reference b))
+    else if is_quote b then UrlQuote b
     else bare b
 
 -- behind a URL without quotes and white

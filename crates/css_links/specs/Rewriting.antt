@@ -5,7 +5,7 @@ use Rattle.std.specs.Str.Lossy.{utf8_lossy}
 use Rattle.css_links.specs.Places.{turn}
 use Rattle.css_links.specs.References.{Front, reference, step, nothing_read, references}
 use Rattle.css_links.specs.declared.place.Turn.{Turn}
-use Rattle.css_links.specs.declared.place.Turn.TheVariants.{At, Anew, First, With, Refer}
+use Rattle.css_links.specs.declared.place.Turn.TheVariants.{At, Anew, First, With, Refer, Quote, UrlQuote, Open, Close}
 use Rattle.css_links.specs.declared.place.Part.{Part}
 use Rattle.css_links.specs.declared.place.Part.TheVariants.{Word, Reference, Other, Bare, Bad}
 use Rattle.css_links.specs.declared.zone.Zone.{Zone}
@@ -153,6 +153,10 @@ out_of change w b (Anew p) = w.out ++ b ∷ []
 out_of change w b (First p) = w.out ++ b ∷ []
 out_of change w b (With p) = out_with (zone p) w.out b
 out_of change w b Refer = w.out ++ (anew change w.front.raw ++ (white_in (zone w.front.place) w.white ++ b ∷ []))
+out_of change w b (Quote quote) = w.out ++ b ∷ []
+out_of change w b (UrlQuote quote) = w.out ++ b ∷ []
+out_of change w b (Open set) = w.out ++ b ∷ []
+out_of change w b Close = w.out ++ b ∷ []
 
 -- the white that is held back when a byte does this
 abbrev pub white_of : Rewrite → ℕ → Turn → List ℕ
@@ -161,6 +165,10 @@ white_of w b (Anew p) = w.white
 white_of w b (First p) = w.white
 white_of w b (With p) = w.white
 white_of w b Refer = w.white
+white_of w b (Quote quote) = w.white
+white_of w b (UrlQuote quote) = w.white
+white_of w b (Open set) = w.white
+white_of w b Close = w.white
 
 -- with one more byte
 abbrev pub rewrite_step : Change → Rewrite → ℕ → Rewrite

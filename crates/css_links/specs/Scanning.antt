@@ -1,13 +1,17 @@
 -- What a scanner stands for: the front of a sheet that it was fed.
 use Rattle.std.specs.Prelude.{◌≡◌, ℕ, Bool, false, List, ◌++◌}
-use Rattle.css_links.specs.References.{Front, fed, nothing_read}
+use Rattle.css_links.specs.References.{Seen, Front, front, fed, nothing_read}
 use Rattle.css_links.specs.Rewriting.{Change, Rewrite, nothing_written, rewrite_fed}
 use Rattle.css_links.specs.declared.machine.Machine.{Machine}
 use Rattle.css_links.specs.declared.rewriter.Rewriter.{Rewriter}
 
+-- what a machine has seen
+abbrev pub seen_of : Machine → Seen
+seen_of m = record { found = m.found.items; depth = m.depth }
+
 -- how far a machine has come
 abbrev pub front_of : Machine → Front
-front_of m = record { place = m.place; raw = m.raw.items; found = m.found.items }
+front_of m = front m.place m.raw.items (seen_of m)
 
 -- how far a scanner has come
 pub record ScanProgress : Type 0 where

@@ -45,5 +45,5 @@ pub(crate) fn is_unfit(byte: u8) -> bool
 pub(crate) fn is_loud(byte: u8) -> bool
     ensures { result ≡ is_loud byte }
 {
-    is_quote(byte) || byte == b'(' || byte == b'/' || byte == b'@' || byte == b'\\'
+    is_quote(byte) || byte == b'(' || byte == b')' || byte == b'/' || byte == b'@' || byte == b'\\'
 }

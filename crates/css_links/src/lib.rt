@@ -1,7 +1,7 @@
 //! The references of a style sheet, found while the sheet arrives.
 //!
-//! This crate knows which texts of a style sheet are references: what `url(..)` names, in quotes or bare, and the
-//! string behind `@import`. A sheet that is fed in pieces gives what the whole gives; nothing is kept of it but the
+//! This crate knows which texts of a style sheet are references: what `url(..)` names, in quotes or bare, the string
+//! behind `@import`, and the strings of `image-set(..)`. A sheet that is fed in pieces gives what the whole gives; nothing is kept of it but the
 //! word, string or URL that isn't whole yet. It knows no addresses: texts are given with their escapes replaced,
 //! neither joined nor checked.
 //!

@@ -1,7 +1,7 @@
 //! A machine that reads a style sheet byte by byte (CSS Syntax Level 3, section 4.3).
 ghost use Rattle.std.specs.Prelude.{◌≡◌, ◌≤◌, ◌++◌, ◌∷◌, OnOk, IfOk, length, reverse};
-ghost use Rattle.css_links.specs.Scanning.{front_of};
-ghost use Rattle.css_links.specs.References.{front, nothing_read, left_open, left_open_in, ended, reference, step, fed, turned};
+ghost use Rattle.css_links.specs.Scanning.{front_of, seen_of};
+ghost use Rattle.css_links.specs.References.{front, nothing_read, left_open, left_open_in, ended, reference, step, fed, turned, opened, string_at};
 ghost use Rattle.css_links.specs.inner.Spans.{until, from, ends_span};
 ghost use Rattle.css_links.specs.inner.Quiet.{lead_behind, place_after};
 ghost use Rattle.css_links.specs.declared.place.Place.TheVariants as places;
@@ -13,13 +13,15 @@ use crate::span::{Span, from_star};
 use crate::turns::turn;
 use std::alloc::{AllocError, Global};
 
-/// How far a sheet was read: the place, the text of the word, string or URL that is being read, and what was found.
+/// How far a sheet was read: the place, the text of the word, string or URL that is being read, what was found, and how many
+/// parentheses are open from that of an image set on.
 #[derive(Drop)]
 pub(crate) struct Machine {
     alloc: Global,
     pub(crate) place: Place,
     pub(crate) raw: Vec<u8>,
     found: Vec<Found>,
+    depth: u64,
 }
 
 impl Machine {
@@ -31,6 +33,7 @@ impl Machine {
             place: Place::Between,
             raw: Vec::new(alloc),
             found: Vec::new(alloc),
+            depth: 0,
         }
     }
 
@@ -73,7 +76,7 @@ impl Machine {
 
     // Puts what the part goes on with to its text.
     fn text_run<'a>(&mut self, span: Span, text: &'a [u8]) -> Result<&'a [u8], AllocError>
-        ensures front { OnOk result (front_of self.new ≡ front self.old.place (self.old.raw.items ++ until (ends_span span) text.now) self.old.found.items) }
+        ensures front { OnOk result (front_of self.new ≡ front self.old.place (self.old.raw.items ++ until (ends_span span) text.now) (seen_of self.old)) }
         ensures left { IfOk result (λ left. left.now ≡ from (ends_span span) text.now) }
         ensures shorter { IfOk result (λ left. length left.now ≤ length text.now) }
     {
@@ -84,7 +87,7 @@ impl Machine {
 
     // Between tokens: passes over words and what stands between them, and keeps the last word.
     fn quiet_run<'a>(&mut self, text: &'a [u8]) -> Result<&'a [u8], AllocError>
-        ensures gives { IfOk result (λ left. fed (front_of self.new) left.now ≡ fed (front places.Between self.old.raw.items self.old.found.items) text.now) }
+        ensures gives { IfOk result (λ left. fed (front_of self.new) left.now ≡ fed (front places.Between self.old.raw.items (seen_of self.old)) text.now) }
         ensures shorter { IfOk result (λ left. length left.now ≤ length text.now) }
     {
         let (quiet, left) = Span::Quiet.split(text);
@@ -132,6 +135,23 @@ impl Machine {
                 self.raw.clear();
                 self.place = Place::Between;
             },
+            Turn::Quote(quote) => {
+                self.raw.clear();
+                self.place = Place::Inside(string_at(self.depth, quote));
+            },
+            Turn::UrlQuote(quote) => {
+                self.depth = opened(false, self.depth)?;
+                self.raw.clear();
+                self.place = Place::Inside(Part::Reference(quote));
+            },
+            Turn::Open(set) => {
+                self.depth = opened(set, self.depth)?;
+                self.place = Place::Between;
+            },
+            Turn::Close => {
+                self.depth = self.depth.saturating_sub(1);
+                self.place = Place::Between;
+            },
         }
         Ok(())
     }
@@ -141,6 +161,7 @@ impl Machine {
         ensures found { OnOk result (self.new.found.items ≡ self.old.found.items ++ reference self.old.raw.items) }
         ensures raw { self.new.raw.items ≡ self.old.raw.items }
         ensures place { self.new.place ≡ self.old.place }
+        ensures depth { self.new.depth ≡ self.old.depth }
     {
         let text = decoded(self.alloc, &self.raw)?;
         if !text.is_empty() {
@@ -181,6 +202,30 @@ impl Machine {
         self.close()?;
         let Machine { found, .. } = self;
         Ok(found)
+    }
+}
+
+// The depth behind a `(`, which may be that of an image set. The error is more than 2^64 of them, for which there is no memory.
+fn opened(set: bool, depth: u64) -> Result<u64, AllocError>
+    ensures { IfOk result (λ d. d ≡ opened set depth) }
+{
+    if depth == 0 {
+        return Ok(if set { 1 } else { 0 });
+    }
+    if depth == u64::MAX {
+        return Err(AllocError);
+    }
+    Ok(depth + 1)
+}
+
+// What a string between tokens is.
+fn string_at(depth: u64, quote: u8) -> Part
+    ensures { result ≡ string_at depth quote }
+{
+    if depth == 1 {
+        Part::Reference(quote)
+    } else {
+        Part::Other(quote)
     }
 }
 

@@ -71,4 +71,12 @@ pub(crate) enum Turn {
     With(Place),
     /// It ends the text, which is a reference.
     Refer,
+    /// A string between such quotes begins behind it: a reference directly in an image set.
+    Quote(u8),
+    /// A string between such quotes begins behind it that is a reference, in the function `url`.
+    UrlQuote(u8),
+    /// It opens a function or a parenthesis; whether that of an image set.
+    Open(bool),
+    /// It closes one.
+    Close,
 }

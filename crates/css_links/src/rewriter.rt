@@ -221,6 +221,10 @@ impl Rewriter {
             Turn::First(_) => self.write_byte(byte),
             Turn::With(place) => self.write_with(place, byte),
             Turn::Refer => self.write_reference(change, byte),
+            Turn::Quote(_) => self.write_byte(byte),
+            Turn::UrlQuote(_) => self.write_byte(byte),
+            Turn::Open(_) => self.write_byte(byte),
+            Turn::Close => self.write_byte(byte),
         }
     }
 

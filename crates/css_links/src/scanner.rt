@@ -1,6 +1,6 @@
 //! A scanner that is fed a sheet in any pieces.
 ghost use Rattle.std.specs.Prelude.{◌≡◌, true, false, ℕ, List, [], ◌∷◌, ◌++◌, OnOk, OnErr, IfOk, IfErr};
-ghost use Rattle.css_links.specs.References.{references};
+ghost use Rattle.css_links.specs.References.{references, fed, ended};
 ghost use Rattle.css_links.specs.Scanning.{ScanProgress, front_of, StandsFor};
 
 use crate::found::Found;
@@ -58,6 +58,7 @@ impl Scanner {
     /// too, and reads nothing.
     pub fn feed(&mut self, piece: &[u8]) -> Result<(), Memory>
         ensures ok { OnOk result ((front : List ℕ) → StandsFor self.old front → StandsFor self.new (front ++ piece.now)) }
+        ensures front { OnOk result (self.new.front ≡ fed self.old.front piece.now) }
         ensures err { OnErr result (self.new.failed ≡ true) }
         ensures failed { self.old.failed ≡ true → IfOk result (λ _. ⊥) }
     {
@@ -83,6 +84,7 @@ impl Scanner {
     /// `Memory` where a `feed` answered it, or a growth is refused.
     pub fn finish(self) -> Result<Vec<Found>, Memory>
         ensures ok { IfOk result (λ found. (sheet : List ℕ) → StandsFor self sheet → found.items ≡ references sheet) }
+        ensures front { IfOk result (λ found. found.items ≡ ended self.front) }
         ensures failed { self.failed ≡ true → IfOk result (λ _. ⊥) }
     {
         if self.failed {

@@ -46,7 +46,11 @@ fn between(byte: u8) -> Turn
     if byte == b'/' {
         Turn::At(Place::Slash)
     } else if is_quote(byte) {
-        Turn::Anew(Place::Inside(Part::Other(byte)))
+        Turn::Quote(byte)
+    } else if byte == b'(' {
+        Turn::Open(false)
+    } else if byte == b')' {
+        Turn::Close
     } else if byte == b'#' {
         Turn::Anew(Place::Inside(Part::Word(Lead::Hash)))
     } else if byte == b'@' {
@@ -174,10 +178,27 @@ fn behind_name(alloc: Global, raw: &[u8], byte: u8) -> Result<Turn, AllocError>
     if byte != b'(' {
         return Ok(between(byte));
     }
+    function(alloc, raw)
+}
+
+// Behind the name of a function and `(`.
+fn function(alloc: Global, raw: &[u8]) -> Result<Turn, AllocError>
+    ensures { IfOk result (λ t. t ≡ places.function raw.now) }
+{
     if is_word(alloc, b"url", raw)? {
         return Ok(Turn::Anew(Place::UrlBegun));
     }
-    Ok(between(byte))
+    Ok(Turn::Open(is_set(alloc, raw)?))
+}
+
+// Whether it is the name of the function of an image set.
+fn is_set(alloc: Global, raw: &[u8]) -> Result<bool, AllocError>
+    ensures { IfOk result (λ is. is ≡ places.is_set raw.now) }
+{
+    if is_word(alloc, b"image-set", raw)? {
+        return Ok(true);
+    }
+    is_word(alloc, b"-webkit-image-set", raw)
 }
 
 fn behind_at(alloc: Global, raw: &[u8], byte: u8) -> Result<Turn, AllocError>
@@ -249,7 +270,7 @@ fn url_begun(byte: u8) -> Turn
     if is_white(byte) {
         Turn::At(Place::UrlBegun)
     } else if is_quote(byte) {
-        Turn::Anew(Place::Inside(Part::Reference(byte)))
+        Turn::UrlQuote(byte)
     } else {
         bare(byte)
     }
