@@ -1,6 +1,6 @@
--- Names that no later page asks for: they stand before the least plain name behind.
-use Rattle.std.proofs.Common.{◌≡◌, ℕ, ◌+◌, ◌-◌, ◌≤◌, ◌<◌, ◌==◌, true, false, List, [], ◌∷◌, ◌++◌, map, length, get_or, inl, inr, sym, refl, ap, ◌∙◌, subst, arith}
-use Rattle.std.proofs.lemmas.Bool.{cond_both, cases_lt, false_from_ne_true}
+-- Names that no later page asks for: they stand before the least stem behind.
+use Rattle.std.proofs.Common.{zero, suc, ◌≡◌, ℕ, Bool, ◌+◌, ◌-◌, ◌≤◌, ◌<◌, true, false, List, [], ◌∷◌, ◌++◌, map, length, get_or, inl, inr, sym, refl, ap, ◌∙◌, subst, arith}
+use Rattle.std.proofs.lemmas.Bool.{cases_lt, false_from_ne_true}
 use Rattle.std.proofs.lemmas.Cmp.{nat_list_cmp_total, nat_cmp_total, tied_itself}
 use Rattle.std.proofs.lemmas.List.{get_or-map, length-map, get_or_append_left, get_or_push}
 use Rattle.std.specs.Cmp.Lexicographic.{slice_cmp}
@@ -9,9 +9,11 @@ use Rattle.std.specs.Ordering.{nat_cmp, is_lt, ordering_then, ordering_reverse}
 use Rattle.std.specs.declared.cmp.Ordering.{Ordering}
 use Rattle.std.specs.declared.cmp.Ordering.TheVariants.{Less, Equal, Greater}
 use denote.Ref.{Bor}
-use Rattle.local_names.specs.Names.{numbered_name}
+use Rattle.local_names.specs.Endings.{stem_of, ending_of}
+use Rattle.local_names.specs.Names.{numbered_by}
 use Rattle.local_names.specs.inner.Taken.{lent_text, AreLeast, IsPast}
-use Rattle.local_names.proofs.NamingLaws.{IsBehind}
+use Rattle.local_names.proofs.EndingLaws.{stem_ending}
+use Rattle.local_names.proofs.NamingLaws.{IsBehind, numbered_name-zero, numbered_name-suc}
 use Rattle.local_names.proofs.OrderLaws.{texts_equal, before_trans}
 
 -- a text doesn't stand before its own front
@@ -23,9 +25,12 @@ front_not_less (x ∷ own) rest = ap (λ o. is_lt (ordering_then o (slice_cmp na
 pub itself_not_less : (own : List ℕ) → is_lt (slice_cmp nat_cmp own own) ≡ false
 itself_not_less own = ap is_lt (tied_itself nat_list_cmp_total own)
 
-numbered_not_less : (own : List ℕ) (k : ℕ) → is_lt (slice_cmp nat_cmp (numbered_name own k) own) ≡ false
-numbered_not_less own k =
-    cond_both (k == 0) own (own ++ 46 ∷ decimal k) (λ name. is_lt (slice_cmp nat_cmp name own) ≡ false) (λ e. itself_not_less own) (λ e. front_not_less own (46 ∷ decimal k))
+-- each numbered name begins with the stem
+numbered_not_less : (h : Bool) (own : List ℕ) (k : ℕ) → is_lt (slice_cmp nat_cmp (numbered_by h own k) (stem_of h own)) ≡ false
+numbered_not_less h own zero =
+    subst (λ name. is_lt (slice_cmp nat_cmp name (stem_of h own)) ≡ false) (stem_ending h own ∙ sym (numbered_name-zero h own)) (front_not_less (stem_of h own) (ending_of h own))
+numbered_not_less h own (suc k) =
+    subst (λ name. is_lt (slice_cmp nat_cmp name (stem_of h own)) ≡ false) (sym (numbered_name-suc h own k)) (front_not_less (stem_of h own) (46 ∷ (decimal (suc k) ++ ending_of h own)))
 
 -- what stands before a text that isn't behind another stands before the other
 pub before_lower : (name low other : List ℕ) → is_lt (slice_cmp nat_cmp name low) ≡ true → is_lt (slice_cmp nat_cmp other low) ≡ false → is_lt (slice_cmp nat_cmp name other) ≡ true
@@ -72,13 +77,17 @@ past_of least i name tested more =
     subst (λ n. is_lt (slice_cmp nat_cmp name (get_or (map lent_text least) (n - (i + 2)) [])) ≡ true) (sym long) (subst (λ x. is_lt (slice_cmp nat_cmp name x) ≡ true) (sym read) this)
 
 -- no page behind asks for a name that is past
-pub behind_from_past : (plain least : List (List ℕ)) (i : ℕ) (name : List ℕ) → AreLeast plain least → IsPast least i name → IsBehind plain (i + 1) name
-behind_from_past plain least i name are past j k low within same =
+pub behind_from_past : (h : Bool) (plain least : List (List ℕ)) (i : ℕ) (name : List ℕ) → AreLeast (map (stem_of h) plain) least → IsPast least i name → IsBehind h plain (i + 1) name
+behind_from_past h plain least i name are past j k low within same =
+    let stems = map (stem_of h) plain in
+    let long = length-map plain (stem_of h) in
     let count = are.count in
     let m = length least - (i + 2) in
-    let first = past (omega (arith, count, low, within)) in
-    let second = are.low m j (omega (arith, count, low, within)) (omega (arith, count, low, within)) within in
-    let third = before_lower name (get_or least m []) (get_or plain j []) first second in
-    let fourth : is_lt (slice_cmp nat_cmp name (get_or plain j [])) ≡ false = ap (λ x. is_lt (slice_cmp nat_cmp x (get_or plain j []))) (sym same) ∙ numbered_not_less (get_or plain j []) k in
+    let own = get_or plain j [] in
+    let stem : get_or stems j [] ≡ stem_of h own = get_or-map (stem_of h) plain j [] [] within in
+    let first = past (omega (arith, count, low, within, long)) in
+    let second = are.low m j (omega (arith, count, low, within, long)) (omega (arith, count, low, within, long)) (omega (arith, within, long)) in
+    let third = before_lower name (get_or least m []) (stem_of h own) first (subst (λ x. is_lt (slice_cmp nat_cmp x (get_or least m [])) ≡ false) stem second) in
+    let fourth : is_lt (slice_cmp nat_cmp name (stem_of h own)) ≡ false = ap (λ x. is_lt (slice_cmp nat_cmp x (stem_of h own))) (sym same) ∙ numbered_not_less h own k in
     let clash : true ≡ false = sym third ∙ fourth in
     cc

@@ -1,4 +1,5 @@
 pub mod UnitLaws
+pub mod EndingLaws
 pub mod SegmentLaws
 pub mod PlainLaws
 pub mod ServedLaws

@@ -2,7 +2,7 @@
 use Rattle.std.proofs.Common.{zero, suc, ◌≡◌, ◌≢◌, ℕ, ◌+◌, ◌-◌, ◌<◌, ◌≤◌, ◌==◌, min, Bool, true, false, not, cond, Option, Some, None, List, [], ◌∷◌, ◌++◌, length, map, get_or, take, drop, codes, All, sym, refl, ap, ◌∙◌, subst, inl, inr, arith, append_assoc}
 use denote.Ref.{Bor}
 use Rattle.std.proofs.lemmas.Bool.{eqb-true, cond_both, cond-true, cases_lt}
-use Rattle.std.proofs.lemmas.List.{append-nil, map-append, get_or-map, length-map, length-append, nil_from_length, take_rest, drop_all}
+use Rattle.std.proofs.lemmas.List.{append-nil, map-append, length-map, length-append, nil_from_length, take_rest, drop_all}
 use Rattle.std.proofs.lemmas.List.Elements.{filter-append, filter_passes, All-nil, All-cons, All-append, All-map, All-weaker, All-head, All-tail, All-drop}
 use Rattle.std.proofs.lemmas.Str.{IsUtf8-string_bytes}
 use Rattle.std.proofs.Math.Seq.{drop-append-add, drop-append_seam}
@@ -16,13 +16,18 @@ use Rattle.address.specs.Address.{AddressText, IsAddress, scheme_text, scheme_of
 use Rattle.address.specs.declared.scheme.Scheme.{Scheme}
 use Rattle.address.specs.declared.scheme.Scheme.TheVariants.{Http, Https}
 use Rattle.local_names.specs.declared.rules.NameRules.{NameRules}
-use Rattle.local_names.specs.PlainNames.{slash, is_slash, has_bytes, units_of, marked_units, with_letters, port_mark, query_mark, host_units, dir_segments, path_units, or_index, default_page, file_units, last_units, scheme_segment, host_segment, front_segments, is_part, local_segment, local_segments, segments_of, plain_name_of}
-use Rattle.local_names.specs.Names.{numbered_name, IsNaming}
-use Rattle.local_names.specs.LocalNames.{IsInner, StaysInside, IsShort, HasShortSegments, IsUncontrolled, IsText, IsNoPart}
-use Rattle.local_names.specs.inner.Units.{lent_bytes, below, all_below}
-use Rattle.local_names.proofs.NamingLaws.{numbered_name-suc}
-use Rattle.local_names.proofs.UnitLaws.{IsSegmentByte, IsUnit, IsSegment, units_are, units_present, marked_are, local_segment_is, local_segment_short, first_no_part, part_before_slash, part_before_dot, all_front, all_back}
-use Rattle.local_names.proofs.SegmentLaws.{split_joined, joined_onto_last, joined_text, numbered_segment_is}
+use Rattle.kept_bodies.specs.declared.body_kind.BodyKind.{BodyKind}
+use Rattle.kept_bodies.specs.declared.body_kind.BodyKind.TheVariants.{Html, Sheet, Other}
+use Rattle.local_names.specs.declared.plain_name.TheConstants.{MAX_SEGMENT}
+use Rattle.local_names.specs.PlainNames.{slash, is_slash, has_bytes, units_of, marked_units, with_letters, port_mark, query_mark, host_units, dir_segments, path_units, or_index, default_page, file_units, last_units, scheme_segment, host_segment, front_segments, is_part, is_alone, segment_within, local_segment, local_segments, segments_within, plain_name_within, plain_name_of}
+use Rattle.local_names.specs.Endings.{shows_kind, ended_name, ended_names, ShowKinds, stem_of, ending_of}
+use Rattle.local_names.specs.Names.{numbered_by, IsNamingBy}
+use Rattle.local_names.specs.LocalNames.{IsInner, StaysInside, IsShort, HasShortSegmentsBy, IsUncontrolled, IsText, IsNoPart}
+use Rattle.local_names.specs.inner.Units.{lent_bytes, below, below_within, all_below}
+use Rattle.local_names.proofs.NamingLaws.{numbered_name-zero, numbered_name-suc}
+use Rattle.local_names.proofs.EndingLaws.{stem_ending, no_slash_ending, numbered_shows, ended_shows, length-ended_names, get_or-ended_names}
+use Rattle.local_names.proofs.UnitLaws.{IsSegmentByte, IsUnit, IsSegment, units_are, units_present, marked_are, segment_within_is, length-segment_within, local_segment_is, local_segment_short, first_no_part, part_before_slash, part_before_dot, front_no_part, dot_no_part}
+use Rattle.local_names.proofs.SegmentLaws.{split_joined, join_push, last_of, joined_text, decimal_first, dotted_segment_is, segment_bytes_from, numbered_segment_is}
 
 -- ---- segments of a path, as they are read
 
@@ -195,41 +200,63 @@ front_are rules page is =
     (All-append AreUnits (host_segment rules page) dirs (either_are rules.has_host (host_units rules page) (host_are rules page is)) (dirs_are rules rules.cut_dirs (dir_of page))))
     (λ _. All-nil AreUnits)
 
-pub segments_are : (rules : NameRules) (page : AddressText) → IsAddress page → All IsSegment (segments_of rules page)
-unfolding segments_of
-segments_are rules page is =
-    all_are (front_segments rules page ++ last_units rules page ∷ [])
-    (All-append AreUnits (front_segments rules page) (last_units rules page ∷ []) (front_are rules page is) (All-cons AreUnits (last_units rules page) [] (last_are rules page) (All-nil AreUnits)))
-  where
-    all_are : (segments : List (List (List ℕ))) → All AreUnits segments → All IsSegment (local_segments segments)
-    all_are [] all = All-nil IsSegment
-    all_are (first ∷ others) all =
-        let own = All-head AreUnits first others all in
-        All-cons IsSegment (local_segment true first) (map (local_segment false) others) (local_segment_is true first own.all own.some)
-        (All-map IsSegment (local_segment false) others
-        (All-weaker AreUnits (λ us. IsSegment (local_segment false us)) (λ us are. local_segment_is false us are.all are.some) others (All-tail AreUnits first others all)))
+locals_are : (segments : List (List (List ℕ))) → All AreUnits segments → All IsSegment (local_segments segments)
+locals_are [] all = All-nil IsSegment
+locals_are (first ∷ others) all =
+    let own = All-head AreUnits first others all in
+    All-cons IsSegment (local_segment true first) (map (local_segment false) others) (local_segment_is true first own.all own.some)
+    (All-map IsSegment (local_segment false) others
+    (All-weaker AreUnits (λ us. IsSegment (local_segment false us)) (λ us are. local_segment_is false us are.all are.some) others (All-tail AreUnits first others all)))
 
-segments_are_short : (rules : NameRules) (page : AddressText) → All IsShort (segments_of rules page)
-unfolding segments_of
-segments_are_short rules page = all_are (front_segments rules page ++ last_units rules page ∷ [])
+locals_are_short : (segments : List (List (List ℕ))) → All IsShort (local_segments segments)
+locals_are_short [] = All-nil IsShort
+locals_are_short (first ∷ others) =
+    All-cons IsShort (local_segment true first) (map (local_segment false) others) (local_segment_short true first)
+    (All-map IsShort (local_segment false) others (λ k d below. local_segment_short false (get_or others k d)))
+
+-- the last segment of a page's name
+last_within : ℕ → NameRules → AddressText → List ℕ
+last_within room rules page = segment_within (is_alone (front_segments rules page)) room (last_units rules page)
+
+last_segment_is : (room : ℕ) (rules : NameRules) (page : AddressText) → 6 ≤ room → IsSegment (last_within room rules page)
+unfolding last_within
+last_segment_is room rules page wide = (let are = last_are rules page in segment_within_is (is_alone (front_segments rules page)) room (last_units rules page) wide are.all are.some)
+
+length-last_within : (room : ℕ) (rules : NameRules) (page : AddressText) → 6 ≤ room → length (last_within room rules page) ≤ room
+unfolding last_within
+length-last_within room rules page wide = length-segment_within (is_alone (front_segments rules page)) room (last_units rules page) wide
+
+-- a name to which the last segment is added
+below_last : (room : ℕ) (fronts : List (List (List ℕ))) (last : List (List ℕ)) → All AreUnits fronts
+    → below_within room (join_with_byte slash (local_segments fronts)) last ≡ join_with_byte slash (local_segments fronts ++ segment_within (is_alone fronts) room last ∷ [])
+below_last room [] last are = refl
+below_last room (front ∷ fronts) last are =
+    let first = local_segment true front in
+    let rest = map (local_segment false) fronts in
+    let name = join_with_byte slash (first ∷ rest) in
+    let segment = segment_within false room last in
+    let own = All-head AreUnits front fronts are in
+    let has = has_joined first rest (present_has first ((local_segment_is true front own.all own.some).inner).present) in
+    ap (λ b. cond b (name ++ slash ∷ []) [] ++ segment_within (not b) room last) has
+    ∙ append_assoc name (slash ∷ []) segment
+    ∙ sym (join_push first rest segment)
   where
-    all_are : (segments : List (List (List ℕ))) → All IsShort (local_segments segments)
-    all_are [] = All-nil IsShort
-    all_are (first ∷ others) =
-        All-cons IsShort (local_segment true first) (map (local_segment false) others) (local_segment_short true first)
-        (All-map IsShort (local_segment false) others (λ k d below. local_segment_short false (get_or others k d)))
+    has_joined : (first : List ℕ) (rest : List (List ℕ)) → has_bytes first ≡ true → has_bytes (join_with_byte slash (first ∷ rest)) ≡ true
+    has_joined [] rest has = cc
+    has_joined (b ∷ first) [] has = refl
+    has_joined (b ∷ first) (next ∷ rest) has = refl
 
 -- the plain name, step by step
-pub plain_steps : (rules : NameRules) (page : AddressText) → IsAddress page → (none front name : List ℕ) (last : List (List ℕ)) → none ≡ []
-    → front ≡ all_below none (front_segments rules page) → last ≡ last_units rules page → name ≡ below front last → name ≡ plain_name_of rules page
-unfolding plain_name_of segments_of
-plain_steps rules page is none front name last en ef el e =
+pub plain_steps : (room : ℕ) (rules : NameRules) (page : AddressText) → IsAddress page → (none front name : List ℕ) (last : List (List ℕ)) → none ≡ []
+    → front ≡ all_below none (front_segments rules page) → last ≡ last_units rules page → name ≡ below_within room front last → name ≡ plain_name_within room rules page
+unfolding plain_name_within segments_within
+plain_steps room rules page is none front name last en ef el e =
     let fronts = front_segments rules page in
     let own = last_units rules page in
-    e ∙ ap (below front) el
-    ∙ ap (λ n. below n own) (ef ∙ ap (λ n. all_below n fronts) en)
-    ∙ sym (all_below-append [] fronts (own ∷ []))
-    ∙ all_joined (fronts ++ own ∷ []) (segments_are rules page is)
+    let are = front_are rules page is in
+    e ∙ ap (below_within room front) el
+    ∙ ap (λ n. below_within room n own) (ef ∙ ap (λ n. all_below n fronts) en ∙ all_joined fronts (locals_are fronts are))
+    ∙ below_last room fronts own are
 
 -- ---- names that are made of segments
 
@@ -255,105 +282,182 @@ joined_short : (segments : List (List ℕ)) → 0 < length segments → All IsSe
 joined_short [] some all short = absurd (omega arith)
 joined_short (first ∷ rest) some all short = subst (All IsShort) (sym (split_joined first rest (bytes_of (first ∷ rest) all))) short
 
--- the last of the segments, behind these
-last_segment : List (List (List ℕ)) → List (List ℕ) → List ℕ
-last_segment [] units = local_segment true units
-last_segment (front ∷ fronts) units = local_segment false units
-
-apart : (fronts : List (List (List ℕ))) (units : List (List ℕ)) → local_segments (fronts ++ units ∷ []) ≡ local_segments fronts ++ last_segment fronts units ∷ []
-unfolding last_segment
-apart [] units = refl
-apart (front ∷ fronts) units = ap (λ segments. local_segment true front ∷ segments) (map-append (local_segment false) fronts (units ∷ []))
-
-segments_some : (rules : NameRules) (page : AddressText) → 0 < length (segments_of rules page)
-unfolding segments_of
-segments_some rules page =
-    let fronts = front_segments rules page in
-    let own = last_units rules page in
-    omega (arith, ap length (apart fronts own), length-append (local_segments fronts) (last_segment fronts own ∷ []))
-
-pub numbered_short : (rules : NameRules) (page : AddressText) (number : ℕ) → IsAddress page → HasShortSegments (numbered_name (plain_name_of rules page) number)
-unfolding plain_name_of
-numbered_short rules page number is =
-    record { plain = plain_name_of rules page; number = number; is = refl; short = joined_short (segments_of rules page) (segments_some rules page) (segments_are rules page is) (segments_are_short rules page) }
-
 made_of : (fronts : List (List ℕ)) (last : List ℕ) → All IsSegment fronts → IsSegment last → IsMade (join_with_byte slash (fronts ++ last ∷ []))
 made_of [] last all is = record { first = last; rest = []; is = refl; all = All-cons IsSegment last [] is (All-nil IsSegment) }
 made_of (first ∷ mids) last all is =
     record { first = first; rest = mids ++ last ∷ []; is = refl; all = All-append IsSegment (first ∷ mids) (last ∷ []) all (All-cons IsSegment last [] is (All-nil IsSegment)) }
 
+-- ---- plain names with their endings
+
+-- what a plain name is: directories, and a last segment of no more bytes than this; none of a part
+pub record IsPlain (room : ℕ) (name : List ℕ) : Type 0 where
+  pub fronts : List (List ℕ)
+  pub last : List ℕ
+  pub is : name ≡ join_with_byte slash (fronts ++ last ∷ [])
+  pub fronts_are : All IsSegment fronts
+  pub last_is : IsSegment last
+  pub fronts_short : All IsShort fronts
+  pub last_short : length last ≤ room
+  pub no_part : is_part name ≡ false
+
+joined_no_part : (fronts : List (List (List ℕ))) (room : ℕ) (last : List (List ℕ)) → is_part (join_with_byte slash (local_segments fronts ++ segment_within (is_alone fronts) room last ∷ [])) ≡ false
+joined_no_part [] room last = first_no_part room last
+joined_no_part (front ∷ fronts) room last =
+    next (local_segment true front) (map (local_segment false) fronts ++ segment_within false room last ∷ []) (first_no_part MAX_SEGMENT front)
+  where
+    next : (first : List ℕ) (rest : List (List ℕ)) → is_part first ≡ false → is_part (join_with_byte slash (first ∷ rest)) ≡ false
+    next first [] none = none
+    next first (other ∷ rest) none = part_before_slash first (join_with_byte slash (other ∷ rest)) none
+
+within_is : (room : ℕ) (rules : NameRules) (page : AddressText) → 6 ≤ room → IsAddress page → IsPlain room (plain_name_within room rules page)
+unfolding plain_name_within segments_within last_within
+within_is room rules page wide is =
+    let fronts = front_segments rules page in
+    record {
+      fronts = local_segments fronts;
+      last = last_within room rules page;
+      is = refl;
+      fronts_are = locals_are fronts (front_are rules page is);
+      last_is = last_segment_is room rules page wide;
+      fronts_short = locals_are_short fronts;
+      last_short = length-last_within room rules page wide;
+      no_part = joined_no_part fronts room (last_units rules page);
+    }
+
+-- a plain name isn't empty
+plain_some : (room : ℕ) (name : List ℕ) → IsPlain room name → 0 < length name
+plain_some room name plain = some plain.fronts plain.last name (plain.last_is.inner).present plain.is
+  where
+    some : (fronts : List (List ℕ)) (last name : List ℕ) → last ≢ [] → name ≡ join_with_byte slash (fronts ++ last ∷ []) → 0 < length name
+    some [] [] name present is = absurd (present refl)
+    some [] (b ∷ last) name present is = omega (arith, ap length is)
+    some (first ∷ mids) last name present is =
+        let long = length-append (join_with_byte slash (first ∷ mids)) (slash ∷ last) in
+        omega (arith, ap length (is ∙ join_push first mids last), long)
+
 onto_last : (fronts : List (List ℕ)) (last suffix : List ℕ) → join_with_byte slash (fronts ++ last ∷ []) ++ suffix ≡ join_with_byte slash (fronts ++ (last ++ suffix) ∷ [])
 onto_last [] last suffix = refl
-onto_last (first ∷ mids) last suffix = joined_onto_last first mids last suffix
+onto_last (first ∷ mids) last suffix =
+    ap (λ x. x ++ suffix) (join_push first mids last)
+    ∙ append_assoc (join_with_byte slash (first ∷ mids)) (slash ∷ last) suffix
+    ∙ sym (join_push first mids (last ++ suffix))
 
-pub numbered_made : (rules : NameRules) (page : AddressText) (number : ℕ) → IsAddress page → IsMade (numbered_name (plain_name_of rules page) number)
-unfolding plain_name_of segments_of
-numbered_made rules page number is =
-    let fronts = local_segments (front_segments rules page) in
-    let last = last_segment (front_segments rules page) (last_units rules page) in
-    let both : local_segments (front_segments rules page ++ last_units rules page ∷ []) ≡ fronts ++ last ∷ [] = apart (front_segments rules page) (last_units rules page) in
-    let all : All IsSegment (fronts ++ last ∷ []) = subst (All IsSegment) both (segments_are rules page is) in
-    let front = all_front IsSegment fronts (last ∷ []) all in
-    let own : IsSegment last = All-head IsSegment last [] (all_back IsSegment fronts (last ∷ []) all) in
-    let plain : plain_name_of rules page ≡ join_with_byte slash (fronts ++ last ∷ []) = ap (join_with_byte slash) both in
-    numbered fronts last number front own (plain_name_of rules page) plain
-  where
-    numbered : (fronts : List (List ℕ)) (last : List ℕ) (number : ℕ) → All IsSegment fronts → IsSegment last → (plain : List ℕ) → plain ≡ join_with_byte slash (fronts ++ last ∷ []) → IsMade (numbered_name plain number)
-    numbered fronts last zero front own plain is = subst IsMade (sym is) (made_of fronts last front own)
-    numbered fronts last (suc k) front own plain is =
-        let suffix = 46 ∷ decimal (suc k) in
-        subst IsMade (sym (numbered_name-suc plain k ∙ ap (λ name. name ++ suffix) is ∙ onto_last fronts last suffix)) (made_of fronts (last ++ suffix) front (numbered_segment_is last (suc k) own))
+-- a name to which an ending is added
+with_ending : (room : ℕ) (name rest : List ℕ) → All IsSegmentByte (46 ∷ rest) → 1 ≤ length rest → IsPlain room name → IsPlain (room + length (46 ∷ rest)) (name ++ 46 ∷ rest)
+with_ending room name rest bytes some plain =
+    let ending = 46 ∷ rest in
+    let long = length-append plain.last ending in
+    let short = plain.last_short in
+    record {
+      fronts = plain.fronts;
+      last = plain.last ++ ending;
+      is = ap (λ x. x ++ ending) plain.is ∙ onto_last plain.fronts plain.last ending;
+      fronts_are = plain.fronts_are;
+      last_is = dotted_segment_is plain.last rest plain.last_is bytes some;
+      fronts_short = plain.fronts_short;
+      last_short = omega (arith, long, short);
+      no_part = part_before_dot name rest (plain_some room name plain) plain.no_part;
+    }
 
--- ---- no name is that of a part
+html_bytes : All IsSegmentByte (codes ".html")
+html_bytes = segment_bytes_from (codes ".html") refl
 
-joined_no_part : (segments : List (List (List ℕ))) → 0 < length segments → is_part (join_with_byte slash (local_segments segments)) ≡ false
-joined_no_part [] some = absurd (omega arith)
-joined_no_part (first ∷ []) some = first_no_part first
-joined_no_part (first ∷ (next ∷ others)) some =
-    part_before_slash (local_segment true first) (join_with_byte slash (map (local_segment false) (next ∷ others))) (first_no_part first)
+css_bytes : All IsSegmentByte (codes ".css")
+css_bytes = segment_bytes_from (codes ".css") refl
 
-plain_no_part : (rules : NameRules) (page : AddressText) → is_part (plain_name_of rules page) ≡ false
-unfolding plain_name_of segments_of
-plain_no_part rules page =
-    let fronts = front_segments rules page in
-    let own = last_units rules page in
-    joined_no_part (fronts ++ own ∷ []) (omega (arith, length-append fronts (own ∷ [])))
+ended_is : (rules : NameRules) (kind : BodyKind) (page : AddressText) → IsAddress page → IsPlain MAX_SEGMENT (ended_name rules kind page)
+ended_is rules Html page is =
+    let plain = plain_name_of rules page in
+    let added = plain_name_within 195 rules page ++ codes ".html" in
+    cond_both (shows_kind Html plain) plain added (IsPlain MAX_SEGMENT) (λ _. within_is MAX_SEGMENT rules page (omega arith) is)
+    (λ _. with_ending 195 (plain_name_within 195 rules page) (codes "html") html_bytes (omega arith) (within_is 195 rules page (omega arith) is))
+ended_is rules Sheet page is =
+    let plain = plain_name_of rules page in
+    let added = plain_name_within 196 rules page ++ codes ".css" in
+    cond_both (shows_kind Sheet plain) plain added (IsPlain MAX_SEGMENT) (λ _. within_is MAX_SEGMENT rules page (omega arith) is)
+    (λ _. with_ending 196 (plain_name_within 196 rules page) (codes "css") css_bytes (omega arith) (within_is 196 rules page (omega arith) is))
+ended_is rules Other page is = within_is MAX_SEGMENT rules page (omega arith) is
 
-plain_some : (rules : NameRules) (page : AddressText) → IsAddress page → 0 < length (plain_name_of rules page)
-plain_some rules page is = made_some (plain_name_of rules page) (numbered_made rules page 0 is)
-  where
-    joined_some : (first : List ℕ) (rest : List (List ℕ)) → first ≢ [] → (name : List ℕ) → name ≡ join_with_byte slash (first ∷ rest) → 0 < length name
-    joined_some [] rest present name is = absurd (present refl)
-    joined_some (b ∷ first) [] present name is = omega (arith, ap length is)
-    joined_some (b ∷ first) (next ∷ rest) present name is = omega (arith, ap length is)
+-- ---- numbered names
 
-    made_some : (name : List ℕ) → IsMade name → 0 < length name
-    made_some name made = let first = All-head IsSegment made.first made.rest made.all in joined_some made.first made.rest first.inner.present name made.is
+-- what each numbered plain name has
+pub record IsNumbered (has : Bool) (name : List ℕ) : Type 0 where
+  pub made : IsMade name
+  pub short : HasShortSegmentsBy has name
+  pub no_part : IsNoPart name
 
-pub numbered_no_part : (rules : NameRules) (page : AddressText) (number : ℕ) → IsAddress page → IsNoPart (numbered_name (plain_name_of rules page) number)
-numbered_no_part rules page zero is = plain_no_part rules page
-numbered_no_part rules page (suc k) is =
-    let own = plain_name_of rules page in
-    subst IsNoPart (sym (numbered_name-suc own k)) (part_before_dot own (decimal (suc k)) (plain_some rules page is) (plain_no_part rules page))
+plain_short : (name : List ℕ) → IsPlain MAX_SEGMENT name → All IsShort (slice_split is_slash name)
+plain_short name plain =
+    let fronts = plain.fronts in
+    let last = plain.last in
+    subst (λ x. All IsShort (slice_split is_slash x)) (sym plain.is)
+    (joined_short (fronts ++ last ∷ []) (omega (arith, length-append fronts (last ∷ [])))
+    (All-append IsSegment fronts (last ∷ []) plain.fronts_are (All-cons IsSegment last [] plain.last_is (All-nil IsSegment)))
+    (All-append IsShort fronts (last ∷ []) plain.fronts_short (All-cons IsShort last [] plain.last_short (All-nil IsShort))))
+
+numbered_no_part : (stem ending : List ℕ) (k : ℕ) → is_part (stem ++ ending) ≡ false → is_part (stem ++ 46 ∷ (decimal k ++ ending)) ≡ false
+numbered_no_part [] ending k none = dot_no_part (decimal k ++ ending) (decimal_first k ending)
+numbered_no_part (b ∷ stem) ending k none = part_before_dot (b ∷ stem) (decimal k ++ ending) (omega arith) (front_no_part (b ∷ stem) ending none)
+
+numbered_is : (has : Bool) (name : List ℕ) (k : ℕ) → IsPlain MAX_SEGMENT name → IsNumbered has (numbered_by has name k)
+numbered_is has name zero plain =
+    let own = numbered_name-zero has name in
+    record {
+      made = subst IsMade (sym (own ∙ plain.is)) (made_of plain.fronts plain.last plain.fronts_are plain.last_is);
+      short = record { plain = name; number = 0; is = refl; short = plain_short name plain };
+      no_part = subst IsNoPart (sym own) plain.no_part;
+    }
+numbered_is has name (suc k) plain =
+    let stem = stem_of has name in
+    let ending = ending_of has name in
+    let whole = stem_ending has name in
+    let number = 46 ∷ (decimal (suc k) ++ ending) in
+    let e = numbered_name-suc has name k in
+    let cut = last_of plain.fronts plain.last stem ending (sym plain.is ∙ sym whole) (no_slash_ending has name) in
+    let last_is = numbered_segment_is cut.front ending (suc k) (subst IsSegment cut.is plain.last_is) in
+    record {
+      made = subst IsMade (sym (e ∙ cut.put number)) (made_of plain.fronts (cut.front ++ number) plain.fronts_are last_is);
+      short = record { plain = name; number = suc k; is = refl; short = plain_short name plain };
+      no_part = subst IsNoPart (sym e) (numbered_no_part stem ending (suc k) (subst (λ x. is_part x ≡ false) (sym whole) plain.no_part));
+    }
 
 -- ---- all names of a list
 
--- what each numbered plain name of an address has, the names have
-pub all_names : (P : List ℕ → Type 0) (rules : NameRules) (pages : List AddressText) (names : List (List ℕ)) → IsNaming (map (plain_name_of rules) pages) names → All IsAddress pages → ((page : AddressText) (number : ℕ) → IsAddress page → P (numbered_name (plain_name_of rules page) number)) → All P names
-all_names P rules pages names naming addresses each i d below =
-    let long = length-map pages (plain_name_of rules) in
+-- each plain name is one
+pub plain_are : (rules : NameRules) (pages : List AddressText) → All IsAddress pages → All (IsPlain MAX_SEGMENT) (map (plain_name_of rules) pages)
+plain_are rules pages addresses = All-map (IsPlain MAX_SEGMENT) (plain_name_of rules) pages (λ i page below. within_is MAX_SEGMENT rules (get_or pages i page) (omega arith) (addresses i page below))
+
+pub ended_are : (rules : NameRules) (pages : List AddressText) (kinds : List BodyKind) → All IsAddress pages → All (IsPlain MAX_SEGMENT) (ended_names rules pages kinds)
+ended_are rules [] kinds all = All-nil (IsPlain MAX_SEGMENT)
+ended_are rules (page ∷ pages) [] all =
+    All-cons (IsPlain MAX_SEGMENT) (ended_name rules Other page) (ended_names rules pages []) (ended_is rules Other page (All-head IsAddress page pages all)) (ended_are rules pages [] (All-tail IsAddress page pages all))
+ended_are rules (page ∷ pages) (kind ∷ kinds) all =
+    All-cons (IsPlain MAX_SEGMENT) (ended_name rules kind page) (ended_names rules pages kinds) (ended_is rules kind page (All-head IsAddress page pages all)) (ended_are rules pages kinds (All-tail IsAddress page pages all))
+
+-- what each numbered plain name has, the names have
+pub all_names : (P : List ℕ → Type 0) (has : Bool) (plain names : List (List ℕ)) → IsNamingBy has plain names → All (IsPlain MAX_SEGMENT) plain → ((name : List ℕ) → IsNumbered has name → P name) → All P names
+all_names P has plain names naming are each i d below =
     let count = naming.count in
-    let within : i < length pages = omega arith in
-    let at = naming.each i (omega arith) in
-    let page = get_or pages i [] in
-    let own : get_or (map (plain_name_of rules) pages) i [] ≡ plain_name_of rules page = get_or-map (plain_name_of rules) pages i [] [] within in
-    let name : get_or names i d ≡ numbered_name (plain_name_of rules page) at.number = same_read names i d [] below ∙ at.is ∙ ap (λ o. numbered_name o at.number) own in
-    subst P (sym name) (each page at.number (addresses i [] within))
+    let within : i < length plain = omega (arith, below, count) in
+    let at = naming.each i within in
+    let own = get_or plain i [] in
+    subst P (sym (same_read names i d [] below ∙ at.is)) (each (numbered_by has own at.number) (numbered_is has own at.number (are i [] within)))
   where
     same_read : (xs : List (List ℕ)) (k : ℕ) (a b : List ℕ) → k < length xs → get_or xs k a ≡ get_or xs k b
     same_read [] k a b below = absurd (omega arith)
     same_read (x ∷ xs) zero a b below = refl
     same_read (x ∷ xs) (suc k) a b below = same_read xs k a b (omega arith)
+
+-- each shows its kind
+pub names_show : (rules : NameRules) (pages : List AddressText) (kinds : List BodyKind) (names : List (List ℕ)) → IsNamingBy true (ended_names rules pages kinds) names → ShowKinds kinds names
+names_show rules pages kinds names naming i below =
+    let kind = get_or kinds i Other in
+    let page = get_or pages i [] in
+    let count = naming.count in
+    let long = length-ended_names rules pages kinds in
+    let at = naming.each i (omega (arith, below, count)) in
+    let own = get_or-ended_names rules pages kinds i [] (omega (arith, below, count, long)) in
+    subst (λ name. shows_kind kind name ≡ true) (sym (at.is ∙ ap (λ x. numbered_by true x at.number) own)) (numbered_shows kind (ended_name rules kind page) at.number (ended_shows rules kind page))
 
 -- strings are characters in UTF-8
 pub texts : {Y : Type 0} (names : List (String Y)) → All (All IsUncontrolled) (map string_bytes names) → All IsText (map string_bytes names)

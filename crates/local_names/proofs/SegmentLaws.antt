@@ -1,5 +1,5 @@
 -- Segments that are joined and split again, and numbers behind them.
-use Rattle.std.proofs.Common.{zero, suc, ◌≡◌, ◌≢◌, ℕ, ◌+◌, ◌≤◌, ◌<◌, ◌/◌, ◌%◌, ◌==◌, nat_lt, false, Option, None, List, [], ◌∷◌, ◌++◌, length, map, codes, All, refl, ap, ◌∙◌, arith, append_assoc}
+use Rattle.std.proofs.Common.{zero, suc, ◌≡◌, ◌≢◌, ℕ, ◌+◌, ◌≤◌, ◌<◌, ◌/◌, ◌%◌, ◌==◌, nat_lt, Bool, false, true, not, ◌&&◌, Option, None, List, [], ◌∷◌, ◌++◌, length, map, get_or, codes, All, refl, sym, ap, ◌∙◌, arith, append_assoc}
 use Rattle.std.proofs.lemmas.Bool.{cond_both, both_ways, ne_eqb, lt-ltb}
 use Rattle.std.proofs.lemmas.List.{length-append}
 use Rattle.std.proofs.lemmas.List.Elements.{All-nil, All-cons, All-head, All-tail, All-append, All-weaker}
@@ -8,10 +8,13 @@ use Rattle.std.proofs.lemmas.Iterator.{YieldsList}
 use Rattle.std.proofs.lemmas.Iterator.Consumers.{YieldsList-end}
 use Rattle.std.specs.Iterator.{Yields}
 use Rattle.std.specs.Fmt.{decimal, digits, digits_onto, digit_glyph}
-use Rattle.std.specs.List.{slice_split, join_with_byte}
+use Rattle.std.proofs.lemmas.Bool.Decides.{nat_tests}
+use Rattle.std.proofs.lemmas.List.Sums.{AllPass-from_list_all}
+use Rattle.std.specs.List.{slice_split, list_all, join_with_byte}
 use Rattle.local_names.specs.PlainNames.{slash, is_slash}
 use Rattle.local_names.specs.LocalNames.{IsUncontrolled}
-use Rattle.local_names.proofs.UnitLaws.{IsSegmentByte, IsSegment, uncontrolled, not_short}
+use Rattle.local_names.proofs.EndingLaws.{NoSlash, no_slash_inside}
+use Rattle.local_names.proofs.UnitLaws.{IsSegmentByte, IsSegment, uncontrolled, not_short, all_front, all_back}
 
 not_slash : (byte : ℕ) → byte ≢ slash → is_slash byte ≡ false
 not_slash byte differs = ne_eqb byte slash differs
@@ -30,12 +33,43 @@ split_apart first (next ∷ rest) all =
 pub split_joined : (first : List ℕ) (rest : List (List ℕ)) → All (All IsSegmentByte) (first ∷ rest) → slice_split is_slash (join_with_byte slash (first ∷ rest)) ≡ first ∷ rest
 split_joined first rest all = split_apart first rest (All-weaker (All IsSegmentByte) (All (λ byte. is_slash byte ≡ false)) no_slashes (first ∷ rest) all)
 
--- what stands behind a name stands behind its last segment
-pub joined_onto_last : (first : List ℕ) (mids : List (List ℕ)) (last suffix : List ℕ) → join_with_byte slash (first ∷ (mids ++ last ∷ [])) ++ suffix ≡ join_with_byte slash (first ∷ (mids ++ (last ++ suffix) ∷ []))
-joined_onto_last first [] last suffix = append_assoc first (slash ∷ last) suffix
-joined_onto_last first (mid ∷ mids) last suffix =
-    append_assoc first (slash ∷ join_with_byte slash (mid ∷ (mids ++ last ∷ []))) suffix
-    ∙ ap (λ rest. first ++ slash ∷ rest) (joined_onto_last mid mids last suffix)
+-- one segment more
+pub join_push : (first : List ℕ) (mids : List (List ℕ)) (last : List ℕ) → join_with_byte slash (first ∷ (mids ++ last ∷ [])) ≡ join_with_byte slash (first ∷ mids) ++ slash ∷ last
+join_push first [] last = refl
+join_push first (mid ∷ mids) last = ap (λ rest. first ++ slash ∷ rest) (join_push mid mids last) ∙ sym (append_assoc first (slash ∷ join_with_byte slash (mid ∷ mids)) (slash ∷ last))
+
+-- an end without a slash is that of the last segment
+pub record IsLast (fronts : List (List ℕ)) (last stem ending : List ℕ) : Type 0 where
+  pub front : List ℕ
+  pub is : last ≡ front ++ ending
+  pub put : (rest : List ℕ) → stem ++ rest ≡ join_with_byte slash (fronts ++ (front ++ rest) ∷ [])
+
+after_slash : (first last stem ending : List ℕ) → first ++ slash ∷ last ≡ stem ++ ending → NoSlash ending → (front : List ℕ) × (last ≡ front ++ ending) × (stem ≡ first ++ slash ∷ front)
+after_slash [] last [] ending e none = absurd (starts ending last (sym e) none)
+  where
+    starts : (ending last : List ℕ) → ending ≡ slash ∷ last → NoSlash ending → ⊥
+    starts [] last e none = cc
+    starts (b ∷ ending) last e none = none.0 (let same : b ≡ slash = cc in same)
+after_slash [] last (s ∷ stem) ending e none = (stem, (let same : last ≡ stem ++ ending = cc in same), ap (λ b. b ∷ stem) (let same : s ≡ slash = cc in same))
+after_slash (f ∷ first) last [] ending e none = absurd (no_slash_inside ending (f ∷ first) last none (sym e))
+after_slash (f ∷ first) last (s ∷ stem) ending e none =
+    let later = after_slash first last stem ending (let same : first ++ slash ∷ last ≡ stem ++ ending = cc in same) none in
+    let same : s ≡ f = cc in
+    (later.0, later.1, ap (λ b. b ∷ stem) same ∙ ap (λ xs. f ∷ xs) later.2)
+
+pub last_of : (fronts : List (List ℕ)) (last stem ending : List ℕ) → join_with_byte slash (fronts ++ last ∷ []) ≡ stem ++ ending → NoSlash ending → IsLast fronts last stem ending
+last_of [] last stem ending e none = record { front = stem; is = e; put = λ rest. refl }
+last_of (first ∷ []) last stem ending e none =
+    let cut = after_slash first last stem ending e none in
+    record { front = cut.0; is = cut.1; put = λ rest. ap (λ xs. xs ++ rest) cut.2 ∙ append_assoc first (slash ∷ cut.0) rest }
+last_of (first ∷ mid ∷ mids) last stem ending e none =
+    let cut = after_slash first (join_with_byte slash (mid ∷ (mids ++ last ∷ []))) stem ending e none in
+    let later = last_of (mid ∷ mids) last cut.0 ending cut.1 none in
+    record {
+      front = later.front;
+      is = later.is;
+      put = λ rest. ap (λ xs. xs ++ rest) cut.2 ∙ append_assoc first (slash ∷ cut.0) rest ∙ ap (λ xs. first ++ slash ∷ xs) (later.put rest);
+    }
 
 -- no byte of a name is a control byte
 segment_text : (segment : List ℕ) → All IsSegmentByte segment → All IsUncontrolled segment
@@ -50,20 +84,27 @@ joined_text first (next ∷ rest) all =
 
 -- ---- a number behind the last segment
 
-glyph_bytes : (d : ℕ) → d < 10 → IsSegmentByte (digit_glyph false d)
-glyph_bytes d small =
-    cond_both (nat_lt d 10) (48 + d) (87 + d) IsSegmentByte (λ is. (omega arith, λ e. omega (arith, e), λ e. omega (arith, e))) (λ is. absurd (both_ways (nat_lt d 10) is (lt-ltb d 10 small)))
+-- a digit
+abbrev IsDigit : ℕ → Type 0
+IsDigit byte = (48 ≤ byte) × (byte ≤ 57)
 
-all_digits_onto : (k n : ℕ) (acc : List ℕ) → All IsSegmentByte acc → All IsSegmentByte (digits_onto k 10 false n acc)
+glyph_bytes : (d : ℕ) → d < 10 → IsDigit (digit_glyph false d)
+glyph_bytes d small =
+    cond_both (nat_lt d 10) (48 + d) (87 + d) IsDigit (λ is. (omega arith, omega (arith, small))) (λ is. absurd (both_ways (nat_lt d 10) is (lt-ltb d 10 small)))
+
+all_digits_onto : (k n : ℕ) (acc : List ℕ) → All IsDigit acc → All IsDigit (digits_onto k 10 false n acc)
 all_digits_onto zero n acc all = all
 all_digits_onto (suc k) n acc all =
-    let more = All-cons IsSegmentByte (digit_glyph false (n % 10)) acc (glyph_bytes (n % 10) (omega arith)) all in
-    cond_both (n / 10 == 0) (digit_glyph false (n % 10) ∷ acc) (digits_onto k 10 false (n / 10) (digit_glyph false (n % 10) ∷ acc)) (All IsSegmentByte)
+    let more = All-cons IsDigit (digit_glyph false (n % 10)) acc (glyph_bytes (n % 10) (omega arith)) all in
+    cond_both (n / 10 == 0) (digit_glyph false (n % 10) ∷ acc) (digits_onto k 10 false (n / 10) (digit_glyph false (n % 10) ∷ acc)) (All IsDigit)
     (λ e. more) (λ e. all_digits_onto k (n / 10) (digit_glyph false (n % 10) ∷ acc) more)
 
-pub decimal_bytes : (n : ℕ) → All IsSegmentByte (decimal n)
+decimal_digits : (n : ℕ) → All IsDigit (decimal n)
 unfolding digits
-decimal_bytes n = all_digits_onto 64 n [] (All-nil IsSegmentByte)
+decimal_digits n = all_digits_onto 64 n [] (All-nil IsDigit)
+
+decimal_bytes : (n : ℕ) → All IsSegmentByte (decimal n)
+decimal_bytes n = All-weaker IsDigit IsSegmentByte (λ byte is. (let low = is.0 in let high = is.1 in (omega (arith, low), λ e. omega (arith, e, high), λ e. omega (arith, e, low)))) (decimal n) (decimal_digits n)
 
 digits_onto_grow : (k n : ℕ) (acc : List ℕ) → length acc ≤ length (digits_onto k 10 false n acc)
 digits_onto_grow zero n acc = omega arith
@@ -86,21 +127,62 @@ present_length : (xs : List ℕ) → xs ≢ [] → 1 ≤ length xs
 present_length [] present = absurd (present refl)
 present_length (x ∷ xs) present = omega arith
 
-pub numbered_segment_is : (segment : List ℕ) (n : ℕ) → IsSegment segment → IsSegment (segment ++ 46 ∷ decimal n)
-numbered_segment_is segment n is =
-    let some = present_length segment is.inner.present in
+-- a number begins with no small `w`, whatever follows it
+pub decimal_first : (n : ℕ) (rest : List ℕ) → get_or (decimal n ++ rest) 0 0 ≢ 119
+decimal_first n rest = first (decimal n) (decimal_present n) (decimal_digits n)
+  where
+    first : (ds : List ℕ) → 1 ≤ length ds → All IsDigit ds → get_or (ds ++ rest) 0 0 ≢ 119
+    first [] some all e = absurd (omega arith)
+    first (d ∷ ds) some all e = (let high = (All-head IsDigit d ds all).1 in omega (arith, e, high))
+
+-- a segment with a number before its end
+pub numbered_segment_is : (stem ending : List ℕ) (n : ℕ) → IsSegment (stem ++ ending) → IsSegment (stem ++ 46 ∷ (decimal n ++ ending))
+numbered_segment_is stem ending n is =
+    let whole = stem ++ 46 ∷ (decimal n ++ ending) in
+    let some = present_length (stem ++ ending) is.inner.present in
     let digits_there = decimal_present n in
-    let long : length (segment ++ 46 ∷ decimal n) ≡ length segment + length (46 ∷ decimal n) = length-append segment (46 ∷ decimal n) in
-    let size : 3 ≤ length (segment ++ 46 ∷ decimal n) = omega arith in
+    let one = length-append stem ending in
+    let two = length-append stem (46 ∷ (decimal n ++ ending)) in
+    let three = length-append (decimal n) ending in
+    let size : 3 ≤ length whole = omega (arith, some, digits_there, one, two, three) in
     record {
       inner = record {
-        present = not_short (segment ++ 46 ∷ decimal n) [] (omega arith);
-        not_here = not_short (segment ++ 46 ∷ decimal n) (codes ".") (omega arith);
-        not_above = not_short (segment ++ 46 ∷ decimal n) (codes "..") (omega arith);
+        present = not_short whole [] (omega (arith, size));
+        not_here = not_short whole (codes ".") (omega (arith, size));
+        not_above = not_short whole (codes "..") (omega (arith, size));
       };
-      bytes = All-append IsSegmentByte segment (46 ∷ decimal n) is.bytes
-          (All-cons IsSegmentByte 46 (decimal n) (omega arith, λ e. omega (arith, e), λ e. omega (arith, e)) (decimal_bytes n));
+      bytes = All-append IsSegmentByte stem (46 ∷ (decimal n ++ ending)) (all_front IsSegmentByte stem ending is.bytes)
+          (All-cons IsSegmentByte 46 (decimal n ++ ending) (omega arith, λ e. omega (arith, e), λ e. omega (arith, e))
+          (All-append IsSegmentByte (decimal n) ending (decimal_bytes n) (all_back IsSegmentByte stem ending is.bytes)));
     }
+
+-- a segment with a dot and more behind it
+pub dotted_segment_is : (segment rest : List ℕ) → IsSegment segment → All IsSegmentByte (46 ∷ rest) → 1 ≤ length rest → IsSegment (segment ++ 46 ∷ rest)
+dotted_segment_is segment rest is bytes more =
+    let whole = segment ++ 46 ∷ rest in
+    let some = present_length segment is.inner.present in
+    let long = length-append segment (46 ∷ rest) in
+    let size : 3 ≤ length whole = omega (arith, some, more, long) in
+    record {
+      inner = record {
+        present = not_short whole [] (omega (arith, size));
+        not_here = not_short whole (codes ".") (omega (arith, size));
+        not_above = not_short whole (codes "..") (omega (arith, size));
+      };
+      bytes = All-append IsSegmentByte segment (46 ∷ rest) is.bytes bytes;
+    }
+
+-- bytes that are written out
+is_shown : ℕ → Bool
+is_shown byte = nat_lt 45 byte && nat_lt byte 127 && not (byte == slash)
+
+shown_byte : (byte : ℕ) → is_shown byte ≡ true → IsSegmentByte byte
+unfolding is_shown
+shown_byte byte is = (grind (arith, nat_tests), grind (arith, nat_tests), grind (arith, nat_tests))
+
+pub segment_bytes_from : (text : List ℕ) → list_all (λ byte. nat_lt 45 byte && nat_lt byte 127 && not (byte == slash)) text ≡ true → All IsSegmentByte text
+unfolding is_shown
+segment_bytes_from text all = All-weaker (λ byte. is_shown byte ≡ true) IsSegmentByte shown_byte text (AllPass-from_list_all is_shown text all)
 
 -- ---- an iterator that was run to its end
 

@@ -13,9 +13,10 @@ use Rattle.std.specs.List.{slice_split, onto_first, filter, join_with_byte}
 use Rattle.percent_encoding.specs.Percent.{is_escape, percent_decode}
 use Rattle.percent_encoding.proofs.PercentLemmas.{percent_decode-nil, percent_decode_not_percent, KeepsFirst_from_no_escape, length-percent_decode}
 use Rattle.address.specs.Address.{AddressText, IsAddress, dir_of, file_of, query_of}
+use Rattle.local_names.specs.declared.plain_name.TheConstants.{MAX_SEGMENT}
 use Rattle.local_names.specs.Rules.{usual_chars, usual_rules}
-use Rattle.local_names.specs.PlainNames.{slash, is_slash, has_bytes, with_letters, units_of, marked_units, query_mark, local_segment, host_units, dir_segments, path_units, file_units, last_units, segments_of, plain_name_of}
-use Rattle.local_names.specs.Names.{numbered_name, IsFree, IsFirstFree, IsNaming}
+use Rattle.local_names.specs.PlainNames.{slash, is_slash, has_bytes, with_letters, units_of, marked_units, query_mark, local_segment, host_units, dir_segments, path_units, file_units, last_units, segments_within, plain_name_within, plain_name_of}
+use Rattle.local_names.specs.Names.{numbered_name, IsFree, IsFirstFreeBy, IsNaming}
 use Rattle.local_names.specs.Served.{path_of, index_in, served_segments, IsServable, HasServablePath, AreServed}
 use Rattle.local_names.proofs.UnitLaws.{IsSegmentByte, controlled_not, local_segment_kept}
 use Rattle.local_names.proofs.SegmentLaws.{split_apart}
@@ -191,8 +192,8 @@ front_of_all P [] ys all = (All-nil P, all)
 front_of_all P (x ∷ xs) ys all =
     let later = front_of_all P xs ys (All-tail P x (xs ++ ys) all) in (All-cons P x xs (All-head P x (xs ++ ys) all) later.0, later.1)
 
-segments_served : (page : AddressText) → IsAddress page → HasServablePath page → segments_of usual_rules page ≡ local_segment true (host_units usual_rules page) ∷ served_segments page
-unfolding segments_of
+segments_served : (page : AddressText) → IsAddress page → HasServablePath page → segments_within MAX_SEGMENT usual_rules page ≡ local_segment true (host_units usual_rules page) ∷ served_segments page
+unfolding segments_within
 segments_served page is servable =
     let dirs = dir_segments (dir_of page) in
     let file = file_of page in
@@ -204,18 +205,17 @@ segments_served page is servable =
     let served : served_segments page ≡ map percent_decode dirs ++ (map percent_decode files ++ index_in file) =
     ap (λ segments. segments ++ index_in file) (decoded_segments (path_of page) servable.segments ∙ apart) ∙ append_assoc (map percent_decode dirs) (map percent_decode files) (index_in file) in
     ap (λ segments. host ∷ segments)
-    (map-append (local_segment false) (map (path_units usual_rules) dirs) (last_units usual_rules page ∷ [])
-    ∙ ap (λ segments. segments ++ local_segment false (last_units usual_rules page) ∷ []) (dirs_kept dirs both.0)
+    (ap (λ segments. segments ++ local_segment false (last_units usual_rules page) ∷ []) (dirs_kept dirs both.0)
     ∙ ap (λ segments. map percent_decode dirs ++ segments) (last_kept file (query_of page) servable.no_query both.1)
     ∙ sym served)
 
 plain_served : (page : AddressText) → IsAddress page → HasServablePath page → plain_name_of usual_rules page ≡ join_with_byte slash (local_segment true (host_units usual_rules page) ∷ served_segments page)
-unfolding plain_name_of
+unfolding plain_name_within
 plain_served page is servable = ap (join_with_byte slash) (segments_served page is servable)
 
 -- ---- names that meet no other
 
-own_if_free : (plain given : List (List ℕ)) (own name : List ℕ) → IsFirstFree plain given own name → IsFree plain given own → name ≡ own
+own_if_free : (plain given : List (List ℕ)) (own name : List ℕ) → IsFirstFreeBy false plain given own name → IsFree plain given own → name ≡ own
 own_if_free plain given own name at free = go at.number at.is at.first
   where
     go : (n : ℕ) → name ≡ numbered_name own n → ((k : ℕ) → k < n → ¬ IsFree plain given (numbered_name own k)) → name ≡ own
@@ -228,6 +228,6 @@ served_names pages names naming addresses i below servable free =
     let plain = map (plain_name_of usual_rules) pages in
     let long = length-map pages (plain_name_of usual_rules) in
     let own : get_or plain i [] ≡ plain_name_of usual_rules page = get_or-map (plain_name_of usual_rules) pages i [] [] below in
-    let at = subst (λ o. IsFirstFree plain (take i names) o (get_or names i [])) own (naming.each i (omega arith)) in
+    let at = subst (λ o. IsFirstFreeBy false plain (take i names) o (get_or names i [])) own (naming.each i (omega arith)) in
     own_if_free plain (take i names) (plain_name_of usual_rules page) (get_or names i []) at free
     ∙ plain_served page (addresses i [] below) servable

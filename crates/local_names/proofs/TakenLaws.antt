@@ -18,54 +18,56 @@ use Rattle.std.specs.Str.{bytes_eq}
 use Rattle.std.specs.String.{string_bytes}
 use Rattle.std.specs.declared.string.String.{String}
 use Rattle.local_names.specs.PlainNames.{slash, is_slash}
-use Rattle.local_names.specs.Names.{IsDirectoryOf, numbered_name}
+use Rattle.local_names.specs.Names.{IsDirectoryOf, numbered_by}
 use Rattle.local_names.specs.inner.Taken.{IsNameTaken}
-use Rattle.local_names.proofs.NamingLaws.{NoSlash, NoSlash-decimal, numbered_name-suc, numbered_name-injective}
+use Rattle.local_names.specs.Endings.{stem_of, ending_of}
+use Rattle.local_names.proofs.EndingLaws.{NoSlash, stem_ending, no_slash_ending}
+use Rattle.local_names.proofs.NamingLaws.{no_slash_number, numbered_name-zero, numbered_name-suc, numbered_name-injective}
 
 -- the first n numbered names, the last first
-numbered_names : List ℕ → ℕ → List (List ℕ)
-numbered_names own zero = []
-numbered_names own (suc n) = numbered_name own n ∷ numbered_names own n
+numbered_names : Bool → List ℕ → ℕ → List (List ℕ)
+numbered_names h own zero = []
+numbered_names h own (suc n) = numbered_by h own n ∷ numbered_names h own n
 
-length-numbered_names : (own : List ℕ) (n : ℕ) → length (numbered_names own n) ≡ n
+length-numbered_names : (h : Bool) (own : List ℕ) (n : ℕ) → length (numbered_names h own n) ≡ n
 unfolding numbered_names
-length-numbered_names own zero = refl
-length-numbered_names own (suc n) = ap suc (length-numbered_names own n)
+length-numbered_names h own zero = refl
+length-numbered_names h own (suc n) = ap suc (length-numbered_names h own n)
 
 equal_bytes : (xs ys : List ℕ) → bytes_eq xs ys ≡ true → xs ≡ ys
 equal_bytes xs ys e = (bytes_eq-Decides xs ys).0 e
 
-member_is_numbered : (own : List ℕ) (n : ℕ) (q : List ℕ) → list_any (bytes_eq q) (numbered_names own n) ≡ true → (k : ℕ) × (k < n) × (q ≡ numbered_name own k)
+member_is_numbered : (h : Bool) (own : List ℕ) (n : ℕ) (q : List ℕ) → list_any (bytes_eq q) (numbered_names h own n) ≡ true → (k : ℕ) × (k < n) × (q ≡ numbered_by h own k)
 unfolding numbered_names
-member_is_numbered own zero q e = cc
-member_is_numbered own (suc n) q e =
+member_is_numbered h own zero q e = cc
+member_is_numbered h own (suc n) q e =
     elim (or_cases _ _ e) [
-      | inl here ↦ (n, omega arith, equal_bytes q (numbered_name own n) here)
-      | inr later ↦ (let m = member_is_numbered own n q later in (m.0, omega arith, m.2))
+      | inl here ↦ (n, omega arith, equal_bytes q (numbered_by h own n) here)
+      | inr later ↦ (let m = member_is_numbered h own n q later in (m.0, omega arith, m.2))
     ]
 
-numbered_apart : (own : List ℕ) (m n : ℕ) → n ≤ m → m < 2 ^ 64 → AllByRecursion (λ y. bytes_eq (numbered_name own m) y ≡ false) (numbered_names own n)
+numbered_apart : (h : Bool) (own : List ℕ) (m n : ℕ) → n ≤ m → m < 2 ^ 64 → AllByRecursion (λ y. bytes_eq (numbered_by h own m) y ≡ false) (numbered_names h own n)
 unfolding numbered_names
-numbered_apart own m zero order small = tt
-numbered_apart own m (suc n) order small = (
-  false_from_ne_true _ (λ e. let same = numbered_name-injective own m n small (omega arith) (equal_bytes (numbered_name own m) (numbered_name own n) e) in omega arith),
-  numbered_apart own m n (omega arith) small,
+numbered_apart h own m zero order small = tt
+numbered_apart h own m (suc n) order small = (
+  false_from_ne_true _ (λ e. let same = numbered_name-injective h own m n small (omega arith) (equal_bytes (numbered_by h own m) (numbered_by h own n) e) in omega arith),
+  numbered_apart h own m n (omega arith) small,
 )
 
-numbered_distinct : (own : List ℕ) (n : ℕ) → n < 2 ^ 64 → IsDistinct bytes_eq (numbered_names own n)
+numbered_distinct : (h : Bool) (own : List ℕ) (n : ℕ) → n < 2 ^ 64 → IsDistinct bytes_eq (numbered_names h own n)
 unfolding numbered_names IsDistinct
-numbered_distinct own zero small = tt
-numbered_distinct own (suc n) small = (numbered_apart own n n (omega arith) (omega arith), numbered_distinct own n (omega arith))
+numbered_distinct h own zero small = tt
+numbered_distinct h own (suc n) small = (numbered_apart h own n n (omega arith) (omega arith), numbered_distinct h own n (omega arith))
 
 -- names among which the first n numbered ones all are, are at least n
-at_least : (own : List ℕ) (n : ℕ) (names : List (List ℕ)) → n < 2 ^ 64 → ((k : ℕ) → k < n → list_any (bytes_eq (numbered_name own k)) names ≡ true) → n ≤ length names
-at_least own n names small all =
-    let among : (q : List ℕ) → list_any (bytes_eq q) (numbered_names own n) ≡ true → list_any (bytes_eq q) names ≡ true =
+at_least : (h : Bool) (own : List ℕ) (n : ℕ) (names : List (List ℕ)) → n < 2 ^ 64 → ((k : ℕ) → k < n → list_any (bytes_eq (numbered_by h own k)) names ≡ true) → n ≤ length names
+at_least h own n names small all =
+    let among : (q : List ℕ) → list_any (bytes_eq q) (numbered_names h own n) ≡ true → list_any (bytes_eq q) names ≡ true =
     λ q e.
-    let m = member_is_numbered own n q e in
+    let m = member_is_numbered h own n q e in
     subst (λ x. list_any (bytes_eq x) names ≡ true) (sym m.2) (all m.0 m.1) in
-    let count = length-le_from_is_member nat_list_eq_equiv (numbered_names own n) names (numbered_distinct own n small) among in
-    omega (arith, count, length-numbered_names own n)
+    let count = length-le_from_is_member nat_list_eq_equiv (numbered_names h own n) names (numbered_distinct h own n small) among in
+    omega (arith, count, length-numbered_names h own n)
 
 -- ---- the one numbered name that is a directory of a plain name
 
@@ -92,16 +94,13 @@ nearest_is own suffix plain rest none is =
     let back : drop (length own) plain ≡ suffix ++ slash ∷ rest = ap (drop (length own)) cut ∙ drop-append_seam own (suffix ++ slash ∷ rest) in
     ap (λ x. x ++ until_slash (drop (length own) plain)) front ∙ ap (λ x. own ++ until_slash x) back ∙ ap (λ x. own ++ x) (until_slash-none suffix rest none)
 
-nearest_numbered : (own plain : List ℕ) (k : ℕ) → IsDirectoryOf plain (numbered_name own k) → nearest own plain ≡ numbered_name own k
-nearest_numbered own plain zero (rest, is) =
-    nearest_is own [] plain rest tt (is ∙ ap (λ x. x ++ slash ∷ rest) (sym (nothing own))) ∙ nothing own
-  where
-    nothing : (xs : List ℕ) → xs ++ [] ≡ xs
-    nothing [] = refl
-    nothing (x ∷ xs) = ap (λ y. x ∷ y) (nothing xs)
-nearest_numbered own plain (suc k) (rest, is) =
-    let e = numbered_name-suc own k in
-    nearest_is own (46 ∷ decimal (suc k)) plain rest (λ dot. omega (arith, dot), NoSlash-decimal (suc k)) (is ∙ ap (λ x. x ++ slash ∷ rest) e) ∙ sym e
+nearest_numbered : (h : Bool) (own plain : List ℕ) (k : ℕ) → IsDirectoryOf plain (numbered_by h own k) → nearest (stem_of h own) plain ≡ numbered_by h own k
+nearest_numbered h own plain zero (rest, is) =
+    let e = stem_ending h own ∙ sym (numbered_name-zero h own) in
+    nearest_is (stem_of h own) (ending_of h own) plain rest (no_slash_ending h own) (is ∙ ap (λ x. x ++ slash ∷ rest) (sym e)) ∙ e
+nearest_numbered h own plain (suc k) (rest, is) =
+    let e = numbered_name-suc h own k in
+    nearest_is (stem_of h own) (46 ∷ (decimal (suc k) ++ ending_of h own)) plain rest (no_slash_number h own (suc k)) (is ∙ ap (λ x. x ++ slash ∷ rest) e) ∙ sym e
 
 any_of : (q : List ℕ) (names : List (List ℕ)) → Contains names q → list_any (bytes_eq q) names ≡ true
 any_of q [] (k, below, is) = absurd (omega arith)
@@ -143,18 +142,18 @@ nearest_contained own q (p ∷ plain) x (suc k, below, is) e =
     let later = nearest_contained own q plain x (k, omega arith, is) e in (suc later.0, omega (arith, later.1), later.2)
 
 -- numbers to 2 ^ 64 - 1 whose names are all taken can't be
-pub taken_below : {Y : Type 0} (plain : List (List ℕ)) (next : BTreeMap (String Y) ℕ) (own : List ℕ) (n : ℕ) → n < 2 ^ 64 → ((k : ℕ) → k < n → IsNameTaken plain next (numbered_name own k)) → n ≤ btree_map_len next + length plain
-taken_below plain next own n small all =
+pub taken_below : {Y : Type 0} (h : Bool) (plain : List (List ℕ)) (next : BTreeMap (String Y) ℕ) (own : List ℕ) (n : ℕ) → n < 2 ^ 64 → ((k : ℕ) → k < n → IsNameTaken plain next (numbered_by h own k)) → n ≤ btree_map_len next + length plain
+taken_below h plain next own n small all =
     let keys = map string_bytes (keys_of next.entries) in
-    let near = map (nearest own) plain in
+    let near = map (nearest (stem_of h own)) plain in
     let key_of : (q : List ℕ) → list_any (bytes_eq q) keys ≡ list_any (λ k. is_eq (slice_cmp nat_cmp q (string_bytes k))) (keys_of next.entries) =
     λ q. any_map string_bytes (bytes_eq q) (keys_of next.entries) ∙ any_same (λ k. bytes_eq q (string_bytes k)) (λ k. is_eq (slice_cmp nat_cmp q (string_bytes k))) (λ k. sym (is_eq-slice_cmp q (string_bytes k))) (keys_of next.entries) in
-    let most = at_least own n (keys ++ near) small (λ k below. elim (all k below) [
-      | inl (x, held, inside) ↦ any_right (bytes_eq (numbered_name own k)) keys near (any_of (numbered_name own k) near (nearest_contained own (numbered_name own k) plain x held (nearest_numbered own x k inside)))
-      | inr has ↦ any_left (bytes_eq (numbered_name own k)) keys near (key_of (numbered_name own k) ∙ sym (is_some-lookup (λ j. is_eq (slice_cmp nat_cmp (numbered_name own k) (string_bytes j))) next.entries) ∙ has)
+    let most = at_least h own n (keys ++ near) small (λ k below. elim (all k below) [
+      | inl (x, held, inside) ↦ any_right (bytes_eq (numbered_by h own k)) keys near (any_of (numbered_by h own k) near (nearest_contained (stem_of h own) (numbered_by h own k) plain x held (nearest_numbered h own x k inside)))
+      | inr has ↦ any_left (bytes_eq (numbered_by h own k)) keys near (key_of (numbered_by h own k) ∙ sym (is_some-lookup (λ j. is_eq (slice_cmp nat_cmp (numbered_by h own k) (string_bytes j))) next.entries) ∙ has)
     ]) in
     let sizes = length-append keys near in
     let some = length-map (keys_of next.entries) string_bytes in
-    let others = length-map plain (nearest own) in
+    let others = length-map plain (nearest (stem_of h own)) in
     let entries = length-keys_of next.entries in
     omega arith

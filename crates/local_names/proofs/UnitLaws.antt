@@ -18,7 +18,7 @@ use Rattle.local_names.specs.declared.rules.CharRules.{CharRules}
 use Rattle.local_names.specs.declared.rules.LetterCase.{LetterCase}
 use Rattle.local_names.specs.declared.rules.LetterCase.TheVariants.{AsIs, Lower, Upper}
 use Rattle.local_names.specs.Rules.{usual_chars}
-use Rattle.local_names.specs.PlainNames.{slash, is_slash, is_dot, is_control, is_kept, in_case, piece_units, units_by, units_of, marked_units, without_dots, cut, is_part, cut_in, local_segment}
+use Rattle.local_names.specs.PlainNames.{slash, is_slash, is_dot, is_control, is_kept, in_case, piece_units, units_by, units_of, marked_units, without_dots, cut, is_part, cut_in, segment_within, local_segment}
 use Rattle.local_names.specs.declared.unit.Unit.{Unit}
 use Rattle.local_names.specs.declared.unit.Unit.TheVariants.{Escape}
 use Rattle.local_names.specs.inner.Units.{unit_text, started, is_new}
@@ -415,14 +415,20 @@ cut_in_no_part room units =
     cond_both (is_part (cut room units)) (percent_encode_byte 46 ++ cut (room - 3) (drop 1 units)) (cut room units) (λ text. is_part text ≡ false)
     (λ _. escape_no_part (cut (room - 3) (drop 1 units))) (λ other. other)
 
+pub segment_within_is : (is_first : Bool) (room : ℕ) (units : List (List ℕ)) → 6 ≤ room → All IsUnit units → 0 < length units → IsSegment (segment_within is_first room units)
+segment_within_is is_first room units wide all some = cut_in_is is_first room (without_dots units) wide (without_dots_named units all some)
+
+pub length-segment_within : (is_first : Bool) (room : ℕ) (units : List (List ℕ)) → 6 ≤ room → length (segment_within is_first room units) ≤ room
+length-segment_within is_first room units wide = length-cut_in is_first room (without_dots units) (omega (arith, wide))
+
 pub local_segment_is : (is_first : Bool) (units : List (List ℕ)) → All IsUnit units → 0 < length units → IsSegment (local_segment is_first units)
-local_segment_is is_first units all some = cut_in_is is_first MAX_SEGMENT (without_dots units) (omega arith) (without_dots_named units all some)
+local_segment_is is_first units all some = segment_within_is is_first MAX_SEGMENT units (omega arith) all some
 
 pub local_segment_short : (is_first : Bool) (units : List (List ℕ)) → IsShort (local_segment is_first units)
-local_segment_short is_first units = length-cut_in is_first MAX_SEGMENT (without_dots units) (omega arith)
+local_segment_short is_first units = length-segment_within is_first MAX_SEGMENT units (omega arith)
 
-pub first_no_part : (units : List (List ℕ)) → is_part (local_segment true units) ≡ false
-first_no_part units = cut_in_no_part MAX_SEGMENT (without_dots units)
+pub first_no_part : (room : ℕ) (units : List (List ℕ)) → is_part (segment_within true room units) ≡ false
+first_no_part room units = cut_in_no_part room (without_dots units)
 
 pub local_segment_kept : (text : List ℕ) → IsUtf8 text → All IsSegmentByte text → list_all is_dot text ≡ false → IsShort text → local_segment false (units_of usual_chars text) ≡ text
 local_segment_kept text utf8 all mixed short =
@@ -459,9 +465,25 @@ apart_from mark (b ∷ text) all =
 pub part_before_slash : (xs ys : List ℕ) → is_part xs ≡ false → is_part (xs ++ slash ∷ ys) ≡ false
 part_before_slash xs ys none = false_from_ne_true _ (λ begins. both_ways (is_part xs) none (front_before PART.now xs ys slash (apart_from slash PART.now refl) begins))
 
+-- a text in front of which no part is named
+starts_more : (needle xs ys : List ℕ) → starts_with nat_eq xs needle ≡ true → starts_with nat_eq (xs ++ ys) needle ≡ true
+starts_more [] xs ys begins = refl
+starts_more (b ∷ needle) [] ys begins = cc
+starts_more (b ∷ needle) (x ∷ xs) ys begins =
+    let both = and_parts (nat_eq b x) (starts_with nat_eq xs needle) begins in
+    ap (λ t. t && starts_with nat_eq (xs ++ ys) needle) both.0 ∙ starts_more needle xs ys both.1
+
+pub front_no_part : (xs ys : List ℕ) → is_part (xs ++ ys) ≡ false → is_part xs ≡ false
+front_no_part xs ys none = false_from_ne_true (is_part xs) (λ begins. both_ways (is_part (xs ++ ys)) none (starts_more PART.now xs ys begins))
+
 pub part_before_dot : (xs ys : List ℕ) → 0 < length xs → is_part xs ≡ false → is_part (xs ++ 46 ∷ ys) ≡ false
 part_before_dot [] ys some none = absurd (omega arith)
 part_before_dot (x ∷ xs) ys some none =
     false_from_ne_true _ (λ begins.
     let both = and_parts (nat_eq 46 x) (starts_with nat_eq (xs ++ 46 ∷ ys) (drop 1 PART.now)) begins in
     both_ways (is_part (x ∷ xs)) none (ap (λ t. t && starts_with nat_eq xs (drop 1 PART.now)) both.0 ∙ front_before (drop 1 PART.now) xs ys 46 (apart_from 46 (drop 1 PART.now) refl) both.1))
+
+-- a text that begins with a dot and what is no small `w`
+pub dot_no_part : (xs : List ℕ) → get_or xs 0 0 ≢ 119 → is_part (46 ∷ xs) ≡ false
+dot_no_part [] other = refl
+dot_no_part (x ∷ xs) other = ap (λ t. t && starts_with nat_eq xs (drop 2 PART.now)) (ne_eqb 119 x (λ e. other (sym e)))

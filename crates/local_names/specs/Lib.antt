@@ -1,5 +1,6 @@
 pub mod Rules
 pub mod PlainNames
+pub mod Endings
 pub mod Names
 pub mod LocalNames
 pub mod Served

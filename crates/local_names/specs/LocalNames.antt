@@ -1,8 +1,8 @@
 -- What keeps a name inside its folder, and a segment within what disks take.
-use Rattle.std.specs.Prelude.{◌≡◌, ◌≢◌, ℕ, false, ◌≤◌, List, [], length, codes, All, IsUtf8}
+use Rattle.std.specs.Prelude.{◌≡◌, ◌≢◌, ℕ, Bool, false, ◌≤◌, List, [], length, codes, All, IsUtf8}
 use Rattle.std.specs.List.{slice_split}
 use Rattle.local_names.specs.PlainNames.{is_slash, is_control, is_part}
-use Rattle.local_names.specs.Names.{numbered_name}
+use Rattle.local_names.specs.Names.{numbered_by}
 use Rattle.local_names.specs.declared.plain_name.TheConstants.{MAX_SEGMENT}
 
 -- a segment that names something within its directory
@@ -20,11 +20,15 @@ abbrev pub IsShort : List ℕ → Type 0
 IsShort segment = length segment ≤ MAX_SEGMENT
 
 -- no segment is longer than it may be, the added number not counted
-pub record HasShortSegments (name : List ℕ) : Type 0 where
+pub record HasShortSegmentsBy (has_endings : Bool) (name : List ℕ) : Type 0 where
   pub plain : List ℕ
   pub number : ℕ
-  pub is : name ≡ numbered_name plain number
+  pub is : name ≡ numbered_by has_endings plain number
   pub short : All IsShort (slice_split is_slash plain)
+
+-- the same of names without endings
+abbrev pub HasShortSegments : List ℕ → Type 0
+HasShortSegments name = HasShortSegmentsBy false name
 
 -- no control byte: no NUL and no line feed
 abbrev pub IsUncontrolled : ℕ → Type 0

@@ -101,9 +101,13 @@ abbrev pub cut_in : Bool → ℕ → List Unit → List ℕ
 cut_in is_first room units =
     if is_first && is_part (cut room units) then (percent_encode_byte 46 ++ cut (room - 3) (drop 1 units)) else cut room units
 
--- the segment as it stands in a name, first or after others: its dots escaped, and then cut
+-- the segment as it stands in a name, first or after others, with no more bytes than this: its dots escaped, and then cut
+abbrev pub segment_within : Bool → ℕ → List Unit → List ℕ
+segment_within is_first room units = cut_in is_first room (without_dots units)
+
+-- the same with as many bytes as a segment may have
 abbrev pub local_segment : Bool → List Unit → List ℕ
-local_segment is_first units = cut_in is_first MAX_SEGMENT (without_dots units)
+local_segment is_first units = segment_within is_first MAX_SEGMENT units
 
 -- the segments as they stand in a name
 abbrev pub local_segments : List (List Unit) → List (List ℕ)
@@ -163,10 +167,20 @@ front_segments rules page =
     then (scheme_segment rules page ++ (host_segment rules page ++ map (path_units rules) (drop rules.cut_dirs (dir_segments (dir_of page)))))
     else []
 
--- the segments of a page's name: its directories, and the last
-unfoldable pub segments_of : NameRules → AddressText → List (List ℕ)
-segments_of rules page = local_segments (front_segments rules page ++ last_units rules page ∷ [])
+-- no segment is in front of the last
+abbrev pub is_alone : List (List Unit) → Bool
+is_alone [] = true
+is_alone (front ∷ fronts) = false
 
--- the plain name of a page
-unfoldable pub plain_name_of : NameRules → AddressText → List ℕ
-plain_name_of rules page = join_with_byte slash (segments_of rules page)
+-- the segments of a page's name: its directories, and the last, which has no more bytes than this
+unfoldable pub segments_within : ℕ → NameRules → AddressText → List (List ℕ)
+segments_within room rules page =
+    local_segments (front_segments rules page) ++ segment_within (is_alone (front_segments rules page)) room (last_units rules page) ∷ []
+
+-- the plain name of a page, whose last segment has no more bytes than this
+unfoldable pub plain_name_within : ℕ → NameRules → AddressText → List ℕ
+plain_name_within room rules page = join_with_byte slash (segments_within room rules page)
+
+-- the plain name of a page, whatever its body is
+abbrev pub plain_name_of : NameRules → AddressText → List ℕ
+plain_name_of rules page = plain_name_within MAX_SEGMENT rules page

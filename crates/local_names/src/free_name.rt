@@ -6,22 +6,29 @@ ghost use Rattle.std.specs.Ordering.{nat_cmp};
 ghost use Rattle.std.specs.declared.cmp.Ordering.TheVariants.{Less, Greater};
 ghost use Rattle.std.specs.List.Sorted.{IsSorted};
 ghost use Rattle.local_names.specs.PlainNames.{slash};
-ghost use Rattle.local_names.specs.Names.{IsDirectory, numbered_name};
+ghost use Rattle.local_names.specs.Names.{IsDirectory, numbered_by};
 ghost use Rattle.local_names.specs.inner.Taken.{lent_text, text_cmp, below_order, IsNameTaken};
 
+use crate::ending::{ending_of, stem_of};
 use std::alloc::{AllocError, Global};
 use std::cmp::Ordering;
 use std::collections::BTreeMap;
 
-// The plain name with this number: `f`, `f.1`, `f.2`, ..
-fn numbered(alloc: Global, plain: &str, number: u64) -> Result<String, AllocError>
-    ensures { IfOk result (λ name. string_bytes name ≡ numbered_name plain.now number) }
+// The plain name with this number: `f`, `f.1`, `f.2`, ..; if names have endings, the number is before it.
+fn numbered(
+    alloc: Global,
+    has_endings: bool,
+    plain: &str,
+    number: u64,
+) -> Result<String, AllocError>
+    ensures { IfOk result (λ name. string_bytes name ≡ numbered_by has_endings plain.now number) }
 {
     if number == 0 {
-        String::from_str(alloc, plain)
-    } else {
-        format!(in alloc; "{plain}.{number}")
+        return String::from_str(alloc, plain);
     }
+    let stem = stem_of(has_endings, plain);
+    let ending = ending_of(has_endings, plain);
+    format!(in alloc; "{stem}.{number}{ending}")
 }
 
 // The first bytes of a name, as many as asked for if it has them.
@@ -107,6 +114,7 @@ fn is_taken(sorted: &[&str], next: &BTreeMap<String, u64>, name: &str, near: usi
 /// may be wrong, and then the search takes longer.
 pub(crate) fn first_free(
     alloc: Global,
+    has_endings: bool,
     sorted: &[&str],
     next: &BTreeMap<String, u64>,
     plain: &str,
@@ -114,11 +122,11 @@ pub(crate) fn first_free(
 ) -> Result<(String, u64), AllocError>
     requires sorted { IsSorted text_cmp sorted.now }
     requires few { length sorted.now < 2 ^ 63 }
-    requires passed { (v k : ℕ) → get_by_text next.now plain.now ≡ Some v → k < v → IsNameTaken (map lent_text sorted.now) next.now (numbered_name plain.now k) }
+    requires passed { (v k : ℕ) → get_by_text next.now plain.now ≡ Some v → k < v → IsNameTaken (map lent_text sorted.now) next.now (numbered_by has_endings plain.now k) }
     ensures small { IfOk result (λ found. found.1 < 2 ^ 64 - 1) }
-    ensures name { IfOk result (λ found. string_bytes found.0 ≡ numbered_name plain.now found.1) }
+    ensures name { IfOk result (λ found. string_bytes found.0 ≡ numbered_by has_endings plain.now found.1) }
     ensures free { IfOk result (λ found. ¬ IsNameTaken (map lent_text sorted.now) next.now (string_bytes found.0)) }
-    ensures before { IfOk result (λ found. (k : ℕ) → k < found.1 → IsNameTaken (map lent_text sorted.now) next.now (numbered_name plain.now k)) }
+    ensures before { IfOk result (λ found. (k : ℕ) → k < found.1 → IsNameTaken (map lent_text sorted.now) next.now (numbered_by has_endings plain.now k)) }
 {
     let start = match next.get(plain) {
         Some(number) => *number,
@@ -128,7 +136,7 @@ pub(crate) fn first_free(
     // Each entry and each plain name takes one numbered name at most, so one more is free.
     let end = (next.len() + sorted.len()) as u64 + 1;
     for number in start..end {
-        let name = numbered(alloc, plain, number)?;
+        let name = numbered(alloc, has_endings, plain, number)?;
         if !is_taken(sorted, next, name.as_str(), near) {
             return Ok((name, number));
         }

@@ -3,7 +3,8 @@
 //!
 //! Host and path of a page become directories below the folder, as a web server looks for them; rules
 //! say otherwise of some. If two pages would have one name, or one page's name is a directory of
-//! another's, a number is added. What the names are is in `specs/`.
+//! another's, a number is added. A name may end as the kind of its page's body says
+//! ([`names_with_endings`]). What the names are is in `specs/`.
 //!
 //! ```
 //! let rules = NameRules::default();
@@ -14,10 +15,11 @@
 #![tactic(auto)]
 
 pub use crate::local_name::is_local_name;
-pub use crate::naming::{ascend, names};
+pub use crate::naming::{ascend, names, names_with_endings};
 pub use crate::plain_name::{MAX_SEGMENT, PART};
 pub use crate::rules::{CharRules, LetterCase, NameRules};
 
+mod ending;
 mod free_name;
 mod local_name;
 mod naming;

@@ -1,5 +1,5 @@
 //! The names of the pages of a list.
-ghost use Rattle.std.specs.Prelude.{◌≡◌, ◌↔◌, ◌<◌, ◌+◌, ◌-◌, ◌^◌, ℕ, List, [], IsTrue, IfOk, OnOk, HoldsAt, All, None, true, false, length, map, string_bytes};
+ghost use Rattle.std.specs.Prelude.{◌≡◌, ◌↔◌, ◌<◌, ◌+◌, ◌-◌, ◌^◌, ℕ, List, [], IsTrue, IfOk, OnOk, HoldsAt, All, None, true, false, length, map, slice_index_or, string_bytes};
 ghost use Rattle.std.specs.BTreeMap.{get_by_text};
 ghost use Rattle.std.specs.Cmp.Lexicographic.{slice_cmp};
 ghost use Rattle.std.specs.List.Sorted.{IsSorted};
@@ -7,16 +7,19 @@ ghost use Rattle.std.specs.Ordering.{nat_cmp, is_lt};
 ghost use Rattle.address.specs.Address.{IsAddress};
 ghost use Rattle.address.specs.AddressOrder.{IsAscending};
 ghost use Rattle.local_names.specs.PlainNames.{plain_name_of};
-ghost use Rattle.local_names.specs.Names.{IsNaming, AreDistinct, AreApart};
-ghost use Rattle.local_names.specs.LocalNames.{StaysInside, HasShortSegments, IsText, IsNoPart};
+ghost use Rattle.local_names.specs.Endings.{ended_names, stem_of, ShowKinds};
+ghost use Rattle.local_names.specs.Names.{IsNaming, IsNamingBy, AreDistinct, AreApart};
+ghost use Rattle.local_names.specs.LocalNames.{StaysInside, HasShortSegments, HasShortSegmentsBy, IsText, IsNoPart};
 ghost use Rattle.local_names.specs.Rules.{usual_rules};
 ghost use Rattle.local_names.specs.Served.{AreServed};
 ghost use Rattle.local_names.specs.inner.Taken.{lent_text, text_cmp, HasSameNames, AreLeast, IsNoted, remembered};
 
+use crate::ending::stem_of;
 use crate::free_name::first_free;
-use crate::plain_name::plain_name_of;
+use crate::plain_name::{ended_name, plain_name_of};
 use crate::rules::NameRules;
 use address::Address;
+use kept_bodies::BodyKind;
 use std::alloc::{AllocError, Global};
 use std::collections::BTreeMap;
 
@@ -48,6 +51,34 @@ fn plain_names(
     Ok(plain)
 }
 
+// The kind at this place. Of a body without a kind nothing is known.
+fn kind_at(kinds: &[BodyKind], i: usize) -> BodyKind
+    ensures { result ≡ slice_index_or kinds.now i BodyKind.Other }
+{
+    if i < kinds.len() {
+        kinds[i]
+    } else {
+        BodyKind::Other
+    }
+}
+
+// The plain names of these pages, whose bodies are of these kinds, if names have endings.
+fn ended_names(
+    alloc: Global,
+    rules: &NameRules,
+    pages: &[Address],
+    kinds: &[BodyKind],
+) -> Result<Vec<String>, AllocError>
+    ensures names { IfOk result (λ plain. map string_bytes plain.items ≡ ended_names rules.now pages.now kinds.now) }
+    ensures addresses { IfOk result (λ _. All IsAddress pages.now) }
+{
+    let mut plain = Vec::new(alloc);
+    for (i, page) in pages.iter().enumerate() {
+        plain.push(ended_name(alloc, rules, kind_at(kinds, i), page)?)?;
+    }
+    Ok(plain)
+}
+
 // These names in order.
 fn in_order(alloc: Global, names: &[String]) -> Result<Vec<&str>, AllocError>
     ensures sorted { IfOk result (λ sorted. IsSorted text_cmp sorted.items) }
@@ -73,20 +104,21 @@ fn least_with<'a>(least: &[&'a str], name: &'a str) -> &'a str
     if low.cmp(name).is_lt() { low } else { name }
 }
 
-// The least of these names from each place to their end, that of the last place first.
-fn least_names(alloc: Global, names: &[String]) -> Result<Vec<&str>, AllocError>
-    ensures { IfOk result (λ least. AreLeast (map string_bytes names.now) (map lent_text least.items)) }
+// The least of the stems of these names from each place to their end, that of the last place first.
+fn least_stems(alloc: Global, has_endings: bool, names: &[String]) -> Result<Vec<&str>, AllocError>
+    ensures { IfOk result (λ least. AreLeast (map (stem_of has_endings) (map string_bytes names.now)) (map lent_text least.items)) }
 {
     let mut least: Vec<&str> = Vec::new(alloc);
     for i in 0..names.len() {
-        let low = least_with(&least, names[names.len() - 1 - i].as_str());
+        let stem = stem_of(has_endings, names[names.len() - 1 - i].as_str());
+        let low = least_with(&least, stem);
         least.push(low)?;
     }
     Ok(least)
 }
 
-// Whether this name stands before all plain names behind this place. Then no page there asks for it,
-// since a name with a number stands behind the plain one.
+// Whether this name stands before the stems of all plain names behind this place. Then no page there
+// asks for it, since a plain name, with a number or without, begins with its stem.
 fn is_past(least: &[&str], i: usize, name: &str) -> bool
     requires { i < length least.now }
     ensures { IsTrue result → i + 1 < length least.now → HoldsAt (λ low. is_lt (slice_cmp nat_cmp name.now low.now) ≡ true) least.now (length least.now - (i + 2)) }
@@ -137,6 +169,7 @@ fn note(
 // again, and plain names that were asked for, a number below which none of its numbered names is free.
 fn assign_each(
     alloc: Global,
+    has_endings: bool,
     plain: &[String],
     sorted: &[&str],
     least: &[&str],
@@ -146,16 +179,16 @@ fn assign_each(
     requires sorted { IsSorted text_cmp sorted.now }
     requires few { length sorted.now < 2 ^ 63 }
     requires same { HasSameNames (map string_bytes plain.now) (map lent_text sorted.now) }
-    requires least { AreLeast (map string_bytes plain.now) (map lent_text least.now) }
+    requires least { AreLeast (map (stem_of has_endings) (map string_bytes plain.now)) (map lent_text least.now) }
     requires unasked { (q : List ℕ) → get_by_text next.now q ≡ None }
     requires unnamed { names.now.items ≡ [] }
-    ensures { OnOk result (IsNaming (map string_bytes plain.now) (map string_bytes names.new.items)) }
+    ensures { OnOk result (IsNamingBy has_endings (map string_bytes plain.now) (map string_bytes names.new.items)) }
 {
     for (i, own) in plain.iter().enumerate() {
         let own = own.as_str();
         // The pages ascend, so their plain names nearly do: what would stand in a directory of this
         // name mostly stands just behind as many names.
-        let (name, number) = first_free(alloc, sorted, next, own, i + 1)?;
+        let (name, number) = first_free(alloc, has_endings, sorted, next, own, i + 1)?;
         note(alloc, next, least, i, own, name.as_str(), number)?;
         names.push(name)?;
     }
@@ -163,14 +196,22 @@ fn assign_each(
 }
 
 // The names of the pages with these plain names.
-fn assign(alloc: Global, plain: &[String]) -> Result<Vec<String>, AllocError>
-    ensures { IfOk result (λ names. IsNaming (map string_bytes plain.now) (map string_bytes names.items)) }
+fn assign(alloc: Global, has_endings: bool, plain: &[String]) -> Result<Vec<String>, AllocError>
+    ensures { IfOk result (λ names. IsNamingBy has_endings (map string_bytes plain.now) (map string_bytes names.items)) }
 {
     let sorted = in_order(alloc, plain)?;
-    let least = least_names(alloc, plain)?;
+    let least = least_stems(alloc, has_endings, plain)?;
     let mut next = BTreeMap::new(alloc);
     let mut names = Vec::new(alloc);
-    assign_each(alloc, plain, &sorted, &least, &mut next, &mut names)?;
+    assign_each(
+        alloc,
+        has_endings,
+        plain,
+        &sorted,
+        &least,
+        &mut next,
+        &mut names,
+    )?;
     Ok(names)
 }
 
@@ -179,7 +220,7 @@ fn assign(alloc: Global, plain: &[String]) -> Result<Vec<String>, AllocError>
 /// empty, the query. Path and query are decoded once; what no name can have is escaped again. Each
 /// segment is cut to [`MAX_SEGMENT`] bytes. If a name is a directory of another page's, or was given,
 /// `.1`, `.2`, .. is added. A name that would begin as [`PART`](crate::PART) has its first dot escaped. The rules say otherwise of
-/// some of it. The error is that memory is wanting.
+/// some of it. The error is out of memory.
 ///
 /// By the usual rules the names of `http://h/a`, `http://h/a/%C3%A4` and `http://h:81/b?c` are `h/a.1`,
 /// `h/a/ä` and `h:81/b?c`.
@@ -205,5 +246,42 @@ pub fn names(alloc: Global, rules: &NameRules, pages: &[Address]) -> Result<Vec<
     ensures served { IfOk result (λ names. rules.now ≡ usual_rules → AreServed pages.now (map string_bytes names.items)) }
 {
     let plain = plain_names(alloc, rules, pages)?;
-    Ok(assign(alloc, &plain)?)
+    Ok(assign(alloc, false, &plain)?)
+}
+
+/// The same for names with endings, by which a browser knows what a file is (GNU Wget manual, HTTP Options:
+/// `--adjust-extension`): the name of a page whose body is HTML gets `.html` unless it ends in `.html` or `.htm`, and that of a style
+/// sheet `.css` likewise; letters may be in any case. The cut of the last segment leaves room for the ending, and a number is before
+/// `.html`, `.htm` or `.css`. `kinds` are those of the bodies, in the places of their pages; of a page without one nothing is known,
+/// and it gets no ending.
+///
+/// The names of `http://h/a` and `http://h/a.html`, both HTML, are `h/a.html` and `h/a.1.html`.
+pub fn names_with_endings(
+    alloc: Global,
+    rules: &NameRules,
+    pages: &[Address],
+    kinds: &[BodyKind],
+) -> Result<Vec<String>, AllocError>
+    requires { IsAscending pages.now }
+    ensures naming { IfOk result (λ names. IsNamingBy true (ended_names rules.now pages.now kinds.now) (map string_bytes names.items)) }
+    ensures count { IfOk result (λ names. length names.items ≡ length pages.now) }
+
+    // The names are a function of the rules, the list and the kinds: no other names are what `naming` says.
+    ensures sole { IfOk result (λ names. (others : List (List ℕ)) → IsNamingBy true (ended_names rules.now pages.now kinds.now) others → others ≡ map string_bytes names.items) }
+
+    // By each name a browser knows the kind of its page.
+    ensures shown { IfOk result (λ names. ShowKinds kinds.now (map string_bytes names.items)) }
+
+    // One folder can hold them all, and none leads out of it.
+    ensures distinct { IfOk result (λ names. AreDistinct (map string_bytes names.items)) }
+    ensures apart { IfOk result (λ names. AreApart (map string_bytes names.items)) }
+    ensures inside { IfOk result (λ names. All StaysInside (map string_bytes names.items)) }
+    ensures short { IfOk result (λ names. All (HasShortSegmentsBy true) (map string_bytes names.items)) }
+    ensures text { IfOk result (λ names. All IsText (map string_bytes names.items)) }
+
+    // None begins as the name of a part does.
+    ensures no_part { IfOk result (λ names. All IsNoPart (map string_bytes names.items)) }
+{
+    let plain = ended_names(alloc, rules, pages, kinds)?;
+    Ok(assign(alloc, true, &plain)?)
 }

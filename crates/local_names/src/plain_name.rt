@@ -1,14 +1,17 @@
 //! Plain names: the name that a page has if nothing stands in its way (GNU Wget manual, Directory
 //! Options).
-ghost use Rattle.std.specs.Prelude.{◌≡◌, ◌++◌, ◌∷◌, [], IfOk, OnOk, map, drop, string_bytes};
+ghost use Rattle.std.specs.Prelude.{◌≡◌, ◌≤◌, ◌-◌, ◌++◌, ◌∷◌, [], IfOk, OnOk, map, drop, length, string_bytes};
 ghost use Rattle.address.specs.Address.{IsAddress, port_of, port_text, query_of};
 ghost use Rattle.percent_encoding.specs.Percent.{percent_decode};
-ghost use Rattle.local_names.specs.PlainNames.{is_slash, port_mark, query_mark, host_units, dir_segments, path_units, default_page, file_units, last_units, scheme_segment, host_segment, front_segments, plain_name_of};
+ghost use Rattle.local_names.specs.PlainNames.{is_slash, port_mark, query_mark, host_units, dir_segments, path_units, default_page, file_units, last_units, scheme_segment, host_segment, front_segments, plain_name_within, plain_name_of};
+ghost use Rattle.local_names.specs.Endings.{ending_for, ended_name};
 ghost use Rattle.local_names.specs.inner.Units.{unit_text, lent_bytes, all_below};
 
+use crate::ending::{ending_for, shows_kind};
 use crate::rules::{CharRules, NameRules};
-use crate::unit::{Unit, push_marked, push_segment, push_units};
+use crate::unit::{Unit, push_marked, push_segment, push_units, push_within};
 use address::Address;
+use kept_bodies::BodyKind;
 use percent_encoding::percent_decode;
 use std::alloc::{AllocError, Global};
 
@@ -215,6 +218,24 @@ fn push_front(
     push_uncut(alloc, name, rules, page.dir())
 }
 
+// The plain name of a page, whose last segment has no more bytes than this.
+fn name_within(
+    alloc: Global,
+    room: usize,
+    rules: &NameRules,
+    page: &Address,
+) -> Result<String, AllocError>
+    requires { 6 ≤ room }
+    ensures name { IfOk result (λ name. string_bytes name ≡ plain_name_within room rules.now page.now) }
+    ensures address { IfOk result (λ _. IsAddress page.now) }
+{
+    // A name is about as long as its address.
+    let mut name = String::with_capacity(alloc, page.as_str().len())?;
+    push_front(alloc, &mut name, rules, page)?;
+    push_within(&mut name, room, last_units(alloc, rules, page)?)?;
+    Ok(name)
+}
+
 /// The name that a page has if nothing stands in its way.
 pub(crate) fn plain_name_of(
     alloc: Global,
@@ -224,9 +245,37 @@ pub(crate) fn plain_name_of(
     ensures name { IfOk result (λ name. string_bytes name ≡ plain_name_of rules.now page.now) }
     ensures address { IfOk result (λ _. IsAddress page.now) }
 {
-    // A name is about as long as its address.
-    let mut name = String::with_capacity(alloc, page.as_str().len())?;
-    push_front(alloc, &mut name, rules, page)?;
-    push_segment(&mut name, last_units(alloc, rules, page)?)?;
+    name_within(alloc, MAX_SEGMENT, rules, page)
+}
+
+// The same with the ending of this kind, for which there is room.
+fn name_with_ending(
+    alloc: Global,
+    rules: &NameRules,
+    kind: BodyKind,
+    page: &Address,
+) -> Result<String, AllocError>
+    ensures { IfOk result (λ name. string_bytes name ≡ plain_name_within (MAX_SEGMENT - length (ending_for kind)) rules.now page.now ++ ending_for kind) }
+{
+    let ending = ending_for(kind);
+    let mut name = name_within(alloc, MAX_SEGMENT - ending.len(), rules, page)?;
+    name.push_str(ending)?;
     Ok(name)
+}
+
+/// The name that a page whose body is of this kind has if nothing stands in its way, and names have endings.
+pub(crate) fn ended_name(
+    alloc: Global,
+    rules: &NameRules,
+    kind: BodyKind,
+    page: &Address,
+) -> Result<String, AllocError>
+    ensures name { IfOk result (λ name. string_bytes name ≡ ended_name rules.now kind page.now) }
+    ensures address { IfOk result (λ _. IsAddress page.now) }
+{
+    let name = plain_name_of(alloc, rules, page)?;
+    if shows_kind(kind, name.as_str()) {
+        return Ok(name);
+    }
+    name_with_ending(alloc, rules, kind, page)
 }

@@ -3,7 +3,7 @@ ghost use Rattle.std.specs.Prelude.{◌≡◌, ◌<◌, ◌≤◌, ◌-◌, ◌+
 ghost use Rattle.std.specs.List.{list_all};
 ghost use Rattle.percent_encoding.specs.Percent.{percent_encode_byte};
 ghost use Rattle.local_names.specs.PlainNames.{is_control, is_slash, is_refused_by_windows, is_kept, in_case, piece_units, units_of, marked_units, without_dots, cut, is_part, cut_in};
-ghost use Rattle.local_names.specs.inner.Units.{unit_text, is_dot_unit, started, is_new, below};
+ghost use Rattle.local_names.specs.inner.Units.{unit_text, is_dot_unit, started, is_new, below, below_within};
 
 use crate::plain_name::{MAX_SEGMENT, PART};
 use crate::rules::{CharRules, LetterCase};
@@ -236,11 +236,23 @@ fn push_slash(name: &mut String) -> Result<(), AllocError>
     Ok(())
 }
 
-/// Adds a segment of these units to a name, below those that are there.
-pub(crate) fn push_segment(name: &mut String, mut units: Vec<Unit>) -> Result<(), AllocError>
-    ensures { OnOk result (string_bytes name.new ≡ below (string_bytes name.old) (map unit_text units.items)) }
+/// Adds a segment of these units, which has no more bytes than this, to a name, below those that are there.
+pub(crate) fn push_within(
+    name: &mut String,
+    room: usize,
+    mut units: Vec<Unit>,
+) -> Result<(), AllocError>
+    requires { 3 ≤ room }
+    ensures { OnOk result (string_bytes name.new ≡ below_within room (string_bytes name.old) (map unit_text units.items)) }
 {
     escape_dots(&mut units);
     push_slash(name)?;
-    push_apart(name, MAX_SEGMENT, &units)
+    push_apart(name, room, &units)
+}
+
+/// Adds a segment with as many bytes as a segment may have.
+pub(crate) fn push_segment(name: &mut String, units: Vec<Unit>) -> Result<(), AllocError>
+    ensures { OnOk result (string_bytes name.new ≡ below (string_bytes name.old) (map unit_text units.items)) }
+{
+    push_within(name, MAX_SEGMENT, units)
 }

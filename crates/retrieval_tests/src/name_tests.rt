@@ -1,6 +1,8 @@
-//! Names worked out by hand: of pages that clash, of escapes, of odd segments, of segments that are too long, and by other rules.
+//! Names worked out by hand: of pages that clash, of escapes, of odd segments, of segments that are too long, by other rules, and
+//! with endings.
 use address::Address;
-use local_names::{LetterCase, NameRules, ascend, names};
+use kept_bodies::BodyKind;
+use local_names::{LetterCase, NameRules, ascend, names, names_with_endings};
 use std::alloc::Global;
 use std::process::Abort;
 
@@ -153,4 +155,78 @@ fn long_segments_are_cut(rt: HostRuntime) {
     push(&rt, &mut expected, "h/", "a", 200, ".1");
     let rules = NameRules::default();
     are_named(&rt, alloc, &rules, texts.as_str(), expected.as_str());
+}
+
+// The kinds that these letters stand for.
+fn kinds_of(rt: &impl Abort, alloc: Global, letters: &str) -> Vec<BodyKind> {
+    let mut kinds = Vec::new(alloc);
+    for letter in letters.chars() {
+        let kind = match letter {
+            'h' => BodyKind::Html,
+            's' => BodyKind::Sheet,
+            _ => BodyKind::Other,
+        };
+        kinds.push(kind).expect(rt, "memory");
+    }
+    kinds
+}
+
+// The names with endings of pages whose texts ascend.
+fn ended_names_of(
+    rt: &impl Abort,
+    alloc: Global,
+    rules: &NameRules,
+    pages: &[Address],
+    kinds: &[BodyKind],
+) -> Vec<String> {
+    assert!(rt; ascend(pages));
+    names_with_endings(alloc, rules, pages, kinds).expect(rt, "memory")
+}
+
+// The pages of these texts, which ascend, and in front of which their kinds are, have these names with endings.
+fn are_ended(rt: &impl Abort, alloc: Global, rules: &NameRules, texts: &str, expected: &str) {
+    let (letters, texts) = texts.split_once(" ").unwrap_or((texts, ""));
+    let pages = pages_of(rt, alloc, texts);
+    let kinds = kinds_of(rt, alloc, letters);
+    let names = ended_names_of(rt, alloc, rules, &pages, &kinds);
+    assert!(rt; are_these(&names, expected), "not named so: {expected}");
+}
+
+// In the fourth row other bodies have no ending, and of the last page no kind is known. In the last one a name is a directory.
+const ENDED: &str = "hh http://h/a http://h/a.html => h/a.html, h/a.1.html
+hhhh http://h/b.php http://h/e.htm http://h/f.HTML http://h/j.png => h/b.php.html, h/e.htm, h/f.HTML, h/j.png.html
+hh http://h/p.asp?x=1 http://h/q.html?x=1 => h/p.asp?x=1.html, h/q.html?x=1.html
+oos http://h/l http://h/m.html http://h/r.css?v=1 http://h/s => h/l, h/m.html, h/r.css?v=1.css, h/s
+ss http://h/s http://h/s.CSS => h/s.css, h/s.CSS
+hh http://h/d/ http://h/d/index.html => h/d/index.html, h/d/index.1.html
+hh http://h/x.html http://h/x.html/y => h/x.1.html, h/x.html/y.html";
+
+#[test]
+fn names_end_as_kinds_say(rt: HostRuntime) {
+    let alloc = rt.alloc();
+    for row in ENDED.lines() {
+        let (texts, expected) = row.split_once(" => ").unwrap_or((row, ""));
+        are_ended(&rt, alloc, &NameRules::default(), texts, expected);
+    }
+    let pages = "hhh http://h/a/x.html http://h/b/x.html http://h/c/x.html";
+    are_ended(
+        &rt,
+        alloc,
+        &without_host(1),
+        pages,
+        "x.html, x.1.html, x.2.html",
+    );
+    let mut texts = String::new(alloc);
+    push(&rt, &mut texts, "hh http://h/", "a", 250, " ");
+    push(&rt, &mut texts, "http://h/", "a", 251, "");
+    let mut expected = String::new(alloc);
+    push(&rt, &mut expected, "h/", "a", 195, ".html, ");
+    push(&rt, &mut expected, "h/", "a", 195, ".1.html");
+    are_ended(
+        &rt,
+        alloc,
+        &NameRules::default(),
+        texts.as_str(),
+        expected.as_str(),
+    );
 }

@@ -34,7 +34,7 @@ abbrev pub remembered : (List ℕ → Option ℕ) → List ℕ → List ℕ → 
 remembered old own name number q =
     if nat_lt 0 number && bytes_eq own q then Some (number + 1) else (if bytes_eq name q then Some 1 else old q)
 
--- of each place of the names, the last first, a name that is none greater than those from there on
+-- of each place of the names, the last first, one that is no greater than those from there on
 pub record AreLeast (names least : List (List ℕ)) : Type 0 where
   pub count : length least ≡ length names
   pub low : (m j : ℕ) → m < length names → length names ≤ m + 1 + j → j < length names → is_lt (slice_cmp nat_cmp (slice_index_or names j []) (slice_index_or least m [])) ≡ false

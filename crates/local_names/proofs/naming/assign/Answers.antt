@@ -1,6 +1,7 @@
 use Rattle.std.proofs.Common.{map, sym, subst}
 use Rattle.std.specs.List.Sorted.{IsSorted}
 use Rattle.std.specs.String.{string_bytes}
+use Rattle.local_names.specs.Endings.{stem_of}
 use Rattle.local_names.specs.inner.Taken.{lent_text, text_cmp, HasSameNames, AreLeast}
 use Rattle.local_names.proofs.naming.assign.Goals as goal
 
@@ -13,4 +14,4 @@ assign_each-requires-clause-same c =
 
 pub assign_each-requires-clause-least : goal.assign_each-requires-clause-least
 assign_each-requires-clause-least c =
-    subst (λ xs. AreLeast (map string_bytes c.args.plain.now) (map lent_text xs)) (sym c.deref-2.ensures.value) c.in_ok-least.ensures
+    subst (λ xs. AreLeast (map (stem_of c.args.has_endings) (map string_bytes c.args.plain.now)) (map lent_text xs)) (sym c.deref-2.ensures.value) c.in_ok-least.ensures
