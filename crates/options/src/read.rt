@@ -303,7 +303,9 @@ fn proxy_by(alloc: Global, value: Option<&str>) -> Result<Option<Origin>, LineFa
             Ok(address) => origin_at(&address),
             Err(AddressFault::Memory) => Err(LineFault::Memory),
             Err(AddressFault::UserInfo) => Err(LineFault::ProxyUser),
-            Err(_) => Err(LineFault::NoProxy),
+            Err(AddressFault::TooLong | AddressFault::NotUrl | AddressFault::NotHttp) => {
+                Err(LineFault::NoProxy)
+            }
         },
         None => Ok(None),
     }
