@@ -49,11 +49,11 @@ class Runs(Rows):
         super().__init__()
         self.program, self.folder = os.path.abspath(program), folder
 
-    def run(self, *words, given=b""):
-        """Runs the program with four workers in a folder of its own."""
+    def run(self, *words, given=b"", **variables):
+        """Runs the program with four workers in a folder of its own, with these variables in its environment."""
         here = tempfile.mkdtemp(dir=self.folder)
         run = subprocess.run([self.program, "--workers", "4", *words], input=given, capture_output=True, cwd=here,
-                             timeout=PATIENCE, check=False)
+                             env=os.environ | variables, timeout=PATIENCE, check=False)
         return Ran(run.returncode, run.stdout.decode(), run.stderr.decode(), files_below(here))
 
     def row(self, name, got, wanted):

@@ -6,3 +6,4 @@ pub mod HintLemmas
 pub mod TextLemmas
 pub mod WordLemmas
 pub mod SameLemmas
+pub mod EnvironmentLaws

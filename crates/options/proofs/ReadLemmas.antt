@@ -52,29 +52,29 @@ pub bad-counts : (found : List Row) → are_good found ≡ true → counts_of fo
 unfolding order_of_rows
 bad-counts found words counts = rw (words, counts) refl
 
-pub bad-proxy : (found : List Row) (n : Counts) → are_good found ≡ true → counts_of found ≡ Some n → proxy_of found ≡ None → order_of_rows found ≡ Err words_refused
+pub bad-names : (found : List Row) (n : Counts) → are_good found ≡ true → counts_of found ≡ Some n → naming_of found ≡ None → order_of_rows found ≡ Err words_refused
 unfolding order_of_rows
-bad-proxy found n words counts proxy = rw (words, counts, proxy) refl
+bad-names found n words counts names = rw (words, counts, names) refl
 
-pub bad-names : (found : List Row) (n : Counts) (x : Option (List ℕ)) → are_good found ≡ true → counts_of found ≡ Some n → proxy_of found ≡ Some x → naming_of found ≡ None → order_of_rows found ≡ Err words_refused
+pub bad-proxy : (found : List Row) (n : Counts) (m : Naming) (why : LineFault) → are_good found ≡ true → counts_of found ≡ Some n → naming_of found ≡ Some m → proxy_of found ≡ Err why → order_of_rows found ≡ Err why
 unfolding order_of_rows
-bad-names found n x words counts proxy names = rw (words, counts, proxy, names) refl
+bad-proxy found n m why words counts names proxy = rw (words, counts, names, proxy) refl
 
 pub bad-level : (found : List Row) (n : Counts) (x : Option (List ℕ)) (m : Naming) → Settles found n x m → level_of found ≡ None → order_of_rows found ≡ Err fault.Depth
 unfolding order_of_rows
-bad-level found n x m settles level = rw (settles.words, settles.counted, settles.proxied, settles.named, level) refl
+bad-level found n x m settles level = rw (settles.words, settles.counted, settles.named, settles.proxied, level) refl
 
 pub bad-filters : (found : List Row) (n : Counts) (x : Option (List ℕ)) (m : Naming) (l : Limit) (why : LineFault) → Settles found n x m → level_of found ≡ Some l → FailsToFilter found why → order_of_rows found ≡ Err why
 unfolding order_of_rows
-bad-filters found n x m l why settles level fails = rw (settles.words, settles.counted, settles.proxied, settles.named, level) (fails.1 _)
+bad-filters found n x m l why settles level fails = rw (settles.words, settles.counted, settles.named, settles.proxied, level) (fails.1 _)
 
 pub bad-start : (found : List Row) (n : Counts) (x : Option (List ℕ)) (m : Naming) (l : Limit) (p d h : List (List ℕ) × List (List ℕ)) (why : LineFault) → Settles found n x m → level_of found ≡ Some l → patterns_of found ≡ Some p → directories_of found ≡ Some d → domains_of found ≡ Some h → FailsToStart found why → order_of_rows found ≡ Err why
 unfolding order_of_rows
-bad-start found n x m l p d h why settles level patterns directories domains fails = rw (settles.words, settles.counted, settles.proxied, settles.named, level, patterns, directories, domains) (fails.1 _)
+bad-start found n x m l p d h why settles level patterns directories domains fails = rw (settles.words, settles.counted, settles.named, settles.proxied, level, patterns, directories, domains) (fails.1 _)
 
 pub good-order : (found : List Row) (n : Counts) (x : Option (List ℕ)) (m : Naming) (l : Limit) (p d h : List (List ℕ) × List (List ℕ)) (start : List ℕ) → Settles found n x m → level_of found ≡ Some l → patterns_of found ≡ Some p → directories_of found ≡ Some d → domains_of found ≡ Some h → StartsAt found start → order_of_rows found ≡ Ok (ordered found n x m l p d h start)
 unfolding order_of_rows
-good-order found n x m l p d h start settles level patterns directories domains starts = rw (settles.words, settles.counted, settles.proxied, settles.named, level, patterns, directories, domains) (starts _)
+good-order found n x m l p d h start settles level patterns directories domains starts = rw (settles.words, settles.counted, settles.named, settles.proxied, level, patterns, directories, domains) (starts _)
 
 -- ---- refused words
 

@@ -32,6 +32,14 @@ accepted_start =
 
 -- ---- what is told
 
+-- as a proxy
+abbrev pub accepted_proxy : List ℕ
+accepted_proxy = codes "a proxy is host and port, as http://127.0.0.1:3128/, and --no-proxy is for none (see wgetr --help)"
+
+-- as a way there
+abbrev pub accepted_way : List ℕ
+accepted_way = codes "a proxy at localhost, 127.0.0.1 or [::1] is taken, and another one with --trust-proxy (see wgetr --help)"
+
 -- what is wrong with a start that is no address; nothing where memory ran out
 abbrev pub wrong_start : AddressFault → Option (List ℕ)
 wrong_start refused.TooLong = Some (codes "START is too long")
@@ -57,6 +65,8 @@ told_of_kind why = told_of_text why (kind_text why)
 -- of words that are no order; nothing where memory ran out
 abbrev pub told_on : LineFault → Option Told
 told_on (line.Words why) = Some (told_of_kind why)
+told_on line.NoProxy = Some (Correction (codes "the value of --https-proxy or https_proxy is no proxy") accepted_proxy)
+told_on line.ProxyUser = Some (Correction (codes "the proxy has a user name or a password, and none is sent") accepted_proxy)
 told_on line.Depth =
     Some (Correction (codes "the value of -l, --level is no level") (codes "a level is inf or decimal digits, at most 1000000 (see wgetr --help)"))
 told_on line.Pattern =
@@ -70,6 +80,8 @@ told_on line.Domain =
     (codes "an element is letters, digits, -, _ and dots, as example.org (see wgetr --help)"))
 told_on (line.Start why) = option_map (λ wrong. Correction wrong accepted_start) (wrong_start why)
 told_on line.StartIsRobots = Some (Correction (codes "START is a robots file") (codes "START is any other page (see wgetr --help)"))
+told_on line.FarProxy =
+    Some (Correction (codes "the proxy is on another machine, and what is sent there for https isn't encrypted") accepted_way)
 told_on line.Memory = None
 
 -- ---- the text

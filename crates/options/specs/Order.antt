@@ -1,9 +1,14 @@
 -- What the words order, or why they are refused: one function of the words.
-use Rattle.std.specs.Prelude.{◌≡◌, ◌⊎◌, ◌==◌, ℕ, length, option_and_then, Bool, true, false, not, ◌&&◌, List, [], ◌∷◌, ◌++◌, codes, Option, Some, None, is_some, nat_lt, unwrap_or, bytes_eq, option_map, Result, Ok, Err, MatchResult, if◌then◌else◌}
+use Rattle.std.specs.Prelude.{◌≡◌, ◌⊎◌, ◌==◌, ℕ, length, option_and_then, Bool, true, false, not, ◌&&◌, ◌||◌, List, [], ◌∷◌, ◌++◌, codes, Option, Some, None, is_some, nat_eq, nat_lt, unwrap_or, bytes_eq, option_map, Result, Ok, Err, MatchResult, if◌then◌else◌}
+use Rattle.std.specs.Char.{is_ascii_digit}
+use Rattle.std.specs.List.{list_all, list_any, starts_with}
 use Rattle.clap.specs.Kinds.{Kinds}
 use Rattle.clap.specs.Walk.{Row, Text, first_of}
-use Rattle.address.specs.Address.{read_address, read_either, origin_of, path_query_of, is_robots_file}
+use Rattle.address.specs.Address.{read_address, read_either, host_of, origin_of, path_query_of, scheme_of, is_robots_file}
 use Rattle.address.specs.declared.fault.AddressFault.{AddressFault}
+use Rattle.address.specs.declared.fault.AddressFault.TheVariants.{UserInfo}
+use Rattle.address.specs.declared.scheme.Scheme.{Scheme}
+use Rattle.address.specs.declared.scheme.Scheme.TheVariants.{Http, Https}
 use Rattle.follow_filters.specs.declared.limit.Limit.{Limit}
 use Rattle.follow_filters.specs.declared.limit.Limit.TheVariants.{AtMost}
 use Rattle.follow_filters.specs.declared.plan.TheConstants.{MAX_PER_HOST, MAX_URLS}
@@ -67,6 +72,7 @@ pub record Ordered : Type 0 where
   pub prefix : List ℕ
   pub names : Naming
   pub proxy : Option (List ℕ)
+  pub trusts : Bool
   pub resume : Option Text
   pub save : Option Text
 
@@ -106,23 +112,38 @@ counts_of found =
     option_and_then (λ w. option_and_then (λ p. option_map (λ u. record { workers = w; per_host = p; max_urls = u })
     (number_given (codes "max-urls") MAX_URLS DEFAULT_MAX_URLS found)) (number_given (codes "per-host") MAX_PER_HOST DEFAULT_PER_HOST found)) (number_given (codes "workers") MAX_WORKERS DEFAULT_WORKERS found)
 
+-- why what was read names no proxy
+abbrev pub proxy_fault : AddressFault → LineFault
+proxy_fault UserInfo = fault.ProxyUser
+proxy_fault other = fault.NoProxy
+
 -- the origin of an http address that is no more than that
-abbrev pub root_origin : Result (List ℕ) AddressFault → Option (List ℕ)
-root_origin (Err why) = None
-root_origin (Ok address) = if bytes_eq (path_query_of address) (codes "/") then Some (origin_of address) else None
+abbrev pub root_origin : Result (List ℕ) AddressFault → Result (Option (List ℕ)) LineFault
+root_origin (Err why) = Err (proxy_fault why)
+root_origin (Ok address) = if bytes_eq (path_query_of address) (codes "/") then Ok (Some (origin_of address)) else Err fault.NoProxy
 
--- the proxy that a value names, where it names one
-unfoldable pub proxy_by : Option Text → Option (Option (List ℕ))
-proxy_by None = Some None
-proxy_by (Some value) = option_map Some (root_origin (read_address value))
+-- the proxy that a value names, or why it names none; `http` is its scheme if it has none
+unfoldable pub proxy_by : Option Text → Result (Option (List ℕ)) LineFault
+proxy_by None = Ok None
+proxy_by (Some value) = root_origin (read_address (with_scheme value))
 
--- the value that names the proxy, unless none is to be asked
+-- a value that isn't empty
+abbrev pub unless_empty : Option Text → Option Text
+unless_empty None = None
+unless_empty (Some value) = if length value == 0 then None else Some value
+
+-- the value that names the proxy, unless none is to be asked; an empty one names none
 abbrev pub proxy_value : List Row → Option Text
-proxy_value found = if is_set (codes "no-proxy") found then None else first_of (codes "https-proxy") found
+proxy_value found = if is_set (codes "no-proxy") found then None else unless_empty (first_of (codes "https-proxy") found)
 
--- the proxy that speaks TLS, if one is given
-abbrev pub proxy_of : List Row → Option (Option (List ℕ))
+-- the proxy that speaks TLS, if one is given, or why its value is none
+abbrev pub proxy_of : List Row → Result (Option (List ℕ)) LineFault
 proxy_of found = proxy_by (proxy_value found)
+
+-- the proxy, and what follows from it
+abbrev pub proxied_by : {Y : Type 0} → Result (Option (List ℕ)) LineFault → (Option (List ℕ) → Result Y LineFault) → Result Y LineFault
+proxied_by (Err why) next = Err why
+proxied_by (Ok proxy) next = next proxy
 
 -- a start; https is one where a proxy is given
 abbrev pub read_start : Bool → Text → Result (List ℕ) AddressFault
@@ -194,6 +215,7 @@ ordered found counts proxy names level patterns directories domains start = reco
   prefix = prefix_of found;
   names = names;
   proxy = proxy;
+  trusts = is_set (codes "trust-proxy") found;
   resume = first_of (codes "resume") found;
   save = first_of (codes "save") found;
 }
@@ -203,8 +225,8 @@ unfoldable pub order_of_rows : List Row → Result Ordered LineFault
 order_of_rows found =
     if not (are_good found) then Err words_refused
     else found_or (counts_of found) words_refused (λ counts.
-    found_or (proxy_of found) words_refused (λ proxy.
     found_or (naming_of found) words_refused (λ names.
+    proxied_by (proxy_of found) (λ proxy.
     found_or (level_of found) fault.Depth (λ level.
     found_or (patterns_of found) fault.Pattern (λ patterns.
     found_or (directories_of found) fault.Directory (λ directories.
@@ -239,6 +261,42 @@ abbrev pub with_others : List Text → Result Ordered LineFault → Result Order
 with_others texts (Err why) = Err why
 with_others texts (Ok order) = started_besides order (starts_after [] (is_some order.proxy) texts)
 
+-- ---- whom https is entrusted to
+
+-- a digit or a dot
+abbrev pub is_numeric : ℕ → Bool
+is_numeric byte = is_ascii_digit byte || byte == 46
+
+-- the host is this machine: `localhost`, `::1`, or an address in 127.0.0.0/8 (RFC 1122, section 3.2.1.3; RFC 4291, section 2.5.3). A host
+-- of digits and dots is an IPv4 address (URL Standard, section 3.5)
+abbrev pub is_loopback : Text → Bool
+is_loopback host =
+    bytes_eq host (codes "localhost") || bytes_eq host (codes "[::1]") || (starts_with nat_eq host (codes "127.") && list_all is_numeric host)
+
+-- there is no proxy, or it is on this machine, or trusted
+abbrev pub is_trusted : Bool → Option (List ℕ) → Bool
+is_trusted trusts None = true
+is_trusted trusts (Some proxy) = trusts || is_loopback (host_of (proxy ++ codes "/"))
+
+abbrev pub is_secure : Scheme → Bool
+is_secure Http = false
+is_secure Https = true
+
+-- an https address
+abbrev pub is_https : List ℕ → Bool
+is_https address = is_secure (scheme_of address)
+
+-- some start is https
+abbrev pub has_https : Ordered → Bool
+has_https order = is_https order.start || list_any is_https order.others
+
+-- the order, unless https would go to a proxy on another machine that isn't trusted: the way there has no TLS
+abbrev pub guarded : Result Ordered LineFault → Result Ordered LineFault
+guarded (Err why) = Err why
+guarded (Ok order) = if is_trusted order.trusts order.proxy || not (has_https order) then Ok order else Err fault.FarProxy
+
+-- ---- all words
+
 -- the fault of the first word that isn't read, or this
 abbrev pub read_or : Option Text → Result Ordered LineFault → Result Ordered LineFault
 read_or None result = result
@@ -247,7 +305,7 @@ read_or (Some word) result = Err (refusal_of word)
 -- what is ordered by what is said, or the lowest fault, that of the first start before those of others: each word is read, and the first that
 -- isn't may ask for the help
 unfoldable pub order_said : List (Saying Text) → Result Ordered LineFault
-order_said said = read_or (first_unread said) (with_others (others_in said) (order_of_written (written said)))
+order_said said = read_or (first_unread said) (guarded (with_others (others_in said) (order_of_written (written said))))
 
 -- what the words order, or the lowest fault
 abbrev pub order_of : List Text → Result Ordered LineFault
@@ -292,6 +350,7 @@ ordered_by order = record {
   prefix = order.prefix;
   names = naming_by order.names;
   proxy = order.proxy;
+  trusts = order.trusts_proxy;
   resume = order.resume;
   save = order.save;
 }

@@ -29,6 +29,9 @@ const START: &str =
     "START is an address in full, as http://example.org/path?query, without user name and password, with at most \
 8192 bytes and a host of at most 255 (see wgetr --help)";
 
+const PROXY: &str =
+    "a proxy is host and port, as http://127.0.0.1:3128/, and --no-proxy is for none (see wgetr --help)";
+
 // What is wrong with a start that is no address.
 fn wrong_start(refused: AddressFault) -> Option<&'static str>
     ensures { option_map (λ wrong. wrong.now) result ≡ wrong_start refused }
@@ -70,6 +73,14 @@ fn advice_on(wrong: LineFault) -> Option<Advice>
 {
     match wrong {
         LineFault::Words(kind) => Some(kind_advice(kind)),
+        LineFault::NoProxy => Some(Advice::Correction(
+            "the value of --https-proxy or https_proxy is no proxy",
+            PROXY,
+        )),
+        LineFault::ProxyUser => Some(Advice::Correction(
+            "the proxy has a user name or a password, and none is sent",
+            PROXY,
+        )),
         LineFault::Depth => Some(Advice::Correction(
             "the value of -l, --level is no level",
             "a level is inf or decimal digits, at most 1000000 (see wgetr --help)",
@@ -90,6 +101,10 @@ fn advice_on(wrong: LineFault) -> Option<Advice>
         LineFault::StartIsRobots => Some(Advice::Correction(
             "START is a robots file",
             "START is any other page (see wgetr --help)",
+        )),
+        LineFault::FarProxy => Some(Advice::Correction(
+            "the proxy is on another machine, and what is sent there for https isn't encrypted",
+            "a proxy at localhost, 127.0.0.1 or [::1] is taken, and another one with --trust-proxy (see wgetr --help)",
         )),
         LineFault::Memory => None,
     }

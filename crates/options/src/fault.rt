@@ -9,6 +9,10 @@ pub enum LineFault {
     /// An option is unknown, is given twice, lacks its value or has a value out of its range; the
     /// start is missing or there are two. The kind is `clap`'s.
     Words(ErrorKind),
+    /// What a proxy's option or variable names is no proxy: it is the origin of no http address.
+    NoProxy,
+    /// The proxy has a user name or a password.
+    ProxyUser,
     /// The level is neither `inf` nor decimal digits up to 1,000,000.
     Depth,
     /// An element of the accept or reject list is no pattern.
@@ -21,6 +25,8 @@ pub enum LineFault {
     Start(AddressFault),
     /// The start is its origin's robots file.
     StartIsRobots,
+    /// A start is https, and its proxy is on another machine and isn't trusted.
+    FarProxy,
     /// There was no memory to hold the order.
     Memory,
 }

@@ -5,6 +5,7 @@
 
 mod advice;
 mod asked;
+mod environment;
 mod fault;
 mod given;
 mod help;
@@ -18,9 +19,11 @@ mod read;
 mod said;
 mod start;
 mod table;
+mod trust;
 mod written;
 
 pub use crate::advice::{advice_text, no_text_advice};
+pub use crate::environment::Environment;
 pub use crate::fault::LineFault;
 pub use crate::help::{VERSION, help_text};
 pub use crate::order::{FilePath, Log, MAX_WORKERS, Order, Prefix, Source};

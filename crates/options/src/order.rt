@@ -131,6 +131,8 @@ pub struct Order {
     pub names: NameRules,
     /// The proxy that is asked for https addresses.
     pub proxy: Option<Origin>,
+    /// Whether the proxy may be on another machine.
+    pub trusts_proxy: bool,
     /// The record whose answers aren't asked for again.
     pub resume: Option<FilePath>,
     /// The record that is written of what was told.
@@ -234,6 +236,7 @@ impl Order {
             prefix,
             names,
             proxy,
+            trusts_proxy,
             resume,
             save,
         } = self;
@@ -248,6 +251,7 @@ impl Order {
             prefix,
             names,
             proxy,
+            trusts_proxy,
             resume,
             save,
         }

@@ -1,5 +1,5 @@
 //! Words are read as an order, or refused by the lowest fault.
-ghost use Rattle.std.specs.Prelude.{◌≡◌, ◌≢◌, ◌⊎◌, ℕ, List, true, ◌<◌, ◌≤◌, codes, drop, false, not, is_none, option_map, if◌then◌else◌, Some, None, Ok, Err, map, string_bytes, IfOk, IfSome, MatchOption, MatchResult};
+ghost use Rattle.std.specs.Prelude.{◌≡◌, ◌≢◌, ◌⊎◌, ℕ, List, true, ◌<◌, ◌≤◌, codes, drop, false, not, is_none, option_map, if◌then◌else◌, Some, None, Ok, Err, map, string_bytes, IfErr, IfOk, IfSome, MatchOption, MatchResult};
 ghost use Rattle.clap.specs.Words.{found_of, rows_of, first_of, kind_of};
 ghost use Rattle.address.specs.Address as address;
 ghost use Rattle.address.specs.Address.{is_robots_file};
@@ -12,7 +12,7 @@ ghost use Rattle.options.specs.declared.order.TheConstants.{MAX_WORKERS};
 ghost use Rattle.follow_filters.specs.declared.limit.Limit.TheVariants.{AtMost};
 ghost use Rattle.options.specs.Given.{level_of, list_of};
 ghost use Rattle.options.specs.Naming.{naming_by};
-ghost use Rattle.options.specs.Order.{AnswersOrder, OrdersBySayings, order_of, order_of_rows, order_of_written, order_said, are_good, is_plain_value, both, counts_of, patterns_of, directories_of, domains_of, start_of, source_of, honours_robots, limit_within, ordered, ordered_by, folder_of, prefix_of, log_by, log_of, proxy_by, proxy_of, proxy_value, read_start, root_origin};
+ghost use Rattle.options.specs.Order.{AnswersOrder, OrdersBySayings, order_of, order_of_rows, order_of_written, order_said, are_good, is_plain_value, both, counts_of, patterns_of, directories_of, domains_of, start_of, source_of, honours_robots, limit_within, ordered, ordered_by, folder_of, guarded, prefix_of, log_by, log_of, proxy_by, proxy_of, proxy_value, read_start, root_origin, unless_empty, with_others};
 ghost use Rattle.options.specs.Asked.{refusal_of, without_kind, words_refused};
 ghost use Rattle.options.specs.inner.Said.{saying_in};
 ghost use Rattle.options.specs.inner.Order.{StartsAt, FailsToStart, FailsToFilter, IsNoStart, Settles, fault_of_kind, unasked};
@@ -31,6 +31,7 @@ use crate::order::{
 use crate::others::with_others;
 use crate::said::{Saying, sayings};
 use crate::start::with_scheme;
+use crate::trust::guarded;
 use crate::written::{first_unread, starts, written};
 use address::{Address, AddressFault, Origin};
 use clap::error::ErrorKind;
@@ -268,29 +269,43 @@ fn read_by(alloc: Global, by_proxy: bool, text: &str) -> Result<Address, Address
     }
 }
 
-// The value that names the proxy, unless none is to be asked.
+// A value that isn't empty.
+fn unless_empty(value: Option<&str>) -> Option<&str>
+    ensures { option_map (λ s. s.now) result ≡ unless_empty (option_map (λ s. s.now) value.entry) }
+{
+    match value {
+        Some(text) if !text.is_empty() => Some(text),
+        _ => None,
+    }
+}
+
+// The value that names the proxy, unless none is to be asked. An empty one names none.
 fn proxy_value<'a>(matches: &ArgMatches<'a>) -> Option<&'a str>
     ensures { option_map (λ s. s.now) result ≡ proxy_value (rows_of (found_of matches.now)) }
 {
     if is_set(matches, "no-proxy") {
         None
     } else {
-        given(matches, "https-proxy")
+        unless_empty(given(matches, "https-proxy"))
     }
 }
 
-// The proxy that a value names, none where there is no value. The fault is that it names none, or want of memory.
+// The proxy that a value names, or why it names none.
 #[tactic(auto, unfolding(crate::specs::Order::proxy_by))]
 fn proxy_by(alloc: Global, value: Option<&str>) -> Result<Option<Origin>, LineFault>
-    ensures { MatchResult result
-        (λ proxy. proxy_by (option_map (λ s. s.now) value.entry) ≡ Some proxy)
-        (λ f. ((f ≡ words_refused) × (proxy_by (option_map (λ s. s.now) value.entry) ≡ None)) ⊎ (f ≡ fault.Memory)) }
+    ensures answers { MatchResult result
+        (λ proxy. proxy_by (option_map (λ s. s.now) value.entry) ≡ Ok proxy)
+        (λ f. (proxy_by (option_map (λ s. s.now) value.entry) ≡ Err f) ⊎ (f ≡ fault.Memory)) }
+    ensures kept { IfErr result (λ f. without_kind f ≡ f) }
 {
     match value {
-        Some(text) => match Address::read(alloc, text) {
+        Some(text) => match read_typed(alloc, false, text) {
             Ok(address) => origin_at(&address),
             Err(AddressFault::Memory) => Err(LineFault::Memory),
-            Err(_) => Err(LineFault::Words(ErrorKind::InvalidValue)),
+            Err(AddressFault::UserInfo) => Err(LineFault::ProxyUser),
+            Err(AddressFault::TooLong | AddressFault::NotUrl | AddressFault::NotHttp) => {
+                Err(LineFault::NoProxy)
+            }
         },
         None => Ok(None),
     }
@@ -298,12 +313,13 @@ fn proxy_by(alloc: Global, value: Option<&str>) -> Result<Option<Origin>, LineFa
 
 // The origin of an address that is no more than that.
 fn origin_at(address: &Address) -> Result<Option<Origin>, LineFault>
-    ensures { MatchResult result
-        (λ proxy. option_map Some (root_origin (Ok address.now)) ≡ Some proxy)
-        (λ f. ((f ≡ words_refused) × (root_origin (Ok address.now) ≡ None)) ⊎ (f ≡ fault.Memory)) }
+    ensures answers { MatchResult result
+        (λ proxy. root_origin (Ok address.now) ≡ Ok proxy)
+        (λ f. (root_origin (Ok address.now) ≡ Err f) ⊎ (f ≡ fault.Memory)) }
+    ensures kept { IfErr result (λ f. without_kind f ≡ f) }
 {
     if address.path_query() != "/" {
-        return Err(LineFault::Words(ErrorKind::InvalidValue));
+        return Err(LineFault::NoProxy);
     }
     match Origin::of(address) {
         Ok(origin) => Ok(Some(origin)),
@@ -362,11 +378,11 @@ fn unasked(kind: ErrorKind) -> LineFault
     LineFault::Words(kind)
 }
 
-// The numbers, the proxy and what shapes names, which are words like others: their faults come before those of levels and lists.
+// The numbers, what shapes names, and the proxy: their faults come before those of levels and lists.
 fn read_settings(alloc: Global, matches: &ArgMatches) -> Result<Settings, LineFault>
     ensures { MatchResult result
         (λ s. Settles (rows_of (found_of matches.now)) (record { workers = s.counts.workers; per_host = s.counts.per_host; max_urls = s.counts.max_urls }) s.proxy (naming_by s.names))
-        (λ f. ((without_kind f ≡ words_refused) × (order_of_rows (rows_of (found_of matches.now)) ≡ Err words_refused)) ⊎ (f ≡ fault.Memory)) }
+        (λ f. (order_of_rows (rows_of (found_of matches.now)) ≡ Err (without_kind f)) ⊎ (f ≡ fault.Memory)) }
 {
     if let Some(fault) = word_fault(matches) {
         return Err(fault);
@@ -374,14 +390,14 @@ fn read_settings(alloc: Global, matches: &ArgMatches) -> Result<Settings, LineFa
     let Some(counts) = read_counts(matches) else {
         return Err(LineFault::Words(ErrorKind::InvalidValue));
     };
-    let proxy = match proxy_by(alloc, proxy_value(matches)) {
-        Ok(proxy) => proxy,
-        Err(fault) => return Err(fault),
-    };
     let names = match names(alloc, matches) {
         Ok(names) => names,
+        Err(fault) => return Err(fault),
+    };
+    let proxy = match proxy_by(alloc, proxy_value(matches)) {
+        Ok(proxy) => proxy,
         Err(fault) => {
-            drop(proxy);
+            drop(names);
             return Err(fault);
         }
     };
@@ -486,6 +502,7 @@ fn filled(
         prefix: paths.prefix,
         names: naming,
         proxy,
+        trusts_proxy: is_set(matches, "trust-proxy"),
         resume: paths.resume,
         save: paths.save,
     }
@@ -639,6 +656,16 @@ fn after_first<'a, 'b>(starts: &'b [&'a str]) -> &'b [&'a str]
     }
 }
 
+// The order with the starts that these texts name besides its own, unless https would go to a proxy that isn't trusted.
+fn with_all(alloc: Global, order: Order, texts: &[&str]) -> Result<Order, LineFault>
+    ensures { AnswersOrder result (guarded (with_others (map (λ text. text.now) texts.now) (Ok (ordered_by order)))) }
+{
+    match with_others(alloc, order, texts) {
+        Ok(order) => guarded(order),
+        Err(fault) => Err(fault),
+    }
+}
+
 // Reads what is said by words.
 fn read_said(alloc: Global, said: &[Saying<&str>]) -> Result<Order, LineFault>
     ensures { AnswersOrder result (order_said (map saying_in said.now)) }
@@ -654,7 +681,7 @@ fn read_said(alloc: Global, said: &[Saying<&str>]) -> Result<Order, LineFault>
         drop(order);
         return Err(LineFault::Memory);
     };
-    let order = with_others(alloc, order, after_first(starts.as_slice()));
+    let order = with_all(alloc, order, after_first(starts.as_slice()));
     drop(starts);
     order
 }

@@ -42,7 +42,7 @@ pub(crate) struct Row<T> {
 }
 
 /// The options.
-const TABLE: [Row<&str>; 51] = [
+const TABLE: [Row<&str>; 52] = [
     Row {
         short: "r",
         name: "recursive",
@@ -185,10 +185,17 @@ const TABLE: [Row<&str>; 51] = [
     },
     Row {
         short: "",
+        name: "trust-proxy",
+        kind: Kind::Flag,
+        heading: "",
+        says: "https also by a proxy on another machine",
+    },
+    Row {
+        short: "",
         name: "no-proxy",
         kind: Kind::Flag,
         heading: "",
-        says: "no proxy, in spite of --https-proxy",
+        says: "no proxy, whatever words and https_proxy say",
     },
     Row {
         short: "",
@@ -688,7 +695,7 @@ pub(crate) fn wget_forms() -> &'static [&'static str]
 }
 
 /// The long forms of options that Wget doesn't have, and of their opposites.
-const OWN: [&str; 16] = [
+const OWN: [&str; 18] = [
     "--https-proxy",
     "--map",
     "--max-urls",
@@ -697,6 +704,7 @@ const OWN: [&str; 16] = [
     "--no-robots",
     "--no-span-requisites",
     "--no-trace",
+    "--no-trust-proxy",
     "--per-host",
     "--record",
     "--resume",
@@ -704,6 +712,7 @@ const OWN: [&str; 16] = [
     "--save",
     "--span-requisites",
     "--trace",
+    "--trust-proxy",
     "--workers",
 ];
 
@@ -725,7 +734,7 @@ pub(crate) struct Command<T> {
 }
 
 /// The commands of wgetrc whose options are here.
-const COMMANDS: [Command<&str>; 37] = [
+const COMMANDS: [Command<&str>; 38] = [
     Command {
         name: "accept",
         option: "accept",
@@ -781,6 +790,10 @@ const COMMANDS: [Command<&str>; 37] = [
     Command {
         name: "httpkeepalive",
         option: "http-keep-alive",
+    },
+    Command {
+        name: "httpsproxy",
+        option: "https-proxy",
     },
     Command {
         name: "ignorecase",

@@ -37,6 +37,12 @@ comes_refused : (words : List (List ℕ)) (input : List ℕ) (wrong : Fault) →
 comes_refused words input (fault.Line line.Memory) refused = tt
 comes_refused words input (fault.Line (line.Words kind)) (inl e) = e
 comes_refused words input (fault.Line (line.Words kind)) (inr e) = cc
+comes_refused words input (fault.Line line.NoProxy) (inl e) = e
+comes_refused words input (fault.Line line.NoProxy) (inr e) = cc
+comes_refused words input (fault.Line line.ProxyUser) (inl e) = e
+comes_refused words input (fault.Line line.ProxyUser) (inr e) = cc
+comes_refused words input (fault.Line line.FarProxy) (inl e) = e
+comes_refused words input (fault.Line line.FarProxy) (inr e) = cc
 comes_refused words input (fault.Line line.Depth) (inl e) = e
 comes_refused words input (fault.Line line.Depth) (inr e) = cc
 comes_refused words input (fault.Line line.Pattern) (inl e) = e

@@ -53,6 +53,9 @@ start_words refused.Memory = codes "stopped memory"
 -- the words for what is wrong with a command line
 abbrev pub line_words : LineFault → List ℕ
 line_words (line.Words kind) = codes "line words"
+line_words line.NoProxy = codes "line words"
+line_words line.ProxyUser = codes "line words"
+line_words line.FarProxy = codes "line words"
 line_words line.Depth = codes "line depth"
 line_words line.Pattern = codes "line pattern"
 line_words line.Directory = codes "line directory"

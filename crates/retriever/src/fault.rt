@@ -78,7 +78,8 @@ fn line_words(wrong: LineFault) -> &'static str
     ensures { result.now ≡ line_words wrong }
 {
     match wrong {
-        LineFault::Words(_) => "line words",
+        LineFault::Words(_) | LineFault::NoProxy | LineFault::ProxyUser | LineFault::FarProxy =>
+            "line words",
         LineFault::Depth => "line depth",
         LineFault::Pattern => "line pattern",
         LineFault::Directory => "line directory",

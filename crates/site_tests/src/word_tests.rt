@@ -19,6 +19,9 @@ fn word_of(fault: LineFault) -> &'static str {
         LineFault::Words(ErrorKind::DisplayHelp) => "words: help",
         LineFault::Words(ErrorKind::DisplayVersion) => "words: version",
         LineFault::Words(_) => "words",
+        LineFault::NoProxy => "no proxy",
+        LineFault::ProxyUser => "proxy: user",
+        LineFault::FarProxy => "proxy: far",
         LineFault::Depth => "depth",
         LineFault::Pattern => "pattern",
         LineFault::Directory => "directory",
@@ -64,9 +67,19 @@ start: not http => https://h/
 start: not http => --https-proxy=http://127.0.0.1:3128/ ftp://h/
 read => --https-proxy=http://127.0.0.1:3128/ https://h/
 read => --https-proxy http://127.0.0.1:3128 http://h/
-words: bad value => --https-proxy=https://p/ https://h/
-words: bad value => --https-proxy=http://p/a -l x https://h/
-words: bad value => --https-proxy=p:3128 http://h/
+no proxy => --https-proxy=https://p/ https://h/
+no proxy => --https-proxy=http://p/a -l x https://h/
+words: bad value => --https-proxy=http://p/a --cut-dirs=x http://h/
+proxy: user => --https-proxy=http://u@127.0.0.1/ http://h/
+read => -e https_proxy=127.0.0.1:3128 https://h/
+start: not http => -e https_proxy=http://127.0.0.1/ --https-proxy= https://h/
+proxy: far => --https-proxy=p:3128 https://h/
+proxy: far => --https-proxy=http://127.0.0.1.p/ http://h/ https://h/
+start: robots => --https-proxy=http://p/ https://h/robots.txt
+read => --https-proxy=http://p/ http://h/
+read => --https-proxy=http://p/ --trust-proxy https://h/
+read => --https-proxy=http://[::1]:1/ https://h/
+read => --https-proxy=http://127.1.2.3/ https://h/
 start: user info => http://u@h/
 start: robots => http://h/robots.txt
 read => http://h/ http://k/ http://h/
@@ -101,7 +114,7 @@ words: out of range => --workers 65 -l x a
 words: out of range => --per-host 17 http://h/
 words: bad value => -nq http://h/
 start: not http => --https-proxy=http://p/ --no-proxy https://h/
-read => --no-proxy --proxy --https-proxy=http://p/ https://h/
+read => --no-proxy --proxy --https-proxy=http://localhost/ https://h/
 read => --no-proxy --https-proxy=https://p/ http://h/
 words: bad value => --cut-dirs=x http://h/
 words: bad value => --default-page=.. http://h/
@@ -355,7 +368,8 @@ How it is asked for:
        --per-host=N                N requests at a time to a server, 1 to 16 (2)
        --no-http-keep-alive        a connection of its own for each request
        --https-proxy=URL           https by a proxy, as http://127.0.0.1:3128/
-       --no-proxy                  no proxy, in spite of --https-proxy
+       --trust-proxy               https also by a proxy on another machine
+       --no-proxy                  no proxy, whatever words and https_proxy say
        --max-urls=N                at most N addresses, 1 to 1000000 (100000)
 
 Where the site is:

@@ -5,17 +5,17 @@
 use host_system::{Network, Output, PartThreads, SharedFailures, StandIns};
 use progress::{BehindLine, Progress};
 use record_journal::Saving;
-use retriever::{run_program, telling_of};
+use retriever::{arguments, run_program, telling_of};
 use std::io::{IsTerminal, Write};
+use std::process;
 use std::process::ExitCode;
-use std::{env, process};
 use tcp_connect::{Hosts, Kept};
 
 fn main(rt: HostRuntime) -> ExitCode {
     // Before anything is opened, so that no file of the run takes the place of a stream that is closed.
     let stand_ins = StandIns::open(&rt);
     let failures = SharedFailures::new(rt.alloc());
-    let Ok(telling) = telling_of(rt.alloc(), env::args(&rt)) else {
+    let Ok(telling) = telling_of(rt.alloc(), arguments(&rt, rt.alloc())) else {
         let _ = rt.stdout().write_all(b"stopped memory\n");
         return ExitCode::from(1);
     };
@@ -52,7 +52,7 @@ fn main(rt: HostRuntime) -> ExitCode {
         &rt,
         rt.alloc(),
         &network,
-        env::args(&rt),
+        arguments(&rt, rt.alloc()),
         &mut rt.stdin(),
         &mut writer,
         &mut rt.stderr(),

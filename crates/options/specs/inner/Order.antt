@@ -29,8 +29,8 @@ IsNoStart read why =
 pub record Settles (found : List Row) (counts : Counts) (proxy : Option (List ℕ)) (names : Naming) : Type 0 where
   pub words : are_good found ≡ true
   pub counted : counts_of found ≡ Some counts
-  pub proxied : proxy_of found ≡ Some proxy
   pub named : naming_of found ≡ Some names
+  pub proxied : proxy_of found ≡ Ok proxy
 
 -- the lists of an option and of its opposite
 abbrev pub Both : Type 0

@@ -6,11 +6,7 @@ use Rattle.options.proofs.ReadLemmas.{bad-level, bad-filters, bad-start, good-or
 use Rattle.options.proofs.read.order_of_matches.Goals as goal
 
 pub returns-in-Err : goal.returns-in-Err
-returns-in-Err c =
-    ⊎_elim
-    (λ bad. inl (bad.1 ∙ ap Err (sym bad.0)))
-    (λ memory. inr memory)
-    c.in-Err.ensures
+returns-in-Err c = c.in-Err.ensures
 
 pub returns-in_default : goal.returns-in_default
 returns-in_default c =

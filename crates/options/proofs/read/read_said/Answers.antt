@@ -2,7 +2,7 @@
 use Rattle.std.proofs.Common.{◌∙◌, ap, drop, inl, inr, map, subst, sym, ⊎_elim}
 use Rattle.std.specs.Prelude.{Err, Ok}
 use Rattle.std.proofs.lemmas.List.{drop-map}
-use Rattle.options.specs.Order.{AnswersOrder, ordered_by, with_others}
+use Rattle.options.specs.Order.{AnswersOrder, guarded, ordered_by, with_others}
 use Rattle.options.specs.Written.{others_in}
 use Rattle.options.specs.inner.Said.{saying_in}
 use Rattle.options.proofs.SameLemmas.{order_read, order_unread}
@@ -20,7 +20,7 @@ pub returns-in-Err : goal.returns-in-Err
 returns-in-Err c =
     let said = map saying_in c.args.said.now in
     ⊎_elim
-    (λ refused. inl (order_read said (sym c.in_default.ensures) ∙ ap (with_others (others_in said)) refused))
+    (λ refused. inl (order_read said (sym c.in_default.ensures) ∙ ap (λ order. guarded (with_others (others_in said) order)) refused))
     (λ memory. inr memory)
     c.in-Err.ensures
 
@@ -29,8 +29,8 @@ returns c =
     let said = map saying_in c.args.said.now in
     let starts = sym c.in-Ok-starts.ensures in
     subst
-    (AnswersOrder c.with_others-order.result)
-    (ap (λ texts. with_others texts (Ok (ordered_by c.in-Ok.order))) (ap (map (λ word. word.now)) (c.after_first.ensures ∙ ap (drop 1) c.as_slice.ensures.value) ∙ sym (drop-map (λ word. word.now) 1 c.in-Ok-starts.starts.items) ∙ ap (drop 1) c.in-Ok-starts.ensures)
-    ∙ ap (with_others (others_in said)) (sym c.in-Ok.ensures)
+    (AnswersOrder c.with_all-order.result)
+    (ap (λ texts. guarded (with_others texts (Ok (ordered_by c.in-Ok.order)))) (ap (map (λ word. word.now)) (c.after_first.ensures ∙ ap (drop 1) c.as_slice.ensures.value) ∙ sym (drop-map (λ word. word.now) 1 c.in-Ok-starts.starts.items) ∙ ap (drop 1) c.in-Ok-starts.ensures)
+    ∙ ap (λ order. guarded (with_others (others_in said) order)) (sym c.in-Ok.ensures)
     ∙ sym (order_read said (sym c.in_default.ensures)))
-    c.with_others-order.ensures
+    c.with_all-order.ensures

@@ -1,5 +1,6 @@
 -- The first value that can't be is named.
-use Rattle.std.proofs.Common.{◌∙◌, inl, inr, refl, ⊎_elim, sym, ap}
+use Rattle.std.proofs.Common.{◌∙◌, inl, inr, ⊎_elim, sym, ap}
+use Rattle.std.specs.Prelude.{Err}
 use Rattle.clap.specs.Words.{found_of, rows_of}
 use Rattle.options.specs.Asked.{without_kind}
 use Rattle.options.specs.Order.{proxy_by}
@@ -7,34 +8,34 @@ use Rattle.options.proofs.ReadLemmas.{bad-words, bad-counts, bad-proxy, bad-name
 use Rattle.options.proofs.read.read_settings.Goals as goal
 
 pub returns-in-Some : goal.returns-in-Some
-returns-in-Some c = inl (ap without_kind c.in-Some.ensures.refused, bad-words (rows_of (found_of c.args.matches.now)) (sym c.in-Some.ensures.good))
+returns-in-Some c =
+    inl (bad-words (rows_of (found_of c.args.matches.now)) (sym c.in-Some.ensures.good) ∙ ap Err (sym (ap without_kind c.in-Some.ensures.refused)))
 
 pub returns-in_default-read_counts : goal.returns-in_default-read_counts
 returns-in_default-read_counts c =
-    inl (refl, bad-counts (rows_of (found_of c.args.matches.now)) (sym c.in_default.ensures.good) c.in_default-read_counts.ensures)
+    inl (bad-counts (rows_of (found_of c.args.matches.now)) (sym c.in_default.ensures.good) c.in_default-read_counts.ensures)
 
 pub returns-in-Err : goal.returns-in-Err
 returns-in-Err c =
     let found = rows_of (found_of c.args.matches.now) in
     ⊎_elim
-    (λ bad. inl (ap without_kind bad.0, bad-proxy found _ (sym c.in_default.ensures.good) c.in-Some-read_counts.ensures (ap proxy_by (sym c.proxy_value.ensures) ∙ bad.1)))
+    (λ bad. inl (bad-names found _ (sym c.in_default.ensures.good) c.in-Some-read_counts.ensures bad.1 ∙ ap Err (sym (ap without_kind bad.0))))
     (λ memory. inr memory)
     c.in-Err.ensures
 
-pub returns-in-Err-names : goal.returns-in-Err-names
-returns-in-Err-names c =
+pub returns-in-Err-proxy_by : goal.returns-in-Err-proxy_by
+returns-in-Err-proxy_by c =
     let found = rows_of (found_of c.args.matches.now) in
-    let proxy = ap proxy_by (sym c.proxy_value.ensures) ∙ c.in-Ok.ensures in
     ⊎_elim
-    (λ bad. inl (ap without_kind bad.0, bad-names found _ _ (sym c.in_default.ensures.good) c.in-Some-read_counts.ensures proxy bad.1))
+    (λ bad. inl (bad-proxy found _ _ _ (sym c.in_default.ensures.good) c.in-Some-read_counts.ensures c.in-Ok.ensures (ap proxy_by (sym c.proxy_value.ensures) ∙ bad) ∙ ap Err (sym c.in-Err-proxy_by.ensures.kept)))
     (λ memory. inr memory)
-    c.in-Err-names.ensures
+    c.in-Err-proxy_by.ensures.answers
 
 pub returns : goal.returns
 returns c =
     record {
       words = sym c.in_default.ensures.good;
       counted = c.in-Some-read_counts.ensures;
-      proxied = ap proxy_by (sym c.proxy_value.ensures) ∙ c.in-Ok.ensures;
-      named = c.in-Ok-names.ensures;
+      named = c.in-Ok.ensures;
+      proxied = ap proxy_by (sym c.proxy_value.ensures) ∙ c.in-Ok-proxy_by.ensures.answers;
     }
