@@ -1,11 +1,17 @@
 -- The limits of an order, its usual numbers and the forms of the options are the documented ones.
-use Rattle.std.proofs.Common.{◌≡◌, ◌∷◌, [], Option, Some, None, codes, map, refl}
+use Rattle.std.proofs.Common.{◌≡◌, ◌∷◌, [], Bool, true, Option, Some, None, bytes_eq, codes, map, refl}
+use Rattle.std.specs.List.{list_all}
+use Rattle.std.specs.Option.{option_eq}
 use Rattle.clap.specs.Walk.{Text}
 use Rattle.clap.specs.declared.error.ErrorKind.TheVariants.{DisplayHelp, DisplayVersion}
 use Rattle.options.specs.Advice.{Help, Version, told_of_kind}
 use Rattle.options.specs.Help.{value_name}
-use Rattle.options.specs.Table.{table}
+use Rattle.options.specs.Meant.{is_one_of, meant}
+use Rattle.options.specs.Said.{heard, long_meaning, sayings, value_meaning}
+use Rattle.options.specs.Table.{instead, own, table, wget}
+use Rattle.options.specs.Written.{first_unread}
 use Rattle.options.specs.declared.order.TheConstants.{DEFAULT_MAX_URLS, DEFAULT_PER_HOST, DEFAULT_WORKERS, MAX_WORKERS}
+use Rattle.options.specs.declared.table.Instead.{Instead}
 use Rattle.options.specs.declared.table.Row.{Row}
 
 -- workers
@@ -42,6 +48,22 @@ forms : map forms_of table ≡ (codes "r", codes "recursive", None) ∷ (codes "
     ∷ ([], codes "no-strict-comments", None) ∷ ([], codes "no-follow-ftp", None) ∷ ([], codes "progress", Some (codes "TYPE")) ∷ ([], codes "compression", Some (codes "none")) ∷ []
 unfolding table
 forms = refl
+
+-- ---- what is done in place of Wget's options
+
+-- the form is a word that isn't read
+abbrev is_unread : Instead Text → Bool
+is_unread row = option_eq bytes_eq (first_unread (sayings (row.form ∷ []))) (Some row.form)
+
+-- nothing is done in place of an option that is taken
+none_is_taken : list_all is_unread instead ≡ true
+unfolding instead sayings heard long_meaning value_meaning meant table wget own
+none_is_taken = refl
+
+-- and each is one of Wget's
+each_is_wgets : list_all (λ row. is_one_of wget row.form) instead ≡ true
+unfolding instead wget
+each_is_wgets = refl
 
 -- ---- help and version are answered by what they ask for
 

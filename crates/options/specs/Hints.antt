@@ -12,12 +12,13 @@ use Rattle.address.specs.declared.fault.AddressFault.{AddressFault}
 use Rattle.address.specs.declared.fault.AddressFault.TheVariants as refused
 use Rattle.options.specs.declared.fault.LineFault.{LineFault}
 use Rattle.options.specs.declared.fault.LineFault.TheVariants as line
+use Rattle.options.specs.declared.table.Instead.{Instead}
 use Rattle.options.specs.declared.table.Row.{Row}
 use Rattle.options.specs.declared.said.Meaning.{Meaning}
 use Rattle.options.specs.declared.said.Meaning.TheVariants as meaning
 use Rattle.options.specs.Meant.{fronts, long_name, meant}
 use Rattle.options.specs.Said.{named, sayings}
-use Rattle.options.specs.Table.{table, wget}
+use Rattle.options.specs.Table.{instead, table, wget}
 use Rattle.options.specs.Start.{with_scheme}
 use Rattle.options.specs.Written.{first_unread, starts_in}
 
@@ -94,9 +95,19 @@ abbrev pub long_hint : Text → Option Text → Text
 long_hint form None = []
 long_hint form (Some name) = if length name == 0 then [] else front_hint form name
 
--- of a form of Wget's
-abbrev pub foreign_text : Text → Text
-foreign_text form = codes ": " ++ form ++ codes " (an option of Wget that wgetr doesn't have)"
+-- what to do in place of the first of these options that has the form
+abbrev pub advice_in : Text → List (Instead Text) → Option Text
+advice_in form [] = None
+advice_in form (row ∷ rows) = if is_form_of form row.form then Some row.advice else advice_in form rows
+
+-- of a form of Wget's, with what to do instead, if there is something
+abbrev pub foreign_with : Text → Option Text → Text
+foreign_with form None = codes ": " ++ form ++ codes " (an option of Wget that wgetr doesn't have)"
+foreign_with form (Some advice) = codes ": " ++ form ++ codes " (an option of Wget that wgetr doesn't have: " ++ advice ++ codes ")"
+
+-- of a form that stands for this one of Wget's
+unfoldable pub foreign_text : Text → Text → Text
+foreign_text form whole = foreign_with form (advice_in whole instead)
 
 -- the form is the long form of an option, or of its opposite
 unfoldable pub is_own : Text → Bool
@@ -105,7 +116,7 @@ is_own form = option_map_or (λ name. is_known (named name None table)) (long_na
 -- of a form: nothing where an option has it
 unfoldable pub form_hint : Text → Text
 form_hint form =
-    if is_own (meant form) then [] else (if list_any (is_form_of (meant form)) wget then foreign_text form else long_hint form (long_name form))
+    if is_own (meant form) then [] else (if list_any (is_form_of (meant form)) wget then foreign_text form (meant form) else long_hint form (long_name form))
 
 -- of the first word that isn't read
 abbrev pub unread_hint : Option Text → Text

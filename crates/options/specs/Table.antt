@@ -1,11 +1,13 @@
--- The table of options, the forms of Wget's and of this program's own, and the commands of wgetrc, with their texts as lists.
+-- The table of options, the forms of Wget's and of this program's own, what to do in place of Wget's, and the commands of wgetrc, with their texts
+-- as lists.
 use Rattle.std.specs.Prelude.{List, map}
 use Rattle.clap.specs.Walk.{Text}
 use Rattle.options.specs.declared.table.Command.{Command}
+use Rattle.options.specs.declared.table.Instead.{Instead}
 use Rattle.options.specs.declared.table.Kind.{Kind}
 use Rattle.options.specs.declared.table.Kind.TheVariants as kind
 use Rattle.options.specs.declared.table.Row.{Row}
-use Rattle.options.specs.declared.table.TheConstants.{COMMANDS, OWN, TABLE, WGET}
+use Rattle.options.specs.declared.table.TheConstants.{COMMANDS, INSTEAD, OWN, TABLE, WGET}
 
 -- what stands behind an option, its texts read so
 abbrev pub kind_by : {T : Type 0} → (T → Text) → Kind T → Kind Text
@@ -29,6 +31,14 @@ table = map (row_by (λ text. text.now)) TABLE
 -- the forms of Wget's options
 unfoldable pub wget : List Text
 wget = map (λ form. form.now) WGET
+
+-- what to do in place of an option, its texts read so
+abbrev pub instead_by : {T : Type 0} → (T → Text) → Instead T → Instead Text
+instead_by read row = record { form = read row.form; advice = read row.advice }
+
+-- what to do in place of Wget's options
+unfoldable pub instead : List (Instead Text)
+instead = map (instead_by (λ text. text.now)) INSTEAD
 
 -- the long forms of options that Wget doesn't have
 unfoldable pub own : List Text

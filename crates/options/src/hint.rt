@@ -1,16 +1,16 @@
 //! What was likely meant by words that are refused.
 ghost use Rattle.std.specs.Prelude.{◌≡◌, ◌≢◌, ◌++◌, Err, codes, IfOk, OnOk, length, map, option_map, string_bytes};
 ghost use Rattle.std.specs.List.{find, list_any};
-ghost use Rattle.options.specs.Hints.{address_text, first_near, foreign_text, form_hint, form_of, forms_text, front_hint, has_scheme, hint_on, is_form_of, is_no_start, is_known, is_near, is_own, kind_hint, long_hint, name_hint, near_text, nearest, scheme_hint, several_text, start_hint, unread_hint, words_hint};
+ghost use Rattle.options.specs.Hints.{address_text, advice_in, first_near, foreign_text, foreign_with, form_hint, form_of, forms_text, front_hint, has_scheme, hint_on, is_form_of, is_no_start, is_known, is_near, is_own, kind_hint, long_hint, name_hint, near_text, nearest, scheme_hint, several_text, start_hint, unread_hint, words_hint};
 ghost use Rattle.options.specs.inner.Said.{meaning_in};
-ghost use Rattle.options.specs.inner.Table.{row_in};
+ghost use Rattle.options.specs.inner.Table.{instead_in, row_in};
 ghost use Rattle.address.specs.declared.fault.AddressFault.TheVariants as address_fault;
 
 use crate::fault::LineFault;
 use crate::meant::{fronts, long_name, meant};
 use crate::said::{Meaning, named, sayings};
 use crate::start::with_scheme;
-use crate::table::{Row, option_rows, wget_forms};
+use crate::table::{Instead, Row, insteads, option_rows, wget_forms};
 use crate::written::{first_unread, starts};
 use address::{Address, AddressFault};
 use clap::error::ErrorKind;
@@ -171,11 +171,47 @@ fn long_hint(alloc: Global, form: &str, name: Option<&str>) -> Result<String, Al
     }
 }
 
-// What is said of a form of Wget's.
-fn foreign_text(alloc: Global, form: &str) -> Result<String, AllocError>
-    ensures { IfOk result (λ text. string_bytes text ≡ foreign_text form.now) }
+// What to do in place of the first of these options that has the form.
+fn advice_in(form: &str, rows: &[Instead<&'static str>]) -> Option<&'static str>
+    ensures { option_map (λ advice. advice.now) result ≡ advice_in form.now (map instead_in rows.now) }
+{
+    for row in rows {
+        if is_form_of(form, row.form) {
+            return Some(row.advice);
+        }
+    }
+    None
+}
+
+// What is said of a form of Wget's for which there is something.
+fn advised_text(alloc: Global, form: &str, advice: &str) -> Result<String, AllocError>
+    ensures { IfOk result (λ text. string_bytes text ≡ codes ": " ++ form.now ++ codes " (an option of Wget that wgetr doesn't have: " ++ advice.now ++ codes ")") }
+{
+    format!(in alloc; ": {form} (an option of Wget that wgetr doesn't have: {advice})")
+}
+
+// What is said of a form of Wget's for which there is nothing.
+fn bare_text(alloc: Global, form: &str) -> Result<String, AllocError>
+    ensures { IfOk result (λ text. string_bytes text ≡ codes ": " ++ form.now ++ codes " (an option of Wget that wgetr doesn't have)") }
 {
     format!(in alloc; ": {form} (an option of Wget that wgetr doesn't have)")
+}
+
+// What is said of a form of Wget's, with what to do instead, if there is something.
+fn foreign_with(alloc: Global, form: &str, advice: Option<&str>) -> Result<String, AllocError>
+    ensures { IfOk result (λ text. string_bytes text ≡ foreign_with form.now (option_map (λ a. a.now) advice.entry)) }
+{
+    match advice {
+        Some(advice) => advised_text(alloc, form, advice),
+        None => bare_text(alloc, form),
+    }
+}
+
+// What is said of a form that stands for this one of Wget's.
+fn foreign_text(alloc: Global, form: &str, whole: &str) -> Result<String, AllocError>
+    ensures { IfOk result (λ text. string_bytes text ≡ foreign_text form.now whole.now) }
+{
+    foreign_with(alloc, form, advice_in(whole, insteads()))
 }
 
 // Whether this is the long form of an option, or of its opposite.
@@ -197,7 +233,7 @@ fn form_hint(alloc: Global, form: &str) -> Result<String, AllocError>
         return Ok(String::new(alloc));
     }
     if is_foreign(whole, wget_forms()) {
-        return foreign_text(alloc, form);
+        return foreign_text(alloc, form, whole);
     }
     long_hint(alloc, form, long_name(form))
 }

@@ -2,8 +2,8 @@
 //! of it; and the forms of Wget's options, among which fronts are read, and the commands of wgetrc (GNU Wget manual, chapters
 //! Invoking and Startup File).
 ghost use Rattle.std.specs.Prelude.{◌≡◌, map};
-ghost use Rattle.options.specs.Table.{commands, own, table, wget};
-ghost use Rattle.options.specs.inner.Table.{command_in, row_in};
+ghost use Rattle.options.specs.Table.{commands, instead, own, table, wget};
+ghost use Rattle.options.specs.inner.Table.{command_in, instead_in, row_in};
 
 use crate::order::{DEFAULT_MAX_URLS, DEFAULT_PER_HOST, DEFAULT_WORKERS, MAX_WORKERS};
 use follow_filters::{MAX_PER_HOST, MAX_URLS};
@@ -692,6 +692,363 @@ pub(crate) fn wget_forms() -> &'static [&'static str]
     ensures { map (λ form. form.now) result.now ≡ wget }
 {
     WGETS
+}
+
+/// What to do in place of an option of Wget that isn't here. The type of its texts is a parameter, as that of a row's.
+pub(crate) struct Instead<T> {
+    /// The option's form, one of those above.
+    pub form: T,
+    /// What to do, for a person.
+    pub advice: T,
+}
+
+/// What to do in place of Wget's options, if there is something. None of these forms is read.
+const INSTEAD: [Instead<&str>; 84] = [
+    Instead {
+        form: "--background",
+        advice: "& of the shell, or nohup",
+    },
+    Instead {
+        form: "-b",
+        advice: "& of the shell, or nohup",
+    },
+    Instead {
+        form: "--debug",
+        advice: "--trace has each step",
+    },
+    Instead {
+        form: "-d",
+        advice: "--trace has each step",
+    },
+    Instead {
+        form: "--verbose",
+        advice: "--trace has each step",
+    },
+    Instead {
+        form: "-v",
+        advice: "--trace has each step",
+    },
+    Instead {
+        form: "--input-file",
+        advice: "xargs wgetr gives the addresses of a file as STARTs",
+    },
+    Instead {
+        form: "-i",
+        advice: "xargs wgetr gives the addresses of a file as STARTs",
+    },
+    Instead {
+        form: "--config",
+        advice: "-e has the commands of wgetrc",
+    },
+    Instead {
+        form: "--tries",
+        advice: "nothing is requested again, but tools/drop-faults and --resume do so",
+    },
+    Instead {
+        form: "-t",
+        advice: "nothing is requested again, but tools/drop-faults and --resume do so",
+    },
+    Instead {
+        form: "--retry-connrefused",
+        advice: "nothing is requested again, but tools/drop-faults and --resume do so",
+    },
+    Instead {
+        form: "--retry-on-host-error",
+        advice: "nothing is requested again, but tools/drop-faults and --resume do so",
+    },
+    Instead {
+        form: "--retry-on-http-error",
+        advice: "nothing is requested again, but tools/drop-faults and --resume do so",
+    },
+    Instead {
+        form: "--waitretry",
+        advice: "nothing is requested again, but tools/drop-faults and --resume do so",
+    },
+    Instead {
+        form: "--output-document",
+        advice: "-P DIR says where files are put",
+    },
+    Instead {
+        form: "-O",
+        advice: "-P DIR says where files are put",
+    },
+    Instead {
+        form: "--no-clobber",
+        advice: "--save FILE, and --resume FILE in later runs, requests what lacks",
+    },
+    Instead {
+        form: "-nc",
+        advice: "--save FILE, and --resume FILE in later runs, requests what lacks",
+    },
+    Instead {
+        form: "--continue",
+        advice: "--save FILE, and --resume FILE in later runs, requests what lacks",
+    },
+    Instead {
+        form: "-c",
+        advice: "--save FILE, and --resume FILE in later runs, requests what lacks",
+    },
+    Instead {
+        form: "--timestamping",
+        advice: "--save FILE, and --resume FILE in later runs, requests what lacks",
+    },
+    Instead {
+        form: "-N",
+        advice: "--save FILE, and --resume FILE in later runs, requests what lacks",
+    },
+    Instead {
+        form: "--no-use-server-timestamps",
+        advice: "it is so already",
+    },
+    Instead {
+        form: "--no-if-modified-since",
+        advice: "it is so already",
+    },
+    Instead {
+        form: "--server-response",
+        advice: "--save FILE has the fields of each response",
+    },
+    Instead {
+        form: "-S",
+        advice: "--save FILE has the fields of each response",
+    },
+    Instead {
+        form: "--save-headers",
+        advice: "--save FILE has the fields of each response",
+    },
+    Instead {
+        form: "--spider",
+        advice: "the report has the status of each address",
+    },
+    Instead {
+        form: "--delete-after",
+        advice: "-P DIR, and remove DIR afterwards",
+    },
+    Instead {
+        form: "--wait",
+        advice: "--workers 1 makes one request at a time",
+    },
+    Instead {
+        form: "-w",
+        advice: "--workers 1 makes one request at a time",
+    },
+    Instead {
+        form: "--random-wait",
+        advice: "--workers 1 makes one request at a time",
+    },
+    Instead {
+        form: "--limit-rate",
+        advice: "--workers 1 makes one request at a time",
+    },
+    Instead {
+        form: "--max-redirect",
+        advice: "redirects are followed without limit, if filters let them",
+    },
+    Instead {
+        form: "--trust-server-names",
+        advice: "it is so already: files are named by where redirects lead",
+    },
+    Instead {
+        form: "--post-data",
+        advice: "only GET is sent",
+    },
+    Instead {
+        form: "--post-file",
+        advice: "only GET is sent",
+    },
+    Instead {
+        form: "--method",
+        advice: "only GET is sent",
+    },
+    Instead {
+        form: "--body-data",
+        advice: "only GET is sent",
+    },
+    Instead {
+        form: "--body-file",
+        advice: "only GET is sent",
+    },
+    Instead {
+        form: "--no-check-certificate",
+        advice: "the proxy of --https-proxy speaks TLS, docs/HTTPS.md",
+    },
+    Instead {
+        form: "--check-certificate",
+        advice: "the proxy of --https-proxy speaks TLS, docs/HTTPS.md",
+    },
+    Instead {
+        form: "--ca-certificate",
+        advice: "the proxy of --https-proxy speaks TLS, docs/HTTPS.md",
+    },
+    Instead {
+        form: "--ca-directory",
+        advice: "the proxy of --https-proxy speaks TLS, docs/HTTPS.md",
+    },
+    Instead {
+        form: "--certificate",
+        advice: "the proxy of --https-proxy speaks TLS, docs/HTTPS.md",
+    },
+    Instead {
+        form: "--certificate-type",
+        advice: "the proxy of --https-proxy speaks TLS, docs/HTTPS.md",
+    },
+    Instead {
+        form: "--private-key",
+        advice: "the proxy of --https-proxy speaks TLS, docs/HTTPS.md",
+    },
+    Instead {
+        form: "--private-key-type",
+        advice: "the proxy of --https-proxy speaks TLS, docs/HTTPS.md",
+    },
+    Instead {
+        form: "--crl-file",
+        advice: "the proxy of --https-proxy speaks TLS, docs/HTTPS.md",
+    },
+    Instead {
+        form: "--pinnedpubkey",
+        advice: "the proxy of --https-proxy speaks TLS, docs/HTTPS.md",
+    },
+    Instead {
+        form: "--ciphers",
+        advice: "the proxy of --https-proxy speaks TLS, docs/HTTPS.md",
+    },
+    Instead {
+        form: "--secure-protocol",
+        advice: "the proxy of --https-proxy speaks TLS, docs/HTTPS.md",
+    },
+    Instead {
+        form: "--https-only",
+        advice: "with an https START each request is https, docs/HTTPS.md",
+    },
+    Instead {
+        form: "--follow-ftp",
+        advice: "FTP isn't spoken",
+    },
+    Instead {
+        form: "--ftp-user",
+        advice: "FTP isn't spoken",
+    },
+    Instead {
+        form: "--ftp-password",
+        advice: "FTP isn't spoken",
+    },
+    Instead {
+        form: "--glob",
+        advice: "FTP isn't spoken",
+    },
+    Instead {
+        form: "--no-glob",
+        advice: "FTP isn't spoken",
+    },
+    Instead {
+        form: "--passive-ftp",
+        advice: "FTP isn't spoken",
+    },
+    Instead {
+        form: "--no-passive-ftp",
+        advice: "FTP isn't spoken",
+    },
+    Instead {
+        form: "--preserve-permissions",
+        advice: "FTP isn't spoken",
+    },
+    Instead {
+        form: "--retr-symlinks",
+        advice: "FTP isn't spoken",
+    },
+    Instead {
+        form: "--ftps-implicit",
+        advice: "FTP isn't spoken",
+    },
+    Instead {
+        form: "--ftps-resume-ssl",
+        advice: "FTP isn't spoken",
+    },
+    Instead {
+        form: "--ftps-clear-data-connection",
+        advice: "FTP isn't spoken",
+    },
+    Instead {
+        form: "--ftps-fallback-to-ftp",
+        advice: "FTP isn't spoken",
+    },
+    Instead {
+        form: "--warc-file",
+        advice: "--save FILE writes what is received, docs/RECORDS.md",
+    },
+    Instead {
+        form: "--warc-header",
+        advice: "--save FILE writes what is received, docs/RECORDS.md",
+    },
+    Instead {
+        form: "--warc-max-size",
+        advice: "--save FILE writes what is received, docs/RECORDS.md",
+    },
+    Instead {
+        form: "--warc-cdx",
+        advice: "--save FILE writes what is received, docs/RECORDS.md",
+    },
+    Instead {
+        form: "--warc-dedup",
+        advice: "--save FILE writes what is received, docs/RECORDS.md",
+    },
+    Instead {
+        form: "--no-warc-compression",
+        advice: "--save FILE writes what is received, docs/RECORDS.md",
+    },
+    Instead {
+        form: "--no-warc-digests",
+        advice: "--save FILE writes what is received, docs/RECORDS.md",
+    },
+    Instead {
+        form: "--no-warc-keep-log",
+        advice: "--save FILE writes what is received, docs/RECORDS.md",
+    },
+    Instead {
+        form: "--warc-tempdir",
+        advice: "--save FILE writes what is received, docs/RECORDS.md",
+    },
+    Instead {
+        form: "--convert-links",
+        advice: "links stay as they are; a web server over the folder finds them",
+    },
+    Instead {
+        form: "-k",
+        advice: "links stay as they are; a web server over the folder finds them",
+    },
+    Instead {
+        form: "--mirror",
+        advice: "-r -l inf, and --save FILE and --resume FILE for -N",
+    },
+    Instead {
+        form: "-m",
+        advice: "-r -l inf, and --save FILE and --resume FILE for -N",
+    },
+    Instead {
+        form: "--accept-regex",
+        advice: "-A and -I have wildcards",
+    },
+    Instead {
+        form: "--reject-regex",
+        advice: "-R and -X have wildcards",
+    },
+    Instead {
+        form: "--relative",
+        advice: "without -H links stay on their host",
+    },
+    Instead {
+        form: "-L",
+        advice: "without -H links stay on their host",
+    },
+];
+
+const INSTEADS: &[Instead<&str>] = &INSTEAD;
+
+/// What to do in place of Wget's options.
+pub(crate) fn insteads() -> &'static [Instead<&'static str>]
+    ensures { map instead_in result.now ≡ instead }
+{
+    INSTEADS
 }
 
 /// The long forms of options that Wget doesn't have, and of their opposites.

@@ -2,7 +2,7 @@
 use Rattle.std.proofs.Common.{◌≡◌, ◌∙◌, Bool, Bor, List, ℕ, ap, map, sym}
 use Rattle.std.specs.List.{list_any}
 use Rattle.std.proofs.lemmas.Result.{IfOk-weaker}
-use Rattle.options.specs.Hints.{is_form_of, is_own, long_hint}
+use Rattle.options.specs.Hints.{foreign_text, is_form_of, is_own, long_hint}
 use Rattle.options.specs.Meant.{meant}
 use Rattle.options.specs.Table.{wget}
 use Rattle.options.proofs.HintLemmas.{any-map, form_hint-foreign, form_hint-long, form_hint-own}
@@ -20,7 +20,7 @@ pub returns-then-is_foreign : goal.returns-then-is_foreign
 returns-then-is_foreign c =
     let other = sym (c.is_own.ensures ∙ ap is_own c.meant-whole.ensures) ∙ c.if-is_own.false in
     let foreign = sym (foreign_in _ c.args.form.now _ _ c.is_foreign.ensures c.meant-whole.ensures c.wget_forms.ensures) ∙ c.if-is_foreign.true in
-    IfOk-weaker c.foreign_text.result _ _ (λ text says. says ∙ sym (form_hint-foreign c.args.form.now other foreign)) c.foreign_text.ensures
+    IfOk-weaker c.foreign_text.result _ _ (λ text says. says ∙ ap (foreign_text c.args.form.now) c.meant-whole.ensures ∙ sym (form_hint-foreign c.args.form.now other foreign)) c.foreign_text.ensures
 
 pub returns : goal.returns
 returns c =
