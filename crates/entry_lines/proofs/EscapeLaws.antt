@@ -3,11 +3,11 @@ use Rattle.std.proofs.Common.{◌≡◌, ◌≢◌, inl, inr, ℕ, List, [], ◌
 use Rattle.std.proofs.lemmas.Bool.{cases_eq}
 use Rattle.std.proofs.lemmas.Bool.Decides.{nat_tests}
 use Rattle.entry_lines.specs.Lines.{ArePlain}
-use Rattle.entry_lines.specs.Escapes.{written, escaped, read_back}
+use Rattle.entry_lines.specs.Escapes.{written, escaped, read_back, HasNoSpace}
 use Rattle.entry_lines.proofs.LineLaws.{are_plain-append}
 
-written_other : (x : ℕ) → x ≢ 0 → x ≢ 10 → x ≢ 92 → written x ≡ x ∷ []
-written_other x a b d = grind (arith, nat_tests)
+written_other : (x : ℕ) → x ≢ 0 → x ≢ 10 → x ≢ 92 → x ≢ 32 → written x ≡ x ∷ []
+written_other x a b d s = grind (arith, nat_tests)
 
 read_other : (x : ℕ) (xs : List ℕ) → x ≢ 92 → read_back (x ∷ xs) ≡ x ∷ read_back xs
 read_other x [] d = refl
@@ -20,7 +20,10 @@ plain_written x = elim (cases_eq x 0) [
     | inl is ↦ subst (λ (b : ℕ). ArePlain (written b)) (sym is) (omega arith, omega arith, (omega arith, omega arith, tt))
     | inr b ↦ elim (cases_eq x 92) [
       | inl is ↦ subst (λ (b : ℕ). ArePlain (written b)) (sym is) (omega arith, omega arith, (omega arith, omega arith, tt))
-      | inr d ↦ subst ArePlain (sym (written_other x a b d)) (a, b, tt)
+      | inr d ↦ elim (cases_eq x 32) [
+        | inl is ↦ subst (λ (b : ℕ). ArePlain (written b)) (sym is) (omega arith, omega arith, (omega arith, omega arith, tt))
+        | inr s ↦ subst ArePlain (sym (written_other x a b d s)) (a, b, tt)
+      ]
     ]
   ]
 ]
@@ -36,7 +39,10 @@ read_written x xs = elim (cases_eq x 0) [
     | inl is ↦ subst (λ (b : ℕ). read_back (written b ++ xs) ≡ b ∷ read_back xs) (sym is) refl
     | inr b ↦ elim (cases_eq x 92) [
       | inl is ↦ subst (λ (b : ℕ). read_back (written b ++ xs) ≡ b ∷ read_back xs) (sym is) refl
-      | inr d ↦ ap (λ (l : List ℕ). read_back (l ++ xs)) (written_other x a b d) ∙ read_other x xs d
+      | inr d ↦ elim (cases_eq x 32) [
+        | inl is ↦ subst (λ (b : ℕ). read_back (written b ++ xs) ≡ b ∷ read_back xs) (sym is) refl
+        | inr s ↦ ap (λ (l : List ℕ). read_back (l ++ xs)) (written_other x a b d s) ∙ read_other x xs d
+      ]
     ]
   ]
 ]
@@ -44,3 +50,27 @@ read_written x xs = elim (cases_eq x 0) [
 pub read_escaped : (xs : List ℕ) → read_back (escaped xs) ≡ xs
 read_escaped [] = refl
 read_escaped (x ∷ xs) = read_written x (escaped xs) ∙ ap (λ (l : List ℕ). x ∷ l) (read_escaped xs)
+
+-- nor has it a space
+pub no_space-append : (xs ys : List ℕ) → HasNoSpace xs → HasNoSpace ys → HasNoSpace (xs ++ ys)
+no_space-append [] ys a b = b
+no_space-append (x ∷ xs) ys a b = (a.0, no_space-append xs ys a.1 b)
+
+no_space_written : (x : ℕ) → HasNoSpace (written x)
+no_space_written x = elim (cases_eq x 0) [
+  | inl is ↦ subst (λ (b : ℕ). HasNoSpace (written b)) (sym is) (omega arith, (omega arith, tt))
+  | inr a ↦ elim (cases_eq x 10) [
+    | inl is ↦ subst (λ (b : ℕ). HasNoSpace (written b)) (sym is) (omega arith, (omega arith, tt))
+    | inr b ↦ elim (cases_eq x 92) [
+      | inl is ↦ subst (λ (b : ℕ). HasNoSpace (written b)) (sym is) (omega arith, (omega arith, tt))
+      | inr d ↦ elim (cases_eq x 32) [
+        | inl is ↦ subst (λ (b : ℕ). HasNoSpace (written b)) (sym is) (omega arith, (omega arith, tt))
+        | inr s ↦ subst HasNoSpace (sym (written_other x a b d s)) (s, tt)
+      ]
+    ]
+  ]
+]
+
+pub no_space_escaped : (xs : List ℕ) → HasNoSpace (escaped xs)
+no_space_escaped [] = tt
+no_space_escaped (x ∷ xs) = no_space-append (written x) (escaped xs) (no_space_written x) (no_space_escaped xs)

@@ -1,3 +1,4 @@
 pub mod EscapeLaws
+pub mod FieldLaws
 pub mod LineLaws
 pub mod WholeLaws

@@ -1,14 +1,15 @@
 //! Any bytes as an entry.
 ghost use Rattle.std.specs.Prelude.{◌≡◌, List, ℕ, IfOk};
-ghost use Rattle.entry_lines.specs.Escapes.{escaped, read_back, meant as meant_by};
+ghost use Rattle.entry_lines.specs.Escapes.{escaped, read_back, meant as meant_by, HasNoSpace};
 ghost use Rattle.entry_lines.specs.Lines.{ArePlain};
 
 use std::alloc::{AllocError, Global};
 
-/// Bytes without a zero and a line feed that stand for these.
+/// Bytes without a zero, a line feed and a space that stand for these.
 pub fn escape(alloc: Global, bytes: &[u8]) -> Result<Vec<u8>, AllocError>
     ensures escaped { IfOk result (λ v. v.items ≡ escaped bytes.now) }
     ensures plain { IfOk result (λ v. ArePlain v.items) }
+    ensures no_space { IfOk result (λ v. HasNoSpace v.items) }
 {
     let mut out = Vec::new(alloc);
     let mut rest = bytes;
@@ -17,6 +18,7 @@ pub fn escape(alloc: Global, bytes: &[u8]) -> Result<Vec<u8>, AllocError>
             0 => out.extend_from_slice(b"\\0")?,
             b'\n' => out.extend_from_slice(b"\\n")?,
             b'\\' => out.extend_from_slice(b"\\\\")?,
+            b' ' => out.extend_from_slice(b"\\s")?,
             other => out.push(other)?,
         }
         rest = after;
@@ -53,6 +55,7 @@ fn meant(c: u8) -> u8
     match c {
         b'0' => 0,
         b'n' => b'\n',
+        b's' => b' ',
         other => other,
     }
 }

@@ -2,7 +2,9 @@
 #![tactic(auto)]
 
 mod escapes;
+mod fields;
 mod lines;
 
 pub use escapes::{escape, unescape};
+pub use fields::push_field;
 pub use lines::{is_plain, line_of, whole_len};

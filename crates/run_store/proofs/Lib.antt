@@ -1,2 +1,5 @@
+pub mod BodyLaws
 pub mod Fronts
+pub mod LifeLaws
+pub mod RunLaws
 pub mod SharedLaws

@@ -1,10 +1,13 @@
 //! An index that is open.
-ghost use Rattle.std.specs.Prelude.{◌≡◌, ◌⊎◌, ◌++◌, [], ◌∷◌, List, ℕ, true, false, OnOk, OnErr, string_bytes};
+ghost use Rattle.std.specs.Prelude.{◌≡◌, ◌≢◌, ◌⊎◌, ◌++◌, [], ◌∷◌, List, ℕ, Option, true, false, IfOk, IfErr, OnOk, OnErr, string_bytes};
 ghost use Rattle.disk_folder.specs.Disks.{LeavesOnly};
 ghost use Rattle.entry_lines.specs.Lines.{ArePlain, recovered};
 ghost use Rattle.run_store.specs.Indexes.{IsIndex, LeavesFront};
 ghost use Rattle.run_store.specs.Recoveries.{IsReady};
+ghost use Rattle.run_store.specs.Lives.{Run, read_of, MayHold, IsOpened, Passing, Lived};
+ghost use Rattle.run_store.specs.Runs.{Answers, appends, syncs};
 
+use crate::recovery::recover;
 use disk_folder::{Disk, DiskError};
 use entry_lines::line_of;
 use std::alloc::Global;
@@ -28,6 +31,30 @@ impl<D: Disk> Index<D> {
             disk,
             name,
             is_open: true,
+        }
+    }
+
+    /// Opens the index of this name, or makes one if there is none, and gives the lines that it has. A crash in an earlier run may
+    /// have left it; the lines that are whole are taken, and no others. They are written under the other name first, in which nothing
+    /// else may stand. An error hands the disk back.
+    pub fn open(
+        mut disk: D,
+        alloc: Global,
+        name: String,
+        spare: &str,
+    ) -> Result<(Index<D>, Vec<u8>), (DiskError, D)>
+        requires { string_bytes name ≢ spare.now }
+        ensures opened { IfOk result (λ r. IsOpened D.opened D.seen D.named D.kept D.left D.moment D.since (string_bytes name) disk r.0) }
+        ensures stopped { IfErr result (λ e. Passing D.opened D.seen D.named D.kept D.left D.moment D.since (string_bytes name) disk e.1) }
+        ensures lines { IfOk result (λ r. (found : Option (List ℕ)) → D.seen disk (string_bytes name) found → recovered r.1.items ≡ read_of found) }
+        // Whatever runs there were, of any calls each, and at whatever moment each stopped: of each run the lines have a front of what
+        // it added, each entry once, with at least those that it had synced.
+        ensures lives { (runs : List Run) → Lived D.opened D.seen D.named D.kept D.left D.moment D.since (string_bytes name) runs disk
+            → (found : Option (List ℕ)) → D.seen disk (string_bytes name) found → IfOk result (λ r. MayHold runs (recovered r.1.items)) }
+    {
+        match recover(&mut disk, alloc, name.as_str(), spare) {
+            Ok(lines) => Ok((Index::new(disk, name), lines)),
+            Err(e) => Err((e, disk)),
         }
     }
 
@@ -55,6 +82,8 @@ impl<D: Disk> Index<D> {
         // A call that fails changes nothing, or nothing is added any more.
         ensures shut { OnErr result ((self.new ≡ self.old) ⊎ (self.new.is_open ≡ false)) }
         ensures name { self.new.name ≡ self.old.name }
+        // It is a step of any list of calls.
+        ensures step { Answers D.opened D.seen D.named D.kept D.moment D.since (λ ending. appends entry.now ending) result self.old self.new }
     {
         if !self.is_open {
             return Err(DiskError::Closed);
@@ -79,6 +108,8 @@ impl<D: Disk> Index<D> {
         // A call that fails changes nothing, or nothing is added any more.
         ensures shut { OnErr result ((self.new ≡ self.old) ⊎ (self.new.is_open ≡ false)) }
         ensures name { self.new.name ≡ self.old.name }
+        // It is a step of any list of calls.
+        ensures step { Answers D.opened D.seen D.named D.kept D.moment D.since (λ ending. syncs ending) result self.old self.new }
     {
         if !self.is_open {
             return Err(DiskError::Closed);

@@ -2,12 +2,14 @@
 //! what was added, with all that was synced, and no name has a body that isn't whole.
 #![tactic(auto)]
 
+mod answers;
 mod index;
 mod parts;
 mod recovery;
 mod shared;
 
+pub use answers::answer;
 pub use index::Index;
-pub use parts::{add, begin, finish, name};
+pub use parts::{add, begin, finish, name, remove};
 pub use recovery::recover;
 pub use shared::SharedIndex;

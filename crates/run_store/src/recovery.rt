@@ -19,10 +19,13 @@ pub fn recover<D: Disk>(
     requires { name.now ≢ spare.now }
     ensures lines { IfOk result (λ lines. (bytes : List ℕ) → D.seen disk.old name.now (Some bytes) → lines.items ≡ text (recovered bytes)) }
     ensures ready { IfOk result (λ lines. (bytes : List ℕ) → D.seen disk.old name.now (Some bytes) → IsReady D.opened D.seen D.named D.kept disk.new name.now (recovered bytes)) }
+    ensures lines_of_none { IfOk result (λ lines. D.seen disk.old name.now None → lines.items ≡ text (recovered [])) }
     ensures empty { IfOk result (λ lines. D.seen disk.old name.now None → IsReady D.opened D.seen D.named D.kept disk.new name.now (recovered [])) }
     // A crash at any moment leaves what one before might have left, or the same entries.
     ensures any_moment { (bytes : List ℕ) → D.seen disk.old name.now (Some bytes)
         → LeavesOnly D.moment D.since name.now disk.old disk.new (LeavesSame (D.left disk.old name.now) bytes) }
+    ensures any_moment_of_none { D.seen disk.old name.now None
+        → LeavesOnly D.moment D.since name.now disk.old disk.new (LeavesSame (D.left disk.old name.now) []) }
 {
     let bytes = match disk.read(alloc, name)? {
         Some(bytes) => bytes,

@@ -1,4 +1,4 @@
-use Rattle.std.proofs.Common.{◌≡◌, ◌++◌, [], ◌∷◌, List, ℕ, Option, Some, string_bytes, ◌∙◌, subst}
+use Rattle.std.proofs.Common.{◌≡◌, ◌++◌, [], ◌∷◌, List, ℕ, Option, Some, string_bytes, inr, refl, rules, ◌∙◌, subst}
 use Rattle.disk_folder.proofs.Moments.{at_rest, one_call}
 use Rattle.entry_lines.specs.Lines.{text}
 use Rattle.entry_lines.proofs.LineLaws.{text-append}
@@ -63,3 +63,19 @@ returns-clause-any_moment g c done added s =
     (torn_push done added c.args.entry.now c.as_slice.result.now (D.kept disk name) (D.kept new name) is_line (c.add.ensures.torn name (text done) (text added) s.is_opened (subst (λ (l : List ℕ). g.D.Disk.seen c.args.self.now.disk name (Some l)) (text-append done added) s.stands)) s.torn)
     o (g.met.D.Disk.leaves_named new name o (c.add.ensures.named name s.is_named) left) in
     one_call D.moment D.since D.left g.met.D.Disk.only_now name disk new (LeavesFront done more) c.add.ensures.time before behind
+
+pub returns-in-Ok-clause-step : goal.returns-in-Ok-clause-step
+returns-in-Ok-clause-step g c = record {
+  was_open = search rules;
+  same_name = refl;
+  now = λ d a s. returns-in-Ok-clause-appended g c d a s;
+  passes = λ d a s. returns-in-Ok-clause-any_moment g c d a s;
+}
+
+pub returns-clause-step : goal.returns-clause-step
+returns-clause-step g c = inr (record {
+  was_open = search rules;
+  is_shut = refl;
+  same_name = refl;
+  passes = λ d a s. returns-clause-any_moment g c d a s;
+})

@@ -1,4 +1,5 @@
-use Rattle.std.proofs.Common.{◌++◌, List, ℕ, Option, Some, string_bytes, refl, sym, subst}
+use Rattle.std.proofs.Common.{◌++◌, List, ℕ, Option, Some, string_bytes, inr, rules, refl, sym, subst}
+use Rattle.disk_folder.specs.Disks.{LeavesOnly}
 use Rattle.disk_folder.proofs.Moments.{one_call}
 use Rattle.entry_lines.specs.Lines.{text}
 use Rattle.entry_lines.proofs.LineLaws.{entries-append}
@@ -39,3 +40,19 @@ returns-in-Err-clause-any_moment g c done added s =
     let before : (o : Option (List ℕ)) → D.left disk name o → LeavesFront done added o = λ o left.
     leaves_front done added (D.kept disk name) s.are_done s.are_added s.torn o (g.met.D.Disk.leaves_named disk name o s.is_named left) in
     one_call D.moment D.since D.left g.met.D.Disk.only_now name disk c.sync.new.self (LeavesFront done added) c.sync.ensures.time before (λ o left. before o (c.sync.ensures.crash name o left))
+
+pub returns-in-Ok-clause-step : goal.returns-in-Ok-clause-step
+returns-in-Ok-clause-step g c = record {
+  was_open = search rules;
+  same_name = refl;
+  now = λ d a s. returns-in-Ok-clause-synced g c d a s;
+  passes = λ d a s. subst (λ (l : List (List ℕ)). LeavesOnly g.D.Disk.moment g.D.Disk.since (string_bytes c.args.self.now.name) c.args.self.now.disk c.sync.new.self (LeavesFront d l)) (sym (append-nil a)) (returns-in-Ok-clause-any_moment g c d a s);
+}
+
+pub returns-in-Err-clause-step : goal.returns-in-Err-clause-step
+returns-in-Err-clause-step g c = inr (record {
+  was_open = search rules;
+  is_shut = refl;
+  same_name = refl;
+  passes = λ d a s. subst (λ (l : List (List ℕ)). LeavesOnly g.D.Disk.moment g.D.Disk.since (string_bytes c.args.self.now.name) c.args.self.now.disk c.sync.new.self (LeavesFront d l)) (sym (append-nil a)) (returns-in-Err-clause-any_moment g c d a s);
+})
