@@ -6,12 +6,13 @@ use Rattle.std.specs.Prelude.{option_map, codes}
 use Rattle.std.specs.Option.{option_or}
 use Rattle.std.specs.Str.{bytes_eq}
 use Rattle.std.specs.List.{flat_map, list_any}
-use Rattle.html_links.specs.Pieces.{Attribute, Tag}
+use Rattle.html_links.specs.Pieces.{Attribute, Tag, Source}
+use Rattle.html_links.specs.Pieces.Source.{FromTag, FromSheet}
 use Rattle.html_links.specs.Values.{value_text_of, written, value_of}
 use Rattle.html_links.specs.declared.table.Form.{Form}
 use Rattle.html_links.specs.declared.links.LinkKind.{LinkKind}
 use Rattle.html_links.specs.declared.table.Form.TheVariants as form
-use Rattle.html_links.specs.Links.{Links, Row, link_table, kind_in, related, pressed, refreshed, link_with, link_by, row_links, table_links, sheet_links, links_of, base_of, is_nofollow, first_base, any_nofollow, with_tags}
+use Rattle.html_links.specs.Links.{Links, Row, link_table, kind_in, related, pressed, refreshed, link_with, link_by, row_links, table_links, sheet_links, links_of, source_links, base_of, is_nofollow, first_base, any_nofollow, with_tags}
 use Rattle.html_links.specs.Asked.{is_asked_element, is_asked_attribute, is_wanted, asked_attributes, given, asked}
 use Rattle.html_links.specs.declared.asked.Wanted.{Wanted}
 use Rattle.html_links.specs.declared.asked.Wanted.TheVariants as wanted
@@ -152,68 +153,71 @@ unfolding links_of table_links base_of is_nofollow
 silent name = record { links = rw (rows_alone name link_table) refl; base = if_same (bytes_eq name (codes "base")) None; nofollow = if_same (bytes_eq name (codes "meta")) false }
 
 -- what is given of a tag that a rule names says the same
-all_links : (name : List ℕ) (kept : List Attribute) → flat_map links_of (given wanted.All name kept) ≡ links_of (record { name = name; attributes = kept })
+all_links : (name : List ℕ) (kept : List Attribute) → flat_map source_links (given wanted.All name kept) ≡ links_of (record { name = name; attributes = kept })
 all_links name [] = sym (silent name).links
 all_links name (a ∷ others) = append-nil (links_of (record { name = name; attributes = a ∷ others }))
 
-all_base : (name : List ℕ) (kept : List Attribute) (others : List Tag)
+all_base : (name : List ℕ) (kept : List Attribute) (others : List Source)
     → first_base (given wanted.All name kept ++ others) ≡ option_or (base_of (record { name = name; attributes = kept })) (first_base others)
 all_base name [] others = rw (silent name).base refl
 all_base name (a ∷ more) others = refl
 
-all_nofollow : (name : List ℕ) (kept : List Attribute) (others : List Tag)
+all_nofollow : (name : List ℕ) (kept : List Attribute) (others : List Source)
     → any_nofollow (given wanted.All name kept ++ others) ≡ (is_nofollow (record { name = name; attributes = kept }) || any_nofollow others)
 all_nofollow name [] others = rw (silent name).nofollow refl
 all_nofollow name (a ∷ more) others = refl
 
 -- so does what is given of another
 styled_links : (name : List ℕ) (kept all : List Attribute) → is_asked_element name ≡ false → value_of (codes "style") kept ≡ value_of (codes "style") all
-    → flat_map links_of (given wanted.Style name kept) ≡ links_of (record { name = name; attributes = all })
+    → flat_map source_links (given wanted.Style name kept) ≡ links_of (record { name = name; attributes = all })
 styled_links name [] all h same = ap sheet_links same ∙ sym (plain (record { name = name; attributes = all }) h).links
 styled_links name (a ∷ others) all h same =
     append-nil (links_of (record { name = name; attributes = a ∷ others }))
     ∙ (plain (record { name = name; attributes = a ∷ others }) h).links ∙ ap sheet_links same ∙ sym (plain (record { name = name; attributes = all }) h).links
 
-styled_base : (name : List ℕ) (kept : List Attribute) (others : List Tag) → is_asked_element name ≡ false → first_base (given wanted.Style name kept ++ others) ≡ first_base others
+styled_base : (name : List ℕ) (kept : List Attribute) (others : List Source) → is_asked_element name ≡ false → first_base (given wanted.Style name kept ++ others) ≡ first_base others
 styled_base name [] others h = refl
 styled_base name (a ∷ more) others h = rw (plain (record { name = name; attributes = a ∷ more }) h).base refl
 
-styled_nofollow : (name : List ℕ) (kept : List Attribute) (others : List Tag) → is_asked_element name ≡ false → any_nofollow (given wanted.Style name kept ++ others) ≡ any_nofollow others
+styled_nofollow : (name : List ℕ) (kept : List Attribute) (others : List Source) → is_asked_element name ≡ false → any_nofollow (given wanted.Style name kept ++ others) ≡ any_nofollow others
 styled_nofollow name [] others h = refl
 styled_nofollow name (a ∷ more) others h = rw (plain (record { name = name; attributes = a ∷ more }) h).nofollow refl
 
 -- what a tag gives, if a rule names it or none does
-abbrev given_if : Bool → Tag → List Tag
+abbrev given_if : Bool → Tag → List Source
 given_if t tag = given (if t then wanted.All else wanted.Style) tag.name (asked_attributes (if t then wanted.All else wanted.Style) tag.attributes)
 
-links_asked : (tags : List Tag) → flat_map links_of (asked tags) ≡ flat_map links_of tags
+links_asked : (tags : List Source) → flat_map source_links (asked tags) ≡ flat_map source_links tags
 links_asked [] = refl
-links_asked (tag ∷ others) = go (is_asked_element tag.name) refl (links_asked others) where
-  go : (t : Bool) → is_asked_element tag.name ≡ t → flat_map links_of (asked others) ≡ flat_map links_of others
-      → flat_map links_of (given_if t tag ++ asked others) ≡ links_of tag ++ flat_map links_of others
+links_asked (FromSheet references ∷ others) = ap (λ ls. source_links (FromSheet references) ++ ls) (links_asked others)
+links_asked (FromTag tag ∷ others) = go (is_asked_element tag.name) refl (links_asked others) where
+  go : (t : Bool) → is_asked_element tag.name ≡ t → flat_map source_links (asked others) ≡ flat_map source_links others
+      → flat_map source_links (given_if t tag ++ asked others) ≡ links_of tag ++ flat_map source_links others
   go true e g =
-      flat_map-append links_of (given_if true tag) (asked others)
+      flat_map-append source_links (given_if true tag) (asked others)
       ∙ rw (all_links tag.name (kept_of tag.attributes), links_kept tag, g) refl
   go false e g =
-      flat_map-append links_of (given_if false tag) (asked others)
+      flat_map-append source_links (given_if false tag) (asked others)
       ∙ rw (styled_links tag.name (asked_attributes wanted.Style tag.attributes) tag.attributes e (value_kept wanted.Style (codes "style") tag.attributes refl), g) refl
 
-base_asked : (tags : List Tag) → first_base (asked tags) ≡ first_base tags
+base_asked : (tags : List Source) → first_base (asked tags) ≡ first_base tags
 base_asked [] = refl
-base_asked (tag ∷ others) = go (is_asked_element tag.name) refl (base_asked others) where
+base_asked (FromSheet references ∷ others) = base_asked others
+base_asked (FromTag tag ∷ others) = go (is_asked_element tag.name) refl (base_asked others) where
   go : (t : Bool) → is_asked_element tag.name ≡ t → first_base (asked others) ≡ first_base others
       → first_base (given_if t tag ++ asked others) ≡ option_or (base_of tag) (first_base others)
   go true e g = all_base tag.name (kept_of tag.attributes) (asked others) ∙ rw (base_kept tag, g) refl
   go false e g = styled_base tag.name (asked_attributes wanted.Style tag.attributes) (asked others) e ∙ g ∙ rw (plain tag e).base refl
 
-nofollow_asked : (tags : List Tag) → any_nofollow (asked tags) ≡ any_nofollow tags
+nofollow_asked : (tags : List Source) → any_nofollow (asked tags) ≡ any_nofollow tags
 nofollow_asked [] = refl
-nofollow_asked (tag ∷ others) = go (is_asked_element tag.name) refl (nofollow_asked others) where
+nofollow_asked (FromSheet references ∷ others) = nofollow_asked others
+nofollow_asked (FromTag tag ∷ others) = go (is_asked_element tag.name) refl (nofollow_asked others) where
   go : (t : Bool) → is_asked_element tag.name ≡ t → any_nofollow (asked others) ≡ any_nofollow others
       → any_nofollow (given_if t tag ++ asked others) ≡ (is_nofollow tag || any_nofollow others)
   go true e g = all_nofollow tag.name (kept_of tag.attributes) (asked others) ∙ rw (nofollow_kept tag, g) refl
   go false e g = styled_nofollow tag.name (asked_attributes wanted.Style tag.attributes) (asked others) e ∙ g ∙ rw (plain tag e).nofollow refl
 
 -- what the tags that a rule asks for add is what all add
-pub with_asked : (found : Links) (tags : List Tag) → with_tags found (asked tags) ≡ with_tags found tags
+pub with_asked : (found : Links) (tags : List Source) → with_tags found (asked tags) ≡ with_tags found tags
 with_asked found tags = rw (base_asked tags, links_asked tags, nofollow_asked tags) refl

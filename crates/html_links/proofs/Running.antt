@@ -7,7 +7,7 @@ use Rattle.html_links.specs.Contexts.{Context}
 use Rattle.html_links.specs.Markup.{Attributes, Value, mark, beyond_section, end_tag, attributes, value_behind}
 use Rattle.html_links.specs.declared.lexer.Section.{Section}
 use Rattle.html_links.specs.Asked.{asked_tags}
-use Rattle.html_links.specs.Pieces.{Tag}
+use Rattle.html_links.specs.Pieces.{Source}
 use Rattle.html_links.specs.Lexing.{tags_after, tags_with, kept_with, with_named, in_end_tag_name, in_attribute_name, in_quoted_value, in_bare_value, in_raw_text}
 use Rattle.html_links.specs.declared.lexer.Lexer.{Lexer}
 use Rattle.html_links.specs.declared.raw_element.RawElement.{RawElement}
@@ -131,7 +131,7 @@ passed_from stops text i h e f = f ∙ ap (from stops) (drop_at text i h) ∙ fr
 -- ---- a lexer inside a tag
 
 -- what a tag gives by its name and what was found of its attributes, with a name that goes on
-pub tag_name_ran : (F : List ℕ → Attributes → List Tag) (name more text front behind rest : List ℕ) → more ≡ name ++ lower front → front ≡ until ends_tag_name text → behind ≡ from ends_tag_name text
+pub tag_name_ran : (F : List ℕ → Attributes → List Source) (name more text front behind rest : List ℕ) → more ≡ name ++ lower front → front ≡ until ends_tag_name text → behind ≡ from ends_tag_name text
     → F (name ++ lower (until ends_tag_name (text ++ rest))) (attributes (from ends_tag_name (text ++ rest)))
     ≡ F (more ++ lower (until ends_tag_name (behind ++ rest))) (attributes (from ends_tag_name (behind ++ rest)))
 tag_name_ran F name more text front behind rest named before left =

@@ -1,8 +1,11 @@
 -- The standard's own names and samples hold of the definitions: links, raw text elements, character references, comments, foreign content (HTML Standard, sections 4.2.4, 4.6.1, 13.1.2, 13.1.4, 13.2.5 and 13.2.6.5).
-use Rattle.std.proofs.Common.{◌≡◌, ℕ, List, [], ◌∷◌, Option, Some, None, true, false, if◌then◌else◌, map, refl}
+use Rattle.std.proofs.Common.{◌≡◌, ℕ, List, [], ◌∷◌, ◌++◌, Option, Some, None, true, false, if◌then◌else◌, map, refl}
 use Rattle.std.specs.Str.{bytes_eq}
 use Rattle.std.specs.Prelude.{codes}
-use Rattle.html_links.specs.Pieces.{Tag}
+use Rattle.html_links.specs.Pieces.{Source}
+use Rattle.html_links.specs.Pieces.Source.{FromTag, FromSheet}
+use Rattle.css_links.specs.References as sheets
+use Rattle.std.specs.List.{flat_map}
 use Rattle.html_links.specs.Contexts.{outermost, broken, left}
 use Rattle.html_links.specs.declared.context.Syntax.{Syntax}
 use Rattle.html_links.specs.declared.context.Syntax.TheVariants as syntax
@@ -104,19 +107,32 @@ no_references : map reference_at (codes "amp" ∷ codes "AMP;" ∷ codes "#xD800
 unfolding reference_at
 no_references = refl
 
-abbrev bare : List ℕ → List Tag
-bare name = record { name = name; attributes = [] } ∷ []
+abbrev bare : List ℕ → List Source
+bare name = FromTag (record { name = name; attributes = [] }) ∷ []
 
 -- start tags alone are tags, a comment ends at `-->`, and a script's content has none
 samples : map (start_tags (outermost syntax.Html)) (codes "a<B>" ∷ codes "</b>" ∷ codes "<b" ∷ codes "< b>" ∷ codes "<!--<b>--><i>" ∷ codes "<!-- -- ><b>" ∷ codes "<!b><i>" ∷ codes "<?b><i>" ∷ codes "</ b><i>" ∷ codes "<title><b></title ><i>" ∷ [])
     ≡ bare (codes "b") ∷ [] ∷ [] ∷ [] ∷ bare (codes "i") ∷ [] ∷ bare (codes "i") ∷ bare (codes "i") ∷ bare (codes "i")
-    ∷ (record { name = codes "title"; attributes = [] } ∷ bare (codes "i")) ∷ []
+    ∷ (FromTag (record { name = codes "title"; attributes = [] }) ∷ bare (codes "i")) ∷ []
 unfolding start_tags broken left
 samples = refl
 
+-- a style sheet is the text of a `style` element that its end tag ends, in any case and whatever is in the text, but in foreign content
+abbrev styled : List ℕ → List Source
+styled text = FromTag (record { name = codes "style"; attributes = [] }) ∷ FromSheet (sheets.references text) ∷ []
+
+style_sheets : map (start_tags (outermost syntax.Html)) (codes "<style>a\"</b></STYLE\tc>d<i>" ∷ codes "<style></styles></style" ∷ codes "<style></styl</style>" ∷ codes "<svg><style>a</style>" ∷ [])
+    ≡ (styled (codes "a\"</b>") ++ bare (codes "i")) ∷ bare (codes "style") ∷ styled (codes "</styl") ∷ (bare (codes "svg") ++ bare (codes "style")) ∷ []
+unfolding start_tags broken left
+style_sheets = refl
+
+abbrev name_of : Source → List (List ℕ)
+name_of (FromTag tag) = tag.name ∷ []
+name_of (FromSheet _) = []
+
 -- the names of the start tags of a text
 abbrev names : Syntax → List ℕ → List (List ℕ)
-names s text = map (λ (tag : Tag). tag.name) (start_tags (outermost s) text)
+names s text = flat_map name_of (start_tags (outermost s) text)
 
 -- in foreign content no element begins raw text, until it ends, in an integration point, or behind a tag that ends it
 foreign : map (names syntax.Html) (codes "<svg><style><a></svg><style><a>" ∷ codes "<svg><desc><style><a>" ∷ codes "<svg><desc/><style><a>" ∷ codes "<math><mi><style><a></style></mi><style><a>" ∷ codes "<svg><p><style><a>" ∷ codes "<svg></p><style><a>" ∷ codes "<script/><a>" ∷ [])

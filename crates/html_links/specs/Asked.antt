@@ -2,7 +2,8 @@
 use Rattle.std.specs.Prelude.{ℕ, Bool, false, ◌||◌, List, [], ◌∷◌, ◌++◌, if◌then◌else◌, codes}
 use Rattle.std.specs.Str.{bytes_eq}
 use Rattle.std.specs.List.{list_any}
-use Rattle.html_links.specs.Pieces.{Attribute, Tag}
+use Rattle.html_links.specs.Pieces.{Attribute, Source}
+use Rattle.html_links.specs.Pieces.Source.{FromTag, FromSheet}
 use Rattle.html_links.specs.Contexts.{Context}
 use Rattle.html_links.specs.Markup.{start_tags}
 use Rattle.html_links.specs.declared.asked.AskedName.{AskedName}
@@ -58,18 +59,19 @@ asked_attributes w [] = []
 asked_attributes w (a ∷ others) = if is_wanted w a.name then a ∷ asked_attributes w others else asked_attributes w others
 
 -- a tag with the attributes that were kept; nothing, if none was
-abbrev pub given : Wanted → List ℕ → List Attribute → List Tag
+abbrev pub given : Wanted → List ℕ → List Attribute → List Source
 given wanted.Nothing name kept = []
 given wanted.Style name [] = []
-given wanted.Style name (a ∷ others) = record { name = name; attributes = a ∷ others } ∷ []
+given wanted.Style name (a ∷ others) = FromTag (record { name = name; attributes = a ∷ others }) ∷ []
 given wanted.All name [] = []
-given wanted.All name (a ∷ others) = record { name = name; attributes = a ∷ others } ∷ []
+given wanted.All name (a ∷ others) = FromTag (record { name = name; attributes = a ∷ others }) ∷ []
 
--- the tags that a rule asks for, with their attributes that a rule names
-abbrev pub asked : List Tag → List Tag
+-- the tags that a rule asks for, with their attributes that a rule names, and the style sheets
+abbrev pub asked : List Source → List Source
 asked [] = []
-asked (tag ∷ others) = given (wanted_of tag.name) tag.name (asked_attributes (wanted_of tag.name) tag.attributes) ++ asked others
+asked (FromSheet references ∷ others) = FromSheet references ∷ asked others
+asked (FromTag tag ∷ others) = given (wanted_of tag.name) tag.name (asked_attributes (wanted_of tag.name) tag.attributes) ++ asked others
 
 -- those of a text
-unfoldable pub asked_tags : Context → List ℕ → List Tag
+unfoldable pub asked_tags : Context → List ℕ → List Source
 asked_tags k text = asked (start_tags k text)

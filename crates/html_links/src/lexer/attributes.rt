@@ -6,7 +6,7 @@ ghost use Rattle.html_links.specs.Asked.{is_wanted, asked_name};
 use crate::asked::{AskedName, Wanted};
 use crate::bytes::{Span, ends_attribute_name, ends_bare_value, is_quote, is_white, split_at_byte};
 use crate::lexer::tags::push_lower;
-use crate::lexer::{Lexer, Mode};
+use crate::lexer::{Ended, Lexer, Mode};
 use crate::tag::Attribute;
 use std::alloc::AllocError;
 use std::mem;
@@ -16,7 +16,7 @@ impl Lexer {
     ghost use Rattle.html_links.specs.Lexing.{with_named, tags_with, kept_with, between_attributes, before_attribute, in_attribute_name, after_attribute_name, before_value, in_quoted_value, in_bare_value};
     ghost use Rattle.html_links.specs.inner.Lexing.{HasRead, GivesTag, LeavesTag};
 
-    pub(crate) fn before_attribute(&mut self, byte: u8) -> Result<bool, AllocError>
+    pub(crate) fn before_attribute(&mut self, byte: u8) -> Result<Ended, AllocError>
         ensures { IfOk result (λ ends. GivesTag (before_attribute self.old) byte ends self.new) }
     {
         if byte == b'>' {
@@ -24,19 +24,19 @@ impl Lexer {
         }
         if is_white(byte) {
             self.mode = Mode::BeforeAttribute;
-            return Ok(false);
+            return Ok(Ended::Nothing);
         }
         if byte == b'/' {
             self.mode = Mode::SelfClosing;
-            return Ok(false);
+            return Ok(Ended::Nothing);
         }
         self.attribute.clear();
         self.push_name(&[byte])?;
         self.mode = Mode::AttributeName;
-        Ok(false)
+        Ok(Ended::Nothing)
     }
 
-    pub(crate) fn self_closing(&mut self, byte: u8) -> Result<bool, AllocError>
+    pub(crate) fn self_closing(&mut self, byte: u8) -> Result<Ended, AllocError>
         ensures { IfOk result (λ ends. GivesTag (between_attributes true self.old) byte ends self.new) }
     {
         if byte == b'>' {
@@ -45,7 +45,7 @@ impl Lexer {
         self.before_attribute(byte)
     }
 
-    pub(crate) fn attribute_name(&mut self, byte: u8) -> Result<bool, AllocError>
+    pub(crate) fn attribute_name(&mut self, byte: u8) -> Result<Ended, AllocError>
         ensures { IfOk result (λ ends. GivesTag (in_attribute_name self.old) byte ends self.new) }
     {
         if ends_attribute_name(byte) {
@@ -54,7 +54,7 @@ impl Lexer {
         }
         self.push_name(&[byte])?;
         self.mode = Mode::AttributeName;
-        Ok(false)
+        Ok(Ended::Nothing)
     }
 
     /// Puts bytes to the attribute's name, where it may be kept.
@@ -104,48 +104,48 @@ impl Lexer {
         Ok(left)
     }
 
-    pub(crate) fn after_attribute_name(&mut self, byte: u8) -> Result<bool, AllocError>
+    pub(crate) fn after_attribute_name(&mut self, byte: u8) -> Result<Ended, AllocError>
         ensures { IfOk result (λ ends. GivesTag (after_attribute_name self.old) byte ends self.new) }
     {
         if is_white(byte) {
             self.mode = Mode::AfterAttributeName;
-            return Ok(false);
+            return Ok(Ended::Nothing);
         }
         self.value.clear();
         if byte == b'=' {
             self.mode = Mode::BeforeValue;
-            return Ok(false);
+            return Ok(Ended::Nothing);
         }
         self.end_attribute()?;
         self.before_attribute(byte)
     }
 
-    pub(crate) fn before_value(&mut self, byte: u8) -> Result<bool, AllocError>
+    pub(crate) fn before_value(&mut self, byte: u8) -> Result<Ended, AllocError>
         ensures { IfOk result (λ ends. GivesTag (before_value self.old) byte ends self.new) }
     {
         if is_white(byte) {
             self.mode = Mode::BeforeValue;
-            return Ok(false);
+            return Ok(Ended::Nothing);
         }
         self.value.clear();
         if is_quote(byte) {
             self.mode = Mode::QuotedValue(byte);
-            return Ok(false);
+            return Ok(Ended::Nothing);
         }
         self.bare_value(byte)
     }
 
-    pub(crate) fn quoted_value(&mut self, quote: u8, byte: u8) -> Result<bool, AllocError>
+    pub(crate) fn quoted_value(&mut self, quote: u8, byte: u8) -> Result<Ended, AllocError>
         ensures { IfOk result (λ ends. GivesTag (in_quoted_value quote self.old) byte ends self.new) }
     {
         if byte == quote {
             self.end_attribute()?;
             self.mode = Mode::BeforeAttribute;
-            return Ok(false);
+            return Ok(Ended::Nothing);
         }
         self.push_value(&[byte])?;
         self.mode = Mode::QuotedValue(quote);
-        Ok(false)
+        Ok(Ended::Nothing)
     }
 
     pub(crate) fn quoted_value_run<'a>(
@@ -162,7 +162,7 @@ impl Lexer {
         Ok(left)
     }
 
-    pub(crate) fn bare_value(&mut self, byte: u8) -> Result<bool, AllocError>
+    pub(crate) fn bare_value(&mut self, byte: u8) -> Result<Ended, AllocError>
         ensures { IfOk result (λ ends. GivesTag (in_bare_value self.old) byte ends self.new) }
     {
         if ends_bare_value(byte) {
@@ -171,7 +171,7 @@ impl Lexer {
         }
         self.push_value(&[byte])?;
         self.mode = Mode::BareValue;
-        Ok(false)
+        Ok(Ended::Nothing)
     }
 
     pub(crate) fn bare_value_run<'a>(&mut self, text: &'a [u8]) -> Result<&'a [u8], AllocError>

@@ -1,13 +1,14 @@
 //! Names and ends of tags (HTML Standard, sections 13.2.5.6 to 13.2.5.8).
-ghost use Rattle.std.specs.Prelude.{◌≡◌, true, false, ℕ, List, ◌∷◌, ◌++◌, MatchOption, IfOk, OnOk, length, ◌≤◌};
+ghost use Rattle.std.specs.Prelude.{◌≡◌, true, false, ℕ, Some, List, ◌∷◌, ◌++◌, MatchOption, IfOk, OnOk, length, ◌≤◌};
 ghost use Rattle.html_links.specs.Pieces.{from, lower, ends_tag_name};
 ghost use Rattle.html_links.specs.Markup.{begins_raw};
 ghost use Rattle.html_links.specs.Asked.{given, asked_tags};
 ghost use Rattle.html_links.specs.Lexing.{raw_name};
+ghost use Rattle.html_links.specs.declared.asked.Wanted.TheVariants as wanted;
 
 use crate::asked::Wanted;
 use crate::bytes::{Span, ends_tag_name};
-use crate::lexer::{Lexer, Mode};
+use crate::lexer::{Ended, Lexer, Mode};
 use crate::raw_element::RawElement;
 use std::alloc::AllocError;
 
@@ -24,10 +25,10 @@ pub(crate) fn push_lower(name: &mut Vec<u8>, text: &[u8]) -> Result<(), AllocErr
 impl Lexer {
     ghost use Rattle.html_links.specs.Contexts.{opened};
     ghost use Rattle.html_links.specs.Markup.{Attributes, start_tag, end_tag, attributes};
-    ghost use Rattle.html_links.specs.Lexing.{remaining, content, tags_after, in_tag_name, in_end_tag_name, in_raw_end, between_attributes, before_attribute};
-    ghost use Rattle.html_links.specs.inner.Lexing.{GivesTag, LeavesTag, tag_if};
+    ghost use Rattle.html_links.specs.Lexing.{remaining, behind_tag, tags_after, in_tag_name, in_end_tag_name, in_raw_end, between_attributes, before_attribute};
+    ghost use Rattle.html_links.specs.inner.Lexing.{GivesTag, LeavesTag, source_if};
 
-    pub(crate) fn tag_name(&mut self, byte: u8) -> Result<bool, AllocError>
+    pub(crate) fn tag_name(&mut self, byte: u8) -> Result<Ended, AllocError>
         ensures { IfOk result (λ ends. GivesTag (in_tag_name self.old) byte ends self.new) }
     {
         if ends_tag_name(byte) {
@@ -36,7 +37,7 @@ impl Lexer {
         }
         self.name.push(byte.to_ascii_lowercase())?;
         self.mode = Mode::TagName;
-        Ok(false)
+        Ok(Ended::Nothing)
     }
 
     /// Goes on after the name of a start tag, and settles what is kept of it and what it opens.
@@ -71,7 +72,7 @@ impl Lexer {
         Ok(left)
     }
 
-    pub(crate) fn end_tag_name(&mut self, byte: u8) -> Result<bool, AllocError>
+    pub(crate) fn end_tag_name(&mut self, byte: u8) -> Result<Ended, AllocError>
         ensures { IfOk result (λ ends. GivesTag (in_end_tag_name self.old) byte ends self.new) }
     {
         if ends_tag_name(byte) {
@@ -80,7 +81,7 @@ impl Lexer {
         }
         self.push_end_name(&[byte])?;
         self.mode = Mode::EndTagName;
-        Ok(false)
+        Ok(Ended::Nothing)
     }
 
     /// Puts bytes to the name of an end tag, if it may say something.
@@ -96,7 +97,7 @@ impl Lexer {
     }
 
     /// Goes on after the name of an end tag, of which nothing is kept.
-    pub(crate) fn end_tag_attributes(&mut self, byte: u8) -> Result<bool, AllocError>
+    pub(crate) fn end_tag_attributes(&mut self, byte: u8) -> Result<Ended, AllocError>
         ensures { IfOk result (λ ends. GivesTag (in_raw_end self.old.context) byte ends self.new) }
     {
         self.wanted = Wanted::Nothing;
@@ -116,34 +117,57 @@ impl Lexer {
     }
 
     /// Ends the tag at its `>`, after a `/` or not.
-    pub(crate) fn end_tag(&mut self, slash: bool) -> Result<bool, AllocError>
+    pub(crate) fn end_tag(&mut self, slash: bool) -> Result<Ended, AllocError>
         ensures { IfOk result (λ ends. GivesTag (between_attributes slash self.old) 62 ends self.new) }
     {
         self.begin_content(slash)?;
-        Ok(self.is_given())
+        Ok(self.given())
     }
 
-    /// Whether the tag that has been read is a start tag of which something was kept.
-    fn is_given(&self) -> bool
-        ensures { (name : List ℕ) → given self.now.wanted name self.now.attributes.items ≡ tag_if result name self.now.attributes.items }
+    /// The tag that has been read, if it is a start tag of which something was kept.
+    fn given(&self) -> Ended
+        ensures { (name : List ℕ) (shown : List (List ℕ)) → given self.now.wanted name self.now.attributes.items ≡ source_if result name self.now.attributes.items shown }
     {
         match self.wanted {
-            Wanted::Nothing => false,
-            Wanted::Style | Wanted::All => !self.attributes.is_empty(),
+            Wanted::Nothing => Ended::Nothing,
+            Wanted::Style | Wanted::All => self.if_kept(),
+        }
+    }
+
+    fn if_kept(&self) -> Ended
+        ensures { (name : List ℕ) (shown : List (List ℕ)) → given wanted.Style name self.now.attributes.items ≡ source_if result name self.now.attributes.items shown }
+    {
+        if self.attributes.is_empty() {
+            Ended::Nothing
+        } else {
+            Ended::Tag
         }
     }
 
     /// Goes on after the tag that has been read, which `/>` ends or not.
     fn begin_content(&mut self, slash: bool) -> Result<(), AllocError>
-        ensures rest { OnOk result ((rest : List ℕ) → asked_tags (opened self.old.opens slash self.old.context) (content self.old.raw rest) ≡ remaining self.new rest) }
-        ensures same { OnOk result (self.new ≡ record self.old { mode = self.new.mode; context = self.new.context }) }
+        ensures rest { OnOk result ((rest : List ℕ) → behind_tag (opened self.old.opens slash self.old.context) self.old.raw rest ≡ remaining self.new rest) }
+        ensures same { OnOk result (self.new ≡ record self.old { mode = self.new.mode; context = self.new.context; sheet = self.new.sheet }) }
     {
         self.open_element(slash)?;
         match self.raw {
-            Some(element) => self.mode = Mode::RawText(element, 0),
+            Some(element) => self.begin_raw_text(element),
             None => self.mode = Mode::Text,
         }
         Ok(())
+    }
+
+    /// Goes on in the text of that element.
+    fn begin_raw_text(&mut self, element: RawElement)
+        ensures rest { (rest : List ℕ) → behind_tag self.old.context (Some element) rest ≡ remaining self.new rest }
+        ensures same { self.new ≡ record self.old { mode = self.new.mode; sheet = self.new.sheet } }
+    {
+        match element {
+            RawElement::Style => self.begin_sheet(),
+            RawElement::Script => self.mode = Mode::RawText(element, 0),
+            RawElement::Title => self.mode = Mode::RawText(element, 0),
+            RawElement::Textarea => self.mode = Mode::RawText(element, 0),
+        }
     }
 
     /// Opens the element of the tag that has been read, unless `/>` ends it.
