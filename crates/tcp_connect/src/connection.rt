@@ -2,23 +2,30 @@
 use std::io;
 use std::io::{ErrorKind, Read, Write};
 
-/// A connection of the system's, whether a read or a write of it failed, and the number of its place among those that are kept,
-/// where it has one.
+/// A connection of the system's, whether a read or a write of it failed, the number of its place among those that are kept,
+/// where it has one, and how often it served before.
 #[derive(Drop)]
 pub struct Connection<S: Read + Write + Drop> {
     stream: S,
     failed: bool,
     place: Option<u64>,
+    served: u64,
 }
 
 impl<S: Read + Write + Drop> Connection<S> {
     // None of its calls has failed yet.
-    pub(crate) fn new(stream: S, place: Option<u64>) -> Connection<S> {
+    pub(crate) fn new(stream: S, place: Option<u64>, served: u64) -> Connection<S> {
         Connection {
             stream,
             failed: false,
             place,
+            served,
         }
+    }
+
+    // How often it served before.
+    pub(crate) fn served(&self) -> u64 {
+        self.served
     }
 
     // The number of its place.

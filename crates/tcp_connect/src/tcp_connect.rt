@@ -7,7 +7,7 @@ ghost use Rattle.connect.specs.Connects.{CountsRefusal, refused_by};
 
 use crate::connection::Connection;
 use crate::hosts::{Host, Hosts, Known, has};
-use crate::kept::{Entered, Kept, MOST, Waiting, is_fresh, is_quiet};
+use crate::kept::{Entered, Kept, MOST, Waiting, Waits, is_fresh, is_late, look_at, look_for};
 use crate::lacks::{Lack, OpenFault, Patience, lack_of, loss_of};
 use address::{Origin, Scheme};
 use connect::{Connect, ConnectFault};
@@ -26,6 +26,13 @@ const STREAM_TIMEOUT: u64 = 900;
 
 /// The most milliseconds that the server is waited for at the end of a connection.
 const CLOSE_TIMEOUT: u64 = 100;
+
+/// The most milliseconds that a server is waited for on a new connection which may say something before it is asked.
+const EARLY_TIMEOUT: u64 = 50;
+
+/// The most milliseconds that bytes are waited for on a kept connection, which nobody asked for. It is short, since it is waited
+/// before the first use again, the second, the fourth and so on.
+const UNASKED_TIMEOUT: u64 = 20;
 
 // What a run keeps of connections, and how many may stand to a server.
 #[derive(Drop)]
@@ -74,6 +81,20 @@ fn server_of<'b>(proxy: &'b Option<Origin>, of: &'b Origin) -> Option<&'b Origin
     match of.scheme() {
         Scheme::Http => Some(of),
         Scheme::Https => proxy.as_ref(),
+    }
+}
+
+// What waits on a connection that served so often. Bytes that nobody asked for are read as the next answer if they come between
+// the look and the request, and a server that sends some after each answer is often too late to be seen. So it is waited for a
+// moment before the first use again, the second, the fourth and so on, which costs the less the more often a connection serves.
+fn look_again<S: OpenStream>(stream: &S, served: u64) -> Waits {
+    if !served.is_power_of_two() {
+        return look_at(stream);
+    }
+    let found = look_for(stream, UNASKED_TIMEOUT);
+    match prepare(stream) {
+        Ok(()) => found,
+        Err(_) => Waits::End,
     }
 }
 
@@ -152,14 +173,9 @@ fn wire_of<S: Read + Write + OpenStream + Drop>(
     place: Option<u64>,
 ) -> Result<TcpWire<Connection<S>>, OpenFault> {
     match prepare(&stream) {
-        Ok(()) => Ok(TcpWire::new(Connection::new(stream, place))),
+        Ok(()) => Ok(TcpWire::new(Connection::new(stream, place, 0))),
         Err(e) => Err(OpenFault::Failed(loss_of(&e))),
     }
-}
-
-// A read that answered this found nothing within its time.
-fn is_late(kind: ErrorKind) -> bool {
-    matches!(kind, ErrorKind::WouldBlock | ErrorKind::TimedOut)
 }
 
 // Waits a moment for the server to close the connection first, and says whether it kept it open.
@@ -249,7 +265,7 @@ impl<'a, R: Net + Wait + Clock> TcpConnect<'a, R> {
         let Some(Keeping { kept, most }) = &self.keeping else {
             return Ok(None);
         };
-        let Entered { place, ended } = kept.enter(self.rt, of.as_str(), *most)?;
+        let Entered { place, ended } = kept.enter(self.rt, of, *most)?;
         if ended.is_some() {
             self.hosts.note_end();
         }
@@ -264,18 +280,54 @@ impl<'a, R: Net + Wait + Clock> TcpConnect<'a, R> {
         }
     }
 
-    // A connection to an origin that waits, not too long, and from which nothing can be read. Others are ended.
+    // Keeps what was found on a connection to an origin over which nothing is asked, and says whether it was bytes: then no
+    // connection to the origin is kept any more.
+    fn note_found(&self, of: &Origin, found: Waits) -> bool {
+        let is_unasked = found == Waits::Bytes;
+        if is_unasked {
+            self.hosts.note_unasked(self.rt, of);
+        }
+        is_unasked
+    }
+
+    // Whether a connection to an origin can be used that served so often: nothing waits on it.
+    fn is_quiet(&self, of: &Origin, stream: &R::Stream, served: u64) -> bool {
+        let found = look_again(stream, served);
+        self.note_found(of, found);
+        found == Waits::Nothing && !self.hosts.is_unasked(self.rt, of)
+    }
+
+    // A connection to an origin that waits, not too long, and from which nothing can be read. Others are ended, and all where
+    // none to the origin is kept any more.
     fn next_kept(&self, kept: &Kept<R::Stream>, of: &Origin) -> Option<Connection<R::Stream>> {
         for _ in 0..MOST {
-            let (number, Waiting { since, stream }) = kept.take(self.rt, of.as_str())?;
-            if is_fresh(self.rt, &since) && is_quiet(&stream) {
-                return Some(Connection::new(stream, Some(number)));
+            let (number, waiting) = kept.take(self.rt, of)?;
+            let Waiting {
+                since,
+                stream,
+                served,
+            } = waiting;
+            if is_fresh(self.rt, &since) && self.is_quiet(of, &stream, served) {
+                return Some(Connection::new(stream, Some(number), served));
             }
             drop(stream);
             kept.leave(self.rt, number);
             self.hosts.note_end();
         }
         None
+    }
+
+    // Whether bytes came over a new connection to a server, for an origin, over which nothing was asked yet. They are waited for
+    // until the server is known to be quiet.
+    fn is_early(&self, host: &Host, port: u16, of: &Origin, stream: &R::Stream) -> bool {
+        if host.is_quiet(self.rt, port) {
+            return self.note_found(of, look_at(stream));
+        }
+        let is_early = self.note_found(of, look_for(stream, EARLY_TIMEOUT));
+        if !is_early && !self.hosts.is_unasked(self.rt, of) {
+            host.note_quiet(self.rt, port);
+        }
+        is_early
     }
 
     // Ends those that wait too long.
@@ -305,13 +357,16 @@ impl<'a, R: Net + Wait + Clock> TcpConnect<'a, R> {
     }
 
     // Keeps a connection from now on, and says whether it is kept; else it is ended.
-    fn keep(&self, kept: &Kept<R::Stream>, number: u64, stream: R::Stream) -> bool {
-        match Instant::now(self.rt) {
-            Ok(since) => kept
-                .put(self.rt, number, Waiting { since, stream })
-                .is_none(),
-            Err(_) => false,
-        }
+    fn keep(&self, kept: &Kept<R::Stream>, number: u64, stream: R::Stream, served: u64) -> bool {
+        let Ok(since) = Instant::now(self.rt) else {
+            return false;
+        };
+        let waiting = Waiting {
+            since,
+            stream,
+            served,
+        };
+        kept.put(self.rt, number, waiting).is_none()
     }
 
     // A connection to an origin, as it can be had now.
@@ -324,7 +379,13 @@ impl<'a, R: Net + Wait + Clock> TcpConnect<'a, R> {
             return Err(OpenFault::Failed(LossKind::Unknown));
         };
         let host = self.hosts.host(self.rt, server.host())?;
-        wire_of(self.stream(&host, server)?, place)
+        let stream = self.stream(&host, server)?;
+        if self.is_early(&host, server.port(), of, &stream) {
+            drop(stream);
+            self.hosts.note_end();
+            return Err(OpenFault::Failed(LossKind::Unasked));
+        }
+        wire_of(stream, place)
     }
 
     // A connection to the host of an origin. The host knows from then on which address took it.
@@ -435,15 +496,19 @@ impl<'a, R: Net + Wait + Clock> Connect for TcpConnect<'a, R> {
         Some(TcpWire::new(connection))
     }
 
-    // One that failed, or that has no place, isn't kept.
+    // One that failed, or that has no place, isn't kept, nor is one to an origin of which bytes came that nobody asked for.
     fn give_back(&mut self, _of: &Origin, wire: TcpWire<Connection<R::Stream>>) {
+        if self.hosts.is_unasked(self.rt, _of) {
+            return self.end_wire(wire);
+        }
         let connection = wire.into_stream();
         let (Some(kept), Some(number)) = (self.kept(), connection.place()) else {
             return self.end_wire(TcpWire::new(connection));
         };
         self.end_stale(kept);
+        let served = connection.served().saturating_add(1);
         let is_kept = match connection.sound() {
-            Some(stream) => self.keep(kept, number, stream),
+            Some(stream) => self.keep(kept, number, stream, served),
             None => {
                 self.loss = Some(LossKind::Broken);
                 false
