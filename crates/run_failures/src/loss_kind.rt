@@ -21,12 +21,14 @@ pub enum LossKind {
     Port,
     /// It broke behind its making.
     Broken,
+    /// Bytes came over it before anything was asked.
+    Unasked,
     /// Anything else.
     Other,
 }
 
 /// Each kind, in the order in which a person is told of them.
-pub const KINDS: [LossKind; 9] = [
+pub const KINDS: [LossKind; 10] = [
     LossKind::Refused,
     LossKind::Unknown,
     LossKind::TimedOut,
@@ -35,6 +37,7 @@ pub const KINDS: [LossKind; 9] = [
     LossKind::Descriptor,
     LossKind::Port,
     LossKind::Broken,
+    LossKind::Unasked,
     LossKind::Other,
 ];
 
@@ -52,6 +55,7 @@ impl LossKind {
             LossKind::Descriptor => "without a descriptor left",
             LossKind::Port => "without a local port left",
             LossKind::Broken => "broken",
+            LossKind::Unasked => "with bytes before the request",
             LossKind::Other => "failed",
         }
     }

@@ -1,2 +1,3 @@
 pub mod Connecting
 pub mod Standing
+pub mod Unasked
