@@ -109,6 +109,10 @@ where
         }
     }
 
+    fn tell(&self, text: &str) {
+        self.failures.say(self.rt, text);
+    }
+
     fn waiting(&self) -> Option<&AtomicUsize> {
         Some(self.progress.waiting())
     }

@@ -10,6 +10,8 @@ use streams::write_text;
 pub struct SharedFailures {
     alloc: Global,
     kept: Mutex<Failures>,
+    // Lines on what didn't fail, after those of `kept`.
+    said: Mutex<String>,
 }
 
 // By hand: who drops one proves a call, and nothing of what it holds.
@@ -18,6 +20,7 @@ impl Drop for SharedFailures {
         let SharedFailures {
             alloc: _alloc,
             kept: _kept,
+            said: _said,
         } = self;
     }
 }
@@ -34,9 +37,19 @@ fn lose(kept: &mut Failures, kind: LossKind, at: Address) {
     let _ = kept.lose(kind, at);
 }
 
+// Where there is no memory for it, nobody is told.
+fn say(said: &mut String, text: &str) {
+    let _ = said.push_str(text);
+}
+
 // The lines for a person.
 fn text_of(kept: &mut Failures) -> Result<String, AllocError> {
     kept.text()
+}
+
+// Adds what was said.
+fn push_said(text: &mut String, said: &mut String) -> Result<(), AllocError> {
+    text.push_str(said.as_str())
 }
 
 impl SharedFailures {
@@ -45,6 +58,7 @@ impl SharedFailures {
         SharedFailures {
             alloc,
             kept: Mutex::new(Failures::new(alloc)),
+            said: Mutex::new(String::new(alloc)),
         }
     }
 
@@ -61,9 +75,16 @@ impl SharedFailures {
         }
     }
 
-    /// The lines that tell a person what failed, as [`Failures::text`] has them.
+    // A person is to be told this, too.
+    pub(crate) fn say<R: Wait>(&self, rt: &R, text: &str) {
+        say(&mut self.said.lock(rt), text);
+    }
+
+    /// The lines that tell a person what failed, as [`Failures::text`] has them, and then what else is said.
     pub fn text<R: Wait>(&self, rt: &R) -> Result<String, AllocError> {
-        text_of(&mut self.kept.lock(rt))
+        let mut text = text_of(&mut self.kept.lock(rt))?;
+        push_said(&mut text, &mut self.said.lock(rt))?;
+        Ok(text)
     }
 
     /// Writes these lines. Where the writer fails, or there is no memory for them, a front of them may be written.

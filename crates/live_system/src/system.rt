@@ -78,6 +78,9 @@ pub trait System {
     fn record(&self, path: &str) -> Result<Self::Record, AllocError>
         ensures { IfOk result (names self.now path.now) };
 
+    /// Tells a person this when the run has ended: lines, each with its end, or nothing.
+    fn tell(&self, _text: &str) {}
+
     /// Where the run notes how many addresses wait, for who looks on.
     fn waiting(&self) -> Option<&AtomicUsize> {
         None

@@ -17,6 +17,7 @@ mod fault;
 mod input_run;
 mod live_order;
 mod live_run;
+mod moves;
 mod program;
 mod resume_fault;
 mod saved_run;

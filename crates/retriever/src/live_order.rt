@@ -8,6 +8,7 @@ ghost use Rattle.retriever.specs.inner.Systems.{AreResuming, LivesInto, goes_on_
 
 use crate::input_run::{MAX_INPUT, deliver};
 use crate::live_run::live_shown;
+use crate::moves::tell_moves;
 use crate::resume_fault::{ResumeFault, resume_status, resume_text};
 use crate::saved_run::{live_saved, resuming};
 use fetcher::Fetcher;
@@ -68,6 +69,7 @@ fn live_into<H: Threads + Wait + Sync, S: System, F: Fetcher<Body = Body> + Send
     let mut folder = system.folder(order.prefix.as_str())?;
     let waiting = system.waiting();
     let (status, retrieved) = live_shown(rt, alloc, order, fetchers, &mut folder, writer, waiting);
+    tell_moves(alloc, system, &retrieved);
     keep_to_the_end(retrieved);
     Ok(status)
 }
@@ -147,6 +149,7 @@ fn live_saving<H: Threads + Wait + Sync, S: System, W: Write>(
         &mut saved,
         system.waiting(),
     );
+    tell_moves(alloc, system, &retrieved);
     keep_to_the_end(retrieved);
     Ok(status)
 }

@@ -1,0 +1,23 @@
+//! Starts that moved away, for a person.
+use kept_bodies::Body;
+use live_system::System;
+use moved_starts::moves_text;
+use std::alloc::Global;
+use workers::{Halt, Harvest};
+
+/// Tells a person of the starts that moved away. If there is no memory for it, or the retrieval stopped, nobody is told.
+pub(crate) fn tell_moves<S: System>(
+    alloc: Global,
+    system: &S,
+    retrieved: &Result<Harvest<Body>, Halt<Body>>,
+) {
+    let Ok(harvest) = retrieved else {
+        return;
+    };
+    let Some(plan) = harvest.plan() else {
+        return;
+    };
+    if let Ok(text) = moves_text(alloc, plan, harvest.records()) {
+        system.tell(text.as_str());
+    }
+}
