@@ -85,11 +85,11 @@ abbrev pub secure_text : Text → Text
 secure_text at = if bytes_eq (authority_of at) (host_of at) then codes "https://" ++ host_of at ++ path_query_of at else codes "the https address"
 
 -- what would go on from this address
-abbrev pub secure_advice : Text → Text
+unfoldable pub secure_advice : Text → Text
 secure_advice at = codes " to no http address: if to https, give " ++ secure_text at ++ codes " as START, with --https-proxy=URL (docs/HTTPS.md)"
 
 -- the end of redirects, if that isn't the start itself
-abbrev pub by_way_of : Text → Text → Text
+unfoldable pub by_way_of : Text → Text → Text
 by_way_of start end = if bytes_eq start end then codes " moved" else codes " moved to " ++ end ++ codes ", and from there"
 
 -- of a start whose redirects lead from this http address to none that is http
@@ -122,7 +122,7 @@ abbrev pub is_start : Plan → Text → Bool
 is_start plan at = list_any (λ start. bytes_eq at start) (starts plan)
 
 -- of what is recorded of an address: nothing unless it is a start that redirects
-abbrev pub move_line : Plan → List Recorded → Recorded → Text
+unfoldable pub move_line : Plan → List Recorded → Recorded → Text
 move_line plan records recorded = if is_moved recorded.1 && is_start plan recorded.0 then start_line plan records recorded.0 else []
 
 -- of what is recorded: a line for each start that moved away

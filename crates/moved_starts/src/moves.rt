@@ -152,6 +152,7 @@ fn secure_text(alloc: Global, at: &Address) -> Result<String, AllocError>
 }
 
 // The end of redirects, if that isn't the start itself.
+#[tactic(auto, unfolding(crate::specs::Moves::by_way_of))]
 fn by_way_of(alloc: Global, start: &Address, end: &Address) -> Result<String, AllocError>
     ensures { IfOk result (λ text. string_bytes text ≡ by_way_of start.now end.now) }
 {
@@ -163,6 +164,7 @@ fn by_way_of(alloc: Global, start: &Address, end: &Address) -> Result<String, Al
 }
 
 // What would go on from this address.
+#[tactic(auto, unfolding(crate::specs::Moves::secure_advice))]
 fn secure_advice(alloc: Global, at: &Address) -> Result<String, AllocError>
     ensures { IfOk result (λ advice. string_bytes advice ≡ secure_advice at.now) }
 {
@@ -263,18 +265,18 @@ fn is_moved(outcome: &Outcome) -> bool
 }
 
 // Adds the line of what is recorded of an address, if it is a start that redirects.
+#[tactic(auto, unfolding(crate::specs::Moves::move_line))]
 fn push_move(
     alloc: Global,
     text: &mut String,
     plan: &Plan,
     records: &[(Address, Outcome)],
-    address: &Address,
-    outcome: &Outcome,
+    recorded: &(Address, Outcome),
 ) -> Result<(), AllocError>
-    ensures ok { OnOk result (string_bytes text.new ≡ string_bytes text.old ++ move_line plan.now records.now (address.now, outcome.now)) }
+    ensures ok { OnOk result (string_bytes text.new ≡ string_bytes text.old ++ move_line plan.now records.now recorded.now) }
 {
-    if is_moved(outcome) && is_start(plan, address) {
-        return push_start(alloc, text, plan, records, address);
+    if is_moved(&recorded.1) && is_start(plan, &recorded.0) {
+        return push_start(alloc, text, plan, records, &recorded.0);
     }
     Ok(())
 }
@@ -288,8 +290,8 @@ fn push_moves(
 ) -> Result<(), AllocError>
     ensures ok { OnOk result (string_bytes text.new ≡ string_bytes text.old ++ flat_map (move_line plan.now records.now) records.now) }
 {
-    for (address, outcome) in records {
-        push_move(alloc, text, plan, records, address, outcome)?;
+    for recorded in records {
+        push_move(alloc, text, plan, records, recorded)?;
     }
     Ok(())
 }
