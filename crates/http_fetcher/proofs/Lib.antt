@@ -3,3 +3,4 @@ pub mod TellingLemmas
 pub mod MeaningLaws
 pub mod KeptLemmas
 pub mod ExitLemmas
+pub mod GivenUpLemmas

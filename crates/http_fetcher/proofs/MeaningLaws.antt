@@ -44,7 +44,7 @@ module _ {C W : Type 0} (connects : Connects C W) (wires : Wires W) where
   -- what was told, over a connection that was kept or a new one, may be answered
   pub may_answer : (old new : Fetching C) (at : AddressText) (answer : Answer BodyValue)
       → IsToldByTries connects wires old new at answer → MayAnswer old.robots at answer.outcome answer.body
-  may_answer old new at answer (inl (made, taken, holds, (given, gave, over))) = may_answer_over wires (question_of old at) given answer over
+  may_answer old new at answer (inl (made, taken, holds, counts, (given, gave, over))) = may_answer_over wires (question_of old at) given answer over
   may_answer old new at answer (inr (made, before, told)) = may_answer_anew old new at answer told
 
   -- the rules at the end of a chain over connections are rules that the origin may have

@@ -1,5 +1,5 @@
 -- What contracts see of a fetcher that asks over connections, and how its answers come.
-use Rattle.std.specs.Prelude.{◌≡◌, ◌⊎◌, ℕ, Bool, true, false, List, [], Some}
+use Rattle.std.specs.Prelude.{◌≡◌, ◌⊎◌, ◌==◌, ℕ, Bool, true, false, List, [], Some}
 use Rattle.std.specs.Io.KnownBytes.{Appends, IsAtEnd, Keeps}
 use Rattle.address.specs.Address.{AddressText, OriginText, origin_of}
 use Rattle.response_reader.specs.Wire.{HasRisen, IsLostInTime, OfBytes, counted}
@@ -16,7 +16,7 @@ use Rattle.fetcher.specs.declared.fault_kind.FaultKind.{FaultKind}
 use Rattle.fetcher.specs.declared.fault_kind.FaultKind.TheVariants as kind
 use Rattle.fetcher.specs.declared.fetcher.Ask.{Ask}
 use Rattle.fetcher.specs.declared.outcome.Outcome.{Outcome}
-use Rattle.fetcher.specs.declared.outcome.Outcome.TheVariants.{Fault}
+use Rattle.fetcher.specs.declared.outcome.Outcome.TheVariants.{Fault, Leaf, Moved, Page}
 use Rattle.answer_notes.specs.Tellings.{outcome_told, body_told}
 use Rattle.answer_notes.specs.declared.noted.Noted.{Noted}
 use Rattle.answer_notes.specs.declared.told.Told.{Told}
@@ -79,6 +79,13 @@ IsUnmade before after answer = HasRisen before after × (answer.outcome ≡ Faul
 abbrev pub IsUnwritten : ℕ → ℕ → Answer BodyValue → Type 0
 IsUnwritten before after answer = HasRisen before after × (answer.outcome ≡ Fault kind.Device) × (answer.body ≡ no_body)
 
+-- the answer is the status with which a server gives up waiting for a request (RFC 9110, section 15.5.9)
+abbrev pub is_given_up : Outcome → Bool
+is_given_up (Page status edges) = false
+is_given_up (Moved status target) = false
+is_given_up (Leaf status) = status == 408
+is_given_up (Fault kind) = false
+
 -- the request for an address, which asks to close the connection unless it is kept
 abbrev pub request_by : Bool → AddressText → List ℕ
 request_by true at = kept_request_text at
@@ -104,12 +111,21 @@ module _ {W : Type 0} (wires : Wires W) where
 
   -- over a wire the request went out, or couldn't be written, and no byte came back: it had ended, or failed, and not since a time
   -- limit ran out
-  abbrev pub IsSilentOn : Question → W → Type 0
-  IsSilentOn question given =
+  abbrev pub IsUnansweredOn : Question → W → Type 0
+  IsUnansweredOn question given =
       (asked : W) × (left : W)
       × (IsLostInTime (wires.failed given) (wires.failed left) (wires.timed_out left)
       ⊎ (IsAsked question given asked × Keeps (wires.incoming asked) (wires.incoming left)
       × (IsAtEnd (wires.incoming asked) ⊎ IsLostInTime (wires.failed asked) (wires.failed left) (wires.timed_out left))))
+
+  -- over a wire came the answer of a server that had given up waiting for the request
+  abbrev pub IsGivenUpOn : Question → W → Type 0
+  IsGivenUpOn question given =
+      (answer : Answer BodyValue) × (is_given_up answer.outcome ≡ true) × ComesOver question given answer
+
+  -- over a wire came no answer, or that one: the question may be put once more over a new one
+  abbrev pub IsSilentOn : Question → W → Type 0
+  IsSilentOn question given = IsUnansweredOn question given ⊎ IsGivenUpOn question given
 
   -- the same over a wire that had served before
   abbrev pub IsSilent : (OriginText → W → Type 0) → Question → Type 0
@@ -139,14 +155,15 @@ module _ {C W : Type 0} (connects : Connects C W) (wires : Wires W) where
       (of : OriginText) (wire : W) → connects.stands new.connect of wire
       → connects.stands old.connect of wire ⊎ ((at : AddressText) × IsKeptAfter (question_of old at) of wire)
 
-  -- an answer comes over a connection that was kept, and no other is asked for
+  -- an answer comes over a connection that was kept, and no other is asked for: it isn't that of a server that had given up waiting
   abbrev pub IsToldAgain : Fetching C → Fetching C → AddressText → Answer BodyValue → Type 0
   IsToldAgain old new at answer =
       (connects.made new.connect ≡ connects.made old.connect)
       × (connects.taken new.connect ≡ counted (connects.taken old.connect) 1) × (old.keeps ≡ true)
+      × (is_given_up answer.outcome ≡ false)
       × IsToldByWire wires (connects.stands old.connect) (question_of old at) answer
 
-  -- no connection was taken that was kept, or one over which no byte came
+  -- no connection was taken that was kept, or one over which no byte came, or the answer of a server that had given up waiting
   abbrev pub IsUntold : Fetching C → Fetching C → AddressText → Type 0
   IsUntold old new at =
       (connects.taken new.connect ≡ connects.taken old.connect)
@@ -160,7 +177,7 @@ module _ {C W : Type 0} (connects : Connects C W) (wires : Wires W) where
       ⊎ IsToldByWire wires (connects.gives old.connect) (question_of old at) answer
 
   -- an answer comes over a connection that was kept, and no other is asked for; or one more is asked for, once, and before it
-  -- none was taken, or one over which no byte came
+  -- none was taken, or one over which no byte came, or the answer of a server that had given up waiting
   abbrev pub IsToldByTries : Fetching C → Fetching C → AddressText → Answer BodyValue → Type 0
   IsToldByTries old new at answer =
       IsToldAgain old new at answer

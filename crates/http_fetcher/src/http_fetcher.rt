@@ -1,5 +1,5 @@
 //! A fetcher that asks over connections, a new one for each question or one that served before (RFC 9112, sections 9.3 and 9.6).
-ghost use Rattle.std.specs.Prelude.{◌≡◌, ◌⊎◌, ◌≤◌, ◌+◌, ℕ, List, [], ◌∷◌, ◌++◌, true, false, length, IsTrue, Some, IfOk, IfSome, IfNone, OnOk, OnErr, MatchBool, codes};
+ghost use Rattle.std.specs.Prelude.{◌≡◌, ◌⊎◌, ◌≤◌, ◌+◌, ℕ, Bool, List, [], ◌∷◌, ◌++◌, true, false, length, IsTrue, Some, IfOk, IfSome, IfNone, OnOk, OnErr, MatchBool, codes};
 ghost use Rattle.std.specs.Io.KnownBytes.{Appends, IsAtEnd, Keeps};
 ghost use Rattle.response_reader.specs.Wire.{counted, HasRisen, OfBytes, IsLostInTime};
 ghost use Rattle.response_reader.specs.Reusable.{Reusable};
@@ -17,7 +17,7 @@ ghost use Rattle.answer_notes.specs.declared.told.Told.TheVariants as told;
 ghost use Rattle.fetcher.specs.declared.outcome.Outcome.TheVariants as outcome;
 ghost use Rattle.http_fetcher.specs.Chains.{CountsHops, IsChain};
 ghost use Rattle.connect.specs.Connects.{Stays};
-ghost use Rattle.http_fetcher.specs.Fetching.{AnswersBytes, ComesOver, IsGiven, IsSilentOn, IsToldAgain, IsToldAnew, IsToldByTries, IsUntold, LeavesUsable, StandsBehind, StandsBy, StandsForOne, answer_told, question_of, request_by};
+ghost use Rattle.http_fetcher.specs.Fetching.{AnswersBytes, ComesOver, IsGiven, IsToldAgain, IsToldAnew, IsToldByTries, IsUnansweredOn, IsUntold, LeavesUsable, StandsBehind, StandsBy, StandsForOne, answer_told, is_given_up, question_of, request_by};
 ghost use Rattle.http_fetcher.specs.Notes.{NotesPage, NotesChain};
 ghost use Rattle.http_fetcher.specs.Meanings.{MayAnswer, MayRule};
 
@@ -25,7 +25,7 @@ use crate::chain::{Hop, read_hop};
 use address::{Address, Origin};
 use answer_notes::{Given, Hops, MAX_REDIRECTS, Noted, Recording, Telling, Told};
 use connect::{Connect, ConnectFault};
-use fetcher::{Answer, Ask, Body, FaultKind, Fetcher};
+use fetcher::{Answer, Ask, Body, FaultKind, Fetcher, Outcome};
 use kept_bodies::Keeper;
 use response_answer::{PageSink, kind_of_fault};
 use response_reader::{
@@ -73,6 +73,29 @@ impl<C: Connect> Model for HttpFetcher<C> {
     ghost Value = { Fetching C };
 
     ghost view = { λ f. record { connect = f.connect; robots = f.robots; keeps = f.keeps; asks = f.asks.items; is_recording = f.is_recording; notes = f.notes.items } };
+}
+
+/// The status of a server that had given up waiting for the request (RFC 9110, section 15.5.9).
+const REQUEST_TIMEOUT: u16 = 408;
+
+// Whether it was told that the server had given up waiting for the request.
+fn has_given_up(told: &Told) -> bool
+    ensures { (robots : Bool) (at : AddressText) → result ≡ is_given_up (outcome_told robots at told.now) }
+{
+    match told {
+        Told::Whole(given) => given.response().status == REQUEST_TIMEOUT,
+        Told::Fault(_) => false,
+    }
+}
+
+// The same of an outcome.
+fn says_given_up(outcome: &Outcome) -> bool
+    ensures { result ≡ is_given_up outcome.now }
+{
+    match outcome {
+        Outcome::Leaf(status) => *status == REQUEST_TIMEOUT,
+        _ => false,
+    }
 }
 
 /// What was told over a wire, and whether its connection serves again.
@@ -137,8 +160,9 @@ impl<C: Connect> HttpFetcher<C> {
         }
     }
 
-    /// The same fetcher, which keeps connections that serve again, and takes them again. Where one of these died before a byte
-    /// came over it, the question is asked once more over a new one (RFC 9112, section 9.3.1), so a server may see it twice.
+    /// The same fetcher, which keeps connections that serve again, and takes them again. If one of these died before a byte
+    /// came over it (RFC 9112, section 9.3.1), or its answer is the status 408, with which a server gives up waiting for a request
+    /// (RFC 9110, section 15.5.9), the question is asked once more over a new one, so a server may see it twice.
     pub fn keeping(self) -> HttpFetcher<C>
         ensures connect { result.connect ≡ self.connect }
         ensures robots { result.robots ≡ self.robots }
@@ -268,7 +292,7 @@ impl<C: Connect> HttpFetcher<C> {
     // What is told over a wire that served before: none where no byte came. The error is want of memory.
     fn told_again(&mut self, wire: &mut C::Wire, at: &Address) -> Result<Option<Heard>, AllocError>
         ensures same { self.new ≡ self.old }
-        ensures silent { IfOk result (λ o. IfNone o (IsSilentOn C.Wire.Wire (question_of self.old at.now) wire.old)) }
+        ensures silent { IfOk result (λ o. IfNone o (IsUnansweredOn C.Wire.Wire (question_of self.old at.now) wire.old)) }
         ensures told { IfOk result (λ o. IfSome o (λ h. ComesOver C.Wire.Wire (question_of self.old at.now) wire.old (answer_told self.old.robots at.now h.told))) }
         ensures serves { IfOk result (λ o. IfSome o (λ h. IsTrue h.serves → LeavesUsable C.Wire.Wire (question_of self.old at.now) wire.old wire.new)) }
     {
@@ -333,7 +357,8 @@ impl<C: Connect> HttpFetcher<C> {
         }
     }
 
-    // Asks it over a connection that was kept: none where there was none, or no byte came over it. The error is want of memory.
+    // Asks it over a connection that was kept: none where there was none, no byte came over it, or its server had given up waiting.
+    // The error is want of memory.
     fn ask_again(&mut self, origin: &Origin, at: &Address) -> Result<Option<Told>, AllocError>
         requires { origin.now ≡ origin_of at.now }
         ensures asks { self.new.asks ≡ self.old.asks }
@@ -356,6 +381,10 @@ impl<C: Connect> HttpFetcher<C> {
         };
         match self.told_again(&mut wire, at) {
             Ok(Some(heard)) => {
+                if has_given_up(&heard.told) {
+                    self.connect.close(wire);
+                    return Ok(None);
+                }
                 self.put_away(origin, wire, heard.serves);
                 Ok(Some(heard.told))
             }
@@ -571,7 +600,7 @@ impl<C: Connect> HttpFetcher<C> {
         sink: &mut PageSink<K>,
     ) -> Result<Option<HeardPage<K::Kept>>, AllocError>
         ensures same { self.new ≡ self.old }
-        ensures silent { IfOk result (λ o. IfNone o (IsSilentOn C.Wire.Wire (question_of self.old at.now) wire.old)) }
+        ensures silent { IfOk result (λ o. IfNone o (IsUnansweredOn C.Wire.Wire (question_of self.old at.now) wire.old)) }
         ensures told { IfOk result (λ o. IfSome o (λ h. StandsForOne K.holds h.answer (ComesOver C.Wire.Wire (question_of self.old at.now) wire.old))) }
         ensures serves { IfOk result (λ o. IfSome o (λ h. IsTrue h.serves → LeavesUsable C.Wire.Wire (question_of self.old at.now) wire.old wire.new)) }
     {
@@ -645,7 +674,8 @@ impl<C: Connect> HttpFetcher<C> {
         }
     }
 
-    // Asks for a page over a connection that was kept: none where there was none, or no byte came over it. The error is want of memory.
+    // Asks for a page over a connection that was kept: none where there was none, no byte came over it, or its server had given up
+    // waiting. The error is want of memory.
     fn ask_page_again<K: Keeper>(
         &mut self,
         origin: &Origin,
@@ -673,6 +703,10 @@ impl<C: Connect> HttpFetcher<C> {
         };
         match self.page_again(&mut wire, at, sink) {
             Ok(Some(heard)) => {
+                if says_given_up(&heard.answer.outcome) {
+                    self.connect.close(wire);
+                    return Ok(None);
+                }
                 self.put_away(origin, wire, heard.serves);
                 Ok(Some(heard.answer))
             }

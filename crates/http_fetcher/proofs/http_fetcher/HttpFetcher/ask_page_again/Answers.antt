@@ -1,6 +1,6 @@
 -- What is asked over a kept connection changes nothing but what makes the connections.
-use Rattle.std.proofs.Common.{◌≡◌, ◌∙◌, true, inl, inr, refl, sym, ap, subst}
-use Rattle.http_fetcher.specs.Fetching.{Fetching}
+use Rattle.std.proofs.Common.{◌≡◌, ◌∙◌, true, false, inl, inr, refl, sym, ap, subst}
+use Rattle.http_fetcher.specs.Fetching.{Fetching, is_given_up}
 use Rattle.http_fetcher.proofs.KeptLemmas.{stands_by}
 use Rattle.http_fetcher.proofs.http_fetcher.HttpFetcher.ask_page_again.Goals as goal
 
@@ -36,8 +36,40 @@ returns-in_default g c =
       stands = λ of wire stood. inl (c.take.ensures.stands of wire stood);
     })
 
-pub returns-in-Ok-Some : goal.returns-in-Ok-Some
-returns-in-Ok-Some g c =
+pub returns-then-says_given_up : goal.returns-then-says_given_up
+returns-then-says_given_up g c =
+    let said = rw c.in-Ok-Some.field-0-is at c.in-Ok-Some.ensures.told in
+    let keeps : c.self.inside.keeps ≡ true = c.if-not-self.false in
+    let now = c.self-in-Ok-Some.view_is ∙ c.page_again.ensures.same in
+    let closed = c.close.ensures in
+    rw (sym c.self.view_is) (record {
+      asks = ap (λ (f : Fetching _). f.asks) now;
+      robots = ap (λ (f : Fetching _). f.robots) now;
+      keeps = ap (λ (f : Fetching _). f.keeps) now;
+      is_recording = ap (λ (f : Fetching _). f.is_recording) now;
+      notes = ap (λ (f : Fetching _). f.notes) now;
+      made = closed.made ∙ ap (λ (f : Fetching _). g.C.Connect.made f.connect) now ∙ c.take.ensures.made;
+      refused = closed.refused ∙ ap (λ (f : Fetching _). g.C.Connect.refused f.connect) now ∙ c.take.ensures.refused;
+      gives = λ of wire gave. c.take.ensures.gives of wire (subst (λ (f : Fetching _). g.C.Connect.gives f.connect of wire) now (closed.gives of wire gave));
+      silent = inr (rw (sym c.requires) (
+        closed.taken ∙ ap (λ (f : Fetching _). g.C.Connect.taken f.connect) now ∙ c.in-Some.ensures.taken,
+        keeps,
+        (
+          c.in-Some.wire,
+          c.in-Some.ensures.given,
+          inr (
+            said.0,
+            subst (λ outcome. is_given_up outcome ≡ true) said.1.0 (sym c.says_given_up.ensures ∙ c.if-says_given_up.true),
+            said.2,
+          ),
+        ),
+      ));
+      told = tt;
+      stands = λ of wire stood. inl (c.take.ensures.stands of wire (subst (λ (f : Fetching _). g.C.Connect.stands f.connect of wire) now (closed.stands of wire stood)));
+    })
+
+pub returns-else-says_given_up : goal.returns-else-says_given_up
+returns-else-says_given_up g c =
     let said = rw c.in-Ok-Some.field-0-is at c.in-Ok-Some.ensures.told in
     let keeps : c.self.inside.keeps ≡ true = c.if-not-self.false in
     let put = c.put_away.ensures in
@@ -59,6 +91,7 @@ returns-in-Ok-Some g c =
           put.made ∙ ap (λ (f : Fetching _). g.C.Connect.made f.connect) same ∙ c.take.ensures.made,
           put.taken ∙ ap (λ (f : Fetching _). g.C.Connect.taken f.connect) same ∙ c.in-Some.ensures.taken,
           keeps,
+          subst (λ outcome. is_given_up outcome ≡ false) said.1.0 (sym c.says_given_up.ensures ∙ c.if-says_given_up.false),
           (c.in-Some.wire, c.in-Some.ensures.given, said.2),
         ),
       );
@@ -71,7 +104,7 @@ pub returns-in-Ok-None : goal.returns-in-Ok-None
 returns-in-Ok-None g c =
     let keeps : c.self.inside.keeps ≡ true = c.if-not-self.false in
     let now = c.self-in-Ok-None.view_is ∙ c.page_again.ensures.same in
-    let closed = c.close.ensures in
+    let closed = c.close-in-Ok-None.ensures in
     rw (sym c.self.view_is) (record {
       asks = ap (λ (f : Fetching _). f.asks) now;
       robots = ap (λ (f : Fetching _). f.robots) now;
@@ -84,7 +117,7 @@ returns-in-Ok-None g c =
       silent = inr (rw (sym c.requires) (
         closed.taken ∙ ap (λ (f : Fetching _). g.C.Connect.taken f.connect) now ∙ c.in-Some.ensures.taken,
         keeps,
-        (c.in-Some.wire, c.in-Some.ensures.given, rw c.in-Ok-None.field-0-is at c.in-Ok-None.ensures.silent),
+        (c.in-Some.wire, c.in-Some.ensures.given, inl (rw c.in-Ok-None.field-0-is at c.in-Ok-None.ensures.silent)),
       ));
       told = tt;
       stands = λ of wire stood. inl (c.take.ensures.stands of wire (subst (λ (f : Fetching _). g.C.Connect.stands f.connect of wire) now (closed.stands of wire stood)));
