@@ -100,9 +100,9 @@ const TRIED: &[(usize, ([u8; 4], u16))] = &[
     (31, ([10, 0, 0, 2], 80)),
 ];
 
-/// The limits of the first connection: 50 milliseconds for the look at what comes before the request, 900 seconds for reads and for
-/// writes, as Wget's manual has it, and a tenth of a second for a read at its end; and how many connections were set to delay nothing.
-const LIMITS: (u64, u64, u64, u64, u64) = (50, 900_000, 100, 900_000, 27);
+/// The limits of the first connection: 900 seconds for reads and for writes, as Wget's manual has it, and a tenth of a second
+/// for a read at its end; and how many connections were set to delay nothing.
+const LIMITS: (u64, u64, u64, u64) = (900_000, 100, 900_000, 27);
 
 /// Whether a visit of a worker comes out as a row says.
 fn comes_out<R: Wait + Abort>(

@@ -64,9 +64,8 @@ pub struct Log {
     pub reads: AtomicU64,
     /// The addresses at which a connection was asked for, in order.
     pub tried: Mutex<Vec<SocketAddr>>,
-    /// The milliseconds of the first limits that were set: on a look at a new connection, on reads, on reads behind these, and on
-    /// writes.
-    pub limits: [AtomicU64; 4],
+    /// The milliseconds of the first limits that were set: on reads, on reads behind these, and on writes.
+    pub limits: [AtomicU64; 3],
     /// How often it was set that nothing is delayed.
     pub undelayed: AtomicU64,
     /// The milliseconds that were slept.
@@ -101,12 +100,7 @@ impl<'a, R: Wait + Abort> Network<'a, R> {
             lookups: AtomicU64::new(0),
             reads: AtomicU64::new(0),
             tried: Mutex::new(Vec::new(alloc)),
-            limits: [
-                AtomicU64::new(0),
-                AtomicU64::new(0),
-                AtomicU64::new(0),
-                AtomicU64::new(0),
-            ],
+            limits: [AtomicU64::new(0), AtomicU64::new(0), AtomicU64::new(0)],
             undelayed: AtomicU64::new(0),
             clock: AtomicU64::new(0),
             is_full: AtomicBool::new(false),
@@ -134,11 +128,10 @@ impl<'a, R: Wait + Abort> Network<'a, R> {
         )
     }
 
-    /// The milliseconds of the first limits on a look, on reads, on reads behind these, and on writes, and how often no delay was set.
-    pub fn limits(&self) -> (u64, u64, u64, u64, u64) {
-        let [looks, reads, ends, writes] = &self.log.limits;
+    /// The milliseconds of the first limits on reads, on reads behind these, and on writes, and how often no delay was set.
+    pub fn limits(&self) -> (u64, u64, u64, u64) {
+        let [reads, ends, writes] = &self.log.limits;
         (
-            looks.load(Ordering::SeqCst),
             reads.load(Ordering::SeqCst),
             ends.load(Ordering::SeqCst),
             writes.load(Ordering::SeqCst),
@@ -333,14 +326,14 @@ impl OpenStream for FakeStream {
     }
 
     fn set_read_timeout(&self, dur: Option<Duration>) -> io::Result<()> {
-        if !note(&self.log.limits[0], dur) && !note(&self.log.limits[1], dur) {
-            note(&self.log.limits[2], dur);
+        if !note(&self.log.limits[0], dur) {
+            note(&self.log.limits[1], dur);
         }
         Ok(())
     }
 
     fn set_write_timeout(&self, dur: Option<Duration>) -> io::Result<()> {
-        note(&self.log.limits[3], dur);
+        note(&self.log.limits[2], dur);
         self.answer(REFUSES_LIMIT)
     }
 }

@@ -69,7 +69,7 @@ impl<R: Net> Net for Still<'_, R> {
 /// takes none, `elsewhere` one that takes none for another port of that host, `refused` one that makes none; `sends` and `shuts` are
 /// what the server does with a connection, the worker's last, of which it reads a byte or the end, and `breaks` resets the one that was
 /// made last; `ended` is one whose end the server reads, `waits` a number of seconds, `fills` so many origins of which one connection
-/// waits each, and `files` the moment at which those that wait are ended. Of an origin that sent what nobody asked for none is kept.
+/// waits each, and `files` the moment at which those that wait are ended.
 const STEPS: &str = "make 1
 none 1
 give 1
@@ -91,13 +91,13 @@ waits 5
 none 1
 ended 2
 ended 3
-make 200
-give 200
+make 1
+give 1
 waits 4
-take 200
+take 1
 sends 5
-give 200
-none 200
+give 1
+none 1
 ended 5
 make 1
 shuts 6
@@ -147,10 +147,7 @@ give 3
 take 3
 take 3
 give 3
-give 3
-make 200
-give 200
-none 200";
+give 3";
 
 /// The server, and its ends of the connections in the order in which they were made.
 #[derive(Drop)]

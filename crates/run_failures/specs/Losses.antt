@@ -18,8 +18,7 @@ number_of kind.Resolver = 4
 number_of kind.Descriptor = 5
 number_of kind.Port = 6
 number_of kind.Broken = 7
-number_of kind.Unasked = 8
-number_of kind.Other = 9
+number_of kind.Other = 8
 
 -- the two kinds are one
 abbrev pub is_kind : LossKind → LossKind → Bool
@@ -35,7 +34,6 @@ words_of kind.Resolver = codes "without an answer of the resolver"
 words_of kind.Descriptor = codes "without a descriptor left"
 words_of kind.Port = codes "without a local port left"
 words_of kind.Broken = codes "broken"
-words_of kind.Unasked = codes "with bytes before the request"
 words_of kind.Other = codes "failed"
 
 -- the loss is of this kind

@@ -21,14 +21,12 @@ pub enum LossKind {
     Port,
     /// It broke behind its making.
     Broken,
-    /// Bytes came over it before anything was asked.
-    Unasked,
     /// Anything else.
     Other,
 }
 
 /// Each kind, in the order in which a person is told of them.
-pub const KINDS: [LossKind; 10] = [
+pub const KINDS: [LossKind; 9] = [
     LossKind::Refused,
     LossKind::Unknown,
     LossKind::TimedOut,
@@ -37,7 +35,6 @@ pub const KINDS: [LossKind; 10] = [
     LossKind::Descriptor,
     LossKind::Port,
     LossKind::Broken,
-    LossKind::Unasked,
     LossKind::Other,
 ];
 
@@ -55,7 +52,6 @@ impl LossKind {
             LossKind::Descriptor => "without a descriptor left",
             LossKind::Port => "without a local port left",
             LossKind::Broken => "broken",
-            LossKind::Unasked => "with bytes before the request",
             LossKind::Other => "failed",
         }
     }

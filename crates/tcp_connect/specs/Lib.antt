@@ -1,3 +1,2 @@
 pub mod Connecting
 pub mod Standing
-pub mod Unasked

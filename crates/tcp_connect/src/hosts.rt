@@ -1,7 +1,5 @@
 //! What the connections of a run know of hosts.
 use crate::lacks::{Lack, OpenFault, is_again, lack_of, lacks_descriptor};
-use crate::unasked::Unasked;
-use address::Origin;
 use indexmap::IndexMap;
 use std::alloc::{AllocError, Global};
 use std::io::{Error, ErrorKind};
@@ -10,14 +8,12 @@ use std::sync::atomic::{AtomicU64, Ordering};
 use std::sync::{Arc, Mutex, Wait};
 
 /// What the connections of a run know of hosts, shared by all workers: each host's addresses, which servers keep their
-/// connections open, which don't answer, and which sent bytes that nobody asked for.
+/// connections open, and which don't answer.
 pub struct Hosts {
     // By the host of a URL, with its brackets.
     by_name: Mutex<IndexMap<String, Arc<Host>>>,
     open: Mutex<Vec<SocketAddr>>,
     silent: Mutex<Vec<SocketAddr>>,
-    // The origins of which bytes came that nobody asked for: no connection to them is kept.
-    unasked: Mutex<Unasked>,
     // How many connections have ended.
     ended: AtomicU64,
     alloc: Global,
@@ -30,7 +26,6 @@ impl Drop for Hosts {
             by_name: _by_name,
             open: _open,
             silent: _silent,
-            unasked: _unasked,
             ended: _ended,
             alloc: _alloc,
         } = self;
@@ -43,10 +38,6 @@ impl Drop for Hosts {
 #[derive(Drop)]
 pub(crate) struct Host {
     known: Mutex<Option<Known>>,
-    // The ports at which a server said nothing before it was asked.
-    quiet: Mutex<Vec<u16>>,
-    // Those at which it said nothing after an answer.
-    calm: Mutex<Vec<u16>>,
 }
 
 // The addresses of a host, with no port, in the order in which they are to be tried; none where the look-up failed.
@@ -64,7 +55,6 @@ impl Hosts {
             by_name: Mutex::new(IndexMap::new(alloc)),
             open: Mutex::new(Vec::new(alloc)),
             silent: Mutex::new(Vec::new(alloc)),
-            unasked: Mutex::new(Unasked::new(alloc)),
             ended: AtomicU64::new(0),
             alloc,
         }
@@ -96,21 +86,6 @@ impl Hosts {
         let _ = self.silent.lock(rt).push(server);
     }
 
-    // Whether bytes came of this origin that nobody asked for.
-    pub(crate) fn is_unasked<R: Wait>(&self, rt: &R, of: &Origin) -> bool {
-        self.unasked.lock(rt).has(of)
-    }
-
-    // Keeps that bytes came of this origin that nobody asked for. Where there is no memory for it, it is found again.
-    pub(crate) fn note_unasked<R: Wait>(&self, rt: &R, of: &Origin) {
-        let _ = self.unasked.lock(rt).add(of);
-    }
-
-    /// The lines that tell a person which origins sent bytes that nobody asked for, one for each.
-    pub fn text<R: Wait>(&self, rt: &R) -> Result<String, AllocError> {
-        self.unasked.lock(rt).text(self.alloc)
-    }
-
     // How many connections of the run have ended.
     pub(crate) fn ended(&self) -> u64 {
         self.ended.load(Ordering::SeqCst)
@@ -136,26 +111,6 @@ impl Host {
         name: &str,
     ) -> Result<Known, OpenFault> {
         known_among(rt, alloc, name, &mut self.known.lock(rt))
-    }
-
-    // Whether the server at this port is known to say nothing before it is asked.
-    pub(crate) fn is_quiet<R: Wait>(&self, rt: &R, port: u16) -> bool {
-        self.quiet.lock(rt).contains(&port)
-    }
-
-    // Keeps that the server at this port said nothing before it was asked.
-    pub(crate) fn note_quiet<R: Wait>(&self, rt: &R, port: u16) {
-        note_port(&mut self.quiet.lock(rt), port);
-    }
-
-    // Whether the server at this port is known to say nothing after an answer.
-    pub(crate) fn is_calm<R: Wait>(&self, rt: &R, port: u16) -> bool {
-        self.calm.lock(rt).contains(&port)
-    }
-
-    // Keeps that the server at this port said nothing after an answer.
-    pub(crate) fn note_calm<R: Wait>(&self, rt: &R, port: u16) {
-        note_port(&mut self.calm.lock(rt), port);
     }
 
     // This address took a connection: the next one begins with it, and goes round.
@@ -192,8 +147,6 @@ fn add_host(
         alloc,
         Host {
             known: Mutex::new(None),
-            quiet: Mutex::new(Vec::new(alloc)),
-            calm: Mutex::new(Vec::new(alloc)),
         },
     )?;
     by_name.insert(name, Arc::try_clone(&host)?)?;
@@ -223,13 +176,6 @@ fn known_among<R: Net>(
         addresses: copy,
         took: None,
     })
-}
-
-// Keeps a port among these. Where there is no memory for it, its server is waited for again.
-fn note_port(ports: &mut Vec<u16>, port: u16) {
-    if !ports.contains(&port) {
-        let _ = ports.push(port);
-    }
 }
 
 // Puts this address in front, where it is there; the others follow as they go round.

@@ -1,17 +1,15 @@
 //! The connections of a run that are kept to be used again (RFC 9112, section 9.3), and how many stand.
-ghost use Rattle.std.specs.Prelude.{◌≡◌, ◌≤◌, Some, IfOk, IfSome, MatchOption};
-ghost use Rattle.tcp_connect.specs.Standing.{Pool, waits, count_to, NonePasses, AddsStand, EndsFirst, MakesRoom, TakesStand};
+ghost use Rattle.std.specs.Prelude.{◌≡◌, Some, MatchOption};
+ghost use Rattle.tcp_connect.specs.Standing.{waits, NonePasses, EndsFirst};
 ghost use Rattle.tcp_connect.specs.declared.kept.Waiting.{Waiting};
 
 use crate::standing::Standing;
 pub(crate) use crate::standing::{Entered, MOST};
-use address::Origin;
 use std::alloc::{AllocError, Global};
-use std::io;
 use std::io::ErrorKind;
 use std::net::OpenStream;
 use std::sync::{Mutex, Wait};
-use std::time::{Clock, Duration, Instant};
+use std::time::{Clock, Instant};
 
 /// The most seconds that one waits.
 const IDLE_SECONDS: u64 = 5;
@@ -60,18 +58,19 @@ impl<S: Drop> Kept<S> {
     }
 
     // The one to this origin that was put down last, which is in use from now on.
-    pub(crate) fn take<R: Wait>(&self, rt: &R, of: &Origin) -> Option<(u64, Waiting<S>)> {
-        take_among(&mut self.standing.lock(rt), of)
+    pub(crate) fn take<R: Wait>(&self, rt: &R, of: &str) -> Option<(u64, Waiting<S>)> {
+        self.standing.lock(rt).take(of)
     }
 
     // A place for a new connection to an origin, of which so many may stand.
     pub(crate) fn enter<R: Wait>(
         &self,
         rt: &R,
-        of: &Origin,
+        of: &str,
         most: usize,
     ) -> Result<Entered<Waiting<S>>, AllocError> {
-        enter_among(self.alloc, &mut self.standing.lock(rt), of, most)
+        let of = String::from_str(self.alloc, of)?;
+        self.standing.lock(rt).enter(of, most)
     }
 
     // The connection of this number stands no longer.
@@ -96,30 +95,6 @@ impl<S: Drop> Kept<S> {
 }
 
 // What stands under the lock is lent to functions of its own: there no way out of them lets go of the lock.
-
-// The one to this origin that was put down last, by the whole text of the origin.
-fn take_among<S: Drop>(
-    standing: &mut Standing<Waiting<S>>,
-    of: &Origin,
-) -> Option<(u64, Waiting<S>)>
-    ensures { TakesStand of.now standing.old result standing.new }
-{
-    standing.take(of.as_str())
-}
-
-// A place for a new connection to an origin, of which so many may stand, by the whole text of the origin.
-fn enter_among<S: Drop>(
-    alloc: Global,
-    standing: &mut Standing<Waiting<S>>,
-    of: &Origin,
-    most: usize,
-) -> Result<Entered<Waiting<S>>, AllocError>
-    ensures ok { IfOk result (λ entered. (left : Pool (Waiting S)) × MakesRoom of.now most standing.old entered.ended left × AddsStand of.now most left entered.place standing.new) }
-    ensures origin { IfOk result (λ entered. IfSome entered.place (λ _. count_to standing.new.stands of.now ≤ most)) }
-{
-    let text = String::from_str(alloc, of.as_str())?;
-    standing.enter(text, most)
-}
 
 // The one that waits longest, where it waits too long.
 fn stale_among<S: Drop, R: Clock>(standing: &mut Standing<Waiting<S>>, rt: &R) -> Option<S>
@@ -158,51 +133,15 @@ pub(crate) fn is_fresh<R: Clock>(rt: &R, since: &Instant) -> bool {
     }
 }
 
-// What waits on a connection over which nothing was asked.
-#[derive(Clone, Copy, PartialEq, Eq)]
-pub(crate) enum Waits {
-    // Nothing: it can be used.
-    Nothing,
-    // Bytes, which nobody asked for (RFC 9112, section 9.2).
-    Bytes,
-    // Its end, or a fault.
-    End,
-}
-
-// What a look at a connection found.
-fn waits_by(found: io::Result<usize>) -> Waits {
-    match found {
-        Ok(0) => Waits::End,
-        Ok(_) => Waits::Bytes,
-        Err(e) if is_late(e.kind()) => Waits::Nothing,
-        Err(_) => Waits::End,
-    }
-}
-
-// A read that answered this found nothing within its time.
-pub(crate) fn is_late(kind: ErrorKind) -> bool {
-    matches!(kind, ErrorKind::WouldBlock | ErrorKind::TimedOut)
-}
-
-// What comes to a connection within so many milliseconds. Its time limit on reads is another then.
-pub(crate) fn look_for<S: OpenStream>(stream: &S, milliseconds: u64) -> Waits {
-    let wait = Some(Duration::from_millis(milliseconds));
-    if stream.set_read_timeout(wait).is_err() {
-        return Waits::End;
-    }
-    let mut room = [0u8; 1];
-    waits_by(stream.peek(&mut room))
-}
-
-// What waits on a connection.
-pub(crate) fn look_at<S: OpenStream>(stream: &S) -> Waits {
+// Whether nothing can be read from a connection: neither its end, nor bytes that nobody asked for, nor a fault.
+pub(crate) fn is_quiet<S: OpenStream>(stream: &S) -> bool {
     if stream.set_nonblocking(true).is_err() {
-        return Waits::End;
+        return false;
     }
     let mut room = [0u8; 1];
-    let found = waits_by(stream.peek(&mut room));
-    match stream.set_nonblocking(false) {
-        Ok(()) => found,
-        Err(_) => Waits::End,
-    }
+    let quiet = match stream.peek(&mut room) {
+        Ok(_) => false,
+        Err(e) => e.kind() == ErrorKind::WouldBlock,
+    };
+    stream.set_nonblocking(false).is_ok() && quiet
 }

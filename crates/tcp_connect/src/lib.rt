@@ -9,7 +9,6 @@ mod kept;
 mod lacks;
 mod standing;
 mod tcp_connect;
-mod unasked;
 
 pub use connection::Connection;
 pub use hosts::Hosts;

@@ -7,7 +7,7 @@ ghost use Rattle.connect.specs.Connects.{CountsRefusal, refused_by};
 
 use crate::connection::Connection;
 use crate::hosts::{Host, Hosts, Known, has};
-use crate::kept::{Entered, Kept, MOST, Waiting, Waits, is_fresh, is_late, look_at, look_for};
+use crate::kept::{Entered, Kept, MOST, Waiting, is_fresh, is_quiet};
 use crate::lacks::{Lack, OpenFault, Patience, lack_of, loss_of};
 use address::{Origin, Scheme};
 use connect::{Connect, ConnectFault};
@@ -26,12 +26,6 @@ const STREAM_TIMEOUT: u64 = 900;
 
 /// The most milliseconds that the server is waited for at the end of a connection.
 const CLOSE_TIMEOUT: u64 = 100;
-
-/// The most milliseconds that a server is waited for on a new connection which may say something before it is asked.
-const EARLY_TIMEOUT: u64 = 50;
-
-/// The milliseconds that bytes which nobody asked for are waited for on a kept connection, until its server is known to send none.
-const UNASKED_TIMEOUT: u64 = 20;
 
 // What a run keeps of connections, and how many may stand to a server.
 #[derive(Drop)]
@@ -80,27 +74,6 @@ fn server_of<'b>(proxy: &'b Option<Origin>, of: &'b Origin) -> Option<&'b Origin
     match of.scheme() {
         Scheme::Http => Some(of),
         Scheme::Https => proxy.as_ref(),
-    }
-}
-
-// What comes to a connection within so many milliseconds, on which reads have their usual time limit again after that.
-fn look_longer<S: OpenStream>(stream: &S, milliseconds: u64) -> Waits {
-    let found = look_for(stream, milliseconds);
-    match prepare(stream) {
-        Ok(()) => found,
-        Err(_) => Waits::End,
-    }
-}
-
-// The milliseconds for which a server is waited for that may say something before it is asked: as long as the connection took to
-// be made, rounded up, since what the server sends at once takes as long to arrive.
-fn early_wait<R: Clock>(rt: &R, begun: &io::Result<Instant>) -> u64 {
-    let Ok(begun) = begun else {
-        return EARLY_TIMEOUT;
-    };
-    match begun.elapsed(rt) {
-        Ok(took) if took.as_secs() == 0 => EARLY_TIMEOUT.min(u64::from(took.subsec_millis()) + 1),
-        _ => EARLY_TIMEOUT,
     }
 }
 
@@ -182,6 +155,11 @@ fn wire_of<S: Read + Write + OpenStream + Drop>(
         Ok(()) => Ok(TcpWire::new(Connection::new(stream, place))),
         Err(e) => Err(OpenFault::Failed(loss_of(&e))),
     }
+}
+
+// A read that answered this found nothing within its time.
+fn is_late(kind: ErrorKind) -> bool {
+    matches!(kind, ErrorKind::WouldBlock | ErrorKind::TimedOut)
 }
 
 // Waits a moment for the server to close the connection first, and says whether it kept it open.
@@ -271,7 +249,7 @@ impl<'a, R: Net + Wait + Clock> TcpConnect<'a, R> {
         let Some(Keeping { kept, most }) = &self.keeping else {
             return Ok(None);
         };
-        let Entered { place, ended } = kept.enter(self.rt, of, *most)?;
+        let Entered { place, ended } = kept.enter(self.rt, of.as_str(), *most)?;
         if ended.is_some() {
             self.hosts.note_end();
         }
@@ -286,48 +264,11 @@ impl<'a, R: Net + Wait + Clock> TcpConnect<'a, R> {
         }
     }
 
-    // Keeps what was found on a connection to an origin over which nothing is asked, and says whether it was bytes: then no
-    // connection to the origin is kept any more.
-    fn note_found(&self, of: &Origin, found: Waits) -> bool {
-        let is_unasked = found == Waits::Bytes;
-        if is_unasked {
-            self.hosts.note_unasked(self.rt, of);
-        }
-        is_unasked
-    }
-
-    // What waits on a kept connection to an origin. Bytes that nobody asked for are read as the next answer if they come between the
-    // look and the request, and a server that sends some after each answer may be too late to be seen. So they are waited for at
-    // first, until the server is known to send none.
-    fn look_again(&self, of: &Origin, stream: &R::Stream) -> Waits {
-        let Some(server) = server_of(&self.proxy, of) else {
-            return look_at(stream);
-        };
-        match self.hosts.host(self.rt, server.host()) {
-            Ok(host) if !host.is_calm(self.rt, server.port()) => {
-                let found = look_longer(stream, UNASKED_TIMEOUT);
-                if found == Waits::Nothing {
-                    host.note_calm(self.rt, server.port());
-                }
-                found
-            }
-            _ => look_at(stream),
-        }
-    }
-
-    // Whether a kept connection to an origin can be used: nothing waits on it.
-    fn is_quiet(&self, of: &Origin, stream: &R::Stream) -> bool {
-        let found = self.look_again(of, stream);
-        self.note_found(of, found);
-        found == Waits::Nothing && !self.hosts.is_unasked(self.rt, of)
-    }
-
-    // A connection to an origin that waits, not too long, and from which nothing can be read. Others are ended, and all where
-    // none to the origin is kept any more.
+    // A connection to an origin that waits, not too long, and from which nothing can be read. Others are ended.
     fn next_kept(&self, kept: &Kept<R::Stream>, of: &Origin) -> Option<Connection<R::Stream>> {
         for _ in 0..MOST {
-            let (number, Waiting { since, stream }) = kept.take(self.rt, of)?;
-            if is_fresh(self.rt, &since) && self.is_quiet(of, &stream) {
+            let (number, Waiting { since, stream }) = kept.take(self.rt, of.as_str())?;
+            if is_fresh(self.rt, &since) && is_quiet(&stream) {
                 return Some(Connection::new(stream, Some(number)));
             }
             drop(stream);
@@ -335,26 +276,6 @@ impl<'a, R: Net + Wait + Clock> TcpConnect<'a, R> {
             self.hosts.note_end();
         }
         None
-    }
-
-    // Whether bytes came over a new connection to a server, for an origin, over which nothing was asked yet. They are waited for
-    // until the server is known to be quiet.
-    fn is_early(
-        &self,
-        host: &Host,
-        port: u16,
-        of: &Origin,
-        stream: &R::Stream,
-        milliseconds: u64,
-    ) -> bool {
-        if host.is_quiet(self.rt, port) {
-            return self.note_found(of, look_at(stream));
-        }
-        let is_early = self.note_found(of, look_for(stream, milliseconds));
-        if !is_early && !self.hosts.is_unasked(self.rt, of) {
-            host.note_quiet(self.rt, port);
-        }
-        is_early
     }
 
     // Ends those that wait too long.
@@ -403,15 +324,7 @@ impl<'a, R: Net + Wait + Clock> TcpConnect<'a, R> {
             return Err(OpenFault::Failed(LossKind::Unknown));
         };
         let host = self.hosts.host(self.rt, server.host())?;
-        let begun = Instant::now(self.rt);
-        let stream = self.stream(&host, server)?;
-        let wait = early_wait(self.rt, &begun);
-        if self.is_early(&host, server.port(), of, &stream, wait) {
-            drop(stream);
-            self.hosts.note_end();
-            return Err(OpenFault::Failed(LossKind::Unasked));
-        }
-        wire_of(stream, place)
+        wire_of(self.stream(&host, server)?, place)
     }
 
     // A connection to the host of an origin. The host knows from then on which address took it.
@@ -522,11 +435,8 @@ impl<'a, R: Net + Wait + Clock> Connect for TcpConnect<'a, R> {
         Some(TcpWire::new(connection))
     }
 
-    // One that failed, or that has no place, isn't kept, nor is one to an origin of which bytes came that nobody asked for.
+    // One that failed, or that has no place, isn't kept.
     fn give_back(&mut self, _of: &Origin, wire: TcpWire<Connection<R::Stream>>) {
-        if self.hosts.is_unasked(self.rt, _of) {
-            return self.end_wire(wire);
-        }
         let connection = wire.into_stream();
         let (Some(kept), Some(number)) = (self.kept(), connection.place()) else {
             return self.end_wire(TcpWire::new(connection));

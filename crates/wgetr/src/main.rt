@@ -6,20 +6,10 @@ use host_system::{Network, Output, PartThreads, SharedFailures, StandIns};
 use progress::{BehindLine, Progress};
 use record_journal::Saving;
 use retriever::{arguments, run_program, telling_of};
-use std::alloc::AllocError;
 use std::io::{IsTerminal, Write};
 use std::process;
 use std::process::ExitCode;
 use tcp_connect::{Hosts, Kept};
-
-// Writes lines for a person, if there are any and there is memory for them.
-fn tell<W: Write>(lines: Result<String, AllocError>, errors: &mut W) {
-    if let Ok(text) = lines {
-        if !text.is_empty() {
-            let _ = errors.write_all(text.as_bytes());
-        }
-    }
-}
 
 fn main(rt: HostRuntime) -> ExitCode {
     // Before anything is opened, so that no file of the run takes the place of a stream that is closed.
@@ -70,10 +60,8 @@ fn main(rt: HostRuntime) -> ExitCode {
     saving.end(&rt, &rt);
     if takes_failures {
         failures.tell(&rt, &mut writer);
-        tell(hosts.text(&rt), &mut writer);
     } else {
         failures.tell(&rt, &mut rt.stderr());
-        tell(hosts.text(&rt), &mut rt.stderr());
     }
     drop(stand_ins);
     ExitCode::from(status)
