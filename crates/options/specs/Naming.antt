@@ -1,4 +1,4 @@
--- What shapes names, as the options say it (GNU Wget manual, chapters Directory Options and Download Options).
+-- What shapes names, as the options say it (GNU Wget manual, chapters Directory Options, HTTP Options and Download Options).
 use Rattle.std.specs.Prelude.{◌||◌, ◌==◌, ℕ, Bool, true, false, not, List, [], ◌∷◌, Option, Some, None, bytes_eq, codes, length, nat_lt, option_and_then, option_map, string_bytes, if◌then◌else◌}
 use Rattle.std.specs.List.{list_any}
 use Rattle.std.specs.Option.{option_map_or}
@@ -7,10 +7,10 @@ use Rattle.follow_filters.specs.Levels.{number_in}
 use Rattle.local_names.specs.Rules.{usual_chars}
 use Rattle.local_names.specs.declared.rules.CharRules.{CharRules}
 use Rattle.local_names.specs.declared.rules.LetterCase.TheVariants.{Lower, Upper}
-use Rattle.local_names.specs.declared.rules.NameRules.{NameRules}
 use Rattle.options.specs.Given.{is_set, list_of}
 use Rattle.options.specs.declared.naming.Mode.{Mode}
 use Rattle.options.specs.declared.naming.Mode.TheVariants as mode
+use Rattle.options.specs.declared.naming.PageNames.{PageNames}
 
 -- what the options say of names, field by field
 pub record Naming : Type 0 where
@@ -20,16 +20,18 @@ pub record Naming : Type 0 where
   pub cut_dirs : ℕ
   pub default_page : Option Text
   pub chars : CharRules
+  pub has_endings : Bool
 
--- what rules of names say
-abbrev pub naming_by : NameRules → Naming
-naming_by rules = record {
-  has_directories = rules.has_directories;
-  has_protocol = rules.has_protocol;
-  has_host = rules.has_host;
-  cut_dirs = rules.cut_dirs;
-  default_page = option_map string_bytes rules.default_page;
-  chars = rules.chars;
+-- what is said of how files are named
+abbrev pub naming_by : PageNames → Naming
+naming_by names = record {
+  has_directories = names.rules.has_directories;
+  has_protocol = names.rules.has_protocol;
+  has_host = names.rules.has_host;
+  cut_dirs = names.rules.cut_dirs;
+  default_page = option_map string_bytes names.rules.default_page;
+  chars = names.rules.chars;
+  has_endings = names.has_endings;
 }
 
 -- ---- directories that are left out
@@ -85,6 +87,10 @@ chars_of found = option_map (with_modes usual_chars) (list_of read_mode (codes "
 
 -- ---- all of it
 
+-- names end as the kinds of bodies say if either name of the option is said
+abbrev pub has_endings : List Row → Bool
+has_endings found = is_set (codes "adjust-extension") found || is_set (codes "html-extension") found
+
 -- the directories are those of the address, unless options say otherwise
 abbrev pub naming : List Row → ℕ → Option Text → CharRules → Naming
 naming found cut page chars = record {
@@ -94,6 +100,7 @@ naming found cut page chars = record {
   cut_dirs = cut;
   default_page = page;
   chars = chars;
+  has_endings = has_endings found;
 }
 
 -- what the options say of names; nothing if a value can't be

@@ -1,9 +1,10 @@
-//! What shapes names, as the options say it (GNU Wget manual, chapters Directory Options and Download Options).
+//! What shapes names, as the options say it (GNU Wget manual, chapters Directory Options, HTTP Options and
+//! Download Options).
 ghost use Rattle.std.specs.Prelude.{◌≡◌, ◌⊎◌, MatchOption, MatchResult, None, Some, codes, option_map, string_bytes};
 ghost use Rattle.std.specs.List.{list_any};
 ghost use Rattle.clap.specs.Words.{first_of, found_of, rows_of};
 ghost use Rattle.local_names.specs.Rules.{usual_chars};
-ghost use Rattle.options.specs.Naming.{chars_of, cut_by, is_file_name, is_unsafe, naming_by, naming_of, page_by, read_mode, with_mode, with_modes};
+ghost use Rattle.options.specs.Naming.{chars_of, cut_by, has_endings, is_file_name, is_unsafe, naming_by, naming_of, page_by, read_mode, with_mode, with_modes};
 ghost use Rattle.options.specs.Asked.{words_refused};
 ghost use Rattle.options.specs.declared.fault.LineFault.TheVariants as fault;
 
@@ -150,11 +151,27 @@ fn page_by(alloc: Global, value: Option<&str>) -> Result<Option<String>, LineFau
     }
 }
 
+/// How files are named.
+#[derive(Drop)]
+pub struct PageNames {
+    /// What shapes the names.
+    pub rules: NameRules,
+    /// Whether they end as the kinds of bodies say.
+    pub has_endings: bool,
+}
+
+// Whether names end as the kinds of bodies say.
+fn has_endings(matches: &ArgMatches) -> bool
+    ensures { result ≡ has_endings (rows_of (found_of matches.now)) }
+{
+    is_set(matches, "adjust-extension") || is_set(matches, "html-extension")
+}
+
 /// What the options say of names. The fault is that a value can't be, or that memory ran out.
 #[tactic(auto, unfolding(crate::specs::Naming::naming_of))]
-pub(crate) fn names(alloc: Global, matches: &ArgMatches) -> Result<NameRules, LineFault>
+pub(crate) fn names(alloc: Global, matches: &ArgMatches) -> Result<PageNames, LineFault>
     ensures { MatchResult result
-        (λ rules. naming_of (rows_of (found_of matches.now)) ≡ Some (naming_by rules))
+        (λ names. naming_of (rows_of (found_of matches.now)) ≡ Some (naming_by names))
         (λ f. ((f ≡ words_refused) × (naming_of (rows_of (found_of matches.now)) ≡ None)) ⊎ (f ≡ fault.Memory)) }
 {
     let Some(cut_dirs) = cut_dirs(matches) else {
@@ -162,12 +179,16 @@ pub(crate) fn names(alloc: Global, matches: &ArgMatches) -> Result<NameRules, Li
     };
     let chars = chars(alloc, matches)?;
     let default_page = page_by(alloc, given(matches, "default-page"))?;
-    Ok(NameRules {
+    let rules = NameRules {
         has_directories: !is_set(matches, "no-directories"),
         has_protocol: is_set(matches, "protocol-directories"),
         has_host: !is_set(matches, "no-host-directories"),
         cut_dirs,
         default_page,
         chars,
+    };
+    Ok(PageNames {
+        rules,
+        has_endings: has_endings(matches),
     })
 }

@@ -4,9 +4,9 @@ ghost use Rattle.std.specs.List.{list_any};
 ghost use Rattle.address.specs.Address.{is_robots_file};
 ghost use Rattle.options.specs.declared.order.TheConstants.{MAX_WORKERS};
 
+use crate::naming::PageNames;
 use address::{Address, Origin};
 use follow_filters::{Elements, Plan};
-use local_names::NameRules;
 use std::alloc::{AllocError, Global};
 use std::marker::Model;
 
@@ -127,8 +127,8 @@ pub struct Order {
     pub log: Option<Log>,
     /// The folder below which files are put.
     pub prefix: Prefix,
-    /// What shapes the names of files.
-    pub names: NameRules,
+    /// How files are named.
+    pub names: PageNames,
     /// The proxy that is asked for https addresses.
     pub proxy: Option<Origin>,
     /// Whether the proxy may be on another machine.

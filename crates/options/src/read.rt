@@ -23,7 +23,7 @@ use crate::asked::{is_asking, wish_fault, wish_of};
 use crate::fault::LineFault;
 use crate::given::{elements, given, is_set, level, number};
 use crate::line::parse;
-use crate::naming::names;
+use crate::naming::{PageNames, names};
 use crate::order::{
     DEFAULT_MAX_URLS, DEFAULT_PER_HOST, DEFAULT_WORKERS, FilePath, Log, MAX_WORKERS, Order, Prefix,
     Source,
@@ -39,7 +39,6 @@ use clap::{ArgMatches, Error};
 use follow_filters::{
     Directory, Domain, Element, Elements, Limit, MAX_PER_HOST, MAX_URLS, Pattern, Plan,
 };
-use local_names::NameRules;
 use std::alloc::{AllocError, Global};
 
 // The numbers of workers, requests out to an origin, and addresses.
@@ -61,7 +60,7 @@ struct Counts {
 struct Settings {
     counts: Counts,
     proxy: Option<Origin>,
-    names: NameRules,
+    names: PageNames,
 }
 
 // The folder below which files are put, the records that are resumed and saved, and the file that takes what is told.

@@ -42,7 +42,7 @@ pub(crate) struct Row<T> {
 }
 
 /// The options.
-const TABLE: [Row<&str>; 52] = [
+const TABLE: [Row<&str>; 54] = [
     Row {
         short: "r",
         name: "recursive",
@@ -273,6 +273,20 @@ const TABLE: [Row<&str>; 52] = [
         kind: Kind::Usual("NAME", "index.html"),
         heading: "",
         says: "a page without a name is NAME",
+    },
+    Row {
+        short: "E",
+        name: "adjust-extension",
+        kind: Kind::Flag,
+        heading: "",
+        says: "HTML ends in .html, style sheets in .css",
+    },
+    Row {
+        short: "",
+        name: "html-extension",
+        kind: Kind::Flag,
+        heading: "",
+        says: "the same, by its older name",
     },
     Row {
         short: "",
@@ -1091,7 +1105,7 @@ pub(crate) struct Command<T> {
 }
 
 /// The commands of wgetrc whose options are here.
-const COMMANDS: [Command<&str>; 38] = [
+const COMMANDS: [Command<&str>; 40] = [
     Command {
         name: "accept",
         option: "accept",
@@ -1099,6 +1113,10 @@ const COMMANDS: [Command<&str>; 38] = [
     Command {
         name: "addhostdir",
         option: "host-directories",
+    },
+    Command {
+        name: "adjustextension",
+        option: "adjust-extension",
     },
     Command {
         name: "compression",
@@ -1143,6 +1161,10 @@ const COMMANDS: [Command<&str>; 38] = [
     Command {
         name: "hsts",
         option: "hsts",
+    },
+    Command {
+        name: "htmlextension",
+        option: "html-extension",
     },
     Command {
         name: "httpkeepalive",

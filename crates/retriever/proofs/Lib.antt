@@ -1,6 +1,7 @@
 pub mod StandardFacts
 pub mod FoundLaws
 pub mod EndLaws
+pub mod KindLaws
 pub mod RunLaws
 pub mod SoleLaws
 pub mod DeliveryLaws

@@ -2,9 +2,9 @@
 use Rattle.std.proofs.Common.{◌≡◌, ◌≢◌, ◌⊎◌, ◌∙◌, ◌++◌, ℕ, inl, inr, Bool, false, List, [], length, map, Option, refl, sym, ap, subst, append_assoc}
 use Rattle.std.specs.Prelude.{IfSome, IfOk, IfErr, Result, Ok, Err}
 use Rattle.std.specs.List.{AllZip}
-use Rattle.std.proofs.lemmas.List.{length-map}
 use Rattle.kept_bodies.specs.Bodies.{BodyValue}
 use Rattle.follow_filters.specs.declared.plan.Plan.{Plan}
+use Rattle.options.specs.declared.naming.PageNames.{PageNames}
 use Rattle.options.specs.declared.order.Order.{Order}
 use Rattle.fetcher.specs.declared.fetcher.Fetcher.{Ghosts as Meaning}
 use Rattle.frontier_core.specs.Invariants.{IsSound, IsComplete, IsOverfull}
@@ -25,9 +25,6 @@ use Rattle.workers.specs.Retrieval.{IsRetrieved, IsPartRetrieved, IsStopped}
 use Rattle.workers.specs.Sites.{IsCompleteFor}
 use Rattle.workers.specs.declared.retrieval.Halt.{Halt}
 use Rattle.local_tree.specs.Folders.{Holding}
-use Rattle.local_names.specs.Names.{IsNaming}
-use Rattle.local_names.specs.PlainNames.{plain_name_of}
-use Rattle.local_names.specs.declared.rules.NameRules.{NameRules}
 use Rattle.local_tree.specs.SiteFiles.{IsWhole, IsTorn}
 use Rattle.report.specs.Entries.{harvest_lines_of}
 use Rattle.report.specs.Named.{names_in}
@@ -37,12 +34,13 @@ use Rattle.retriever.specs.Found.{Crew, crew_of, MaySay, MaySayRules, asks_of, E
 use Rattle.retriever.specs.Live.{AreOfCrew, IsRetrievedLive, IsStoppedLive, EndsLive, Lives}
 use Rattle.retriever.specs.Parts.{shown_of}
 use Rattle.retriever.specs.Retrieved.{Retrieved, Stopped}
+use Rattle.retriever.specs.Site.{AreNamesOf, kinds_of}
 use Rattle.retriever.specs.inner.Parts.{IsRead, IsToldAs, status_told}
 use Rattle.retriever.specs.inner.Puts.{IsHaltTold, IsPutOf}
 use Rattle.report.specs.Trace.{trace_text}
 use Rattle.retriever.proofs.FoundLaws.{are_lines}
 use Rattle.retriever.proofs.DeliveryLaws.{told_delivered}
-use Rattle.retriever.proofs.EndLaws.{are_named, none_shown, status_of}
+use Rattle.retriever.proofs.EndLaws.{are_named, names_count, none_shown, status_of}
 
 -- what is complete by its own record is complete for that
 complete_for : (p : Policy) (s : State) → IsComplete p s → IsCompleteFor p (answers s) s
@@ -57,11 +55,11 @@ complete_for p s complete = record {
 
 -- ---- a harvest
 
-retrieved : {F : Type 0} (crew : Crew F) (plan : Plan) (rules : NameRules) (h : Harvested BodyValue) (names : List (List ℕ)) → IsRetrieved (MaySay crew) (MaySayRules crew) plan (asks_of crew) h → IsRead h
-    → IsNaming (map (plain_name_of rules) h.kept) names → AreOfCrew crew h.trace → IsRetrievedLive crew plan rules h.trace (harvest_lines_of h names) h.bodies
-retrieved crew plan rules h names is read naming by =
+retrieved : {F : Type 0} (crew : Crew F) (plan : Plan) (naming : PageNames) (h : Harvested BodyValue) (names : List (List ℕ)) → IsRetrieved (MaySay crew) (MaySayRules crew) plan (asks_of crew) h → IsRead h
+    → AreNamesOf naming h.kept (kinds_of h.bodies) names → AreOfCrew crew h.trace → IsRetrievedLive crew plan naming h.trace (harvest_lines_of h names) h.bodies
+retrieved crew plan naming h names is read given by =
     let sound = subst (λ (o : Option Plan). IfSome o (λ plan. IsSound (policy plan) h.state)) is.follows read.3 in
-    let long : length names ≡ length h.kept = naming.count ∙ length-map h.kept (plain_name_of rules) in
+    let long : length names ≡ length h.kept = names_count naming h names given in
     record {
       state = h.state;
       replay = is.replay;
@@ -70,14 +68,14 @@ retrieved crew plan rules h names is read naming by =
       found = record {
         asked = are_asked (MaySay crew) (MaySayRules crew) plan (asks_of crew) h.state is.once is.recorded is.complete is.told;
         reported = are_lines (policy plan) (answers h.state) h names read.0 read.1 sound.addresses sound.few (complete_for (policy plan) h.state is.complete) is.quiet;
-        named = are_named plan rules h names read.0 read.1 read.2 is.follows sound.addresses naming;
+        named = are_named plan naming h names read.0 read.1 read.2 is.follows sound.addresses given;
         kept = subst (λ (pages : List Text). AllZip (IsBodyOf (MaySay crew) (answers h.state)) pages h.bodies) (sym (pages_of_lines h names read.0 read.1 read.2 long)) is.bodies;
       };
     }
 
 -- the names in the lines of a harvest are those that were given
-given : (rules : NameRules) (h : Harvested BodyValue) (names : List (List ℕ)) → IsRead h → IsNaming (map (plain_name_of rules) h.kept) names → names ≡ names_in (harvest_lines_of h names)
-given rules h names read naming = sym (names_of_lines h names read.0 read.1 read.2 (naming.count ∙ length-map h.kept (plain_name_of rules)))
+given : (naming : PageNames) (h : Harvested BodyValue) (names : List (List ℕ)) → IsRead h → AreNamesOf naming h.kept (kinds_of h.bodies) names → names ≡ names_in (harvest_lines_of h names)
+given naming h names read are = sym (names_of_lines h names read.0 read.1 read.2 (names_count naming h names are))
 
 part_retrieved : {F : Type 0} (crew : Crew F) (plan : Plan) (cause : Cause) (h : Harvested BodyValue) → IsPartRetrieved (MaySay crew) (MaySayRules crew) plan (asks_of crew) cause h
     → (cause ≡ why.Full → HasTooMany (policy plan) (answers h.state)) → AreOfCrew crew h.trace → IsStoppedLive crew plan cause h.trace

@@ -2,7 +2,7 @@
 use Rattle.std.proofs.Common.{◌≡◌, ◌≢◌, ℕ, inl, inr, Bool, true, false, List, [], Option, Some, None, refl, sym, ap, subst, ◌∙◌}
 use Rattle.std.specs.Prelude.{Ok}
 use Rattle.frontier_core.specs.Machine.{IsQuiet}
-use Rattle.frontier_core.specs.Routes.{Answers}
+use Rattle.site_records.specs.Records.{RecordedAnswers}
 use Rattle.frontier_core.specs.declared.event.Cause.TheVariants as cause
 use Rattle.frontier_core.specs.declared.event.Event.{Event}
 use Rattle.options.specs.Order.{order_of, ordered_by}
@@ -120,33 +120,33 @@ runs_refused words known before after wrong status ends (inr told) = record { en
 -- ---- by the order
 
 -- what is found of a site, without the events
-found_of : (order : Order) (whole : Answers) (shown : List Event) (finish : Finish) → Finishes order whole shown finish → IsFoundOf order whole finish
-found_of order whole shown (Retrieved lines) (are, named, events) = (are, named)
-found_of order whole shown (Stopped cause.Full) (many, events) = many
-found_of order whole shown (Stopped cause.Memory) finishes = tt
-found_of order whole shown (Stopped cause.Mismatch) (several, none) = several
+found_of : (order : Order) (site : RecordedAnswers) (shown : List Event) (finish : Finish) → Finishes order site shown finish → IsFoundOf order site finish
+found_of order site shown (Retrieved lines) (are, named, events) = (are, named)
+found_of order site shown (Stopped cause.Full) (many, events) = many
+found_of order site shown (Stopped cause.Memory) finishes = tt
+found_of order site shown (Stopped cause.Mismatch) (several, none) = several
 
 -- no events are shown that aren't ordered
 unshown : (b : Bool) (AreSuch : List Event → Type 0) (shown : List Event) → AreShown b AreSuch shown → b ≡ false → shown ≡ []
 unshown true AreSuch shown are is = (let other : true ≡ false = is in cc)
 unshown false AreSuch shown are is = are
 
-none_unordered : (order : Order) (whole : Answers) (shown : List Event) (finish : Finish) → Finishes order whole shown finish → order.trace ≡ false → shown ≡ []
-none_unordered order whole shown (Retrieved lines) (are, named, events) = unshown order.trace (AreEventsOf order.workers order.plan whole IsQuiet) shown events
-none_unordered order whole shown (Stopped cause.Full) (many, events) = unshown order.trace (AreEventsOf order.workers order.plan whole (HasStopped cause.Full)) shown events
-none_unordered order whole shown (Stopped cause.Memory) (inl none) = λ is. none
-none_unordered order whole shown (Stopped cause.Memory) (inr events) = unshown order.trace (AreEventsOf order.workers order.plan whole (HasStopped cause.Memory)) shown events
-none_unordered order whole shown (Stopped cause.Mismatch) (several, none) = λ is. none
+none_unordered : (order : Order) (site : RecordedAnswers) (shown : List Event) (finish : Finish) → Finishes order site shown finish → order.trace ≡ false → shown ≡ []
+none_unordered order site shown (Retrieved lines) (are, named, events) = unshown order.trace (AreEventsOf order.workers order.plan (whole_of site) IsQuiet) shown events
+none_unordered order site shown (Stopped cause.Full) (many, events) = unshown order.trace (AreEventsOf order.workers order.plan (whole_of site) (HasStopped cause.Full)) shown events
+none_unordered order site shown (Stopped cause.Memory) (inl none) = λ is. none
+none_unordered order site shown (Stopped cause.Memory) (inr events) = unshown order.trace (AreEventsOf order.workers order.plan (whole_of site) (HasStopped cause.Memory)) shown events
+none_unordered order site shown (Stopped cause.Mismatch) (several, none) = λ is. none
 
 module _ (form : Form) (order : Order) (known before after : Option (List ℕ)) where
   finds_output : (text : List ℕ) (wanted status : ℕ) → IsOutput form.tells order known text wanted → IsDelivered before after text wanted status → FindsIn form order known before after status
   finds_output text wanted status (site, tells, output) told = record {
     ending = Ended (trace_text output.shown) output.finish;
     ends = (
-      (λ off. ap (λ (events : List Event). trace_text events) (none_unordered order (whole_of site) output.shown output.finish output.finishes off)),
+      (λ off. ap (λ (events : List Event). trace_text events) (none_unordered order site output.shown output.finish output.finishes off)),
       site,
       tells,
-      found_of order (whole_of site) output.shown output.finish output.finishes,
+      found_of order site output.shown output.finish output.finishes,
     );
     written = delivered before after text wanted status (Ended (trace_text output.shown) output.finish) output.text_is output.status_is told;
   }

@@ -5,8 +5,8 @@ use Rattle.std.specs.Fmt.{decimal}
 use Rattle.std.specs.List.{AllZip}
 use Rattle.kept_bodies.specs.Bodies.{BodyValue}
 use Rattle.follow_filters.specs.declared.plan.Plan.{Plan}
+use Rattle.options.specs.declared.naming.PageNames.{PageNames}
 use Rattle.options.specs.declared.order.Order.{Order}
-use Rattle.local_names.specs.declared.rules.NameRules.{NameRules}
 use Rattle.fetcher.specs.declared.fetcher.Ask.{Ask}
 use Rattle.fetcher.specs.declared.fetcher.Ask.TheVariants as ask
 use Rattle.fetcher.specs.declared.fetcher.Fetcher.{Ghosts as Meaning}
@@ -27,7 +27,7 @@ use Rattle.report.specs.Report.{Line, report_text}
 use Rattle.retriever.specs.Parts.{IsDelivered}
 use Rattle.retriever.specs.Retrieved.{Finish, Retrieved, Stopped}
 use Rattle.retriever.specs.Run.{finish_text, finish_status}
-use Rattle.retriever.specs.Site.{AreLines, AreNamed}
+use Rattle.retriever.specs.Site.{AreLines, AreNamed, kinds_of}
 
 -- ---- a crew
 
@@ -56,12 +56,12 @@ asks_of crew = all_gained crew.means crew.first crew.left
 -- ---- what was found
 
 -- Just this is recorded of what the fetchers were asked, each ask made once. The lines are those of the breadth-first retrieval of
--- what is recorded, whose pages have their names by these rules, and the bodies those of the pages with names, each one that the
+-- what is recorded, whose pages have their names by these rules and by the kinds of their bodies, and the bodies those of the pages with names, each one that the
 -- fetchers may have answered.
-pub record IsFound {F : Type 0} (crew : Crew F) (plan : Plan) (rules : NameRules) (recorded_as : Answers) (lines : List Line) (bodies : List BodyValue) : Type 0 where
+pub record IsFound {F : Type 0} (crew : Crew F) (plan : Plan) (naming : PageNames) (recorded_as : Answers) (lines : List Line) (bodies : List BodyValue) : Type 0 where
   pub asked : AreAsked (MaySay crew) (MaySayRules crew) plan (asks_of crew) recorded_as
   pub reported : AreLines (policy plan) recorded_as lines
-  pub named : AreNamed plan rules lines
+  pub named : AreNamed plan naming (kinds_of bodies) lines
   pub kept : AllZip (IsBodyOf (MaySay crew) recorded_as) (named_pages lines) bodies
 
 -- This is recorded of what the fetchers were asked before the retrieval stopped: what was asked for, each once, is wanted by what

@@ -2,8 +2,8 @@
 use Rattle.std.specs.Prelude.{◌≡◌, ◌≢◌, ◌⊎◌, ℕ, List, [], ◌++◌, length, Some}
 use Rattle.kept_bodies.specs.Bodies.{BodyValue}
 use Rattle.follow_filters.specs.declared.plan.Plan.{Plan}
+use Rattle.options.specs.declared.naming.PageNames.{PageNames}
 use Rattle.options.specs.declared.order.Order.{Order}
-use Rattle.local_names.specs.declared.rules.NameRules.{NameRules}
 use Rattle.fetcher.specs.declared.fetcher.Fetcher.{Ghosts as Meaning}
 use Rattle.frontier_core.specs.Routes.{HasTooMany}
 use Rattle.frontier_core.specs.Machine.{State, answers, IsQuiet}
@@ -32,12 +32,12 @@ abbrev pub AreOfCrew : {F : Type 0} → Crew F → List Event → Type 0
 AreOfCrew crew events = AreByCrew (length crew.first) events × AreOwn crew.means 0 crew.first crew.left events
 
 -- The fetchers were asked, and these events of their workers happened, until nothing was left to do, and this was found.
-pub record IsRetrievedLive {F : Type 0} (crew : Crew F) (plan : Plan) (rules : NameRules) (events : List Event) (lines : List Line) (bodies : List BodyValue) : Type 0 where
+pub record IsRetrievedLive {F : Type 0} (crew : Crew F) (plan : Plan) (naming : PageNames) (events : List Event) (lines : List Line) (bodies : List BodyValue) : Type 0 where
   pub state : State
   pub replay : IsReplay (policy plan) events state
   pub by : AreOfCrew crew events
   pub quiet : IsQuiet state
-  pub found : IsFound crew plan rules (answers state) lines bodies
+  pub found : IsFound crew plan naming (answers state) lines bodies
 
 -- The fetchers were asked, and these events of their workers happened, until the retrieval stopped for the cause: what was
 -- asked for is recorded or was given up. The table is full only where what is recorded has more candidates than the plan lets be

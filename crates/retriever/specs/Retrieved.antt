@@ -1,5 +1,5 @@
 -- What a retrieval of a site comes to, with what is shown of its trace.
-use Rattle.std.specs.Prelude.{◌≡◌, ◌≢◌, ◌⊎◌, ℕ, Bool, true, false, List, [], Some}
+use Rattle.std.specs.Prelude.{◌≡◌, ◌≢◌, ◌⊎◌, ℕ, Bool, true, false, List, [], map, Some}
 use Rattle.follow_filters.specs.declared.plan.Plan.{Plan}
 use Rattle.options.specs.declared.order.Order.{Order}
 use Rattle.fetcher.specs.declared.outcome.Outcome.{Outcome}
@@ -13,8 +13,10 @@ use Rattle.frontier_core.specs.declared.event.Cause.{Cause}
 use Rattle.frontier_core.specs.declared.event.Cause.TheVariants as cause
 use Rattle.frontier_core.specs.declared.event.Event.{Event}
 use Rattle.workers.specs.OneWorker.{AreByCrew}
+use Rattle.report.specs.Named.{named_pages}
 use Rattle.report.specs.Report.{Line}
-use Rattle.retriever.specs.Site.{AreLines, AreNamed}
+use Rattle.site_records.specs.Records.{RecordedAnswers}
+use Rattle.retriever.specs.Site.{AreLines, AreNamed, kind_at, whole_of}
 
 -- what is recorded is what the whole site has
 pub record IsPartOf (m whole : Answers) : Type 0 where
@@ -43,11 +45,12 @@ pub data Finish : Type 0 where
 
 -- the retrieval that is ordered of a site comes to this, and this is shown of its trace; where memory was short there
 -- may be nothing to show. A check of several workers may fail; one worker has none
-abbrev pub Finishes : Order → Answers → List Event → Finish → Type 0
-Finishes order whole shown (Retrieved lines) =
-    AreLines (policy order.plan) whole lines × AreNamed order.plan order.names lines × AreShown order.trace (AreEventsOf order.workers order.plan whole IsQuiet) shown
-Finishes order whole shown (Stopped cause.Full) =
-    HasTooMany (policy order.plan) whole × AreShown order.trace (AreEventsOf order.workers order.plan whole (HasStopped cause.Full)) shown
-Finishes order whole shown (Stopped cause.Memory) =
-    (shown ≡ []) ⊎ AreShown order.trace (AreEventsOf order.workers order.plan whole (HasStopped cause.Memory)) shown
-Finishes order whole shown (Stopped cause.Mismatch) = (order.workers ≢ 1) × (shown ≡ [])
+abbrev pub Finishes : Order → RecordedAnswers → List Event → Finish → Type 0
+Finishes order site shown (Retrieved lines) =
+    AreLines (policy order.plan) (whole_of site) lines × AreNamed order.plan order.names (map (kind_at site) (named_pages lines)) lines
+    × AreShown order.trace (AreEventsOf order.workers order.plan (whole_of site) IsQuiet) shown
+Finishes order site shown (Stopped cause.Full) =
+    HasTooMany (policy order.plan) (whole_of site) × AreShown order.trace (AreEventsOf order.workers order.plan (whole_of site) (HasStopped cause.Full)) shown
+Finishes order site shown (Stopped cause.Memory) =
+    (shown ≡ []) ⊎ AreShown order.trace (AreEventsOf order.workers order.plan (whole_of site) (HasStopped cause.Memory)) shown
+Finishes order site shown (Stopped cause.Mismatch) = (order.workers ≢ 1) × (shown ≡ [])

@@ -4,8 +4,8 @@ use Rattle.std.specs.Fmt.{decimal}
 use Rattle.std.specs.Io.KnownBytes.{Appends}
 use Rattle.address.specs.declared.fault.AddressFault.{AddressFault}
 use Rattle.address.specs.declared.fault.AddressFault.TheVariants as refused
-use Rattle.fetcher.specs.Sites.{SiteAnswers}
 use Rattle.site_inputs.specs.declared.input_fault.InputFault.{InputFault}
+use Rattle.site_records.specs.Records.{RecordedAnswers}
 use Rattle.site_inputs.specs.declared.input_fault.InputFault.TheVariants as input
 use Rattle.frontier_core.specs.declared.event.Event.{Event}
 use Rattle.options.specs.Advice.{advice_text}
@@ -19,7 +19,7 @@ use Rattle.retriever.specs.Order.{IsInputOrder, AreForInput, AreForLive}
 use Rattle.report.specs.ExitStatus.{exit_status, outcomes_in}
 use Rattle.report.specs.Report.{report_text}
 use Rattle.retriever.specs.Retrieved.{Finish, Retrieved, Stopped, Finishes}
-use Rattle.retriever.specs.Site.{IsToldBy, IsWrongBy, whole_of}
+use Rattle.retriever.specs.Site.{IsToldBy, IsWrongBy}
 use Rattle.streams.specs.Streams.{IsInput, AppendsFront}
 use Rattle.report.specs.Trace.{cause_word, trace_text}
 use Rattle.retriever.specs.declared.fault.Fault.{Fault}
@@ -141,7 +141,7 @@ ending_status (Ended trace finish) = finish_status finish
 -- the input tells a site of which the retrieval that is ordered comes to this
 abbrev pub FinishesOn : Order → List ℕ → List Event → Finish → Type 0
 FinishesOn order input shown finish =
-    (length input ≤ MAX_INPUT) × (site : SiteAnswers) × IsToldBy order.source order.plan.robots input site × Finishes order (whole_of site) shown finish
+    (length input ≤ MAX_INPUT) × (site : RecordedAnswers) × IsToldBy order.source order.plan.robots input site × Finishes order site shown finish
 
 -- the words and the input come to this ending
 abbrev pub Ends : List (List ℕ) → List ℕ → Ending → Type 0

@@ -1,15 +1,14 @@
 //! A run: from the words and the input to what is written.
 ghost use Rattle.std.specs.Prelude.{◌≡◌, ℕ, List, Ok, IfOk, IfErr, map, string_bytes};
 ghost use Rattle.site_maps.specs.Maps.{says_of, IsFault as IsFaultOfMap};
-ghost use Rattle.site_records.specs.Records.{says_of as record_says, IsFault as IsFaultOfRecord};
-ghost use Rattle.frontier_core.specs.Routes.{Answers};
+ghost use Rattle.site_records.specs.Records.{says_of as record_says, IsFault as IsFaultOfRecord, RecordedAnswers};
 ghost use Rattle.workers.specs.Sites.{Fits};
 ghost use Rattle.options.specs.Order.{order_of, ordered_by};
 ghost use Rattle.retriever.specs.Order.{AreForInput};
 ghost use Rattle.retriever.specs.InputFound.{TellsSite, TellsFault, FindsIn, map_form, record_form};
-ghost use Rattle.retriever.specs.Site.{IsMapOf, IsRecordOf, IsToldBy, without_bodies};
+ghost use Rattle.retriever.specs.Site.{IsMapOf, IsRecordOf, IsToldBy, whole_of, with_bare_bodies};
 ghost use Rattle.retriever.specs.Parts.{IsDelivered, IsFaultDelivered};
-ghost use Rattle.retriever.specs.inner.Parts.{IsOutput, IsOutputOf, IsUnfit};
+ghost use Rattle.retriever.specs.inner.Parts.{HasKinds, IsOutput, IsOutputOf, IsUnfit};
 ghost use Rattle.retriever.specs.Run.{Runs};
 
 use crate::copies::{Copied, copies_of};
@@ -29,7 +28,7 @@ pub(crate) const MAX_INPUT: usize = 1_073_741_824;
 
 // The site of the map that is the input.
 fn map_of<R: Read>(alloc: Global, reader: &mut R) -> Result<MapSite, Fault>
-    ensures ok { IfOk result (λ site. TellsSite IsMapOf (R.remaining reader.old) (says_of site.answers site.rules)) }
+    ensures ok { IfOk result (λ site. TellsSite IsMapOf (R.remaining reader.old) (with_bare_bodies (says_of site.answers site.rules))) }
     ensures err { IfErr result (TellsFault IsFaultOfMap (R.remaining reader.old)) }
 {
     let input = read_input(alloc, reader, MAX_INPUT)?;
@@ -38,7 +37,7 @@ fn map_of<R: Read>(alloc: Global, reader: &mut R) -> Result<MapSite, Fault>
 
 // The site of the record that is the input, by whether robots are honoured. The record's own bytes are dropped.
 fn record_of<R: Read>(alloc: Global, reader: &mut R, robots: bool) -> Result<RecordedSite, Fault>
-    ensures ok { IfOk result (λ site. TellsSite (IsRecordOf robots) (R.remaining reader.old) (without_bodies (record_says site.answers site.rules))) }
+    ensures ok { IfOk result (λ site. TellsSite (IsRecordOf robots) (R.remaining reader.old) (record_says site.answers site.rules)) }
     ensures err { IfErr result (TellsFault (IsFaultOfRecord robots) (R.remaining reader.old)) }
 {
     let input = read_input(alloc, reader, MAX_INPUT)?;
@@ -52,7 +51,8 @@ fn retrieve<H: Threads + Wait + Sync, F: Copied>(
     order: &Order,
     site: &F,
 ) -> Result<Output, AllocError>
-    ensures { (whole : Answers) → Fits (F.says (F.site site.now)) (F.rules (F.site site.now)) whole → IfOk result (λ output. IsOutputOf order.now whole (string_bytes output.text) output.status) }
+    ensures { (told : RecordedAnswers) → Fits (F.says (F.site site.now)) (F.rules (F.site site.now)) (whole_of told) → HasKinds (F.says (F.site site.now)) told
+        → IfOk result (λ output. IsOutputOf order.now told (string_bytes output.text) output.status) }
 {
     let copies = copies_of(alloc, site, order.workers)?;
     let (retrieved, copies) = workers::retrieve_shown(rt, alloc, &order.plan, copies, None);

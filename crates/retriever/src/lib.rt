@@ -4,7 +4,7 @@
 //! and told to a person in `specs/Program.antt`. Its tests stand in `live_tests`.
 #![tactic(auto)]
 
-pub use crate::arguments::{arguments, with_environment};
+pub use crate::environment::{arguments, with_environment};
 pub use crate::input_run::{run, run_of_order};
 pub use crate::live_run::live;
 pub use crate::program::run_program;
@@ -13,8 +13,8 @@ pub use crate::telling::{Telling, telling_of};
 pub use live_system::{HoldFault, System};
 pub use streams::{ReadFault, read_input};
 
-mod arguments;
 mod copies;
+mod environment;
 mod fault;
 mod input_run;
 mod live_order;

@@ -15,9 +15,8 @@ use crate::told::{halt_text, telling_of};
 use fetcher::Fetcher;
 use frontier_core::Cause;
 use kept_bodies::Body;
-use local_names::NameRules;
 use local_tree::{Folder, WriteFault, write_site};
-use options::Order;
+use options::{Order, PageNames};
 use report::exit_status;
 use std::alloc::{AllocError, Global};
 use std::io::Write;
@@ -142,16 +141,16 @@ fn put_and_tell<D: Folder, W: Write>(
 // Puts and tells a harvest, whose kept pages have their names by these rules; where there is no memory for its names and its text nothing is put.
 fn finish_harvest<D: Folder, W: Write>(
     alloc: Global,
-    rules: &NameRules,
+    naming: &PageNames,
     is_shown: bool,
     harvest: &Harvest<Body>,
     folder: &mut D,
     writer: &mut W,
 ) -> Result<u8, WriteFailed>
-    ensures { IsPutOf (IsToldAs (W.contents writer.old) (W.contents writer.new) result) rules.now is_shown (Ok harvest.now)
+    ensures { IsPutOf (IsToldAs (W.contents writer.old) (W.contents writer.new) result) naming.now is_shown (Ok harvest.now)
         (holding D.files D.failed folder.old) (holding D.files D.failed folder.new) }
 {
-    match telling_of(alloc, rules, is_shown, harvest) {
+    match telling_of(alloc, naming, is_shown, harvest) {
         Ok(telling) => put_and_tell(
             alloc,
             telling.names.as_slice(),
@@ -167,17 +166,17 @@ fn finish_harvest<D: Folder, W: Write>(
 /// Puts and tells what was retrieved, whose kept pages have their names by these rules. The error is that the writer failed.
 pub(crate) fn finish<D: Folder, W: Write>(
     alloc: Global,
-    rules: &NameRules,
+    naming: &PageNames,
     is_shown: bool,
     retrieved: &Result<Harvest<Body>, Halt<Body>>,
     folder: &mut D,
     writer: &mut W,
 ) -> Result<u8, WriteFailed>
-    ensures { IsPutOf (IsToldAs (W.contents writer.old) (W.contents writer.new) result) rules.now is_shown retrieved.now
+    ensures { IsPutOf (IsToldAs (W.contents writer.old) (W.contents writer.new) result) naming.now is_shown retrieved.now
         (holding D.files D.failed folder.old) (holding D.files D.failed folder.new) }
 {
     match retrieved {
-        Ok(harvest) => finish_harvest(alloc, rules, is_shown, harvest, folder, writer),
+        Ok(harvest) => finish_harvest(alloc, naming, is_shown, harvest, folder, writer),
         Err(halt) => tell_halt(alloc, is_shown, halt, writer),
     }
 }

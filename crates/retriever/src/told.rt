@@ -1,18 +1,20 @@
 //! What is told of a retrieval: its report, or the line of the cause for which it stopped.
 ghost use Rattle.std.specs.Prelude.{◌≡◌, ◌++◌, ◌&&◌, IfOk, OnOk, length, map, string_bytes};
-ghost use Rattle.local_names.specs.Names.{AreDistinct, IsNaming};
-ghost use Rattle.local_names.specs.PlainNames.{plain_name_of};
+ghost use Rattle.harvest.specs.Gathered.{ArePages};
+ghost use Rattle.local_names.specs.Names.{AreDistinct};
 ghost use Rattle.report.specs.Entries.{harvest_lines_of};
 ghost use Rattle.report.specs.Report.{report_text};
 ghost use Rattle.retriever.specs.Parts.{shown_of};
 ghost use Rattle.retriever.specs.inner.Parts.{IsRead, IsRetrievalTold, is_borne_out};
 ghost use Rattle.retriever.specs.Retrieved.{Stopped};
 ghost use Rattle.retriever.specs.Run.{finish_text};
+ghost use Rattle.retriever.specs.Site.{AreNamesOf, kinds_of};
 ghost use Rattle.report.specs.Trace.{trace_text};
 
 use frontier_core::{Cause, Event};
-use kept_bodies::Body;
-use local_names::{NameRules, names};
+use kept_bodies::{Body, BodyKind};
+use local_names::{names, names_with_endings};
+use options::PageNames;
 use report::{cause_word, exit_status, push_trace, report_text};
 use std::alloc::{AllocError, Global};
 use workers::{Halt, Harvest};
@@ -41,15 +43,46 @@ fn push_shown(text: &mut String, is_shown: bool, trace: &[Event]) -> Result<(), 
     Ok(())
 }
 
+// The kinds of a harvest's kept bodies, in their places.
+fn kinds_of(alloc: Global, harvest: &Harvest<Body>) -> Result<Vec<BodyKind>, AllocError>
+    requires { length harvest.now.bodies ≡ length harvest.now.kept }
+    ensures { IfOk result (λ kinds. kinds.items ≡ kinds_of harvest.now.bodies) }
+{
+    let mut kinds = Vec::new(alloc);
+    for i in 0..harvest.kept().len() {
+        kinds.push(harvest.kept_body(i).kind())?;
+    }
+    Ok(kinds)
+}
+
+// The names of a harvest's kept pages by these rules.
+fn names_of(
+    alloc: Global,
+    naming: &PageNames,
+    harvest: &Harvest<Body>,
+) -> Result<Vec<String>, AllocError>
+    ensures naming { IfOk result (λ names. AreNamesOf naming.now harvest.now.kept (kinds_of harvest.now.bodies) (map string_bytes names.items)) }
+    ensures count { IfOk result (λ names. length names.items ≡ length harvest.now.kept) }
+    ensures distinct { IfOk result (λ names. AreDistinct (map string_bytes names.items)) }
+    ensures pages { ArePages harvest.now }
+{
+    let pages = harvest.kept();
+    if naming.has_endings {
+        let kinds = kinds_of(alloc, harvest)?;
+        return names_with_endings(alloc, &naming.rules, pages, &kinds);
+    }
+    names(alloc, &naming.rules, pages)
+}
+
 /// The names of a harvest's kept pages by these rules, and its text: its trace, if it is to be shown, and its report, in which
 /// these pages have their names.
 pub(crate) fn telling_of(
     alloc: Global,
-    rules: &NameRules,
+    naming: &PageNames,
     is_shown: bool,
     harvest: &Harvest<Body>,
 ) -> Result<Telling, AllocError>
-    ensures naming { IfOk result (λ telling. IsNaming (map (plain_name_of rules.now) harvest.now.kept) (map string_bytes telling.names.items)) }
+    ensures naming { IfOk result (λ telling. AreNamesOf naming.now harvest.now.kept (kinds_of harvest.now.bodies) (map string_bytes telling.names.items)) }
     ensures count { IfOk result (λ telling. length telling.names.items ≡ length harvest.now.kept) }
     ensures distinct { IfOk result (λ telling. AreDistinct (map string_bytes telling.names.items)) }
     ensures text { IfOk result (λ telling. string_bytes telling.text
@@ -57,7 +90,7 @@ pub(crate) fn telling_of(
     ensures read { IfOk result (λ telling. IsRead harvest.now) }
 {
     let trace = harvest.trace();
-    let names = names(alloc, rules, harvest.kept())?;
+    let names = names_of(alloc, naming, harvest)?;
     let report = report_text(alloc, harvest, names.as_slice())?;
     let mut text = String::new(alloc);
     push_shown(&mut text, is_shown, trace)?;
@@ -94,15 +127,15 @@ pub(crate) fn halt_text(
 /// What is told of what was retrieved, whose kept pages have their names by these rules.
 pub(crate) fn told_of(
     alloc: Global,
-    rules: &NameRules,
+    naming: &PageNames,
     is_shown: bool,
     retrieved: &Result<Harvest<Body>, Halt<Body>>,
 ) -> Result<Output, AllocError>
-    ensures { IfOk result (λ output. IsRetrievalTold rules.now is_shown retrieved.now (string_bytes output.text) output.status) }
+    ensures { IfOk result (λ output. IsRetrievalTold naming.now is_shown retrieved.now (string_bytes output.text) output.status) }
 {
     match retrieved {
         Ok(harvest) => {
-            let Telling { names: _, text } = telling_of(alloc, rules, is_shown, harvest)?;
+            let Telling { names: _, text } = telling_of(alloc, naming, is_shown, harvest)?;
             let status = exit_status(harvest);
             Ok(Output { text, status })
         }

@@ -2,45 +2,48 @@
 use Rattle.std.specs.Prelude.{◌≡◌, ◌≢◌, ◌⊎◌, ◌++◌, ◌&&◌, ℕ, Bool, true, false, List, map, Option, Result, Ok, Err, IfSome}
 use Rattle.std.specs.Io.KnownBytes.{Appends}
 use Rattle.kept_bodies.specs.Bodies.{BodyValue}
+use Rattle.options.specs.declared.naming.PageNames.{PageNames}
 use Rattle.options.specs.declared.order.Order.{Order}
 use Rattle.options.specs.declared.order.Source.TheVariants as source
-use Rattle.fetcher.specs.Sites.{SiteAnswers}
 use Rattle.frontier_core.specs.Invariants.{IsSound}
 use Rattle.frontier_core.specs.Plans.{policy}
-use Rattle.frontier_core.specs.Routes.{Answers}
+use Rattle.frontier_core.specs.Tables.{Text}
+use Rattle.fetcher.specs.declared.outcome.Outcome.{Outcome}
 use Rattle.frontier_core.specs.declared.event.Cause.{Cause}
 use Rattle.frontier_core.specs.declared.event.Cause.TheVariants as cause
 use Rattle.frontier_core.specs.declared.event.Event.{Event}
 use Rattle.harvest.specs.Gathered.{AreEntries, AreRecords, ArePages}
 use Rattle.harvest.specs.Harvests.{Harvested}
 use Rattle.workers.specs.declared.retrieval.Halt.{Halt}
-use Rattle.local_names.specs.Names.{IsNaming}
-use Rattle.local_names.specs.PlainNames.{plain_name_of}
-use Rattle.local_names.specs.declared.rules.NameRules.{NameRules}
 use Rattle.report.specs.Entries.{harvest_lines_of}
 use Rattle.report.specs.ExitStatus.{exit_status}
 use Rattle.report.specs.Report.{report_text}
 use Rattle.retriever.specs.InputFound.{TellsSite, TellsFault}
 use Rattle.retriever.specs.Retrieved.{Finish, Stopped, Finishes}
 use Rattle.retriever.specs.Run.{finish_text, finish_status}
-use Rattle.retriever.specs.Site.{IsWrongBy, whole_of}
+use Rattle.site_records.specs.Records.{RecordedAnswers}
+use Rattle.retriever.specs.Site.{AreNamesOf, IsWrongBy, kind_at, kinds_of}
 use Rattle.streams.specs.Streams.{AppendsFront}
 use Rattle.report.specs.Trace.{trace_text}
 use Rattle.retriever.specs.declared.fault.Fault.{Fault}
 use Rattle.retriever.specs.declared.fault.Fault.TheVariants as fault
 use Rattle.retriever.specs.Parts.{shown_of}
 
+-- whatever body the site may give of an address is of the kind that is told
+abbrev pub HasKinds : (Text → Outcome → BodyValue → Type 0) → RecordedAnswers → Type 0
+HasKinds may_say told = (u : Text) (x : Outcome) (body : BodyValue) → may_say u x body → body.kind ≡ kind_at told u
+
 -- the retrieval of a site comes to this text and this status
-pub record IsOutputOf (order : Order) (whole : Answers) (text : List ℕ) (status : ℕ) : Type 0 where
+pub record IsOutputOf (order : Order) (site : RecordedAnswers) (text : List ℕ) (status : ℕ) : Type 0 where
   pub shown : List Event
   pub finish : Finish
-  pub finishes : Finishes order whole shown finish
+  pub finishes : Finishes order site shown finish
   pub text_is : text ≡ trace_text shown ++ finish_text finish
   pub status_is : status ≡ finish_status finish
 
 -- what the reader has left tells a site, and its retrieval comes to this text and this status
-abbrev pub IsOutput : (List ℕ → SiteAnswers → Type 0) → Order → Option (List ℕ) → List ℕ → ℕ → Type 0
-IsOutput IsOf order known text status = (site : SiteAnswers) × TellsSite IsOf known site × IsOutputOf order (whole_of site) text status
+abbrev pub IsOutput : (List ℕ → RecordedAnswers → Type 0) → Order → Option (List ℕ) → List ℕ → ℕ → Type 0
+IsOutput IsOf order known text status = (site : RecordedAnswers) × TellsSite IsOf known site × IsOutputOf order site text status
 
 -- what the order and the reader come to instead of a retrieval: a site on the network isn't one that an input tells
 abbrev pub IsUnfit : Order → Option (List ℕ) → Fault → Type 0
@@ -71,9 +74,9 @@ IsRead h = AreEntries h × AreRecords h × ArePages h × IfSome h.plan (λ plan.
 -- what is told of a retrieval: its report, in which the kept pages have their names by these rules, and the status of its records, of a
 -- harvest that was read, or the cause for which it stopped; before either what is shown of its trace, which is nothing where a
 -- check failed
-abbrev pub IsRetrievalTold : NameRules → Bool → Result (Harvested BodyValue) (Halt BodyValue) → List ℕ → ℕ → Type 0
-IsRetrievalTold rules is_shown (Ok h) text status =
-    IsRead h × (names : List (List ℕ)) × IsNaming (map (plain_name_of rules) h.kept) names × (text ≡ trace_text (shown_of is_shown h.trace) ++ report_text (harvest_lines_of h names))
+abbrev pub IsRetrievalTold : PageNames → Bool → Result (Harvested BodyValue) (Halt BodyValue) → List ℕ → ℕ → Type 0
+IsRetrievalTold naming is_shown (Ok h) text status =
+    IsRead h × (names : List (List ℕ)) × AreNamesOf naming h.kept (kinds_of h.bodies) names × (text ≡ trace_text (shown_of is_shown h.trace) ++ report_text (harvest_lines_of h names))
     × (status ≡ exit_status (map (λ recorded. recorded.1) h.records))
-IsRetrievalTold rules is_shown (Err halt) text status =
+IsRetrievalTold naming is_shown (Err halt) text status =
     (text ≡ trace_text (shown_of (is_borne_out halt.cause && is_shown) halt.harvest.trace) ++ finish_text (Stopped halt.cause)) × (status ≡ 1)

@@ -7,9 +7,7 @@ use Rattle.frontier_core.specs.declared.event.Cause.TheVariants as cause
 use Rattle.harvest.specs.Harvests.{Harvested}
 use Rattle.workers.specs.declared.retrieval.Halt.{Halt}
 use Rattle.local_tree.specs.Folders.{Holding}
-use Rattle.local_names.specs.Names.{IsNaming}
-use Rattle.local_names.specs.PlainNames.{plain_name_of}
-use Rattle.local_names.specs.declared.rules.NameRules.{NameRules}
+use Rattle.options.specs.declared.naming.PageNames.{PageNames}
 use Rattle.local_tree.specs.SiteFiles.{IsWhole, IsTorn}
 use Rattle.local_tree.specs.declared.site_files.WriteFault.{WriteFault}
 use Rattle.local_tree.specs.declared.site_files.WriteFault.TheVariants.{Device}
@@ -21,6 +19,7 @@ use Rattle.retriever.specs.Parts.{shown_of}
 use Rattle.retriever.specs.inner.Parts.{IsRead, is_borne_out}
 use Rattle.retriever.specs.Retrieved.{Stopped}
 use Rattle.retriever.specs.Run.{finish_text}
+use Rattle.retriever.specs.Site.{AreNamesOf, kinds_of}
 use Rattle.report.specs.Trace.{trace_text}
 
 -- the cause that is told where there is no memory for more
@@ -51,9 +50,9 @@ harvest_text is_shown h names = trace_text (shown_of is_shown h.trace) ++ report
 
 -- what is put and told of what was retrieved: the kept pages and the report of a harvest that was read, or the line of the
 -- cause for which it stopped; or there is no memory for it, and nothing is put
-abbrev pub IsPutOf : (List ℕ → ℕ → Type 0) → NameRules → Bool → Result (Harvested BodyValue) (Halt BodyValue) → Holding → Holding → Type 0
-IsPutOf IsTold rules is_shown (Ok h) old new =
+abbrev pub IsPutOf : (List ℕ → ℕ → Type 0) → PageNames → Bool → Result (Harvested BodyValue) (Halt BodyValue) → Holding → Holding → Type 0
+IsPutOf IsTold naming is_shown (Ok h) old new =
     ((new ≡ old) × IsTold (codes "stopped memory\n") 1)
-    ⊎ (IsRead h × (names : List (List ℕ)) × IsNaming (map (plain_name_of rules) h.kept) names
+    ⊎ (IsRead h × (names : List (List ℕ)) × AreNamesOf naming h.kept (kinds_of h.bodies) names
     × IsPutAndTold IsTold names h.bodies (harvest_text is_shown h names, exit_status (map (λ recorded. recorded.1) h.records)) old new)
-IsPutOf IsTold rules is_shown (Err halt) old new = (new ≡ old) × IsHaltTold IsTold is_shown halt
+IsPutOf IsTold naming is_shown (Err halt) old new = (new ≡ old) × IsHaltTold IsTold is_shown halt

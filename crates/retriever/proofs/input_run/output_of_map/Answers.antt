@@ -1,10 +1,10 @@
 -- The site is the map's, and what is retrieved is what it has.
 use Rattle.site_maps.specs.Maps.{says_of}
-use Rattle.retriever.specs.Site.{whole_of}
-use Rattle.retriever.proofs.EndLaws.{map_fits}
+use Rattle.retriever.specs.Site.{with_bare_bodies}
+use Rattle.retriever.proofs.EndLaws.{map_fits, map_kinds}
 use Rattle.retriever.proofs.input_run.output_of_map.Goals as goal
 
 pub returns-clause-ok : goal.returns-clause-ok
 returns-clause-ok g c =
     let site = says_of c.in_ok-site.site.answers c.in_ok-site.site.rules in
-    (site, c.in_ok-site.ensures.ok, c.in_ok-told.ensures (whole_of site) (map_fits site))
+    (with_bare_bodies site, c.in_ok-site.ensures.ok, c.in_ok-told.ensures (with_bare_bodies site) (map_fits site) (map_kinds site))

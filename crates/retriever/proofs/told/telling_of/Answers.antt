@@ -1,15 +1,15 @@
 -- The names are those that the report states, and its text stands behind what is shown.
-use Rattle.std.proofs.Common.{◌∙◌, length, ap, refl}
+use Rattle.std.proofs.Common.{refl}
 use Rattle.std.proofs.lemmas.Result.{IfOk-from_err}
 use Rattle.retriever.proofs.told.telling_of.Goals as goal
 
 pub returns : goal.returns
 returns c = record {
-  naming = rw (← c.kept.ensures.value) c.in_ok-names.ensures.naming;
-  count = c.in_ok-names.ensures.count ∙ ap length c.kept.ensures.value;
+  naming = c.in_ok-names.ensures.naming;
+  count = c.in_ok-names.ensures.count;
   distinct = c.in_ok-names.ensures.distinct;
   text = rw (c.in_ok-push_str.ensures.bytes, c.in_ok-push_shown.ensures.ok, c.new-text.ensures.bytes, c.as_str.ensures.value, c.in_ok-report.ensures.text, c.as_slice.ensures.value, c.trace-trace.ensures.trace) refl;
-  read = (c.in_ok-report.ensures.entries, c.in_ok-report.ensures.records, c.kept.ensures.pages, c.trace-trace.ensures.sound);
+  read = (c.in_ok-report.ensures.entries, c.in_ok-report.ensures.records, c.names_of.ensures.pages, c.trace-trace.ensures.sound);
 }
 
 pub returns-in_err-names : goal.returns-in_err-names
