@@ -6,7 +6,7 @@ use Rattle.retriever.proofs.told.names_of.Goals as goal
 
 pub returns-then-naming : goal.returns-then-naming
 returns-then-naming c = record {
-  naming = ended_are c.args.naming.now c.args.harvest.now _ _ c.names_with_endings.result (λ names. map string_bytes names.items) c.if-naming.true c.kept-pages.ensures.value (c.in_ok-kinds.ensures) c.names_with_endings.ensures.naming;
+  naming = ended_are c.args.naming.now c.args.harvest.now _ _ c.names_with_endings.result (λ names. map string_bytes names.items) c.if-naming.true c.kept-pages.ensures.value (c.deref.ensures.value ∙ c.in_ok-kinds.ensures) c.names_with_endings.ensures.naming;
   count = rw (← c.kept-pages.ensures.value) c.names_with_endings.ensures.count;
   distinct = c.names_with_endings.ensures.distinct;
   pages = c.kept-pages.ensures.pages;
