@@ -306,7 +306,11 @@ fn words_shape_names(rt: HostRuntime) {
     for row in SHAPES.lines() {
         let (expected, text) = halves(row, " => ");
         let order = order_of(&rt, rt.alloc(), text);
-        demand(&rt, shapes(&rt, rt.alloc(), &order.names.rules, expected), row);
+        demand(
+            &rt,
+            shapes(&rt, rt.alloc(), &order.names.rules, expected),
+            row,
+        );
         drop(order);
     }
 }
