@@ -8,6 +8,7 @@ use live_system::{HoldFault, System};
 use local_tree::DiskFolder;
 use progress::Progress;
 use record_journal::{HoldFault as Held, Journaled, Lock, Pen, SavedFile, Saving};
+use requests::Sending;
 use std::alloc::{AllocError, Global};
 use std::fs::Files;
 use std::net::Net;
@@ -66,7 +67,7 @@ where
     R::File: Close + Lock + Send + Sync,
     R::Stream: Send,
 {
-    ghost use Rattle.std.specs.Prelude.{◌≡◌, ⊤, is_some};
+    ghost use Rattle.std.specs.Prelude.{◌≡◌, ⊤, Some, is_some};
     ghost use Rattle.local_tree.specs.Folders.{opened_at};
 
     type Fetcher = Asking<'a, R>;
@@ -75,7 +76,7 @@ where
 
     type Record = Saved<'a, R>;
 
-    ghost makes = { λ network robots is_recording kept fetcher. (fetcher.inner.inner.robots ≡ robots) × (fetcher.inner.inner.keeps ≡ is_some kept) × (fetcher.inner.inner.most ≡ kept) × (fetcher.inner.is_recording ≡ is_recording) };
+    ghost makes = { λ network robots is_recording kept sends fetcher. (fetcher.inner.inner.robots ≡ robots) × (fetcher.inner.inner.keeps ≡ is_some kept) × (fetcher.inner.inner.most ≡ kept) × (fetcher.inner.inner.sends ≡ Some sends) × (fetcher.inner.is_recording ≡ is_recording) };
 
     ghost opens = { λ network path folder. folder.inner ≡ opened_at path };
 
@@ -89,6 +90,7 @@ where
         is_recording: bool,
         kept: Option<u32>,
         proxy: Option<Origin>,
+        sends: Sending,
     ) -> Asking<'a, R> {
         let fetcher = OverTcp::new(
             self.rt,
@@ -99,6 +101,7 @@ where
             robots,
             kept,
             proxy,
+            sends,
         );
         let pen = Pen::new(self.rt, self.saving);
         Asking {

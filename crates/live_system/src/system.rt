@@ -4,6 +4,7 @@ ghost use Rattle.std.specs.Prelude.{◌≡◌, ℕ, Bool, List, Option, IfOk, Er
 use address::Origin;
 use answer_notes::Recording;
 use local_tree::Folder;
+use requests::Sending;
 use std::alloc::{AllocError, Global};
 use std::io::Write;
 use std::sync::atomic::AtomicUsize;
@@ -29,9 +30,9 @@ pub trait System {
     /// What the record of a run is written into.
     type Record: Write + Drop;
 
-    // The fetchers that may be given where robots are honoured, or aren't, where answers are to be noted, or aren't, and where so
-    // many connections to a server may be kept, or none.
-    ghost makes: { Self → Bool → Bool → Option ℕ → Self.Fetcher → Type 0 };
+    // The fetchers that may be given where robots are honoured, or aren't, where answers are to be noted, or aren't, where so
+    // many connections to a server may be kept, or none, and where requests say this.
+    ghost makes: { Self → Bool → Bool → Option ℕ → Sending → Self.Fetcher → Type 0 };
 
     // The folders that may be given for a path.
     ghost opens: { Self → List ℕ → Self.Folder → Type 0 };
@@ -47,15 +48,16 @@ pub trait System {
 
     /// A fetcher for one more worker. Where robots are honoured, a page that asks that its links aren't followed has none. Where
     /// answers aren't to be noted, no memory is taken for notes. Connections are kept where it is said how many to a server may
-    /// stand at a time. For https addresses the proxy is asked, and without one none is.
+    /// stand at a time. For https addresses the proxy is asked, and without one none is. Requests say what is sent.
     fn fetcher(
         &self,
         robots: bool,
         is_recording: bool,
         kept: Option<u32>,
         proxy: Option<Origin>,
+        sends: Sending,
     ) -> Self::Fetcher
-        ensures { makes self.now robots is_recording kept result };
+        ensures { makes self.now robots is_recording kept sends result };
 
     /// The folder at a path. Nothing is made there before the first put. The error is that memory is wanting.
     fn folder(&self, path: &str) -> Result<Self::Folder, AllocError>

@@ -4,6 +4,7 @@ use address::{Address, Origin};
 use answer_notes::{Noted, Recording};
 use fetcher::{Answer, Ask, Body, FaultKind, Fetcher, Outcome};
 use local_tree::MemoryFolder;
+use requests::Sending;
 use retriever::{System, run, run_program};
 use robots_rules::RuleSet;
 use site_maps::MapSite;
@@ -103,7 +104,7 @@ impl<'a> System for Meetings<'a> {
 
     type Record = Vec<u8>;
 
-    ghost makes = { λ meetings robots is_recording kept fetcher. ⊤ };
+    ghost makes = { λ meetings robots is_recording kept sends fetcher. ⊤ };
 
     ghost opens = { λ meetings path folder. ⊤ };
 
@@ -117,6 +118,7 @@ impl<'a> System for Meetings<'a> {
         _is_recording: bool,
         _kept: Option<u32>,
         _proxy: Option<Origin>,
+        _sends: Sending,
     ) -> Meeting<'a> {
         Meeting {
             alloc: self.alloc,

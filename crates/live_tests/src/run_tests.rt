@@ -10,6 +10,7 @@ use local_names::{NameRules, names};
 use local_tree::{Folder, MemoryFolder, WriteFault, write_site};
 use memory_connect::{MemoryConnect, StoredAnswer};
 use options::read_order;
+use requests::Sending;
 use retriever::{HoldFault, System, run, run_program};
 use robots_rules::RuleSet;
 use site_records::RecordedSite;
@@ -952,7 +953,7 @@ impl<'a> System for Stored<'a> {
 
     type Record = Shut;
 
-    ghost makes = { λ stored robots is_recording kept fetcher. fetcher.inner.robots ≡ robots };
+    ghost makes = { λ stored robots is_recording kept sends fetcher. fetcher.inner.robots ≡ robots };
 
     ghost opens = { λ stored path folder. ⊤ };
 
@@ -966,6 +967,7 @@ impl<'a> System for Stored<'a> {
         _is_recording: bool,
         _kept: Option<u32>,
         _proxy: Option<Origin>,
+        _sends: Sending,
     ) -> Asked<'a> {
         let connect = MemoryConnect::new(self.alloc, self.answers, &[]);
         Asked {

@@ -1,5 +1,5 @@
 -- What the words order, or why they are refused: one function of the words.
-use Rattle.std.specs.Prelude.{◌≡◌, ◌⊎◌, ◌==◌, ℕ, length, option_and_then, Bool, true, false, not, ◌&&◌, List, [], ◌∷◌, ◌++◌, codes, Option, Some, None, is_some, nat_lt, unwrap_or, bytes_eq, option_map, Result, Ok, Err, MatchResult, if◌then◌else◌}
+use Rattle.std.specs.Prelude.{◌≡◌, ◌⊎◌, ◌==◌, ℕ, length, option_and_then, Bool, true, false, not, ◌&&◌, List, [], ◌∷◌, ◌++◌, codes, Option, Some, None, is_some, nat_lt, unwrap_or, bytes_eq, map, option_map, Result, Ok, Err, MatchResult, if◌then◌else◌}
 use Rattle.clap.specs.Kinds.{Kinds}
 use Rattle.clap.specs.Walk.{Row, Text, first_of}
 use Rattle.address.specs.Address.{read_address, read_either, origin_of, path_query_of, is_robots_file}
@@ -21,6 +21,8 @@ use Rattle.options.specs.Asked.{refusal_of, without_kind, words_refused}
 use Rattle.options.specs.Line.{rows, refusals}
 use Rattle.options.specs.Given.{is_set, level_of, number_given, list_of}
 use Rattle.options.specs.Naming.{Naming, naming_by, naming_of}
+use Rattle.requests.specs.Fields.{Sent, read_fields}
+use Rattle.requests.specs.Requests.{Sending}
 use Rattle.options.specs.declared.said.Saying.{Saying}
 use Rattle.options.specs.Said.{sayings}
 use Rattle.options.specs.Start.{with_scheme}
@@ -66,6 +68,7 @@ pub record Ordered : Type 0 where
   pub log : Option (Text × Bool)
   pub prefix : List ℕ
   pub names : Naming
+  pub fields : Sent
   pub proxy : Option (List ℕ)
   pub resume : Option Text
   pub save : Option Text
@@ -129,6 +132,11 @@ abbrev pub read_start : Bool → Text → Result (List ℕ) AddressFault
 read_start false text = read_address text
 read_start true text = read_either text
 
+-- what requests say besides their addresses, if it can be
+unfoldable pub fields_of : List Row → Option Sent
+fields_of found =
+    read_fields (first_of (codes "user-agent") found) (first_of (codes "referer") found) (is_set (codes "no-cache") found) (unwrap_or (first_of (codes "header") found) [])
+
 -- the start, or why it is no address; `http` is its scheme where it has none
 unfoldable pub start_of : List Row → Result (List ℕ) AddressFault
 start_of found =
@@ -164,10 +172,10 @@ prefix_of found = folder_of (first_of (codes "directory-prefix") found)
 unfoldable pub log_of : List Row → Option (Text × Bool)
 log_of found = option_map (λ path. (path, is_some (first_of (codes "append-output") found))) (first_of (codes "output-file") found)
 
--- what the options order with these numbers, this proxy, these names, this level, these lists and this start; without `-r` no link is followed and
+-- what the options order with these numbers, this proxy, these names, these fields, this level, these lists and this start; without `-r` no link is followed and
 -- no robots file is honoured
-abbrev pub ordered : List Row → Counts → Option (List ℕ) → Naming → Limit → (patterns directories domains : List (List ℕ) × List (List ℕ)) → List ℕ → Ordered
-ordered found counts proxy names level patterns directories domains start = record {
+abbrev pub ordered : List Row → Counts → Option (List ℕ) → Naming → Sent → Limit → (patterns directories domains : List (List ℕ) × List (List ℕ)) → List ℕ → Ordered
+ordered found counts proxy names fields level patterns directories domains start = record {
   start = start;
   others = [];
   limit = limit_within level found;
@@ -193,6 +201,7 @@ ordered found counts proxy names level patterns directories domains start = reco
   log = log_of found;
   prefix = prefix_of found;
   names = names;
+  fields = fields;
   proxy = proxy;
   resume = first_of (codes "resume") found;
   save = first_of (codes "save") found;
@@ -205,11 +214,12 @@ order_of_rows found =
     else found_or (counts_of found) words_refused (λ counts.
     found_or (proxy_of found) words_refused (λ proxy.
     found_or (naming_of found) words_refused (λ names.
+    found_or (fields_of found) words_refused (λ fields.
     found_or (level_of found) fault.Depth (λ level.
     found_or (patterns_of found) fault.Pattern (λ patterns.
     found_or (directories_of found) fault.Directory (λ directories.
     found_or (domains_of found) fault.Domain (λ domains.
-    started_at (start_of found) (λ start. Ok (ordered found counts proxy names level patterns directories domains start)))))))))
+    started_at (start_of found) (λ start. Ok (ordered found counts proxy names fields level patterns directories domains start))))))))))
 
 -- words with no kind of refusal are taken
 abbrev pub are_taken : Kinds → Bool
@@ -291,6 +301,7 @@ ordered_by order = record {
   log = option_map log_by order.log;
   prefix = order.prefix;
   names = naming_by order.names;
+  fields = order.fields;
   proxy = order.proxy;
   resume = order.resume;
   save = order.save;
@@ -299,6 +310,10 @@ ordered_by order = record {
 -- how many connections to a server may stand at a time, where they are kept
 abbrev pub kept_of : Order → Option ℕ
 kept_of order = if order.keeps_connections then Some order.plan.per_host else None
+
+-- what is sent with each request: secret fields go to the origins of the starts alone
+abbrev pub sending_of : Order → Sending
+sending_of order = record { sent = order.fields; homes = map origin_of (order.plan.start ∷ order.plan.others) }
 
 -- the result is the expected order, or the expected fault, unless memory ran out
 abbrev pub AnswersOrder : Result Order LineFault → Result Ordered LineFault → Type 0

@@ -12,7 +12,7 @@ ghost use Rattle.options.specs.declared.order.TheConstants.{MAX_WORKERS};
 ghost use Rattle.follow_filters.specs.declared.limit.Limit.TheVariants.{AtMost};
 ghost use Rattle.options.specs.Given.{level_of, list_of};
 ghost use Rattle.options.specs.Naming.{naming_by};
-ghost use Rattle.options.specs.Order.{AnswersOrder, OrdersBySayings, order_of, order_of_rows, order_of_written, order_said, are_good, is_plain_value, both, counts_of, patterns_of, directories_of, domains_of, start_of, source_of, honours_robots, limit_within, ordered, ordered_by, folder_of, prefix_of, log_by, log_of, proxy_by, proxy_of, proxy_value, read_start, root_origin};
+ghost use Rattle.options.specs.Order.{AnswersOrder, OrdersBySayings, order_of, order_of_rows, order_of_written, order_said, are_good, is_plain_value, both, counts_of, patterns_of, directories_of, domains_of, fields_of, start_of, source_of, honours_robots, limit_within, ordered, ordered_by, folder_of, prefix_of, log_by, log_of, proxy_by, proxy_of, proxy_value, read_start, root_origin};
 ghost use Rattle.options.specs.Asked.{refusal_of, without_kind, words_refused};
 ghost use Rattle.options.specs.inner.Said.{saying_in};
 ghost use Rattle.options.specs.inner.Order.{StartsAt, FailsToStart, FailsToFilter, IsNoStart, Settles, fault_of_kind, unasked};
@@ -39,6 +39,7 @@ use follow_filters::{
     Directory, Domain, Element, Elements, Limit, MAX_PER_HOST, MAX_URLS, Pattern, Plan,
 };
 use local_names::NameRules;
+use requests::{Fields, FieldsFault};
 use std::alloc::{AllocError, Global};
 
 // The numbers of workers, requests out to an origin, and addresses.
@@ -55,12 +56,13 @@ struct Counts {
     ghost max_urls_in_range: { max_urls ≤ MAX_URLS },
 }
 
-// Numbers, the proxy and what shapes names.
+// Numbers, the proxy, what shapes names and what requests say.
 #[derive(Drop)]
 struct Settings {
     counts: Counts,
     proxy: Option<Origin>,
     names: NameRules,
+    fields: Fields,
 }
 
 // The folder below which files are put, the records that are resumed and saved, and the file that takes what is told.
@@ -362,10 +364,31 @@ fn unasked(kind: ErrorKind) -> LineFault
     LineFault::Words(kind)
 }
 
-// The numbers, the proxy and what shapes names, which are words like others: their faults come before those of levels and lists.
+// What requests say. The fault is that a value can't be, or that memory ran out.
+#[tactic(auto, unfolding(crate::specs::Order::fields_of))]
+fn fields(alloc: Global, matches: &ArgMatches) -> Result<Fields, LineFault>
+    ensures { MatchResult result
+        (λ fields. fields_of (rows_of (found_of matches.now)) ≡ Some fields)
+        (λ f. ((f ≡ words_refused) × (fields_of (rows_of (found_of matches.now)) ≡ None)) ⊎ (f ≡ fault.Memory)) }
+{
+    let read = Fields::read(
+        alloc,
+        given(matches, "user-agent"),
+        given(matches, "referer"),
+        is_set(matches, "no-cache"),
+        given(matches, "header").unwrap_or(""),
+    );
+    match read {
+        Ok(fields) => Ok(fields),
+        Err(FieldsFault::Refused) => Err(LineFault::Words(ErrorKind::InvalidValue)),
+        Err(FieldsFault::Memory) => Err(LineFault::Memory),
+    }
+}
+
+// The numbers, the proxy, what shapes names and what requests say, which are words like others: their faults come before those of levels and lists.
 fn read_settings(alloc: Global, matches: &ArgMatches) -> Result<Settings, LineFault>
     ensures { MatchResult result
-        (λ s. Settles (rows_of (found_of matches.now)) (record { workers = s.counts.workers; per_host = s.counts.per_host; max_urls = s.counts.max_urls }) s.proxy (naming_by s.names))
+        (λ s. Settles (rows_of (found_of matches.now)) (record { workers = s.counts.workers; per_host = s.counts.per_host; max_urls = s.counts.max_urls }) s.proxy (naming_by s.names) s.fields)
         (λ f. ((without_kind f ≡ words_refused) × (order_of_rows (rows_of (found_of matches.now)) ≡ Err words_refused)) ⊎ (f ≡ fault.Memory)) }
 {
     if let Some(fault) = word_fault(matches) {
@@ -385,10 +408,19 @@ fn read_settings(alloc: Global, matches: &ArgMatches) -> Result<Settings, LineFa
             return Err(fault);
         }
     };
+    let fields = match fields(alloc, matches) {
+        Ok(fields) => fields,
+        Err(fault) => {
+            drop(proxy);
+            drop(names);
+            return Err(fault);
+        }
+    };
     Ok(Settings {
         counts,
         proxy,
         names,
+        fields,
     })
 }
 
@@ -445,12 +477,13 @@ fn filled(
     requires save { paths.save ≡ first_of (codes "save") (rows_of (found_of matches.now)) }
     requires log { option_map log_by paths.log ≡ log_of (rows_of (found_of matches.now)) }
     ensures { ordered_by result ≡ ordered (rows_of (found_of matches.now)) (record { workers = settings.counts.workers; per_host = settings.counts.per_host; max_urls = settings.counts.max_urls })
-        settings.proxy (naming_by settings.names) level (filters.names.given, filters.names.excluded) (filters.places.given, filters.places.excluded) (filters.hosts.given, filters.hosts.excluded) start }
+        settings.proxy (naming_by settings.names) settings.fields level (filters.names.given, filters.names.excluded) (filters.places.given, filters.places.excluded) (filters.hosts.given, filters.hosts.excluded) start }
 {
     let Settings {
         counts,
         proxy,
         names: naming,
+        fields,
     } = settings;
     let Filters {
         names,
@@ -485,6 +518,7 @@ fn filled(
         log: paths.log,
         prefix: paths.prefix,
         names: naming,
+        fields,
         proxy,
         resume: paths.resume,
         save: paths.save,

@@ -42,7 +42,7 @@ pub(crate) struct Row<T> {
 }
 
 /// The options.
-const TABLE: [Row<&str>; 51] = [
+const TABLE: [Row<&str>; 55] = [
     Row {
         short: "r",
         name: "recursive",
@@ -175,6 +175,34 @@ const TABLE: [Row<&str>; 51] = [
         kind: Kind::Flag,
         heading: "",
         says: "a connection of its own for each request",
+    },
+    Row {
+        short: "U",
+        name: "user-agent",
+        kind: Kind::Value("AGENT"),
+        heading: "",
+        says: "calls itself AGENT; not at all if it is empty",
+    },
+    Row {
+        short: "",
+        name: "header",
+        kind: Kind::List("LINE"),
+        heading: "",
+        says: "send this field, as \"Accept-Language: en\"",
+    },
+    Row {
+        short: "",
+        name: "referer",
+        kind: Kind::Value("URL"),
+        heading: "",
+        says: "send it as the page that led here",
+    },
+    Row {
+        short: "",
+        name: "no-cache",
+        kind: Kind::Flag,
+        heading: "",
+        says: "nothing that caches keep",
     },
     Row {
         short: "",
@@ -413,7 +441,7 @@ pub(crate) fn option_rows() -> &'static [Row<&'static str>]
 
 /// The forms of Wget's options: all long ones, in the order of their letters, and the short ones that aren't among the options
 /// above. One of two letters is the first letter's, as `nc`.
-const WGET: [&str; 262] = [
+const WGET: [&str; 261] = [
     "--accept",
     "--accept-regex",
     "--adjust-extension",
@@ -671,7 +699,6 @@ const WGET: [&str; 262] = [
     "-4",
     "-6",
     "-E",
-    "-U",
     "-k",
     "-K",
     "-m",
@@ -725,7 +752,7 @@ pub(crate) struct Command<T> {
 }
 
 /// The commands of wgetrc whose options are here.
-const COMMANDS: [Command<&str>; 37] = [
+const COMMANDS: [Command<&str>; 41] = [
     Command {
         name: "accept",
         option: "accept",
@@ -733,6 +760,10 @@ const COMMANDS: [Command<&str>; 37] = [
     Command {
         name: "addhostdir",
         option: "host-directories",
+    },
+    Command {
+        name: "cache",
+        option: "cache",
     },
     Command {
         name: "compression",
@@ -773,6 +804,10 @@ const COMMANDS: [Command<&str>; 37] = [
     Command {
         name: "followftp",
         option: "follow-ftp",
+    },
+    Command {
+        name: "header",
+        option: "header",
     },
     Command {
         name: "hsts",
@@ -831,6 +866,10 @@ const COMMANDS: [Command<&str>; 37] = [
         option: "recursive",
     },
     Command {
+        name: "referer",
+        option: "referer",
+    },
+    Command {
         name: "reject",
         option: "reject",
     },
@@ -865,6 +904,10 @@ const COMMANDS: [Command<&str>; 37] = [
     Command {
         name: "useproxy",
         option: "proxy",
+    },
+    Command {
+        name: "useragent",
+        option: "user-agent",
     },
     Command {
         name: "verbose",

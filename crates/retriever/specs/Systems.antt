@@ -3,7 +3,7 @@ use Rattle.std.specs.Prelude.{◌≡◌, ◌⊎◌, ℕ, Bool, is_some, true, fa
 use Rattle.std.specs.declared.io.Write.{Ghosts as Writers}
 use Rattle.kept_bodies.specs.Bodies.{BodyValue}
 use Rattle.options.specs.declared.order.Order.{Order}
-use Rattle.options.specs.Order.{kept_of}
+use Rattle.options.specs.Order.{kept_of, sending_of}
 use Rattle.fetcher.specs.declared.fetcher.Fetcher.{Ghosts as Fetchers}
 use Rattle.local_tree.specs.Folders.{Holding, holding}
 use Rattle.local_tree.specs.declared.folder.Folder.{Ghosts as Folders}
@@ -53,10 +53,10 @@ module _ {S F D V : Type 0} (m : Means S F D V) where
   abbrev pub held : D → Holding
   held folder = holding m.folders.files m.folders.failed folder
 
-  -- fetchers that the system makes for the order's robots setting and its connections, as many as there are to be workers, with notes or without, and a
+  -- fetchers that the system makes for the order's robots setting, its connections and what it sends, as many as there are to be workers, with notes or without, and a
   -- folder that it opens at the order's prefix
   pub record AreGiven (order : Order) (is_recording : Bool) (fetchers : List F) (folder : D) : Type 0 where
-    pub made : All (m.gives.makes m.system order.plan.robots is_recording (kept_of order)) fetchers
+    pub made : All (m.gives.makes m.system order.plan.robots is_recording (kept_of order) (sending_of order)) fetchers
     pub count : length fetchers ≡ order.workers
     pub opened : m.gives.opens m.system order.prefix folder
 

@@ -1,6 +1,6 @@
 //! A live order: what it names is taken from the system, a record is read and written where it says so, and its site is retrieved.
 ghost use Rattle.std.specs.Prelude.{◌≡◌, ◌≢◌, ◌<◌, ◌≤◌, ◌⊎◌, ℕ, List, All, IfOk, IfErr, OnErr, codes, is_some, vec_len};
-ghost use Rattle.options.specs.Order.{kept_of};
+ghost use Rattle.options.specs.Order.{kept_of, sending_of};
 ghost use Rattle.site_records.specs.Records.{IsFault};
 ghost use Rattle.retriever.specs.Resuming.{IsUnresumed};
 ghost use Rattle.retriever.specs.Systems.{IsNotRead, IsNotResumed, IsRecordRead, IsResumed, LivesAgain, LivesBy, LivesIn, LivesPlainly, LivesSaving, LivesWith, means};
@@ -35,12 +35,14 @@ fn fetchers_of<S: System>(
     is_recording: bool,
 ) -> Result<Vec<S::Fetcher>, AllocError>
     ensures count { IfOk result (λ fetchers. vec_len fetchers ≡ order.now.workers) }
-    ensures made { IfOk result (λ fetchers. All (S.makes system.now order.now.plan.robots is_recording (kept_of order.now)) fetchers.items) }
+    ensures made { IfOk result (λ fetchers. All (S.makes system.now order.now.plan.robots is_recording (kept_of order.now) (sending_of order.now)) fetchers.items) }
 {
     let mut fetchers = Vec::new(alloc);
     for _ in 0..order.workers {
         let proxy = order.proxy()?;
-        fetchers.push(system.fetcher(order.plan.robots, is_recording, order.kept(), proxy))?;
+        let sends = order.sending(alloc)?;
+        let kept = order.kept();
+        fetchers.push(system.fetcher(order.plan.robots, is_recording, kept, proxy, sends))?;
     }
     Ok(fetchers)
 }

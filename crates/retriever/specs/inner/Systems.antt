@@ -1,6 +1,6 @@
 -- What proofs alone need beside `Systems`.
 use Rattle.std.specs.Prelude.{◌≡◌, ◌&&◌, ℕ, Bool, is_none, false, List, All, Option, Some, None, bytes_eq, length, map}
-use Rattle.options.specs.Order.{kept_of}
+use Rattle.options.specs.Order.{kept_of, sending_of}
 use Rattle.options.specs.declared.order.Order.{Order}
 use Rattle.fetcher.specs.declared.fetcher.Fetcher.{Ghosts as Fetchers}
 use Rattle.kept_bodies.specs.Bodies.{BodyValue}
@@ -31,6 +31,6 @@ module _ {S F D V : Type 0} (m : Means S F D V) (order : Order) where
   -- these fetchers ask such ones as the system makes for the order, with notes or without, for what is recorded
   pub record AreResuming (is_recording : Bool) (recorded : RecordValue) (all : List (Resuming F)) : Type 0 where
     pub fetchers : List F
-    pub made : All (m.gives.makes m.system order.plan.robots is_recording (kept_of order)) fetchers
+    pub made : All (m.gives.makes m.system order.plan.robots is_recording (kept_of order) (sending_of order)) fetchers
     pub count : length fetchers ≡ order.workers
     pub are : all ≡ map (resuming_of m.fetchers.log recorded) fetchers
