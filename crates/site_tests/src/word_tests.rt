@@ -389,6 +389,8 @@ What becomes of it:
        --protocol-directories      a folder for the scheme, as http
        --cut-dirs=N                leave out N directories of the path (0)
        --default-page=NAME         a page without a name is NAME (index.html)
+  -E,  --adjust-extension          HTML ends in .html, style sheets in .css
+       --html-extension            the same, by its older name
        --restrict-file-names=MODES unix, windows, ascii, lowercase, uppercase
   -q,  --quiet                     tell nothing, except of refused words
   -o,  --output-file=FILE          write report and failures into FILE
@@ -438,11 +440,11 @@ const ADVICE: &str = "\
 --exclude /d http://h/ => unexpected argument found: --exclude (the front of --exclude-directories --exclude-domains)|wgetr --help says which words are accepted
 --recursiv=maybe http://h/ => unexpected argument found|wgetr --help says which words are accepted
 --nothing-near http://h/ => unexpected argument found: --nothing-near|wgetr --help says which words are accepted
---mirror http://h/ => unexpected argument found: --mirror (an option of Wget that wgetr doesn't have)|wgetr --help says which words are accepted
+--mirror http://h/ => unexpected argument found: --mirror (an option of Wget that wgetr doesn't have: -r -l inf, and --save FILE and --resume FILE for -N)|wgetr --help says which words are accepted
 -r --user-agent=a http://h/ => unexpected argument found: --user-agent (an option of Wget that wgetr doesn't have)|wgetr --help says which words are accepted
--mkp http://h/ => unexpected argument found: -mkp (an option of Wget that wgetr doesn't have)|wgetr --help says which words are accepted
---no-cl http://h/ => unexpected argument found: --no-cl (an option of Wget that wgetr doesn't have)|wgetr --help says which words are accepted
--nc http://h/ => one of the values isn't valid for an argument: -nc (an option of Wget that wgetr doesn't have)|wgetr --help says which words are accepted
+-mkp http://h/ => unexpected argument found: -mkp (an option of Wget that wgetr doesn't have: -r -l inf, and --save FILE and --resume FILE for -N)|wgetr --help says which words are accepted
+--no-cl http://h/ => unexpected argument found: --no-cl (an option of Wget that wgetr doesn't have: --save FILE, and --resume FILE in later runs, requests what lacks)|wgetr --help says which words are accepted
+-nc http://h/ => one of the values isn't valid for an argument: -nc (an option of Wget that wgetr doesn't have: --save FILE, and --resume FILE in later runs, requests what lacks)|wgetr --help says which words are accepted
 -e robots=of http://h/ => one of the values isn't valid for an argument|wgetr --help says which words are accepted
 h/ http://k/ //example.org/ => START is no URL (did you mean http://example.org/?)|START is an address in full, as http://example.org/path?query, without user name and password, with at most 8192 bytes and a host of at most 255 (see wgetr --help)
 //example.org/ => START is no URL (did you mean http://example.org/?)|START is an address in full, as http://example.org/path?query, without user name and password, with at most 8192 bytes and a host of at most 255 (see wgetr --help)
