@@ -11,7 +11,7 @@ use std::io::{ErrorKind, Write};
 use std::net::Net;
 use std::sync::Wait;
 use std::thread::Threads;
-use streams::Close;
+use streams::{Close, Lock};
 use tcp_connect::Kept;
 
 /// The folder of a run's pages. Before one is put the connections that wait are ended, since a file needs a descriptor too. Those
@@ -39,7 +39,7 @@ impl<'a, R: Net + Files + Wait> Drop for Disk<'a, R> {
 
 impl<'a, R: Net + Files + Wait> Disk<'a, R>
 where
-    R::File: Close,
+    R::File: Close + Lock,
 {
     // Keeps why the file of this name couldn't be put.
     fn note(&self, name: &str) {
@@ -51,7 +51,7 @@ where
 
 impl<'a, R: Net + Files + Wait + Threads> Folder for Disk<'a, R>
 where
-    R::File: Close,
+    R::File: Close + Lock,
 {
     ghost use Rattle.std.specs.Prelude.{None};
 

@@ -7,7 +7,7 @@ use address::Origin;
 use live_system::{HoldFault, System};
 use local_tree::DiskFolder;
 use progress::Progress;
-use record_journal::{HoldFault as Held, Journaled, Lock, Pen, SavedFile, Saving};
+use record_journal::{HoldFault as Held, Journaled, Pen, SavedFile, Saving};
 use std::alloc::{AllocError, Global};
 use std::fs::Files;
 use std::net::Net;
@@ -15,7 +15,7 @@ use std::sync::Wait;
 use std::sync::atomic::AtomicUsize;
 use std::thread::Threads;
 use std::time::Clock;
-use streams::{Close, ReadFault};
+use streams::{Close, Lock, ReadFault};
 use tcp_connect::{Hosts, Kept};
 use tcp_fetcher::OverTcp;
 
@@ -30,12 +30,11 @@ pub struct Network<'a, R: Net + Wait + Files + Clock + Eprint> {
     saving: &'a Saving<R>,
     crew: &'a PartThreads<'a, R>,
     failures: &'a SharedFailures,
-    process: u32,
 }
 
 impl<'a, R: Net + Wait + Files + Clock + Eprint> Network<'a, R> {
     /// By this handle, with what the run knows of hosts and keeps of connections, the line that counts them, where it saves, what
-    /// writes parts of files and what keeps why something failed, for the process of this number. Takes no memory.
+    /// writes parts of files and what keeps why something failed. Takes no memory.
     pub fn new(
         rt: &'a R,
         alloc: Global,
@@ -45,7 +44,6 @@ impl<'a, R: Net + Wait + Files + Clock + Eprint> Network<'a, R> {
         saving: &'a Saving<R>,
         crew: &'a PartThreads<'a, R>,
         failures: &'a SharedFailures,
-        process: u32,
     ) -> Network<'a, R> {
         Network {
             rt,
@@ -56,7 +54,6 @@ impl<'a, R: Net + Wait + Files + Clock + Eprint> Network<'a, R> {
             saving,
             crew,
             failures,
-            process,
         }
     }
 }
@@ -118,7 +115,7 @@ where
     }
 
     fn folder(&self, path: &str) -> Result<Disk<'a, R>, AllocError> {
-        match DiskFolder::new(self.rt, self.alloc, path, self.process) {
+        match DiskFolder::new(self.rt, self.alloc, path) {
             Ok(inner) => Ok(Disk {
                 inner,
                 rt: self.rt,

@@ -5,6 +5,7 @@ ghost use Rattle.local_tree.specs.Folders.{CountsRefusedPut, opened_at, untold};
 ghost use Rattle.local_tree.specs.SiteFiles.{IsTornBy};
 
 use crate::folder::{Folder, FolderFault};
+use crate::own_dir::{OwnDir, make_own_dir};
 use crate::parts::{Batch, Naming, Part, PartCrew, write_new};
 use crate::site_files::WriteFault;
 use harvest::Harvest;
@@ -15,11 +16,7 @@ use std::fs::Files;
 use std::io::{Error, ErrorKind};
 use std::marker::Model;
 use std::{fs, io, mem};
-use streams::Close;
-
-/// What the file is called, directly below the folder, that is written before it gets its name; a
-/// number follows. No host has a `%` (URL Standard, section 3.1), so no page has a name that begins so.
-const PART: &str = ".wgetr%part";
+use streams::{Close, Lock};
 
 /// How many files of a site are made ready together, at most.
 const BATCH: usize = 256;
@@ -69,7 +66,8 @@ pub struct DiskFolder<'a, R: Files> {
     rt: &'a R,
     alloc: Global,
     prefix: String,
-    part: String,
+    // Where parts are made, while files are put.
+    own: Option<OwnDir<R::File>>,
     known: Known,
     failed: u64,
     // That of the last put that failed.
@@ -250,37 +248,24 @@ impl<'s, 'h, R: Files> Naming for InOrder<'s, 'h, R> {
     }
 }
 
-// The path of the directory of a batch that begins at this place. It differs from those of other runs, from those of the batches
-// before and behind, and from that by way of which a file is put alone.
-fn batch_path(alloc: Global, part: &str, from: usize) -> Result<String, AllocError> {
+// The path of the part by way of which a file is put alone, in the run's own directory.
+fn part_path(alloc: Global, own: &str) -> io::Result<String> {
+    let path = format!(in alloc; "{own}/part")?;
+    Ok(path)
+}
+
+// The path of the directory of a batch that begins at this place, in the run's own. It differs from those of the batches before and
+// after it.
+fn batch_path(alloc: Global, own: &str, from: usize) -> Result<String, AllocError> {
     let number = from / BATCH % 2;
-    format!(in alloc; "{part}.{number}")
+    format!(in alloc; "{own}/{number}")
 }
 
-// The path of the part of this number of a batch, whose name begins as the others do, so that who looks for what a killed run left
-// finds it.
-fn part_path(alloc: Global, batch: &str, number: usize) -> Result<String, AllocError> {
-    format!(in alloc; "{batch}/{PART}.{number}")
-}
-
-// Takes away what a killed run left in the place of a batch's directory: that and its parts, a file, or a link, which isn't followed.
-fn take_away<R: Files>(rt: &R, alloc: Global, path: &str) {
-    if rt.remove_file(path).is_ok() {
-        return;
-    }
-    for number in 0..BATCH {
-        if let Ok(part) = part_path(alloc, path, number) {
-            let _ = rt.remove_file(part.as_str());
-        }
-    }
-    let _ = rt.remove_dir(path);
-}
-
-// Makes a new directory for a batch.
+// Makes a new directory for a batch. One that couldn't be removed is removed first.
 fn make_new_dir<R: Files>(rt: &R, alloc: Global, path: &str) -> io::Result<()> {
     match rt.create_dir(path) {
         Err(e) if e.kind() == ErrorKind::AlreadyExists => {
-            take_away(rt, alloc, path);
+            rt.remove_dir_all(alloc, path)?;
             rt.create_dir(path)
         }
         made => made,
@@ -292,36 +277,40 @@ fn begins_batch(place: usize, files: usize) -> bool {
     place % BATCH == 1 && files.saturating_sub(place) >= FEW
 }
 
-// The files from this place on, a batch at most, in a directory whose path begins with that of the part that is put alone.
+// The files from this place on, a batch at most, in a directory of the run's own.
 fn batch_from<'h>(
     alloc: Global,
-    part: &str,
+    own: &str,
     harvest: &'h Harvest<Body>,
     from: usize,
 ) -> Result<Batch<'h>, AllocError> {
     let end = from.saturating_add(BATCH).min(harvest.kept().len());
-    let dir = batch_path(alloc, part, from)?;
+    let dir = batch_path(alloc, own, from)?;
     let mut parts = Vec::new(alloc);
     for i in from..end {
-        let path = part_path(alloc, dir.as_str(), i - from)?;
+        let number = i - from;
+        let path = format!(in alloc; "{dir}/{number}")?;
         parts.push(Part::new(i, path, harvest.body(i)))?;
     }
     Ok(Batch { dir, parts })
 }
 
-// The next batch, from this place on, in a new directory; an empty one where none begins there, or there is no memory for it, or no
+// The next batch, from this place on, in a new directory; an empty one if none begins there, or there is no memory for it, or no
 // directory.
 fn next_batch<'h, R: Files>(
     rt: &R,
     alloc: Global,
-    part: &str,
+    own: Option<&str>,
     harvest: &'h Harvest<Body>,
     from: usize,
 ) -> Batch<'h> {
+    let Some(own) = own else {
+        return Batch::empty(alloc);
+    };
     if !begins_batch(from, harvest.kept().len()) {
         return Batch::empty(alloc);
     }
-    match batch_from(alloc, part, harvest, from) {
+    match batch_from(alloc, own, harvest, from) {
         Ok(batch) if make_new_dir(rt, alloc, batch.dir.as_str()).is_ok() => batch,
         _ => Batch::empty(alloc),
     }
@@ -329,23 +318,21 @@ fn next_batch<'h, R: Files>(
 
 impl<'a, R: Files> DiskFolder<'a, R>
 where
-    R::File: Close,
+    R::File: Close + Lock,
 {
-    /// The folder at this path; the empty path is `.`. The folder is made at the first put, where it
-    /// isn't there, and may itself be a link. Runs that put into one folder at a time need different
-    /// numbers, as their processes have. The error is that memory is wanting.
-    pub fn new(rt: &'a R, alloc: Global, path: &str, process: u32) -> io::Result<DiskFolder<'a, R>>
+    /// The folder at this path; the empty path is `.`. The folder is made at the first put, if it
+    /// isn't there, and may itself be a link. Several runs may put into one folder at a time. The error is that memory ran out.
+    pub fn new(rt: &'a R, alloc: Global, path: &str) -> io::Result<DiskFolder<'a, R>>
         ensures opened { IfOk result (λ folder. folder ≡ opened_at path.now) }
         ensures memory { IfErr result (λ error. error_kind error ≡ ErrorKind.OutOfMemory) }
     {
         let path = if path.is_empty() { "." } else { path };
         let prefix = String::from_str(alloc, path)?;
-        let part = format!(in alloc; "{path}/{PART}{process}")?;
         Ok(DiskFolder {
             rt,
             alloc,
             prefix,
-            part,
+            own: None,
             known: Known::nothing(alloc),
             failed: 0,
             error: None,
@@ -359,6 +346,38 @@ where
         self.error.as_ref()
     }
 
+    // Makes the directory for parts, unless it is there.
+    fn make_own(&mut self) -> io::Result<()>
+        ensures { self.new ≡ self.old }
+    {
+        if self.own.is_none() {
+            fs::create_dir_all(self.rt, self.prefix.as_str())?;
+            let own = make_own_dir(self.rt, self.alloc, self.prefix.as_str())?;
+            self.own = Some(own);
+        }
+        Ok(())
+    }
+
+    // Removes the directory for parts, if it is there.
+    fn remove_own(&mut self)
+        ensures { self.new ≡ self.old }
+    {
+        if let Some(own) = mem::replace(&mut self.own, None) {
+            own.remove(self.rt, self.alloc);
+        }
+    }
+
+    // The path of the part by way of which a file is put alone.
+    fn own_part(&mut self) -> io::Result<String>
+        ensures { self.new ≡ self.old }
+    {
+        self.make_own()?;
+        match &self.own {
+            Some(own) => part_path(self.alloc, own.path()),
+            None => Err(Error::from(ErrorKind::NotFound)),
+        }
+    }
+
     // Writes the file and gives it its name.
     fn write(&mut self, name: &str, bytes: &[u8]) -> io::Result<()>
         ensures { self.new ≡ self.old }
@@ -370,12 +389,37 @@ where
             &mut self.known,
             name,
         )?;
-        let put = put_by_way_of(self.rt, self.part.as_str(), path.as_str(), bytes);
+        let part = self.own_part()?;
+        let put = put_by_way_of(self.rt, part.as_str(), path.as_str(), bytes);
         if put.is_err() {
-            // A part that stays is taken away before the next file.
-            let _ = self.rt.remove_file(self.part.as_str());
+            // A part that stays is removed before the next file.
+            let _ = self.rt.remove_file(part.as_str());
         }
         put
+    }
+
+    // Puts the file. The directory for parts stays.
+    fn put_by_part(&mut self, name: &str, bytes: &[u8]) -> Result<(), FolderFault>
+        ensures counted { CountsRefusedPut self.old.failed self.new.failed result }
+    {
+        match self.write(name, bytes) {
+            Ok(()) => Ok(()),
+            Err(error) => {
+                // The directory may have gone.
+                self.known.forget();
+                self.error = Some(error);
+                self.failed = self.failed.saturating_add(1);
+                Err(FolderFault::Device)
+            }
+        }
+    }
+
+    // Where parts are made, if the directory is there.
+    fn own_path(&self) -> Option<&str> {
+        match &self.own {
+            Some(own) => Some(own.path()),
+            None => None,
+        }
     }
 
     // Has the crew write these parts, while these that are ready get the names of the files from this place on, until one doesn't.
@@ -420,13 +464,13 @@ where
         ensures { self.new ≡ self.old }
     {
         if ready.parts.is_empty() {
-            *ready = next_batch(self.rt, self.alloc, self.part.as_str(), harvest, from);
+            *ready = next_batch(self.rt, self.alloc, self.own_path(), harvest, from);
             self.name_while_writing(crew, &[], names, from, ready.parts.as_mut_slice());
         }
         let mut next = next_batch(
             self.rt,
             self.alloc,
-            self.part.as_str(),
+            self.own_path(),
             harvest,
             from.saturating_add(BATCH),
         );
@@ -448,12 +492,8 @@ where
         from.saturating_add(named)
     }
 
-    /// As [`Folder::put_site`], with the same files put or not, the same directories made, and the same error kept, but this crew
-    /// makes the files ready, up to 256 at a time in a directory beside the folder's own, while those before them get their names,
-    /// in order. No part and no such directory stays, unless the disk fails to take it away. A run that is killed may leave two, with
-    /// their parts. The disk may need room for two batches beside the files that it replaces; where there is none, or no descriptor,
-    /// the files are put one after another.
-    pub fn put_site_by<C: PartCrew>(
+    // Puts the files of a site. The directory for parts stays.
+    fn put_all_by<C: PartCrew>(
         &mut self,
         crew: &C,
         names: &[String],
@@ -472,17 +512,37 @@ where
             if i < named {
                 continue;
             }
-            if self.put(name.as_str(), harvest.body(i)).is_err() {
+            if self.put_by_part(name.as_str(), harvest.body(i)).is_err() {
                 return Err(WriteFault::Device(i));
             }
         }
         Ok(())
     }
+
+    /// As [`Folder::put_site`], with the same files put or not, the same directories made, and the same error kept, but this crew
+    /// makes the files ready, up to 256 at a time in a directory of the run's own, while those before them get their names, in order.
+    /// No part and no such directory stays, unless the disk fails to remove it. What a run that is killed leaves, the next run in this
+    /// folder removes. The disk may need room for two batches beside the files that it replaces; if there is none, or no descriptor,
+    /// the files are put one after another.
+    pub fn put_site_by<C: PartCrew>(
+        &mut self,
+        crew: &C,
+        names: &[String],
+        harvest: &Harvest<Body>,
+    ) -> Result<(), WriteFault>
+        requires { length names.now ≡ length harvest.now.kept }
+        ensures torn { IfErr result (IsTornBy (map string_bytes names.now) harvest.now.bodies (untold self.old.failed) (untold self.new.failed)) }
+        ensures quiet { OnOk result (self.new.failed ≡ self.old.failed) }
+    {
+        let put = self.put_all_by(crew, names, harvest);
+        self.remove_own();
+        put
+    }
 }
 
 impl<'a, R: Files> Folder for DiskFolder<'a, R>
 where
-    R::File: Close,
+    R::File: Close + Lock,
 {
     ghost use Rattle.std.specs.Prelude.{None};
 
@@ -493,16 +553,9 @@ where
     /// Puts the file. A name that isn't local is refused, and so are a path that is too long for the
     /// disk, a directory where the file is to stand, and a file or a link where a directory is.
     fn put(&mut self, name: &str, bytes: &[u8]) -> Result<(), FolderFault> {
-        match self.write(name, bytes) {
-            Ok(()) => Ok(()),
-            Err(error) => {
-                // The directory may have gone.
-                self.known.forget();
-                self.error = Some(error);
-                self.failed = self.failed.saturating_add(1);
-                Err(FolderFault::Device)
-            }
-        }
+        let put = self.put_by_part(name, bytes);
+        self.remove_own();
+        put
     }
 
     fn failures(&self) -> u64 {

@@ -1,7 +1,7 @@
 //! Folders: the pages that a harvest keeps are put into one, in memory or on a disk. It asks no site for
 //! anything, and takes the names of the pages as they are given (`local_names`).
 //!
-//! Its tests stand in `retrieval_tests`.
+//! Its tests are in `retrieval_tests`.
 #![tactic(auto)]
 
 pub use crate::disk_folder::DiskFolder;
@@ -9,10 +9,11 @@ pub use crate::folder::{Folder, FolderFault};
 pub use crate::memory_folder::MemoryFolder;
 pub use crate::parts::{Naming, Part, PartCrew};
 pub use crate::site_files::{WriteFault, write_site};
-pub use streams::Close;
+pub use streams::{Close, Lock};
 
 mod disk_folder;
 mod folder;
 mod memory_folder;
+mod own_dir;
 mod parts;
 mod site_files;

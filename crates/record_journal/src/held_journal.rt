@@ -1,7 +1,6 @@
 //! A journal that is held, and that nothing was added to yet.
 use crate::disk_journal::DiskJournal;
 use crate::journal_fault::JournalFault;
-use crate::lock::Lock;
 use crate::tail::Tail;
 use site_records::write_record;
 use std::alloc::Global;
@@ -10,6 +9,7 @@ use std::io;
 use std::io::{Error, ErrorKind, Write};
 use std::os::unix::fs::MetadataExt;
 use std::time::Clock;
+use streams::Lock;
 
 /// A journal on a disk that this run holds, and no other: its bytes can be read, and then entries be added.
 #[derive(Drop)]

@@ -2,7 +2,6 @@
 use crate::disk_journal::DiskJournal;
 use crate::held_journal::{HeldJournal, look_for_file};
 use crate::journal_fault::JournalFault;
-use crate::lock::Lock;
 use site_inputs::InputFault;
 use site_records::{RecordFault, RecordFront, RecordedSite, read_front, write_record};
 use std::alloc::{AllocError, Global};
@@ -10,7 +9,7 @@ use std::fs::{File, Files};
 use std::io::ErrorKind;
 use std::sync::{Mutex, OnceLock, Wait};
 use std::time::Clock;
-use streams::{ReadFault, read_input};
+use streams::{Lock, ReadFault, read_input};
 use thiserror::Error;
 
 /// How many bytes a journal may have that is to be read.

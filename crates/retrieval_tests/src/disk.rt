@@ -1,6 +1,6 @@
 //! A disk for tests: that of the test, but calls of it fail, or another process is there first. A write takes three bytes at
 //! most.
-use local_tree::Close;
+use local_tree::{Close, Lock};
 use std::alloc::{AllocError, Allocator, Global};
 use std::fs::{File, Files, Metadata, OpenFile, OpenOptions};
 use std::io;
@@ -26,6 +26,7 @@ pub(crate) struct Log {
     mishap: Mishap,
     calls: AtomicU64,
     closed: AtomicU64,
+    lost: AtomicU64,
     held: AtomicU64,
     is_over: AtomicBool,
 }
@@ -64,6 +65,15 @@ impl Log {
         }
     }
 
+    // The same of a call without which a file isn't whole under its name.
+    fn count_needed(&self) -> io::Result<()> {
+        let counted = self.count();
+        if counted.is_err() {
+            self.lost.fetch_add(1, Ordering::SeqCst);
+        }
+        counted
+    }
+
     // Takes room for so many bytes, unless the disk is full.
     fn take_room(&self, bytes: usize) -> io::Result<()> {
         let bytes = bytes as u64;
@@ -87,6 +97,11 @@ impl Log {
         self.closed.load(Ordering::SeqCst)
     }
 
+    /// How many calls failed without which a file isn't whole under its name: writes, closes, renames.
+    pub(crate) fn lost(&self) -> u64 {
+        self.lost.load(Ordering::SeqCst)
+    }
+
     /// Nothing befalls the disk any more.
     pub(crate) fn mend(&self) {
         self.is_over.store(true, Ordering::SeqCst);
@@ -99,6 +114,7 @@ impl Disk {
             mishap,
             calls: AtomicU64::new(0),
             closed: AtomicU64::new(0),
+            lost: AtomicU64::new(0),
             held: AtomicU64::new(0),
             is_over: AtomicBool::new(false),
         };
@@ -171,7 +187,10 @@ impl Files for Disk {
     }
 
     fn rename(&self, from: &str, to: &str) -> io::Result<()> {
-        self.begin("rename", to)?;
+        if let Err(e) = self.begin("rename", to) {
+            self.log.lost.fetch_add(1, Ordering::SeqCst);
+            return Err(e);
+        }
         self.leave_room(to);
         self.rt.rename(from, to)
     }
@@ -195,8 +214,10 @@ impl Files for Disk {
         self.rt.remove_dir(path)
     }
 
-    fn remove_dir_all<B: Allocator>(&self, _alloc: B, _path: &str) -> io::Result<()> {
-        unsupported()
+    // What is in it leaves no room here: a test looks at that of files alone.
+    fn remove_dir_all<B: Allocator>(&self, alloc: B, path: &str) -> io::Result<()> {
+        self.begin("rmdir", path)?;
+        self.rt.remove_dir_all(alloc, path)
     }
 }
 
@@ -208,7 +229,7 @@ impl Read for DiskFile {
 
 impl Write for DiskFile {
     fn write(&mut self, bytes: &[u8]) -> io::Result<usize> {
-        self.log.count()?;
+        self.log.count_needed()?;
         let taken = bytes.len().min(3);
         self.log.take_room(taken)?;
         self.file.write(&bytes[..taken])
@@ -243,13 +264,20 @@ impl OpenFile for DiskFile {
     }
 }
 
-// A file is closed also where it answers that it failed.
+impl Lock for DiskFile {
+    fn hold(&self) -> io::Result<bool> {
+        self.log.count()?;
+        self.file.hold()
+    }
+}
+
+// A file is closed also if it answers that it failed.
 impl Close for DiskFile {
     fn close(self) -> io::Result<()> {
         let DiskFile { file, log } = self;
         let closed = file.close();
         log.closed.fetch_add(1, Ordering::SeqCst);
-        log.count()?;
+        log.count_needed()?;
         closed
     }
 }

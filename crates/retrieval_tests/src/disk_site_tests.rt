@@ -5,7 +5,7 @@ use address::{Address, Origin};
 use fetcher::{Answer, Ask, Body, Fetcher};
 use harvest::Harvest;
 use local_names::{NameRules, names};
-use local_tree::{Close, DiskFolder, Folder, Naming, Part, PartCrew, WriteFault};
+use local_tree::{Close, DiskFolder, Folder, Lock, Naming, Part, PartCrew, WriteFault};
 use robots_rules::RuleSet;
 use site_maps::MapSite;
 use std::alloc::{AllocError, Global};
@@ -29,7 +29,7 @@ struct InThreads<'a, T> {
 /// Writes these parts.
 fn write_all<R: Files>(disk: &R, parts: &mut [Part<'_>])
 where
-    R::File: Close,
+    R::File: Close + Lock,
 {
     for part in parts {
         part.write(disk);
@@ -64,7 +64,7 @@ struct InTurn<'a, R> {
 
 impl<'a, R: Files> PartCrew for InTurn<'a, R>
 where
-    R::File: Close,
+    R::File: Close + Lock,
 {
     fn write_parts<N: Naming>(&self, parts: &mut [Part<'_>], naming: &mut N) {
         write_all(self.disk, parts);
@@ -88,7 +88,7 @@ struct Mover<'a, R> {
 
 impl<'a, R: Files> PartCrew for Mover<'a, R>
 where
-    R::File: Close,
+    R::File: Close + Lock,
 {
     fn write_parts<N: Naming>(&self, parts: &mut [Part<'_>], naming: &mut N) {
         naming.give_names();
@@ -238,9 +238,9 @@ fn entries<R: Abort + Files + AllocGlobal + Clone + Drop>(rt: &R, path: &str) ->
 /// The folder `disk` on a disk.
 fn folder<'a, R: Files>(rt: &impl Abort, alloc: Global, disk: &'a R) -> DiskFolder<'a, R>
 where
-    R::File: Close,
+    R::File: Close + Lock,
 {
-    DiskFolder::new(disk, alloc, "disk", 17).expect(rt, "memory")
+    DiskFolder::new(disk, alloc, "disk").expect(rt, "memory")
 }
 
 /// Puts a site by a crew into a folder. Answers how many files are whole, and the kind of the error, if any.
@@ -251,7 +251,7 @@ fn put_into<R: Files, C: PartCrew>(
     site: &KeptSite,
 ) -> (usize, Option<ErrorKind>)
 where
-    R::File: Close,
+    R::File: Close + Lock,
 {
     if site.names.len() != site.harvest.kept().len() {
         panic!(rt; "other names");
@@ -274,7 +274,7 @@ fn put<R: Files, C: PartCrew>(
     site: &KeptSite,
 ) -> (usize, Option<ErrorKind>)
 where
-    R::File: Close,
+    R::File: Close + Lock,
 {
     let mut folder = folder(rt, alloc, disk);
     let ended = put_into(rt, &mut folder, crew, site);
@@ -326,7 +326,7 @@ fn is_put_by<R: Abort + Files + AllocGlobal, D: Files, C: PartCrew>(
     site: &KeptSite,
 ) -> bool
 where
-    D::File: Close,
+    D::File: Close + Lock,
 {
     let count = site.names.len();
     put(rt, rt.alloc(), disk, crew, site) == (count, None) && are_put(rt, site, count)
@@ -344,11 +344,12 @@ fn is_put_by_threads<R: Abort + Threads + Files + AllocGlobal + Clone + Drop>(
 
 /// Leaves what a killed run would.
 fn leave_parts(rt: &(impl Abort + Files)) {
-    fs::write(rt, "disk/.wgetr%part17", "left").expect(rt, "the disk");
-    fs::create_dir(rt, "disk/.wgetr%part17.0").expect(rt, "the disk");
-    fs::write(rt, "disk/.wgetr%part17.0/.wgetr%part.0", "left").expect(rt, "the disk");
-    fs::write(rt, "disk/.wgetr%part17.0/.wgetr%part.255", "left").expect(rt, "the disk");
-    rt.symlink("h", "disk/.wgetr%part17.1")
+    fs::create_dir_all(rt, "disk/.wgetr%part0/0").expect(rt, "the disk");
+    fs::write(rt, "disk/.wgetr%part0/lock", "").expect(rt, "the disk");
+    fs::write(rt, "disk/.wgetr%part0/part", "left").expect(rt, "the disk");
+    fs::write(rt, "disk/.wgetr%part0/0/0", "left").expect(rt, "the disk");
+    fs::write(rt, "disk/.wgetr%part0/0/255", "left").expect(rt, "the disk");
+    rt.symlink("../h", "disk/.wgetr%part0/1")
         .expect(rt, "the disk");
 }
 
@@ -371,7 +372,7 @@ fn is_put_anew<R: Abort + Files + AllocGlobal, C: PartCrew>(
     site: &KeptSite,
 ) -> bool
 where
-    R::File: Close,
+    R::File: Close + Lock,
 {
     clear(rt, rt.alloc());
     is_put_by(rt, rt, crew, site)
@@ -380,7 +381,7 @@ where
 /// Whether a crew that leaves all parts out does, one that moves them, and one that does neither, and no part stays.
 fn is_put_by_each<R: Abort + Files + AllocGlobal + Clone + Drop>(rt: &R, site: &KeptSite) -> bool
 where
-    R::File: Close,
+    R::File: Close + Lock,
 {
     is_put_anew(rt, &Nobody, site)
         && is_put_anew(rt, &Mover { disk: rt }, site)
@@ -466,6 +467,11 @@ fn files_are_replaced_where_a_disk_has_room_for_few(rt: HostRuntime) {
     drop(site);
 }
 
+/// Whether the directory for parts has nothing but its lock. It is removed.
+fn is_bare(rt: &impl Files) -> bool {
+    rt.remove_file("disk/.wgetr%part0/lock").is_ok() && rt.remove_dir("disk/.wgetr%part0").is_ok()
+}
+
 /// Whether whole files of a site of 20 are put onto a disk of which so many calls fail in turn.
 fn are_put_whole<R: Abort + Threads + Files + AllocGlobal + Clone + Drop>(
     rt: &R,
@@ -476,14 +482,11 @@ fn are_put_whole<R: Abort + Threads + Files + AllocGlobal + Clone + Drop>(
     let (whole, error) = put_by_threads(rt, disk, site);
     let is_all_or_nothing = whole == 0 || whole == 20;
     // One failure stops the first file, which is put alone, and costs a later one a second try. No part stays then, and no
-    // directory of parts but where it was the call that takes it away that failed.
+    // directory for parts unless it was the call that removes it that failed.
     error.is_some() == (whole < 20)
         && are_put(rt, site, whole)
         && (lasting > 1 || is_all_or_nothing)
-        && (lasting > 1
-            || whole == 0
-            || entries(rt, "disk") == 1
-            || rt.remove_dir("disk/.wgetr%part17.0").is_ok())
+        && (lasting > 1 || whole == 0 || entries(rt, "disk") == 1 || is_bare(rt))
 }
 
 /// Whether they are, and all once the disk is mended.
@@ -501,7 +504,7 @@ fn leaves_whole_files<R: Abort + Threads + Files + AllocGlobal + Clone + Drop>(
 #[test]
 fn a_disk_that_fails_leaves_whole_files_of_a_site(rt: HostRuntime) {
     let site = kept_site(&rt, rt.alloc(), 20);
-    for from in 0..180u64 {
+    for from in 0..210u64 {
         for lasting in [1, u64::MAX] {
             let disk = disk(rt, rt.alloc(), Mishap::Fails(from, lasting)).expect(&rt, "memory");
             assert!(rt;

@@ -1,7 +1,7 @@
 //! Files on a disk: made with their directories, and replaced; a disk that fails, and one that another process uses. Names stand in a
 //! text with a blank between two.
 use crate::disk::{Disk, Log, Mishap};
-use local_tree::{Close, DiskFolder, Folder};
+use local_tree::{Close, DiskFolder, Folder, Lock};
 use std::alloc::Global;
 use std::fs;
 use std::fs::Files;
@@ -50,9 +50,9 @@ fn write(rt: &(impl Abort + Files), path: &str, text: &str) {
 // A folder on the disk.
 fn folder<'a, R: Abort + Files>(rt: &'a R, alloc: Global, path: &str) -> DiskFolder<'a, R>
 where
-    R::File: Close,
+    R::File: Close + Lock,
 {
-    DiskFolder::new(rt, alloc, path, 7).expect(rt, "memory")
+    DiskFolder::new(rt, alloc, path).expect(rt, "memory")
 }
 
 // Whether each of these names can be put, with its own text.
@@ -82,9 +82,16 @@ fn is_filled<R: Abort + Files + AllocGlobal>(rt: &R, folder: &mut impl Folder) -
     is_absent(rt, "tree") && puts_all(folder, names) && hold_own(rt, "tree/of files", names)
 }
 
+// What a killed run leaves in a folder: a lock that nobody holds, and a part.
+fn leave_parts(rt: &(impl Abort + Files)) {
+    fs::create_dir(rt, "tree/of files/.wgetr%part0").expect(rt, "the disk");
+    write(rt, "tree/of files/.wgetr%part0/lock", "");
+    write(rt, "tree/of files/.wgetr%part0/part", "left");
+}
+
 // Whether a file of it is replaced, by a shorter one too, and what a killed run left is in nobody's way.
 fn is_replaced<R: Abort + Files + AllocGlobal>(rt: &R, folder: &mut impl Folder) -> bool {
-    write(rt, "tree/of files/.wgetr%part7", "left");
+    leave_parts(rt);
     folder.put("h/index.html", b"4").is_ok()
         && holds(rt, "tree/of files/h/index.html", b"4")
         && folder.put("h/empty", b"").is_ok()
@@ -96,7 +103,7 @@ fn is_replaced<R: Abort + Files + AllocGlobal>(rt: &R, folder: &mut impl Folder)
 fn refuses_odd_names(rt: &impl Files, folder: &mut impl Folder) -> bool {
     puts_none(folder, "h/a h/index.html/b ../x /x h//x h/./x ")
         && folder.failures() == 7
-        && is_absent(rt, "tree/of files/.wgetr%part7")
+        && is_absent(rt, "tree/of files/.wgetr%part0")
         && is_absent(rt, "tree/x")
 }
 
@@ -112,22 +119,23 @@ fn files_are_put_below_the_folder(rt: HostRuntime) {
     put_below(&rt, &mut folder(&rt, rt.alloc(), "tree/of files"));
 }
 
-// The folder `disk` with a file, and beside it another.
+// The folder `disk` with a file and what a run has there whose disk has no locks, and another beside it.
 fn lay_out(rt: &(impl Abort + Files), alloc: Global) {
     let _ = rt.remove_dir_all(alloc, "disk");
     fs::create_dir_all(rt, "disk/h").expect(rt, "the disk");
     fs::create_dir_all(rt, "outside").expect(rt, "the disk");
     write(rt, "disk/h/x", "as it was");
-    write(rt, "disk/.wgetr%part7", "of another run");
+    fs::create_dir(rt, "disk/.wgetr%part0").expect(rt, "the disk");
+    write(rt, "disk/.wgetr%part0/part", "of another run");
 }
 
 // That folder on a disk.
 fn laid_out<'a, R: Abort + Files + AllocGlobal, D: Files>(rt: &R, disk: &'a D) -> DiskFolder<'a, D>
 where
-    D::File: Close,
+    D::File: Close + Lock,
 {
     lay_out(rt, rt.alloc());
-    DiskFolder::new(disk, rt.alloc(), "disk", 17).expect(rt, "memory")
+    DiskFolder::new(disk, rt.alloc(), "disk").expect(rt, "memory")
 }
 
 // Whether the file holds what was put, where that ended well, and else what was there, if anything.
@@ -160,19 +168,19 @@ fn is_mended<R: Files + AllocGlobal>(rt: &R, folder: &mut impl Folder) -> bool {
     put_both(folder) == (true, true)
         && holds(rt, "disk/h/x", REPLACED)
         && holds(rt, "disk/k/y", NEW)
-        && is_absent(rt, "disk/.wgetr%part17")
-        && holds(rt, "disk/.wgetr%part7", b"of another run")
+        && is_absent(rt, "disk/.wgetr%part1")
+        && holds(rt, "disk/.wgetr%part0/part", b"of another run")
 }
 
 // Whether both files hold what was put, where that ended well, and else what was there, and what failed once isn't seen.
 fn are_whole<R: Files + AllocGlobal>(rt: &R, replaced: bool, new: bool, lasting: u64) -> bool {
     is_whole(rt, "disk/h/x", replaced, REPLACED, b"as it was")
         && is_whole(rt, "disk/k/y", new, NEW, b"")
-        && (lasting > 1 || is_absent(rt, "disk/.wgetr%part17"))
+        && (lasting > 1 || is_absent(rt, "disk/.wgetr%part1/part"))
 }
 
-// Whether the files of a disk are whole of which so many calls fail from this on: both puts end well only where no call failed and
-// each file was closed, and once the disk is mended both are put.
+// Whether the files of a disk are whole of which so many calls fail from this on: both puts end well if no call failed, and only if
+// each write, close and rename did and each file was closed; and once the disk is mended both are put.
 fn stays_whole<R: Abort + Files + AllocGlobal, D: Files>(
     rt: &R,
     disk: &D,
@@ -181,23 +189,28 @@ fn stays_whole<R: Abort + Files + AllocGlobal, D: Files>(
     lasting: u64,
 ) -> bool
 where
-    D::File: Close,
+    D::File: Close + Lock,
 {
     let mut folder = laid_out(rt, disk);
     let (replaced, new) = put_both(&mut folder);
     let is_felt = log.calls() > from;
+    let is_lost = log.lost() > 0;
     let is_closed = log.closed() >= u64::from(replaced).saturating_add(u64::from(new));
     let are_whole = are_whole(rt, replaced, new, lasting);
     log.mend();
     let is_mended = is_mended(rt, &mut folder);
     drop(folder);
-    is_felt != (replaced && new) && are_whole && is_closed && is_mended
+    (is_felt || (replaced && new))
+        && !(is_lost && replaced && new)
+        && are_whole
+        && is_closed
+        && is_mended
 }
 
 #[test]
 fn a_disk_that_fails_leaves_each_file_whole(rt: HostRuntime) {
     for lasting in [1, u64::MAX] {
-        for from in 0..20u64 {
+        for from in 0..80u64 {
             let disk = Disk::new(rt, rt.alloc(), Mishap::Fails(from, lasting));
             let disk = disk.expect(&rt, "memory");
             assert!(rt;
@@ -219,8 +232,11 @@ k/y lstat disk/k file refused
 k/y lstat disk/k link refused
 h/y lstat disk/h/y dir refused
 h/y lstat disk/h/y link refused
-k/y open disk/.wgetr%part17 file whole
-k/y open disk/.wgetr%part17 link whole
+k/y open disk/.wgetr%part1/part file whole
+k/y open disk/.wgetr%part1/part link whole
+k/y mkdir disk/.wgetr%part1 dir whole
+k/y mkdir disk/.wgetr%part1 file whole
+k/y mkdir disk/.wgetr%part1 link whole
 k/y rename disk/k/y file whole
 k/y rename disk/k/y link whole
 k/y rename disk/k/y dir refused";
@@ -239,7 +255,7 @@ fn meeting_of(rt: &impl Abort, line: &'static str) -> (&'static str, Mishap, &'s
 // Whether this file can be put into a folder that is laid out.
 fn puts_new<R: Abort + Files + AllocGlobal, D: Files>(rt: &R, disk: &D, file: &str) -> bool
 where
-    D::File: Close,
+    D::File: Close + Lock,
 {
     let mut folder = laid_out(rt, disk);
     let is_put = folder.put(file, NEW).is_ok();
@@ -252,7 +268,8 @@ fn meets<R: Abort + Files + AllocGlobal>(rt: &R, disk: &Disk, file: &str, ends: 
     let is_put = puts_new(rt, disk, file);
     is_put == (ends == "whole")
         && holds_below(rt, "disk", file, NEW) == is_put
-        && is_absent(rt, "disk/.wgetr%part17")
+        && is_absent(rt, "disk/.wgetr%part1/part")
+        && is_absent(rt, "disk/.wgetr%part2")
         && is_absent(rt, "outside/y")
 }
 
@@ -278,7 +295,7 @@ fn makes_again(rt: &(impl Abort + Files + AllocGlobal), folder: &mut impl Folder
     take_away(rt);
     is_made
         && puts_none(folder, "gone/a/y")
-        && is_absent(rt, "./.wgetr%part7")
+        && is_absent(rt, "./.wgetr%part0")
         && puts_all(folder, "gone/a/y")
         && holds(rt, "./gone/a/y", b"gone/a/y")
 }
@@ -309,7 +326,7 @@ fn refuses<R: Abort + Files + AllocGlobal>(
     line: &str,
 ) -> bool
 where
-    R::File: Close,
+    R::File: Close + Lock,
 {
     let (name, kind) = line.split_once(' ').expect(rt, "a row");
     if !puts_none(folder, name) {
@@ -322,7 +339,7 @@ where
 // Whether a folder takes those files, and has no error then.
 fn takes_both<R: Files>(folder: &mut DiskFolder<'_, R>) -> bool
 where
-    R::File: Close,
+    R::File: Close + Lock,
 {
     puts_all(folder, "h/a/b h/c") && folder.error().is_none()
 }
@@ -330,7 +347,7 @@ where
 // A folder with those files refuses each of the names for its reason.
 fn refuse_all<R: Abort + Files + AllocGlobal>(rt: &R, folder: &mut DiskFolder<'_, R>)
 where
-    R::File: Close,
+    R::File: Close + Lock,
 {
     assert!(rt; takes_both(folder));
     for line in REASONS.lines() {
@@ -341,7 +358,7 @@ where
 // The system's number of the error by which a folder refuses a name.
 fn number_of_refusal<R: Abort + Files>(rt: &R, folder: &mut DiskFolder<'_, R>) -> Option<i32>
 where
-    R::File: Close,
+    R::File: Close + Lock,
 {
     if !puts_none(folder, "h/x") {
         return None;
@@ -355,4 +372,28 @@ fn a_folder_says_why_a_put_failed(rt: HostRuntime) {
     // What the system says has its number (errno(3), Linux: not a directory).
     let number = number_of_refusal(&rt, &mut folder(&rt, rt.alloc(), "reasons/h/c/d"));
     assert!(rt; number == Some(20));
+}
+
+// Whether what another run has in a folder stays while it holds its lock.
+fn spares_others(rt: &(impl Abort + Files), folder: &mut impl Folder) -> bool {
+    folder.put("h/x", b"1").is_ok() && !is_absent(rt, "shared/.wgetr%part0/part")
+}
+
+// Whether it is removed once nobody does.
+fn removes_left(rt: &(impl Abort + Files), folder: &mut impl Folder) -> bool {
+    folder.put("h/y", b"2").is_ok() && is_absent(rt, "shared/.wgetr%part0")
+}
+
+#[test]
+fn a_run_spares_what_another_holds(rt: HostRuntime) {
+    fs::create_dir_all(&rt, "shared/.wgetr%part0").expect(&rt, "the disk");
+    write(&rt, "shared/.wgetr%part0/lock", "");
+    write(&rt, "shared/.wgetr%part0/part", "of another run");
+    let lock = fs::File::open(&rt, "shared/.wgetr%part0/lock").expect(&rt, "the disk");
+    let mut folder = folder(&rt, rt.alloc(), "shared");
+    assert!(rt; lock.hold().expect(&rt, "the disk"));
+    assert!(rt; spares_others(&rt, &mut folder));
+    drop(lock);
+    assert!(rt; removes_left(&rt, &mut folder));
+    drop(folder);
 }

@@ -1,5 +1,6 @@
 //! Journals on a disk: what is taken where one was cut, beside a record, and when two runs save onto one file.
-use record_journal::{HoldFault, Journal, Lock, Pen, Saving};
+use local_tree::Lock;
+use record_journal::{HoldFault, Journal, Pen, Saving};
 use std::alloc::AllocGlobal;
 use std::fs;
 use std::fs::Files;

@@ -7,7 +7,6 @@ use progress::{BehindLine, Progress};
 use record_journal::Saving;
 use retriever::{arguments, run_program, telling_of};
 use std::io::{IsTerminal, Write};
-use std::process;
 use std::process::ExitCode;
 use tcp_connect::{Hosts, Kept};
 
@@ -45,7 +44,6 @@ fn main(rt: HostRuntime) -> ExitCode {
         &saving,
         &crew,
         &failures,
-        process::id(rt.process()),
     );
     let mut writer = BehindLine::new(output, &progress);
     let status = run_program(

@@ -4,8 +4,8 @@ use std::io;
 
 /// A file that can be held, so that no other run holds it too.
 pub trait Lock {
-    /// Whether it is held from now on, until it is closed: it isn't where another run holds it. The error is that the system has
-    /// no such locks there.
+    /// Whether it is held from now on, until it is closed: it isn't if another run holds it. The error is that the system has no
+    /// such locks there.
     fn hold(&self) -> io::Result<bool>;
 }
 

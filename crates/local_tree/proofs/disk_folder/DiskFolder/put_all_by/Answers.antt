@@ -5,8 +5,8 @@ use Rattle.std.specs.Result.{is_err}
 use Rattle.std.specs.String.{string_bytes}
 use Rattle.local_tree.specs.Folders.{DiskValue, one_more_refused}
 use Rattle.local_tree.proofs.SiteFilesLaws.{same_count, one_more, risen}
-use Rattle.local_tree.proofs.disk_folder.DiskFolder.put_site_by.Goals.{then-begins_batch, else-begins_batch}
-use Rattle.local_tree.proofs.disk_folder.DiskFolder.put_site_by.Goals as goal
+use Rattle.local_tree.proofs.disk_folder.DiskFolder.put_all_by.Goals.{then-begins_batch, else-begins_batch}
+use Rattle.local_tree.proofs.disk_folder.DiskFolder.put_all_by.Goals as goal
 
 pub loop-i-init : goal.loop-i-init
 loop-i-init g c = refl
@@ -20,16 +20,16 @@ loop-i-preserved-then-i-named g c =
 
 pub loop-i-preserved : goal.loop-i-preserved
 loop-i-preserved g c =
-    let ended : is_err c.put.result ≡ false = sym c.is_err.ensures.value ∙ c.if-is_err.false in
+    let ended : is_err c.put_by_part.result ≡ false = sym c.is_err.ensures.value ∙ c.if-is_err.false in
     let kept : c.if-begins_batch.self.failed ≡ c.args.self.now.failed = elim c.if-begins_batch.branch [
       | then-begins_batch w ↦ ap (λ (f : DiskValue). f.failed) (w.self-is ∙ w.name_batch-named.ensures) ∙ c.loop-i.invariant
       | else-begins_batch w ↦ ap (λ (f : DiskValue). f.failed) w.self-is ∙ c.loop-i.invariant
     ] in
-    same_count c.put.result c.if-begins_batch.self.failed c.put.new.self.failed ended c.put.ensures.counted ∙ kept
+    same_count c.put_by_part.result c.if-begins_batch.self.failed c.put_by_part.new.self.failed ended c.put_by_part.ensures.counted ∙ kept
 
 pub returns-then-is_err : goal.returns-then-is_err
 returns-then-is_err g c =
-    let ended : is_err c.put.result ≡ true = sym c.is_err.ensures.value ∙ c.if-is_err.true in
+    let ended : is_err c.put_by_part.result ≡ true = sym c.is_err.ensures.value ∙ c.if-is_err.true in
     let kept : c.if-begins_batch.self.failed ≡ c.args.self.now.failed = elim c.if-begins_batch.branch [
       | then-begins_batch w ↦ ap (λ (f : DiskValue). f.failed) (w.self-is ∙ w.name_batch-named.ensures) ∙ c.loop-i.invariant
       | else-begins_batch w ↦ ap (λ (f : DiskValue). f.failed) w.self-is ∙ c.loop-i.invariant
@@ -40,7 +40,7 @@ returns-then-is_err g c =
       torn = record {
         place = omega (arith, below, long);
         files = tt;
-        risen = risen c.args.self.now.failed c.put.new.self.failed (one_more c.put.result c.if-begins_batch.self.failed c.put.new.self.failed ended c.put.ensures.counted ∙ ap one_more_refused kept);
+        risen = risen c.args.self.now.failed c.put_by_part.new.self.failed (one_more c.put_by_part.result c.if-begins_batch.self.failed c.put_by_part.new.self.failed ended c.put_by_part.ensures.counted ∙ ap one_more_refused kept);
       };
       quiet = tt;
     }
