@@ -1,10 +1,10 @@
 //! Cookies, and where they go (RFC 6265, sections 5.1.3, 5.1.4 and 5.4).
-ghost use Rattle.std.specs.Prelude.{◌≡◌, ◌++◌, IfOk, OnOk, length, map, option_and_then, option_map};
+ghost use Rattle.std.specs.Prelude.{◌≡◌, ◌++◌, IfOk, None, OnOk, length, map, option_and_then, option_map};
 ghost use Rattle.std.specs.Char.{to_ascii_lowercase};
 ghost use Rattle.std.specs.Option.{option_map_or};
-ghost use Rattle.cookie_files.specs.Lines.{cookie_of, number_in, port_number};
+ghost use Rattle.cookie_files.specs.Lines.{cookie_of, fault_of, number_in, port_number};
 ghost use Rattle.cookie_files.specs.Jars.{is_same_port, replaces};
-ghost use Rattle.cookie_files.specs.Matches.{goes, pair_of};
+ghost use Rattle.cookie_files.specs.Matches.{IsClean, goes, pair_of};
 ghost use Rattle.cookie_files.specs.inner.AskedView.{asked_value};
 ghost use Rattle.cookie_files.specs.inner.FieldsView.{fields_value};
 
@@ -28,11 +28,16 @@ pub(crate) struct Cookie {
 
 // Contracts see a cookie as what its line says.
 impl Model for Cookie {
-    ghost use Rattle.cookie_files.specs.Lines.{Cookie};
+    ghost use Rattle.std.specs.Prelude.{◌≡◌, false};
+    ghost use Rattle.std.specs.List.{list_any};
+    ghost use Rattle.cookie_files.specs.Lines.{Cookie, is_bad, is_bad_in_name};
 
     ghost Value = { Cookie };
 
     ghost view = { λ c. record { host = c.host.items; port = c.port; subdomains = c.subdomains; path = c.path.items; secure = c.secure; expiry = c.expiry; name = c.name.items; content = c.content.items } };
+
+    // What ends a field of a request, or a pair, is in no name and in no value.
+    ghost invariant = { λ c. (list_any is_bad_in_name c.name.items ≡ false) × (list_any is_bad c.content.items ≡ false) };
 }
 
 // The text in lower case.
@@ -78,6 +83,7 @@ impl Cookie {
     /// The cookie that the fields say.
     #[tactic(auto, unfolding(crate::specs::Lines::cookie_of))]
     pub(crate) fn of(alloc: Global, fields: &Fields<'_>) -> Result<Cookie, AllocError>
+        requires { fault_of (fields_value fields.now) ≡ None }
         ensures { IfOk result (λ cookie. cookie ≡ cookie_of (fields_value fields.now)) }
     {
         let (host, port) = place_in(fields.domain);
@@ -117,16 +123,16 @@ impl Cookie {
         ensures { result ≡ goes (asked_value asked.now) now self.now }
     {
         domain_matches(self.subdomains, self.host.as_slice(), asked.host)
-            && path_matches(self.path.as_slice(), asked.path)
-            && port_matches(self.port, asked.port)
-            && is_safe(self.secure, asked.by)
-            && is_alive(self.expiry, now)
+            && (path_matches(self.path.as_slice(), asked.path)
+                && (port_matches(self.port, asked.port)
+                    && (is_safe(self.secure, asked.by) && is_alive(self.expiry, now))))
     }
 
     /// Adds name and value.
     #[tactic(auto, unfolding(crate::specs::Matches::pair_of))]
     pub(crate) fn push_pair(&self, text: &mut Vec<u8>) -> Result<(), AllocError>
-        ensures { OnOk result (text.new.items ≡ text.old.items ++ pair_of self.now) }
+        ensures pair { OnOk result (text.new.items ≡ text.old.items ++ pair_of self.now) }
+        ensures clean { IsClean text.old.items → OnOk result (IsClean text.new.items) }
     {
         text.extend_from_slice(self.name.as_slice())?;
         text.push(b'=')?;

@@ -1,9 +1,9 @@
 //! The cookies of a file.
-ghost use Rattle.std.specs.Prelude.{◌≡◌, ◌⊎◌, ◌<◌, ◌≤◌, ◌∷◌, [], Err, IfOk, MatchOption, MatchResult, Ok, OnOk, filter, length, nat_lt, not, option_map, position};
+ghost use Rattle.std.specs.Prelude.{◌≡◌, ◌⊎◌, ◌<◌, ◌≤◌, ◌∷◌, [], Err, IfOk, IfSome, MatchOption, MatchResult, None, Ok, OnOk, filter, length, nat_lt, not, option_map, position};
 ghost use Rattle.std.specs.List.{position_or_len, slice_split};
-ghost use Rattle.cookie_files.specs.Lines.{cookie_of};
+ghost use Rattle.cookie_files.specs.Lines.{cookie_of, fault_of};
 ghost use Rattle.cookie_files.specs.Jars.{added, is_feed, placed, read_lines, replaces, said_by};
-ghost use Rattle.cookie_files.specs.Matches.{marked, sent, value_of, with_sent};
+ghost use Rattle.cookie_files.specs.Matches.{IsClean, marked, sent, value_of, with_sent};
 ghost use Rattle.cookie_files.specs.inner.AskedView.{asked_value};
 ghost use Rattle.cookie_files.specs.inner.FieldsView.{fields_value};
 
@@ -93,6 +93,7 @@ fn add_said(
     cookies: &mut Vec<Cookie>,
     said: Option<Fields<'_>>,
 ) -> Result<(), AllocError>
+    requires { IfSome said (λ found. fault_of (fields_value found) ≡ None) }
     ensures { OnOk result (cookies.new.items ≡ said_by cookies.old.items (option_map fields_value said.entry)) }
 {
     match said {
@@ -143,7 +144,8 @@ fn read_lines(alloc: Global, bytes: &[u8]) -> Result<Vec<Cookie>, CookieFault>
 
 // Adds a semicolon and a space, unless the text is empty.
 fn push_mark(text: &mut Vec<u8>) -> Result<(), AllocError>
-    ensures { OnOk result (text.new.items ≡ marked text.old.items) }
+    ensures marked { OnOk result (text.new.items ≡ marked text.old.items) }
+    ensures clean { IsClean text.old.items → OnOk result (IsClean text.new.items) }
 {
     if text.is_empty() {
         return Ok(());
@@ -158,7 +160,8 @@ fn push_sent(
     asked: &Asked<'_>,
     now: u64,
 ) -> Result<(), AllocError>
-    ensures { OnOk result (text.new.items ≡ with_sent (asked_value asked.now) now text.old.items cookie.now) }
+    ensures sent { OnOk result (text.new.items ≡ with_sent (asked_value asked.now) now text.old.items cookie.now) }
+    ensures clean { IsClean text.old.items → OnOk result (IsClean text.new.items) }
 {
     if cookie.goes(asked, now) {
         push_mark(text)?;
@@ -174,7 +177,8 @@ fn pairs(
     asked: &Asked<'_>,
     now: u64,
 ) -> Result<Vec<u8>, AllocError>
-    ensures { IfOk result (λ text. text.items ≡ value_of (sent (asked_value asked.now) now cookies.now)) }
+    ensures value { IfOk result (λ text. text.items ≡ value_of (sent (asked_value asked.now) now cookies.now)) }
+    ensures clean { IfOk result (λ text. IsClean text.items) }
 {
     let mut text = Vec::new(alloc);
     for cookie in cookies {
@@ -184,9 +188,10 @@ fn pairs(
 }
 
 impl Cookies {
-    ghost use Rattle.std.specs.Prelude.{◌≡◌, IfOk, option_map};
-    ghost use Rattle.cookie_files.specs.Jars.{Gives, read_file};
-    ghost use Rattle.cookie_files.specs.Matches.{field_value};
+    ghost use Rattle.std.specs.Prelude.{◌≡◌, ◌↔◌, IfOk, IfSome, IsTrue, option_map};
+    ghost use Rattle.cookie_files.specs.Lines.{Cookie};
+    ghost use Rattle.cookie_files.specs.Jars.{AreOf, Gives, cookies_in, read_file};
+    ghost use Rattle.cookie_files.specs.Matches.{Goes, IsClean, asked_of, field_value, goes};
 
     /// Reads a cookie file: at most 4 MiB and 10,000 lines, empty lines and comments counted. A line is a cookie as browsers, curl and
     /// Wget write it: domain, `TRUE` if it is for subdomains too, path, `TRUE` if it is for https alone, expiry in seconds since 1970 or
@@ -194,7 +199,9 @@ impl Cookies {
     /// counts. The fault is the first line that says no cookie, that the file is too long, or that memory ran out.
     #[tactic(auto, unfolding(crate::specs::Jars::read_file))]
     pub fn read(alloc: Global, bytes: &[u8]) -> Result<Cookies, CookieFault>
-        ensures { Gives result (read_file bytes.now) }
+        ensures reads { Gives result (read_file bytes.now) }
+        // What is read are the cookies of the file that count, in the order in which a request holds them.
+        ensures order { IfOk result (λ cookies. AreOf (cookies_in bytes.now) cookies) }
     {
         if bytes.len() > MAX_FILE {
             return Err(CookieFault::TooLong);
@@ -213,7 +220,11 @@ impl Cookies {
         at: &Address,
         now: u64,
     ) -> Result<Option<Vec<u8>>, AllocError>
-        ensures { IfOk result (λ value. option_map (λ text. text.items) value ≡ field_value at.now now self.now) }
+        ensures value { IfOk result (λ value. option_map (λ text. text.items) value ≡ field_value at.now now self.now) }
+        // A cookie is in it only if it may go there.
+        ensures means { (cookie : Cookie) → IsTrue (goes (asked_of at.now) now cookie) ↔ Goes (asked_of at.now) now cookie }
+        // The field ends where the value does.
+        ensures clean { IfOk result (λ value. IfSome value (λ text. IsClean text.items)) }
     {
         let text = pairs(alloc, self.items.as_slice(), &asked_of(at), now)?;
         if text.is_empty() {

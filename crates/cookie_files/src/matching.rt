@@ -60,6 +60,7 @@ fn is_ip_address(host: &[u8]) -> bool
 }
 
 // Whether a host ends in a dot and this domain.
+#[tactic(auto, unfolding(crate::specs::Matches::is_below))]
 fn is_below(domain: &[u8], host: &[u8]) -> bool
     ensures { result ≡ is_below domain.now host.now }
 {
@@ -71,7 +72,7 @@ fn is_below(domain: &[u8], host: &[u8]) -> bool
 pub(crate) fn domain_matches(subdomains: bool, domain: &[u8], host: &[u8]) -> bool
     ensures { result ≡ domain_matches subdomains domain.now host.now }
 {
-    host == domain || subdomains && is_below(domain, host) && !is_ip_address(host)
+    host == domain || subdomains && (is_below(domain, host) && !is_ip_address(host))
 }
 
 /// Whether a cookie of this path goes to what is asked for.
@@ -85,6 +86,7 @@ pub(crate) fn path_matches(path: &[u8], asked: &[u8]) -> bool
 }
 
 /// Whether a cookie of this port goes there.
+#[tactic(auto, unfolding(crate::specs::Matches::port_matches))]
 pub(crate) fn port_matches(port: Option<u16>, asked: u16) -> bool
     ensures { result ≡ port_matches port asked }
 {
@@ -95,6 +97,7 @@ pub(crate) fn port_matches(port: Option<u16>, asked: u16) -> bool
 }
 
 /// Whether a cookie goes by this scheme, if it is for https alone or isn't.
+#[tactic(auto, unfolding(crate::specs::Matches::is_safe))]
 pub(crate) fn is_safe(secure: bool, by: Scheme) -> bool
     ensures { result ≡ is_safe secure by }
 {
@@ -105,6 +108,7 @@ pub(crate) fn is_safe(secure: bool, by: Scheme) -> bool
 }
 
 /// Whether a cookie of this expiry isn't past.
+#[tactic(auto, unfolding(crate::specs::Matches::is_alive))]
 pub(crate) fn is_alive(expiry: u64, now: u64) -> bool
     ensures { result ≡ is_alive expiry now }
 {

@@ -12,6 +12,10 @@ loop-cookie-preserved c =
     let i = c.loop-cookie.cookie-index in
     let cookie = c.cookie-item.result in
     let next : take (i + 1) cookies ≡ take i cookies ++ cookie ∷ [] = take_more cookies i cookie c.loop-cookie-test.true ∙ ap (λ x. take i cookies ++ x ∷ []) (sym c.cookie-item.is) in
-    c.in_ok-push_sent.ensures
-    ∙ sent_more asked c.args.now (take i cookies) cookie c.loop-cookie.text.items c.loop-cookie.invariant
-    ∙ ap (λ front. value_of (sent asked c.args.now front)) (sym next)
+    record {
+      value =
+          c.in_ok-push_sent.ensures.sent
+          ∙ sent_more asked c.args.now (take i cookies) cookie c.loop-cookie.text.items c.loop-cookie.invariant.value
+          ∙ ap (λ front. value_of (sent asked c.args.now front)) (sym next);
+      clean = c.in_ok-push_sent.ensures.clean c.loop-cookie.invariant.clean;
+    }
