@@ -1,5 +1,5 @@
 -- The pairs of cookies, one after another.
-use Rattle.std.proofs.Common.{◌≡◌, ◌≢◌, ◌∙◌, ℕ, ◌+◌, ◌<◌, ◌==◌, Bool, true, false, cond, not, List, [], ◌∷◌, ◌++◌, length, take, get_or, filter, Option, Some, None, codes, refl, sym, ap, subst, arith, append_assoc, append-nil, length-append, ⊎_elim}
+use Rattle.std.proofs.Common.{◌≡◌, ◌≢◌, ◌∙◌, ℕ, ◌+◌, ◌==◌, false, cond, List, [], ◌∷◌, ◌++◌, length, Some, None, codes, refl, sym, ap, subst, arith, append_assoc, append-nil, length-append, ⊎_elim}
 use Rattle.std.proofs.lemmas.Bool.{cases_Bool}
 use Rattle.std.proofs.lemmas.Bool.Decides.{nat_tests}
 use Rattle.std.proofs.lemmas.List.Elements.{filter-append}
@@ -13,7 +13,7 @@ no_zero n some = grind (arith, nat_tests)
 pair_full : (cookie : Cookie) (rest : Text) → length (pair_of cookie ++ rest) ≢ 0
 unfolding pair_of
 pair_full cookie rest none =
-    let size : length (pair_of cookie ++ rest) ≡ length cookie.name + (1 + length cookie.content) + length rest = simp length-append (omega arith) in
+    let size : length (pair_of cookie ++ rest) ≡ length cookie.name + (1 + length cookie.value) + length rest = simp length-append (omega arith) in
     omega (arith, size, none)
 
 pub value_full : (cookie : Cookie) (others : List Cookie) → length (value_of (cookie ∷ others)) ≢ 0

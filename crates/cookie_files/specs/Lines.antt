@@ -20,7 +20,7 @@ pub record Cookie : Type 0 where
   pub secure : Bool
   pub expiry : ℕ  -- seconds since 1970; 0: with the session, which is the run
   pub name : Text
-  pub content : Text
+  pub value : Text
 
 -- the fields of a line, as they are written
 pub record Fields : Type 0 where
@@ -30,7 +30,7 @@ pub record Fields : Type 0 where
   pub secure : Text
   pub expiry : Text
   pub name : Text
-  pub content : Text
+  pub value : Text
 
 -- ---- texts
 
@@ -110,8 +110,8 @@ is_bad_in_name byte = is_bad byte || byte == 61
 abbrev pub is_name : Text → Bool
 is_name text = not (length text == 0) && not (list_any is_bad_in_name text)
 
-abbrev pub is_content : Text → Bool
-is_content text = not (list_any is_bad text)
+abbrev pub is_value : Text → Bool
+is_value text = not (list_any is_bad text)
 
 -- ---- lines
 
@@ -119,7 +119,7 @@ is_content text = not (list_any is_bad text)
 unfoldable pub fields_of : Text → Option Fields
 fields_of line =
     option_and_then (λ a. option_and_then (λ b. option_and_then (λ c. option_and_then (λ d. option_and_then (λ e. option_map (λ f.
-    record { domain = a.0; subdomains = b.0; path = c.0; secure = d.0; expiry = e.0; name = f.0; content = f.1 })
+    record { domain = a.0; subdomains = b.0; path = c.0; secure = d.0; expiry = e.0; name = f.0; value = f.1 })
     (cut 9 e.1)) (cut 9 d.1)) (cut 9 c.1)) (cut 9 b.1)) (cut 9 a.1)) (cut 9 line)
 
 -- the first of the fields that can't be
@@ -131,7 +131,7 @@ fault_of fields =
     else (if not (is_flag fields.secure) then Some fault.Secure
     else (if not (is_expiry fields.expiry) then Some fault.Expiry
     else (if not (is_name fields.name) then Some fault.Name
-    else (if not (is_content fields.content) then Some fault.Value
+    else (if not (is_value fields.value) then Some fault.Value
     else None))))))
 
 -- the cookie that the fields say
@@ -145,7 +145,7 @@ cookie_of fields =
       secure = bytes_eq fields.secure (codes "TRUE");
       expiry = option_map_or (λ n. n) (number_in fields.expiry) 0;
       name = fields.name;
-      content = fields.content;
+      value = fields.value;
     }
 
 -- a line that ends in CR LF is the line before these

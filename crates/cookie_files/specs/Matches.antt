@@ -34,7 +34,7 @@ domain_matches subdomains domain host = bytes_eq host domain || (subdomains && (
 
 -- ---- path-match (section 5.1.4)
 
--- they are identical, or the cookie's path is a prefix of the other, and ends in a slash or the first byte behind it is a slash
+-- they are identical, or the cookie's path is a prefix of the other, and ends in a slash or the first byte after it is a slash
 abbrev pub PathMatches : Text → Text → Type 0
 PathMatches path asked =
     (asked ≡ path)
@@ -97,7 +97,7 @@ sent asked now cookies = filter (goes asked now) cookies
 
 -- name and value of a cookie
 unfoldable pub pair_of : Cookie → Text
-pair_of cookie = cookie.name ++ (codes "=" ++ cookie.content)
+pair_of cookie = cookie.name ++ (codes "=" ++ cookie.value)
 
 -- the pairs, with a semicolon and a space between two
 abbrev pub value_of : List Cookie → Text

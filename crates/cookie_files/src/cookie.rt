@@ -23,7 +23,7 @@ pub(crate) struct Cookie {
     secure: bool,
     expiry: u64,
     name: Vec<u8>,
-    content: Vec<u8>,
+    value: Vec<u8>,
 }
 
 // Contracts see a cookie as what its line says.
@@ -34,10 +34,10 @@ impl Model for Cookie {
 
     ghost Value = { Cookie };
 
-    ghost view = { λ c. record { host = c.host.items; port = c.port; subdomains = c.subdomains; path = c.path.items; secure = c.secure; expiry = c.expiry; name = c.name.items; content = c.content.items } };
+    ghost view = { λ c. record { host = c.host.items; port = c.port; subdomains = c.subdomains; path = c.path.items; secure = c.secure; expiry = c.expiry; name = c.name.items; value = c.value.items } };
 
     // What ends a field of a request, or a pair, is in no name and in no value.
-    ghost invariant = { λ c. (list_any is_bad_in_name c.name.items ≡ false) × (list_any is_bad c.content.items ≡ false) };
+    ghost invariant = { λ c. (list_any is_bad_in_name c.name.items ≡ false) × (list_any is_bad c.value.items ≡ false) };
 }
 
 // The text in lower case.
@@ -95,7 +95,7 @@ impl Cookie {
             secure: is_true(fields.secure),
             expiry: number_by(fields.expiry),
             name: Vec::from_slice(alloc, fields.name)?,
-            content: Vec::from_slice(alloc, fields.content)?,
+            value: Vec::from_slice(alloc, fields.value)?,
         })
     }
 
@@ -136,7 +136,7 @@ impl Cookie {
     {
         text.extend_from_slice(self.name.as_slice())?;
         text.push(b'=')?;
-        text.extend_from_slice(self.content.as_slice())?;
+        text.extend_from_slice(self.value.as_slice())?;
         Ok(())
     }
 }

@@ -126,7 +126,7 @@ fn read_lines(alloc: Global, bytes: &[u8]) -> Result<Vec<Cookie>, CookieFault>
     let mut rest = bytes;
     let mut number: usize = 1;
     loop {
-        let (line, behind) = split_line(rest);
+        let (line, after) = split_line(rest);
         if number > MAX_LINES {
             return Err(CookieFault::TooManyLines);
         }
@@ -134,8 +134,8 @@ fn read_lines(alloc: Global, bytes: &[u8]) -> Result<Vec<Cookie>, CookieFault>
             Ok(said) => add_said(alloc, &mut cookies, said)?,
             Err(fault) => return Err(CookieFault::Line(number, fault)),
         }
-        match behind {
-            Some(behind) => rest = behind,
+        match after {
+            Some(after) => rest = after,
             None => return Ok(cookies),
         }
         number += 1;
@@ -223,7 +223,7 @@ impl Cookies {
         ensures value { IfOk result (λ value. option_map (λ text. text.items) value ≡ field_value at.now now self.now) }
         // A cookie is in it only if it may go there.
         ensures means { (cookie : Cookie) → IsTrue (goes (asked_of at.now) now cookie) ↔ Goes (asked_of at.now) now cookie }
-        // The field ends where the value does.
+        // No byte in it ends the field.
         ensures clean { IfOk result (λ value. IfSome value (λ text. IsClean text.items)) }
     {
         let text = pairs(alloc, self.items.as_slice(), &asked_of(at), now)?;

@@ -1,7 +1,7 @@
 //! The fields of a line, and what they may be.
 ghost use Rattle.std.specs.Prelude.{◌≡◌, ◌==◌, bytes_eq, codes, option_map, position};
 ghost use Rattle.std.specs.List.{list_all, list_any};
-ghost use Rattle.cookie_files.specs.Lines.{cut, fault_of, fields_of, is_bad, is_bad_in_name, is_bracketed, is_content, is_control, is_domain, is_expiry, is_flag, is_host, is_host_byte, is_name, is_path, is_port, number_in, place_in, place_of, port_number, without_dot};
+ghost use Rattle.cookie_files.specs.Lines.{cut, fault_of, fields_of, is_bad, is_bad_in_name, is_bracketed, is_value, is_control, is_domain, is_expiry, is_flag, is_host, is_host_byte, is_name, is_path, is_port, number_in, place_in, place_of, port_number, without_dot};
 ghost use Rattle.cookie_files.specs.inner.FieldsView.{fields_value};
 
 use crate::fault::LineFault;
@@ -18,7 +18,7 @@ pub(crate) struct Fields<'a> {
     pub(crate) secure: &'a [u8],
     pub(crate) expiry: &'a [u8],
     pub(crate) name: &'a [u8],
-    pub(crate) content: &'a [u8],
+    pub(crate) value: &'a [u8],
 }
 
 // Where the first byte of this value is.
@@ -49,7 +49,7 @@ pub(crate) fn fields_of(line: &[u8]) -> Option<Fields<'_>>
     let (path, rest) = cut(b'\t', rest)?;
     let (secure, rest) = cut(b'\t', rest)?;
     let (expiry, rest) = cut(b'\t', rest)?;
-    let (name, content) = cut(b'\t', rest)?;
+    let (name, value) = cut(b'\t', rest)?;
     Some(Fields {
         domain,
         subdomains,
@@ -57,7 +57,7 @@ pub(crate) fn fields_of(line: &[u8]) -> Option<Fields<'_>>
         secure,
         expiry,
         name,
-        content,
+        value,
     })
 }
 
@@ -71,12 +71,12 @@ pub(crate) fn number_in(text: &[u8]) -> Option<u64>
     }
     let mut number: u64 = 0;
     let mut rest = text;
-    while let [digit, behind @ ..] = rest {
+    while let [digit, after @ ..] = rest {
         if !digit.is_ascii_digit() || number >= MAX_BEFORE {
             return None;
         }
         number = 10 * number + (*digit - b'0') as u64;
-        rest = behind;
+        rest = after;
     }
     Some(number)
 }
@@ -237,8 +237,8 @@ fn has_bad(text: &[u8]) -> bool
     text.iter().any(|byte| is_bad(*byte))
 }
 
-fn is_content(text: &[u8]) -> bool
-    ensures { result ≡ is_content text.now }
+fn is_value(text: &[u8]) -> bool
+    ensures { result ≡ is_value text.now }
 {
     !has_bad(text)
 }
@@ -260,7 +260,7 @@ pub(crate) fn fault_of(fields: &Fields<'_>) -> Option<LineFault>
         Some(LineFault::Expiry)
     } else if !is_name(fields.name) {
         Some(LineFault::Name)
-    } else if !is_content(fields.content) {
+    } else if !is_value(fields.value) {
         Some(LineFault::Value)
     } else {
         None

@@ -14,7 +14,7 @@ fields_value fields =
       secure = fields.secure.now;
       expiry = fields.expiry.now;
       name = fields.name.now;
-      content = fields.content.now;
+      value = fields.value.now;
     }
 
 -- and what a line says

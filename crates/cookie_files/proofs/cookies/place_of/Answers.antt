@@ -1,4 +1,4 @@
-use Rattle.std.proofs.Common.{◌≡◌, Bool, length, sym, arith}
+use Rattle.std.proofs.Common.{Bool, length, sym, arith}
 use Rattle.std.specs.Prelude.{nat_lt}
 use Rattle.cookie_files.specs.Lines.{Cookie}
 use Rattle.cookie_files.proofs.CutLemmas.{no_place, place_within}

@@ -1,4 +1,4 @@
-use Rattle.std.proofs.Common.{◌≡◌, ◌∙◌, false, sym, ap, subst}
+use Rattle.std.proofs.Common.{◌∙◌, ap}
 use Rattle.std.specs.List.{list_any}
 use Rattle.cookie_files.specs.Lines.{is_bad, is_bad_in_name}
 use Rattle.cookie_files.specs.inner.FieldsView.{fields_value}

@@ -1,4 +1,4 @@
-use Rattle.std.proofs.Common.{◌≡◌, [], refl}
+use Rattle.std.proofs.Common.{[], refl}
 use Rattle.std.specs.List.{slice_split}
 use Rattle.cookie_files.specs.Jars.{is_feed}
 use Rattle.cookie_files.proofs.OrderLemmas.{read_order}
