@@ -1,0 +1,6 @@
+mod CleanLemmas
+mod CutLemmas
+mod JarLemmas
+mod Meaning
+mod OrderLemmas
+mod ValueLemmas

@@ -1,0 +1,4 @@
+pub mod Lines
+pub mod Jars
+pub mod Matches
+pub mod inner
