@@ -1,6 +1,5 @@
-use Rattle.std.proofs.Common.{◌≡◌, true, ap, subst}
+use Rattle.std.proofs.Common.{subst}
 use Rattle.html_links.specs.Lexing.{ends_sheet}
-use Rattle.html_links.specs.declared.lexer.Ended.TheVariants as ends
 use Rattle.html_links.specs.inner.Lexing.{EndsOnly}
 use Rattle.html_links.proofs.Scanning.{on_err}
 use Rattle.html_links.proofs.scanner.note_end.Goals as goal

@@ -1,7 +1,7 @@
 use Rattle.std.proofs.Common.{ℕ, List, ◌++◌, ◌∙◌, sym, ap}
 use Rattle.html_links.specs.Pieces.{until, from, is}
 use Rattle.html_links.specs.Markup.{mark, until_section, beyond_section}
-use Rattle.html_links.specs.Lexing.{in_section, section_part, sheet_if}
+use Rattle.html_links.specs.Lexing.{in_section}
 use Rattle.html_links.proofs.Stepping.{section_put}
 use Rattle.html_links.proofs.Running.{section_over}
 use Rattle.html_links.proofs.lexer.Lexer.section_run.Goals as goal
