@@ -356,7 +356,8 @@ class Page:
                     return
                 name, attributes = tag
                 foreign = self.enter(name, attributes)
-                yield name, attributes, self.raw_text(name) if name in RAW and not foreign else ""
+                styled = foreign and name == "style" and not self.closes
+                yield name, attributes, self.styled_text() if styled else self.raw_text(name) if name in RAW and not foreign else ""
                 if name == "plaintext" and not foreign:
                     return
             elif follows == "/":
@@ -376,6 +377,16 @@ class Page:
                 self.at = len(text) if end < 0 else end + 3
             elif follows and follows in "!?":
                 self.pass_bogus()
+
+    def styled_text(self):
+        """The text of an element of foreign content up to the next tag, without comments and with CDATA sections. Nothing is taken."""
+        at, read = self.at, ""
+        for it in re.compile(r"<!--.*?(?:-->|\Z)|<!\[CDATA\[(?P<verbatim>.*?)(?:\]\]>|\Z)|<[!?].*?(?:>|\Z)|</[^A-Za-z].*?(?:>|\Z)|(?P<tag></?[A-Za-z])|</\Z", re.DOTALL).finditer(self.text, at):
+            read += with_references(self.text[at:it.start()]) + (it["verbatim"] or "")
+            at = it.end()
+            if it["tag"]:
+                return read
+        return read + with_references(self.text[at:])
 
     def pass_bogus(self):
         end = self.text.find(">", self.at)
@@ -457,9 +468,8 @@ class Page:
             else:
                 self.at = it.start()
                 return self.text[begun:self.at]
-        # (docs/PROFILE.md: an element that the page's end cuts says nothing)
         self.at = len(self.text)
-        return ""
+        return self.text[begun:]
 
 
 def lower(text):

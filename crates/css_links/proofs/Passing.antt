@@ -1,13 +1,13 @@
 -- Bytes that are passed over, or put to a text, many at a time.
-use Rattle.std.proofs.Common.{◌≡◌, Option, Some, None, is_some, Result, Ok, Err, OnOk, IfOk, ℕ, Bool, true, false, not, ◌&&◌, ◌||◌, List, [], ◌∷◌, ◌++◌, ◌⊎◌, inl, inr, length, reverse, if◌then◌else◌, ◌==◌, refl, sym, ap, ap₂, subst, ◌<◌, suc, ◌∙◌, append_assoc, append-nil, arith}
+use Rattle.std.proofs.Common.{◌≡◌, Option, Some, None, is_some, Result, Ok, Err, OnOk, IfOk, ℕ, Bool, true, false, not, ◌&&◌, ◌||◌, List, [], ◌∷◌, ◌++◌, ◌⊎◌, inl, inr, length, reverse, if◌then◌else◌, ◌==◌, refl, sym, ap, ap₂, subst, ◌<◌, zero, suc, ◌-◌, ◌∙◌, append_assoc, append-nil, arith}
 use Rattle.std.proofs.lemmas.Bool.{or_parts, eqb-true, true≢false}
 use Rattle.std.proofs.lemmas.List.{reverse-append, reverse-reverse, length-reverse}
 use Rattle.memchr.specs.Find.{Nowhere, is_byte, Passes, IsFirstByte}
 use Rattle.css_links.specs.Bytes.{is_newline, is_white, is_quote, is_name, is_unfit, is_loud}
 use Rattle.css_links.specs.Escapes.{says, read, unescaped}
 use Rattle.css_links.specs.Places.{turn, between, word, comment, import_comment, other_string, reference_string, bare, bad}
-use Rattle.css_links.specs.References.{Seen, Front, front, step, fed}
-use Rattle.css_links.specs.inner.Spans.{until, from, is, ends_span}
+use Rattle.css_links.specs.References.{Seen, Front, front, without, step, fed}
+use Rattle.css_links.specs.inner.Spans.{until, from, is, ends_span, quiet_span}
 use Rattle.css_links.specs.inner.Quiet.{lead_behind, place_in, raw_in, place_after, named_end, place_behind, raw_behind}
 use Rattle.css_links.specs.declared.escape.Reading.TheVariants.{Plain}
 use Rattle.css_links.specs.declared.span.Span.TheVariants as span
@@ -199,40 +199,55 @@ name_more r f b (c ∷ cs) n = go (c == 35) refl where
   go true h = rw (eqb-true c 35 h) (with_step lead.Hash [] f b n.name)
   go false h = plain h (is_name c) refl
 
--- a byte that isn't loud after such bytes
-quiet_more : (r : List ℕ) (f : Seen) (b : ℕ) (bs : List ℕ) → is_loud b ≡ false
+-- a parenthesis that closes nothing that is counted
+without_none : (f : Seen) → f.depth ≡ 0 → without f ≡ f
+without_none f h = ap (λ d. record { found = f.found; depth = d }) (ap (λ d. d - 1) h ∙ sym h)
+
+close_step : (p : Place) (r : List ℕ) (f : Seen) → Passing p → f.depth ≡ 0 → step (front p r f) 41 ≡ front Between r f
+close_step p r f (inl e) h = rw e (ap (front Between r) (without_none f h))
+close_step p r f (inr (inl e)) h = rw e (ap (front Between r) (without_none f h))
+close_step p r f (inr (inr e)) h = rw e (ap (front Between r) (without_none f h))
+
+-- a byte that isn't loud, nor a `)` where parentheses are counted
+abbrev IsQuiet : Seen → ℕ → Type 0
+IsQuiet f b = (is_loud b ≡ false) × ((b == 41) ≡ true → f.depth ≡ 0)
+
+-- such a byte after such bytes
+quiet_more : (r : List ℕ) (f : Seen) (b : ℕ) (bs : List ℕ) → IsQuiet f b
     → step (front (place_behind bs) (raw_behind r bs) f) b ≡ front (place_behind (b ∷ bs)) (raw_behind r (b ∷ bs)) f
-quiet_more r f b bs quiet = go (b == 35) refl where
+quiet_more r f b bs quiet = go (b == 41) refl where
   passing : Passing (place_behind bs)
   passing = place_passing (until (ends_span span.Plain) bs) (named_end bs) (from (ends_span span.Name) (named_end bs))
 
-  other : (b == 35) ≡ false → (t : Bool) → is_name b ≡ t → step (front (place_behind bs) (raw_behind r bs) f) b ≡ front (place_behind (b ∷ bs)) (raw_behind r (b ∷ bs)) f
-  other h true e =
-      let one = or_parts (is_quote b) _ quiet in
+  other : (b == 41) ≡ false → (b == 35) ≡ false → (t : Bool) → is_name b ≡ t → step (front (place_behind bs) (raw_behind r bs) f) b ≡ front (place_behind (b ∷ bs)) (raw_behind r (b ∷ bs)) f
+  other g h true e =
+      let one = or_parts (is_quote b) _ quiet.0 in
       let two = or_parts (b == 40) _ one.1 in
-      let close = or_parts (b == 41) _ two.1 in
-      let three = or_parts (b == 47) _ close.1 in
+      let three = or_parts (b == 47) _ two.1 in
       let four = or_parts (b == 64) (b == 92) three.1 in
-      name_more r f b bs (record { slash = three.0; quote = one.0; paren = two.0; close = close.0; at = four.0; escape = four.1; hash = h; name = e }) ∙ sym (name_behind b bs r f e)
-  other h false e =
-      let one = or_parts (is_quote b) _ quiet in
+      name_more r f b bs (record { slash = three.0; quote = one.0; paren = two.0; close = g; at = four.0; escape = four.1; hash = h; name = e }) ∙ sym (name_behind b bs r f e)
+  other g h false e =
+      let one = or_parts (is_quote b) _ quiet.0 in
       let two = or_parts (b == 40) _ one.1 in
-      let close = or_parts (b == 41) _ two.1 in
-      let three = or_parts (b == 47) _ close.1 in
+      let three = or_parts (b == 47) _ two.1 in
       let four = or_parts (b == 64) (b == 92) three.1 in
-      plain_step (place_behind bs) (raw_behind r bs) f b passing (record { slash = three.0; quote = one.0; paren = two.0; close = close.0; at = four.0; escape = four.1; hash = h; name = e })
+      plain_step (place_behind bs) (raw_behind r bs) f b passing (record { slash = three.0; quote = one.0; paren = two.0; close = g; at = four.0; escape = four.1; hash = h; name = e })
       ∙ sym (plain_behind b bs r f e h)
 
-  go : (t : Bool) → (b == 35) ≡ t → step (front (place_behind bs) (raw_behind r bs) f) b ≡ front (place_behind (b ∷ bs)) (raw_behind r (b ∷ bs)) f
-  go true h = rw (eqb-true b 35 h) (hash_step (place_behind bs) (raw_behind r bs) f passing ∙ sym (hash_behind bs r f))
-  go false h = other h (is_name b) refl
+  unclosed : (b == 41) ≡ false → (t : Bool) → (b == 35) ≡ t → step (front (place_behind bs) (raw_behind r bs) f) b ≡ front (place_behind (b ∷ bs)) (raw_behind r (b ∷ bs)) f
+  unclosed g true h = rw (eqb-true b 35 h) (hash_step (place_behind bs) (raw_behind r bs) f passing ∙ sym (hash_behind bs r f))
+  unclosed g false h = other g h (is_name b) refl
 
--- none of these bytes is loud
-abbrev AreQuiet : List ℕ → Type 0
-AreQuiet [] = Unit
-AreQuiet (b ∷ bs) = (is_loud b ≡ false) × AreQuiet bs
+  go : (t : Bool) → (b == 41) ≡ t → step (front (place_behind bs) (raw_behind r bs) f) b ≡ front (place_behind (b ∷ bs)) (raw_behind r (b ∷ bs)) f
+  go true g = rw (eqb-true b 41 g) (close_step (place_behind bs) (raw_behind r bs) f passing (quiet.1 g) ∙ sym (plain_behind 41 bs r f refl refl))
+  go false g = unclosed g (b == 35) refl
 
-quiet_fed : (r : List ℕ) (f : Seen) (back : List ℕ) → AreQuiet back → fed (front Between r f) (reverse back) ≡ front (place_behind back) (raw_behind r back) f
+-- such bytes
+abbrev AreQuiet : Seen → List ℕ → Type 0
+AreQuiet f [] = Unit
+AreQuiet f (b ∷ bs) = IsQuiet f b × AreQuiet f bs
+
+quiet_fed : (r : List ℕ) (f : Seen) (back : List ℕ) → AreQuiet f back → fed (front Between r f) (reverse back) ≡ front (place_behind back) (raw_behind r back) f
 quiet_fed r f [] q = refl
 quiet_fed r f (b ∷ bs) q =
     ap (fed (front Between r f)) (reverse_more b bs)
@@ -240,29 +255,39 @@ quiet_fed r f (b ∷ bs) q =
     ∙ ap (λ s. step s b) (quiet_fed r f bs q.1)
     ∙ quiet_more r f b bs q.0
 
-quiet_append : (xs ys : List ℕ) → AreQuiet xs → AreQuiet ys → AreQuiet (xs ++ ys)
-quiet_append [] ys p q = q
-quiet_append (x ∷ xs) ys p q = (p.0, quiet_append xs ys p.1 q)
+quiet_append : (f : Seen) (xs ys : List ℕ) → AreQuiet f xs → AreQuiet f ys → AreQuiet f (xs ++ ys)
+quiet_append f [] ys p q = q
+quiet_append f (x ∷ xs) ys p q = (p.0, quiet_append f xs ys p.1 q)
 
-quiet_reverse : (xs : List ℕ) → AreQuiet xs → AreQuiet (reverse xs)
-quiet_reverse [] q = tt
-quiet_reverse (x ∷ xs) q = subst AreQuiet (sym (reverse_more x xs)) (quiet_append (reverse xs) (x ∷ []) (quiet_reverse xs q.1) (q.0, tt))
+quiet_reverse : (f : Seen) (xs : List ℕ) → AreQuiet f xs → AreQuiet f (reverse xs)
+quiet_reverse f [] q = tt
+quiet_reverse f (x ∷ xs) q = subst (AreQuiet f) (sym (reverse_more x xs)) (quiet_append f (reverse xs) (x ∷ []) (quiet_reverse f xs q.1) (q.0, tt))
 
-quiet_until : (xs : List ℕ) → AreQuiet (until is_loud xs)
-quiet_until [] = tt
-quiet_until (b ∷ bs) = go (is_loud b) refl (quiet_until bs) where
-  go : (t : Bool) → is_loud b ≡ t → AreQuiet (until is_loud bs) → AreQuiet (if t then [] else b ∷ until is_loud bs)
+quiet_until : (f : Seen) (stops : ℕ → Bool) → ((b : ℕ) → stops b ≡ false → IsQuiet f b) → (xs : List ℕ) → AreQuiet f (until stops xs)
+quiet_until f stops h [] = tt
+quiet_until f stops h (b ∷ bs) = go (stops b) refl (quiet_until f stops h bs) where
+  go : (t : Bool) → stops b ≡ t → AreQuiet f (until stops bs) → AreQuiet f (if t then [] else b ∷ until stops bs)
   go true e q = tt
-  go false e q = (e, q)
+  go false e q = (h b e, q)
 
--- what is passed over between tokens, up to the first loud byte
-pub quiet_passed : (r : List ℕ) (f : Seen) (quiet left text : List ℕ) → quiet ≡ until is_loud text → left ≡ from is_loud text
+-- what ends such bytes, by how many parentheses are open
+abbrev stops_in : Seen → ℕ → Bool
+stops_in f = ends_span (quiet_span f.depth)
+
+stops_quiet : (f : Seen) (b : ℕ) → stops_in f b ≡ false → IsQuiet f b
+stops_quiet f b = go f.depth refl where
+  go : (d : ℕ) → f.depth ≡ d → ends_span (quiet_span d) b ≡ false → IsQuiet f b
+  go zero h e = (e, λ _. h)
+  go (suc d) h e = let one = or_parts (b == 41) (is_loud b) e in (one.1, λ is. absurd (true≢false (sym is ∙ one.0)))
+
+-- what is passed over between tokens, up to the first byte that ends it
+pub quiet_passed : (r : List ℕ) (f : Seen) (quiet left text : List ℕ) → quiet ≡ until (ends_span (quiet_span f.depth)) text → left ≡ from (ends_span (quiet_span f.depth)) text
     → fed (front (place_behind (reverse quiet)) (raw_behind r (reverse quiet)) f) left ≡ fed (front Between r f) text
 quiet_passed r f quiet left text is_quiet is_left =
-    let silent = subst AreQuiet (sym is_quiet) (quiet_until text) in
-    ap (λ s. fed s left) (sym (quiet_fed r f (reverse quiet) (quiet_reverse quiet silent)) ∙ ap (fed (front Between r f)) (reverse-reverse quiet))
+    let silent = subst (AreQuiet f) (sym is_quiet) (quiet_until f (stops_in f) (stops_quiet f) text) in
+    ap (λ s. fed s left) (sym (quiet_fed r f (reverse quiet) (quiet_reverse f quiet silent)) ∙ ap (fed (front Between r f)) (reverse-reverse quiet))
     ∙ sym (fed-append (front Between r f) quiet left)
-    ∙ ap (fed (front Between r f)) (ap (λ xs. xs ++ left) is_quiet ∙ ap (λ ys. until is_loud text ++ ys) is_left ∙ until_from is_loud text)
+    ∙ ap (fed (front Between r f)) (ap (λ xs. xs ++ left) is_quiet ∙ ap (λ ys. until (stops_in f) text ++ ys) is_left ∙ until_from (stops_in f) text)
 
 place_of : (p n before plain : List ℕ) → length p ≡ length plain → 0 < length n → place_in p n before ≡ place_after before plain
 place_of [] (x ∷ n) before [] e h = refl
@@ -287,7 +312,7 @@ raw_none r (x ∷ n) word h = absurd (omega arith)
 named_is : (quiet named : List ℕ) → named ≡ reverse (named_end (reverse quiet)) → named_end (reverse quiet) ≡ reverse named
 named_is quiet named e = sym (reverse-reverse (named_end (reverse quiet))) ∙ ap reverse (sym e)
 
-pub quiet_without_words : (r : List ℕ) (f : Seen) (quiet left text named : List ℕ) → quiet ≡ until is_loud text → left ≡ from is_loud text
+pub quiet_without_words : (r : List ℕ) (f : Seen) (quiet left text named : List ℕ) → quiet ≡ until (ends_span (quiet_span f.depth)) text → left ≡ from (ends_span (quiet_span f.depth)) text
     → named ≡ reverse (named_end (reverse quiet)) → length named ≡ 0 → fed (front Between r f) left ≡ fed (front Between r f) text
 quiet_without_words r f quiet left text named is_quiet is_left is_named none =
     let back = reverse quiet in
@@ -297,7 +322,7 @@ quiet_without_words r f quiet left text named is_quiet is_left is_named none =
     (sym (raw_none r (named_end back) (until (ends_span span.Name) (named_end back)) empty))
     ∙ quiet_passed r f quiet left text is_quiet is_left
 
-pub quiet_with_words : (r : List ℕ) (f : Seen) (quiet left text named plain before word : List ℕ) → quiet ≡ until is_loud text → left ≡ from is_loud text
+pub quiet_with_words : (r : List ℕ) (f : Seen) (quiet left text named plain before word : List ℕ) → quiet ≡ until (ends_span (quiet_span f.depth)) text → left ≡ from (ends_span (quiet_span f.depth)) text
     → named ≡ reverse (named_end (reverse quiet)) → quiet ≡ named ++ plain → before ≡ reverse (from (ends_span span.Name) (reverse named)) → named ≡ before ++ word
     → 0 < length named → fed (front (place_after (reverse before) plain) word f) left ≡ fed (front Between r f) text
 quiet_with_words r f quiet left text named plain before word is_quiet is_left is_named whole is_before named_whole some =

@@ -22,9 +22,9 @@ is_name b = is_ascii_alphanumeric b || b == 45 || b == 95 || b == 0 || nat_lt 12
 abbrev pub is_unfit : ℕ → Bool
 is_unfit b = is_quote b || b == 40 || b == 127 || b == 11 || (nat_lt 0 b && nat_lt b 9) || (nat_lt 13 b && nat_lt b 32)
 
--- a byte that does more between tokens than begin, continue or end a word: a quote, a parenthesis, `/`, `@` or a backslash
+-- a byte that does more between tokens, outside of image sets, than begin, continue or end a word: a quote, `(`, `/`, `@` or a backslash
 abbrev pub is_loud : ℕ → Bool
-is_loud b = is_quote b || (b == 40 || (b == 41 || (b == 47 || (b == 64 || b == 92))))
+is_loud b = is_quote b || (b == 40 || (b == 47 || (b == 64 || b == 92)))
 
 -- a text with its ASCII letters in lower case
 abbrev pub lower : List ℕ → List ℕ

@@ -41,9 +41,9 @@ pub(crate) fn is_unfit(byte: u8) -> bool
         || (byte > 13 && byte < 32)
 }
 
-/// A byte that does more between tokens than begin, continue or end a word.
+/// A byte that does more between tokens, outside of image sets, than begin, continue or end a word.
 pub(crate) fn is_loud(byte: u8) -> bool
     ensures { result ≡ is_loud byte }
 {
-    is_quote(byte) || byte == b'(' || byte == b')' || byte == b'/' || byte == b'@' || byte == b'\\'
+    is_quote(byte) || byte == b'(' || byte == b'/' || byte == b'@' || byte == b'\\'
 }

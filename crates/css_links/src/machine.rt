@@ -2,7 +2,7 @@
 ghost use Rattle.std.specs.Prelude.{◌≡◌, ◌≤◌, ◌++◌, ◌∷◌, OnOk, IfOk, length, reverse};
 ghost use Rattle.css_links.specs.Scanning.{front_of, seen_of};
 ghost use Rattle.css_links.specs.References.{front, nothing_read, left_open, left_open_in, ended, reference, step, fed, turned, opened, string_at};
-ghost use Rattle.css_links.specs.inner.Spans.{until, from, ends_span};
+ghost use Rattle.css_links.specs.inner.Spans.{until, from, ends_span, quiet_span};
 ghost use Rattle.css_links.specs.inner.Quiet.{lead_behind, place_after};
 ghost use Rattle.css_links.specs.declared.place.Place.TheVariants as places;
 
@@ -90,7 +90,7 @@ impl Machine {
         ensures gives { IfOk result (λ left. fed (front_of self.new) left.now ≡ fed (front places.Between self.old.raw.items (seen_of self.old)) text.now) }
         ensures shorter { IfOk result (λ left. length left.now ≤ length text.now) }
     {
-        let (quiet, left) = Span::Quiet.split(text);
+        let (quiet, left) = self.split_quiet(text);
         let (named, plain) = Span::Plain.split_end(quiet);
         if named.is_empty() {
             self.place = Place::Between;
@@ -101,6 +101,19 @@ impl Machine {
         self.raw.extend_from_slice(word)?;
         self.place = place_after(before, plain);
         Ok(left)
+    }
+
+    // A text cut after words and what is between them. The search is written twice, so that each is a loop of its own.
+    fn split_quiet<'a>(&self, text: &'a [u8]) -> (&'a [u8], &'a [u8])
+        ensures front { result.0.now ≡ until (ends_span (quiet_span self.now.depth)) text.now }
+        ensures left { result.1.now ≡ from (ends_span (quiet_span self.now.depth)) text.now }
+        ensures shorter { length result.1.now ≤ length text.now }
+    {
+        if self.depth == 0 {
+            Span::Quiet.split(text)
+        } else {
+            Span::InSet.split(text)
+        }
     }
 
     /// Reads the next byte of the sheet.

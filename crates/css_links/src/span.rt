@@ -10,6 +10,8 @@ use memchr::memchr;
 pub(crate) enum Span {
     /// Words, and what stands between them.
     Quiet,
+    /// The same in an image set, where parentheses are counted.
+    InSet,
     /// What stands between words there, but for `#`.
     Plain,
     /// Bytes of a name.
@@ -28,6 +30,7 @@ impl Span {
     {
         match self {
             Span::Quiet => is_loud(byte),
+            Span::InSet => byte == b')' || is_loud(byte),
             Span::Plain => is_name(byte) || byte == b'#',
             Span::Name => !is_name(byte),
             Span::Quoted(quote) => byte == quote || is_newline(byte) || byte == b'\\',

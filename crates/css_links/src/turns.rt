@@ -1,6 +1,7 @@
 //! What the bytes of a style sheet do in their places (CSS Syntax Level 3, section 4.3).
-ghost use Rattle.std.specs.Prelude.{◌≡◌, IfOk};
+ghost use Rattle.std.specs.Prelude.{◌≡◌, ℕ, List, IfOk};
 ghost use Rattle.css_links.specs.Bytes.{lower};
+ghost use Rattle.css_links.specs.Escapes.{unescaped};
 ghost use Rattle.css_links.specs.Places as places;
 ghost use Rattle.css_links.specs.declared.place.Lead.TheVariants as lead;
 
@@ -185,20 +186,28 @@ fn behind_name(alloc: Global, raw: &[u8], byte: u8) -> Result<Turn, AllocError>
 fn function(alloc: Global, raw: &[u8]) -> Result<Turn, AllocError>
     ensures { IfOk result (λ t. t ≡ places.function raw.now) }
 {
-    if is_word(alloc, b"url", raw)? {
-        return Ok(Turn::Anew(Place::UrlBegun));
+    if !has_escape(raw) {
+        return Ok(named_function(raw));
     }
-    Ok(Turn::Open(is_set(alloc, raw)?))
+    let name = unescaped(alloc, raw)?;
+    Ok(named_function(&name))
+}
+
+// Behind the name of a function, in which escapes were replaced, and `(`.
+fn named_function(name: &[u8]) -> Turn
+    ensures { (raw : List ℕ) → name.now ≡ unescaped raw → result ≡ places.function raw }
+{
+    if name.eq_ignore_ascii_case(b"url") {
+        return Turn::Anew(Place::UrlBegun);
+    }
+    Turn::Open(is_set(name))
 }
 
 // Whether it is the name of the function of an image set.
-fn is_set(alloc: Global, raw: &[u8]) -> Result<bool, AllocError>
-    ensures { IfOk result (λ is. is ≡ places.is_set raw.now) }
+fn is_set(name: &[u8]) -> bool
+    ensures { (raw : List ℕ) → name.now ≡ unescaped raw → result ≡ places.is_set raw }
 {
-    if is_word(alloc, b"image-set", raw)? {
-        return Ok(true);
-    }
-    is_word(alloc, b"-webkit-image-set", raw)
+    name.eq_ignore_ascii_case(b"image-set") || name.eq_ignore_ascii_case(b"-webkit-image-set")
 }
 
 fn behind_at(alloc: Global, raw: &[u8], byte: u8) -> Result<Turn, AllocError>

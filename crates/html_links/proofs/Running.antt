@@ -1,18 +1,18 @@
 -- What is taken from the front of a text many bytes at a time.
-use Rattle.std.proofs.Common.{◌≡◌, ℕ, ◌<◌, ◌≤◌, zero, suc, Bool, true, false, List, [], ◌∷◌, ◌++◌, length, take, drop, drop-cons, take-suc, get_or, if◌then◌else◌, ◌==◌, refl, sym, ◌∙◌, ap, arith, append_assoc, append-nil}
+use Rattle.std.proofs.Common.{◌≡◌, ℕ, ◌<◌, ◌≤◌, zero, suc, Bool, true, false, List, [], ◌∷◌, ◌++◌, length, take, drop, drop-cons, take-suc, get_or, if◌then◌else◌, ◌==◌, refl, sym, ◌∙◌, ap, ap₂, arith, append_assoc, append-nil}
 use Rattle.std.proofs.lemmas.List.{take_all, drop_all}
 use Rattle.memchr.specs.Find.{Nowhere, is_byte, Passes}
 use Rattle.html_links.specs.Pieces.{until, from, beyond, lower, is, ends_tag_name, ends_attribute_name, ends_bare_value}
 use Rattle.html_links.specs.Contexts.{Context}
-use Rattle.html_links.specs.Markup.{Attributes, Value, mark, beyond_section, end_tag, attributes, value_behind}
+use Rattle.css_links.specs.References.{Front}
+use Rattle.html_links.specs.Markup.{Attributes, Value, mark, until_section, beyond_section, end_tag, attributes, value_behind}
 use Rattle.html_links.specs.declared.lexer.Section.{Section}
-use Rattle.html_links.specs.Asked.{asked_tags}
 use Rattle.html_links.specs.Pieces.{Source}
-use Rattle.html_links.specs.Lexing.{tags_after, tags_with, kept_with, with_named, in_end_tag_name, in_attribute_name, in_quoted_value, in_bare_value, in_raw_text}
+use Rattle.html_links.specs.Lexing.{asked_from, with_section, in_section, tags_after, tags_with, kept_with, with_named, in_end_tag_name, in_attribute_name, in_quoted_value, in_bare_value, in_raw_text}
 use Rattle.html_links.specs.declared.lexer.Lexer.{Lexer}
 use Rattle.html_links.specs.declared.raw_element.RawElement.{RawElement}
 use Rattle.std.proofs.lemmas.Bool.Decides.{nat_tests}
-use Rattle.html_links.proofs.Stepping.{text_other, section_other}
+use Rattle.html_links.proofs.Stepping.{text_other, section_other, until_other}
 use Rattle.html_links.proofs.RawText.{raw_other}
 use Rattle.html_links.proofs.Tagging.{PutsEndName}
 
@@ -28,11 +28,31 @@ skipped stops F step (b ∷ bs) rest = go (stops b) refl (skipped stops F step b
 other_is : (x b : ℕ) → (b == x) ≡ false → b ≡ x → ⊥
 other_is x b e f = grind (arith, nat_tests)
 
-pub text_over : (k : Context) (xs rest : List ℕ) → asked_tags k (xs ++ rest) ≡ asked_tags k (from (is 60) xs ++ rest)
-text_over k = skipped (is 60) (asked_tags k) (λ b bs e. text_other k b bs (other_is 60 b e))
+pub text_over : (styled : Bool) (s : Front) (raw : List ℕ) (k : Context) (xs rest : List ℕ) → asked_from styled s raw k (xs ++ rest) ≡ asked_from styled s (raw ++ until (is 60) xs) k (from (is 60) xs ++ rest)
+text_over styled s raw k [] rest = ap (λ more. asked_from styled s more k rest) (sym (append-nil raw))
+text_over styled s raw k (b ∷ bs) rest = go (b == 60) refl (text_over styled s (raw ++ b ∷ []) k bs rest) where
+  go : (t : Bool) → (b == 60) ≡ t → asked_from styled s (raw ++ b ∷ []) k (bs ++ rest) ≡ asked_from styled s ((raw ++ b ∷ []) ++ until (is 60) bs) k (from (is 60) bs ++ rest)
+      → asked_from styled s raw k (b ∷ (bs ++ rest)) ≡ asked_from styled s (raw ++ (if t then [] else b ∷ until (is 60) bs)) k ((if t then b ∷ bs else from (is 60) bs) ++ rest)
+  go true e h = ap (λ more. asked_from styled s more k (b ∷ (bs ++ rest))) (sym (append-nil raw))
+  go false e h =
+      text_other styled s raw k b (bs ++ rest) (other_is 60 b e) ∙ h
+      ∙ ap (λ more. asked_from styled s more k (from (is 60) bs ++ rest)) (append_assoc raw (b ∷ []) (until (is 60) bs))
 
-pub section_over : (s : Section) (xs rest : List ℕ) → beyond_section s (xs ++ rest) ≡ beyond_section s (from (is (mark s)) xs ++ rest)
-section_over s = skipped (is (mark s)) (beyond_section s) (λ b bs e. section_other s b bs (other_is (mark s) b e))
+beyond_section_over : (s : Section) (xs rest : List ℕ) → beyond_section s (xs ++ rest) ≡ beyond_section s (from (is (mark s)) xs ++ rest)
+beyond_section_over s = skipped (is (mark s)) (beyond_section s) (λ b bs e. section_other s b bs (other_is (mark s) b e))
+
+until_section_over : (s : Section) (xs rest : List ℕ) → until_section s (xs ++ rest) ≡ until (is (mark s)) xs ++ until_section s (from (is (mark s)) xs ++ rest)
+until_section_over s [] rest = refl
+until_section_over s (b ∷ bs) rest = go (b == mark s) refl (until_section_over s bs rest) where
+  go : (t : Bool) → (b == mark s) ≡ t → until_section s (bs ++ rest) ≡ until (is (mark s)) bs ++ until_section s (from (is (mark s)) bs ++ rest)
+      → until_section s (b ∷ (bs ++ rest)) ≡ (if t then [] else b ∷ until (is (mark s)) bs) ++ until_section s ((if t then b ∷ bs else from (is (mark s)) bs) ++ rest)
+  go true e h = refl
+  go false e h = until_other s b (bs ++ rest) (other_is (mark s) b e) ∙ ap (λ text. b ∷ text) h
+
+-- many bytes of a section that don't begin its end
+pub section_over : (l : Lexer) (s : Section) (xs rest : List ℕ)
+    → in_section l s (xs ++ rest) ≡ with_section l s (until (is (mark s)) xs ++ until_section s (from (is (mark s)) xs ++ rest)) (beyond_section s (from (is (mark s)) xs ++ rest))
+section_over l s xs rest = ap₂ (λ text more. with_section l s text more) (until_section_over s xs rest) (beyond_section_over s xs rest)
 
 pub raw_over : (k : Context) (element : RawElement) (xs rest : List ℕ) → in_raw_text k element 0 (xs ++ rest) ≡ in_raw_text k element 0 (from (is 60) xs ++ rest)
 raw_over k element = skipped (is 60) (in_raw_text k element 0) (λ b bs e. raw_other k element b bs (other_is 60 b e))

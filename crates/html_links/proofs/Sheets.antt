@@ -1,5 +1,5 @@
 -- What one byte changes in the text of a `style` element, beside what follows the element.
-use Rattle.std.proofs.Common.{◌≡◌, ℕ, ◌≤◌, ◌<◌, zero, suc, Bool, true, false, List, [], ◌∷◌, ◌++◌, Option, Some, None, option_map, length, drop, drop-cons, get_or, if◌then◌else◌, ◌==◌, refl, sym, ◌∙◌, ap, ap₂, arith}
+use Rattle.std.proofs.Common.{◌≡◌, ℕ, ◌≤◌, ◌<◌, zero, suc, Bool, true, false, List, [], ◌∷◌, ◌++◌, length, drop, drop-cons, get_or, if◌then◌else◌, ◌==◌, refl, sym, ◌∙◌, ap, ap₂, arith}
 use Rattle.std.proofs.lemmas.List.{drop_all}
 use Rattle.std.proofs.lemmas.Bool.{ne_eqb}
 use Rattle.std.specs.Char.{to_ascii_lowercase}
@@ -9,38 +9,48 @@ use Rattle.html_links.specs.Pieces.Source.{FromSheet}
 use Rattle.html_links.specs.Contexts.{Context}
 use Rattle.html_links.specs.Markup.{attributes, beyond_tag, closing_text, is_close, completes, style, raw_text, sheet_of}
 use Rattle.html_links.specs.Asked.{asked, asked_tags}
-use Rattle.html_links.specs.Lexing.{sheet_from, sheet_left, in_sheet, in_sheet_end, in_raw_end}
+use Rattle.html_links.specs.Lexing.{sheet_if, behind_left, sheet_from, sheet_left, in_sheet, in_sheet_end, in_raw_end}
 use Rattle.html_links.specs.declared.raw_element.RawElement.TheVariants.{Style}
-use Rattle.html_links.proofs.Stepping.{eqb_same}
+use Rattle.html_links.proofs.Stepping.{eqb_same, nothing}
 use Rattle.html_links.proofs.RawText.{lower_below, raw_word, word_less, close_skip, left_next, left_first, left_other, left_none, left_none_other}
 
 -- ---- the definition over whole texts
 
--- a style sheet of which this front has come, and this text or none up to its end tag
-abbrev pub sheet_rest : Front → Option (List ℕ) → List Source
-sheet_rest s None = []
-sheet_rest s (Some text) = FromSheet (ended (fed s text)) ∷ []
-
-more_rest : (s : Front) (b : ℕ) (text : Option (List ℕ)) → sheet_rest s (option_map (λ text. b ∷ text) text) ≡ sheet_rest (step s b) text
-more_rest s b None = refl
-more_rest s b (Some text) = refl
-
-from_rest : (s : Front) (text : List ℕ) → sheet_from s text ≡ sheet_rest s (raw_text style text)
+from_rest : (s : Front) (text : List ℕ) → sheet_from s text ≡ FromSheet (ended (fed s (raw_text style text))) ∷ []
 from_rest s [] = refl
-from_rest s (b ∷ bs) = go (is_close style (b ∷ bs)) (from_rest (step s b) bs ∙ sym (more_rest s b (raw_text style bs))) where
-  go : (t : Bool) → sheet_from (step s b) bs ≡ sheet_rest s (option_map (λ text. b ∷ text) (raw_text style bs))
-      → (if t then FromSheet (ended s) ∷ [] else sheet_from (step s b) bs) ≡ sheet_rest s (if t then Some [] else option_map (λ text. b ∷ text) (raw_text style bs))
+from_rest s (b ∷ bs) = go (is_close style (b ∷ bs)) (from_rest (step s b) bs) where
+  go : (t : Bool) → sheet_from (step s b) bs ≡ FromSheet (ended (fed (step s b) (raw_text style bs))) ∷ []
+      → (if t then FromSheet (ended s) ∷ [] else sheet_from (step s b) bs) ≡ FromSheet (ended (fed s (if t then [] else b ∷ raw_text style bs))) ∷ []
   go true h = refl
   go false h = h
 
-of_rest : (text : Option (List ℕ)) → asked (sheet_of text ++ []) ≡ sheet_rest nothing_read text
+of_rest : (text : List ℕ) → asked (sheet_of text) ≡ FromSheet (ended (fed nothing_read text)) ∷ []
 unfolding references
-of_rest None = refl
-of_rest (Some text) = refl
+of_rest text = refl
 
 -- the style sheet that a text is, read from its front
-pub sheet_read : (rest : List ℕ) → asked (sheet_of (raw_text style rest) ++ []) ≡ sheet_from nothing_read rest
+pub sheet_read : (rest : List ℕ) → asked (sheet_of (raw_text style rest)) ≡ sheet_from nothing_read rest
 sheet_read rest = of_rest (raw_text style rest) ∙ sym (from_rest nothing_read rest)
+
+-- ---- the end of the body
+
+pub sheet_at_end : (k : Context) (s : Front) → in_sheet k s [] ≡ FromSheet (ended s) ∷ []
+sheet_at_end k s = ap (λ xs. FromSheet (ended s) ∷ xs) (nothing k)
+
+pub held_at_end : (k : Context) (s : Front) (held : List ℕ) (m : ℕ) → in_sheet_end k s held m [] ≡ FromSheet (ended (fed s held)) ∷ []
+held_at_end k s held m = go (drop m (closing_text style)) where
+  go : (left : List ℕ) → sheet_left s held left [] ++ asked_tags k (behind_left left style []) ≡ FromSheet (ended (fed s held)) ∷ []
+  go [] = ap (λ xs. FromSheet (ended (fed s held)) ∷ xs) (nothing k)
+  go (x ∷ left) = ap (λ xs. FromSheet (ended (fed s held)) ∷ xs) (nothing k)
+
+-- what was put to a sheet
+fed_both : (s : Front) (xs ys : List ℕ) → fed s (xs ++ ys) ≡ fed (fed s xs) ys
+fed_both s [] ys = refl
+fed_both s (x ∷ xs) ys = fed_both (step s x) xs ys
+
+pub sheet_put : (styled : Bool) (s new : Front) (bytes text : List ℕ) → new ≡ fed s bytes → sheet_if styled new text ≡ sheet_if styled s (bytes ++ text)
+sheet_put false s new bytes text e = refl
+sheet_put true s new bytes text e = ap (λ front. FromSheet (ended (fed front text)) ∷ []) e ∙ ap (λ front. FromSheet (ended front) ∷ []) (sym (fed_both s bytes text))
 
 -- ---- bytes
 

@@ -10,7 +10,7 @@ use Rattle.html_links.specs.Contexts.{outermost, broken, left}
 use Rattle.html_links.specs.declared.context.Syntax.{Syntax}
 use Rattle.html_links.specs.declared.context.Syntax.TheVariants as syntax
 use Rattle.html_links.specs.Markup.{is_raw, start_tags}
-use Rattle.html_links.specs.References.{Reference, reference_at}
+use Rattle.html_links.specs.References.{Reference, reference_at, referenced}
 use Rattle.html_links.specs.Links.{Row, link_table, kind_in, related, pressed, refreshed, is_robots, forbids}
 use Rattle.html_links.specs.declared.links.LinkKind.{LinkKind}
 use Rattle.html_links.specs.declared.links.LinkKind.TheVariants as kind
@@ -117,14 +117,25 @@ samples : map (start_tags (outermost syntax.Html)) (codes "a<B>" ∷ codes "</b>
 unfolding start_tags broken left
 samples = refl
 
--- a style sheet is the text of a `style` element that its end tag ends, in any case and whatever is in the text, but in foreign content
+-- a style sheet is the text of a `style` element up to its end tag, in any case and whatever is in the text, or to the end of the body
 abbrev styled : List ℕ → List Source
 styled text = FromTag (record { name = codes "style"; attributes = [] }) ∷ FromSheet (sheets.references text) ∷ []
 
-style_sheets : map (start_tags (outermost syntax.Html)) (codes "<style>a\"</b></STYLE\tc>d<i>" ∷ codes "<style></styles></style" ∷ codes "<style></styl</style>" ∷ codes "<svg><style>a</style>" ∷ [])
-    ≡ (styled (codes "a\"</b>") ++ bare (codes "i")) ∷ bare (codes "style") ∷ styled (codes "</styl") ∷ (bare (codes "svg") ++ bare (codes "style")) ∷ []
+style_sheets : map (start_tags (outermost syntax.Html)) (codes "<style>a\"</b></STYLE\tc>d<i>" ∷ codes "<style></styles></style" ∷ codes "<style></styl</style>" ∷ codes "<style" ∷ [])
+    ≡ (styled (codes "a\"</b>") ++ bare (codes "i")) ∷ styled (codes "</styles></style") ∷ styled (codes "</styl") ∷ [] ∷ []
 unfolding start_tags broken left
 style_sheets = refl
+
+-- in foreign content and XML it is the text up to the next tag, without comments, of which references are replaced, but not in CDATA
+foreign_sheets : map (start_tags (outermost syntax.Html)) (codes "<svg><style>a&lt;<!--b--><![CDATA[c&lt;]]]>d</style>e<i>" ∷ codes "<svg><style>a&am<?b>p; < c" ∷ codes "<svg><style/>a" ∷ codes "<svg><style><![CDATA[a]" ∷ [])
+    ≡ (bare (codes "svg") ++ (styled (codes "a<c&lt;]d") ++ bare (codes "i"))) ∷ (bare (codes "svg") ++ styled (codes "a&amp; < c")) ∷ (bare (codes "svg") ++ bare (codes "style")) ∷ (bare (codes "svg") ++ styled (codes "a]")) ∷ []
+unfolding start_tags broken left referenced reference_at lib.Utf8.encode
+foreign_sheets = refl
+
+xml_sheets : map (start_tags (outermost syntax.Xml)) (codes "<style>a<b>c</style>" ∷ codes "<style>a" ∷ codes "<style/>a" ∷ [])
+    ≡ (styled (codes "a") ++ bare (codes "b")) ∷ styled (codes "a") ∷ bare (codes "style") ∷ []
+unfolding start_tags broken left referenced
+xml_sheets = refl
 
 abbrev name_of : Source → List (List ℕ)
 name_of (FromTag tag) = tag.name ∷ []

@@ -1,5 +1,5 @@
 -- What proofs alone need beside `Lexing`.
-use Rattle.std.specs.Prelude.{◌≡◌, ℕ, List, [], ◌∷◌, ◌++◌}
+use Rattle.std.specs.Prelude.{◌≡◌, ℕ, Bool, true, List, [], ◌∷◌, ◌++◌}
 use Rattle.html_links.specs.Pieces.{Attribute, Source}
 use Rattle.html_links.specs.Pieces.Source.{FromTag, FromSheet}
 use Rattle.html_links.specs.declared.lexer.Lexer.{Lexer}
@@ -15,6 +15,7 @@ pub record HasRead (old : Lexer) (value : List ℕ) (new : Lexer) : Type 0 where
   pub opens : new.opens ≡ old.opens
   pub wanted : new.wanted ≡ old.wanted
   pub raw : new.raw ≡ old.raw
+  pub styled : new.styled ≡ old.styled
   pub name : new.name.items ≡ old.name.items
   pub attributes : new.attributes.items ≡ kept_with old value
 
@@ -39,3 +40,9 @@ LeavesTag before text left new = (rest : List ℕ) → before (text ++ rest) ≡
 -- before the byte that ends the name of the end tag of a style sheet of which this front has come
 abbrev pub sheet_and_end : Context → Front → List ℕ → List Source
 sheet_and_end k s rest = FromSheet (ended s) ∷ in_raw_end k rest
+
+-- what the end of the body may end, if a style sheet is read or none
+abbrev pub EndsOnly : Bool → Ended → Type 0
+EndsOnly styled ends.Nothing = Unit {0}
+EndsOnly styled ends.Tag = ⊥
+EndsOnly styled ends.Sheet = styled ≡ true

@@ -1,4 +1,4 @@
-//! Style sheets in the text of `style` elements (HTML Standard, sections 4.2.6 and 13.2.5.4).
+//! Style sheets in the raw text of `style` elements (HTML Standard, sections 4.2.6 and 13.2.5.4).
 ghost use Rattle.std.specs.Prelude.{◌≡◌, ℕ, List, [], ◌∷◌, ◌++◌, IfOk, OnOk, length, ◌≤◌};
 ghost use Rattle.css_links.specs.References.{nothing_read, fed, ended};
 ghost use Rattle.std.specs.Prelude.{true};
@@ -13,7 +13,7 @@ use std::mem;
 
 impl Lexer {
     ghost use Rattle.html_links.specs.Lexing.{remaining, in_raw_end, in_sheet, in_sheet_end};
-    ghost use Rattle.html_links.specs.inner.Lexing.{GivesTag, LeavesTag, sheet_and_end};
+    ghost use Rattle.html_links.specs.inner.Lexing.{GivesTag, LeavesTag, tag_ended, sheet_and_end};
 
     /// Goes on in the text of a `style` element.
     pub(crate) fn begin_sheet(&mut self)
@@ -25,7 +25,7 @@ impl Lexer {
     }
 
     /// Puts bytes to the style sheet.
-    fn put_sheet(&mut self, bytes: &[u8]) -> Result<(), AllocError>
+    pub(crate) fn put_sheet(&mut self, bytes: &[u8]) -> Result<(), AllocError>
         ensures sheet { OnOk result (self.new.sheet.front ≡ fed self.old.sheet.front bytes.now) }
         ensures same { OnOk result (self.new ≡ record self.old { sheet = self.new.sheet }) }
     {
@@ -111,8 +111,25 @@ impl Lexer {
         Ok(Ended::Sheet)
     }
 
+    /// Ends the style sheet at the end of the body.
+    pub(crate) fn end_raw_sheet(&mut self) -> Result<Ended, AllocError>
+        ensures { IfOk result (λ ends. in_sheet self.old.context self.old.sheet.front [] ≡ tag_ended ends self.new) }
+    {
+        self.end_sheet()?;
+        Ok(Ended::Sheet)
+    }
+
+    /// Ends it there after a part of its end tag, which belongs to it.
+    pub(crate) fn end_held_sheet(&mut self, matched: usize) -> Result<Ended, AllocError>
+        ensures { IfOk result (λ ends. in_sheet_end self.old.context self.old.sheet.front self.old.held.items matched [] ≡ tag_ended ends self.new) }
+    {
+        self.put_held()?;
+        self.end_sheet()?;
+        Ok(Ended::Sheet)
+    }
+
     /// Ends the style sheet.
-    fn end_sheet(&mut self) -> Result<(), AllocError>
+    pub(crate) fn end_sheet(&mut self) -> Result<(), AllocError>
         ensures shown { OnOk result (self.new.shown.items ≡ ended self.old.sheet.front) }
         ensures same { OnOk result (self.new ≡ record self.old { sheet = self.new.sheet; shown = self.new.shown }) }
     {
@@ -135,6 +152,7 @@ impl Lexer {
     {
         self.wanted = Wanted::Nothing;
         self.raw = None;
+        self.styled = false;
         self.opens = None;
         self.mode = if byte == b'>' {
             Mode::Text

@@ -1,13 +1,13 @@
 //! Names and ends of tags (HTML Standard, sections 13.2.5.6 to 13.2.5.8).
-ghost use Rattle.std.specs.Prelude.{◌≡◌, true, false, ℕ, Some, List, ◌∷◌, ◌++◌, MatchOption, IfOk, OnOk, length, ◌≤◌};
+ghost use Rattle.std.specs.Prelude.{◌≡◌, true, false, ℕ, Some, None, List, ◌∷◌, ◌++◌, MatchOption, IfOk, OnOk, length, ◌≤◌};
 ghost use Rattle.html_links.specs.Pieces.{from, lower, ends_tag_name};
-ghost use Rattle.html_links.specs.Markup.{begins_raw};
+ghost use Rattle.html_links.specs.Markup.{begins_raw, is_styled, unless_closed};
 ghost use Rattle.html_links.specs.Asked.{given, asked_tags};
 ghost use Rattle.html_links.specs.Lexing.{raw_name};
 ghost use Rattle.html_links.specs.declared.asked.Wanted.TheVariants as wanted;
 
 use crate::asked::Wanted;
-use crate::bytes::{Span, ends_tag_name};
+use crate::bytes::{Span, ends_tag_name, is_name};
 use crate::lexer::{Ended, Lexer, Mode};
 use crate::raw_element::RawElement;
 use std::alloc::AllocError;
@@ -46,6 +46,7 @@ impl Lexer {
     {
         self.wanted = Wanted::in_start_tag(&self.name);
         self.raw = self.raw_element();
+        self.styled = self.is_styled();
         self.opens = self.context.opens(&self.name);
         self.context.break_out(&self.name);
         self.attributes.clear();
@@ -60,6 +61,13 @@ impl Lexer {
         } else {
             None
         }
+    }
+
+    /// Whether the text that follows the start tag of which this is the name is a style sheet, as any other text is read.
+    fn is_styled(&self) -> bool
+        ensures { result ≡ is_styled self.now.context self.now.name.items }
+    {
+        !self.context.reads_html() && is_name(&self.name, b"style")
     }
 
     pub(crate) fn tag_name_run<'a>(&mut self, text: &'a [u8]) -> Result<&'a [u8], AllocError>
@@ -86,7 +94,7 @@ impl Lexer {
 
     /// Puts bytes to the name of an end tag, if it may say something.
     #[tactic(auto, using(crate::proofs::Tagging::end_put, crate::proofs::Tagging::end_unheeded))]
-    fn push_end_name(&mut self, bytes: &[u8]) -> Result<(), AllocError>
+    pub(crate) fn push_end_name(&mut self, bytes: &[u8]) -> Result<(), AllocError>
         ensures same { OnOk result (self.new ≡ record self.old { name = self.new.name }) }
         ensures named { OnOk result ((name : List ℕ) (found : Attributes) → tags_after self.old.context (end_tag (self.new.name.items ++ name) found) ≡ tags_after self.old.context (end_tag (self.old.name.items ++ (lower bytes.now ++ name)) found)) }
     {
@@ -102,6 +110,7 @@ impl Lexer {
     {
         self.wanted = Wanted::Nothing;
         self.raw = None;
+        self.styled = false;
         self.opens = None;
         self.before_attribute(byte)
     }
@@ -146,20 +155,35 @@ impl Lexer {
 
     /// Goes on after the tag that has been read, which `/>` ends or not.
     fn begin_content(&mut self, slash: bool) -> Result<(), AllocError>
-        ensures rest { OnOk result ((rest : List ℕ) → behind_tag (opened self.old.opens slash self.old.context) self.old.raw rest ≡ remaining self.new rest) }
-        ensures same { OnOk result (self.new ≡ record self.old { mode = self.new.mode; context = self.new.context; sheet = self.new.sheet }) }
+        ensures rest { OnOk result ((rest : List ℕ) → behind_tag (opened self.old.opens slash self.old.context) self.old.raw (unless_closed slash self.old.styled) rest ≡ remaining self.new rest) }
+        ensures same { OnOk result (self.new ≡ record self.old { mode = self.new.mode; context = self.new.context; styled = self.new.styled; sheet = self.new.sheet; held = self.new.held }) }
     {
         self.open_element(slash)?;
+        if slash {
+            self.styled = false;
+        }
         match self.raw {
             Some(element) => self.begin_raw_text(element),
-            None => self.mode = Mode::Text,
+            None => self.begin_text(),
         }
         Ok(())
     }
 
+    /// Goes on in text, which may be a style sheet.
+    fn begin_text(&mut self)
+        ensures rest { (rest : List ℕ) → behind_tag self.old.context None self.old.styled rest ≡ remaining self.new rest }
+        ensures same { self.new ≡ record self.old { mode = self.new.mode; sheet = self.new.sheet; held = self.new.held } }
+    {
+        if self.styled {
+            self.sheet = css_links::Scanner::new(self.alloc);
+            self.held.clear();
+        }
+        self.mode = Mode::Text;
+    }
+
     /// Goes on in the text of that element.
     fn begin_raw_text(&mut self, element: RawElement)
-        ensures rest { (rest : List ℕ) → behind_tag self.old.context (Some element) rest ≡ remaining self.new rest }
+        ensures rest { (rest : List ℕ) → behind_tag self.old.context (Some element) self.old.styled rest ≡ remaining self.new rest }
         ensures same { self.new ≡ record self.old { mode = self.new.mode; sheet = self.new.sheet } }
     {
         match element {

@@ -6,13 +6,13 @@ use Rattle.css_links.proofs.machine.Machine.quiet_run.Goals as goal
 
 pub returns-then-is_empty-clause-gives : goal.returns-then-is_empty-clause-gives
 returns-then-is_empty-clause-gives c =
-    quiet_without_words c.args.self.now.raw.items (seen_of c.args.self.now) c.split.result.0.now c.split.result.1.now c.args.text.now c.split_end.result.0.now
-    c.split.ensures.front c.split.ensures.left c.split_end.ensures.front (grind arith)
+    quiet_without_words c.args.self.now.raw.items (seen_of c.args.self.now) c.split_quiet.result.0.now c.split_quiet.result.1.now c.args.text.now c.split_end.result.0.now
+    c.split_quiet.ensures.front c.split_quiet.ensures.left c.split_end.ensures.front (grind arith)
 
 pub returns-clause-gives : goal.returns-clause-gives
 returns-clause-gives c =
     let raw = c.in_ok-extend_from_slice.ensures.items ∙ ap (λ xs. xs ++ c.split_end-2.result.1.now) c.clear.ensures.items in
-    ap₂ (λ p text. fed (front p text (seen_of c.args.self.now)) c.split.result.1.now) c.place_after-self.ensures raw
-    ∙ quiet_with_words c.args.self.now.raw.items (seen_of c.args.self.now) c.split.result.0.now c.split.result.1.now c.args.text.now
+    ap₂ (λ p text. fed (front p text (seen_of c.args.self.now)) c.split_quiet.result.1.now) c.place_after-self.ensures raw
+    ∙ quiet_with_words c.args.self.now.raw.items (seen_of c.args.self.now) c.split_quiet.result.0.now c.split_quiet.result.1.now c.args.text.now
     c.split_end.result.0.now c.split_end.result.1.now c.split_end-2.result.0.now c.split_end-2.result.1.now
-    c.split.ensures.front c.split.ensures.left c.split_end.ensures.front c.split_end.ensures.whole c.split_end-2.ensures.front c.split_end-2.ensures.whole (grind arith)
+    c.split_quiet.ensures.front c.split_quiet.ensures.left c.split_end.ensures.front c.split_end.ensures.whole c.split_end-2.ensures.front c.split_end-2.ensures.whole (grind arith)

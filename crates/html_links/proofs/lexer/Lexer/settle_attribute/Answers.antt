@@ -6,4 +6,4 @@ pub returns : goal.returns
 returns c = λ rest.
     let l = c.args.self.now in
     let found = value_behind rest in
-    settled l.context l.opens l.wanted l.raw l.name.items l.attributes.items l.attribute.items found.value c.asked_attribute-self.result (attributes found.rest) c.asked_attribute-self.ensures
+    settled l.context l.opens l.wanted l.raw l.styled l.name.items l.attributes.items l.attribute.items found.value c.asked_attribute-self.result (attributes found.rest) c.asked_attribute-self.ensures
