@@ -1,9 +1,10 @@
 //! A directory below the folder that one run alone uses. Who owns it is known by a lock, since two runs on one volume may have
 //! processes of one number.
 use std::alloc::Global;
-use std::fs::{File, Files};
+use std::fs::{File, Files, OpenFile};
 use std::io;
 use std::io::{Error, ErrorKind};
+use std::os::unix::fs::MetadataExt;
 use streams::Lock;
 
 /// How the directory is called, directly below the folder; a number follows. No host has a `%` (URL Standard, section 3.1), so no
@@ -50,6 +51,14 @@ fn lock_path(alloc: Global, dir: &str) -> io::Result<String> {
     Ok(path)
 }
 
+// Whether an open file is still the one at a path: another run may have removed it, and made another.
+fn is_at<R: Files>(rt: &R, file: &R::File, path: &str) -> bool {
+    match (file.metadata(), rt.symlink_metadata(path)) {
+        (Ok(opened), Ok(found)) => opened.dev() == found.dev() && opened.ino() == found.ino(),
+        _ => false,
+    }
+}
+
 // Tries to hold the file at a path. Nothing but a file is opened: a link isn't followed, and a pipe would make it wait.
 fn try_to_hold<R: Files>(rt: &R, path: &str) -> Held<R::File>
 where
@@ -60,12 +69,17 @@ where
         Err(e) if e.kind() == ErrorKind::NotFound => return Held::Absent,
         _ => return Held::Elsewhere,
     }
-    match File::open(rt, path) {
-        Ok(file) => match file.hold() {
-            Ok(true) => Held::Here(file),
-            _ => Held::Elsewhere,
-        },
-        Err(_) => Held::Elsewhere,
+    let Ok(file) = File::open(rt, path) else {
+        return Held::Elsewhere;
+    };
+    let is_held = match file.hold() {
+        Ok(is_held) => is_held,
+        Err(_) => false,
+    };
+    if is_held && is_at(rt, &file, path) {
+        Held::Here(file)
+    } else {
+        Held::Elsewhere
     }
 }
 
@@ -103,18 +117,18 @@ where
         Err(e) if e.kind() == ErrorKind::NotFound => return Ok(None),
         Err(e) => return Err(e),
     };
-    match file.hold() {
-        // It is this run's only if nobody else can hold what is at its path.
-        Ok(true) => match try_to_hold(rt, path) {
-            Held::Elsewhere => Ok(Some(Some(file))),
-            _ => Ok(None),
-        },
-        Ok(false) => Ok(None),
+    let is_held = match file.hold() {
+        Ok(is_held) => is_held,
         Err(_) => {
             drop(file);
             rt.remove_file(path)?;
-            Ok(Some(None))
+            return Ok(Some(None));
         }
+    };
+    if is_held && is_at(rt, &file, path) {
+        Ok(Some(Some(file)))
+    } else {
+        Ok(None)
     }
 }
 

@@ -248,7 +248,8 @@ impl Seek for DiskFile {
 
 impl OpenFile for DiskFile {
     fn metadata(&self) -> io::Result<Metadata> {
-        unsupported()
+        self.log.count()?;
+        self.file.metadata()
     }
 
     fn set_len(&self, _size: u64) -> io::Result<()> {
