@@ -1,6 +1,6 @@
 -- The order of what is found for each option, stage by stage.
-use Rattle.std.proofs.Common.{◌≡◌, ◌≢◌, subst, ◌⊎◌, ◌∙◌, ℕ, true, false, List, [], ◌∷◌, Some, None, if◌then◌else◌, refl, sym, ap, inl, inr, ⊎_elim, Option}
-use Rattle.std.specs.Prelude.{Result, Ok, Err, MatchResult}
+use Rattle.std.proofs.Common.{◌≡◌, ◌≢◌, subst, ◌⊎◌, ◌∙◌, ℕ, Bool, true, false, List, [], ◌∷◌, Some, None, if◌then◌else◌, refl, sym, ap, inl, inr, ⊎_elim, Option}
+use Rattle.std.specs.Prelude.{Result, Ok, Err, MatchResult, codes}
 use Rattle.clap.specs.Walk.{Row, Text}
 use Rattle.clap.specs.Words.{IsAmong}
 use Rattle.clap.specs.declared.error.ErrorKind.{ErrorKind}
@@ -14,10 +14,11 @@ use Rattle.options.specs.declared.fault.LineFault.{LineFault}
 use Rattle.options.specs.declared.fault.LineFault.TheVariants as fault
 use Rattle.options.specs.Line.{rows, refusals}
 use Rattle.follow_filters.specs.declared.limit.Limit.{Limit}
-use Rattle.options.specs.Given.{level_of}
+use Rattle.options.specs.Given.{is_set, level_of}
 use Rattle.options.specs.Asked.{without_kind, words_refused}
 use Rattle.options.specs.Naming.{Naming, naming_of}
-use Rattle.options.specs.Order.{Counts, proxy_of, start_of, started_at, are_good, counts_of, patterns_of, directories_of, domains_of, order_of_rows, order_of_written, are_taken, AnswersOrder, ordered}
+use Rattle.options.specs.Order.{Counts, proxy_of, start_of, started_at, are_good, counts_of, patterns_of, directories_of, domains_of, fields_of, login_by, login_of, password_of, user_of, order_of_rows, order_of_written, are_taken, AnswersOrder, ordered}
+use Rattle.requests.specs.Fields.{Sent}
 use Rattle.options.specs.inner.Order.{Both, StartsAt, FailsToStart, FailsToFilter, Settles, fault_of_kind}
 
 pub starts-at : (found : List Row) (start : List ℕ) → start_of found ≡ Ok start → is_robots_file start ≡ false → StartsAt found start
@@ -60,21 +61,32 @@ pub bad-proxy : (found : List Row) (n : Counts) (m : Naming) (why : LineFault) �
 unfolding order_of_rows
 bad-proxy found n m why words counts names proxy = rw (words, counts, names, proxy) refl
 
-pub bad-level : (found : List Row) (n : Counts) (x : Option (List ℕ)) (m : Naming) → Settles found n x m → level_of found ≡ None → order_of_rows found ≡ Err fault.Depth
+pub bad-fields : (found : List Row) (n : Counts) (x : Option (List ℕ)) (m : Naming) (why : LineFault) → are_good found ≡ true → counts_of found ≡ Some n → naming_of found ≡ Some m → proxy_of found ≡ Ok x → fields_of found ≡ Err why → order_of_rows found ≡ Err why
 unfolding order_of_rows
-bad-level found n x m settles level = rw (settles.words, settles.counted, settles.named, settles.proxied, level) refl
+bad-fields found n x m why words counts names proxy fields = rw (words, counts, names, proxy, fields) refl
 
-pub bad-filters : (found : List Row) (n : Counts) (x : Option (List ℕ)) (m : Naming) (l : Limit) (why : LineFault) → Settles found n x m → level_of found ≡ Some l → FailsToFilter found why → order_of_rows found ≡ Err why
+pub bad-level : (found : List Row) (n : Counts) (x : Option (List ℕ)) (m : Naming) (s : Sent) → Settles found n x m s → level_of found ≡ None → order_of_rows found ≡ Err fault.Depth
 unfolding order_of_rows
-bad-filters found n x m l why settles level fails = rw (settles.words, settles.counted, settles.named, settles.proxied, level) (fails.1 _)
+bad-level found n x m s settles level = rw (settles.words, settles.counted, settles.named, settles.proxied, settles.fielded, level) refl
 
-pub bad-start : (found : List Row) (n : Counts) (x : Option (List ℕ)) (m : Naming) (l : Limit) (p d h : List (List ℕ) × List (List ℕ)) (why : LineFault) → Settles found n x m → level_of found ≡ Some l → patterns_of found ≡ Some p → directories_of found ≡ Some d → domains_of found ≡ Some h → FailsToStart found why → order_of_rows found ≡ Err why
+pub bad-filters : (found : List Row) (n : Counts) (x : Option (List ℕ)) (m : Naming) (s : Sent) (l : Limit) (why : LineFault) → Settles found n x m s → level_of found ≡ Some l → FailsToFilter found why → order_of_rows found ≡ Err why
 unfolding order_of_rows
-bad-start found n x m l p d h why settles level patterns directories domains fails = rw (settles.words, settles.counted, settles.named, settles.proxied, level, patterns, directories, domains) (fails.1 _)
+bad-filters found n x m s l why settles level fails = rw (settles.words, settles.counted, settles.named, settles.proxied, settles.fielded, level) (fails.1 _)
 
-pub good-order : (found : List Row) (n : Counts) (x : Option (List ℕ)) (m : Naming) (l : Limit) (p d h : List (List ℕ) × List (List ℕ)) (start : List ℕ) → Settles found n x m → level_of found ≡ Some l → patterns_of found ≡ Some p → directories_of found ≡ Some d → domains_of found ≡ Some h → StartsAt found start → order_of_rows found ≡ Ok (ordered found n x m l p d h start)
+pub bad-start : (found : List Row) (n : Counts) (x : Option (List ℕ)) (m : Naming) (s : Sent) (l : Limit) (p d h : List (List ℕ) × List (List ℕ)) (why : LineFault) → Settles found n x m s → level_of found ≡ Some l → patterns_of found ≡ Some p → directories_of found ≡ Some d → domains_of found ≡ Some h → FailsToStart found why → order_of_rows found ≡ Err why
 unfolding order_of_rows
-good-order found n x m l p d h start settles level patterns directories domains starts = rw (settles.words, settles.counted, settles.named, settles.proxied, level, patterns, directories, domains) (starts _)
+bad-start found n x m s l p d h why settles level patterns directories domains fails = rw (settles.words, settles.counted, settles.named, settles.proxied, settles.fielded, level, patterns, directories, domains) (fails.1 _)
+
+pub good-order : (found : List Row) (n : Counts) (x : Option (List ℕ)) (m : Naming) (s : Sent) (l : Limit) (p d h : List (List ℕ) × List (List ℕ)) (start : List ℕ) → Settles found n x m s → level_of found ≡ Some l → patterns_of found ≡ Some p → directories_of found ≡ Some d → domains_of found ≡ Some h → StartsAt found start → order_of_rows found ≡ Ok (ordered found n x m s l p d h start)
+unfolding order_of_rows
+good-order found n x m s l p d h start settles level patterns directories domains starts = rw (settles.words, settles.counted, settles.named, settles.proxied, settles.fielded, level, patterns, directories, domains) (starts _)
+
+-- ---- credentials
+
+pub login-is : (found : List Row) (unasked : Bool) (user password : Option Text) → unasked ≡ is_set (codes "auth-no-challenge") found → user ≡ user_of found → password ≡ password_of found
+    → login_by unasked user password ≡ login_of found
+unfolding login_of
+login-is found unasked user password by user_is password_is = rw (by, user_is, password_is) refl
 
 -- ---- refused words
 

@@ -1,5 +1,5 @@
 -- What the words order, or why they are refused: one function of the words.
-use Rattle.std.specs.Prelude.{◌≡◌, ◌⊎◌, ◌==◌, ℕ, length, option_and_then, Bool, true, false, not, ◌&&◌, ◌||◌, List, [], ◌∷◌, ◌++◌, codes, Option, Some, None, is_some, nat_eq, nat_lt, unwrap_or, bytes_eq, option_map, Result, Ok, Err, MatchResult, if◌then◌else◌}
+use Rattle.std.specs.Prelude.{◌≡◌, ◌⊎◌, ◌==◌, ℕ, length, option_and_then, Bool, true, false, not, ◌&&◌, ◌||◌, List, [], ◌∷◌, ◌++◌, codes, Option, Some, None, is_some, nat_eq, nat_lt, unwrap_or, bytes_eq, drop, map, option_map, Result, Ok, Err, MatchResult, if◌then◌else◌}
 use Rattle.std.specs.Char.{is_ascii_digit}
 use Rattle.std.specs.List.{list_all, list_any, starts_with}
 use Rattle.clap.specs.Kinds.{Kinds}
@@ -26,10 +26,14 @@ use Rattle.options.specs.Asked.{refusal_of, without_kind, words_refused}
 use Rattle.options.specs.Line.{rows, refusals}
 use Rattle.options.specs.Given.{is_set, level_of, number_given, list_of}
 use Rattle.options.specs.Naming.{Naming, naming_by, naming_of}
+use Rattle.requests.specs.Fields.{Sent, login_of as login_value_of, read_fields}
+use Rattle.requests.specs.declared.fields.FieldsFault.{FieldsFault}
+use Rattle.requests.specs.declared.fields.FieldsFault.TheVariants as unsent
+use Rattle.requests.specs.Requests.{Home, Sending, home_of}
 use Rattle.options.specs.declared.said.Saying.{Saying}
 use Rattle.options.specs.Said.{sayings}
-use Rattle.options.specs.Start.{with_scheme}
-use Rattle.options.specs.Written.{SayTheSame, first_unread, others_in, written}
+use Rattle.options.specs.Start.{has_colon, typed, typed_login, with_scheme}
+use Rattle.options.specs.Written.{SayTheSame, first_unread, others_in, starts_in, written}
 
 -- ---- words that `clap` takes and that are refused all the same
 
@@ -48,6 +52,7 @@ are_good found = is_plain_value (first_of (codes "compression") found)
 pub record Ordered : Type 0 where
   pub start : List ℕ
   pub others : List (List ℕ)
+  pub logins : List (Option Text)
   pub limit : Limit
   pub span_hosts : Bool
   pub no_parent : Bool
@@ -71,6 +76,7 @@ pub record Ordered : Type 0 where
   pub log : Option (Text × Bool)
   pub prefix : List ℕ
   pub names : Naming
+  pub fields : Sent
   pub proxy : Option (List ℕ)
   pub trusts : Bool
   pub resume : Option Text
@@ -150,10 +156,72 @@ abbrev pub read_start : Bool → Text → Result (List ℕ) AddressFault
 read_start false text = read_address text
 read_start true text = read_either text
 
--- the start, or why it is no address; `http` is its scheme where it has none
+-- why requests can't say what they are to say
+abbrev pub fields_fault : FieldsFault → LineFault
+fields_fault unsent.Agent = fault.Agent
+fields_fault unsent.Referer = fault.Referer
+fields_fault unsent.Line = fault.Header
+fields_fault unsent.Size = fault.Fields
+fields_fault unsent.Memory = fault.Memory
+
+-- what was read of fields, or the fault of the words
+abbrev pub fields_read : Result Sent FieldsFault → Result Sent LineFault
+fields_read (Err why) = Err (fields_fault why)
+fields_read (Ok fields) = Ok fields
+
+-- what one option says, or else the other
+abbrev pub said_or : Option Text → Option Text → Option Text
+said_or None other = other
+said_or (Some value) other = Some value
+
+-- credentials, unless they are too long
+abbrev pub login_read : Option Text → Result (Option Text) LineFault
+login_read None = Err fault.Fields
+login_read (Some login) = Ok (Some login)
+
+-- a user and a password that are sent unasked; no challenge is answered
+abbrev pub login_with : Bool → Text → Text → Result (Option Text) LineFault
+login_with unasked user password =
+    if not unasked || has_colon user then Err fault.Login else login_read (login_value_of user password)
+
+-- what is sent of a user and a password, of which none or both are given
+abbrev pub login_by : Bool → Option Text → Option Text → Result (Option Text) LineFault
+login_by unasked None None = Ok None
+login_by unasked None (Some password) = Err fault.Login
+login_by unasked (Some user) None = Err fault.Login
+login_by unasked (Some user) (Some password) = login_with unasked user password
+
+-- the user and the password: those for http count before those for all protocols
+abbrev pub user_of : List Row → Option Text
+user_of found = said_or (first_of (codes "http-user") found) (first_of (codes "user") found)
+
+abbrev pub password_of : List Row → Option Text
+password_of found = said_or (first_of (codes "http-password") found) (first_of (codes "password") found)
+
+-- the user and the password that are sent, or why they aren't
+unfoldable pub login_of : List Row → Result (Option Text) LineFault
+login_of found = login_by (is_set (codes "auth-no-challenge") found) (user_of found) (password_of found)
+
+-- the fields that go with a user and a password
+abbrev pub fields_with : List Row → Result (Option Text) LineFault → Result Sent LineFault
+fields_with found (Err why) = Err why
+fields_with found (Ok login) =
+    fields_read (read_fields (first_of (codes "user-agent") found) (first_of (codes "referer") found) (is_set (codes "no-cache") found) login
+    (unwrap_or (first_of (codes "header") found) []))
+
+-- what requests say besides their addresses, or why they can't
+abbrev pub fields_of : List Row → Result Sent LineFault
+fields_of found = fields_with found (login_of found)
+
+-- what requests say, and what follows from it
+abbrev pub fielded_by : {Y : Type 0} → Result Sent LineFault → (Sent → Result Y LineFault) → Result Y LineFault
+fielded_by (Err why) next = Err why
+fielded_by (Ok fields) next = next fields
+
+-- the start, or why it is no address; `http` is its scheme where it has none, and user and password are left out
 unfoldable pub start_of : List Row → Result (List ℕ) AddressFault
 start_of found =
-    read_start (is_some (proxy_value found)) (with_scheme (unwrap_or (first_of (codes "start") found) []))
+    read_start (is_some (proxy_value found)) (typed (unwrap_or (first_of (codes "start") found) []))
 
 -- the start, and what follows from it
 abbrev pub started_at : {Y : Type 0} → Result (List ℕ) AddressFault → (List ℕ → Result Y LineFault) → Result Y LineFault
@@ -185,12 +253,13 @@ prefix_of found = folder_of (first_of (codes "directory-prefix") found)
 unfoldable pub log_of : List Row → Option (Text × Bool)
 log_of found = option_map (λ path. (path, is_some (first_of (codes "append-output") found))) (first_of (codes "output-file") found)
 
--- what the options order with these numbers, this proxy, these names, this level, these lists and this start; without `-r` no link is followed and
+-- what the options order with these numbers, this proxy, these names, these fields, this level, these lists and this start; without `-r` no link is followed and
 -- no robots file is honoured
-abbrev pub ordered : List Row → Counts → Option (List ℕ) → Naming → Limit → (patterns directories domains : List (List ℕ) × List (List ℕ)) → List ℕ → Ordered
-ordered found counts proxy names level patterns directories domains start = record {
+abbrev pub ordered : List Row → Counts → Option (List ℕ) → Naming → Sent → Limit → (patterns directories domains : List (List ℕ) × List (List ℕ)) → List ℕ → Ordered
+ordered found counts proxy names fields level patterns directories domains start = record {
   start = start;
   others = [];
+  logins = [];
   limit = limit_within level found;
   span_hosts = is_set (codes "span-hosts") found;
   no_parent = is_set (codes "no-parent") found;
@@ -214,6 +283,7 @@ ordered found counts proxy names level patterns directories domains start = reco
   log = log_of found;
   prefix = prefix_of found;
   names = names;
+  fields = fields;
   proxy = proxy;
   trusts = is_set (codes "trust-proxy") found;
   resume = first_of (codes "resume") found;
@@ -227,11 +297,12 @@ order_of_rows found =
     else found_or (counts_of found) words_refused (λ counts.
     found_or (naming_of found) words_refused (λ names.
     proxied_by (proxy_of found) (λ proxy.
+    fielded_by (fields_of found) (λ fields.
     found_or (level_of found) fault.Depth (λ level.
     found_or (patterns_of found) fault.Pattern (λ patterns.
     found_or (directories_of found) fault.Directory (λ directories.
     found_or (domains_of found) fault.Domain (λ domains.
-    started_at (start_of found) (λ start. Ok (ordered found counts proxy names level patterns directories domains start)))))))))
+    started_at (start_of found) (λ start. Ok (ordered found counts proxy names fields level patterns directories domains start))))))))))
 
 -- words with no kind of refusal are taken
 abbrev pub are_taken : Kinds → Bool
@@ -246,7 +317,7 @@ order_of_written words = if are_taken (refusals words) then order_of_rows (rows 
 abbrev pub starts_after : List (List ℕ) → Bool → List Text → Result (List (List ℕ)) LineFault
 starts_after before by_proxy [] = Ok before
 starts_after before by_proxy (text ∷ texts) =
-    started_at (read_start by_proxy (with_scheme text)) (λ start. starts_after (before ++ start ∷ []) by_proxy texts)
+    started_at (read_start by_proxy (typed text)) (λ start. starts_after (before ++ start ∷ []) by_proxy texts)
 
 -- the order with these starts besides its own; all of them are among the addresses that it may hold
 abbrev pub besides : Ordered → List (List ℕ) → Result Ordered LineFault
@@ -295,6 +366,13 @@ abbrev pub guarded : Result Ordered LineFault → Result Ordered LineFault
 guarded (Err why) = Err why
 guarded (Ok order) = if is_trusted order.trusts order.proxy || not (has_https order) then Ok order else Err fault.FarProxy
 
+-- ---- user and password in starts
+
+-- the order with the credentials of these starts
+abbrev pub logged : List Text → Result Ordered LineFault → Result Ordered LineFault
+logged starts (Err why) = Err why
+logged starts (Ok order) = Ok (record order { logins = map typed_login starts })
+
 -- ---- all words
 
 -- the fault of the first word that isn't read, or this
@@ -305,7 +383,8 @@ read_or (Some word) result = Err (refusal_of word)
 -- what is ordered by what is said, or the lowest fault, that of the first start before those of others: each word is read, and the first that
 -- isn't may ask for the help
 unfoldable pub order_said : List (Saying Text) → Result Ordered LineFault
-order_said said = read_or (first_unread said) (guarded (with_others (others_in said) (order_of_written (written said))))
+order_said said =
+    read_or (first_unread said) (logged (starts_in said) (guarded (with_others (others_in said) (order_of_written (written said)))))
 
 -- what the words order, or the lowest fault
 abbrev pub order_of : List Text → Result Ordered LineFault
@@ -326,6 +405,7 @@ abbrev pub ordered_by : Order → Ordered
 ordered_by order = record {
   start = order.plan.start;
   others = order.plan.others;
+  logins = order.logins.items;
   limit = order.plan.limit;
   span_hosts = order.plan.span_hosts;
   no_parent = order.plan.no_parent;
@@ -349,6 +429,7 @@ ordered_by order = record {
   log = option_map log_by order.log;
   prefix = order.prefix;
   names = naming_by order.names;
+  fields = order.fields;
   proxy = order.proxy;
   trusts = order.trusts_proxy;
   resume = order.resume;
@@ -358,6 +439,20 @@ ordered_by order = record {
 -- how many connections to a server may stand at a time, where they are kept
 abbrev pub kept_of : Order → Option ℕ
 kept_of order = if order.keeps_connections then Some order.plan.per_host else None
+
+-- the first of these credentials
+abbrev pub first_login : List (Option Text) → Option Text
+first_login [] = None
+first_login (login ∷ logins) = login
+
+-- the origins of these starts, each with its credentials
+abbrev pub homes_of : List (List ℕ) → List (Option Text) → List Home
+homes_of [] logins = []
+homes_of (start ∷ starts) logins = home_of start (first_login logins) ∷ homes_of starts (drop 1 logins)
+
+-- what is sent with each request: secret fields and credentials go to the origins of the starts alone
+abbrev pub sending_of : Order → Sending
+sending_of order = record { sent = order.fields; homes = homes_of (order.plan.start ∷ order.plan.others) order.logins.items }
 
 -- the result is the expected order, or the expected fault, unless memory ran out
 abbrev pub AnswersOrder : Result Order LineFault → Result Ordered LineFault → Type 0

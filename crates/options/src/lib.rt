@@ -11,6 +11,7 @@ mod given;
 mod help;
 mod hint;
 mod line;
+mod login;
 mod meant;
 mod naming;
 mod order;

@@ -1,12 +1,15 @@
 //! What the words order.
-ghost use Rattle.std.specs.Prelude.{◌≡◌, ◌<◌, ◌≤◌, IfOk, false, length};
+ghost use Rattle.std.specs.Prelude.{◌≡◌, ◌∷◌, ◌<◌, ◌≤◌, IfOk, drop, false, length};
 ghost use Rattle.std.specs.List.{list_any};
 ghost use Rattle.address.specs.Address.{is_robots_file};
+ghost use Rattle.options.specs.Order.{first_login, homes_of};
+ghost use Rattle.requests.specs.Requests.{home_of};
 ghost use Rattle.options.specs.declared.order.TheConstants.{MAX_WORKERS};
 
 use crate::naming::PageNames;
 use address::{Address, Origin};
 use follow_filters::{Elements, Plan};
+use requests::{Fields, Home, Login, Sending};
 use std::alloc::{AllocError, Global};
 use std::marker::Model;
 
@@ -113,6 +116,8 @@ pub struct Log {
 pub struct Order {
     /// What is retrieved.
     pub plan: Plan,
+    /// User and password of each start, if it has them.
+    pub logins: Vec<Option<Login>>,
     /// How many workers retrieve it, 1 to 64.
     pub workers: u32,
     /// Whether connections are kept, to be used again.
@@ -129,6 +134,8 @@ pub struct Order {
     pub prefix: Prefix,
     /// How files are named.
     pub names: PageNames,
+    /// What requests say besides their addresses.
+    pub fields: Fields,
     /// The proxy that is asked for https addresses.
     pub proxy: Option<Origin>,
     /// Whether the proxy may be on another machine.
@@ -203,11 +210,52 @@ fn with_starts(plan: Plan, others: Elements<Address>) -> Plan
     }
 }
 
+// The origin of a start, with the first of these credentials.
+fn home_of(start: &Address, logins: &[Option<Login>]) -> Result<Home, AllocError>
+    ensures { IfOk result (λ home. home ≡ home_of start.now (first_login logins.now)) }
+{
+    match logins {
+        [login, ..] => Home::of(start, login),
+        [] => Home::of(start, &None),
+    }
+}
+
+// These credentials after the first.
+fn later(logins: &[Option<Login>]) -> &[Option<Login>]
+    ensures { result.now ≡ drop 1 logins.now }
+{
+    match logins {
+        [_, later @ ..] => later,
+        [] => logins,
+    }
+}
+
+// The origins of these starts, each with its credentials.
+fn homes_of(
+    alloc: Global,
+    start: &Address,
+    others: &[Address],
+    logins: &[Option<Login>],
+) -> Result<Vec<Home>, AllocError>
+    ensures { IfOk result (λ homes. homes.items ≡ homes_of (start.now ∷ others.now) logins.now) }
+{
+    let mut homes = Vec::new(alloc);
+    homes.push(home_of(start, logins)?)?;
+    let mut left = others;
+    let mut rest = later(logins);
+    'starts: while let Some((first, more)) = left.split_first() {
+        homes.push(home_of(first, rest)?)?;
+        left = more;
+        rest = later(rest);
+    }
+    Ok(homes)
+}
+
 impl Order {
     ghost use Rattle.std.specs.Prelude.{◌≡◌, false, length};
     ghost use Rattle.std.specs.List.{list_any};
     ghost use Rattle.address.specs.Address.{is_robots_file};
-    ghost use Rattle.options.specs.Order.{kept_of, ordered_by};
+    ghost use Rattle.options.specs.Order.{kept_of, ordered_by, sending_of};
 
     /// The proxy that is asked for https addresses. Takes no memory; the error is that 2^63 copies are there.
     pub fn proxy(&self) -> Result<Option<Origin>, AllocError>
@@ -219,6 +267,20 @@ impl Order {
         }
     }
 
+    /// What is sent with each request: secret fields go to the origins of the starts alone.
+    pub fn sending(&self, alloc: Global) -> Result<Sending, AllocError>
+        ensures { IfOk result (λ sending. sending ≡ sending_of self.now) }
+    {
+        let fields = self.fields.try_clone()?;
+        let homes = homes_of(
+            alloc,
+            &self.plan.start,
+            self.plan.others.as_slice(),
+            self.logins.as_slice(),
+        )?;
+        Ok(Sending::new(fields, homes))
+    }
+
     /// The same order with these starts besides its own.
     pub(crate) fn with_others(self, others: Elements<Address>) -> Order
         requires pages { list_any is_robots_file others ≡ false }
@@ -227,6 +289,7 @@ impl Order {
     {
         let Order {
             plan,
+            logins,
             workers,
             keeps_connections,
             source,
@@ -235,6 +298,7 @@ impl Order {
             log,
             prefix,
             names,
+            fields,
             proxy,
             trusts_proxy,
             resume,
@@ -242,6 +306,7 @@ impl Order {
         } = self;
         Order {
             plan: with_starts(plan, others),
+            logins,
             workers,
             keeps_connections,
             source,
@@ -250,6 +315,47 @@ impl Order {
             log,
             prefix,
             names,
+            fields,
+            proxy,
+            trusts_proxy,
+            resume,
+            save,
+        }
+    }
+
+    /// The same order with the credentials of its starts.
+    pub(crate) fn with_logins(self, logins: Vec<Option<Login>>) -> Order
+        ensures { ordered_by result ≡ record (ordered_by self) { logins = logins.items } }
+    {
+        let Order {
+            plan,
+            logins: _logins,
+            workers,
+            keeps_connections,
+            source,
+            trace,
+            quiet,
+            log,
+            prefix,
+            names,
+            fields,
+            proxy,
+            trusts_proxy,
+            resume,
+            save,
+        } = self;
+        Order {
+            plan,
+            logins,
+            workers,
+            keeps_connections,
+            source,
+            trace,
+            quiet,
+            log,
+            prefix,
+            names,
+            fields,
             proxy,
             trusts_proxy,
             resume,

@@ -2,7 +2,7 @@
 ghost use Rattle.std.specs.Prelude.{◌≡◌, ◌≢◌, ◌⊎◌, ℕ, List, true, ◌<◌, ◌≤◌, codes, drop, false, not, is_none, option_map, if◌then◌else◌, Some, None, Ok, Err, map, string_bytes, IfErr, IfOk, IfSome, MatchOption, MatchResult};
 ghost use Rattle.clap.specs.Words.{found_of, rows_of, first_of, kind_of};
 ghost use Rattle.address.specs.Address as address;
-ghost use Rattle.address.specs.Address.{is_robots_file};
+ghost use Rattle.address.specs.Address.{is_robots_file, read_address};
 ghost use Rattle.address.specs.declared.fault.AddressFault.{AddressFault};
 ghost use Rattle.address.specs.declared.fault.AddressFault.TheVariants as address_fault;
 ghost use Rattle.options.specs.declared.fault.LineFault.TheVariants as fault;
@@ -12,17 +12,18 @@ ghost use Rattle.options.specs.declared.order.TheConstants.{MAX_WORKERS};
 ghost use Rattle.follow_filters.specs.declared.limit.Limit.TheVariants.{AtMost};
 ghost use Rattle.options.specs.Given.{level_of, list_of};
 ghost use Rattle.options.specs.Naming.{naming_by};
-ghost use Rattle.options.specs.Order.{AnswersOrder, OrdersBySayings, order_of, order_of_rows, order_of_written, order_said, are_good, is_plain_value, both, counts_of, patterns_of, directories_of, domains_of, start_of, source_of, honours_robots, limit_within, ordered, ordered_by, folder_of, guarded, prefix_of, log_by, log_of, proxy_by, proxy_of, proxy_value, read_start, root_origin, unless_empty, with_others};
+ghost use Rattle.options.specs.Order.{AnswersOrder, OrdersBySayings, order_of, order_of_rows, order_of_written, order_said, are_good, is_plain_value, both, counts_of, patterns_of, directories_of, domains_of, fields_fault, fields_of, fields_with, logged, login_by, login_of, login_with, password_of, said_or, start_of, source_of, user_of, honours_robots, limit_within, ordered, ordered_by, folder_of, guarded, prefix_of, log_by, log_of, proxy_by, proxy_of, proxy_value, read_start, root_origin, unless_empty, with_others};
 ghost use Rattle.options.specs.Asked.{refusal_of, without_kind, words_refused};
 ghost use Rattle.options.specs.inner.Said.{saying_in};
 ghost use Rattle.options.specs.inner.Order.{StartsAt, FailsToStart, FailsToFilter, IsNoStart, Settles, fault_of_kind, unasked};
-ghost use Rattle.options.specs.Start.{with_scheme};
+ghost use Rattle.options.specs.Start.{has_colon, typed, with_scheme};
 ghost use Rattle.options.specs.Written.{written};
 
 use crate::asked::{is_asking, wish_fault, wish_of};
 use crate::fault::LineFault;
 use crate::given::{elements, given, is_set, level, number};
 use crate::line::parse;
+use crate::login::{has_colon, logins, typed};
 use crate::naming::{PageNames, names};
 use crate::order::{
     DEFAULT_MAX_URLS, DEFAULT_PER_HOST, DEFAULT_WORKERS, FilePath, Log, MAX_WORKERS, Order, Prefix,
@@ -39,6 +40,7 @@ use clap::{ArgMatches, Error};
 use follow_filters::{
     Directory, Domain, Element, Elements, Limit, MAX_PER_HOST, MAX_URLS, Pattern, Plan,
 };
+use requests::{Fields, FieldsFault, Login};
 use std::alloc::{AllocError, Global};
 
 // The numbers of workers, requests out to an origin, and addresses.
@@ -55,12 +57,13 @@ struct Counts {
     ghost max_urls_in_range: { max_urls ≤ MAX_URLS },
 }
 
-// Numbers, the proxy and what shapes names.
+// Numbers, the proxy, what shapes names and what requests say.
 #[derive(Drop)]
 struct Settings {
     counts: Counts,
     proxy: Option<Origin>,
     names: PageNames,
+    fields: Fields,
 }
 
 // The folder below which files are put, the records that are resumed and saved, and the file that takes what is told.
@@ -236,11 +239,23 @@ fn read_start(alloc: Global, matches: &ArgMatches) -> Result<Address, AddressFau
     )
 }
 
-// A start as it is typed. Https is one if a proxy is given.
-fn read_typed(alloc: Global, by_proxy: bool, text: &str) -> Result<Address, AddressFault>
-    ensures { address.Gives result (read_start by_proxy (with_scheme text.now)) }
+// A proxy as it is typed.
+fn read_proxy(alloc: Global, text: &str) -> Result<Address, AddressFault>
+    ensures { address.Gives result (read_address (with_scheme text.now)) }
 {
     let Ok(text) = with_scheme(alloc, text) else {
+        return Err(AddressFault::Memory);
+    };
+    let proxy = Address::read(alloc, text.as_str());
+    drop(text);
+    proxy
+}
+
+// A start as it is typed. Https is one if a proxy is given.
+fn read_typed(alloc: Global, by_proxy: bool, text: &str) -> Result<Address, AddressFault>
+    ensures { address.Gives result (read_start by_proxy (typed text.now)) }
+{
+    let Ok(text) = typed(alloc, text) else {
         return Err(AddressFault::Memory);
     };
     let start = read_by(alloc, by_proxy, text.as_str());
@@ -251,8 +266,8 @@ fn read_typed(alloc: Global, by_proxy: bool, text: &str) -> Result<Address, Addr
 /// A start as it is typed, which is an address and no robots file. Https is one if a proxy is given.
 pub(crate) fn read_page(alloc: Global, by_proxy: bool, text: &str) -> Result<Address, LineFault>
     ensures { MatchResult result
-        (λ a. (read_start by_proxy (with_scheme text.now) ≡ Ok a) × (is_robots_file a ≡ false))
-        (λ f. IsNoStart (read_start by_proxy (with_scheme text.now)) f ⊎ (f ≡ fault.Memory)) }
+        (λ a. (read_start by_proxy (typed text.now) ≡ Ok a) × (is_robots_file a ≡ false))
+        (λ f. IsNoStart (read_start by_proxy (typed text.now)) f ⊎ (f ≡ fault.Memory)) }
 {
     page_of(read_typed(alloc, by_proxy, text))
 }
@@ -298,7 +313,7 @@ fn proxy_by(alloc: Global, value: Option<&str>) -> Result<Option<Origin>, LineFa
     ensures kept { IfErr result (λ f. without_kind f ≡ f) }
 {
     match value {
-        Some(text) => match read_typed(alloc, false, text) {
+        Some(text) => match read_proxy(alloc, text) {
             Ok(address) => origin_at(&address),
             Err(AddressFault::Memory) => Err(LineFault::Memory),
             Err(AddressFault::UserInfo) => Err(LineFault::ProxyUser),
@@ -377,10 +392,142 @@ fn unasked(kind: ErrorKind) -> LineFault
     LineFault::Words(kind)
 }
 
-// The numbers, what shapes names, and the proxy: their faults come before those of levels and lists.
+// Why requests can't say what they are to say.
+fn fields_fault(why: FieldsFault) -> LineFault
+    ensures value { result ≡ fields_fault why }
+    ensures kept { without_kind result ≡ result }
+{
+    match why {
+        FieldsFault::Agent => LineFault::Agent,
+        FieldsFault::Referer => LineFault::Referer,
+        FieldsFault::Line => LineFault::Header,
+        FieldsFault::Size => LineFault::Fields,
+        FieldsFault::Memory => LineFault::Memory,
+    }
+}
+
+// What one option says, or else the other.
+fn said_or<'a>(value: Option<&'a str>, other: Option<&'a str>) -> Option<&'a str>
+    ensures { option_map (λ s. s.now) result ≡ said_or (option_map (λ s. s.now) value.entry) (option_map (λ s. s.now) other.entry) }
+{
+    match value {
+        Some(text) => Some(text),
+        None => other,
+    }
+}
+
+// A user and a password that are sent unasked.
+fn login_with(
+    alloc: Global,
+    unasked: bool,
+    user: &str,
+    password: &str,
+) -> Result<Option<Login>, LineFault>
+    ensures answers { MatchResult result
+        (λ login. login_with unasked user.now password.now ≡ Ok login)
+        (λ f. (login_with unasked user.now password.now ≡ Err f) ⊎ (f ≡ fault.Memory)) }
+    ensures kept { IfErr result (λ f. without_kind f ≡ f) }
+{
+    if !unasked || has_colon(user.as_bytes()) {
+        return Err(LineFault::Login);
+    }
+    match Login::of(alloc, user.as_bytes(), password.as_bytes()) {
+        Ok(Some(login)) => Ok(Some(login)),
+        Ok(None) => Err(LineFault::Fields),
+        Err(_) => Err(LineFault::Memory),
+    }
+}
+
+// What is sent of a user and a password, of which none or both are given.
+fn login_by(
+    alloc: Global,
+    unasked: bool,
+    user: Option<&str>,
+    password: Option<&str>,
+) -> Result<Option<Login>, LineFault>
+    ensures answers { MatchResult result
+        (λ login. login_by unasked (option_map (λ s. s.now) user.entry) (option_map (λ s. s.now) password.entry) ≡ Ok login)
+        (λ f. (login_by unasked (option_map (λ s. s.now) user.entry) (option_map (λ s. s.now) password.entry) ≡ Err f) ⊎ (f ≡ fault.Memory)) }
+    ensures kept { IfErr result (λ f. without_kind f ≡ f) }
+{
+    match (user, password) {
+        (None, None) => Ok(None),
+        (Some(user), Some(password)) => login_with(alloc, unasked, user, password),
+        (None, Some(_)) | (Some(_), None) => Err(LineFault::Login),
+    }
+}
+
+// The user: one for http counts before one for all protocols.
+fn user<'a>(matches: &ArgMatches<'a>) -> Option<&'a str>
+    ensures { option_map (λ s. s.now) result ≡ user_of (rows_of (found_of matches.now)) }
+{
+    said_or(given(matches, "http-user"), given(matches, "user"))
+}
+
+// The password, likewise.
+fn password<'a>(matches: &ArgMatches<'a>) -> Option<&'a str>
+    ensures { option_map (λ s. s.now) result ≡ password_of (rows_of (found_of matches.now)) }
+{
+    said_or(given(matches, "http-password"), given(matches, "password"))
+}
+
+// The user and the password that are sent, or why they aren't.
+fn login(alloc: Global, matches: &ArgMatches) -> Result<Option<Login>, LineFault>
+    ensures answers { MatchResult result
+        (λ login. login_of (rows_of (found_of matches.now)) ≡ Ok login)
+        (λ f. (login_of (rows_of (found_of matches.now)) ≡ Err f) ⊎ (f ≡ fault.Memory)) }
+    ensures kept { IfErr result (λ f. without_kind f ≡ f) }
+{
+    login_by(
+        alloc,
+        is_set(matches, "auth-no-challenge"),
+        user(matches),
+        password(matches),
+    )
+}
+
+// The fields that go with these credentials, or why they can't be sent.
+fn fields_with(
+    alloc: Global,
+    matches: &ArgMatches,
+    login: Option<Login>,
+) -> Result<Fields, LineFault>
+    ensures answers { MatchResult result
+        (λ fields. fields_with (rows_of (found_of matches.now)) (Ok login) ≡ Ok fields)
+        (λ f. (fields_with (rows_of (found_of matches.now)) (Ok login) ≡ Err f) ⊎ (f ≡ fault.Memory)) }
+    ensures kept { IfErr result (λ f. without_kind f ≡ f) }
+{
+    let read = Fields::read(
+        alloc,
+        given(matches, "user-agent"),
+        given(matches, "referer"),
+        is_set(matches, "no-cache"),
+        login,
+        given(matches, "header").unwrap_or(""),
+    );
+    match read {
+        Ok(fields) => Ok(fields),
+        Err(why) => Err(fields_fault(why)),
+    }
+}
+
+// What requests say, or why they can't.
+fn fields(alloc: Global, matches: &ArgMatches) -> Result<Fields, LineFault>
+    ensures answers { MatchResult result
+        (λ fields. fields_of (rows_of (found_of matches.now)) ≡ Ok fields)
+        (λ f. (fields_of (rows_of (found_of matches.now)) ≡ Err f) ⊎ (f ≡ fault.Memory)) }
+    ensures kept { IfErr result (λ f. without_kind f ≡ f) }
+{
+    match login(alloc, matches) {
+        Ok(login) => fields_with(alloc, matches, login),
+        Err(fault) => Err(fault),
+    }
+}
+
+// The numbers, what shapes names, the proxy and what requests say: their faults come before those of levels and lists.
 fn read_settings(alloc: Global, matches: &ArgMatches) -> Result<Settings, LineFault>
     ensures { MatchResult result
-        (λ s. Settles (rows_of (found_of matches.now)) (record { workers = s.counts.workers; per_host = s.counts.per_host; max_urls = s.counts.max_urls }) s.proxy (naming_by s.names))
+        (λ s. Settles (rows_of (found_of matches.now)) (record { workers = s.counts.workers; per_host = s.counts.per_host; max_urls = s.counts.max_urls }) s.proxy (naming_by s.names) s.fields)
         (λ f. (order_of_rows (rows_of (found_of matches.now)) ≡ Err (without_kind f)) ⊎ (f ≡ fault.Memory)) }
 {
     if let Some(fault) = word_fault(matches) {
@@ -400,10 +547,19 @@ fn read_settings(alloc: Global, matches: &ArgMatches) -> Result<Settings, LineFa
             return Err(fault);
         }
     };
+    let fields = match fields(alloc, matches) {
+        Ok(fields) => fields,
+        Err(fault) => {
+            drop(proxy);
+            drop(names);
+            return Err(fault);
+        }
+    };
     Ok(Settings {
         counts,
         proxy,
         names,
+        fields,
     })
 }
 
@@ -460,12 +616,13 @@ fn filled(
     requires save { paths.save ≡ first_of (codes "save") (rows_of (found_of matches.now)) }
     requires log { option_map log_by paths.log ≡ log_of (rows_of (found_of matches.now)) }
     ensures { ordered_by result ≡ ordered (rows_of (found_of matches.now)) (record { workers = settings.counts.workers; per_host = settings.counts.per_host; max_urls = settings.counts.max_urls })
-        settings.proxy (naming_by settings.names) level (filters.names.given, filters.names.excluded) (filters.places.given, filters.places.excluded) (filters.hosts.given, filters.hosts.excluded) start }
+        settings.proxy (naming_by settings.names) settings.fields level (filters.names.given, filters.names.excluded) (filters.places.given, filters.places.excluded) (filters.hosts.given, filters.hosts.excluded) start }
 {
     let Settings {
         counts,
         proxy,
         names: naming,
+        fields,
     } = settings;
     let Filters {
         names,
@@ -492,6 +649,7 @@ fn filled(
             max_urls: counts.max_urls,
             per_host: counts.per_host,
         },
+        logins: Vec::new(alloc),
         workers: counts.workers,
         keeps_connections: !is_set(matches, "no-http-keep-alive"),
         source: source(matches),
@@ -500,6 +658,7 @@ fn filled(
         log: paths.log,
         prefix: paths.prefix,
         names: naming,
+        fields,
         proxy,
         trusts_proxy: is_set(matches, "trust-proxy"),
         resume: paths.resume,
@@ -665,6 +824,29 @@ fn with_all(alloc: Global, order: Order, texts: &[&str]) -> Result<Order, LineFa
     }
 }
 
+// The order with the credentials of these starts.
+fn logged(alloc: Global, order: Order, starts: &[&str]) -> Result<Order, LineFault>
+    ensures { AnswersOrder result (logged (map (λ text. text.now) starts.now) (Ok (ordered_by order))) }
+{
+    match logins(alloc, starts) {
+        Ok(logins) => Ok(order.with_logins(logins)),
+        Err(_) => {
+            drop(order);
+            Err(LineFault::Memory)
+        }
+    }
+}
+
+// The order with the starts besides its own, and with the credentials of all.
+fn with_starts(alloc: Global, order: Order, starts: &[&str]) -> Result<Order, LineFault>
+    ensures { AnswersOrder result (logged (map (λ text. text.now) starts.now) (guarded (with_others (map (λ text. text.now) (drop 1 starts.now)) (Ok (ordered_by order))))) }
+{
+    match with_all(alloc, order, after_first(starts)) {
+        Ok(order) => logged(alloc, order, starts),
+        Err(fault) => Err(fault),
+    }
+}
+
 // Reads what is said by words.
 fn read_said(alloc: Global, said: &[Saying<&str>]) -> Result<Order, LineFault>
     ensures { AnswersOrder result (order_said (map saying_in said.now)) }
@@ -680,7 +862,7 @@ fn read_said(alloc: Global, said: &[Saying<&str>]) -> Result<Order, LineFault>
         drop(order);
         return Err(LineFault::Memory);
     };
-    let order = with_all(alloc, order, after_first(starts.as_slice()));
+    let order = with_starts(alloc, order, starts.as_slice());
     drop(starts);
     order
 }

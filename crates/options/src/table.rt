@@ -42,7 +42,7 @@ pub(crate) struct Row<T> {
 }
 
 /// The options.
-const TABLE: [Row<&str>; 54] = [
+const TABLE: [Row<&str>; 63] = [
     Row {
         short: "r",
         name: "recursive",
@@ -175,6 +175,69 @@ const TABLE: [Row<&str>; 54] = [
         kind: Kind::Flag,
         heading: "",
         says: "a connection of its own for each request",
+    },
+    Row {
+        short: "U",
+        name: "user-agent",
+        kind: Kind::Value("AGENT"),
+        heading: "",
+        says: "the name that servers receive; empty for none",
+    },
+    Row {
+        short: "",
+        name: "header",
+        kind: Kind::List("LINE"),
+        heading: "",
+        says: "send this field, as \"Accept-Language: en\"",
+    },
+    Row {
+        short: "",
+        name: "referer",
+        kind: Kind::Value("URL"),
+        heading: "",
+        says: "send it as the page that led here",
+    },
+    Row {
+        short: "",
+        name: "no-cache",
+        kind: Kind::Flag,
+        heading: "",
+        says: "no answers that caches kept",
+    },
+    Row {
+        short: "",
+        name: "user",
+        kind: Kind::Value("USER"),
+        heading: "",
+        says: "the user name for the servers of STARTs",
+    },
+    Row {
+        short: "",
+        name: "password",
+        kind: Kind::Value("PASSWORD"),
+        heading: "",
+        says: "its password",
+    },
+    Row {
+        short: "",
+        name: "http-user",
+        kind: Kind::Value("USER"),
+        heading: "",
+        says: "likewise, before --user",
+    },
+    Row {
+        short: "",
+        name: "http-password",
+        kind: Kind::Value("PASSWORD"),
+        heading: "",
+        says: "likewise, before --password",
+    },
+    Row {
+        short: "",
+        name: "auth-no-challenge",
+        kind: Kind::Flag,
+        heading: "",
+        says: "send both with each request to these servers",
     },
     Row {
         short: "",
@@ -434,7 +497,7 @@ pub(crate) fn option_rows() -> &'static [Row<&'static str>]
 
 /// The forms of Wget's options: all long ones, in the order of their letters, and the short ones that aren't among the options
 /// above. One of two letters is the first letter's, as `nc`.
-const WGET: [&str; 262] = [
+const WGET: [&str; 261] = [
     "--accept",
     "--accept-regex",
     "--adjust-extension",
@@ -692,7 +755,6 @@ const WGET: [&str; 262] = [
     "-4",
     "-6",
     "-E",
-    "-U",
     "-k",
     "-K",
     "-m",
@@ -1105,7 +1167,7 @@ pub(crate) struct Command<T> {
 }
 
 /// The commands of wgetrc whose options are here.
-const COMMANDS: [Command<&str>; 40] = [
+const COMMANDS: [Command<&str>; 49] = [
     Command {
         name: "accept",
         option: "accept",
@@ -1117,6 +1179,14 @@ const COMMANDS: [Command<&str>; 40] = [
     Command {
         name: "adjustextension",
         option: "adjust-extension",
+    },
+    Command {
+        name: "authnochallenge",
+        option: "auth-no-challenge",
+    },
+    Command {
+        name: "cache",
+        option: "cache",
     },
     Command {
         name: "compression",
@@ -1159,6 +1229,10 @@ const COMMANDS: [Command<&str>; 40] = [
         option: "follow-ftp",
     },
     Command {
+        name: "header",
+        option: "header",
+    },
+    Command {
         name: "hsts",
         option: "hsts",
     },
@@ -1171,8 +1245,16 @@ const COMMANDS: [Command<&str>; 40] = [
         option: "http-keep-alive",
     },
     Command {
+        name: "httppassword",
+        option: "http-password",
+    },
+    Command {
         name: "httpsproxy",
         option: "https-proxy",
+    },
+    Command {
+        name: "httpuser",
+        option: "http-user",
     },
     Command {
         name: "ignorecase",
@@ -1203,6 +1285,10 @@ const COMMANDS: [Command<&str>; 40] = [
         option: "page-requisites",
     },
     Command {
+        name: "password",
+        option: "password",
+    },
+    Command {
         name: "progress",
         option: "progress",
     },
@@ -1221,6 +1307,10 @@ const COMMANDS: [Command<&str>; 40] = [
     Command {
         name: "recursive",
         option: "recursive",
+    },
+    Command {
+        name: "referer",
+        option: "referer",
     },
     Command {
         name: "reject",
@@ -1255,8 +1345,16 @@ const COMMANDS: [Command<&str>; 40] = [
         option: "unlink",
     },
     Command {
+        name: "user",
+        option: "user",
+    },
+    Command {
         name: "useproxy",
         option: "proxy",
+    },
+    Command {
+        name: "useragent",
+        option: "user-agent",
     },
     Command {
         name: "verbose",

@@ -22,6 +22,11 @@ fn word_of(fault: LineFault) -> &'static str {
         LineFault::NoProxy => "no proxy",
         LineFault::ProxyUser => "proxy: user",
         LineFault::FarProxy => "proxy: far",
+        LineFault::Login => "login",
+        LineFault::Agent => "agent",
+        LineFault::Referer => "referer",
+        LineFault::Header => "header",
+        LineFault::Fields => "fields",
         LineFault::Depth => "depth",
         LineFault::Pattern => "pattern",
         LineFault::Directory => "directory",
@@ -62,7 +67,8 @@ read => h/p?u=http://x/
 start: not url => //h/
 start: not url => /p
 start: not http => foo:bar
-start: user info => u@h
+read => u@h
+start: user info => a%3Ab@h
 start: not http => https://h/
 start: not http => --https-proxy=http://127.0.0.1:3128/ ftp://h/
 read => --https-proxy=http://127.0.0.1:3128/ https://h/
@@ -71,6 +77,19 @@ no proxy => --https-proxy=https://p/ https://h/
 no proxy => --https-proxy=http://p/a -l x https://h/
 words: bad value => --https-proxy=http://p/a --cut-dirs=x http://h/
 proxy: user => --https-proxy=http://u@127.0.0.1/ http://h/
+header => --header=nocolon -l x http://h/
+header => --header=A:b --header=Host --header=C:d http://h/
+read => --header=nocolon --header= http://h/
+no proxy => --header=nocolon --https-proxy=https://p/ https://h/
+login => --user u --password p --header nocolon http://h/
+login => --user u --auth-no-challenge http://h/
+login => --http-password=p --auth-no-challenge http://h/
+login => --user u:v --password p --auth-no-challenge http://h/
+read => --http-user=u --password p: --auth-no-challenge http://h/
+read => --auth-no-challenge http://h/
+no proxy => --user u --https-proxy=https://p/ https://h/
+agent => -U a\tb --header nocolon http://h/
+referer => --referer=\r --header=nocolon http://h/
 read => -e https_proxy=127.0.0.1:3128 https://h/
 start: not http => -e https_proxy=http://127.0.0.1/ --https-proxy= https://h/
 proxy: far => --https-proxy=p:3128 https://h/
@@ -80,7 +99,8 @@ read => --https-proxy=http://p/ http://h/
 read => --https-proxy=http://p/ --trust-proxy https://h/
 read => --https-proxy=http://[::1]:1/ https://h/
 read => --https-proxy=http://127.1.2.3/ https://h/
-start: user info => http://u@h/
+read => http://u:p@h/
+start: not http => https://u:p@h/
 start: robots => http://h/robots.txt
 read => http://h/ http://k/ http://h/
 start: not url => http://h/ //k/
@@ -371,6 +391,15 @@ How it is asked for:
        --workers=N                 N workers, 1 to 64 (4)
        --per-host=N                N requests at a time to a server, 1 to 16 (2)
        --no-http-keep-alive        a connection of its own for each request
+  -U,  --user-agent=AGENT          the name that servers receive; empty for none
+       --header=LINE               send this field, as \"Accept-Language: en\"
+       --referer=URL               send it as the page that led here
+       --no-cache                  no answers that caches kept
+       --user=USER                 the user name for the servers of STARTs
+       --password=PASSWORD         its password
+       --http-user=USER            likewise, before --user
+       --http-password=PASSWORD    likewise, before --password
+       --auth-no-challenge         send both with each request to these servers
        --https-proxy=URL           https by a proxy, as http://127.0.0.1:3128/
        --trust-proxy               https also by a proxy on another machine
        --no-proxy                  no proxy, whatever words and https_proxy say
@@ -441,17 +470,21 @@ const ADVICE: &str = "\
 --recursiv=maybe http://h/ => unexpected argument found|wgetr --help says which words are accepted
 --nothing-near http://h/ => unexpected argument found: --nothing-near|wgetr --help says which words are accepted
 --mirror http://h/ => unexpected argument found: --mirror (an option of Wget that wgetr doesn't have: -r -l inf, and --save FILE and --resume FILE for -N)|wgetr --help says which words are accepted
--r --user-agent=a http://h/ => unexpected argument found: --user-agent (an option of Wget that wgetr doesn't have)|wgetr --help says which words are accepted
+-r --load-cookies=a http://h/ => unexpected argument found: --load-cookies (an option of Wget that wgetr doesn't have)|wgetr --help says which words are accepted
+--header a:b --header nocolon --header=c http://h/ => a value of --header is no field that can be sent: nocolon|a field is a name, a colon and a value, as Accept-Language: en, without control characters and with at most 8192 bytes (see wgetr --help)
+-U a\tb http://h/ => the value of -U, --user-agent has a control character or more than 8192 bytes|a field is a name, a colon and a value, as Accept-Language: en, without control characters and with at most 8192 bytes (see wgetr --help)
+--user=u --password=p http://h/ => user name and password are only sent together and with --auth-no-challenge|--user=USER --password=PASSWORD --auth-no-challenge send both with each request to the servers of STARTs; USER has no colon (see wgetr --help)
+--referer a\tb http://h/ => the value of --referer has a control character or more than 8192 bytes|a field is a name, a colon and a value, as Accept-Language: en, without control characters and with at most 8192 bytes (see wgetr --help)
 -mkp http://h/ => unexpected argument found: -mkp (an option of Wget that wgetr doesn't have: -r -l inf, and --save FILE and --resume FILE for -N)|wgetr --help says which words are accepted
 --no-cl http://h/ => unexpected argument found: --no-cl (an option of Wget that wgetr doesn't have: --save FILE, and --resume FILE in later runs, requests what lacks)|wgetr --help says which words are accepted
 -nc http://h/ => one of the values isn't valid for an argument: -nc (an option of Wget that wgetr doesn't have: --save FILE, and --resume FILE in later runs, requests what lacks)|wgetr --help says which words are accepted
 -e robots=of http://h/ => one of the values isn't valid for an argument|wgetr --help says which words are accepted
-h/ http://k/ //example.org/ => START is no URL (did you mean http://example.org/?)|START is an address in full, as http://example.org/path?query, without user name and password, with at most 8192 bytes and a host of at most 255 (see wgetr --help)
-//example.org/ => START is no URL (did you mean http://example.org/?)|START is an address in full, as http://example.org/path?query, without user name and password, with at most 8192 bytes and a host of at most 255 (see wgetr --help)
--r example.org:/a => START isn't an http address, and an https one needs --https-proxy, a proxy that speaks TLS (did you mean http://example.org/a?)|START is an address in full, as http://example.org/path?query, without user name and password, with at most 8192 bytes and a host of at most 255 (see wgetr --help)
-https://h/ => START isn't an http address, and an https one needs --https-proxy, a proxy that speaks TLS|START is an address in full, as http://example.org/path?query, without user name and password, with at most 8192 bytes and a host of at most 255 (see wgetr --help)
-a:b => START isn't an http address, and an https one needs --https-proxy, a proxy that speaks TLS|START is an address in full, as http://example.org/path?query, without user name and password, with at most 8192 bytes and a host of at most 255 (see wgetr --help)
-http://a@h/ => START has a user name or a password|START is an address in full, as http://example.org/path?query, without user name and password, with at most 8192 bytes and a host of at most 255 (see wgetr --help)
+h/ http://k/ //example.org/ => START is no URL (did you mean http://example.org/?)|START is an address in full, as http://example.org/path?query, with at most 8192 bytes and a host of at most 255 (see wgetr --help)
+//example.org/ => START is no URL (did you mean http://example.org/?)|START is an address in full, as http://example.org/path?query, with at most 8192 bytes and a host of at most 255 (see wgetr --help)
+-r example.org:/a => START isn't an http address, and an https one needs --https-proxy, a proxy that speaks TLS (did you mean http://example.org/a?)|START is an address in full, as http://example.org/path?query, with at most 8192 bytes and a host of at most 255 (see wgetr --help)
+https://h/ => START isn't an http address, and an https one needs --https-proxy, a proxy that speaks TLS|START is an address in full, as http://example.org/path?query, with at most 8192 bytes and a host of at most 255 (see wgetr --help)
+a:b => START isn't an http address, and an https one needs --https-proxy, a proxy that speaks TLS|START is an address in full, as http://example.org/path?query, with at most 8192 bytes and a host of at most 255 (see wgetr --help)
+http://a%3Ab@h/ => START has a user name with a colon, or it and the password are too long|START is an address in full, as http://example.org/path?query, with at most 8192 bytes and a host of at most 255 (see wgetr --help)
 http://h/robots.txt => START is a robots file|START is any other page (see wgetr --help)
 -l x http://h/ => the value of -l, --level is no level|a level is inf or decimal digits, at most 1000000 (see wgetr --help)
 -A [a http://h/ => an element of -A, --accept or -R, --reject is no pattern|an element is a suffix, or a pattern with *, ? and classes as [a-z], each closed (see wgetr --help)

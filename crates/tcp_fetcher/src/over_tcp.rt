@@ -5,6 +5,7 @@ use answer_notes::{Hops, Telling, Told};
 use fetcher::{Answer, Ask, Body, Fetcher};
 use http_fetcher::HttpFetcher;
 use progress::Progress;
+use requests::Sending;
 use robots_rules::RuleSet;
 use run_failures::LossKind;
 use std::alloc::{AllocError, Global};
@@ -31,16 +32,16 @@ impl<'a, R: Net + Wait + Clock + Eprint> Model for OverTcp<'a, R> {
 
     ghost Value = { TcpFetching };
 
-    ghost view = { λ f. record { robots = f.inner.robots; keeps = f.inner.keeps; most = f.inner.connect.most; asks = f.inner.asks } };
+    ghost view = { λ f. record { robots = f.inner.robots; keeps = f.inner.keeps; most = f.inner.connect.most; sends = f.inner.sends; asks = f.inner.asks } };
 }
 
 impl<'a, R: Net + Wait + Clock + Eprint> OverTcp<'a, R> {
-    ghost use Rattle.std.specs.Prelude.{◌≡◌, is_some, []};
+    ghost use Rattle.std.specs.Prelude.{◌≡◌, Some, is_some, []};
 
     /// By this handle, with what the run knows of hosts and keeps of connections, and the line that counts what comes. Where robots
     /// rules are honoured, a page that asks that its links aren't followed has none. Connections are kept among those of the run
     /// where it is said how many to a server may stand at a time; else each question has one of its own. For https addresses the
-    /// proxy is asked, and without one none is. Takes no memory.
+    /// proxy is asked, and without one none is. Each request says this. Takes no memory.
     pub fn new(
         rt: &'a R,
         alloc: Global,
@@ -50,14 +51,16 @@ impl<'a, R: Net + Wait + Clock + Eprint> OverTcp<'a, R> {
         robots: bool,
         most: Option<u32>,
         proxy: Option<Origin>,
+        sends: Sending,
     ) -> OverTcp<'a, R>
         ensures robots { result.robots ≡ robots }
         ensures keeps { result.keeps ≡ is_some most }
         ensures most { result.most ≡ most }
+        ensures sends { result.sends ≡ Some sends }
         ensures asks { result.asks ≡ [] }
     {
         let connect = WatchedTcp::new(rt, alloc, hosts, kept, progress, most, proxy);
-        let fetcher = HttpFetcher::new(alloc, connect, robots);
+        let fetcher = HttpFetcher::new(alloc, connect, robots).sending(sends);
         match most {
             Some(_) => OverTcp {
                 inner: fetcher.keeping(),

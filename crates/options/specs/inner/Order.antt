@@ -9,7 +9,8 @@ use Rattle.options.specs.declared.fault.LineFault.{LineFault}
 use Rattle.options.specs.declared.fault.LineFault.TheVariants as fault
 use Rattle.options.specs.Asked.{is_asking, without_kind, words_refused}
 use Rattle.options.specs.Naming.{Naming, naming_of}
-use Rattle.options.specs.Order.{Counts, Ordered, are_good, counts_of, proxy_of, patterns_of, directories_of, domains_of, start_of, started_at, found_or}
+use Rattle.options.specs.Order.{Counts, Ordered, are_good, counts_of, proxy_of, patterns_of, directories_of, domains_of, fields_of, start_of, started_at, found_or}
+use Rattle.requests.specs.Fields.{Sent}
 
 -- the options start at this address
 abbrev pub StartsAt : List Row → List ℕ → Type 0
@@ -25,12 +26,13 @@ IsNoStart read why =
     ((address : List ℕ) × (read ≡ Ok address) × (is_robots_file address ≡ true) × (why ≡ fault.StartIsRobots))
     ⊎ ((wrong : AddressFault) × (read ≡ Err wrong) × (why ≡ fault.Start wrong))
 
--- the options have values that may be, and these are the numbers, the proxy and what shapes names
-pub record Settles (found : List Row) (counts : Counts) (proxy : Option (List ℕ)) (names : Naming) : Type 0 where
+-- the options have values that may be, and these are the numbers, the proxy, what shapes names and what requests say
+pub record Settles (found : List Row) (counts : Counts) (proxy : Option (List ℕ)) (names : Naming) (fields : Sent) : Type 0 where
   pub words : are_good found ≡ true
   pub counted : counts_of found ≡ Some counts
   pub named : naming_of found ≡ Some names
   pub proxied : proxy_of found ≡ Ok proxy
+  pub fielded : fields_of found ≡ Ok fields
 
 -- the lists of an option and of its opposite
 abbrev pub Both : Type 0

@@ -4,7 +4,7 @@ use Rattle.std.specs.Prelude.{Err}
 use Rattle.clap.specs.Words.{found_of, rows_of}
 use Rattle.options.specs.Asked.{without_kind}
 use Rattle.options.specs.Order.{proxy_by}
-use Rattle.options.proofs.ReadLemmas.{bad-words, bad-counts, bad-proxy, bad-names}
+use Rattle.options.proofs.ReadLemmas.{bad-words, bad-counts, bad-proxy, bad-names, bad-fields}
 use Rattle.options.proofs.read.read_settings.Goals as goal
 
 pub returns-in-Some : goal.returns-in-Some
@@ -31,6 +31,15 @@ returns-in-Err-proxy_by c =
     (λ memory. inr memory)
     c.in-Err-proxy_by.ensures.answers
 
+pub returns-in-Err-fields : goal.returns-in-Err-fields
+returns-in-Err-fields c =
+    let found = rows_of (found_of c.args.matches.now) in
+    let proxy = ap proxy_by (sym c.proxy_value.ensures) ∙ c.in-Ok-proxy_by.ensures.answers in
+    ⊎_elim
+    (λ bad. inl (bad-fields found _ _ _ _ (sym c.in_default.ensures.good) c.in-Some-read_counts.ensures c.in-Ok.ensures proxy bad ∙ ap Err (sym c.in-Err-fields.ensures.kept)))
+    (λ memory. inr memory)
+    c.in-Err-fields.ensures.answers
+
 pub returns : goal.returns
 returns c =
     record {
@@ -38,4 +47,5 @@ returns c =
       counted = c.in-Some-read_counts.ensures;
       named = c.in-Ok.ensures;
       proxied = ap proxy_by (sym c.proxy_value.ensures) ∙ c.in-Ok-proxy_by.ensures.answers;
+      fielded = c.in-Ok-fields.ensures.answers;
     }

@@ -1,0 +1,83 @@
+//! What a run sends, and which origins are those of its starts.
+ghost use Rattle.std.specs.Prelude.{◌≡◌, IfOk, option_map};
+ghost use Rattle.requests.specs.Requests.{is_home, login_at, login_for, login_here, or_login};
+
+use crate::fields::Fields;
+use crate::home::Home;
+use crate::login::Login;
+use address::Address;
+use std::marker::Model;
+
+/// What is sent with each request of a run: its fields, of which the secret ones go to the origins of its starts alone.
+#[derive(Drop)]
+pub struct Sending {
+    fields: Fields,
+    homes: Vec<Home>,
+}
+
+impl Model for Sending {
+    ghost use Rattle.requests.specs.Requests.{Sending};
+
+    ghost Value = { Sending };
+
+    ghost view = { λ s. record { sent = s.fields; homes = s.homes.items } };
+}
+
+// The credentials of a start, if the address is at its origin.
+fn login_here<'a>(home: &'a Home, at: &Address) -> Option<&'a Login>
+    ensures { option_map (λ l. l.now) result ≡ login_here home.entry.now at.now }
+{
+    if home.has(at) { home.login() } else { None }
+}
+
+// The credentials of the first start at the address's origin that has any.
+fn login_at<'a>(homes: &'a [Home], at: &Address) -> Option<&'a Login>
+    ensures { option_map (λ l. l.now) result ≡ login_at homes.entry.now at.now }
+{
+    let mut rest = homes;
+    'homes: while let Some((first, later)) = rest.split_first() {
+        let login = login_here(first, at);
+        if login.is_some() {
+            return login;
+        }
+        rest = later;
+    }
+    None
+}
+
+impl Sending {
+    /// These fields, by a run whose starts are at these origins. Takes no memory.
+    pub fn new(fields: Fields, homes: Vec<Home>) -> Sending
+        ensures sent { result.sent ≡ fields }
+        ensures homes { result.homes ≡ homes.items }
+    {
+        Sending { fields, homes }
+    }
+
+    /// The fields.
+    pub(crate) fn fields(&self) -> &Fields
+        ensures { result.now ≡ self.now.sent }
+    {
+        &self.fields
+    }
+
+    /// Whether an address is at an origin of a start.
+    pub(crate) fn is_home(&self, at: &Address) -> bool
+        ensures { result ≡ is_home self.now.homes at.now }
+    {
+        self.homes.iter().any(|home| home.has(at))
+    }
+
+    /// The credentials for an address, unless a line of a person's has others.
+    pub(crate) fn login_for(&self, at: &Address) -> Option<&Login>
+        ensures { option_map (λ l. l.now) result ≡ login_for self.entry.now at.now }
+    {
+        if self.fields.signs() || !self.is_home(at) {
+            return None;
+        }
+        match login_at(self.homes.as_slice(), at) {
+            Some(login) => Some(login),
+            None => self.fields.login(),
+        }
+    }
+}
