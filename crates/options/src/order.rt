@@ -5,8 +5,8 @@ ghost use Rattle.address.specs.Address.{is_robots_file};
 ghost use Rattle.options.specs.declared.order.TheConstants.{MAX_WORKERS};
 
 use crate::naming::PageNames;
-use address::{Address, Origin};
-use follow_filters::{Elements, Plan};
+use address::Origin;
+use follow_filters::{Plan, Starts};
 use std::alloc::{AllocError, Global};
 use std::marker::Model;
 
@@ -142,7 +142,7 @@ pub struct Order {
 }
 
 // The same plan with these starts besides its own.
-fn with_starts(plan: Plan, others: Elements<Address>) -> Plan
+fn with_starts(plan: Plan, others: Starts) -> Plan
     requires pages { list_any is_robots_file others ≡ false }
     requires in_range { length others < plan.max_urls }
     ensures start { result.start ≡ plan.start }
@@ -220,7 +220,7 @@ impl Order {
     }
 
     /// The same order with these starts besides its own.
-    pub(crate) fn with_others(self, others: Elements<Address>) -> Order
+    pub(crate) fn with_others(self, others: Starts) -> Order
         requires pages { list_any is_robots_file others ≡ false }
         requires in_range { length others < self.plan.max_urls }
         ensures { ordered_by result ≡ record (ordered_by self) { others = others } }

@@ -37,7 +37,7 @@ use address::{Address, AddressFault, Origin};
 use clap::error::ErrorKind;
 use clap::{ArgMatches, Error};
 use follow_filters::{
-    Directory, Domain, Element, Elements, Limit, MAX_PER_HOST, MAX_URLS, Pattern, Plan,
+    Directory, Domain, Element, Elements, Limit, MAX_PER_HOST, MAX_URLS, Pattern, Plan, Starts,
 };
 use std::alloc::{AllocError, Global};
 
@@ -475,7 +475,7 @@ fn filled(
     Order {
         plan: Plan {
             start,
-            others: Elements::none(alloc),
+            others: Starts::none(alloc),
             limit: limit_within(matches, level),
             span_hosts: is_set(matches, "span-hosts"),
             no_parent: is_set(matches, "no-parent"),
