@@ -40,6 +40,7 @@ forms : map forms_of table ≡ (codes "r", codes "recursive", None) ∷ (codes "
     ∷ (codes "X", codes "exclude-directories", Some (codes "LIST")) ∷ (codes "A", codes "accept", Some (codes "LIST")) ∷ (codes "R", codes "reject", Some (codes "LIST")) ∷ ([], codes "ignore-case", None)
     ∷ (codes "e", codes "execute", Some (codes "COMMAND")) ∷ ([], codes "no-robots", None) ∷ ([], codes "workers", Some (codes "N")) ∷ ([], codes "per-host", Some (codes "N"))
     ∷ ([], codes "no-http-keep-alive", None) ∷ ([], codes "https-proxy", Some (codes "URL")) ∷ ([], codes "trust-proxy", None) ∷ ([], codes "no-proxy", None) ∷ ([], codes "max-urls", Some (codes "N")) ∷ ([], codes "map", None) ∷ ([], codes "record", None) ∷ ([], codes "resume", Some (codes "FILE"))
+    ∷ (codes "i", codes "input-file", Some (codes "FILE")) ∷ (codes "F", codes "force-html", None) ∷ (codes "B", codes "base", Some (codes "URL"))
     ∷ (codes "P", codes "directory-prefix", Some (codes "DIR")) ∷ (codes "nd", codes "no-directories", None) ∷ (codes "x", codes "force-directories", None)
     ∷ (codes "nH", codes "no-host-directories", None) ∷ ([], codes "protocol-directories", None) ∷ ([], codes "cut-dirs", Some (codes "N")) ∷ ([], codes "default-page", Some (codes "NAME"))
     ∷ (codes "E", codes "adjust-extension", None) ∷ ([], codes "html-extension", None)

@@ -42,7 +42,7 @@ pub(crate) struct Row<T> {
 }
 
 /// The options.
-const TABLE: [Row<&str>; 54] = [
+const TABLE: [Row<&str>; 57] = [
     Row {
         short: "r",
         name: "recursive",
@@ -224,6 +224,27 @@ const TABLE: [Row<&str>; 54] = [
         kind: Kind::Value("FILE"),
         heading: "",
         says: "what this record has isn't asked for again",
+    },
+    Row {
+        short: "i",
+        name: "input-file",
+        kind: Kind::Value("FILE"),
+        heading: "",
+        says: "also the STARTs in FILE, a line each",
+    },
+    Row {
+        short: "F",
+        name: "force-html",
+        kind: Kind::Flag,
+        heading: "",
+        says: "the FILE of -i is HTML: its links are STARTs",
+    },
+    Row {
+        short: "B",
+        name: "base",
+        kind: Kind::Value("URL"),
+        heading: "",
+        says: "what the FILE of -i has is relative to URL",
     },
     Row {
         short: "P",
@@ -717,7 +738,7 @@ pub(crate) struct Instead<T> {
 }
 
 /// What to do in place of Wget's options, if there is something. None of these forms is read.
-const INSTEAD: [Instead<&str>; 84] = [
+const INSTEAD: [Instead<&str>; 82] = [
     Instead {
         form: "--background",
         advice: "& of the shell, or nohup",
@@ -741,14 +762,6 @@ const INSTEAD: [Instead<&str>; 84] = [
     Instead {
         form: "-v",
         advice: "--trace has each step",
-    },
-    Instead {
-        form: "--input-file",
-        advice: "xargs wgetr gives the addresses of a file as STARTs",
-    },
-    Instead {
-        form: "-i",
-        advice: "xargs wgetr gives the addresses of a file as STARTs",
     },
     Instead {
         form: "--config",
@@ -1105,7 +1118,7 @@ pub(crate) struct Command<T> {
 }
 
 /// The commands of wgetrc whose options are here.
-const COMMANDS: [Command<&str>; 40] = [
+const COMMANDS: [Command<&str>; 43] = [
     Command {
         name: "accept",
         option: "accept",
@@ -1117,6 +1130,10 @@ const COMMANDS: [Command<&str>; 40] = [
     Command {
         name: "adjustextension",
         option: "adjust-extension",
+    },
+    Command {
+        name: "base",
+        option: "base",
     },
     Command {
         name: "compression",
@@ -1159,6 +1176,10 @@ const COMMANDS: [Command<&str>; 40] = [
         option: "follow-ftp",
     },
     Command {
+        name: "forcehtml",
+        option: "force-html",
+    },
+    Command {
         name: "hsts",
         option: "hsts",
     },
@@ -1181,6 +1202,10 @@ const COMMANDS: [Command<&str>; 40] = [
     Command {
         name: "includedirectories",
         option: "include-directories",
+    },
+    Command {
+        name: "input",
+        option: "input-file",
     },
     Command {
         name: "logfile",

@@ -48,8 +48,8 @@ fn says_also(said: &str, name: &str) -> bool
     said == name || (said == "append-output" && name == "output-file")
 }
 
-// The value that counts of what is said of the option of this name.
-fn value_in(
+/// The value that counts of what is said of the option of this name.
+pub(crate) fn value_in(
     alloc: Global,
     name: &str,
     adds: bool,

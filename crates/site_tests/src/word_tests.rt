@@ -86,7 +86,9 @@ read => http://h/ http://k/ http://h/
 start: not url => http://h/ //k/
 start: robots => http://h/ http://k/robots.txt a:b
 words: bad value => --max-urls=2 http://h/ http://k/ http://l/
-words: unknown => -F -l x http://h/
+words: unknown => -4 -l x http://h/
+read => -F -i list -B b http://h/
+read => -e input=- -e force_html=on -e base=b http://h/
 read => -rp --page-requisites http://h/
 words: bad value => -npr http://h/
 words: bad value => -pnr http://h/
@@ -380,6 +382,9 @@ Where the site is:
        --map                       the site is a map on standard input
        --record                    the site is a record on standard input
        --resume=FILE               what this record has isn't asked for again
+  -i,  --input-file=FILE           also the STARTs in FILE, a line each
+  -F,  --force-html                the FILE of -i is HTML: its links are STARTs
+  -B,  --base=URL                  what the FILE of -i has is relative to URL
 
 What becomes of it:
   -P,  --directory-prefix=DIR      put files below DIR (.)
