@@ -14,7 +14,7 @@ pub(crate) enum Mishap {
     /// From the call of this number on, counted from 0, so many calls fail and do nothing.
     Fails(u64, u64),
     /// Before the first call of this name for this path another process makes this there: a `dir`, a `file`, or a `link` to
-    /// `../outside`.
+    /// `../outside`; or it removes the directory of this `lock`.
     Meets(&'static str, &'static str, &'static str),
     /// It has room for so many bytes of files that are written. A file that is taken away or replaced leaves its room.
     Holds(u64),
@@ -150,6 +150,10 @@ impl Disk {
         match made {
             "dir" => self.rt.create_dir(path),
             "file" => std::fs::write(&self.rt, path, "theirs"),
+            "removed" => {
+                let dir = path.strip_suffix("/lock").unwrap_or(path);
+                self.rt.remove_dir_all(self.rt.alloc(), dir)
+            }
             _ => self.rt.symlink("../outside", path),
         }
     }

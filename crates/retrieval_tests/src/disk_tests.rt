@@ -223,7 +223,7 @@ fn a_disk_that_fails_leaves_each_file_whole(rt: HostRuntime) {
 }
 
 // What another process makes while a file is put, into a new directory or one that is there: which file, before which call, for
-// which path, what; and how the put ends. A link that is made behind the look for it isn't seen, as the folder says, nor one in a
+// which path, what; and how the put ends. A link that is made after the look for it isn't seen, as the folder says, nor one in a
 // new directory.
 const MEETINGS: &str = "k/y mkdir disk/k dir whole
 k/y mkdir disk/k file refused
@@ -237,6 +237,7 @@ k/y open disk/.wgetr%part1/part link whole
 k/y mkdir disk/.wgetr%part1 dir whole
 k/y mkdir disk/.wgetr%part1 file whole
 k/y mkdir disk/.wgetr%part1 link whole
+k/y lstat disk/.wgetr%part1/lock removed whole
 k/y rename disk/k/y file whole
 k/y rename disk/k/y link whole
 k/y rename disk/k/y dir refused";

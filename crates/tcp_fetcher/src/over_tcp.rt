@@ -1,10 +1,23 @@
-//! What asks over TCP for one worker.
+//! What asks over TCP for one worker, and again where that is worth it.
+ghost use Rattle.std.specs.Prelude.{◌≡◌, ◌<◌, ◌++◌, ◌∷◌, [], IfOk, OnErr, OnOk};
+ghost use Rattle.fetcher.specs.Logs.{GainedAtMost};
+ghost use Rattle.fetcher.specs.declared.fetcher.Ask.TheVariants as ask;
+ghost use Rattle.answer_notes.specs.HopChains.{ChainValue, rules_of_hops};
+ghost use Rattle.answer_notes.specs.Tellings.{outcome_told, body_told};
+ghost use Rattle.answer_notes.specs.declared.told.Told.{Told};
+ghost use Rattle.http_fetcher.specs.Meanings.{MayAnswer, MayRule};
+ghost use Rattle.retries.specs.Tries.{IsLastOf};
+ghost use Rattle.retries.specs.Worth.{is_worth, is_worth_hops};
+
 use crate::watched_tcp::WatchedTcp;
 use address::{Address, Origin};
 use answer_notes::{Hops, Telling, Told};
 use fetcher::{Answer, Ask, Body, Fetcher};
 use http_fetcher::HttpFetcher;
+use pacing::{Manner, Retries};
 use progress::Progress;
+use requests::Sending;
+use retries::Calling;
 use robots_rules::RuleSet;
 use run_failures::LossKind;
 use std::alloc::{AllocError, Global};
@@ -14,33 +27,44 @@ use std::sync::Wait;
 use std::time::Clock;
 use tcp_connect::{Hosts, Kept};
 
-/// Asks over TCP, and shows on the terminal what comes of it.
+/// Asks over TCP, again after answers and faults that are worth it, and shows on the terminal what comes of it.
 pub struct OverTcp<'a, R: Net + Wait + Clock + Eprint> {
+    alloc: Global,
+    // Asks once.
     inner: HttpFetcher<WatchedTcp<'a, R>>,
+    retries: Retries,
+    asks: Vec<Ask>,
 }
 
 // By hand: who drops one proves a call, and nothing of what it holds.
 impl<'a, R: Net + Wait + Clock + Eprint> Drop for OverTcp<'a, R> {
     fn drop(self) {
-        let OverTcp { inner: _inner } = self;
+        let OverTcp {
+            alloc: _alloc,
+            inner: _inner,
+            retries: _retries,
+            asks: _asks,
+        } = self;
     }
 }
 
 impl<'a, R: Net + Wait + Clock + Eprint> Model for OverTcp<'a, R> {
+    ghost use Rattle.pacing.specs.Retries.{retries_by};
     ghost use Rattle.tcp_fetcher.specs.TcpFetching.{TcpFetching};
 
     ghost Value = { TcpFetching };
 
-    ghost view = { λ f. record { robots = f.inner.robots; keeps = f.inner.keeps; most = f.inner.connect.most; asks = f.inner.asks } };
+    ghost view = { λ f. record { robots = f.inner.robots; keeps = f.inner.keeps; most = f.inner.connect.most; sends = f.inner.sends; retries = retries_by f.retries; asks = f.asks.items; single = f.inner } };
 }
 
 impl<'a, R: Net + Wait + Clock + Eprint> OverTcp<'a, R> {
-    ghost use Rattle.std.specs.Prelude.{◌≡◌, is_some, []};
+    ghost use Rattle.std.specs.Prelude.{◌≡◌, Some, is_some, []};
+    ghost use Rattle.pacing.specs.Retries.{retries_by};
 
     /// By this handle, with what the run knows of hosts and keeps of connections, and the line that counts what comes. Where robots
     /// rules are honoured, a page that asks that its links aren't followed has none. Connections are kept among those of the run
     /// where it is said how many to a server may stand at a time; else each question has one of its own. For https addresses the
-    /// proxy is asked, and without one none is. Takes no memory.
+    /// proxy is asked, and without one none is. Each request says this. Servers are treated so, and requests made again so. Takes no memory.
     pub fn new(
         rt: &'a R,
         alloc: Global,
@@ -50,31 +74,38 @@ impl<'a, R: Net + Wait + Clock + Eprint> OverTcp<'a, R> {
         robots: bool,
         most: Option<u32>,
         proxy: Option<Origin>,
+        sends: Sending,
+        manner: Manner,
+        retries: Retries,
     ) -> OverTcp<'a, R>
         ensures robots { result.robots ≡ robots }
         ensures keeps { result.keeps ≡ is_some most }
         ensures most { result.most ≡ most }
+        ensures sends { result.sends ≡ Some sends }
+        ensures retries { result.retries ≡ retries_by retries }
         ensures asks { result.asks ≡ [] }
     {
-        let connect = WatchedTcp::new(rt, alloc, hosts, kept, progress, most, proxy);
-        let fetcher = HttpFetcher::new(alloc, connect, robots);
-        match most {
-            Some(_) => OverTcp {
-                inner: fetcher.keeping(),
+        let connect = WatchedTcp::new(rt, alloc, hosts, kept, progress, most, proxy, manner);
+        let fetcher = HttpFetcher::new(alloc, connect, robots).sending(sends);
+        OverTcp {
+            alloc,
+            inner: match most {
+                Some(_) => fetcher.keeping(),
+                None => fetcher,
             },
-            None => OverTcp { inner: fetcher },
+            retries,
+            asks: Vec::new(alloc),
         }
     }
 
     /// Why the last connection was lost, where it was.
     pub fn loss(&self) -> Option<LossKind> {
-        self.inner.connect().loss()
+        self.inner.loss()
     }
 }
 
 impl<'a, R: Net + Wait + Clock + Eprint> Fetcher for OverTcp<'a, R> {
     ghost use Rattle.std.specs.Prelude.{Bool};
-    ghost use Rattle.http_fetcher.specs.Meanings.{MayAnswer, MayRule};
 
     type Body = Body;
 
@@ -88,16 +119,37 @@ impl<'a, R: Net + Wait + Clock + Eprint> Fetcher for OverTcp<'a, R> {
 
     ghost log = { λ f. f.asks };
 
-    fn ask(&mut self, at: &Address) -> Result<Answer<Body>, AllocError> {
-        self.inner.ask(at)
+    fn ask(&mut self, at: &Address) -> Result<Answer<Body>, AllocError>
+        ensures site { self.new.robots ≡ self.old.robots }
+        ensures told { IfOk result (λ a. MayAnswer self.old.robots at.now a.outcome a.body) }
+        ensures asked { OnOk result (self.new.asks ≡ self.old.asks ++ ask.Page at.now ∷ []) }
+        ensures refused { OnErr result (GainedAtMost self.old.asks self.new.asks (ask.Page at.now)) }
+        // The network is asked once, or again where that is worth it; what is told last is the answer.
+        ensures once { self.old.retries.most ≡ 0 → OnOk result (self.new.single.asks ≡ self.old.single.asks ++ ask.Page at.now ∷ []) }
+        ensures tries { 0 < self.old.retries.most → IfOk result (λ a. (t : Told) × (a.outcome ≡ outcome_told self.old.robots at.now t) × (a.body ≡ body_told t)
+            × IsLastOf (λ f. f.asks) (λ f t. MayAnswer f.robots at.now (outcome_told f.robots at.now t) (body_told t)) (is_worth self.old.retries) (ask.Page at.now) self.old.retries.most self.old.single self.new.single t) }
+        ensures retries { self.new.retries ≡ self.old.retries }
+    {
+        self.asks.push(Ask::Page(at.try_clone()?))?;
+        retries::ask(self.alloc, &mut self.inner, &self.retries, at)
     }
 
-    fn ask_robots(&mut self, of: &Origin) -> Result<RuleSet, AllocError> {
-        self.inner.ask_robots(of)
+    fn ask_robots(&mut self, of: &Origin) -> Result<RuleSet, AllocError>
+        ensures site { self.new.robots ≡ self.old.robots }
+        ensures told { IfOk result (λ r. MayRule self.old.robots of.now r) }
+        ensures asked { OnOk result (self.new.asks ≡ self.old.asks ++ ask.Rules of.now ∷ []) }
+        ensures refused { OnErr result (GainedAtMost self.old.asks self.new.asks (ask.Rules of.now)) }
+        ensures once { self.old.retries.most ≡ 0 → OnOk result (self.new.single.asks ≡ self.old.single.asks ++ ask.Rules of.now ∷ []) }
+        ensures tries { 0 < self.old.retries.most → IfOk result (λ r. (found : ChainValue) × (r ≡ rules_of_hops found.hops)
+            × IsLastOf (λ f. f.asks) (λ f found. MayRule f.robots of.now (rules_of_hops found.hops)) (λ found. is_worth_hops self.old.retries found.hops) (ask.Rules of.now) self.old.retries.most self.old.single self.new.single found) }
+        ensures retries { self.new.retries ≡ self.old.retries }
+    {
+        self.asks.push(Ask::Rules(of.try_clone()?))?;
+        retries::ask_robots(self.alloc, &mut self.inner, &self.retries, of)
     }
 
     fn asks(&self) -> &[Ask] {
-        self.inner.asks()
+        self.asks.as_slice()
     }
 }
 
@@ -108,11 +160,32 @@ impl<'a, R: Net + Wait + Clock + Eprint> Telling for OverTcp<'a, R> {
         self.inner.honours_robots()
     }
 
-    fn ask_told(&mut self, at: &Address) -> Result<Told, AllocError> {
-        self.inner.ask_told(at)
+    fn ask_told(&mut self, at: &Address) -> Result<Told, AllocError>
+        ensures site { self.new.robots ≡ self.old.robots }
+        ensures honours { self.new.robots ≡ self.old.robots }
+        ensures told { IfOk result (λ t. MayAnswer self.old.robots at.now (outcome_told self.old.robots at.now t) (body_told t)) }
+        ensures asked { OnOk result (self.new.asks ≡ self.old.asks ++ ask.Page at.now ∷ []) }
+        ensures refused { OnErr result (GainedAtMost self.old.asks self.new.asks (ask.Page at.now)) }
+        ensures tries { IfOk result (λ t. IsLastOf (λ f. f.asks) (λ f t. MayAnswer f.robots at.now (outcome_told f.robots at.now t) (body_told t))
+            (is_worth self.old.retries) (ask.Page at.now) self.old.retries.most self.old.single self.new.single t) }
+        ensures retries { self.new.retries ≡ self.old.retries }
+    {
+        self.asks.push(Ask::Page(at.try_clone()?))?;
+        retries::tell(&mut self.inner, &self.retries, at)
     }
 
-    fn ask_hops(&mut self, of: &Origin) -> Result<Hops, AllocError> {
-        self.inner.ask_hops(of)
+    fn ask_hops(&mut self, of: &Origin) -> Result<Hops, AllocError>
+        ensures site { self.new.robots ≡ self.old.robots }
+        ensures honours { self.new.robots ≡ self.old.robots }
+        ensures of { IfOk result (λ found. found.of ≡ of.now) }
+        ensures told { IfOk result (λ found. MayRule self.old.robots of.now (rules_of_hops found.hops)) }
+        ensures asked { OnOk result (self.new.asks ≡ self.old.asks ++ ask.Rules of.now ∷ []) }
+        ensures refused { OnErr result (GainedAtMost self.old.asks self.new.asks (ask.Rules of.now)) }
+        ensures tries { IfOk result (λ found. IsLastOf (λ f. f.asks) (λ f found. MayRule f.robots of.now (rules_of_hops found.hops))
+            (λ found. is_worth_hops self.old.retries found.hops) (ask.Rules of.now) self.old.retries.most self.old.single self.new.single found) }
+        ensures retries { self.new.retries ≡ self.old.retries }
+    {
+        self.asks.push(Ask::Rules(of.try_clone()?))?;
+        retries::tell_hops(&mut self.inner, &self.retries, of)
     }
 }

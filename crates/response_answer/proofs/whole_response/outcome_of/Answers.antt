@@ -10,7 +10,7 @@ pub outcome-requires : goal.outcome-requires
 outcome-requires c =
     let head = (response_parts c.args.response.now).head in
     let began = subst (λ (h : HeadParts). IsStageOf h [] c.in_ok-stage.stage) c.head_of.ensures c.in_ok-stage.ensures in
-    stage_has_head _ _ _ (c.in_ok-take.ensures head [] began)
+    stage_has_head head _ _ (c.in_ok-take.ensures head [] began)
 
 pub returns : goal.returns
 returns c =

@@ -1,5 +1,5 @@
-use Rattle.std.proofs.Common.{ap}
+-- What is told is what the fetcher that asks once is told last.
 use Rattle.tcp_fetcher.proofs.over_tcp.OverTcpTelling.ask_told.Goals as goal
 
-pub returns-clause-told : goal.returns-clause-told
-returns-clause-told g c = rw (← ap (λ f. f.robots) c.self.view_is) c.ask_told.ensures.may
+pub returns-clause-tries : goal.returns-clause-tries
+returns-clause-tries g c = rw (← c.self.view_is) c.tell.ensures.tries

@@ -1,0 +1,5 @@
+-- What is answered is what the fetcher that asks once is told last.
+use Rattle.tcp_fetcher.proofs.over_tcp.OverTcpFetcher.ask_robots.Goals as goal
+
+pub returns-clause-tries : goal.returns-clause-tries
+returns-clause-tries g c = rw (← c.self.view_is) c.ask_robots.ensures.tries
