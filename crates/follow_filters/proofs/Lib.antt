@@ -11,3 +11,4 @@ pub mod ClassLemmas
 pub mod PlanLemmas
 pub mod NumberLemmas
 pub mod ListLemmas
+pub mod StartLaws

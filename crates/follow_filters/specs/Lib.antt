@@ -13,3 +13,4 @@ pub mod Plans
 pub mod KeptNames
 pub mod Rules
 pub mod Levels
+pub mod inner

@@ -1,6 +1,6 @@
 //! Which edges a plan lets be followed (GNU Wget manual, chapter Following Links).
-ghost use Rattle.std.specs.Prelude.{◌≡◌, ◌||◌, not, ℕ, List, nat_eq};
-ghost use Rattle.std.specs.List.{starts_with, list_any};
+ghost use Rattle.std.specs.Prelude.{◌≡◌, ◌||◌, not, ℕ, List};
+ghost use Rattle.std.specs.List.{list_any};
 ghost use Rattle.follow_filters.specs.Domains.{is_in_domain};
 ghost use Rattle.follow_filters.specs.Directories.{is_in_directory};
 ghost use Rattle.follow_filters.specs.Patterns.{is_file_match};
@@ -13,15 +13,9 @@ use crate::kept_name::KeptName;
 use crate::pattern::Pattern;
 use crate::plan::Plan;
 use crate::rule::{RULES, Rule};
+use crate::starts::{has_host_of, is_below};
 use address::Address;
 use fetcher::EdgeKind;
-
-// Whether the text begins with the front.
-fn begins(text: &str, front: &str) -> bool
-    ensures { result ≡ starts_with nat_eq text.now front.now }
-{
-    text.as_bytes().starts_with(front.as_bytes())
-}
 
 // Whether a file name meets the accept and reject lists in any case.
 fn is_exempt(file: &str) -> bool
@@ -58,42 +52,8 @@ fn matches_some(patterns: &Elements<Pattern>, file: &str, ignores_case: bool) ->
         .any(|pattern| pattern.matches(file, ignores_case))
 }
 
-ghost use Rattle.follow_filters.specs.Rules.{has_host_of, is_below, names_some};
+ghost use Rattle.follow_filters.specs.Rules.{has_host_of, names_some};
 ghost use Rattle.follow_filters.specs.KeptNames.{text_of_name};
-
-// Whether the addresses have one host.
-fn has_host_of(address: &Address, other: &Address) -> bool
-    ensures { result ≡ has_host_of address.now other.now }
-{
-    address.host() == other.host()
-}
-
-// Whether the address is on the start's host, and its directory is the start's or below it.
-fn is_below(address: &Address, start: &Address) -> bool
-    ensures { result ≡ is_below address.now start.now }
-{
-    has_host_of(address, start) && begins(address.dir(), start.dir())
-}
-
-// Whether a start of the list has the address's host.
-fn has_host_of_some(starts: &Elements<Address>, address: &Address) -> bool
-    ensures { result ≡ list_any (λ start. has_host_of address.now start) starts.now }
-{
-    starts
-        .as_slice()
-        .iter()
-        .any(|start| has_host_of(address, start))
-}
-
-// Whether the address is below a start of the list on its host.
-fn is_below_some(starts: &Elements<Address>, address: &Address) -> bool
-    ensures { result ≡ list_any (λ start. is_below address.now start) starts.now }
-{
-    starts
-        .as_slice()
-        .iter()
-        .any(|start| is_below(address, start))
-}
 
 // Whether a pattern of the list matches the name, with its query or without.
 fn names_some(patterns: &Elements<Pattern>, name: KeptName<'_>, ignores_case: bool) -> bool
@@ -115,14 +75,14 @@ impl Plan {
     fn has_start_host(&self, address: &Address) -> bool
         ensures { result ≡ has_start_host self.now address.now }
     {
-        has_host_of(address, &self.start) || has_host_of_some(&self.others, address)
+        has_host_of(address, &self.start) || self.others.has_host_of(address)
     }
 
     // Whether the address is below a start of its host.
     fn is_below_start(&self, address: &Address) -> bool
         ensures { result ≡ is_below_start self.now address.now }
     {
-        is_below(address, &self.start) || is_below_some(&self.others, address)
+        is_below(address, &self.start) || self.others.has_above(address)
     }
 
     // Whether the page's edge of the kind shows its target, or redirects from a page on no start's host.

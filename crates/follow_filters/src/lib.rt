@@ -10,6 +10,7 @@ pub use crate::lists::Element;
 pub use crate::pattern::Pattern;
 pub use crate::plan::{MAX_PER_HOST, MAX_URLS, Plan};
 pub use crate::rule::Rule;
+pub use crate::starts::Starts;
 
 mod class;
 mod directory;
@@ -26,4 +27,5 @@ mod pattern;
 mod plan;
 mod rule;
 mod spelling;
+mod starts;
 mod wildcards;

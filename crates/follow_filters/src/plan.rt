@@ -11,6 +11,7 @@ use crate::domain::Domain;
 use crate::elements::Elements;
 use crate::limit::Limit;
 use crate::pattern::Pattern;
+use crate::starts::Starts;
 use address::Address;
 use std::alloc::{AllocError, Global};
 
@@ -26,7 +27,7 @@ pub struct Plan {
     /// Where the retrieval starts. It isn't a robots file.
     pub start: Address,
     /// Where it starts besides, in any order; none is a robots file. One that stands twice counts once.
-    pub others: Elements<Address>,
+    pub others: Starts,
     /// How many hops are followed, at most 1,000,000 or without limit.
     pub limit: Limit,
     /// Whether edges are followed to hosts other than their page's.
@@ -85,7 +86,7 @@ impl Plan {
     {
         Plan {
             start,
-            others: Elements::none(alloc),
+            others: Starts::none(alloc),
             limit,
             span_hosts: false,
             no_parent: false,
@@ -110,7 +111,7 @@ impl Plan {
     {
         Ok(Plan {
             start: self.start.try_clone()?,
-            others: self.others.clone()?,
+            others: self.others.try_clone()?,
             limit: self.limit,
             span_hosts: self.span_hosts,
             no_parent: self.no_parent,

@@ -9,6 +9,7 @@ mod output;
 mod part_threads;
 mod shared_failures;
 mod stand_ins;
+mod start_file;
 
 pub use crate::asking::Asking;
 pub use crate::disk::{Disk, Saved};
@@ -17,4 +18,5 @@ pub use crate::output::Output;
 pub use crate::part_threads::PartThreads;
 pub use crate::shared_failures::SharedFailures;
 pub use crate::stand_ins::StandIns;
+pub use crate::start_file::starts_of;
 pub use tcp_fetcher::OverTcp;

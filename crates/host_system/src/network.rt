@@ -3,8 +3,7 @@ use crate::asking::Asking;
 use crate::disk::{Disk, Saved};
 use crate::part_threads::PartThreads;
 use crate::shared_failures::SharedFailures;
-use address::Origin;
-use live_system::{HoldFault, System};
+use live_system::{FetcherSettings, HoldFault, System};
 use local_tree::DiskFolder;
 use progress::Progress;
 use record_journal::{HoldFault as Held, Journaled, Pen, SavedFile, Saving};
@@ -63,7 +62,7 @@ where
     R::File: Close + Lock + Send + Sync,
     R::Stream: Send,
 {
-    ghost use Rattle.std.specs.Prelude.{◌≡◌, ⊤, is_some};
+    ghost use Rattle.std.specs.Prelude.{◌≡◌, ⊤, Some, is_some};
     ghost use Rattle.local_tree.specs.Folders.{opened_at};
 
     type Fetcher = Asking<'a, R>;
@@ -72,7 +71,7 @@ where
 
     type Record = Saved<'a, R>;
 
-    ghost makes = { λ network robots is_recording kept fetcher. (fetcher.inner.inner.robots ≡ robots) × (fetcher.inner.inner.keeps ≡ is_some kept) × (fetcher.inner.inner.most ≡ kept) × (fetcher.inner.is_recording ≡ is_recording) };
+    ghost makes = { λ network settings fetcher. (fetcher.inner.inner.robots ≡ settings.robots) × (fetcher.inner.inner.keeps ≡ is_some settings.kept) × (fetcher.inner.inner.most ≡ settings.kept) × (fetcher.inner.inner.sends ≡ Some settings.sends) × (fetcher.inner.inner.retries ≡ settings.retries) × (fetcher.inner.is_recording ≡ settings.is_recording) };
 
     ghost opens = { λ network path folder. folder.inner ≡ opened_at path };
 
@@ -80,13 +79,16 @@ where
 
     ghost names = { λ network path saved. ⊤ };
 
-    fn fetcher(
-        &self,
-        robots: bool,
-        is_recording: bool,
-        kept: Option<u32>,
-        proxy: Option<Origin>,
-    ) -> Asking<'a, R> {
+    fn fetcher(&self, settings: FetcherSettings) -> Asking<'a, R> {
+        let FetcherSettings {
+            robots,
+            is_recording,
+            kept,
+            proxy,
+            sends,
+            manner,
+            retries,
+        } = settings;
         let fetcher = OverTcp::new(
             self.rt,
             self.alloc,
@@ -96,6 +98,9 @@ where
             robots,
             kept,
             proxy,
+            sends,
+            manner,
+            retries,
         );
         let pen = Pen::new(self.rt, self.saving);
         Asking {

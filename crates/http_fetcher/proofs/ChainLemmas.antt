@@ -17,10 +17,10 @@ use Rattle.http_fetcher.specs.Fetching.{Fetching, IsGiven, IsToldByTries}
 
 -- what was told over a connection is given, by a fetcher with the settings of another
 pub given_by : {C W : Type 0} (connects : Connects C W) (wires : Wires W) (first old new : Fetching C) (at : AddressText) (answer : Answer BodyValue)
-    → old.robots ≡ first.robots → old.keeps ≡ first.keeps → IsToldByTries connects wires old new at answer
+    → old.robots ≡ first.robots → old.keeps ≡ first.keeps → old.sends ≡ first.sends → IsToldByTries connects wires old new at answer
     → IsGiven connects wires first at answer.outcome answer.body
-given_by connects wires first old new at answer robots keeps told =
-    (old.connect, new.connect, rw (sym robots, sym keeps) told)
+given_by connects wires first old new at answer robots keeps sends told =
+    (old.connect, new.connect, rw (sym robots, sym keeps, sym sends) told)
 
 -- what an answer says of the hop that it was read as
 pub says_of : (x : Outcome) (body : List ℕ) (n : ℕ) (hop read : Hop) → hop ≡ read → SaysHop x body n hop → SaysHop x body n read

@@ -20,8 +20,8 @@ if_ok_on (Ok a) X P Q x p step = step x a p
 if_ok_on (Err e) X P Q x p step = tt
 
 -- a fetcher with the same settings asks the same question
-same_question : {C : Type 0} (old mid : Fetching C) (at : AddressText) → mid.robots ≡ old.robots → mid.keeps ≡ old.keeps → question_of mid at ≡ question_of old at
-same_question old mid at robots keeps i = record { at = at; robots = robots i; keeps = keeps i }
+same_question : {C : Type 0} (old mid : Fetching C) (at : AddressText) → mid.robots ≡ old.robots → mid.keeps ≡ old.keeps → mid.sends ≡ old.sends → question_of mid at ≡ question_of old at
+same_question old mid at robots keeps sends i = record { at = at; robots = robots i; keeps = keeps i; sends = sends i }
 
 module _ {C W : Type 0} (connects : Connects C W) (wires : Wires W) where
   -- a wire that stands behind a question stood before, or was left by it
@@ -38,11 +38,11 @@ module _ {C W : Type 0} (connects : Connects C W) (wires : Wires W) where
 
   -- an answer over a new connection, where before it none was taken, or one over which no byte came
   pub told_second : (old mid new : Fetching C) (at : AddressText) (answer : Answer BodyValue) → connects.made mid.connect ≡ connects.made old.connect
-      → connects.refused mid.connect ≡ connects.refused old.connect → mid.robots ≡ old.robots → mid.keeps ≡ old.keeps
+      → connects.refused mid.connect ≡ connects.refused old.connect → mid.robots ≡ old.robots → mid.keeps ≡ old.keeps → mid.sends ≡ old.sends
       → Stays (connects.gives old.connect) (connects.gives mid.connect) → IsUntold connects wires old mid at
       → connects.taken new.connect ≡ connects.taken mid.connect → connects.made new.connect ≡ counted (connects.made mid.connect) 1
       → IsToldAnew connects wires mid new at answer → IsToldByTries connects wires old new at answer
-  told_second old mid new at answer made-is refused-is robots-is keeps-is stays silent taken-is one told =
+  told_second old mid new at answer made-is refused-is robots-is keeps-is sends-is stays silent taken-is one told =
       inr (subst (λ n. connects.made new.connect ≡ counted n 1) made-is one, before silent, by told)
     where
       before : IsUntold connects wires old mid at → IsUntold connects wires old new at
@@ -52,24 +52,24 @@ module _ {C W : Type 0} (connects : Connects C W) (wires : Wires W) where
       by : IsToldAnew connects wires mid new at answer → IsToldAnew connects wires old new at answer
       by (inl unmade) = inl (subst (λ n. IsUnmade n (connects.refused new.connect) answer) refused-is unmade)
       by (inr t) =
-          inr (t.0, stays (origin_of at) t.0 t.1, subst (λ q. ComesOver wires q t.0 answer) (same_question old mid at robots-is keeps-is) t.2)
+          inr (t.0, stays (origin_of at) t.0 t.1, subst (λ q. ComesOver wires q t.0 answer) (same_question old mid at robots-is keeps-is sends-is) t.2)
 
   -- what stands behind one question more
-  pub stands_more : (old mid new : Fetching C) (at : AddressText) → mid.robots ≡ old.robots → mid.keeps ≡ old.keeps
+  pub stands_more : (old mid new : Fetching C) (at : AddressText) → mid.robots ≡ old.robots → mid.keeps ≡ old.keeps → mid.sends ≡ old.sends
       → StandsBehind connects wires old mid → StandsBy connects wires mid new at → StandsBehind connects wires old new
-  stands_more old mid new at robots keeps before by of wire stands = go (by of wire stands)
+  stands_more old mid new at robots keeps sends before by of wire stands = go (by of wire stands)
     where
       go : connects.stands mid.connect of wire ⊎ IsKeptAfter connects wires (question_of mid at) of wire
           → connects.stands old.connect of wire ⊎ ((at : AddressText) × IsKeptAfter connects wires (question_of old at) of wire)
       go (inl stood) = before of wire stood
-      go (inr kept) = inr (at, subst (λ q. IsKeptAfter connects wires q of wire) (same_question old mid at robots keeps) kept)
+      go (inr kept) = inr (at, subst (λ q. IsKeptAfter connects wires q of wire) (same_question old mid at robots keeps sends) kept)
 
   -- what stands behind the same question put twice
-  pub stands_twice : (old mid new : Fetching C) (at : AddressText) → mid.robots ≡ old.robots → mid.keeps ≡ old.keeps
+  pub stands_twice : (old mid new : Fetching C) (at : AddressText) → mid.robots ≡ old.robots → mid.keeps ≡ old.keeps → mid.sends ≡ old.sends
       → StandsBy connects wires old mid at → StandsBy connects wires mid new at → StandsBy connects wires old new at
-  stands_twice old mid new at robots keeps before by of wire stands = go (by of wire stands)
+  stands_twice old mid new at robots keeps sends before by of wire stands = go (by of wire stands)
     where
       go : connects.stands mid.connect of wire ⊎ IsKeptAfter connects wires (question_of mid at) of wire
           → connects.stands old.connect of wire ⊎ IsKeptAfter connects wires (question_of old at) of wire
       go (inl stood) = before of wire stood
-      go (inr kept) = inr (subst (λ q. IsKeptAfter connects wires q of wire) (same_question old mid at robots keeps) kept)
+      go (inr kept) = inr (subst (λ q. IsKeptAfter connects wires q of wire) (same_question old mid at robots keeps sends) kept)

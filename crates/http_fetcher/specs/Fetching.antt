@@ -1,9 +1,10 @@
 -- What contracts see of a fetcher that asks over connections, and how its answers come.
-use Rattle.std.specs.Prelude.{◌≡◌, ◌⊎◌, ◌==◌, ℕ, Bool, true, false, List, [], Some}
+use Rattle.std.specs.Prelude.{◌≡◌, ◌⊎◌, ◌==◌, ℕ, Bool, true, false, List, [], Option, Some, None}
 use Rattle.std.specs.Io.KnownBytes.{Appends, IsAtEnd, Keeps}
 use Rattle.address.specs.Address.{AddressText, OriginText, origin_of}
 use Rattle.response_reader.specs.Wire.{HasRisen, IsLostInTime, OfBytes, counted}
 use Rattle.response_reader.specs.Request.{request_text, kept_request_text}
+use Rattle.requests.specs.Requests.{Sending, request_of}
 use Rattle.response_reader.specs.Reusable.{Reusable}
 use Rattle.response_reader.specs.Response.{ResponseParts, BeginsWithResponse}
 use Rattle.response_reader.specs.ReadFaults.{IsReadFault}
@@ -24,24 +25,27 @@ use Rattle.response_answer.specs.Digests.{digest_of, body_of}
 use Rattle.response_answer.specs.KindsOfFaults.{kind_of_fault}
 use Rattle.connect.specs.declared.connect.Connect.{Ghosts as Connects}
 
--- what makes its connections, whether robots rules are honoured and connections are kept, what was asked, whether notes are taken, and these
+-- what makes its connections, whether robots rules are honoured and connections are kept, what it sends besides the usual, what was asked,
+-- whether notes are taken, and these
 pub record Fetching (C : Type 0) : Type 0 where
   pub connect : C
   pub robots : Bool
   pub keeps : Bool
+  pub sends : Option Sending
   pub asks : List Ask
   pub is_recording : Bool
   pub notes : List Noted
 
--- an address that is asked for, whether robots rules are honoured, and whether the connection is to be kept
+-- an address that is asked for, whether robots rules are honoured, whether the connection is to be kept, and what is sent
 pub record Question : Type 0 where
   pub at : AddressText
   pub robots : Bool
   pub keeps : Bool
+  pub sends : Option Sending
 
 -- the question by which such a fetcher asks for an address
 abbrev pub question_of : {C : Type 0} → Fetching C → AddressText → Question
-question_of fetcher at = record { at = at; robots = fetcher.robots; keeps = fetcher.keeps }
+question_of fetcher at = record { at = at; robots = fetcher.robots; keeps = fetcher.keeps; sends = fetcher.sends }
 
 -- what was told of an address, as an answer
 abbrev pub answer_told : Bool → AddressText → Told → Answer BodyValue
@@ -86,16 +90,21 @@ is_given_up (Moved status target) = false
 is_given_up (Leaf status) = status == 408
 is_given_up (Fault kind) = false
 
--- the request for an address, which asks to close the connection unless it is kept
-abbrev pub request_by : Bool → AddressText → List ℕ
-request_by true at = kept_request_text at
-request_by false at = request_text at
+-- the request for an address with the usual fields, which asks to close the connection unless it is kept
+abbrev pub usual_request : Bool → AddressText → List ℕ
+usual_request true at = kept_request_text at
+usual_request false at = request_text at
+
+-- the request for an address: the usual one, or one with what is sent in its place, whose secret lines go to origins of starts alone
+abbrev pub request_by : Option Sending → Bool → AddressText → List ℕ
+request_by None keeps at = usual_request keeps at
+request_by (Some sending) keeps at = request_of sending keeps at
 
 module _ {W : Type 0} (wires : Wires W) where
   -- over a wire the request was written, and nothing was read
   abbrev pub IsAsked : Question → W → W → Type 0
   IsAsked question given asked =
-      Appends (wires.outgoing given) (wires.outgoing asked) (request_by question.keeps question.at) × Keeps (wires.incoming given) (wires.incoming asked)
+      Appends (wires.outgoing given) (wires.outgoing asked) (request_by question.sends question.keeps question.at) × Keeps (wires.incoming given) (wires.incoming asked)
 
   -- the answer came over a wire: its request was written and nothing behind it, and the answer is what the wire then told
   abbrev pub ComesOver : Question → W → Answer BodyValue → Type 0

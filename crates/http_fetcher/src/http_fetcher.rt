@@ -1,5 +1,5 @@
 //! A fetcher that asks over connections, a new one for each question or one that served before (RFC 9112, sections 9.3 and 9.6).
-ghost use Rattle.std.specs.Prelude.{◌≡◌, ◌⊎◌, ◌≤◌, ◌+◌, ℕ, Bool, List, [], ◌∷◌, ◌++◌, true, false, length, IsTrue, Some, IfOk, IfSome, IfNone, OnOk, OnErr, MatchBool, codes};
+ghost use Rattle.std.specs.Prelude.{◌≡◌, ◌⊎◌, ◌≤◌, ◌+◌, ℕ, Bool, List, [], ◌∷◌, ◌++◌, true, false, length, IsTrue, None, Some, IfOk, IfSome, IfNone, OnOk, OnErr, MatchBool, codes};
 ghost use Rattle.std.specs.Io.KnownBytes.{Appends, IsAtEnd, Keeps};
 ghost use Rattle.response_reader.specs.Wire.{counted, HasRisen, OfBytes, IsLostInTime};
 ghost use Rattle.response_reader.specs.Reusable.{Reusable};
@@ -17,7 +17,7 @@ ghost use Rattle.answer_notes.specs.declared.told.Told.TheVariants as told;
 ghost use Rattle.fetcher.specs.declared.outcome.Outcome.TheVariants as outcome;
 ghost use Rattle.http_fetcher.specs.Chains.{CountsHops, IsChain};
 ghost use Rattle.connect.specs.Connects.{Stays};
-ghost use Rattle.http_fetcher.specs.Fetching.{AnswersBytes, ComesOver, IsGiven, IsToldAgain, IsToldAnew, IsToldByTries, IsUnansweredOn, IsUntold, LeavesUsable, StandsBehind, StandsBy, StandsForOne, answer_told, is_given_up, question_of, request_by};
+ghost use Rattle.http_fetcher.specs.Fetching.{AnswersBytes, ComesOver, IsGiven, IsToldAgain, IsToldAnew, IsToldByTries, IsUnansweredOn, IsUntold, LeavesUsable, StandsBehind, StandsBy, StandsForOne, answer_told, is_given_up, question_of, request_by, usual_request};
 ghost use Rattle.http_fetcher.specs.Notes.{NotesPage, NotesChain};
 ghost use Rattle.http_fetcher.specs.Meanings.{MayAnswer, MayRule};
 
@@ -27,6 +27,7 @@ use answer_notes::{Given, Hops, MAX_REDIRECTS, Noted, Recording, Telling, Told};
 use connect::{Connect, ConnectFault};
 use fetcher::{Answer, Ask, Body, FaultKind, Fetcher, Outcome};
 use kept_bodies::Keeper;
+use requests::Sending;
 use response_answer::{PageSink, kind_of_fault};
 use response_reader::{
     ReadFault, Reply, RequestFault, Room, Wire, read_if_any, read_into, read_reply,
@@ -44,6 +45,8 @@ pub struct HttpFetcher<C: Connect> {
     connect: C,
     robots: bool,
     keeps: bool,
+    // What is sent in place of the usual fields.
+    sends: Option<Sending>,
     asks: Vec<Ask>,
     is_recording: bool,
     notes: Vec<Noted>,
@@ -59,6 +62,7 @@ impl<C: Connect> Drop for HttpFetcher<C> {
             connect: _connect,
             robots: _robots,
             keeps: _keeps,
+            sends: _sends,
             asks: _asks,
             is_recording: _is_recording,
             notes: _notes,
@@ -72,7 +76,7 @@ impl<C: Connect> Model for HttpFetcher<C> {
 
     ghost Value = { Fetching C };
 
-    ghost view = { λ f. record { connect = f.connect; robots = f.robots; keeps = f.keeps; asks = f.asks.items; is_recording = f.is_recording; notes = f.notes.items } };
+    ghost view = { λ f. record { connect = f.connect; robots = f.robots; keeps = f.keeps; sends = f.sends; asks = f.asks.items; is_recording = f.is_recording; notes = f.notes.items } };
 }
 
 /// The status of a server that had given up waiting for the request (RFC 9110, section 15.5.9).
@@ -123,6 +127,7 @@ impl<C: Connect> HttpFetcher<C> {
         ensures connect { result.connect ≡ connect }
         ensures robots { result.robots ≡ robots }
         ensures keeps { result.keeps ≡ false }
+        ensures sends { result.sends ≡ None }
         ensures asks { result.asks ≡ [] }
         ensures is_recording { result.is_recording ≡ false }
         ensures notes { result.notes ≡ [] }
@@ -132,6 +137,7 @@ impl<C: Connect> HttpFetcher<C> {
             connect,
             robots,
             keeps: false,
+            sends: None,
             asks: Vec::new(alloc),
             is_recording: false,
             notes: Vec::new(alloc),
@@ -144,6 +150,7 @@ impl<C: Connect> HttpFetcher<C> {
         ensures connect { result.connect ≡ connect }
         ensures robots { result.robots ≡ robots }
         ensures keeps { result.keeps ≡ false }
+        ensures sends { result.sends ≡ None }
         ensures asks { result.asks ≡ [] }
         ensures is_recording { result.is_recording ≡ true }
         ensures notes { result.notes ≡ [] }
@@ -153,6 +160,7 @@ impl<C: Connect> HttpFetcher<C> {
             connect,
             robots,
             keeps: false,
+            sends: None,
             asks: Vec::new(alloc),
             is_recording: true,
             notes: Vec::new(alloc),
@@ -167,6 +175,7 @@ impl<C: Connect> HttpFetcher<C> {
         ensures connect { result.connect ≡ self.connect }
         ensures robots { result.robots ≡ self.robots }
         ensures keeps { result.keeps ≡ true }
+        ensures sends { result.sends ≡ self.sends }
         ensures asks { result.asks ≡ self.asks }
         ensures is_recording { result.is_recording ≡ self.is_recording }
         ensures notes { result.notes ≡ self.notes }
@@ -175,6 +184,7 @@ impl<C: Connect> HttpFetcher<C> {
             alloc,
             connect,
             robots,
+            sends,
             asks,
             is_recording,
             notes,
@@ -186,6 +196,41 @@ impl<C: Connect> HttpFetcher<C> {
             connect,
             robots,
             keeps: true,
+            sends,
+            asks,
+            is_recording,
+            notes,
+            room,
+        }
+    }
+
+    /// The same fetcher, which sends this in place of the usual fields.
+    pub fn sending(self, sends: Sending) -> HttpFetcher<C>
+        ensures connect { result.connect ≡ self.connect }
+        ensures robots { result.robots ≡ self.robots }
+        ensures keeps { result.keeps ≡ self.keeps }
+        ensures sends { result.sends ≡ Some sends }
+        ensures asks { result.asks ≡ self.asks }
+        ensures is_recording { result.is_recording ≡ self.is_recording }
+        ensures notes { result.notes ≡ self.notes }
+    {
+        let HttpFetcher {
+            alloc,
+            connect,
+            robots,
+            keeps,
+            asks,
+            is_recording,
+            notes,
+            room,
+            sends: _sends,
+        } = self;
+        HttpFetcher {
+            alloc,
+            connect,
+            robots,
+            keeps,
+            sends: Some(sends),
             asks,
             is_recording,
             notes,
@@ -261,9 +306,9 @@ impl<C: Connect> HttpFetcher<C> {
         }
     }
 
-    // Writes the request, which asks to close the connection unless it is kept.
-    fn write(&self, wire: &mut C::Wire, at: &Address) -> Result<(), RequestFault>
-        ensures written { OnOk result (Appends (C.Wire.outgoing wire.old) (C.Wire.outgoing wire.new) (request_by self.now.keeps at.now)) }
+    // Writes the request with the usual fields, which asks to close the connection unless it is kept.
+    fn write_usual(&self, wire: &mut C::Wire, at: &Address) -> Result<(), RequestFault>
+        ensures written { OnOk result (Appends (C.Wire.outgoing wire.old) (C.Wire.outgoing wire.new) (usual_request self.now.keeps at.now)) }
         ensures device { OnErr result (HasRisen (C.Wire.failed wire.old) (C.Wire.failed wire.new)) }
         ensures read { Keeps (C.Wire.incoming wire.old) (C.Wire.incoming wire.new) }
     {
@@ -274,13 +319,25 @@ impl<C: Connect> HttpFetcher<C> {
         }
     }
 
+    // Writes the request, which asks to close the connection unless it is kept.
+    fn write(&self, wire: &mut C::Wire, at: &Address) -> Result<(), RequestFault>
+        ensures written { OnOk result (Appends (C.Wire.outgoing wire.old) (C.Wire.outgoing wire.new) (request_by self.now.sends self.now.keeps at.now)) }
+        ensures device { OnErr result (HasRisen (C.Wire.failed wire.old) (C.Wire.failed wire.new)) }
+        ensures read { Keeps (C.Wire.incoming wire.old) (C.Wire.incoming wire.new) }
+    {
+        match &self.sends {
+            Some(sending) => requests::write_request(wire, sending, self.keeps, at),
+            None => self.write_usual(wire, at),
+        }
+    }
+
     // What is told over a new wire. The error is want of memory.
     fn told_over(&mut self, wire: &mut C::Wire, at: &Address) -> Result<Heard, AllocError>
         ensures same { self.new ≡ self.old }
         ensures told { IfOk result (λ h. ComesOver C.Wire.Wire (question_of self.old at.now) wire.old (answer_told self.old.robots at.now h.told)) }
         ensures serves { IfOk result (λ h. IsTrue h.serves → LeavesUsable C.Wire.Wire (question_of self.old at.now) wire.old wire.new) }
         // Nothing is written behind the request.
-        ensures sent { Appends (C.Wire.outgoing wire.old) (C.Wire.outgoing wire.new) (request_by self.old.keeps at.now)
+        ensures sent { Appends (C.Wire.outgoing wire.old) (C.Wire.outgoing wire.new) (request_by self.old.sends self.old.keeps at.now)
             ⊎ HasRisen (C.Wire.failed wire.old) (C.Wire.failed wire.new) }
     {
         match self.write(wire, at) {
@@ -312,6 +369,7 @@ impl<C: Connect> HttpFetcher<C> {
         ensures asks { self.new.asks ≡ self.old.asks }
         ensures robots { self.new.robots ≡ self.old.robots }
         ensures keeps { self.new.keeps ≡ self.old.keeps }
+        ensures sends { self.new.sends ≡ self.old.sends }
         ensures is_recording { self.new.is_recording ≡ self.old.is_recording }
         ensures notes { self.new.notes ≡ self.old.notes }
         ensures made { C.made self.new.connect ≡ C.made self.old.connect }
@@ -333,6 +391,7 @@ impl<C: Connect> HttpFetcher<C> {
         ensures asks { self.new.asks ≡ self.old.asks }
         ensures robots { self.new.robots ≡ self.old.robots }
         ensures keeps { self.new.keeps ≡ self.old.keeps }
+        ensures sends { self.new.sends ≡ self.old.sends }
         ensures is_recording { self.new.is_recording ≡ self.old.is_recording }
         ensures notes { self.new.notes ≡ self.old.notes }
         ensures one { OnOk result (C.made self.new.connect ≡ counted (C.made self.old.connect) 1) }
@@ -364,6 +423,7 @@ impl<C: Connect> HttpFetcher<C> {
         ensures asks { self.new.asks ≡ self.old.asks }
         ensures robots { self.new.robots ≡ self.old.robots }
         ensures keeps { self.new.keeps ≡ self.old.keeps }
+        ensures sends { self.new.sends ≡ self.old.sends }
         ensures is_recording { self.new.is_recording ≡ self.old.is_recording }
         ensures notes { self.new.notes ≡ self.old.notes }
         ensures made { C.made self.new.connect ≡ C.made self.old.connect }
@@ -404,6 +464,7 @@ impl<C: Connect> HttpFetcher<C> {
         ensures asks { self.new.asks ≡ self.old.asks }
         ensures robots { self.new.robots ≡ self.old.robots }
         ensures keeps { self.new.keeps ≡ self.old.keeps }
+        ensures sends { self.new.sends ≡ self.old.sends }
         ensures is_recording { self.new.is_recording ≡ self.old.is_recording }
         ensures notes { self.new.notes ≡ self.old.notes }
         ensures one { self.old.keeps ≡ false → OnOk result (C.made self.new.connect ≡ counted (C.made self.old.connect) 1) }
@@ -423,6 +484,7 @@ impl<C: Connect> HttpFetcher<C> {
         ensures asks { self.new.asks ≡ self.old.asks }
         ensures robots { self.new.robots ≡ self.old.robots }
         ensures keeps { self.new.keeps ≡ self.old.keeps }
+        ensures sends { self.new.sends ≡ self.old.sends }
         ensures is_recording { self.new.is_recording ≡ self.old.is_recording }
         ensures notes { self.new.notes ≡ self.old.notes }
         ensures one { self.old.keeps ≡ false → OnOk result (C.made self.new.connect ≡ counted (C.made self.old.connect) 1) }
@@ -440,6 +502,7 @@ impl<C: Connect> HttpFetcher<C> {
         ensures asks { self.new.asks ≡ self.old.asks }
         ensures robots { self.new.robots ≡ self.old.robots }
         ensures keeps { self.new.keeps ≡ self.old.keeps }
+        ensures sends { self.new.sends ≡ self.old.sends }
         ensures is_recording { self.new.is_recording ≡ self.old.is_recording }
         ensures one { self.old.keeps ≡ false → OnOk result (C.made self.new.connect ≡ counted (C.made self.old.connect) 1) }
         ensures most { C.made self.new.connect ≤ C.made self.old.connect + 1 }
@@ -461,6 +524,7 @@ impl<C: Connect> HttpFetcher<C> {
         ensures asks { self.new.asks ≡ self.old.asks }
         ensures robots { self.new.robots ≡ self.old.robots }
         ensures keeps { self.new.keeps ≡ self.old.keeps }
+        ensures sends { self.new.sends ≡ self.old.sends }
         ensures is_recording { self.new.is_recording ≡ self.old.is_recording }
         ensures notes { self.new.notes ≡ self.old.notes }
         ensures few { C.made self.new.connect ≤ C.made self.old.connect + (max_redirects + 1) }
@@ -497,6 +561,7 @@ impl<C: Connect> HttpFetcher<C> {
         ensures asks { self.new.asks ≡ self.old.asks }
         ensures robots { self.new.robots ≡ self.old.robots }
         ensures keeps { self.new.keeps ≡ self.old.keeps }
+        ensures sends { self.new.sends ≡ self.old.sends }
         ensures is_recording { self.new.is_recording ≡ self.old.is_recording }
         ensures few { C.made self.new.connect ≤ C.made self.old.connect + (max_redirects + 1) }
         ensures stands { StandsBehind C.Connect C.Wire.Wire self.old self.new }
@@ -650,6 +715,7 @@ impl<C: Connect> HttpFetcher<C> {
         ensures asks { self.new.asks ≡ self.old.asks }
         ensures robots { self.new.robots ≡ self.old.robots }
         ensures keeps { self.new.keeps ≡ self.old.keeps }
+        ensures sends { self.new.sends ≡ self.old.sends }
         ensures is_recording { self.new.is_recording ≡ self.old.is_recording }
         ensures notes { self.new.notes ≡ self.old.notes }
         ensures one { OnOk result (C.made self.new.connect ≡ counted (C.made self.old.connect) 1) }
@@ -686,6 +752,7 @@ impl<C: Connect> HttpFetcher<C> {
         ensures asks { self.new.asks ≡ self.old.asks }
         ensures robots { self.new.robots ≡ self.old.robots }
         ensures keeps { self.new.keeps ≡ self.old.keeps }
+        ensures sends { self.new.sends ≡ self.old.sends }
         ensures is_recording { self.new.is_recording ≡ self.old.is_recording }
         ensures notes { self.new.notes ≡ self.old.notes }
         ensures made { C.made self.new.connect ≡ C.made self.old.connect }
@@ -731,6 +798,7 @@ impl<C: Connect> HttpFetcher<C> {
         ensures asks { self.new.asks ≡ self.old.asks }
         ensures robots { self.new.robots ≡ self.old.robots }
         ensures keeps { self.new.keeps ≡ self.old.keeps }
+        ensures sends { self.new.sends ≡ self.old.sends }
         ensures is_recording { self.new.is_recording ≡ self.old.is_recording }
         ensures notes { self.new.notes ≡ self.old.notes }
         ensures one { self.old.keeps ≡ false → OnOk result (C.made self.new.connect ≡ counted (C.made self.old.connect) 1) }
@@ -759,6 +827,7 @@ impl<C: Connect> HttpFetcher<C> {
         ensures first { OnErr result ((C.made self.new.connect ≡ C.made self.old.connect) ⊎ (self.new.asks ≡ self.old.asks ++ ask.Page at.now ∷ [])) }
         ensures robots { self.new.robots ≡ self.old.robots }
         ensures keeps { self.new.keeps ≡ self.old.keeps }
+        ensures sends { self.new.sends ≡ self.old.sends }
         // The answer is what came over one connection behind its own request. Where none are kept, one is asked for.
         ensures one { self.old.keeps ≡ false → OnOk result (C.made self.new.connect ≡ counted (C.made self.old.connect) 1) }
         ensures most { C.made self.new.connect ≤ C.made self.old.connect + 1 }
@@ -797,6 +866,7 @@ impl<C: Connect> Fetcher for HttpFetcher<C> {
         ensures first { OnErr result ((C.made self.new.connect ≡ C.made self.old.connect) ⊎ (self.new.asks ≡ self.old.asks ++ ask.Page at.now ∷ [])) }
         ensures robots { self.new.robots ≡ self.old.robots }
         ensures keeps { self.new.keeps ≡ self.old.keeps }
+        ensures sends { self.new.sends ≡ self.old.sends }
         // The answer is what came over one connection behind its own request. Where none are kept, one is asked for.
         ensures one { self.old.keeps ≡ false → OnOk result (C.made self.new.connect ≡ counted (C.made self.old.connect) 1) }
         ensures most { C.made self.new.connect ≤ C.made self.old.connect + 1 }
@@ -822,6 +892,7 @@ impl<C: Connect> Fetcher for HttpFetcher<C> {
         ensures first { OnErr result ((C.made self.new.connect ≡ C.made self.old.connect) ⊎ (self.new.asks ≡ self.old.asks ++ ask.Rules of.now ∷ [])) }
         ensures robots { self.new.robots ≡ self.old.robots }
         ensures keeps { self.new.keeps ≡ self.old.keeps }
+        ensures sends { self.new.sends ≡ self.old.sends }
         // The rules are those at the end of the chain of redirects that begins at the origin's file, with a connection for each
         // of its answers.
         ensures few { C.made self.new.connect ≤ C.made self.old.connect + (max_redirects + 1) }
@@ -857,6 +928,7 @@ impl<C: Connect> Telling for HttpFetcher<C> {
         ensures first { OnErr result ((C.made self.new.connect ≡ C.made self.old.connect) ⊎ (self.new.asks ≡ self.old.asks ++ ask.Page at.now ∷ [])) }
         ensures honours { self.new.robots ≡ self.old.robots }
         ensures keeps { self.new.keeps ≡ self.old.keeps }
+        ensures sends { self.new.sends ≡ self.old.sends }
         // What is told came over one connection behind its own request. Where none are kept, one is asked for. Nothing is noted.
         ensures one { self.old.keeps ≡ false → OnOk result (C.made self.new.connect ≡ counted (C.made self.old.connect) 1) }
         ensures most { C.made self.new.connect ≤ C.made self.old.connect + 1 }
@@ -878,6 +950,7 @@ impl<C: Connect> Telling for HttpFetcher<C> {
         ensures first { OnErr result ((C.made self.new.connect ≡ C.made self.old.connect) ⊎ (self.new.asks ≡ self.old.asks ++ ask.Rules of.now ∷ [])) }
         ensures honours { self.new.robots ≡ self.old.robots }
         ensures keeps { self.new.keeps ≡ self.old.keeps }
+        ensures sends { self.new.sends ≡ self.old.sends }
         // The rules are those at the end of the chain of redirects that begins at the origin's file. Nothing is noted.
         ensures of { IfOk result (λ found. found.of ≡ of.now) }
         ensures few { C.made self.new.connect ≤ C.made self.old.connect + (max_redirects + 1) }

@@ -5,4 +5,4 @@
 
 mod system;
 
-pub use crate::system::{HoldFault, System};
+pub use crate::system::{FetcherSettings, HoldFault, System};

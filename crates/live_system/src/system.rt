@@ -1,11 +1,15 @@
 //! What a live run has of the system.
-ghost use Rattle.std.specs.Prelude.{◌≡◌, ℕ, Bool, List, Option, IfOk, Err, ⊤};
+ghost use Rattle.std.specs.Prelude.{◌≡◌, ℕ, List, IfOk, Err, ⊤};
+ghost use Rattle.live_system.specs.Settings.{Settings};
 
 use address::Origin;
 use answer_notes::Recording;
 use local_tree::Folder;
+use pacing::{Manner, Retries};
+use requests::Sending;
 use std::alloc::{AllocError, Global};
 use std::io::Write;
+use std::marker::Model;
 use std::sync::atomic::AtomicUsize;
 use streams::ReadFault;
 
@@ -16,6 +20,35 @@ pub enum HoldFault {
     Refused,
     /// Memory ran out.
     Memory,
+}
+
+/// How a worker's fetcher makes its requests.
+#[derive(Drop)]
+pub struct FetcherSettings {
+    /// Whether robots files are honoured: a page that says that its links aren't to be followed then has none.
+    pub robots: bool,
+    /// Whether answers are noted. If not, no memory is taken for notes.
+    pub is_recording: bool,
+    /// How many connections to a server are kept at most, if they are kept.
+    pub kept: Option<u32>,
+    /// The proxy to which requests for https addresses go. Without one none is made.
+    pub proxy: Option<Origin>,
+    /// What each request says besides its address.
+    pub sends: Sending,
+    /// How servers are treated.
+    pub manner: Manner,
+    /// When a request is made again.
+    pub retries: Retries,
+}
+
+// Contracts see what is said, and nothing of how it is kept.
+impl Model for FetcherSettings {
+    ghost use Rattle.live_system.specs.Settings.{Settings};
+    ghost use Rattle.pacing.specs.Retries.{retries_by};
+
+    ghost Value = { Settings };
+
+    ghost view = { λ s. record { robots = s.robots; is_recording = s.is_recording; kept = s.kept; proxy = s.proxy; sends = s.sends; manner = s.manner; retries = retries_by s.retries } };
 }
 
 /// Makes a live run's fetchers, its folder and its records.
@@ -29,9 +62,8 @@ pub trait System {
     /// What the record of a run is written into.
     type Record: Write + Drop;
 
-    // The fetchers that may be given where robots are honoured, or aren't, where answers are to be noted, or aren't, and where so
-    // many connections to a server may be kept, or none.
-    ghost makes: { Self → Bool → Bool → Option ℕ → Self.Fetcher → Type 0 };
+    // The fetchers that may be given for these settings.
+    ghost makes: { Self → Settings → Self.Fetcher → Type 0 };
 
     // The folders that may be given for a path.
     ghost opens: { Self → List ℕ → Self.Folder → Type 0 };
@@ -45,17 +77,9 @@ pub trait System {
     // The writers that may be given for a path.
     ghost names: { Self → List ℕ → Self.Record → Type 0 };
 
-    /// A fetcher for one more worker. Where robots are honoured, a page that asks that its links aren't followed has none. Where
-    /// answers aren't to be noted, no memory is taken for notes. Connections are kept where it is said how many to a server may
-    /// stand at a time. For https addresses the proxy is asked, and without one none is.
-    fn fetcher(
-        &self,
-        robots: bool,
-        is_recording: bool,
-        kept: Option<u32>,
-        proxy: Option<Origin>,
-    ) -> Self::Fetcher
-        ensures { makes self.now robots is_recording kept result };
+    /// A fetcher for one more worker, with these settings.
+    fn fetcher(&self, settings: FetcherSettings) -> Self::Fetcher
+        ensures { makes self.now settings result };
 
     /// The folder at a path. Nothing is made there before the first put. The error is that memory is wanting.
     fn folder(&self, path: &str) -> Result<Self::Folder, AllocError>

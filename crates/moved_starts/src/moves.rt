@@ -239,18 +239,11 @@ fn push_start(
     push_end(alloc, text, plan, start, end, outcome_in(records, end))
 }
 
-// Whether an address is one of these.
-fn is_among(address: &Address, list: &[Address]) -> bool
-    ensures { result ≡ list_any (λ one. bytes_eq address.now one) list.now }
-{
-    list.iter().any(|one| *address == *one)
-}
-
 // Whether an address is a start of the plan.
 fn is_start(plan: &Plan, address: &Address) -> bool
     ensures { result ≡ list_any (λ one. bytes_eq address.now one) (starts plan.now) }
 {
-    *address == plan.start || is_among(address, plan.others.as_slice())
+    *address == plan.start || plan.others.has(address)
 }
 
 // Whether the outcome redirects, whether or not to an address.

@@ -1,6 +1,7 @@
 pub mod StandardFacts
 pub mod LineLemmas
 pub mod ReadLemmas
+pub mod MannerLemmas
 pub mod NamingLemmas
 pub mod HintLemmas
 pub mod TextLemmas

@@ -1,6 +1,6 @@
 -- The order of what is found for each option, stage by stage.
-use Rattle.std.proofs.Common.{◌≡◌, ◌≢◌, subst, ◌⊎◌, ◌∙◌, ℕ, true, false, List, [], ◌∷◌, Some, None, if◌then◌else◌, refl, sym, ap, inl, inr, ⊎_elim, Option}
-use Rattle.std.specs.Prelude.{Result, Ok, Err, MatchResult}
+use Rattle.std.proofs.Common.{◌≡◌, ◌≢◌, subst, ◌⊎◌, ◌∙◌, ℕ, Bool, true, false, List, [], ◌∷◌, Some, None, if◌then◌else◌, refl, sym, ap, inl, inr, ⊎_elim, Option}
+use Rattle.std.specs.Prelude.{Result, Ok, Err, MatchResult, codes}
 use Rattle.clap.specs.Walk.{Row, Text}
 use Rattle.clap.specs.Words.{IsAmong}
 use Rattle.clap.specs.declared.error.ErrorKind.{ErrorKind}
@@ -14,10 +14,15 @@ use Rattle.options.specs.declared.fault.LineFault.{LineFault}
 use Rattle.options.specs.declared.fault.LineFault.TheVariants as fault
 use Rattle.options.specs.Line.{rows, refusals}
 use Rattle.follow_filters.specs.declared.limit.Limit.{Limit}
-use Rattle.options.specs.Given.{level_of}
+use Rattle.options.specs.Given.{is_set, level_of}
 use Rattle.options.specs.Asked.{without_kind, words_refused}
+use Rattle.pacing.specs.Manners.{Mannered}
+use Rattle.options.specs.Manners.{manner_of}
+use Rattle.pacing.specs.Retries.{Retried}
+use Rattle.options.specs.Retries.{retries_of}
 use Rattle.options.specs.Naming.{Naming, naming_of}
-use Rattle.options.specs.Order.{Counts, proxy_of, start_of, started_at, are_good, counts_of, patterns_of, directories_of, domains_of, order_of_rows, order_of_written, are_taken, AnswersOrder, ordered}
+use Rattle.options.specs.Order.{Counts, proxy_of, start_of, started_at, are_good, counts_of, patterns_of, directories_of, domains_of, fields_of, login_by, login_of, password_of, user_of, order_of_rows, order_of_written, are_taken, AnswersOrder, ordered}
+use Rattle.requests.specs.Fields.{Sent}
 use Rattle.options.specs.inner.Order.{Both, StartsAt, FailsToStart, FailsToFilter, Settles, fault_of_kind}
 
 pub starts-at : (found : List Row) (start : List ℕ) → start_of found ≡ Ok start → is_robots_file start ≡ false → StartsAt found start
@@ -52,29 +57,48 @@ pub bad-counts : (found : List Row) → are_good found ≡ true → counts_of fo
 unfolding order_of_rows
 bad-counts found words counts = rw (words, counts) refl
 
-pub bad-names : (found : List Row) (n : Counts) → are_good found ≡ true → counts_of found ≡ Some n → naming_of found ≡ None → order_of_rows found ≡ Err words_refused
+pub bad-manner : (found : List Row) (n : Counts) → are_good found ≡ true → counts_of found ≡ Some n → manner_of found ≡ None → order_of_rows found ≡ Err words_refused
 unfolding order_of_rows
-bad-names found n words counts names = rw (words, counts, names) refl
+bad-manner found n words counts manner = rw (words, counts, manner) refl
 
-pub bad-proxy : (found : List Row) (n : Counts) (m : Naming) (why : LineFault) → are_good found ≡ true → counts_of found ≡ Some n → naming_of found ≡ Some m → proxy_of found ≡ Err why → order_of_rows found ≡ Err why
+pub bad-names : (found : List Row) (n : Counts) (w : Mannered) → are_good found ≡ true → counts_of found ≡ Some n → manner_of found ≡ Some w → naming_of found ≡ None → order_of_rows found ≡ Err words_refused
 unfolding order_of_rows
-bad-proxy found n m why words counts names proxy = rw (words, counts, names, proxy) refl
+bad-names found n w words counts manner names = rw (words, counts, manner, names) refl
 
-pub bad-level : (found : List Row) (n : Counts) (x : Option (List ℕ)) (m : Naming) → Settles found n x m → level_of found ≡ None → order_of_rows found ≡ Err fault.Depth
+pub bad-retries : (found : List Row) (n : Counts) (w : Mannered) (m : Naming) → are_good found ≡ true → counts_of found ≡ Some n → manner_of found ≡ Some w → naming_of found ≡ Some m → retries_of found ≡ None → order_of_rows found ≡ Err words_refused
 unfolding order_of_rows
-bad-level found n x m settles level = rw (settles.words, settles.counted, settles.named, settles.proxied, level) refl
+bad-retries found n w m words counts manner names retries = rw (words, counts, manner, names, retries) refl
 
-pub bad-filters : (found : List Row) (n : Counts) (x : Option (List ℕ)) (m : Naming) (l : Limit) (why : LineFault) → Settles found n x m → level_of found ≡ Some l → FailsToFilter found why → order_of_rows found ≡ Err why
+pub bad-proxy : (found : List Row) (n : Counts) (w : Mannered) (m : Naming) (r : Retried) (why : LineFault) → are_good found ≡ true → counts_of found ≡ Some n → manner_of found ≡ Some w → naming_of found ≡ Some m → retries_of found ≡ Some r → proxy_of found ≡ Err why → order_of_rows found ≡ Err why
 unfolding order_of_rows
-bad-filters found n x m l why settles level fails = rw (settles.words, settles.counted, settles.named, settles.proxied, level) (fails.1 _)
+bad-proxy found n w m r why words counts manner names retries proxy = rw (words, counts, manner, names, retries, proxy) refl
 
-pub bad-start : (found : List Row) (n : Counts) (x : Option (List ℕ)) (m : Naming) (l : Limit) (p d h : List (List ℕ) × List (List ℕ)) (why : LineFault) → Settles found n x m → level_of found ≡ Some l → patterns_of found ≡ Some p → directories_of found ≡ Some d → domains_of found ≡ Some h → FailsToStart found why → order_of_rows found ≡ Err why
+pub bad-fields : (found : List Row) (n : Counts) (w : Mannered) (x : Option (List ℕ)) (m : Naming) (r : Retried) (why : LineFault) → are_good found ≡ true → counts_of found ≡ Some n → manner_of found ≡ Some w → naming_of found ≡ Some m → retries_of found ≡ Some r → proxy_of found ≡ Ok x → fields_of found ≡ Err why → order_of_rows found ≡ Err why
 unfolding order_of_rows
-bad-start found n x m l p d h why settles level patterns directories domains fails = rw (settles.words, settles.counted, settles.named, settles.proxied, level, patterns, directories, domains) (fails.1 _)
+bad-fields found n w x m r why words counts manner names retries proxy fields = rw (words, counts, manner, names, retries, proxy, fields) refl
 
-pub good-order : (found : List Row) (n : Counts) (x : Option (List ℕ)) (m : Naming) (l : Limit) (p d h : List (List ℕ) × List (List ℕ)) (start : List ℕ) → Settles found n x m → level_of found ≡ Some l → patterns_of found ≡ Some p → directories_of found ≡ Some d → domains_of found ≡ Some h → StartsAt found start → order_of_rows found ≡ Ok (ordered found n x m l p d h start)
+pub bad-level : (found : List Row) (n : Counts) (x : Option (List ℕ)) (m : Naming) (s : Sent) (w : Mannered) (r : Retried) → Settles found n x m s w r → level_of found ≡ None → order_of_rows found ≡ Err fault.Depth
 unfolding order_of_rows
-good-order found n x m l p d h start settles level patterns directories domains starts = rw (settles.words, settles.counted, settles.named, settles.proxied, level, patterns, directories, domains) (starts _)
+bad-level found n x m s w r settles level = rw (settles.words, settles.counted, settles.treated, settles.named, settles.retried, settles.proxied, settles.fielded, level) refl
+
+pub bad-filters : (found : List Row) (n : Counts) (x : Option (List ℕ)) (m : Naming) (s : Sent) (w : Mannered) (r : Retried) (l : Limit) (why : LineFault) → Settles found n x m s w r → level_of found ≡ Some l → FailsToFilter found why → order_of_rows found ≡ Err why
+unfolding order_of_rows
+bad-filters found n x m s w r l why settles level fails = rw (settles.words, settles.counted, settles.treated, settles.named, settles.retried, settles.proxied, settles.fielded, level) (fails.1 _)
+
+pub bad-start : (found : List Row) (n : Counts) (x : Option (List ℕ)) (m : Naming) (s : Sent) (w : Mannered) (r : Retried) (l : Limit) (p d h : List (List ℕ) × List (List ℕ)) (why : LineFault) → Settles found n x m s w r → level_of found ≡ Some l → patterns_of found ≡ Some p → directories_of found ≡ Some d → domains_of found ≡ Some h → FailsToStart found why → order_of_rows found ≡ Err why
+unfolding order_of_rows
+bad-start found n x m s w r l p d h why settles level patterns directories domains fails = rw (settles.words, settles.counted, settles.treated, settles.named, settles.retried, settles.proxied, settles.fielded, level, patterns, directories, domains) (fails.1 _)
+
+pub good-order : (found : List Row) (n : Counts) (x : Option (List ℕ)) (m : Naming) (s : Sent) (w : Mannered) (r : Retried) (l : Limit) (p d h : List (List ℕ) × List (List ℕ)) (start : List ℕ) → Settles found n x m s w r → level_of found ≡ Some l → patterns_of found ≡ Some p → directories_of found ≡ Some d → domains_of found ≡ Some h → StartsAt found start → order_of_rows found ≡ Ok (ordered found n x m s w r l p d h start)
+unfolding order_of_rows
+good-order found n x m s w r l p d h start settles level patterns directories domains starts = rw (settles.words, settles.counted, settles.treated, settles.named, settles.retried, settles.proxied, settles.fielded, level, patterns, directories, domains) (starts _)
+
+-- ---- credentials
+
+pub login-is : (found : List Row) (unasked : Bool) (user password : Option Text) → unasked ≡ is_set (codes "auth-no-challenge") found → user ≡ user_of found → password ≡ password_of found
+    → login_by unasked user password ≡ login_of found
+unfolding login_of
+login-is found unasked user password by user_is password_is = rw (by, user_is, password_is) refl
 
 -- ---- refused words
 

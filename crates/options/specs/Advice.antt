@@ -36,6 +36,16 @@ accepted_start =
 abbrev pub accepted_proxy : List ℕ
 accepted_proxy = codes "a proxy is host and port, as http://127.0.0.1:3128/, and --no-proxy is for none (see wgetr --help)"
 
+-- as credentials
+abbrev pub accepted_login : List ℕ
+accepted_login =
+    codes "--user=USER --password=PASSWORD --auth-no-challenge send both with each request to the servers of STARTs; USER has no colon (see wgetr --help)"
+
+-- as a field
+abbrev pub accepted_field : List ℕ
+accepted_field =
+    codes "a field is a name, a colon and a value, as Accept-Language: en, without control characters and with at most 8192 bytes (see wgetr --help)"
+
 -- as a way there
 abbrev pub accepted_way : List ℕ
 accepted_way = codes "a proxy at localhost, 127.0.0.1 or [::1] is taken, and another one with --trust-proxy (see wgetr --help)"
@@ -45,7 +55,7 @@ abbrev pub wrong_start : AddressFault → Option (List ℕ)
 wrong_start refused.TooLong = Some (codes "START is too long")
 wrong_start refused.NotUrl = Some (codes "START is no URL")
 wrong_start refused.NotHttp = Some (codes "START isn't an http address, and an https one needs --https-proxy, a proxy that speaks TLS")
-wrong_start refused.UserInfo = Some (codes "START has a user name or a password")
+wrong_start refused.UserInfo = Some (codes "START has a user name or a password, which --user, --password and --auth-no-challenge send")
 wrong_start refused.Memory = None
 
 -- of words that ask for something: for the version, or for help
@@ -67,6 +77,11 @@ abbrev pub told_on : LineFault → Option Told
 told_on (line.Words why) = Some (told_of_kind why)
 told_on line.NoProxy = Some (Correction (codes "the value of --https-proxy or https_proxy is no proxy") accepted_proxy)
 told_on line.ProxyUser = Some (Correction (codes "the proxy has a user name or a password, and none is sent") accepted_proxy)
+told_on line.Login = Some (Correction (codes "user name and password are only sent together and with --auth-no-challenge") accepted_login)
+told_on line.Agent = Some (Correction (codes "the value of -U, --user-agent has a control character or more than 8192 bytes") accepted_field)
+told_on line.Referer = Some (Correction (codes "the value of --referer has a control character or more than 8192 bytes") accepted_field)
+told_on line.Header = Some (Correction (codes "a value of --header is no field that can be sent") accepted_field)
+told_on line.Fields = Some (Correction (codes "the fields of a request have more than 32768 bytes") accepted_field)
 told_on line.Depth =
     Some (Correction (codes "the value of -l, --level is no level") (codes "a level is inf or decimal digits, at most 1000000 (see wgetr --help)"))
 told_on line.Pattern =

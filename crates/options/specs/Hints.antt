@@ -20,7 +20,8 @@ use Rattle.options.specs.Meant.{fronts, long_name, meant}
 use Rattle.options.specs.Said.{named, sayings}
 use Rattle.options.specs.Table.{instead, table, wget}
 use Rattle.options.specs.Start.{with_scheme}
-use Rattle.options.specs.Written.{first_unread, starts_in}
+use Rattle.options.specs.Written.{first_unread, starts_in, value_from}
+use Rattle.requests.specs.Fields.{bad_line}
 
 -- ---- forms of options
 
@@ -155,6 +156,25 @@ is_no_start start = is_wrong (read_either (with_scheme start))
 abbrev pub start_hint : List Text → Text
 start_hint words = scheme_hint (unwrap_or (find is_no_start (starts_in (sayings words))) [])
 
+-- ---- what is said of fields
+
+-- of a line that is no field
+abbrev pub line_text : Option Text → Text
+line_text None = []
+line_text (Some line) = codes ": " ++ line
+
+-- of lines with a NUL between them: which is the first that is no field
+abbrev pub lines_hint : Text → Text
+lines_hint lines = line_text (bad_line lines)
+
+abbrev pub lines_hint_on : Option Text → Text
+lines_hint_on None = []
+lines_hint_on (Some lines) = lines_hint lines
+
+-- of the lines of `--header` in these words
+abbrev pub header_hint : List Text → Text
+header_hint words = lines_hint_on (value_from (codes "header") true None (sayings words))
+
 -- ---- what is said of a fault
 
 -- of words that are refused for this kind
@@ -168,4 +188,5 @@ abbrev pub hint_on : LineFault → List Text → Text
 hint_on (line.Words why) words = kind_hint why words
 hint_on (line.Start refused.NotUrl) words = start_hint words
 hint_on (line.Start refused.NotHttp) words = start_hint words
+hint_on line.Header words = header_hint words
 hint_on other words = []

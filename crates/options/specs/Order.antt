@@ -1,5 +1,5 @@
 -- What the words order, or why they are refused: one function of the words.
-use Rattle.std.specs.Prelude.{◌≡◌, ◌⊎◌, ◌==◌, ℕ, length, option_and_then, Bool, true, false, not, ◌&&◌, ◌||◌, List, [], ◌∷◌, ◌++◌, codes, Option, Some, None, is_some, nat_eq, nat_lt, unwrap_or, bytes_eq, option_map, Result, Ok, Err, MatchResult, if◌then◌else◌}
+use Rattle.std.specs.Prelude.{◌≡◌, ◌⊎◌, ◌==◌, ℕ, length, option_and_then, Bool, true, false, not, ◌&&◌, ◌||◌, List, [], ◌∷◌, ◌++◌, codes, Option, Some, None, is_some, nat_eq, nat_lt, unwrap_or, bytes_eq, map, option_map, Result, Ok, Err, MatchResult, if◌then◌else◌}
 use Rattle.std.specs.Char.{is_ascii_digit}
 use Rattle.std.specs.List.{list_all, list_any, starts_with}
 use Rattle.clap.specs.Kinds.{Kinds}
@@ -25,7 +25,15 @@ use Rattle.options.specs.declared.fault.LineFault.TheVariants as fault
 use Rattle.options.specs.Asked.{refusal_of, without_kind, words_refused}
 use Rattle.options.specs.Line.{rows, refusals}
 use Rattle.options.specs.Given.{is_set, level_of, number_given, list_of}
+use Rattle.pacing.specs.Manners.{Mannered, mannered}
+use Rattle.options.specs.Manners.{manner_of}
+use Rattle.pacing.specs.Retries.{Retried, retries_by}
+use Rattle.options.specs.Retries.{retries_of}
 use Rattle.options.specs.Naming.{Naming, naming_by, naming_of}
+use Rattle.requests.specs.Fields.{Sent, read_fields}
+use Rattle.requests.specs.declared.fields.FieldsFault.{FieldsFault}
+use Rattle.requests.specs.declared.fields.FieldsFault.TheVariants as unsent
+use Rattle.requests.specs.Requests.{Sending}
 use Rattle.options.specs.declared.said.Saying.{Saying}
 use Rattle.options.specs.Said.{sayings}
 use Rattle.options.specs.Start.{with_scheme}
@@ -71,6 +79,9 @@ pub record Ordered : Type 0 where
   pub log : Option (Text × Bool)
   pub prefix : List ℕ
   pub names : Naming
+  pub fields : Sent
+  pub manner : Mannered
+  pub retries : Retried
   pub proxy : Option (List ℕ)
   pub trusts : Bool
   pub resume : Option Text
@@ -150,6 +161,66 @@ abbrev pub read_start : Bool → Text → Result (List ℕ) AddressFault
 read_start false text = read_address text
 read_start true text = read_either text
 
+-- why requests can't say what they are to say
+abbrev pub fields_fault : FieldsFault → LineFault
+fields_fault unsent.Agent = fault.Agent
+fields_fault unsent.Referer = fault.Referer
+fields_fault unsent.Line = fault.Header
+fields_fault unsent.Size = fault.Fields
+fields_fault unsent.Memory = fault.Memory
+
+-- what was read of fields, or the fault of the words
+abbrev pub fields_read : Result Sent FieldsFault → Result Sent LineFault
+fields_read (Err why) = Err (fields_fault why)
+fields_read (Ok fields) = Ok fields
+
+-- what one option says, or else the other
+abbrev pub said_or : Option Text → Option Text → Option Text
+said_or None other = other
+said_or (Some value) other = Some value
+
+-- a colon ends a user name (RFC 7617, section 2)
+abbrev pub has_colon : Text → Bool
+has_colon user = list_any (λ byte. byte == 58) user
+
+-- a user and a password that are sent unasked; no challenge is answered
+abbrev pub login_with : Bool → Text → Text → Result (Option Text) LineFault
+login_with unasked user password = if not unasked || has_colon user then Err fault.Login else Ok (Some (user ++ (codes ":" ++ password)))
+
+-- what is sent of a user and a password, of which none or both are given
+abbrev pub login_by : Bool → Option Text → Option Text → Result (Option Text) LineFault
+login_by unasked None None = Ok None
+login_by unasked None (Some password) = Err fault.Login
+login_by unasked (Some user) None = Err fault.Login
+login_by unasked (Some user) (Some password) = login_with unasked user password
+
+-- the user and the password: those for http count before those for all protocols
+abbrev pub user_of : List Row → Option Text
+user_of found = said_or (first_of (codes "http-user") found) (first_of (codes "user") found)
+
+abbrev pub password_of : List Row → Option Text
+password_of found = said_or (first_of (codes "http-password") found) (first_of (codes "password") found)
+
+-- the user and the password that are sent, or why they aren't
+unfoldable pub login_of : List Row → Result (Option Text) LineFault
+login_of found = login_by (is_set (codes "auth-no-challenge") found) (user_of found) (password_of found)
+
+-- the fields that go with a user and a password
+abbrev pub fields_with : List Row → Result (Option Text) LineFault → Result Sent LineFault
+fields_with found (Err why) = Err why
+fields_with found (Ok login) =
+    fields_read (read_fields (first_of (codes "user-agent") found) (first_of (codes "referer") found) (is_set (codes "no-cache") found) login
+    (unwrap_or (first_of (codes "header") found) []))
+
+-- what requests say besides their addresses, or why they can't
+abbrev pub fields_of : List Row → Result Sent LineFault
+fields_of found = fields_with found (login_of found)
+
+-- what requests say, and what follows from it
+abbrev pub fielded_by : {Y : Type 0} → Result Sent LineFault → (Sent → Result Y LineFault) → Result Y LineFault
+fielded_by (Err why) next = Err why
+fielded_by (Ok fields) next = next fields
+
 -- the start, or why it is no address; `http` is its scheme where it has none
 unfoldable pub start_of : List Row → Result (List ℕ) AddressFault
 start_of found =
@@ -185,10 +256,10 @@ prefix_of found = folder_of (first_of (codes "directory-prefix") found)
 unfoldable pub log_of : List Row → Option (Text × Bool)
 log_of found = option_map (λ path. (path, is_some (first_of (codes "append-output") found))) (first_of (codes "output-file") found)
 
--- what the options order with these numbers, this proxy, these names, this level, these lists and this start; without `-r` no link is followed and
+-- what the options order with these numbers, this proxy, these names, these fields, this manner, these retries, this level, these lists and this start; without `-r` no link is followed and
 -- no robots file is honoured
-abbrev pub ordered : List Row → Counts → Option (List ℕ) → Naming → Limit → (patterns directories domains : List (List ℕ) × List (List ℕ)) → List ℕ → Ordered
-ordered found counts proxy names level patterns directories domains start = record {
+abbrev pub ordered : List Row → Counts → Option (List ℕ) → Naming → Sent → Mannered → Retried → Limit → (patterns directories domains : List (List ℕ) × List (List ℕ)) → List ℕ → Ordered
+ordered found counts proxy names fields manner retries level patterns directories domains start = record {
   start = start;
   others = [];
   limit = limit_within level found;
@@ -214,6 +285,9 @@ ordered found counts proxy names level patterns directories domains start = reco
   log = log_of found;
   prefix = prefix_of found;
   names = names;
+  fields = fields;
+  manner = manner;
+  retries = retries;
   proxy = proxy;
   trusts = is_set (codes "trust-proxy") found;
   resume = first_of (codes "resume") found;
@@ -225,13 +299,16 @@ unfoldable pub order_of_rows : List Row → Result Ordered LineFault
 order_of_rows found =
     if not (are_good found) then Err words_refused
     else found_or (counts_of found) words_refused (λ counts.
+    found_or (manner_of found) words_refused (λ manner.
     found_or (naming_of found) words_refused (λ names.
+    found_or (retries_of found) words_refused (λ retries.
     proxied_by (proxy_of found) (λ proxy.
+    fielded_by (fields_of found) (λ fields.
     found_or (level_of found) fault.Depth (λ level.
     found_or (patterns_of found) fault.Pattern (λ patterns.
     found_or (directories_of found) fault.Directory (λ directories.
     found_or (domains_of found) fault.Domain (λ domains.
-    started_at (start_of found) (λ start. Ok (ordered found counts proxy names level patterns directories domains start)))))))))
+    started_at (start_of found) (λ start. Ok (ordered found counts proxy names fields manner retries level patterns directories domains start))))))))))))
 
 -- words with no kind of refusal are taken
 abbrev pub are_taken : Kinds → Bool
@@ -349,6 +426,9 @@ ordered_by order = record {
   log = option_map log_by order.log;
   prefix = order.prefix;
   names = naming_by order.names;
+  fields = order.fields;
+  manner = mannered order.manner;
+  retries = retries_by order.retries;
   proxy = order.proxy;
   trusts = order.trusts_proxy;
   resume = order.resume;
@@ -358,6 +438,10 @@ ordered_by order = record {
 -- how many connections to a server may stand at a time, where they are kept
 abbrev pub kept_of : Order → Option ℕ
 kept_of order = if order.keeps_connections then Some order.plan.per_host else None
+
+-- what is sent with each request: secret fields go to the origins of the starts alone
+abbrev pub sending_of : Order → Sending
+sending_of order = record { sent = order.fields; homes = map origin_of (order.plan.start ∷ order.plan.others) }
 
 -- the result is the expected order, or the expected fault, unless memory ran out
 abbrev pub AnswersOrder : Result Order LineFault → Result Ordered LineFault → Type 0

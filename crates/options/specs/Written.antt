@@ -15,11 +15,15 @@ abbrev pub is_list : Kind Text → Bool
 is_list (kind.List name) = true
 is_list other = false
 
--- a value behind an earlier one: it takes its place, unless both are lists with elements
-abbrev pub added : Bool → Option Text → Text → Text
-added adds None value = value
-added adds (Some earlier) value =
-    if adds && not (length earlier == 0) && not (length value == 0) then earlier ++ codes "," ++ value else value
+-- what is between the elements of this option's list: a comma, and between field lines a NUL, which is in no word
+abbrev pub joint : Text → Text
+joint name = if bytes_eq name (codes "header") then 0 ∷ [] else codes ","
+
+-- a value behind an earlier one: it takes its place, unless both are lists with elements, which this joins
+abbrev pub added : Text → Bool → Option Text → Text → Text
+added between adds None value = value
+added between adds (Some earlier) value =
+    if adds && not (length earlier == 0) && not (length value == 0) then earlier ++ between ++ value else value
 
 -- what is said of the one option is said of the other, too: `-a` names a file as `-o` does
 abbrev pub says_also : Text → Text → Bool
@@ -27,7 +31,7 @@ says_also said name = bytes_eq said name || (bytes_eq said (codes "append-output
 
 -- the value of an option of this name behind what was said before
 abbrev pub value_after : Text → Bool → Option Text → Saying Text → Option Text
-value_after name adds before (saying.Says said value) = if says_also said name then Some (added adds before value) else before
+value_after name adds before (saying.Says said value) = if says_also said name then Some (added (joint name) adds before value) else before
 value_after name adds before other = before
 
 abbrev pub value_from : Text → Bool → Option Text → List (Saying Text) → Option Text

@@ -29,6 +29,12 @@ const START: &str =
     "START is an address in full, as http://example.org/path?query, without user name and password, with at most \
 8192 bytes and a host of at most 255 (see wgetr --help)";
 
+const FIELD: &str =
+    "a field is a name, a colon and a value, as Accept-Language: en, without control characters and with at most 8192 bytes (see wgetr --help)";
+
+const LOGIN: &str =
+    "--user=USER --password=PASSWORD --auth-no-challenge send both with each request to the servers of STARTs; USER has no colon (see wgetr --help)";
+
 const PROXY: &str =
     "a proxy is host and port, as http://127.0.0.1:3128/, and --no-proxy is for none (see wgetr --help)";
 
@@ -42,7 +48,9 @@ fn wrong_start(refused: AddressFault) -> Option<&'static str>
         AddressFault::NotHttp => Some(
             "START isn't an http address, and an https one needs --https-proxy, a proxy that speaks TLS",
         ),
-        AddressFault::UserInfo => Some("START has a user name or a password"),
+        AddressFault::UserInfo => Some(
+            "START has a user name or a password, which --user, --password and --auth-no-challenge send",
+        ),
         AddressFault::Memory => None,
     }
 }
@@ -80,6 +88,26 @@ fn advice_on(wrong: LineFault) -> Option<Advice>
         LineFault::ProxyUser => Some(Advice::Correction(
             "the proxy has a user name or a password, and none is sent",
             PROXY,
+        )),
+        LineFault::Login => Some(Advice::Correction(
+            "user name and password are only sent together and with --auth-no-challenge",
+            LOGIN,
+        )),
+        LineFault::Agent => Some(Advice::Correction(
+            "the value of -U, --user-agent has a control character or more than 8192 bytes",
+            FIELD,
+        )),
+        LineFault::Referer => Some(Advice::Correction(
+            "the value of --referer has a control character or more than 8192 bytes",
+            FIELD,
+        )),
+        LineFault::Header => Some(Advice::Correction(
+            "a value of --header is no field that can be sent",
+            FIELD,
+        )),
+        LineFault::Fields => Some(Advice::Correction(
+            "the fields of a request have more than 32768 bytes",
+            FIELD,
         )),
         LineFault::Depth => Some(Advice::Correction(
             "the value of -l, --level is no level",

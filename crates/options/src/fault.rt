@@ -13,6 +13,17 @@ pub enum LineFault {
     NoProxy,
     /// The proxy has a user name or a password.
     ProxyUser,
+    /// A user name without a password, or one without a user name, a user name with a colon, or either without
+    /// `--auth-no-challenge`.
+    Login,
+    /// What `--user-agent` says has a control character, or more than 8,192 bytes.
+    Agent,
+    /// What `--referer` says has.
+    Referer,
+    /// What `--header` says is no field, or one that isn't sent.
+    Header,
+    /// What requests would say has more than 32,768 bytes.
+    Fields,
     /// The level is neither `inf` nor decimal digits up to 1,000,000.
     Depth,
     /// An element of the accept or reject list is no pattern.

@@ -1,7 +1,7 @@
 //! What was likely meant by words that are refused.
 ghost use Rattle.std.specs.Prelude.{◌≡◌, ◌≢◌, ◌++◌, Err, codes, IfOk, OnOk, length, map, option_map, string_bytes};
 ghost use Rattle.std.specs.List.{find, list_any};
-ghost use Rattle.options.specs.Hints.{address_text, advice_in, first_near, foreign_text, foreign_with, form_hint, form_of, forms_text, front_hint, has_scheme, hint_on, is_form_of, is_no_start, is_known, is_near, is_own, kind_hint, long_hint, name_hint, near_text, nearest, scheme_hint, several_text, start_hint, unread_hint, words_hint};
+ghost use Rattle.options.specs.Hints.{address_text, advice_in, first_near, foreign_text, foreign_with, form_hint, form_of, forms_text, front_hint, has_scheme, header_hint, hint_on, is_form_of, is_no_start, is_known, is_near, is_own, kind_hint, line_text, lines_hint, long_hint, name_hint, near_text, nearest, scheme_hint, several_text, start_hint, unread_hint, words_hint};
 ghost use Rattle.options.specs.inner.Said.{meaning_in};
 ghost use Rattle.options.specs.inner.Table.{instead_in, row_in};
 ghost use Rattle.address.specs.declared.fault.AddressFault.TheVariants as address_fault;
@@ -11,9 +11,10 @@ use crate::meant::{fronts, long_name, meant};
 use crate::said::{Meaning, named, sayings};
 use crate::start::with_scheme;
 use crate::table::{Instead, Row, insteads, option_rows, wget_forms};
-use crate::written::{first_unread, starts};
+use crate::written::{first_unread, starts, value_in};
 use address::{Address, AddressFault};
 use clap::error::ErrorKind;
+use requests::bad_line;
 use std::alloc::{AllocError, Global};
 use strsim::osa_distance;
 
@@ -335,6 +336,34 @@ fn kind_hint(alloc: Global, kind: ErrorKind, words: &[&str]) -> Result<String, A
     }
 }
 
+// What is said of a line that is no field.
+fn line_text(alloc: Global, line: Option<&str>) -> Result<String, AllocError>
+    ensures { IfOk result (λ text. string_bytes text ≡ line_text (option_map (λ l. l.now) line.entry)) }
+{
+    match line {
+        Some(line) => format!(in alloc; ": {line}"),
+        None => Ok(String::new(alloc)),
+    }
+}
+
+// What is said of lines with a NUL between them: which is the first that is no field.
+fn lines_hint(alloc: Global, lines: &str) -> Result<String, AllocError>
+    ensures { IfOk result (λ text. string_bytes text ≡ lines_hint lines.now) }
+{
+    line_text(alloc, bad_line(alloc, lines)?)
+}
+
+// What is said of the lines of `--header`.
+fn header_hint(alloc: Global, words: &[&str]) -> Result<String, AllocError>
+    ensures { IfOk result (λ text. string_bytes text ≡ header_hint (map (λ word. word.now) words.now)) }
+{
+    let said = sayings(alloc, words)?;
+    match value_in(alloc, "header", true, &said)? {
+        Some(lines) => lines_hint(alloc, lines.as_str()),
+        None => Ok(String::new(alloc)),
+    }
+}
+
 /// What was likely meant by words that are no order, as ` (did you mean http://h/?)`; empty where nothing is known of it.
 pub(crate) fn hint_on(alloc: Global, fault: LineFault, words: &[&str]) -> Result<String, AllocError>
     ensures { IfOk result (λ text. string_bytes text ≡ hint_on fault (map (λ word. word.now) words.now)) }
@@ -342,6 +371,7 @@ pub(crate) fn hint_on(alloc: Global, fault: LineFault, words: &[&str]) -> Result
     match fault {
         LineFault::Words(kind) => kind_hint(alloc, kind, words),
         LineFault::Start(AddressFault::NotUrl | AddressFault::NotHttp) => start_hint(alloc, words),
+        LineFault::Header => header_hint(alloc, words),
         _ => Ok(String::new(alloc)),
     }
 }

@@ -1,12 +1,14 @@
 //! What the words order.
-ghost use Rattle.std.specs.Prelude.{◌≡◌, ◌<◌, ◌≤◌, IfOk, false, length};
+ghost use Rattle.std.specs.Prelude.{◌≡◌, ◌∷◌, ◌<◌, ◌≤◌, IfOk, false, length, map};
 ghost use Rattle.std.specs.List.{list_any};
-ghost use Rattle.address.specs.Address.{is_robots_file};
+ghost use Rattle.address.specs.Address.{is_robots_file, origin_of};
 ghost use Rattle.options.specs.declared.order.TheConstants.{MAX_WORKERS};
 
 use crate::naming::PageNames;
 use address::{Address, Origin};
-use follow_filters::{Elements, Plan};
+use follow_filters::{Plan, Starts};
+use pacing::{Manner, Retries};
+use requests::{Fields, Sending};
 use std::alloc::{AllocError, Global};
 use std::marker::Model;
 
@@ -129,6 +131,12 @@ pub struct Order {
     pub prefix: Prefix,
     /// How files are named.
     pub names: PageNames,
+    /// What requests say besides their addresses.
+    pub fields: Fields,
+    /// How servers are treated.
+    pub manner: Manner,
+    /// When requests are made again.
+    pub retries: Retries,
     /// The proxy that is asked for https addresses.
     pub proxy: Option<Origin>,
     /// Whether the proxy may be on another machine.
@@ -142,7 +150,7 @@ pub struct Order {
 }
 
 // The same plan with these starts besides its own.
-fn with_starts(plan: Plan, others: Elements<Address>) -> Plan
+fn with_starts(plan: Plan, others: Starts) -> Plan
     requires pages { list_any is_robots_file others ≡ false }
     requires in_range { length others < plan.max_urls }
     ensures start { result.start ≡ plan.start }
@@ -203,11 +211,23 @@ fn with_starts(plan: Plan, others: Elements<Address>) -> Plan
     }
 }
 
+// The origins of these addresses.
+fn homes_of(alloc: Global, start: &Address, others: &[Address]) -> Result<Vec<Origin>, AllocError>
+    ensures { IfOk result (λ homes. homes.items ≡ map origin_of (start.now ∷ others.now)) }
+{
+    let mut homes = Vec::new(alloc);
+    homes.push(Origin::of(start)?)?;
+    for other in others {
+        homes.push(Origin::of(other)?)?;
+    }
+    Ok(homes)
+}
+
 impl Order {
     ghost use Rattle.std.specs.Prelude.{◌≡◌, false, length};
     ghost use Rattle.std.specs.List.{list_any};
     ghost use Rattle.address.specs.Address.{is_robots_file};
-    ghost use Rattle.options.specs.Order.{kept_of, ordered_by};
+    ghost use Rattle.options.specs.Order.{kept_of, ordered_by, sending_of};
 
     /// The proxy that is asked for https addresses. Takes no memory; the error is that 2^63 copies are there.
     pub fn proxy(&self) -> Result<Option<Origin>, AllocError>
@@ -219,8 +239,17 @@ impl Order {
         }
     }
 
+    /// What is sent with each request: secret fields go to the origins of the starts alone.
+    pub fn sending(&self, alloc: Global) -> Result<Sending, AllocError>
+        ensures { IfOk result (λ sending. sending ≡ sending_of self.now) }
+    {
+        let fields = self.fields.try_clone()?;
+        let homes = homes_of(alloc, &self.plan.start, self.plan.others.as_slice())?;
+        Ok(Sending::new(fields, homes))
+    }
+
     /// The same order with these starts besides its own.
-    pub(crate) fn with_others(self, others: Elements<Address>) -> Order
+    pub(crate) fn with_others(self, others: Starts) -> Order
         requires pages { list_any is_robots_file others ≡ false }
         requires in_range { length others < self.plan.max_urls }
         ensures { ordered_by result ≡ record (ordered_by self) { others = others } }
@@ -235,6 +264,9 @@ impl Order {
             log,
             prefix,
             names,
+            fields,
+            manner,
+            retries,
             proxy,
             trusts_proxy,
             resume,
@@ -250,6 +282,9 @@ impl Order {
             log,
             prefix,
             names,
+            fields,
+            manner,
+            retries,
             proxy,
             trusts_proxy,
             resume,

@@ -11,7 +11,7 @@ use crate::order::Order;
 use crate::read::read_page;
 use address::Address;
 use clap::error::ErrorKind;
-use follow_filters::Elements;
+use follow_filters::Starts;
 use std::alloc::Global;
 
 // The starts that these texts name, or what is wrong with the first that is none. Of these https is one if a proxy is given.
@@ -37,7 +37,7 @@ fn read_starts(alloc: Global, by_proxy: bool, texts: &[&str]) -> Result<Vec<Addr
 }
 
 // The order with these starts besides its own, if it may hold as many addresses.
-fn besides(order: Order, others: Vec<Address>) -> Result<Order, LineFault>
+fn besides(alloc: Global, order: Order, others: Vec<Address>) -> Result<Order, LineFault>
     requires { list_any is_robots_file others.items ≡ false }
     ensures { AnswersOrder result (besides (ordered_by order) others.items) }
 {
@@ -46,7 +46,13 @@ fn besides(order: Order, others: Vec<Address>) -> Result<Order, LineFault>
         drop(others);
         return Err(LineFault::Words(ErrorKind::InvalidValue));
     }
-    Ok(order.with_others(Elements::of(others)))
+    match Starts::of(alloc, others) {
+        Ok(others) => Ok(order.with_others(others)),
+        Err(_) => {
+            drop(order);
+            Err(LineFault::Memory)
+        }
+    }
 }
 
 /// The order with the starts that these texts name besides its own.
@@ -54,7 +60,7 @@ pub(crate) fn with_others(alloc: Global, order: Order, texts: &[&str]) -> Result
     ensures { AnswersOrder result (with_others (map (λ text. text.now) texts.now) (Ok (ordered_by order))) }
 {
     match read_starts(alloc, order.proxy.is_some(), texts) {
-        Ok(others) => besides(order, others),
+        Ok(others) => besides(alloc, order, others),
         Err(fault) => {
             drop(order);
             Err(fault)

@@ -11,8 +11,10 @@ ghost use Rattle.follow_filters.specs.declared.plan.TheConstants.{MAX_PER_HOST, 
 ghost use Rattle.options.specs.declared.order.TheConstants.{MAX_WORKERS};
 ghost use Rattle.follow_filters.specs.declared.limit.Limit.TheVariants.{AtMost};
 ghost use Rattle.options.specs.Given.{level_of, list_of};
+ghost use Rattle.pacing.specs.Manners.{mannered};
+ghost use Rattle.pacing.specs.Retries.{retries_by};
 ghost use Rattle.options.specs.Naming.{naming_by};
-ghost use Rattle.options.specs.Order.{AnswersOrder, OrdersBySayings, order_of, order_of_rows, order_of_written, order_said, are_good, is_plain_value, both, counts_of, patterns_of, directories_of, domains_of, start_of, source_of, honours_robots, limit_within, ordered, ordered_by, folder_of, guarded, prefix_of, log_by, log_of, proxy_by, proxy_of, proxy_value, read_start, root_origin, unless_empty, with_others};
+ghost use Rattle.options.specs.Order.{AnswersOrder, OrdersBySayings, order_of, order_of_rows, order_of_written, order_said, are_good, is_plain_value, both, counts_of, patterns_of, directories_of, domains_of, fields_fault, fields_of, fields_with, has_colon, login_by, login_of, login_with, password_of, said_or, start_of, source_of, user_of, honours_robots, limit_within, ordered, ordered_by, folder_of, guarded, prefix_of, log_by, log_of, proxy_by, proxy_of, proxy_value, read_start, root_origin, unless_empty, with_others};
 ghost use Rattle.options.specs.Asked.{refusal_of, without_kind, words_refused};
 ghost use Rattle.options.specs.inner.Said.{saying_in};
 ghost use Rattle.options.specs.inner.Order.{StartsAt, FailsToStart, FailsToFilter, IsNoStart, Settles, fault_of_kind, unasked};
@@ -23,12 +25,14 @@ use crate::asked::{is_asking, wish_fault, wish_of};
 use crate::fault::LineFault;
 use crate::given::{elements, given, is_set, level, number};
 use crate::line::parse;
+use crate::manner::manner;
 use crate::naming::{PageNames, names};
 use crate::order::{
     DEFAULT_MAX_URLS, DEFAULT_PER_HOST, DEFAULT_WORKERS, FilePath, Log, MAX_WORKERS, Order, Prefix,
     Source,
 };
 use crate::others::with_others;
+use crate::retries::retries;
 use crate::said::{Saying, sayings};
 use crate::start::with_scheme;
 use crate::trust::guarded;
@@ -37,8 +41,10 @@ use address::{Address, AddressFault, Origin};
 use clap::error::ErrorKind;
 use clap::{ArgMatches, Error};
 use follow_filters::{
-    Directory, Domain, Element, Elements, Limit, MAX_PER_HOST, MAX_URLS, Pattern, Plan,
+    Directory, Domain, Element, Elements, Limit, MAX_PER_HOST, MAX_URLS, Pattern, Plan, Starts,
 };
+use pacing::{Manner, Retries};
+use requests::{Fields, FieldsFault, Login};
 use std::alloc::{AllocError, Global};
 
 // The numbers of workers, requests out to an origin, and addresses.
@@ -55,12 +61,15 @@ struct Counts {
     ghost max_urls_in_range: { max_urls ≤ MAX_URLS },
 }
 
-// Numbers, the proxy and what shapes names.
+// Numbers, the proxy, what shapes names and what requests say, how servers are treated, and when requests are made again.
 #[derive(Drop)]
 struct Settings {
     counts: Counts,
     proxy: Option<Origin>,
     names: PageNames,
+    fields: Fields,
+    manner: Manner,
+    retries: Retries,
 }
 
 // The folder below which files are put, the records that are resumed and saved, and the file that takes what is told.
@@ -377,10 +386,154 @@ fn unasked(kind: ErrorKind) -> LineFault
     LineFault::Words(kind)
 }
 
-// The numbers, what shapes names, and the proxy: their faults come before those of levels and lists.
+// Why requests can't say what they are to say.
+fn fields_fault(why: FieldsFault) -> LineFault
+    ensures value { result ≡ fields_fault why }
+    ensures kept { without_kind result ≡ result }
+{
+    match why {
+        FieldsFault::Agent => LineFault::Agent,
+        FieldsFault::Referer => LineFault::Referer,
+        FieldsFault::Line => LineFault::Header,
+        FieldsFault::Size => LineFault::Fields,
+        FieldsFault::Memory => LineFault::Memory,
+    }
+}
+
+// What one option says, or else the other.
+fn said_or<'a>(value: Option<&'a str>, other: Option<&'a str>) -> Option<&'a str>
+    ensures { option_map (λ s. s.now) result ≡ said_or (option_map (λ s. s.now) value.entry) (option_map (λ s. s.now) other.entry) }
+{
+    match value {
+        Some(text) => Some(text),
+        None => other,
+    }
+}
+
+// Whether a text has a colon, which ends a user name.
+fn has_colon(user: &[u8]) -> bool
+    ensures { result ≡ has_colon user.now }
+{
+    user.iter().any(|byte| *byte == b':')
+}
+
+// A user and a password that are sent unasked.
+fn login_with(
+    alloc: Global,
+    unasked: bool,
+    user: &str,
+    password: &str,
+) -> Result<Option<Login>, LineFault>
+    ensures answers { MatchResult result
+        (λ login. login_with unasked user.now password.now ≡ Ok login)
+        (λ f. (login_with unasked user.now password.now ≡ Err f) ⊎ (f ≡ fault.Memory)) }
+    ensures kept { IfErr result (λ f. without_kind f ≡ f) }
+{
+    if !unasked || has_colon(user.as_bytes()) {
+        return Err(LineFault::Login);
+    }
+    match Login::of(alloc, user, password) {
+        Ok(login) => Ok(Some(login)),
+        Err(_) => Err(LineFault::Memory),
+    }
+}
+
+// What is sent of a user and a password, of which none or both are given.
+fn login_by(
+    alloc: Global,
+    unasked: bool,
+    user: Option<&str>,
+    password: Option<&str>,
+) -> Result<Option<Login>, LineFault>
+    ensures answers { MatchResult result
+        (λ login. login_by unasked (option_map (λ s. s.now) user.entry) (option_map (λ s. s.now) password.entry) ≡ Ok login)
+        (λ f. (login_by unasked (option_map (λ s. s.now) user.entry) (option_map (λ s. s.now) password.entry) ≡ Err f) ⊎ (f ≡ fault.Memory)) }
+    ensures kept { IfErr result (λ f. without_kind f ≡ f) }
+{
+    match (user, password) {
+        (None, None) => Ok(None),
+        (Some(user), Some(password)) => login_with(alloc, unasked, user, password),
+        (None, Some(_)) | (Some(_), None) => Err(LineFault::Login),
+    }
+}
+
+// The user: one for http counts before one for all protocols.
+fn user<'a>(matches: &ArgMatches<'a>) -> Option<&'a str>
+    ensures { option_map (λ s. s.now) result ≡ user_of (rows_of (found_of matches.now)) }
+{
+    said_or(given(matches, "http-user"), given(matches, "user"))
+}
+
+// The password, likewise.
+fn password<'a>(matches: &ArgMatches<'a>) -> Option<&'a str>
+    ensures { option_map (λ s. s.now) result ≡ password_of (rows_of (found_of matches.now)) }
+{
+    said_or(given(matches, "http-password"), given(matches, "password"))
+}
+
+// The user and the password that are sent, or why they aren't.
+fn login(alloc: Global, matches: &ArgMatches) -> Result<Option<Login>, LineFault>
+    ensures answers { MatchResult result
+        (λ login. login_of (rows_of (found_of matches.now)) ≡ Ok login)
+        (λ f. (login_of (rows_of (found_of matches.now)) ≡ Err f) ⊎ (f ≡ fault.Memory)) }
+    ensures kept { IfErr result (λ f. without_kind f ≡ f) }
+{
+    login_by(
+        alloc,
+        is_set(matches, "auth-no-challenge"),
+        user(matches),
+        password(matches),
+    )
+}
+
+// The fields that go with these credentials, or why they can't be sent.
+fn fields_with(
+    alloc: Global,
+    matches: &ArgMatches,
+    login: Option<&Login>,
+) -> Result<Fields, LineFault>
+    ensures answers { MatchResult result
+        (λ fields. fields_with (rows_of (found_of matches.now)) (Ok (option_map (λ l. l.now) login.entry)) ≡ Ok fields)
+        (λ f. (fields_with (rows_of (found_of matches.now)) (Ok (option_map (λ l. l.now) login.entry)) ≡ Err f) ⊎ (f ≡ fault.Memory)) }
+    ensures kept { IfErr result (λ f. without_kind f ≡ f) }
+{
+    let read = Fields::read(
+        alloc,
+        given(matches, "user-agent"),
+        given(matches, "referer"),
+        is_set(matches, "no-cache"),
+        login,
+        given(matches, "header").unwrap_or(""),
+    );
+    match read {
+        Ok(fields) => Ok(fields),
+        Err(why) => Err(fields_fault(why)),
+    }
+}
+
+// What requests say, or why they can't.
+fn fields(alloc: Global, matches: &ArgMatches) -> Result<Fields, LineFault>
+    ensures answers { MatchResult result
+        (λ fields. fields_of (rows_of (found_of matches.now)) ≡ Ok fields)
+        (λ f. (fields_of (rows_of (found_of matches.now)) ≡ Err f) ⊎ (f ≡ fault.Memory)) }
+    ensures kept { IfErr result (λ f. without_kind f ≡ f) }
+{
+    match login(alloc, matches) {
+        Ok(Some(login)) => {
+            let fields = fields_with(alloc, matches, Some(&login));
+            drop(login);
+            fields
+        }
+        Ok(None) => fields_with(alloc, matches, None),
+        Err(fault) => Err(fault),
+    }
+}
+
+// The numbers, how servers are treated, what shapes names, when requests are made
+// again, the proxy and what requests say: their faults come before those of levels and lists.
 fn read_settings(alloc: Global, matches: &ArgMatches) -> Result<Settings, LineFault>
     ensures { MatchResult result
-        (λ s. Settles (rows_of (found_of matches.now)) (record { workers = s.counts.workers; per_host = s.counts.per_host; max_urls = s.counts.max_urls }) s.proxy (naming_by s.names))
+        (λ s. Settles (rows_of (found_of matches.now)) (record { workers = s.counts.workers; per_host = s.counts.per_host; max_urls = s.counts.max_urls }) s.proxy (naming_by s.names) s.fields (mannered s.manner) (retries_by s.retries))
         (λ f. (order_of_rows (rows_of (found_of matches.now)) ≡ Err (without_kind f)) ⊎ (f ≡ fault.Memory)) }
 {
     if let Some(fault) = word_fault(matches) {
@@ -389,14 +542,34 @@ fn read_settings(alloc: Global, matches: &ArgMatches) -> Result<Settings, LineFa
     let Some(counts) = read_counts(matches) else {
         return Err(LineFault::Words(ErrorKind::InvalidValue));
     };
+    let Some(manner) = manner(matches) else {
+        return Err(LineFault::Words(ErrorKind::InvalidValue));
+    };
     let names = match names(alloc, matches) {
         Ok(names) => names,
         Err(fault) => return Err(fault),
+    };
+    let retries = match retries(alloc, matches) {
+        Ok(retries) => retries,
+        Err(fault) => {
+            drop(names);
+            return Err(fault);
+        }
     };
     let proxy = match proxy_by(alloc, proxy_value(matches)) {
         Ok(proxy) => proxy,
         Err(fault) => {
             drop(names);
+            drop(retries);
+            return Err(fault);
+        }
+    };
+    let fields = match fields(alloc, matches) {
+        Ok(fields) => fields,
+        Err(fault) => {
+            drop(proxy);
+            drop(names);
+            drop(retries);
             return Err(fault);
         }
     };
@@ -404,6 +577,9 @@ fn read_settings(alloc: Global, matches: &ArgMatches) -> Result<Settings, LineFa
         counts,
         proxy,
         names,
+        fields,
+        manner,
+        retries,
     })
 }
 
@@ -460,12 +636,15 @@ fn filled(
     requires save { paths.save ≡ first_of (codes "save") (rows_of (found_of matches.now)) }
     requires log { option_map log_by paths.log ≡ log_of (rows_of (found_of matches.now)) }
     ensures { ordered_by result ≡ ordered (rows_of (found_of matches.now)) (record { workers = settings.counts.workers; per_host = settings.counts.per_host; max_urls = settings.counts.max_urls })
-        settings.proxy (naming_by settings.names) level (filters.names.given, filters.names.excluded) (filters.places.given, filters.places.excluded) (filters.hosts.given, filters.hosts.excluded) start }
+        settings.proxy (naming_by settings.names) settings.fields (mannered settings.manner) (retries_by settings.retries) level (filters.names.given, filters.names.excluded) (filters.places.given, filters.places.excluded) (filters.hosts.given, filters.hosts.excluded) start }
 {
     let Settings {
         counts,
         proxy,
         names: naming,
+        fields,
+        manner,
+        retries,
     } = settings;
     let Filters {
         names,
@@ -475,7 +654,7 @@ fn filled(
     Order {
         plan: Plan {
             start,
-            others: Elements::none(alloc),
+            others: Starts::none(alloc),
             limit: limit_within(matches, level),
             span_hosts: is_set(matches, "span-hosts"),
             no_parent: is_set(matches, "no-parent"),
@@ -500,6 +679,9 @@ fn filled(
         log: paths.log,
         prefix: paths.prefix,
         names: naming,
+        fields,
+        manner,
+        retries,
         proxy,
         trusts_proxy: is_set(matches, "trust-proxy"),
         resume: paths.resume,

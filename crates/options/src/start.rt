@@ -76,7 +76,7 @@ fn lacks_scheme(text: &str) -> bool
 
 /// A START with its scheme, which is `http` where it has none.
 #[tactic(auto, unfolding(crate::specs::Start::with_scheme))]
-pub(crate) fn with_scheme(alloc: Global, text: &str) -> Result<String, AllocError>
+pub fn with_scheme(alloc: Global, text: &str) -> Result<String, AllocError>
     ensures { IfOk result (λ full. string_bytes full ≡ with_scheme text.now) }
 {
     if lacks_scheme(text) {

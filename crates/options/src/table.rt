@@ -42,7 +42,7 @@ pub(crate) struct Row<T> {
 }
 
 /// The options.
-const TABLE: [Row<&str>; 54] = [
+const TABLE: [Row<&str>; 79] = [
     Row {
         short: "r",
         name: "recursive",
@@ -177,6 +177,160 @@ const TABLE: [Row<&str>; 54] = [
         says: "a connection of its own for each request",
     },
     Row {
+        short: "U",
+        name: "user-agent",
+        kind: Kind::Value("AGENT"),
+        heading: "",
+        says: "the name that servers receive; empty for none",
+    },
+    Row {
+        short: "",
+        name: "header",
+        kind: Kind::List("LINE"),
+        heading: "",
+        says: "send this field, as \"Accept-Language: en\"",
+    },
+    Row {
+        short: "",
+        name: "referer",
+        kind: Kind::Value("URL"),
+        heading: "",
+        says: "send it as the page that led here",
+    },
+    Row {
+        short: "",
+        name: "no-cache",
+        kind: Kind::Flag,
+        heading: "",
+        says: "no answers that caches kept",
+    },
+    Row {
+        short: "",
+        name: "user",
+        kind: Kind::Value("USER"),
+        heading: "",
+        says: "the user name for the servers of STARTs",
+    },
+    Row {
+        short: "",
+        name: "password",
+        kind: Kind::Value("PASSWORD"),
+        heading: "",
+        says: "its password",
+    },
+    Row {
+        short: "",
+        name: "http-user",
+        kind: Kind::Value("USER"),
+        heading: "",
+        says: "likewise, before --user",
+    },
+    Row {
+        short: "",
+        name: "http-password",
+        kind: Kind::Value("PASSWORD"),
+        heading: "",
+        says: "likewise, before --password",
+    },
+    Row {
+        short: "",
+        name: "auth-no-challenge",
+        kind: Kind::Flag,
+        heading: "",
+        says: "send both with each request to these servers",
+    },
+    Row {
+        short: "w",
+        name: "wait",
+        kind: Kind::Value("S"),
+        heading: "",
+        says: "S seconds between requests; 2m, 3h and 1d too",
+    },
+    Row {
+        short: "",
+        name: "random-wait",
+        kind: Kind::Flag,
+        heading: "",
+        says: "that pause varies, from S/2 to 3S/2",
+    },
+    Row {
+        short: "t",
+        name: "tries",
+        kind: Kind::Usual("N", "1"),
+        heading: "",
+        says: "up to N requests; 0 and inf are no limit",
+    },
+    Row {
+        short: "",
+        name: "waitretry",
+        kind: Kind::Usual("S", "10"),
+        heading: "",
+        says: "pause 1, 2, .. S seconds before that",
+    },
+    Row {
+        short: "",
+        name: "retry-connrefused",
+        kind: Kind::Flag,
+        heading: "",
+        says: "also after refused connections",
+    },
+    Row {
+        short: "",
+        name: "retry-on-host-error",
+        kind: Kind::Flag,
+        heading: "",
+        says: "also after unknown hosts",
+    },
+    Row {
+        short: "",
+        name: "retry-on-http-error",
+        kind: Kind::List("LIST"),
+        heading: "",
+        says: "also after these statuses",
+    },
+    Row {
+        short: "T",
+        name: "timeout",
+        kind: Kind::Value("S"),
+        heading: "",
+        says: "S to connect and for each read; 0 is no limit",
+    },
+    Row {
+        short: "",
+        name: "connect-timeout",
+        kind: Kind::Value("S"),
+        heading: "",
+        says: "S to connect",
+    },
+    Row {
+        short: "",
+        name: "read-timeout",
+        kind: Kind::Usual("S", "900"),
+        heading: "",
+        says: "S until a server sends more",
+    },
+    Row {
+        short: "",
+        name: "answer-timeout",
+        kind: Kind::Value("S"),
+        heading: "",
+        says: "S for a whole answer",
+    },
+    Row {
+        short: "4",
+        name: "inet4-only",
+        kind: Kind::Flag,
+        heading: "",
+        says: "only IPv4 addresses of hosts",
+    },
+    Row {
+        short: "6",
+        name: "inet6-only",
+        kind: Kind::Flag,
+        heading: "",
+        says: "only IPv6 addresses of hosts",
+    },
+    Row {
         short: "",
         name: "https-proxy",
         kind: Kind::Value("URL"),
@@ -224,6 +378,27 @@ const TABLE: [Row<&str>; 54] = [
         kind: Kind::Value("FILE"),
         heading: "",
         says: "what this record has isn't asked for again",
+    },
+    Row {
+        short: "i",
+        name: "input-file",
+        kind: Kind::Value("FILE"),
+        heading: "",
+        says: "also the STARTs in FILE, a line each",
+    },
+    Row {
+        short: "F",
+        name: "force-html",
+        kind: Kind::Flag,
+        heading: "",
+        says: "the FILE of -i is HTML: its links are STARTs",
+    },
+    Row {
+        short: "B",
+        name: "base",
+        kind: Kind::Value("URL"),
+        heading: "",
+        says: "what the FILE of -i has is relative to URL",
     },
     Row {
         short: "P",
@@ -434,7 +609,7 @@ pub(crate) fn option_rows() -> &'static [Row<&'static str>]
 
 /// The forms of Wget's options: all long ones, in the order of their letters, and the short ones that aren't among the options
 /// above. One of two letters is the first letter's, as `nc`.
-const WGET: [&str; 262] = [
+const WGET: [&str; 256] = [
     "--accept",
     "--accept-regex",
     "--adjust-extension",
@@ -680,19 +855,13 @@ const WGET: [&str; 262] = [
     "-i",
     "-F",
     "-B",
-    "-t",
     "-O",
     "-nc",
     "-c",
     "-N",
     "-S",
-    "-T",
-    "-w",
     "-Q",
-    "-4",
-    "-6",
     "-E",
-    "-U",
     "-k",
     "-K",
     "-m",
@@ -717,7 +886,7 @@ pub(crate) struct Instead<T> {
 }
 
 /// What to do in place of Wget's options, if there is something. None of these forms is read.
-const INSTEAD: [Instead<&str>; 84] = [
+const INSTEAD: [Instead<&str>; 74] = [
     Instead {
         form: "--background",
         advice: "& of the shell, or nohup",
@@ -743,40 +912,8 @@ const INSTEAD: [Instead<&str>; 84] = [
         advice: "--trace has each step",
     },
     Instead {
-        form: "--input-file",
-        advice: "xargs wgetr gives the addresses of a file as STARTs",
-    },
-    Instead {
-        form: "-i",
-        advice: "xargs wgetr gives the addresses of a file as STARTs",
-    },
-    Instead {
         form: "--config",
         advice: "-e has the commands of wgetrc",
-    },
-    Instead {
-        form: "--tries",
-        advice: "nothing is requested again, but tools/drop-faults and --resume do so",
-    },
-    Instead {
-        form: "-t",
-        advice: "nothing is requested again, but tools/drop-faults and --resume do so",
-    },
-    Instead {
-        form: "--retry-connrefused",
-        advice: "nothing is requested again, but tools/drop-faults and --resume do so",
-    },
-    Instead {
-        form: "--retry-on-host-error",
-        advice: "nothing is requested again, but tools/drop-faults and --resume do so",
-    },
-    Instead {
-        form: "--retry-on-http-error",
-        advice: "nothing is requested again, but tools/drop-faults and --resume do so",
-    },
-    Instead {
-        form: "--waitretry",
-        advice: "nothing is requested again, but tools/drop-faults and --resume do so",
     },
     Instead {
         form: "--output-document",
@@ -788,27 +925,27 @@ const INSTEAD: [Instead<&str>; 84] = [
     },
     Instead {
         form: "--no-clobber",
-        advice: "--save FILE, and --resume FILE in later runs, requests what lacks",
+        advice: "--save FILE, then --resume FILE: a later run requests what is missing",
     },
     Instead {
         form: "-nc",
-        advice: "--save FILE, and --resume FILE in later runs, requests what lacks",
+        advice: "--save FILE, then --resume FILE: a later run requests what is missing",
     },
     Instead {
         form: "--continue",
-        advice: "--save FILE, and --resume FILE in later runs, requests what lacks",
+        advice: "--save FILE, then --resume FILE: a later run requests what is missing",
     },
     Instead {
         form: "-c",
-        advice: "--save FILE, and --resume FILE in later runs, requests what lacks",
+        advice: "--save FILE, then --resume FILE: a later run requests what is missing",
     },
     Instead {
         form: "--timestamping",
-        advice: "--save FILE, and --resume FILE in later runs, requests what lacks",
+        advice: "--save FILE, then --resume FILE: a later run requests what is missing",
     },
     Instead {
         form: "-N",
-        advice: "--save FILE, and --resume FILE in later runs, requests what lacks",
+        advice: "--save FILE, then --resume FILE: a later run requests what is missing",
     },
     Instead {
         form: "--no-use-server-timestamps",
@@ -839,16 +976,8 @@ const INSTEAD: [Instead<&str>; 84] = [
         advice: "-P DIR, and remove DIR afterwards",
     },
     Instead {
-        form: "--wait",
-        advice: "--workers 1 makes one request at a time",
-    },
-    Instead {
-        form: "-w",
-        advice: "--workers 1 makes one request at a time",
-    },
-    Instead {
-        form: "--random-wait",
-        advice: "--workers 1 makes one request at a time",
+        form: "--dns-timeout",
+        advice: "options timeout:N in /etc/resolv.conf limits look-ups",
     },
     Instead {
         form: "--limit-rate",
@@ -1066,7 +1195,8 @@ pub(crate) fn insteads() -> &'static [Instead<&'static str>]
 }
 
 /// The long forms of options that Wget doesn't have, and of their opposites.
-const OWN: [&str; 18] = [
+const OWN: [&str; 19] = [
+    "--answer-timeout",
     "--https-proxy",
     "--map",
     "--max-urls",
@@ -1105,7 +1235,7 @@ pub(crate) struct Command<T> {
 }
 
 /// The commands of wgetrc whose options are here.
-const COMMANDS: [Command<&str>; 40] = [
+const COMMANDS: [Command<&str>; 64] = [
     Command {
         name: "accept",
         option: "accept",
@@ -1119,8 +1249,24 @@ const COMMANDS: [Command<&str>; 40] = [
         option: "adjust-extension",
     },
     Command {
+        name: "authnochallenge",
+        option: "auth-no-challenge",
+    },
+    Command {
+        name: "cache",
+        option: "cache",
+    },
+    Command {
+        name: "base",
+        option: "base",
+    },
+    Command {
         name: "compression",
         option: "compression",
+    },
+    Command {
+        name: "connecttimeout",
+        option: "connect-timeout",
     },
     Command {
         name: "cookies",
@@ -1159,6 +1305,14 @@ const COMMANDS: [Command<&str>; 40] = [
         option: "follow-ftp",
     },
     Command {
+        name: "header",
+        option: "header",
+    },
+    Command {
+        name: "forcehtml",
+        option: "force-html",
+    },
+    Command {
         name: "hsts",
         option: "hsts",
     },
@@ -1171,8 +1325,16 @@ const COMMANDS: [Command<&str>; 40] = [
         option: "http-keep-alive",
     },
     Command {
+        name: "httppassword",
+        option: "http-password",
+    },
+    Command {
         name: "httpsproxy",
         option: "https-proxy",
+    },
+    Command {
+        name: "httpuser",
+        option: "http-user",
     },
     Command {
         name: "ignorecase",
@@ -1181,6 +1343,18 @@ const COMMANDS: [Command<&str>; 40] = [
     Command {
         name: "includedirectories",
         option: "include-directories",
+    },
+    Command {
+        name: "inet4only",
+        option: "inet4-only",
+    },
+    Command {
+        name: "inet6only",
+        option: "inet6-only",
+    },
+    Command {
+        name: "input",
+        option: "input-file",
     },
     Command {
         name: "logfile",
@@ -1203,6 +1377,10 @@ const COMMANDS: [Command<&str>; 40] = [
         option: "page-requisites",
     },
     Command {
+        name: "password",
+        option: "password",
+    },
+    Command {
         name: "progress",
         option: "progress",
     },
@@ -1215,12 +1393,24 @@ const COMMANDS: [Command<&str>; 40] = [
         option: "quiet",
     },
     Command {
+        name: "randomwait",
+        option: "random-wait",
+    },
+    Command {
+        name: "readtimeout",
+        option: "read-timeout",
+    },
+    Command {
         name: "reclevel",
         option: "level",
     },
     Command {
         name: "recursive",
         option: "recursive",
+    },
+    Command {
+        name: "referer",
+        option: "referer",
     },
     Command {
         name: "reject",
@@ -1233,6 +1423,18 @@ const COMMANDS: [Command<&str>; 40] = [
     Command {
         name: "restrictfilenames",
         option: "restrict-file-names",
+    },
+    Command {
+        name: "retryconnrefused",
+        option: "retry-connrefused",
+    },
+    Command {
+        name: "retryonhosterror",
+        option: "retry-on-host-error",
+    },
+    Command {
+        name: "retryonhttperror",
+        option: "retry-on-http-error",
     },
     Command {
         name: "robots",
@@ -1251,16 +1453,40 @@ const COMMANDS: [Command<&str>; 40] = [
         option: "strict-comments",
     },
     Command {
+        name: "timeout",
+        option: "timeout",
+    },
+    Command {
+        name: "tries",
+        option: "tries",
+    },
+    Command {
         name: "unlink",
         option: "unlink",
+    },
+    Command {
+        name: "user",
+        option: "user",
     },
     Command {
         name: "useproxy",
         option: "proxy",
     },
     Command {
+        name: "useragent",
+        option: "user-agent",
+    },
+    Command {
         name: "verbose",
         option: "verbose",
+    },
+    Command {
+        name: "wait",
+        option: "wait",
+    },
+    Command {
+        name: "waitretry",
+        option: "waitretry",
     },
     Command {
         name: "xattr",

@@ -1,7 +1,7 @@
 //! Words are written out: each option at most once, by its long form and with the value that counts, and the first start after `--`.
 ghost use Rattle.std.specs.Prelude.{◌≡◌, ◌++◌, IfOk, None, OnOk, codes, map, option_map, string_bytes};
 ghost use Rattle.std.specs.List.{flat_map};
-ghost use Rattle.options.specs.Written.{added, first_start, first_unread, form_word, if_any, is_list, row_words, says_also, starts_in, value_from, value_words, value_of, written};
+ghost use Rattle.options.specs.Written.{added, first_start, first_unread, form_word, if_any, is_list, joint, row_words, says_also, starts_in, value_from, value_words, value_of, written};
 ghost use Rattle.options.specs.inner.Said.{saying_in};
 ghost use Rattle.options.specs.inner.Table.{kind_in, row_in};
 
@@ -20,14 +20,22 @@ fn is_list(kind: &Kind<&'static str>) -> bool
     }
 }
 
-// A value behind an earlier one of an option whose values add up, or don't.
+// What is between the elements of this option's list: between field lines a NUL, which is in no word.
+fn joint(name: &str) -> &'static str
+    ensures { result.now ≡ joint name.now }
+{
+    if name == "header" { "\0" } else { "," }
+}
+
+// A value behind an earlier one of an option whose values add up, joined by this, or don't.
 fn added(
     alloc: Global,
+    between: &str,
     adds: bool,
     before: Option<String>,
     value: &str,
 ) -> Result<String, AllocError>
-    ensures { IfOk result (λ text. string_bytes text ≡ added adds (option_map string_bytes before) value.now) }
+    ensures { IfOk result (λ text. string_bytes text ≡ added between.now adds (option_map string_bytes before) value.now) }
 {
     let Some(mut sum) = before else {
         return String::from_str(alloc, value);
@@ -36,7 +44,7 @@ fn added(
         drop(sum);
         return String::from_str(alloc, value);
     }
-    sum.push_str(",")?;
+    sum.push_str(between)?;
     sum.push_str(value)?;
     Ok(sum)
 }
@@ -48,8 +56,8 @@ fn says_also(said: &str, name: &str) -> bool
     said == name || (said == "append-output" && name == "output-file")
 }
 
-// The value that counts of what is said of the option of this name.
-fn value_in(
+/// The value that counts of what is said of the option of this name.
+pub(crate) fn value_in(
     alloc: Global,
     name: &str,
     adds: bool,
@@ -61,7 +69,7 @@ fn value_in(
     for saying in said {
         if let Saying::Says(option, text) = saying {
             if says_also(option, name) {
-                value = Some(added(alloc, adds, value, text)?);
+                value = Some(added(alloc, joint(name), adds, value, text)?);
             }
         }
     }

@@ -4,6 +4,9 @@ pub mod EndLaws
 pub mod KindLaws
 pub mod RunLaws
 pub mod SoleLaws
+pub mod SetLaws
+pub mod FollowLaws
+pub mod PartLaws
 pub mod DeliveryLaws
 pub mod ProgramLaws
 pub mod LiveLaws

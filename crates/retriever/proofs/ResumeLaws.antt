@@ -2,7 +2,6 @@
 use Rattle.std.proofs.Common.{◌≡◌, ℕ, Bool, true, false, List, All, Option, Some, None, length, map, sym, subst}
 use Rattle.std.specs.Prelude.{Result, Ok, Err, IfOk, IfErr, is_some}
 use Rattle.std.specs.declared.alloc.AllocError.{AllocError}
-use Rattle.options.specs.Order.{kept_of}
 use Rattle.options.specs.declared.order.Order.{Order}
 use Rattle.site_inputs.specs.declared.input_fault.InputFault.{InputFault}
 use Rattle.site_inputs.specs.declared.input_fault.InputFault.TheVariants as input
@@ -13,7 +12,7 @@ use Rattle.streams.specs.declared.input.ReadFault.TheVariants as reading
 use Rattle.retriever.specs.Found.{outside}
 use Rattle.retriever.specs.Live.{Lives}
 use Rattle.retriever.specs.Saving.{resuming_means, resuming_of}
-use Rattle.retriever.specs.Systems.{Means, IsNotRead, IsNotResumed, IsRecordRead, IsResumed, LivesAgain, LivesBy, LivesPlainly, LivesSaving, LivesWith, held}
+use Rattle.retriever.specs.Systems.{Means, IsNotRead, IsNotResumed, IsRecordRead, IsResumed, LivesAgain, LivesBy, LivesPlainly, LivesSaving, LivesWith, held, settings_of}
 use Rattle.retriever.specs.inner.Systems.{AreResuming, LivesInto, is_plain}
 use Rattle.retriever.specs.declared.resume_fault.ResumeFault.{ResumeFault}
 use Rattle.retriever.specs.declared.resume_fault.ResumeFault.TheVariants.{Read, Input, Refused}
@@ -47,14 +46,14 @@ module _ {S F D V : Type 0} (m : Means S F D V) (order : Order) where
 
   -- fetchers of the system that are put behind a record
   pub are_resuming : {T : Type 0} (r : Result T AllocError) (items : T → List (Resuming F)) (is_recording : Bool) (recorded : RecordValue) (fetchers : List F)
-      → All (m.gives.makes m.system order.plan.robots is_recording (kept_of order)) fetchers → length fetchers ≡ order.workers
+      → All (m.gives.makes m.system (settings_of order is_recording)) fetchers → length fetchers ≡ order.workers
       → IfOk r (λ all. items all ≡ map (resuming_of m.fetchers.log recorded) fetchers) → IfOk r (λ all. AreResuming m order is_recording recorded (items all))
   are_resuming (Ok all) items is_recording recorded fetchers made count are = record { fetchers = fetchers; made = made; count = count; are = are }
   are_resuming (Err wrong) items is_recording recorded fetchers made count are = are
 
   module _ (before after : Option (List ℕ)) where
     -- a retrieval by fetchers of the system
-    pub plainly_into : (r : Result ℕ AllocError) (fetchers : List F) → All (m.gives.makes m.system order.plan.robots false (kept_of order)) fetchers → length fetchers ≡ order.workers
+    pub plainly_into : (r : Result ℕ AllocError) (fetchers : List F) → All (m.gives.makes m.system (settings_of order false)) fetchers → length fetchers ≡ order.workers
         → IfOk r (LivesInto m order m.fetchers fetchers before after) → IfOk r (LivesPlainly m order before after)
     plainly_into (Ok status) fetchers made count into =
         record { fetchers = fetchers; folder = into.folder; given = record { made = made; count = count; opened = into.opened }; left = into.left; lives = into.lives }

@@ -27,10 +27,10 @@ use Rattle.retriever.specs.Run.{finish_text}
 use Rattle.site_records.specs.Records.{RecordedAnswers}
 use Rattle.retriever.specs.Site.{IsFate, AreLines, AreNamed, AreNamesOf, kind_at, plain_name_by, plain_names_by, whole_of}
 
-sole_depth : (p : Policy) (m : Answers) (u : Text) (d e : ℕ) → IsDepth p m u d → IsDepth p m u e → d ≡ e
+pub sole_depth : (p : Policy) (m : Answers) (u : Text) (d e : ℕ) → IsDepth p m u d → IsDepth p m u e → d ≡ e
 sole_depth p m u d e one other = omega (arith, one.least other.reached.0 e other.reached.1, other.least one.reached.0 d one.reached.1)
 
-sole_fate : (p : Policy) (m : Answers) (u : Text) (f g : Fate) → IsFate p m u f → IsFate p m u g → f ≡ g
+pub sole_fate : (p : Policy) (m : Answers) (u : Text) (f g : Fate) → IsFate p m u f → IsFate p m u g → f ≡ g
 sole_fate p m u (Asked x) (Asked y) one other = (let same : Some x ≡ Some y = sym one.1 ∙ other.1 in cc)
 sole_fate p m u (Asked x) Refused one other = absurd (false≢true (sym other ∙ one.0))
 sole_fate p m u Refused (Asked x) one other = absurd (false≢true (sym one ∙ other.0))
@@ -73,7 +73,7 @@ same_plain true rules others same (page ∷ pages) (kind ∷ kinds) =
     ap (λ name. name ∷ ended_names rules pages kinds) (same page kind) ∙ ap (λ names. ended_name others kind page ∷ names) (same_plain true rules others same pages kinds)
 
 -- and one naming
-same_named : (plan : Plan) (naming others : PageNames) (kinds : List BodyKind) (lines : List Line) → naming.has_endings ≡ others.has_endings
+pub same_named : (plan : Plan) (naming others : PageNames) (kinds : List BodyKind) (lines : List Line) → naming.has_endings ≡ others.has_endings
     → ((page : Text) (kind : BodyKind) → plain_name_by naming.has_endings naming.rules kind page ≡ plain_name_by naming.has_endings others.rules kind page) → AreNamed plan naming kinds lines → AreNamed plan others kinds lines
 same_named plan naming others kinds lines ends same named = record {
   kept = named.kept;

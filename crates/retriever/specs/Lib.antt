@@ -6,6 +6,7 @@ pub mod Parts
 pub mod InputFound
 pub mod Advice
 pub mod Telling
+pub mod Lists
 pub mod Program
 pub mod Found
 pub mod Live

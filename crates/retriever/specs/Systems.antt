@@ -3,7 +3,7 @@ use Rattle.std.specs.Prelude.{◌≡◌, ◌⊎◌, ℕ, Bool, is_some, true, fa
 use Rattle.std.specs.declared.io.Write.{Ghosts as Writers}
 use Rattle.kept_bodies.specs.Bodies.{BodyValue}
 use Rattle.options.specs.declared.order.Order.{Order}
-use Rattle.options.specs.Order.{kept_of}
+use Rattle.options.specs.Order.{kept_of, sending_of}
 use Rattle.fetcher.specs.declared.fetcher.Fetcher.{Ghosts as Fetchers}
 use Rattle.local_tree.specs.Folders.{Holding, holding}
 use Rattle.local_tree.specs.declared.folder.Folder.{Ghosts as Folders}
@@ -20,6 +20,8 @@ use Rattle.retriever.specs.Resuming.{IsUnresumed}
 use Rattle.retriever.specs.Saving.{LivesResumed, outside_saved, resumes, resuming_means, resuming_of}
 use Rattle.retriever.specs.declared.resume_fault.ResumeFault.{ResumeFault}
 use Rattle.retriever.specs.declared.resume_fault.ResumeFault.TheVariants.{Read, Input, Refused}
+use Rattle.live_system.specs.Settings.{Settings}
+use Rattle.pacing.specs.Retries.{retries_by}
 use Rattle.live_system.specs.declared.system.System.{Ghosts as Systems}
 
 -- a system, and what its fetchers, its folders and the writers of its records mean
@@ -35,6 +37,11 @@ pub record Means (S F D V : Type 0) : Type 1 where
 abbrev pub means : {S F D V : Type 0} → Systems S F D V → S → Fetchers F BodyValue → (F → List Noted) → Folders D → Writers V → Means S F D V
 means gives system fetchers noted folders records =
     record { gives = gives; system = system; fetchers = fetchers; noted = noted; folders = folders; records = records }
+
+-- how the fetchers of an order make their requests, with notes or without
+abbrev pub settings_of : Order → Bool → Settings
+settings_of order is_recording =
+    record { robots = order.plan.robots; is_recording = is_recording; kept = kept_of order; proxy = order.proxy; sends = sending_of order; manner = order.manner; retries = retries_by order.retries }
 
 -- the bytes are a record, which says this; where it is saved again its notes say the same
 abbrev pub IsRecordRead : Bool → Bool → List ℕ → RecordValue → Type 0
@@ -53,10 +60,10 @@ module _ {S F D V : Type 0} (m : Means S F D V) where
   abbrev pub held : D → Holding
   held folder = holding m.folders.files m.folders.failed folder
 
-  -- fetchers that the system makes for the order's robots setting and its connections, as many as there are to be workers, with notes or without, and a
-  -- folder that it opens at the order's prefix
+  -- fetchers that the system makes for the order, with notes or without, as many as there are to be workers, and a folder that it opens at the
+  -- order's prefix
   pub record AreGiven (order : Order) (is_recording : Bool) (fetchers : List F) (folder : D) : Type 0 where
-    pub made : All (m.gives.makes m.system order.plan.robots is_recording (kept_of order)) fetchers
+    pub made : All (m.gives.makes m.system (settings_of order is_recording)) fetchers
     pub count : length fetchers ≡ order.workers
     pub opened : m.gives.opens m.system order.prefix folder
 

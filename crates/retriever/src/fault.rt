@@ -80,6 +80,11 @@ fn line_words(wrong: LineFault) -> &'static str
     match wrong {
         LineFault::Words(_) | LineFault::NoProxy | LineFault::ProxyUser | LineFault::FarProxy =>
             "line words",
+        LineFault::Login
+        | LineFault::Agent
+        | LineFault::Referer
+        | LineFault::Header
+        | LineFault::Fields => "line words",
         LineFault::Depth => "line depth",
         LineFault::Pattern => "line pattern",
         LineFault::Directory => "line directory",

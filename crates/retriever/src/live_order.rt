@@ -1,9 +1,8 @@
 //! A live order: what it names is taken from the system, a record is read and written where it says so, and its site is retrieved.
 ghost use Rattle.std.specs.Prelude.{◌≡◌, ◌≢◌, ◌<◌, ◌≤◌, ◌⊎◌, ℕ, List, All, IfOk, IfErr, OnErr, codes, is_some, vec_len};
-ghost use Rattle.options.specs.Order.{kept_of};
 ghost use Rattle.site_records.specs.Records.{IsFault};
 ghost use Rattle.retriever.specs.Resuming.{IsUnresumed};
-ghost use Rattle.retriever.specs.Systems.{IsNotRead, IsNotResumed, IsRecordRead, IsResumed, LivesAgain, LivesBy, LivesIn, LivesPlainly, LivesSaving, LivesWith, means};
+ghost use Rattle.retriever.specs.Systems.{IsNotRead, IsNotResumed, IsRecordRead, IsResumed, LivesAgain, LivesBy, LivesIn, LivesPlainly, LivesSaving, LivesWith, means, settings_of};
 ghost use Rattle.retriever.specs.inner.Systems.{AreResuming, LivesInto, goes_on_from, is_plain};
 
 use crate::input_run::{MAX_INPUT, deliver};
@@ -13,7 +12,7 @@ use crate::resume_fault::{ResumeFault, resume_status, resume_text};
 use crate::saved_run::{live_saved, resuming};
 use fetcher::Fetcher;
 use kept_bodies::Body;
-use live_system::{HoldFault, System};
+use live_system::{FetcherSettings, HoldFault, System};
 use options::Order;
 use site_inputs::InputFault;
 use site_records::{RecordedSite, Resumed};
@@ -28,6 +27,25 @@ use workers::{Halt, Harvest};
 /// A record without entries.
 const EMPTY: &[u8] = b"wgetr-record 2\n";
 
+// How the fetcher of one of the order's workers makes its requests.
+fn settings_of(
+    alloc: Global,
+    order: &Order,
+    is_recording: bool,
+) -> Result<FetcherSettings, AllocError>
+    ensures { IfOk result (λ settings. settings ≡ settings_of order.now is_recording) }
+{
+    Ok(FetcherSettings {
+        robots: order.plan.robots,
+        is_recording,
+        kept: order.kept(),
+        proxy: order.proxy()?,
+        sends: order.sending(alloc)?,
+        manner: order.manner,
+        retries: order.retries.try_clone()?,
+    })
+}
+
 // Fetchers for the order's workers.
 fn fetchers_of<S: System>(
     alloc: Global,
@@ -36,12 +54,12 @@ fn fetchers_of<S: System>(
     is_recording: bool,
 ) -> Result<Vec<S::Fetcher>, AllocError>
     ensures count { IfOk result (λ fetchers. vec_len fetchers ≡ order.now.workers) }
-    ensures made { IfOk result (λ fetchers. All (S.makes system.now order.now.plan.robots is_recording (kept_of order.now)) fetchers.items) }
+    ensures made { IfOk result (λ fetchers. All (S.makes system.now (settings_of order.now is_recording)) fetchers.items) }
 {
     let mut fetchers = Vec::new(alloc);
     for _ in 0..order.workers {
-        let proxy = order.proxy()?;
-        fetchers.push(system.fetcher(order.plan.robots, is_recording, order.kept(), proxy))?;
+        let settings = settings_of(alloc, order, is_recording)?;
+        fetchers.push(system.fetcher(settings))?;
     }
     Ok(fetchers)
 }

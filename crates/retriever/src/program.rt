@@ -102,10 +102,10 @@ fn tell<E: Write>(advice: &str, errors: &mut E)
     let _ = write_text(errors, advice.as_bytes());
 }
 
-// Tells a person what is wrong with the words, and nothing of other faults, and writes the line of it, or what the words ask for.
-// Answers the status. Both
-// texts are made before either is written, so that no person is told of words whose line is that memory ran out.
-fn explain<W: Write, E: Write>(
+/// Tells a person what is wrong with the words, and nothing of other faults, and writes the line of it, or what the words ask for.
+/// Answers the status. Both
+/// texts are made before either is written, so that no person is told of words whose line is that memory ran out.
+pub(crate) fn explain<W: Write, E: Write>(
     alloc: Global,
     fault: Fault,
     words: &[&str],

@@ -22,6 +22,11 @@ fn word_of(fault: LineFault) -> &'static str {
         LineFault::NoProxy => "no proxy",
         LineFault::ProxyUser => "proxy: user",
         LineFault::FarProxy => "proxy: far",
+        LineFault::Login => "login",
+        LineFault::Agent => "agent",
+        LineFault::Referer => "referer",
+        LineFault::Header => "header",
+        LineFault::Fields => "fields",
         LineFault::Depth => "depth",
         LineFault::Pattern => "pattern",
         LineFault::Directory => "directory",
@@ -71,6 +76,19 @@ no proxy => --https-proxy=https://p/ https://h/
 no proxy => --https-proxy=http://p/a -l x https://h/
 words: bad value => --https-proxy=http://p/a --cut-dirs=x http://h/
 proxy: user => --https-proxy=http://u@127.0.0.1/ http://h/
+header => --header=nocolon -l x http://h/
+header => --header=A:b --header=Host --header=C:d http://h/
+read => --header=nocolon --header= http://h/
+no proxy => --header=nocolon --https-proxy=https://p/ https://h/
+login => --user u --password p --header nocolon http://h/
+login => --user u --auth-no-challenge http://h/
+login => --http-password=p --auth-no-challenge http://h/
+login => --user u:v --password p --auth-no-challenge http://h/
+read => --http-user=u --password p: --auth-no-challenge http://h/
+read => --auth-no-challenge http://h/
+no proxy => --user u --https-proxy=https://p/ https://h/
+agent => -U a\tb --header nocolon http://h/
+referer => --referer=\r --header=nocolon http://h/
 read => -e https_proxy=127.0.0.1:3128 https://h/
 start: not http => -e https_proxy=http://127.0.0.1/ --https-proxy= https://h/
 proxy: far => --https-proxy=p:3128 https://h/
@@ -86,7 +104,9 @@ read => http://h/ http://k/ http://h/
 start: not url => http://h/ //k/
 start: robots => http://h/ http://k/robots.txt a:b
 words: bad value => --max-urls=2 http://h/ http://k/ http://l/
-words: unknown => -F -l x http://h/
+words: unknown => -4 -l x http://h/
+read => -F -i list -B b http://h/
+read => -e input=- -e force_html=on -e base=b http://h/
 read => -rp --page-requisites http://h/
 words: bad value => -npr http://h/
 words: bad value => -pnr http://h/
@@ -113,6 +133,33 @@ words: out of range => --workers 0 http://h/
 words: out of range => --workers 65 -l x a
 words: out of range => --per-host 17 http://h/
 words: bad value => -nq http://h/
+words: bad value => -w -1 http://h/
+words: bad value => --wait=1x http://h/
+words: bad value => --wait=1e3 http://h/
+words: bad value => --wait=inf http://h/
+words: bad value => --wait=NaN http://h/
+words: bad value => --wait=1.2.3 http://h/
+words: bad value => --wait=. http://h/
+words: bad value => --wait= http://h/
+words: bad value => --wait=+1 http://h/
+words: bad value => --wait=1.0000000001 http://h/
+words: bad value => --wait=366d http://h/
+words: bad value => --wait=18446744073709551616 http://h/
+words: bad value => -t x http://h/
+words: bad value => --tries=-1 http://h/
+words: bad value => --tries=4294967296 http://h/
+words: bad value => --tries=1.5 http://h/
+words: bad value => --waitretry=soon http://h/
+words: bad value => --retry-on-http-error=503,99 http://h/
+words: bad value => --retry-on-http-error=1000 http://h/
+read => -t 0 --tries=inf --waitretry=0.5 --retry-connrefused --retry-on-host-error --retry-on-http-error=500,503 http://h/
+words: bad value => -T infinity http://h/
+words: bad value => --timeout=x --read-timeout=1 --connect-timeout=1 http://h/
+words: bad value => --answer-timeout=1w http://h/
+words: bad value => -4 -6 -l x http://h/
+read => -w.5 --random-wait -T 1.5m -4 --no-inet4-only -6 http://h/
+read => -w 365d --timeout=inf --read-timeout=0 --connect-timeout=0.000000001s --answer-timeout=2h http://h/
+read => -e wait=5. -e random_wait=on -e ReadTimeout=1 http://h/
 start: not http => --https-proxy=http://p/ --no-proxy https://h/
 read => --no-proxy --proxy --https-proxy=http://localhost/ https://h/
 read => --no-proxy --https-proxy=https://p/ http://h/
@@ -371,6 +418,28 @@ How it is asked for:
        --workers=N                 N workers, 1 to 64 (4)
        --per-host=N                N requests at a time to a server, 1 to 16 (2)
        --no-http-keep-alive        a connection of its own for each request
+  -U,  --user-agent=AGENT          the name that servers receive; empty for none
+       --header=LINE               send this field, as \"Accept-Language: en\"
+       --referer=URL               send it as the page that led here
+       --no-cache                  no answers that caches kept
+       --user=USER                 the user name for the servers of STARTs
+       --password=PASSWORD         its password
+       --http-user=USER            likewise, before --user
+       --http-password=PASSWORD    likewise, before --password
+       --auth-no-challenge         send both with each request to these servers
+  -w,  --wait=S                    S seconds between requests; 2m, 3h and 1d too
+       --random-wait               that pause varies, from S/2 to 3S/2
+  -t,  --tries=N                   up to N requests; 0 and inf are no limit (1)
+       --waitretry=S               pause 1, 2, .. S seconds before that (10)
+       --retry-connrefused         also after refused connections
+       --retry-on-host-error       also after unknown hosts
+       --retry-on-http-error=LIST  also after these statuses
+  -T,  --timeout=S                 S to connect and for each read; 0 is no limit
+       --connect-timeout=S         S to connect
+       --read-timeout=S            S until a server sends more (900)
+       --answer-timeout=S          S for a whole answer
+  -4,  --inet4-only                only IPv4 addresses of hosts
+  -6,  --inet6-only                only IPv6 addresses of hosts
        --https-proxy=URL           https by a proxy, as http://127.0.0.1:3128/
        --trust-proxy               https also by a proxy on another machine
        --no-proxy                  no proxy, whatever words and https_proxy say
@@ -380,6 +449,9 @@ Where the site is:
        --map                       the site is a map on standard input
        --record                    the site is a record on standard input
        --resume=FILE               what this record has isn't asked for again
+  -i,  --input-file=FILE           also the STARTs in FILE, a line each
+  -F,  --force-html                the FILE of -i is HTML: its links are STARTs
+  -B,  --base=URL                  what the FILE of -i has is relative to URL
 
 What becomes of it:
   -P,  --directory-prefix=DIR      put files below DIR (.)
@@ -441,17 +513,21 @@ const ADVICE: &str = "\
 --recursiv=maybe http://h/ => unexpected argument found|wgetr --help says which words are accepted
 --nothing-near http://h/ => unexpected argument found: --nothing-near|wgetr --help says which words are accepted
 --mirror http://h/ => unexpected argument found: --mirror (an option of Wget that wgetr doesn't have: -r -l inf, and --save FILE and --resume FILE for -N)|wgetr --help says which words are accepted
--r --user-agent=a http://h/ => unexpected argument found: --user-agent (an option of Wget that wgetr doesn't have)|wgetr --help says which words are accepted
+-r --save-cookies=a http://h/ => unexpected argument found: --save-cookies (an option of Wget that wgetr doesn't have)|wgetr --help says which words are accepted
+--header a:b --header nocolon --header=c http://h/ => a value of --header is no field that can be sent: nocolon|a field is a name, a colon and a value, as Accept-Language: en, without control characters and with at most 8192 bytes (see wgetr --help)
+-U a\tb http://h/ => the value of -U, --user-agent has a control character or more than 8192 bytes|a field is a name, a colon and a value, as Accept-Language: en, without control characters and with at most 8192 bytes (see wgetr --help)
+--user=u --password=p http://h/ => user name and password are only sent together and with --auth-no-challenge|--user=USER --password=PASSWORD --auth-no-challenge send both with each request to the servers of STARTs; USER has no colon (see wgetr --help)
+--referer a\tb http://h/ => the value of --referer has a control character or more than 8192 bytes|a field is a name, a colon and a value, as Accept-Language: en, without control characters and with at most 8192 bytes (see wgetr --help)
 -mkp http://h/ => unexpected argument found: -mkp (an option of Wget that wgetr doesn't have: -r -l inf, and --save FILE and --resume FILE for -N)|wgetr --help says which words are accepted
---no-cl http://h/ => unexpected argument found: --no-cl (an option of Wget that wgetr doesn't have: --save FILE, and --resume FILE in later runs, requests what lacks)|wgetr --help says which words are accepted
--nc http://h/ => one of the values isn't valid for an argument: -nc (an option of Wget that wgetr doesn't have: --save FILE, and --resume FILE in later runs, requests what lacks)|wgetr --help says which words are accepted
+--no-cl http://h/ => unexpected argument found: --no-cl (an option of Wget that wgetr doesn't have: --save FILE, then --resume FILE: a later run requests what is missing)|wgetr --help says which words are accepted
+-nc http://h/ => one of the values isn't valid for an argument: -nc (an option of Wget that wgetr doesn't have: --save FILE, then --resume FILE: a later run requests what is missing)|wgetr --help says which words are accepted
 -e robots=of http://h/ => one of the values isn't valid for an argument|wgetr --help says which words are accepted
 h/ http://k/ //example.org/ => START is no URL (did you mean http://example.org/?)|START is an address in full, as http://example.org/path?query, without user name and password, with at most 8192 bytes and a host of at most 255 (see wgetr --help)
 //example.org/ => START is no URL (did you mean http://example.org/?)|START is an address in full, as http://example.org/path?query, without user name and password, with at most 8192 bytes and a host of at most 255 (see wgetr --help)
 -r example.org:/a => START isn't an http address, and an https one needs --https-proxy, a proxy that speaks TLS (did you mean http://example.org/a?)|START is an address in full, as http://example.org/path?query, without user name and password, with at most 8192 bytes and a host of at most 255 (see wgetr --help)
 https://h/ => START isn't an http address, and an https one needs --https-proxy, a proxy that speaks TLS|START is an address in full, as http://example.org/path?query, without user name and password, with at most 8192 bytes and a host of at most 255 (see wgetr --help)
 a:b => START isn't an http address, and an https one needs --https-proxy, a proxy that speaks TLS|START is an address in full, as http://example.org/path?query, without user name and password, with at most 8192 bytes and a host of at most 255 (see wgetr --help)
-http://a@h/ => START has a user name or a password|START is an address in full, as http://example.org/path?query, without user name and password, with at most 8192 bytes and a host of at most 255 (see wgetr --help)
+http://a@h/ => START has a user name or a password, which --user, --password and --auth-no-challenge send|START is an address in full, as http://example.org/path?query, without user name and password, with at most 8192 bytes and a host of at most 255 (see wgetr --help)
 http://h/robots.txt => START is a robots file|START is any other page (see wgetr --help)
 -l x http://h/ => the value of -l, --level is no level|a level is inf or decimal digits, at most 1000000 (see wgetr --help)
 -A [a http://h/ => an element of -A, --accept or -R, --reject is no pattern|an element is a suffix, or a pattern with *, ? and classes as [a-z], each closed (see wgetr --help)

@@ -1,14 +1,16 @@
 //! What the connections of a run know of hosts.
 use crate::lacks::{Lack, OpenFault, is_again, lack_of, lacks_descriptor};
+use address::Origin;
 use indexmap::IndexMap;
+use pacing::Turns;
 use std::alloc::{AllocError, Global};
 use std::io::{Error, ErrorKind};
 use std::net::{Net, SocketAddr, ToSocketAddrs};
-use std::sync::atomic::{AtomicU64, Ordering};
+use std::sync::atomic::{AtomicBool, AtomicU64, Ordering};
 use std::sync::{Arc, Mutex, Wait};
 
 /// What the connections of a run know of hosts, shared by all workers: each host's addresses, which servers keep their
-/// connections open, and which don't answer.
+/// connections open, which don't answer, and when an origin's next request may begin.
 pub struct Hosts {
     // By the host of a URL, with its brackets.
     by_name: Mutex<IndexMap<String, Arc<Host>>>,
@@ -16,6 +18,9 @@ pub struct Hosts {
     silent: Mutex<Vec<SocketAddr>>,
     // How many connections have ended.
     ended: AtomicU64,
+    turns: Mutex<Turns>,
+    // Whether an origin was to be left alone at some time.
+    has_holds: AtomicBool,
     alloc: Global,
 }
 
@@ -27,6 +32,8 @@ impl Drop for Hosts {
             open: _open,
             silent: _silent,
             ended: _ended,
+            turns: _turns,
+            has_holds: _has_holds,
             alloc: _alloc,
         } = self;
     }
@@ -56,6 +63,8 @@ impl Hosts {
             open: Mutex::new(Vec::new(alloc)),
             silent: Mutex::new(Vec::new(alloc)),
             ended: AtomicU64::new(0),
+            turns: Mutex::new(Turns::new(alloc)),
+            has_holds: AtomicBool::new(false),
             alloc,
         }
     }
@@ -84,6 +93,37 @@ impl Hosts {
     // tried again.
     pub(crate) fn note_silent<R: Wait>(&self, rt: &R, server: SocketAddr) {
         let _ = self.silent.lock(rt).push(server);
+    }
+
+    // When a request to an origin is to begin that could begin now, and after which there is this pause. It is waited for after the
+    // lock was released.
+    pub(crate) fn book<R: Wait>(
+        &self,
+        rt: &R,
+        of: &Origin,
+        now: u64,
+        pause: u64,
+    ) -> Result<u64, AllocError> {
+        book_among(&mut self.turns.lock(rt), of, now, pause)
+    }
+
+    // No request to an origin is to begin before this time. Where there is no memory for it, it may.
+    pub(crate) fn hold<R: Wait>(&self, rt: &R, of: &Origin, until: u64) {
+        self.has_holds.store(true, Ordering::SeqCst);
+        hold_among(&mut self.turns.lock(rt), of, until);
+    }
+
+    // Whether an origin was to be left alone at some time.
+    pub(crate) fn has_holds(&self) -> bool {
+        self.has_holds.load(Ordering::SeqCst)
+    }
+
+    // Forgets that the host of this name had no address, and that its servers didn't answer.
+    pub(crate) fn forget_faults<R: Wait>(&self, rt: &R, name: &str) {
+        let host = found_among(&self.by_name.lock(rt), name);
+        if let Some(host) = host {
+            forget_among(&mut host.known.lock(rt), &mut self.silent.lock(rt));
+        }
     }
 
     // How many connections of the run have ended.
@@ -123,6 +163,38 @@ impl Host {
 }
 
 // What stands under a lock is lent to functions of its own: there no way out of them lets go of the lock.
+
+// When a request to an origin is to begin, by the turns of the run.
+fn book_among(turns: &mut Turns, of: &Origin, now: u64, pause: u64) -> Result<u64, AllocError> {
+    turns.book(of, now, pause)
+}
+
+// An origin is left alone until this time.
+fn hold_among(turns: &mut Turns, of: &Origin, until: u64) {
+    let _ = turns.hold(of, until);
+}
+
+// The host of this name, if it is known.
+fn found_among(by_name: &IndexMap<String, Arc<Host>>, name: &str) -> Option<Arc<Host>> {
+    Arc::try_clone(by_name.get(name)?).ok()
+}
+
+// Forgets that a host has no address, and that servers at its addresses don't answer.
+fn forget_among(known: &mut Option<Known>, silent: &mut Vec<SocketAddr>) {
+    let Some(Known { addresses, .. }) = known else {
+        return;
+    };
+    if addresses.is_empty() {
+        *known = None;
+    } else {
+        silent.retain(|server| !has_ip(addresses, *server));
+    }
+}
+
+// Whether a server is at one of these addresses.
+fn has_ip(addresses: &[SocketAddr], server: SocketAddr) -> bool {
+    addresses.iter().any(|address| address.ip() == server.ip())
+}
 
 // The host of this name among those that are known, or a new one.
 fn host_among(

@@ -9,20 +9,19 @@ use crate::connection::Connection;
 use crate::hosts::{Host, Hosts, Known, has};
 use crate::kept::{Entered, Kept, MOST, Waiting, is_fresh, is_quiet};
 use crate::lacks::{Lack, OpenFault, Patience, lack_of, loss_of};
+use crate::turn::{hold_turn, wait_turn};
 use address::{Origin, Scheme};
 use connect::{Connect, ConnectFault};
+use pacing::{Family, Manner};
 use response_reader::TcpWire;
 use run_failures::LossKind;
 use std::alloc::{AllocError, Global};
 use std::io;
-use std::io::{ErrorKind, Read, Write};
+use std::io::{ErrorKind, Read};
 use std::marker::Model;
 use std::net::{Net, OpenStream, SocketAddr};
 use std::sync::Wait;
 use std::time::{Clock, Duration, Instant};
-
-/// The most seconds that a read or a write may wait (GNU Wget manual, `--read-timeout`).
-const STREAM_TIMEOUT: u64 = 900;
 
 /// The most milliseconds that the server is waited for at the end of a connection.
 const CLOSE_TIMEOUT: u64 = 100;
@@ -50,6 +49,9 @@ pub struct TcpConnect<'a, R: Net + Wait + Clock> {
     keeping: Option<Keeping<'a, R::Stream>>,
     // The proxy that speaks TLS to servers.
     proxy: Option<Origin>,
+    manner: Manner,
+    // The origin whose turn was waited for, while no connection was had for it yet.
+    turn: Option<Origin>,
     made: u64,
     taken: u64,
     failed: u64,
@@ -77,18 +79,39 @@ fn server_of<'b>(proxy: &'b Option<Origin>, of: &'b Origin) -> Option<&'b Origin
     }
 }
 
+// Whether an address is among those that are connected to.
+fn is_of(family: Family, address: SocketAddr) -> bool {
+    match family {
+        Family::Any => true,
+        Family::V4 => address.is_ipv4(),
+        Family::V6 => address.is_ipv6(),
+    }
+}
+
+// A connection to the server, within the limit where there is one.
+fn call<R: Net>(rt: &R, server: SocketAddr, limit: Option<Duration>) -> io::Result<R::Stream> {
+    match limit {
+        Some(limit) => rt.connect_timeout(server, limit),
+        None => rt.connect(server),
+    }
+}
+
 // A connection to the first of the addresses that takes one, and that address. Else it is lost for what the first of them
 // answered. A port that lacks is waited for where no address gave an answer, or at the one that took a connection before.
 fn stream_to<R: Net + Wait>(
     rt: &R,
     hosts: &Hosts,
+    manner: &Manner,
     known: &Known,
     port: u16,
 ) -> Result<(R::Stream, SocketAddr), OpenFault> {
     let mut loss = None;
     let mut fault = OpenFault::Failed(LossKind::Unknown);
     for address in &known.addresses {
-        let unmade = match stream_at(rt, hosts, *address, port) {
+        if !is_of(manner.family, *address) {
+            continue;
+        }
+        let unmade = match stream_at(rt, hosts, manner, *address, port) {
             Ok(stream) => return Ok((stream, *address)),
             Err(unmade) => unmade,
         };
@@ -110,6 +133,7 @@ fn stream_to<R: Net + Wait>(
 fn stream_at<R: Net + Wait>(
     rt: &R,
     hosts: &Hosts,
+    manner: &Manner,
     address: SocketAddr,
     port: u16,
 ) -> Result<R::Stream, OpenFault> {
@@ -118,7 +142,7 @@ fn stream_at<R: Net + Wait>(
     if hosts.is_silent(rt, server) {
         return Err(OpenFault::Failed(LossKind::TimedOut));
     }
-    match rt.connect(server) {
+    match call(rt, server, manner.connect_limit) {
         Ok(stream) => Ok(stream),
         Err(e) => {
             if e.kind() == ErrorKind::TimedOut {
@@ -137,24 +161,21 @@ fn fault_of(e: &io::Error) -> OpenFault {
     }
 }
 
-// Sets what holds for each connection: the time limits, without which none is used, and that a long request's last packet
-// doesn't wait for the peer, which a connection can do without.
-fn prepare<S: OpenStream>(stream: &S) -> io::Result<()> {
-    stream.set_read_timeout(Some(Duration::from_secs(STREAM_TIMEOUT)))?;
-    stream.set_write_timeout(Some(Duration::from_secs(STREAM_TIMEOUT)))?;
-    let _ = stream.set_nodelay(true);
-    Ok(())
+// The shorter of two limits, of which there may be none.
+fn shorter(first: Option<Duration>, second: Option<Duration>) -> Option<Duration> {
+    match (first, second) {
+        (Some(first), Some(second)) => Some(first.min(second)),
+        (limit, None) | (None, limit) => limit,
+    }
 }
 
-// The wire of a connection that is set so.
-fn wire_of<S: Read + Write + OpenStream + Drop>(
-    stream: S,
-    place: Option<u64>,
-) -> Result<TcpWire<Connection<S>>, OpenFault> {
-    match prepare(&stream) {
-        Ok(()) => Ok(TcpWire::new(Connection::new(stream, place))),
-        Err(e) => Err(OpenFault::Failed(loss_of(&e))),
-    }
+// Sets what holds for each connection: the time limits, without which none is used, and that a long request's last packet
+// doesn't wait for the peer, which a connection can do without.
+fn prepare<S: OpenStream>(stream: &S, manner: &Manner) -> io::Result<()> {
+    stream.set_read_timeout(manner.read_limit)?;
+    stream.set_write_timeout(shorter(manner.read_limit, manner.answer_limit))?;
+    let _ = stream.set_nodelay(true);
+    Ok(())
 }
 
 // A read that answered this found nothing within its time.
@@ -206,6 +227,8 @@ impl<'a, R: Net + Wait + Clock> TcpConnect<'a, R> {
             late: Vec::new(alloc),
             keeping: None,
             proxy: None,
+            manner: Manner::usual(),
+            turn: None,
             made: 0,
             taken: 0,
             failed: 0,
@@ -238,6 +261,37 @@ impl<'a, R: Net + Wait + Clock> TcpConnect<'a, R> {
         TcpConnect { proxy, ..self }
     }
 
+    /// The same, which treats servers so.
+    pub fn treating(self, manner: Manner) -> TcpConnect<'a, R>
+        ensures { result ≡ self.entry }
+    {
+        TcpConnect { manner, ..self }
+    }
+
+    /// Has no request to an origin begin before this time is over, whichever worker's. What was found out of the faults of its
+    /// server's host is forgotten: it is looked up again if it had no address, and connected to again if it didn't answer.
+    pub fn leave_alone(&self, of: &Origin, pause: Duration) {
+        if let Some(server) = server_of(&self.proxy, of) {
+            self.hosts.forget_faults(self.rt, server.host());
+        }
+        hold_turn(self.rt, self.hosts, of, pause);
+    }
+
+    // Waits until a request to an origin may begin, unless that was done, and no request was begun since. The error is that memory
+    // ran out.
+    fn begin(&mut self, of: &Origin) -> Result<(), AllocError>
+        ensures { self.new ≡ self.old }
+    {
+        let turn = self.turn.take();
+        if self.manner.wait.is_zero() && !self.hosts.has_holds() {
+            return Ok(());
+        }
+        match turn {
+            Some(turn) if turn == *of => Ok(()),
+            _ => wait_turn(self.rt, self.hosts, &self.manner, of),
+        }
+    }
+
     // Where connections are kept.
     fn kept(&self) -> Option<&'a Kept<R::Stream>> {
         let keeping = self.keeping.as_ref()?;
@@ -265,11 +319,11 @@ impl<'a, R: Net + Wait + Clock> TcpConnect<'a, R> {
     }
 
     // A connection to an origin that waits, not too long, and from which nothing can be read. Others are ended.
-    fn next_kept(&self, kept: &Kept<R::Stream>, of: &Origin) -> Option<Connection<R::Stream>> {
+    fn next_kept(&self, kept: &Kept<R::Stream>, of: &Origin) -> Option<Connection<'a, R>> {
         for _ in 0..MOST {
             let (number, Waiting { since, stream }) = kept.take(self.rt, of.as_str())?;
             if is_fresh(self.rt, &since) && is_quiet(&stream) {
-                return Some(Connection::new(stream, Some(number)));
+                return Some(self.connection(stream, Some(number)));
             }
             drop(stream);
             kept.leave(self.rt, number);
@@ -314,23 +368,45 @@ impl<'a, R: Net + Wait + Clock> TcpConnect<'a, R> {
         }
     }
 
+    // What is read and written of a stream, in its place.
+    fn connection(&self, stream: R::Stream, place: Option<u64>) -> Connection<'a, R> {
+        let Manner {
+            read_limit,
+            answer_limit,
+            ..
+        } = self.manner;
+        Connection::new(self.rt, stream, place, read_limit, answer_limit)
+    }
+
+    // The wire of a connection that is set so.
+    fn wire_of(
+        &self,
+        stream: R::Stream,
+        place: Option<u64>,
+    ) -> Result<TcpWire<Connection<'a, R>>, OpenFault> {
+        match prepare(&stream, &self.manner) {
+            Ok(()) => Ok(TcpWire::new(self.connection(stream, place))),
+            Err(e) => Err(OpenFault::Failed(loss_of(&e))),
+        }
+    }
+
     // A connection to an origin, as it can be had now.
     fn open(
         &self,
         of: &Origin,
         place: Option<u64>,
-    ) -> Result<TcpWire<Connection<R::Stream>>, OpenFault> {
+    ) -> Result<TcpWire<Connection<'a, R>>, OpenFault> {
         let Some(server) = server_of(&self.proxy, of) else {
             return Err(OpenFault::Failed(LossKind::Unknown));
         };
         let host = self.hosts.host(self.rt, server.host())?;
-        wire_of(self.stream(&host, server)?, place)
+        self.wire_of(self.stream(&host, server)?, place)
     }
 
     // A connection to the host of an origin. The host knows from then on which address took it.
     fn stream(&self, host: &Host, of: &Origin) -> Result<R::Stream, OpenFault> {
         let known = host.known(self.rt, self.alloc, of.host())?;
-        let (stream, took) = stream_to(self.rt, self.hosts, &known, of.port())?;
+        let (stream, took) = stream_to(self.rt, self.hosts, &self.manner, &known, of.port())?;
         if known.took != Some(took) {
             host.took(self.rt, took);
         }
@@ -342,7 +418,7 @@ impl<'a, R: Net + Wait + Clock> TcpConnect<'a, R> {
         &self,
         of: &Origin,
         place: Option<u64>,
-    ) -> Result<TcpWire<Connection<R::Stream>>, OpenFault> {
+    ) -> Result<TcpWire<Connection<'a, R>>, OpenFault> {
         let mut patience = Patience::new();
         for _ in self.rt.forever() {
             match self.open(of, place) {
@@ -359,8 +435,11 @@ impl<'a, R: Net + Wait + Clock> TcpConnect<'a, R> {
         unreachable!()
     }
 
-    // A connection to an origin, in a place of its own where connections are kept.
-    fn make(&self, of: &Origin) -> Result<TcpWire<Connection<R::Stream>>, OpenFault> {
+    // A connection to an origin whose turn has come, in a place of its own where connections are kept.
+    fn make(&mut self, of: &Origin) -> Result<TcpWire<Connection<'a, R>>, OpenFault>
+        ensures { self.new ≡ self.old }
+    {
+        self.begin(of)?;
         let place = self.enter(of)?;
         let made = self.wait_for(of, place);
         if made.is_err() {
@@ -370,7 +449,7 @@ impl<'a, R: Net + Wait + Clock> TcpConnect<'a, R> {
     }
 
     // Ends a connection. One that failed tells nothing of how the server ends it: it is ended at once.
-    fn end_wire(&mut self, wire: TcpWire<Connection<R::Stream>>)
+    fn end_wire(&mut self, wire: TcpWire<Connection<'a, R>>)
         ensures { self.new ≡ self.old }
     {
         let connection = wire.into_stream();
@@ -396,7 +475,7 @@ impl<'a, R: Net + Wait + Clock> TcpConnect<'a, R> {
 }
 
 impl<'a, R: Net + Wait + Clock> Connect for TcpConnect<'a, R> {
-    type Wire = TcpWire<Connection<R::Stream>>;
+    type Wire = TcpWire<Connection<'a, R>>;
 
     // Of a connection of the system nothing is known.
     ghost gives = { λ _ _ _. ⊤ };
@@ -413,7 +492,7 @@ impl<'a, R: Net + Wait + Clock> Connect for TcpConnect<'a, R> {
 
     ghost taken = { λ c. c.taken };
 
-    fn connect(&mut self, of: &Origin) -> Result<TcpWire<Connection<R::Stream>>, ConnectFault> {
+    fn connect(&mut self, of: &Origin) -> Result<TcpWire<Connection<'a, R>>, ConnectFault> {
         self.made = self.made.saturating_add(1);
         self.loss = None;
         match self.make(of) {
@@ -427,16 +506,20 @@ impl<'a, R: Net + Wait + Clock> Connect for TcpConnect<'a, R> {
         }
     }
 
-    fn take(&mut self, of: &Origin) -> Option<TcpWire<Connection<R::Stream>>> {
+    fn take(&mut self, of: &Origin) -> Option<TcpWire<Connection<'a, R>>> {
         let kept = self.kept()?;
-        let connection = self.next_kept(kept, of)?;
+        self.begin(of).ok()?;
+        let Some(connection) = self.next_kept(kept, of) else {
+            self.turn = of.try_clone().ok();
+            return None;
+        };
         self.taken = self.taken.saturating_add(1);
         self.loss = None;
         Some(TcpWire::new(connection))
     }
 
     // One that failed, or that has no place, isn't kept.
-    fn give_back(&mut self, _of: &Origin, wire: TcpWire<Connection<R::Stream>>) {
+    fn give_back(&mut self, _of: &Origin, wire: TcpWire<Connection<'a, R>>) {
         let connection = wire.into_stream();
         let (Some(kept), Some(number)) = (self.kept(), connection.place()) else {
             return self.end_wire(TcpWire::new(connection));
@@ -455,7 +538,7 @@ impl<'a, R: Net + Wait + Clock> Connect for TcpConnect<'a, R> {
         }
     }
 
-    fn close(&mut self, wire: TcpWire<Connection<R::Stream>>) {
+    fn close(&mut self, wire: TcpWire<Connection<'a, R>>) {
         self.end_wire(wire);
     }
 

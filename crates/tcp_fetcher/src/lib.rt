@@ -5,6 +5,7 @@
 #![tactic(auto)]
 
 mod over_tcp;
+mod single_tcp;
 mod watched_tcp;
 
 pub use crate::over_tcp::OverTcp;

@@ -1,10 +1,12 @@
-//! What asks over TCP for one worker.
-use crate::watched_tcp::WatchedTcp;
+//! What asks over TCP for one worker, and again where that is worth it.
+use crate::single_tcp::SingleTcp;
 use address::{Address, Origin};
 use answer_notes::{Hops, Telling, Told};
 use fetcher::{Answer, Ask, Body, Fetcher};
-use http_fetcher::HttpFetcher;
+use pacing::{Manner, Retries};
 use progress::Progress;
+use requests::Sending;
+use retries::{Calling, Retrying};
 use robots_rules::RuleSet;
 use run_failures::LossKind;
 use std::alloc::{AllocError, Global};
@@ -14,9 +16,9 @@ use std::sync::Wait;
 use std::time::Clock;
 use tcp_connect::{Hosts, Kept};
 
-/// Asks over TCP, and shows on the terminal what comes of it.
+/// Asks over TCP, again after answers and faults that are worth it, and shows on the terminal what comes of it.
 pub struct OverTcp<'a, R: Net + Wait + Clock + Eprint> {
-    inner: HttpFetcher<WatchedTcp<'a, R>>,
+    inner: Retrying<SingleTcp<'a, R>>,
 }
 
 // By hand: who drops one proves a call, and nothing of what it holds.
@@ -31,16 +33,17 @@ impl<'a, R: Net + Wait + Clock + Eprint> Model for OverTcp<'a, R> {
 
     ghost Value = { TcpFetching };
 
-    ghost view = { λ f. record { robots = f.inner.robots; keeps = f.inner.keeps; most = f.inner.connect.most; asks = f.inner.asks } };
+    ghost view = { λ f. record { robots = f.inner.inner.robots; keeps = f.inner.inner.keeps; most = f.inner.inner.most; sends = f.inner.inner.sends; retries = f.inner.retries; asks = f.inner.asks } };
 }
 
 impl<'a, R: Net + Wait + Clock + Eprint> OverTcp<'a, R> {
-    ghost use Rattle.std.specs.Prelude.{◌≡◌, is_some, []};
+    ghost use Rattle.std.specs.Prelude.{◌≡◌, Some, is_some, []};
+    ghost use Rattle.pacing.specs.Retries.{retries_by};
 
     /// By this handle, with what the run knows of hosts and keeps of connections, and the line that counts what comes. Where robots
     /// rules are honoured, a page that asks that its links aren't followed has none. Connections are kept among those of the run
     /// where it is said how many to a server may stand at a time; else each question has one of its own. For https addresses the
-    /// proxy is asked, and without one none is. Takes no memory.
+    /// proxy is asked, and without one none is. Each request says this. Servers are treated so, and requests made again so. Takes no memory.
     pub fn new(
         rt: &'a R,
         alloc: Global,
@@ -50,25 +53,28 @@ impl<'a, R: Net + Wait + Clock + Eprint> OverTcp<'a, R> {
         robots: bool,
         most: Option<u32>,
         proxy: Option<Origin>,
+        sends: Sending,
+        manner: Manner,
+        retries: Retries,
     ) -> OverTcp<'a, R>
         ensures robots { result.robots ≡ robots }
         ensures keeps { result.keeps ≡ is_some most }
         ensures most { result.most ≡ most }
+        ensures sends { result.sends ≡ Some sends }
+        ensures retries { result.retries ≡ retries_by retries }
         ensures asks { result.asks ≡ [] }
     {
-        let connect = WatchedTcp::new(rt, alloc, hosts, kept, progress, most, proxy);
-        let fetcher = HttpFetcher::new(alloc, connect, robots);
-        match most {
-            Some(_) => OverTcp {
-                inner: fetcher.keeping(),
-            },
-            None => OverTcp { inner: fetcher },
+        let single = SingleTcp::new(
+            rt, alloc, hosts, kept, progress, robots, most, proxy, sends, manner,
+        );
+        OverTcp {
+            inner: Retrying::new(alloc, single, retries),
         }
     }
 
     /// Why the last connection was lost, where it was.
     pub fn loss(&self) -> Option<LossKind> {
-        self.inner.connect().loss()
+        self.inner.inner().loss()
     }
 }
 
@@ -99,6 +105,9 @@ impl<'a, R: Net + Wait + Clock + Eprint> Fetcher for OverTcp<'a, R> {
     fn asks(&self) -> &[Ask] {
         self.inner.asks()
     }
+
+    // Nobody looks on here. By hand, since the checker doesn't prove the trait's own body at this type.
+    fn tell_recorded(&mut self) {}
 }
 
 impl<'a, R: Net + Wait + Clock + Eprint> Telling for OverTcp<'a, R> {

@@ -5,36 +5,30 @@ ghost use Rattle.connect.specs.Connects.{CountsRefusal};
 
 use address::Origin;
 use connect::{Connect, ConnectFault};
+use pacing::Manner;
 use progress::{Progress, Watched, WatchedWire};
 use response_reader::{TcpWire, Wire, WireFault};
 use run_failures::LossKind;
 use std::alloc::Global;
-use std::io::{Read, Write};
 use std::marker::Model;
 use std::net::Net;
 use std::sync::Wait;
-use std::time::Clock;
+use std::time::{Clock, Duration};
 use tcp_connect::{Connection, Hosts, Kept, TcpConnect};
 
 // Makes connections over TCP for one worker, and counts what comes over them.
+#[derive(Drop)]
 pub(crate) struct WatchedTcp<'a, R: Net + Wait + Clock + Eprint> {
     inner: Watched<'a, TcpConnect<'a, R>, R>,
 }
 
-// By hand: who drops one proves a call, and nothing of what it holds.
-impl<'a, R: Net + Wait + Clock + Eprint> Drop for WatchedTcp<'a, R> {
-    fn drop(self) {
-        let WatchedTcp { inner: _inner } = self;
-    }
-}
-
 // One of them.
-pub(crate) struct WatchedTcpWire<S: Read + Write + Drop> {
-    inner: WatchedWire<TcpWire<Connection<S>>>,
+pub(crate) struct WatchedTcpWire<'a, R: Net + Clock> {
+    inner: WatchedWire<TcpWire<Connection<'a, R>>>,
 }
 
 // By hand: who drops one proves a call, and nothing of what it holds.
-impl<S: Read + Write + Drop> Drop for WatchedTcpWire<S> {
+impl<'a, R: Net + Clock> Drop for WatchedTcpWire<'a, R> {
     fn drop(self) {
         let WatchedTcpWire { inner: _inner } = self;
     }
@@ -49,7 +43,7 @@ impl<'a, R: Net + Wait + Clock + Eprint> Model for WatchedTcp<'a, R> {
 }
 
 // Contracts see how many calls answered an error, and whether one lost the connection.
-impl<S: Read + Write + Drop> Model for WatchedTcpWire<S> {
+impl<'a, R: Net + Clock> Model for WatchedTcpWire<'a, R> {
     ghost use Rattle.std.specs.Prelude.{ℕ, Bool};
 
     ghost Value = { ℕ × Bool × Bool };
@@ -69,10 +63,13 @@ impl<'a, R: Net + Wait + Clock + Eprint> WatchedTcp<'a, R> {
         progress: &'a Progress<'a, R>,
         most: Option<u32>,
         proxy: Option<Origin>,
+        manner: Manner,
     ) -> WatchedTcp<'a, R>
         ensures { result ≡ record { made = 0; failed = 0; refused = 0; taken = 0; most = most } }
     {
-        let connect = TcpConnect::new(rt, alloc, hosts).through(proxy);
+        let connect = TcpConnect::new(rt, alloc, hosts)
+            .through(proxy)
+            .treating(manner);
         match most {
             Some(most) => WatchedTcp {
                 inner: Watched::new(connect.keeping(kept, most), progress),
@@ -87,13 +84,18 @@ impl<'a, R: Net + Wait + Clock + Eprint> WatchedTcp<'a, R> {
     pub(crate) fn loss(&self) -> Option<LossKind> {
         self.inner.inner().loss()
     }
+
+    // Has no request to an origin begin before this time is over.
+    pub(crate) fn leave_alone(&self, of: &Origin, pause: Duration) {
+        self.inner.inner().leave_alone(of, pause);
+    }
 }
 
-impl<S: Read + Write + Drop> WatchedTcpWire<S> {
+impl<'a, R: Net + Clock> WatchedTcpWire<'a, R> {
     ghost use Rattle.std.specs.Prelude.{◌≡◌};
 
-    fn into_inner(self) -> WatchedWire<TcpWire<Connection<S>>>
-        ensures { result ≡ self }
+    fn into_inner(self) -> WatchedWire<TcpWire<Connection<'a, R>>>
+        ensures { result ≡ self.entry }
     {
         let WatchedTcpWire { inner } = self;
         inner
@@ -103,7 +105,7 @@ impl<S: Read + Write + Drop> WatchedTcpWire<S> {
 impl<'a, R: Net + Wait + Clock + Eprint> Connect for WatchedTcp<'a, R> {
     ghost use Rattle.std.specs.Prelude.{⊤};
 
-    type Wire = WatchedTcpWire<R::Stream>;
+    type Wire = WatchedTcpWire<'a, R>;
 
     ghost gives = { λ _ _ _. ⊤ };
 
@@ -119,25 +121,25 @@ impl<'a, R: Net + Wait + Clock + Eprint> Connect for WatchedTcp<'a, R> {
 
     ghost taken = { λ c. c.taken };
 
-    fn connect(&mut self, of: &Origin) -> Result<WatchedTcpWire<R::Stream>, ConnectFault> {
+    fn connect(&mut self, of: &Origin) -> Result<WatchedTcpWire<'a, R>, ConnectFault> {
         match self.inner.connect(of) {
             Ok(inner) => Ok(WatchedTcpWire { inner }),
             Err(fault) => Err(fault),
         }
     }
 
-    fn take(&mut self, of: &Origin) -> Option<WatchedTcpWire<R::Stream>> {
+    fn take(&mut self, of: &Origin) -> Option<WatchedTcpWire<'a, R>> {
         match self.inner.take(of) {
             Some(inner) => Some(WatchedTcpWire { inner }),
             None => None,
         }
     }
 
-    fn give_back(&mut self, of: &Origin, wire: WatchedTcpWire<R::Stream>) {
+    fn give_back(&mut self, of: &Origin, wire: WatchedTcpWire<'a, R>) {
         self.inner.give_back(of, wire.into_inner());
     }
 
-    fn close(&mut self, wire: WatchedTcpWire<R::Stream>) {
+    fn close(&mut self, wire: WatchedTcpWire<'a, R>) {
         self.inner.close(wire.into_inner());
     }
 
@@ -146,7 +148,7 @@ impl<'a, R: Net + Wait + Clock + Eprint> Connect for WatchedTcp<'a, R> {
     }
 }
 
-impl<S: Read + Write + Drop> Wire for WatchedTcpWire<S> {
+impl<'a, R: Net + Clock> Wire for WatchedTcpWire<'a, R> {
     ghost use Rattle.std.specs.Prelude.{None, false};
 
     ghost incoming = { λ _. None };

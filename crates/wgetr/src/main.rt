@@ -2,10 +2,10 @@
 //! its arguments and its streams is stated at `retriever::run_program`; `main` only names them, and what the system gives.
 #![tactic(auto)]
 
-use host_system::{Network, Output, PartThreads, SharedFailures, StandIns};
+use host_system::{Network, Output, PartThreads, SharedFailures, StandIns, starts_of};
 use progress::{BehindLine, Progress};
 use record_journal::Saving;
-use retriever::{arguments, run_program, telling_of};
+use retriever::{arguments, refuse_starts, run_program, telling_of, with_starts};
 use std::io::{IsTerminal, Write};
 use std::process::ExitCode;
 use tcp_connect::{Hosts, Kept};
@@ -14,7 +14,28 @@ fn main(rt: HostRuntime) -> ExitCode {
     // Before anything is opened, so that no file of the run takes the place of a stream that is closed.
     let stand_ins = StandIns::open(&rt);
     let failures = SharedFailures::new(rt.alloc());
-    let Ok(telling) = telling_of(rt.alloc(), arguments(&rt, rt.alloc())) else {
+    let starts = match starts_of(
+        &rt,
+        rt.alloc(),
+        &failures,
+        arguments(&rt, rt.alloc()),
+        &mut rt.stdin(),
+    ) {
+        Ok(starts) => starts,
+        Err(why) => {
+            let status = refuse_starts(
+                rt.alloc(),
+                why,
+                arguments(&rt, rt.alloc()),
+                &mut rt.stdout(),
+                &mut rt.stderr(),
+            );
+            failures.tell(&rt, &mut rt.stderr());
+            return ExitCode::from(status);
+        }
+    };
+    let args = with_starts(rt.alloc(), arguments(&rt, rt.alloc()), starts.as_slice());
+    let Ok(telling) = telling_of(rt.alloc(), args) else {
         let _ = rt.stdout().write_all(b"stopped memory\n");
         return ExitCode::from(1);
     };
@@ -50,7 +71,7 @@ fn main(rt: HostRuntime) -> ExitCode {
         &rt,
         rt.alloc(),
         &network,
-        arguments(&rt, rt.alloc()),
+        with_starts(rt.alloc(), arguments(&rt, rt.alloc()), starts.as_slice()),
         &mut rt.stdin(),
         &mut writer,
         &mut rt.stderr(),

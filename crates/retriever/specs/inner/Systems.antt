@@ -1,6 +1,5 @@
 -- What proofs alone need beside `Systems`.
 use Rattle.std.specs.Prelude.{◌≡◌, ◌&&◌, ℕ, Bool, is_none, false, List, All, Option, Some, None, bytes_eq, length, map}
-use Rattle.options.specs.Order.{kept_of}
 use Rattle.options.specs.declared.order.Order.{Order}
 use Rattle.fetcher.specs.declared.fetcher.Fetcher.{Ghosts as Fetchers}
 use Rattle.kept_bodies.specs.Bodies.{BodyValue}
@@ -9,7 +8,7 @@ use Rattle.site_records.specs.Resumption.{Resuming}
 use Rattle.retriever.specs.Found.{outside}
 use Rattle.retriever.specs.Live.{Lives}
 use Rattle.retriever.specs.Saving.{resuming_of}
-use Rattle.retriever.specs.Systems.{Means, held}
+use Rattle.retriever.specs.Systems.{Means, held, settings_of}
 
 -- an order that resumes this goes on from the file at the path
 abbrev pub goes_on_from : Option (List ℕ) → List ℕ → Bool
@@ -31,6 +30,6 @@ module _ {S F D V : Type 0} (m : Means S F D V) (order : Order) where
   -- these fetchers ask such ones as the system makes for the order, with notes or without, for what is recorded
   pub record AreResuming (is_recording : Bool) (recorded : RecordValue) (all : List (Resuming F)) : Type 0 where
     pub fetchers : List F
-    pub made : All (m.gives.makes m.system order.plan.robots is_recording (kept_of order)) fetchers
+    pub made : All (m.gives.makes m.system (settings_of order is_recording)) fetchers
     pub count : length fetchers ≡ order.workers
     pub are : all ≡ map (resuming_of m.fetchers.log recorded) fetchers

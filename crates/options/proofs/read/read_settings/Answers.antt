@@ -4,7 +4,7 @@ use Rattle.std.specs.Prelude.{Err}
 use Rattle.clap.specs.Words.{found_of, rows_of}
 use Rattle.options.specs.Asked.{without_kind}
 use Rattle.options.specs.Order.{proxy_by}
-use Rattle.options.proofs.ReadLemmas.{bad-words, bad-counts, bad-proxy, bad-names}
+use Rattle.options.proofs.ReadLemmas.{bad-words, bad-counts, bad-manner, bad-proxy, bad-names, bad-fields, bad-retries}
 use Rattle.options.proofs.read.read_settings.Goals as goal
 
 pub returns-in-Some : goal.returns-in-Some
@@ -15,27 +15,51 @@ pub returns-in_default-read_counts : goal.returns-in_default-read_counts
 returns-in_default-read_counts c =
     inl (bad-counts (rows_of (found_of c.args.matches.now)) (sym c.in_default.ensures.good) c.in_default-read_counts.ensures)
 
+pub returns-in_default-manner : goal.returns-in_default-manner
+returns-in_default-manner c =
+    inl (bad-manner (rows_of (found_of c.args.matches.now)) _ (sym c.in_default.ensures.good) c.in-Some-read_counts.ensures (sym c.in_default-manner.ensures))
+
 pub returns-in-Err : goal.returns-in-Err
 returns-in-Err c =
     let found = rows_of (found_of c.args.matches.now) in
     ⊎_elim
-    (λ bad. inl (bad-names found _ (sym c.in_default.ensures.good) c.in-Some-read_counts.ensures bad.1 ∙ ap Err (sym (ap without_kind bad.0))))
+    (λ bad. inl (bad-names found _ _ (sym c.in_default.ensures.good) c.in-Some-read_counts.ensures (sym c.in-Some-manner.ensures) bad.1 ∙ ap Err (sym (ap without_kind bad.0))))
     (λ memory. inr memory)
     c.in-Err.ensures
+
+pub returns-in-Err-retries : goal.returns-in-Err-retries
+returns-in-Err-retries c =
+    let found = rows_of (found_of c.args.matches.now) in
+    ⊎_elim
+    (λ bad. inl (bad-retries found _ _ _ (sym c.in_default.ensures.good) c.in-Some-read_counts.ensures (sym c.in-Some-manner.ensures) c.in-Ok.ensures bad.1 ∙ ap Err (sym (ap without_kind bad.0))))
+    (λ memory. inr memory)
+    c.in-Err-retries.ensures
 
 pub returns-in-Err-proxy_by : goal.returns-in-Err-proxy_by
 returns-in-Err-proxy_by c =
     let found = rows_of (found_of c.args.matches.now) in
     ⊎_elim
-    (λ bad. inl (bad-proxy found _ _ _ (sym c.in_default.ensures.good) c.in-Some-read_counts.ensures c.in-Ok.ensures (ap proxy_by (sym c.proxy_value.ensures) ∙ bad) ∙ ap Err (sym c.in-Err-proxy_by.ensures.kept)))
+    (λ bad. inl (bad-proxy found _ _ _ _ _ (sym c.in_default.ensures.good) c.in-Some-read_counts.ensures (sym c.in-Some-manner.ensures) c.in-Ok.ensures c.in-Ok-retries.ensures (ap proxy_by (sym c.proxy_value.ensures) ∙ bad) ∙ ap Err (sym c.in-Err-proxy_by.ensures.kept)))
     (λ memory. inr memory)
     c.in-Err-proxy_by.ensures.answers
+
+pub returns-in-Err-fields : goal.returns-in-Err-fields
+returns-in-Err-fields c =
+    let found = rows_of (found_of c.args.matches.now) in
+    let proxy = ap proxy_by (sym c.proxy_value.ensures) ∙ c.in-Ok-proxy_by.ensures.answers in
+    ⊎_elim
+    (λ bad. inl (bad-fields found _ _ _ _ _ _ (sym c.in_default.ensures.good) c.in-Some-read_counts.ensures (sym c.in-Some-manner.ensures) c.in-Ok.ensures c.in-Ok-retries.ensures proxy bad ∙ ap Err (sym c.in-Err-fields.ensures.kept)))
+    (λ memory. inr memory)
+    c.in-Err-fields.ensures.answers
 
 pub returns : goal.returns
 returns c =
     record {
       words = sym c.in_default.ensures.good;
       counted = c.in-Some-read_counts.ensures;
+      treated = sym c.in-Some-manner.ensures;
       named = c.in-Ok.ensures;
+      retried = c.in-Ok-retries.ensures;
       proxied = ap proxy_by (sym c.proxy_value.ensures) ∙ c.in-Ok-proxy_by.ensures.answers;
+      fielded = c.in-Ok-fields.ensures.answers;
     }

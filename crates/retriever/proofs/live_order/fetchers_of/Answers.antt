@@ -2,14 +2,14 @@ use Rattle.std.proofs.Common.{◌≡◌, [], ◌∷◌, All, length, sym, ap, �
 use Rattle.std.proofs.lemmas.List.{length-append}
 use Rattle.std.proofs.lemmas.List.Elements.{All-append, All-cons, All-nil}
 use Rattle.std.proofs.lemmas.Result.{IfOk-from_err}
-use Rattle.options.specs.Order.{kept_of}
+use Rattle.retriever.specs.Systems.{settings_of}
 use Rattle.retriever.proofs.live_order.fetchers_of.Goals as goal
 
 pub loop-preserved : goal.loop-preserved
 loop-preserved g c =
-    let Makes = g.S.System.makes c.args.system.now c.args.order.now.plan.robots c.args.is_recording in
-    let Made = Makes (kept_of c.args.order.now) in
-    let here : Made c.fetcher.result = subst (λ kept. Makes kept c.fetcher.result) c.kept.ensures c.fetcher.ensures in
+    let Made = g.S.System.makes c.args.system.now (settings_of c.args.order.now c.args.is_recording) in
+    let here : Made c.fetcher.result =
+    subst (λ settings. g.S.System.makes c.args.system.now settings c.fetcher.result) c.in_ok-settings.ensures c.fetcher.ensures in
     let items = c.in_ok-push.ensures.items in
     record {
       count = omega (arith, ap length items ∙ length-append c.loop.fetchers.items (c.fetcher.result ∷ []), c.loop.invariant.count);

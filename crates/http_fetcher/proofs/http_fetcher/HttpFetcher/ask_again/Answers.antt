@@ -10,6 +10,7 @@ returns-then-not-self g c =
       asks = refl;
       robots = refl;
       keeps = refl;
+      sends = refl;
       is_recording = refl;
       notes = refl;
       made = refl;
@@ -26,6 +27,7 @@ returns-in_default g c =
       asks = refl;
       robots = refl;
       keeps = refl;
+      sends = refl;
       is_recording = refl;
       notes = refl;
       made = c.take.ensures.made;
@@ -45,6 +47,7 @@ returns-then-has_given_up g c =
       asks = ap (λ (f : Fetching _). f.asks) now;
       robots = ap (λ (f : Fetching _). f.robots) now;
       keeps = ap (λ (f : Fetching _). f.keeps) now;
+      sends = ap (λ (f : Fetching _). f.sends) now;
       is_recording = ap (λ (f : Fetching _). f.is_recording) now;
       notes = ap (λ (f : Fetching _). f.notes) now;
       made = closed.made ∙ ap (λ (f : Fetching _). g.C.Connect.made f.connect) now ∙ c.take.ensures.made;
@@ -76,6 +79,7 @@ returns-else-has_given_up g c =
       asks = put.asks ∙ ap (λ (f : Fetching _). f.asks) same;
       robots = put.robots ∙ ap (λ (f : Fetching _). f.robots) same;
       keeps = put.keeps ∙ ap (λ (f : Fetching _). f.keeps) same;
+      sends = put.sends ∙ ap (λ (f : Fetching _). f.sends) same;
       is_recording = put.is_recording ∙ ap (λ (f : Fetching _). f.is_recording) same;
       notes = put.notes ∙ ap (λ (f : Fetching _). f.notes) same;
       made = put.made ∙ ap (λ (f : Fetching _). g.C.Connect.made f.connect) same ∙ c.take.ensures.made;
@@ -89,7 +93,7 @@ returns-else-has_given_up g c =
         sym (c.has_given_up.ensures c.self.inside.robots c.args.at.now) ∙ c.if-has_given_up.false,
         (c.in-Some.wire, c.in-Some.ensures.given, rw c.in-Ok-Some.field-0-is at c.in-Ok-Some.ensures.told),
       );
-      stands = stands_by g.C.Connect g.C.Wire.Wire _ _ _ (record { at = c.args.at.now; robots = c.self.inside.robots; keeps = c.self.inside.keeps })
+      stands = stands_by g.C.Connect g.C.Wire.Wire _ _ _ (record { at = c.args.at.now; robots = c.self.inside.robots; keeps = c.self.inside.keeps; sends = c.self.inside.sends })
           _ c.in-Ok-Some.heard.serves c.in-Some.wire c.told_again.new.wire c.requires c.take.ensures.stands
           (rw same at put.stands) (rw c.in-Ok-Some.field-0-is at c.in-Ok-Some.ensures.serves);
     })
@@ -103,6 +107,7 @@ returns-in-Ok-None g c =
       asks = ap (λ (f : Fetching _). f.asks) now;
       robots = ap (λ (f : Fetching _). f.robots) now;
       keeps = ap (λ (f : Fetching _). f.keeps) now;
+      sends = ap (λ (f : Fetching _). f.sends) now;
       is_recording = ap (λ (f : Fetching _). f.is_recording) now;
       notes = ap (λ (f : Fetching _). f.notes) now;
       made = closed.made ∙ ap (λ (f : Fetching _). g.C.Connect.made f.connect) now ∙ c.take.ensures.made;
@@ -125,6 +130,7 @@ returns-in-Err g c =
       asks = ap (λ (f : Fetching _). f.asks) now;
       robots = ap (λ (f : Fetching _). f.robots) now;
       keeps = ap (λ (f : Fetching _). f.keeps) now;
+      sends = ap (λ (f : Fetching _). f.sends) now;
       is_recording = ap (λ (f : Fetching _). f.is_recording) now;
       notes = ap (λ (f : Fetching _). f.notes) now;
       made = closed.made ∙ ap (λ (f : Fetching _). g.C.Connect.made f.connect) now ∙ c.take.ensures.made;

@@ -10,6 +10,7 @@ returns-then-not-self g c =
       asks = refl;
       robots = refl;
       keeps = refl;
+      sends = refl;
       is_recording = refl;
       notes = refl;
       made = refl;
@@ -26,6 +27,7 @@ returns-in_default g c =
       asks = refl;
       robots = refl;
       keeps = refl;
+      sends = refl;
       is_recording = refl;
       notes = refl;
       made = c.take.ensures.made;
@@ -46,6 +48,7 @@ returns-then-says_given_up g c =
       asks = ap (λ (f : Fetching _). f.asks) now;
       robots = ap (λ (f : Fetching _). f.robots) now;
       keeps = ap (λ (f : Fetching _). f.keeps) now;
+      sends = ap (λ (f : Fetching _). f.sends) now;
       is_recording = ap (λ (f : Fetching _). f.is_recording) now;
       notes = ap (λ (f : Fetching _). f.notes) now;
       made = closed.made ∙ ap (λ (f : Fetching _). g.C.Connect.made f.connect) now ∙ c.take.ensures.made;
@@ -78,6 +81,7 @@ returns-else-says_given_up g c =
       asks = put.asks ∙ ap (λ (f : Fetching _). f.asks) same;
       robots = put.robots ∙ ap (λ (f : Fetching _). f.robots) same;
       keeps = put.keeps ∙ ap (λ (f : Fetching _). f.keeps) same;
+      sends = put.sends ∙ ap (λ (f : Fetching _). f.sends) same;
       is_recording = put.is_recording ∙ ap (λ (f : Fetching _). f.is_recording) same;
       notes = put.notes ∙ ap (λ (f : Fetching _). f.notes) same;
       made = put.made ∙ ap (λ (f : Fetching _). g.C.Connect.made f.connect) same ∙ c.take.ensures.made;
@@ -95,7 +99,7 @@ returns-else-says_given_up g c =
           (c.in-Some.wire, c.in-Some.ensures.given, said.2),
         ),
       );
-      stands = stands_by g.C.Connect g.C.Wire.Wire _ _ _ (record { at = c.args.at.now; robots = c.self.inside.robots; keeps = c.self.inside.keeps })
+      stands = stands_by g.C.Connect g.C.Wire.Wire _ _ _ (record { at = c.args.at.now; robots = c.self.inside.robots; keeps = c.self.inside.keeps; sends = c.self.inside.sends })
           _ c.in-Ok-Some.heard.serves c.in-Some.wire c.page_again.new.wire c.requires c.take.ensures.stands
           (rw same at put.stands) (rw c.in-Ok-Some.field-0-is at c.in-Ok-Some.ensures.serves);
     })
@@ -109,6 +113,7 @@ returns-in-Ok-None g c =
       asks = ap (λ (f : Fetching _). f.asks) now;
       robots = ap (λ (f : Fetching _). f.robots) now;
       keeps = ap (λ (f : Fetching _). f.keeps) now;
+      sends = ap (λ (f : Fetching _). f.sends) now;
       is_recording = ap (λ (f : Fetching _). f.is_recording) now;
       notes = ap (λ (f : Fetching _). f.notes) now;
       made = closed.made ∙ ap (λ (f : Fetching _). g.C.Connect.made f.connect) now ∙ c.take.ensures.made;
@@ -131,6 +136,7 @@ returns-in-Err g c =
       asks = ap (λ (f : Fetching _). f.asks) now;
       robots = ap (λ (f : Fetching _). f.robots) now;
       keeps = ap (λ (f : Fetching _). f.keeps) now;
+      sends = ap (λ (f : Fetching _). f.sends) now;
       is_recording = ap (λ (f : Fetching _). f.is_recording) now;
       notes = ap (λ (f : Fetching _). f.notes) now;
       made = closed.made ∙ ap (λ (f : Fetching _). g.C.Connect.made f.connect) now ∙ c.take.ensures.made;

@@ -20,13 +20,14 @@ returns-in-Ok-page_over g c =
       asks = put.asks ∙ ap (λ (f : Fetching _). f.asks) same;
       robots = put.robots ∙ ap (λ (f : Fetching _). f.robots) same;
       keeps = put.keeps ∙ ap (λ (f : Fetching _). f.keeps) same;
+      sends = put.sends ∙ ap (λ (f : Fetching _). f.sends) same;
       is_recording = put.is_recording ∙ ap (λ (f : Fetching _). f.is_recording) same;
       notes = put.notes ∙ ap (λ (f : Fetching _). f.notes) same;
       one = one;
       most = one_made _ _ one;
       taken = put.taken ∙ ap (λ (f : Fetching _). g.C.Connect.taken f.connect) same ∙ c.connect.ensures.taken;
       told = (said.0, said.1, rw (sym c.requires) (inr (c.in-Ok.wire, c.in-Ok.ensures.given, said.2)));
-      stands = stands_by g.C.Connect g.C.Wire.Wire _ _ _ (record { at = c.args.at.now; robots = c.self.inside.robots; keeps = c.self.inside.keeps })
+      stands = stands_by g.C.Connect g.C.Wire.Wire _ _ _ (record { at = c.args.at.now; robots = c.self.inside.robots; keeps = c.self.inside.keeps; sends = c.self.inside.sends })
           _ c.in-Ok-page_over.heard.serves c.in-Ok.wire c.page_over.new.wire c.requires c.in-Ok.ensures.stands
           (rw same at put.stands) c.in-Ok-page_over.ensures.serves;
     })
@@ -41,6 +42,7 @@ returns-in-Err g c =
       asks = ap (λ (f : Fetching _). f.asks) now;
       robots = ap (λ (f : Fetching _). f.robots) now;
       keeps = ap (λ (f : Fetching _). f.keeps) now;
+      sends = ap (λ (f : Fetching _). f.sends) now;
       is_recording = ap (λ (f : Fetching _). f.is_recording) now;
       notes = ap (λ (f : Fetching _). f.notes) now;
       one = tt;
@@ -56,6 +58,7 @@ returns-in-Err-Failed g c =
       asks = refl;
       robots = refl;
       keeps = refl;
+      sends = refl;
       is_recording = refl;
       notes = refl;
       one = on_ok _ c.connect.ensures.made;
@@ -72,6 +75,7 @@ returns-in-Err-Memory g c =
       asks = refl;
       robots = refl;
       keeps = refl;
+      sends = refl;
       is_recording = refl;
       notes = refl;
       one = tt;

@@ -15,6 +15,7 @@ returns-in_err-origin g c =
       asks = refl;
       robots = refl;
       keeps = refl;
+      sends = refl;
       is_recording = refl;
       notes = refl;
       one = λ none. tt;
@@ -31,6 +32,7 @@ returns-in_err-told g c =
       asks = after.asks;
       robots = after.robots;
       keeps = after.keeps;
+      sends = after.sends;
       is_recording = after.is_recording;
       notes = after.notes;
       one = λ none. tt;
@@ -47,6 +49,7 @@ returns-in-Some g c =
       asks = after.asks;
       robots = after.robots;
       keeps = after.keeps;
+      sends = after.sends;
       is_recording = after.is_recording;
       notes = after.notes;
       one = λ none. absurd (true≢false (sym told.2 ∙ none));
@@ -66,13 +69,14 @@ returns g c =
       asks = after.asks ∙ before.asks;
       robots = after.robots ∙ before.robots;
       keeps = after.keeps ∙ before.keeps;
+      sends = after.sends ∙ before.sends;
       is_recording = after.is_recording ∙ before.is_recording;
       notes = after.notes ∙ before.notes;
       one = λ none. subst (λ n. OnOk c.ask_anew.result (g.C.Connect.made new.connect ≡ counted n 1)) before.made after.one;
       most = subst (λ n. g.C.Connect.made new.connect ≤ n + 1) before.made after.most;
       told = if_ok_on c.ask_anew.result _ _ _ after.one after.told
           (λ one t told. subst (λ b. IsToldByTries g.C.Connect g.C.Wire.Wire old new c.args.at.now (answer_told b c.args.at.now t)) before.robots
-          (told_second g.C.Connect g.C.Wire.Wire old mid new c.args.at.now (answer_told mid.robots c.args.at.now t) before.made before.refused before.robots before.keeps
+          (told_second g.C.Connect g.C.Wire.Wire old mid new c.args.at.now (answer_told mid.robots c.args.at.now t) before.made before.refused before.robots before.keeps before.sends
           (rw c.in-None.is at before.gives) (rw c.in-None.is at before.silent) after.taken one told));
-      stands = stands_twice g.C.Connect g.C.Wire.Wire old mid new c.args.at.now before.robots before.keeps before.stands after.stands;
+      stands = stands_twice g.C.Connect g.C.Wire.Wire old mid new c.args.at.now before.robots before.keeps before.sends before.stands after.stands;
     }

@@ -17,6 +17,7 @@ returns-in_err-origin g c =
       asks = refl;
       robots = refl;
       keeps = refl;
+      sends = refl;
       is_recording = refl;
       notes = refl;
       one = λ none. tt;
@@ -34,6 +35,7 @@ returns-in-Some g c =
       asks = after.asks;
       robots = after.robots;
       keeps = after.keeps;
+      sends = after.sends;
       is_recording = after.is_recording;
       notes = after.notes;
       one = λ none. absurd (true≢false (sym told.2.2 ∙ none));
@@ -54,6 +56,7 @@ returns g c =
       asks = after.asks ∙ before.asks;
       robots = after.robots ∙ before.robots;
       keeps = after.keeps ∙ before.keeps;
+      sends = after.sends ∙ before.sends;
       is_recording = after.is_recording ∙ before.is_recording;
       notes = after.notes ∙ before.notes;
       most = subst (λ n. g.C.Connect.made new.connect ≤ n + 1) before.made after.most;
@@ -61,10 +64,10 @@ returns g c =
       told = if_ok_on c.ask_page_anew.result _ _ _ after.one after.told (λ one a told. (
         told.0,
         told.1,
-        told_second g.C.Connect g.C.Wire.Wire old mid new c.args.at.now told.0 before.made before.refused before.robots before.keeps
+        told_second g.C.Connect g.C.Wire.Wire old mid new c.args.at.now told.0 before.made before.refused before.robots before.keeps before.sends
             (rw c.in-None.is at before.gives) (rw c.in-None.is at before.silent) after.taken one told.2,
       ));
-      stands = stands_twice g.C.Connect g.C.Wire.Wire old mid new c.args.at.now before.robots before.keeps before.stands after.stands;
+      stands = stands_twice g.C.Connect g.C.Wire.Wire old mid new c.args.at.now before.robots before.keeps before.sends before.stands after.stands;
       may = if_ok_map c.ask_page_anew.result _ _ after.told (λ a told.
           (told.0, told.1, subst (λ b. MayAnswer b c.args.at.now told.0.outcome told.0.body) before.robots (may_answer_anew g.C.Connect g.C.Wire.Wire mid new c.args.at.now told.0 told.2)));
     }

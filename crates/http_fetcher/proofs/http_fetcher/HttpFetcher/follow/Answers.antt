@@ -19,15 +19,16 @@ hops-preserved g c =
       asks = c.in_ok-told.ensures.asks ∙ c.hops.invariant.asks;
       robots = c.in_ok-told.ensures.robots ∙ c.hops.invariant.robots;
       keeps = c.in_ok-told.ensures.keeps ∙ c.hops.invariant.keeps;
+      sends = c.in_ok-told.ensures.sends ∙ c.hops.invariant.sends;
       is_recording = c.in_ok-told.ensures.is_recording ∙ c.hops.invariant.is_recording;
       notes = c.in_ok-told.ensures.notes ∙ c.hops.invariant.notes;
       origin = c.hops.invariant.origin;
       left = let was = c.hops.invariant.left in omega arith;
       count = λ none. one_more _ _ _ c.hops.hops.items _ (c.hops.at, c.in_ok-told.told) (c.hops.invariant.count none) (c.in_ok-told.ensures.one (c.hops.invariant.keeps ∙ none)) c.in_ok-push-in-Next.ensures.items;
       few = let was = c.hops.invariant.few in let most = c.in_ok-told.ensures.most in omega arith;
-      stands = stands_more g.C.Connect g.C.Wire.Wire c.args.self.now c.hops.self c.exchange.new.self c.hops.at c.hops.invariant.robots c.hops.invariant.keeps c.hops.invariant.stands c.in_ok-told.ensures.stands;
+      stands = stands_more g.C.Connect g.C.Wire.Wire c.args.self.now c.hops.self c.exchange.new.self c.hops.at c.hops.invariant.robots c.hops.invariant.keeps c.hops.invariant.sends c.hops.invariant.stands c.in_ok-told.ensures.stands;
       chain = λ r chain. c.hops.invariant.chain r (chain_goes_on _ c.hops.left (c.hops.left - 1) _ _ r _ _
-          (given_by g.C.Connect g.C.Wire.Wire c.args.self.now c.hops.self c.exchange.new.self c.hops.at (answer_told c.hops.self.robots c.hops.at c.in_ok-told.told) c.hops.invariant.robots c.hops.invariant.keeps c.in_ok-told.ensures.told)
+          (given_by g.C.Connect g.C.Wire.Wire c.args.self.now c.hops.self c.exchange.new.self c.hops.at (answer_told c.hops.self.robots c.hops.at c.in_ok-told.told) c.hops.invariant.robots c.hops.invariant.keeps c.hops.invariant.sends c.in_ok-told.ensures.told)
           (tells_says c.hops.self.robots c.hops.at c.in_ok-told.told c.hops.left (Next c.in-Next.next) tells) (omega arith) chain);
       admitted = λ tail are. subst (λ l. IsAdmitted c.args.of.now l)
           (sym (ap (λ l. l ++ tail) c.in_ok-push-in-Next.ensures.items ∙ append_assoc c.hops.hops.items ((c.hops.at, c.in_ok-told.told) ∷ []) tail))
@@ -50,10 +51,11 @@ returns-in-Last g c =
       asks = after.asks ∙ was.asks;
       robots = after.robots ∙ was.robots;
       keeps = after.keeps ∙ was.keeps;
+      sends = after.sends ∙ was.sends;
       is_recording = after.is_recording ∙ was.is_recording;
       notes = after.notes ∙ was.notes;
       few = few_more _ _ _ _ _ was.few after.most;
-      stands = stands_more g.C.Connect g.C.Wire.Wire c.args.self.now c.hops.self c.exchange.new.self c.hops.at was.robots was.keeps was.stands after.stands;
+      stands = stands_more g.C.Connect g.C.Wire.Wire c.args.self.now c.hops.self c.exchange.new.self c.hops.at was.robots was.keeps was.sends was.stands after.stands;
       count = λ none. (
         c.hops.hops.items ++ (c.hops.at, c.in_ok-told.told) ∷ [],
         was.admitted ((c.hops.at, c.in_ok-told.told) ∷ []) (hop_ends c.hops.left c.hops.at c.in_ok-told.told tells.0),
@@ -64,7 +66,7 @@ returns-in-Last g c =
       of = c.new.ensures.of ∙ was.origin;
       rules = tells.1 ∙ sym (ap rules_of_hops (c.new.ensures.hops ∙ c.in_ok-push-in-Last.ensures.items) ∙ rules_behind c.hops.hops.items (c.hops.at, c.in_ok-told.told) []);
       chain = was.chain _ (chain_ends _ c.hops.left _ _ _ _
-          (given_by g.C.Connect g.C.Wire.Wire c.args.self.now c.hops.self c.exchange.new.self c.hops.at (answer_told c.hops.self.robots c.hops.at c.in_ok-told.told) was.robots was.keeps after.told)
+          (given_by g.C.Connect g.C.Wire.Wire c.args.self.now c.hops.self c.exchange.new.self c.hops.at (answer_told c.hops.self.robots c.hops.at c.in_ok-told.told) was.robots was.keeps was.sends after.told)
           (tells_says c.hops.self.robots c.hops.at c.in_ok-told.told c.hops.left (Last c.in-Last.rules) tells));
     }
 
@@ -75,6 +77,7 @@ returns-in_err-origin g c =
       asks = refl;
       robots = refl;
       keeps = refl;
+      sends = refl;
       is_recording = refl;
       notes = refl;
       few = le-add_right _ _;
@@ -93,6 +96,7 @@ returns-in_err-at g c =
       asks = refl;
       robots = refl;
       keeps = refl;
+      sends = refl;
       is_recording = refl;
       notes = refl;
       few = le-add_right _ _;
@@ -113,10 +117,11 @@ returns-in_err-told g c =
       asks = after.asks ∙ was.asks;
       robots = after.robots ∙ was.robots;
       keeps = after.keeps ∙ was.keeps;
+      sends = after.sends ∙ was.sends;
       is_recording = after.is_recording ∙ was.is_recording;
       notes = after.notes ∙ was.notes;
       few = few_more _ _ _ _ _ was.few after.most;
-      stands = stands_more g.C.Connect g.C.Wire.Wire c.args.self.now c.hops.self c.exchange.new.self c.hops.at was.robots was.keeps was.stands after.stands;
+      stands = stands_more g.C.Connect g.C.Wire.Wire c.args.self.now c.hops.self c.exchange.new.self c.hops.at was.robots was.keeps was.sends was.stands after.stands;
       count = λ none. tt;
       hops = λ none. tt;
       of = tt;
@@ -133,10 +138,11 @@ returns-in_err-rules g c =
       asks = after.asks ∙ was.asks;
       robots = after.robots ∙ was.robots;
       keeps = after.keeps ∙ was.keeps;
+      sends = after.sends ∙ was.sends;
       is_recording = after.is_recording ∙ was.is_recording;
       notes = after.notes ∙ was.notes;
       few = few_more _ _ _ _ _ was.few after.most;
-      stands = stands_more g.C.Connect g.C.Wire.Wire c.args.self.now c.hops.self c.exchange.new.self c.hops.at was.robots was.keeps was.stands after.stands;
+      stands = stands_more g.C.Connect g.C.Wire.Wire c.args.self.now c.hops.self c.exchange.new.self c.hops.at was.robots was.keeps was.sends was.stands after.stands;
       count = λ none. tt;
       hops = λ none. tt;
       of = tt;
@@ -153,10 +159,11 @@ returns-in_err-push-in-Last g c =
       asks = after.asks ∙ was.asks;
       robots = after.robots ∙ was.robots;
       keeps = after.keeps ∙ was.keeps;
+      sends = after.sends ∙ was.sends;
       is_recording = after.is_recording ∙ was.is_recording;
       notes = after.notes ∙ was.notes;
       few = few_more _ _ _ _ _ was.few after.most;
-      stands = stands_more g.C.Connect g.C.Wire.Wire c.args.self.now c.hops.self c.exchange.new.self c.hops.at was.robots was.keeps was.stands after.stands;
+      stands = stands_more g.C.Connect g.C.Wire.Wire c.args.self.now c.hops.self c.exchange.new.self c.hops.at was.robots was.keeps was.sends was.stands after.stands;
       count = λ none. tt;
       hops = λ none. tt;
       of = tt;
@@ -173,10 +180,11 @@ returns-in_err-push-in-Next g c =
       asks = after.asks ∙ was.asks;
       robots = after.robots ∙ was.robots;
       keeps = after.keeps ∙ was.keeps;
+      sends = after.sends ∙ was.sends;
       is_recording = after.is_recording ∙ was.is_recording;
       notes = after.notes ∙ was.notes;
       few = few_more _ _ _ _ _ was.few after.most;
-      stands = stands_more g.C.Connect g.C.Wire.Wire c.args.self.now c.hops.self c.exchange.new.self c.hops.at was.robots was.keeps was.stands after.stands;
+      stands = stands_more g.C.Connect g.C.Wire.Wire c.args.self.now c.hops.self c.exchange.new.self c.hops.at was.robots was.keeps was.sends was.stands after.stands;
       count = λ none. tt;
       hops = λ none. tt;
       of = tt;

@@ -13,6 +13,7 @@ invariant-hops g l =
       asks : l.self.asks ≡ l.fn.self.asks;
       robots : l.self.robots ≡ l.fn.self.robots;
       keeps : l.self.keeps ≡ l.fn.self.keeps;
+      sends : l.self.sends ≡ l.fn.self.sends;
       is_recording : l.self.is_recording ≡ l.fn.self.is_recording;
       notes : l.self.notes ≡ l.fn.self.notes;
       origin : l.origin ≡ l.fn.of;

@@ -1,0 +1,2 @@
+mod SpanLemmas
+pub mod TurnLaws

@@ -1,0 +1,4 @@
+pub mod Manners
+pub mod Retries
+pub mod Spans
+pub mod Turns

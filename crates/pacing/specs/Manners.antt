@@ -1,0 +1,48 @@
+-- How a run treats servers.
+use Rattle.std.specs.Prelude.{ℕ, ◌+◌, ◌*◌, ◌/◌, ◌%◌, Bool, false, Option, Some, None, min, option_map, if◌then◌else◌}
+use Rattle.std.specs.Duration.{as_nanos}
+use Rattle.pacing.specs.declared.manner.Family.{Family}
+use Rattle.pacing.specs.declared.manner.Family.TheVariants.{Any}
+use Rattle.pacing.specs.declared.manner.Manner.{Manner}
+use Rattle.pacing.specs.declared.span.TheConstants.{MAX_SPAN}
+
+-- the pause between the beginnings of two requests to an origin, whether it varies, the limits of a connection's making, of a read
+-- or a write and of a whole answer, all in nanoseconds, and which addresses of a host are connected to
+pub record Mannered : Type 0 where
+  pub wait : ℕ
+  pub is_random : Bool
+  pub connect_limit : Option ℕ
+  pub read_limit : Option ℕ
+  pub answer_limit : Option ℕ
+  pub family : Family
+
+-- what is said of how a run treats servers
+abbrev pub mannered : Manner → Mannered
+mannered manner = record {
+  wait = as_nanos manner.wait;
+  is_random = manner.is_random;
+  connect_limit = option_map as_nanos manner.connect_limit;
+  read_limit = option_map as_nanos manner.read_limit;
+  answer_limit = option_map as_nanos manner.answer_limit;
+  family = manner.family;
+}
+
+-- nothing is waited for, and reads and writes have a limit of 900 seconds (GNU Wget manual, option `--read-timeout`)
+abbrev pub usual : Mannered
+usual = record {
+  wait = 0;
+  is_random = false;
+  connect_limit = None;
+  read_limit = Some (900 * 1_000_000_000);
+  answer_limit = None;
+  family = Any;
+}
+
+-- from a half of a pause to three halves of it, by a random number (GNU Wget manual, option `--random-wait`)
+abbrev pub varied : ℕ → ℕ → ℕ
+varied pause random = pause / 2 + random % (pause + 1)
+
+-- the pause after the beginning of a request, given a random number; 365 days are the longest
+abbrev pub pause_by : Manner → ℕ → ℕ
+pause_by manner random =
+    if manner.is_random then varied (min (as_nanos manner.wait) MAX_SPAN) random else min (as_nanos manner.wait) MAX_SPAN

@@ -1,0 +1,4 @@
+pub mod TextLemmas
+pub mod LineLemmas
+pub mod CutLemmas
+pub mod FieldsLemmas

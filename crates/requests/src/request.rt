@@ -1,0 +1,179 @@
+//! The request for one address, with what a run says besides (RFC 9112, sections 3 and 9.6).
+ghost use Rattle.std.specs.Prelude.{◌≡◌, ◌≤◌, ◌<◌, ◌+◌, ◌++◌, ℕ, List, [], IfOk, IsTrue, OnErr, OnOk, codes, length};
+ghost use Rattle.std.specs.Io.KnownBytes.{Appends, Keeps};
+ghost use Rattle.address.specs.Address.{scheme_of};
+ghost use Rattle.response_reader.specs.Request.{SendsFront, target_by};
+ghost use Rattle.response_reader.specs.Wire.{HasRisen};
+ghost use Rattle.response_reader.specs.inner.Request.{WritesGiveUp};
+ghost use Rattle.response_reader.specs.inner.Wire.{GoesOn, tally};
+ghost use Rattle.requests.specs.Requests.{closing, host_by, request_of, secret_for};
+
+use crate::fields::MAX_SENT;
+use crate::sending::Sending;
+use address::{Address, MAX_ADDRESS, MAX_HOST, Scheme};
+use arrayvec::ArrayVec;
+use response_reader::{MAX_INTERRUPTED, RequestFault, Wire, WireFault};
+
+/// Most bytes of a request: those of any address, of its host and port, of all that a run says, and room for the lines around them.
+const MAX_REQUEST: usize = MAX_ADDRESS + MAX_HOST + MAX_SENT + 144;
+
+/// The text of a request, in room for that of any address.
+type RequestText = ArrayVec<u8, MAX_REQUEST>;
+
+/// Writes the request for an address: a GET of its path and query, of https of the whole address, with what the run says. Its secret
+/// lines are there if the address is at an origin of a start. It asks to close the connection unless that is kept. The text is put
+/// together on the stack and goes out in one write if that is taken whole. After a fault a front of it was written, and the wire
+/// isn't to be used again.
+pub fn write_request<W: Wire>(
+    wire: &mut W,
+    sending: &Sending,
+    keeps: bool,
+    at: &Address,
+) -> Result<(), RequestFault>
+    ensures written { OnOk result (Appends (W.outgoing wire.old) (W.outgoing wire.new) (request_of sending.now keeps at.now)) }
+    ensures part { OnErr result (SendsFront (W.outgoing wire.old) (W.outgoing wire.new) (request_of sending.now keeps at.now)) }
+    ensures device { OnErr result (HasRisen (W.failed wire.old) (W.failed wire.new)) }
+    ensures read { Keeps (W.incoming wire.old) (W.incoming wire.new) }
+{
+    let mut text = ArrayVec::new();
+    put_request(&mut text, sending, keeps, at);
+    write_all(wire, text.as_slice(), 0)?;
+    Ok(())
+}
+
+/// Adds bytes to a text that has room for them.
+fn put(text: &mut RequestText, bytes: &[u8])
+    requires { length text.old.items + length bytes.now ≤ MAX_REQUEST }
+    ensures { text.new.items ≡ text.old.items ++ bytes.now }
+{
+    match text.try_extend_from_slice(bytes) {
+        Ok(()) => {}
+        Err(_) => unreachable!(),
+    }
+}
+
+/// The target: of https the whole address, since the request goes to a proxy (RFC 9112, section 3.2.2).
+fn target(address: &Address) -> &str
+    ensures { result.now ≡ target_by (scheme_of address.now) address.now }
+{
+    match address.scheme() {
+        Scheme::Http => address.path_query(),
+        Scheme::Https => address.as_str(),
+    }
+}
+
+// The host and port of the address, or what is sent in their place.
+fn host<'a>(sending: &'a Sending, at: &'a Address) -> &'a str
+    ensures value { result.now ≡ host_by sending.entry.now.sent.host at.entry.now }
+    ensures short { length result.now + (length sending.entry.now.sent.common + length sending.entry.now.sent.secret) ≤ MAX_HOST + 6 + MAX_SENT }
+{
+    // Every address is short enough.
+    let _address = at.as_str();
+    match sending.fields().host() {
+        Some(host) => host,
+        None => at.authority(),
+    }
+}
+
+// The secret lines, if the address is at an origin of a start.
+fn secret<'a>(sending: &'a Sending, at: &Address) -> &'a str
+    ensures value { result.now ≡ secret_for sending.entry.now at.now }
+    ensures short { length result.now ≤ length sending.entry.now.sent.secret }
+{
+    if sending.is_home(at) {
+        sending.fields().secret()
+    } else {
+        ""
+    }
+}
+
+// The field about the connection, if any.
+fn closing(keeps: bool) -> &'static str
+    ensures value { result.now ≡ closing keeps }
+    ensures short { length result.now ≤ 32 }
+{
+    if keeps { "" } else { "Connection: close\r\n" }
+}
+
+// Adds a text, and counts its bytes.
+fn put_text(text: &mut RequestText, more: &str)
+    requires { length text.old.items + length more.now ≤ MAX_REQUEST }
+    ensures value { text.new.items ≡ text.old.items ++ more.now }
+    ensures len { length text.new.items ≡ length text.old.items + length more.now }
+{
+    put(text, more.as_bytes());
+}
+
+// Puts method and target into an empty text.
+fn put_front(text: &mut RequestText, at: &Address)
+    requires empty { text.old.items ≡ [] }
+    ensures value { text.new.items ≡ codes "GET " ++ (target_by (scheme_of at.now) at.now ++ codes " HTTP/1.1\r\nHost: ") }
+    ensures room { length text.new.items ≤ MAX_ADDRESS + 32 }
+{
+    // Every address is short enough.
+    let _address = at.as_str();
+    put(text, b"GET ");
+    put(text, target(at).as_bytes());
+    put(text, b" HTTP/1.1\r\nHost: ");
+}
+
+// Adds these pieces, and the ends of two lines.
+fn put_pieces(text: &mut RequestText, host: &str, common: &str, secret: &str, closing: &str)
+    requires room { length text.old.items ≤ MAX_ADDRESS + 32 }
+    requires short { length host.now + (length common.now + length secret.now) ≤ MAX_HOST + 6 + MAX_SENT }
+    requires closing { length closing.now ≤ 32 }
+    ensures { text.new.items ≡ text.old.items ++ (host.now ++ (codes "\r\n" ++ (common.now ++ (secret.now ++ (closing.now ++ codes "\r\n"))))) }
+{
+    put_text(text, host);
+    put_text(text, "\r\n");
+    put_text(text, common);
+    put_text(text, secret);
+    put_text(text, closing);
+    put_text(text, "\r\n");
+}
+
+/// Puts the request for an address into an empty text.
+fn put_request(text: &mut RequestText, sending: &Sending, keeps: bool, at: &Address)
+    requires empty { text.old.items ≡ [] }
+    ensures { text.new.items ≡ request_of sending.now keeps at.now }
+{
+    put_front(text, at);
+    let fields = sending.fields();
+    put_pieces(
+        text,
+        host(sending, at),
+        fields.common(),
+        secret(sending, at),
+        closing(keeps),
+    );
+}
+
+/// Writes all the bytes, after so many writes of the request were interrupted, and says how many were then.
+fn write_all<W: Wire>(wire: &mut W, bytes: &[u8], interrupted: u32) -> Result<u32, RequestFault>
+    requires { interrupted < MAX_INTERRUPTED }
+    ensures written { OnOk result (Appends (W.outgoing wire.old) (W.outgoing wire.new) bytes.now) }
+    ensures part { OnErr result (SendsFront (W.outgoing wire.old) (W.outgoing wire.new) bytes.now) }
+    ensures few { IfOk result (λ n. n < MAX_INTERRUPTED) }
+    ensures counts { IfOk result (λ n. GoesOn
+        (tally (W.failed wire.old) (W.writes_never_fail wire.old) (W.never_errs wire.old) (W.incoming wire.old) (W.lost wire.old) interrupted)
+        (tally (W.failed wire.new) (W.writes_never_fail wire.new) (W.never_errs wire.new) (W.incoming wire.new) (W.lost wire.new) n)) }
+    ensures gives_up { OnErr result ((after : ℕ) → WritesGiveUp
+        (tally (W.failed wire.old) (W.writes_never_fail wire.old) (W.never_errs wire.old) (W.incoming wire.old) (W.lost wire.old) interrupted)
+        (tally (W.failed wire.new) (W.writes_never_fail wire.new) (W.never_errs wire.new) (W.incoming wire.new) (W.lost wire.new) after)) }
+{
+    let mut rest = bytes;
+    let mut count = interrupted;
+    'writes: while !rest.is_empty() {
+        match wire.write(rest) {
+            Ok(taken) => rest = &rest[taken..],
+            Err(WireFault::Failed) => return Err(RequestFault::Device),
+            Err(WireFault::Interrupted) => {
+                count += 1;
+                if count == MAX_INTERRUPTED {
+                    return Err(RequestFault::Device);
+                }
+            }
+        }
+    }
+    Ok(count)
+}

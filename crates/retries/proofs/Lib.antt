@@ -1,0 +1,2 @@
+mod HopLemmas
+pub mod TryLaws

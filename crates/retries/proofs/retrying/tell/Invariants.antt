@@ -1,0 +1,17 @@
+-- The fetcher was asked once and so often again, and its site is what it was.
+use Rattle.std.proofs.Common.{◌≡◌}
+use Rattle.fetcher.specs.declared.fetcher.Ask.TheVariants as ask
+use Rattle.answer_notes.specs.Tellings.{outcome_told, body_told}
+use Rattle.answer_notes.specs.HopChains.{rules_of_hops}
+use Rattle.pacing.specs.Retries.{retries_by}
+use Rattle.retries.specs.Tries.{TriesSoFar}
+use Rattle.retries.specs.Worth.{is_worth, is_worth_hops}
+use Rattle.retries.proofs.retrying.tell.Given as goal
+
+abbrev pub invariant-loop-made : goal.invariant-loop-made
+invariant-loop-made g l = record {
+  site : g.F.Fetcher.site l.inner ≡ g.F.Fetcher.site l.fn.inner;
+  honours : g.F.Telling.honours l.inner ≡ g.F.Telling.honours l.fn.inner;
+  told : g.F.Fetcher.says (g.F.Fetcher.site l.fn.inner) l.at (outcome_told (g.F.Telling.honours l.fn.inner) l.at l.told) (body_told l.told);
+  tries : TriesSoFar g.F.Fetcher.log (λ f t. g.F.Fetcher.says (g.F.Fetcher.site f) l.at (outcome_told (g.F.Telling.honours f) l.at t) (body_told t)) (is_worth (retries_by l.retries)) (ask.Page l.at) l.made l.fn.inner l.inner l.told;
+}

@@ -1,0 +1,2 @@
+-- What proofs alone need.
+pub mod Lines
