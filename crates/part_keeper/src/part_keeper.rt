@@ -1,7 +1,7 @@
 //! What keeps bodies in files.
 ghost use Rattle.std.specs.Prelude.{◌≡◌, ◌+◌, ℕ, List, length, OnOk, IfOk, OnErr};
 
-use crate::part::{Part, part_path};
+use crate::part::{Part, Standing, part_path};
 use kept_bodies::{BodyKind, Keeper};
 use std::alloc::{AllocError, Global};
 use std::fs::{File, Files};
@@ -175,12 +175,16 @@ where
                 self.error = Some(error);
             }
         }
+        let standing = match &self.error {
+            Some(_) => Standing::Lost,
+            None => Standing::Whole,
+        };
         let part = Part {
             worker: self.worker,
             number: self.number,
             kind,
             len: self.len,
-            is_whole: self.error.is_none(),
+            standing,
         };
         self.number = self.number.saturating_add(1);
         Ok(part)
@@ -192,7 +196,7 @@ where
             number: self.number,
             kind: BodyKind::Other,
             len: 0,
-            is_whole: true,
+            standing: Standing::Absent,
         })
     }
 }
