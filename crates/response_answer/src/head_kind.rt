@@ -17,6 +17,7 @@ pub(crate) struct HeadKind<'a> {
     pub content_type: &'a Option<Vec<u8>>,
     pub coded: bool,
     pub location: &'a Option<Vec<u8>>,
+    pub retry_after: &'a Option<Vec<u8>>,
 }
 
 /// Whether the body after this head is a page of HTML, in which links are looked for.

@@ -73,6 +73,7 @@ impl<K: Keeper> PageSink<K> {
             content_type: &head.content_type,
             coded: head.coded,
             location: &head.location,
+            retry_after: &head.retry_after,
         };
         self.stage = Stage::of(self.alloc, &fields)?;
         self.kind = kind_of(&fields);

@@ -83,6 +83,7 @@ fn head_of<'a>(response: &'a Response) -> HeadKind<'a>
         content_type: &response.content_type,
         coded: response.coded,
         location: &response.location,
+        retry_after: &response.retry_after,
     }
 }
 

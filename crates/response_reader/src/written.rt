@@ -66,6 +66,7 @@ fn push_fields(text: &mut Vec<u8>, response: &Response) -> Result<(), AllocError
     push_value(text, b"Content-Type", &response.content_type)?;
     push_coding(text, response.coded)?;
     push_value(text, b"Location", &response.location)?;
+    push_value(text, b"Retry-After", &response.retry_after)?;
     push_len(text, response.status, response.body.len())
 }
 

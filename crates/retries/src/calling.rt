@@ -4,10 +4,13 @@ use answer_notes::Telling;
 use run_failures::LossKind;
 use std::time::Duration;
 
-/// Asks as any fetcher does, knows why a connection was lost, and can leave an origin alone.
+/// Asks as any fetcher does, knows why a connection was lost and what time it is, and can leave an origin alone.
 pub trait Calling: Telling {
     /// Why the last connection was lost, where it was.
     fn loss(&self) -> Option<LossKind>;
+
+    /// The seconds since 1970, if there is a clock that shows them.
+    fn now(&self) -> Option<u64>;
 
     /// Has no request to an origin begin before this time is over. What was found out of its host's faults is forgotten.
     fn leave_alone(&self, of: &Origin, pause: Duration);

@@ -10,6 +10,7 @@ ghost use Rattle.retries.specs.Tries.{IsLastOf};
 ghost use Rattle.retries.specs.Worth.{is_worth, is_worth_hops};
 
 use crate::calling::Calling;
+use crate::delay::{pause_before, pause_before_hops};
 use crate::worth::{is_worth, is_worth_hops};
 use address::{Address, Origin};
 use answer_notes::{Hops, Telling, Told};
@@ -20,8 +21,9 @@ use std::alloc::{AllocError, Global};
 use std::marker::Model;
 use std::time::Duration;
 
-/// Asks a fetcher, and asks again after answers and faults that are worth it. Before that the origin is left alone for a second, and
-/// for a second more each time, up to the longest pause. What is told last is what is answered.
+/// Asks a fetcher, and asks again after answers and faults that are worth it. Before that the origin is left alone for as long as a
+/// `Retry-After` says, or else for a second, and for a second more each time, up to the longest pause. What is told last is what is
+/// answered.
 #[derive(Drop)]
 pub struct Retrying<F: Calling> {
     alloc: Global,
@@ -39,10 +41,19 @@ impl<F: Calling> Model for Retrying<F> {
     ghost view = { λ r. record { inner = r.inner; retries = retries_by r.retries; asks = r.asks.items } };
 }
 
-// Has an origin left alone, where this is the number of tries that were made again.
-fn leave_alone<F: Calling>(inner: &F, retries: &Retries, of: &Origin, made: u32) {
-    let pause = Duration::from_secs(u64::from(made) + 1).min(retries.wait);
+// Has an origin left alone whose robots file was asked for, and that at which its redirects end. The error is that memory ran out.
+fn leave_hops_alone<F: Calling>(
+    inner: &F,
+    of: &Origin,
+    hops: &Hops,
+    pause: Duration,
+) -> Result<(), AllocError> {
     inner.leave_alone(of, pause);
+    if let [.., (at, _)] = hops.hops() {
+        let last = Origin::of(at)?;
+        inner.leave_alone(&last, pause);
+    }
+    Ok(())
 }
 
 // What a fetcher tells last of a page. The error is that memory ran out.
@@ -59,7 +70,7 @@ fn tell<F: Calling>(inner: &mut F, retries: &Retries, at: &Address) -> Result<To
             return Ok(told);
         }
         let of = Origin::of(at)?;
-        leave_alone(inner, retries, &of, made);
+        inner.leave_alone(&of, pause_before(retries, made, inner.now(), &told));
         told = inner.ask_told(at)?;
     }
     Ok(told)
@@ -79,7 +90,8 @@ fn tell_hops<F: Calling>(inner: &mut F, retries: &Retries, of: &Origin) -> Resul
         if !is_worth_hops(retries, &hops, inner.loss()) {
             return Ok(hops);
         }
-        leave_alone(inner, retries, of, made);
+        let pause = pause_before_hops(retries, made, inner.now(), &hops);
+        leave_hops_alone(inner, of, &hops, pause)?;
         hops = inner.ask_hops(of)?;
     }
     Ok(hops)

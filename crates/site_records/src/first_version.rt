@@ -39,6 +39,7 @@ pub(crate) fn file_chain(alloc: Global, of: &Origin, file: &[u8]) -> Result<Hops
         content_type: None,
         coded: false,
         location: None,
+        retry_after: None,
         body,
     };
     chain_of(alloc, of, Told::Whole(Given::new(response)))
@@ -58,6 +59,7 @@ pub(crate) fn bare_chain(alloc: Global, of: &Origin, allowed: bool) -> Result<Ho
         content_type: None,
         coded: false,
         location: None,
+        retry_after: None,
         body: Vec::new(alloc),
     };
     chain_of(alloc, of, Told::Whole(Given::new(response)))

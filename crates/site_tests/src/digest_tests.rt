@@ -115,6 +115,7 @@ fn in_pieces(
         content_type,
         coded,
         location,
+        retry_after,
         body,
     } = response(rt, alloc, bytes);
     let head = Head {
@@ -122,6 +123,7 @@ fn in_pieces(
         content_type,
         coded,
         location,
+        retry_after,
     };
     let mut digester = Digester::new(alloc, at, robots).expect(rt, "memory");
     digester.head(&head).expect(rt, "memory");

@@ -109,6 +109,7 @@ HTTP/1.0 404 X|Content-Length: 0|| => HTTP/1.1 404 |Content-Length: 0||
 HTTP/1.1 304 X|Content-Length: 7|| => HTTP/1.1 304 ||
 HTTP/1.1 204 X|| => HTTP/1.1 204 ||
 HTTP/1.1 301 X|location:  /n |Content-Encoding: gzip|Content-Length: 1||x => HTTP/1.1 301 |Content-Encoding: coded|Location: /n|Content-Length: 1||
+HTTP/1.1 503 X|Retry-After: 120|Content-Length: 0|| => HTTP/1.1 503 |Retry-After: 120|Content-Length: 0||
 HTTP/1.1 200 X|Transfer-Encoding: chunked||2|ab|0|| => HTTP/1.1 200 |Content-Length: 2||";
 
 // Whether a row's response is written as it says.

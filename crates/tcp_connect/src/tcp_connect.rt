@@ -243,6 +243,12 @@ impl<'a, R: Net + Wait + Clock> TcpConnect<'a, R> {
         self.loss
     }
 
+    /// The seconds since 1970, if there is a clock that shows them.
+    pub fn now(&self) -> Option<u64> {
+        let time = self.rt.since_1970().ok()?;
+        Some(time.as_secs())
+    }
+
     /// The same, which keeps connections among those of the run: so many to a server at most stand at any time.
     pub fn keeping(self, kept: &'a Kept<R::Stream>, most: u32) -> TcpConnect<'a, R>
         ensures { result ≡ record self.entry { most = Some most } }

@@ -123,6 +123,10 @@ impl<'a, R: Net + Wait + Clock + Eprint> Calling for SingleTcp<'a, R> {
         self.inner.connect().loss()
     }
 
+    fn now(&self) -> Option<u64> {
+        self.inner.connect().now()
+    }
+
     fn leave_alone(&self, of: &Origin, pause: Duration) {
         self.inner.connect().leave_alone(of, pause);
     }

@@ -85,6 +85,11 @@ impl<'a, R: Net + Wait + Clock + Eprint> WatchedTcp<'a, R> {
         self.inner.inner().loss()
     }
 
+    // The seconds since 1970, if there is a clock that shows them.
+    pub(crate) fn now(&self) -> Option<u64> {
+        self.inner.inner().now()
+    }
+
     // Has no request to an origin begin before this time is over.
     pub(crate) fn leave_alone(&self, of: &Origin, pause: Duration) {
         self.inner.inner().leave_alone(of, pause);

@@ -10,4 +10,5 @@ kind_parts k = record {
   content_type = option_map vec_items k.content_type.now;
   coded = k.coded;
   location = option_map vec_items k.location.now;
+  retry_after = option_map vec_items k.retry_after.now;
 }

@@ -24,6 +24,7 @@ fn page_head() -> Head {
         content_type: None,
         coded: false,
         location: None,
+        retry_after: None,
     }
 }
 
