@@ -1,5 +1,6 @@
 pub mod StandardFacts
 pub mod LineLemmas
+pub mod LoginLemmas
 pub mod ReadLemmas
 pub mod MannerLemmas
 pub mod NamingLemmas

@@ -8,7 +8,7 @@ use Rattle.options.specs.declared.said.Saying.{Saying}
 use Rattle.options.specs.declared.said.Saying.TheVariants as saying
 use Rattle.options.specs.declared.table.Row.{Row}
 use Rattle.options.specs.Asked.{refusal_of}
-use Rattle.options.specs.Order.{OrdersBySayings, guarded, order_said, order_of_written, with_others}
+use Rattle.options.specs.Order.{OrdersBySayings, guarded, logged, order_said, order_of_written, with_others}
 use Rattle.options.specs.Said.{sayings}
 use Rattle.options.specs.Table.{table}
 use Rattle.options.specs.Written.{first_start, first_unread, if_any, others_in, row_words, starts_in, value_of, written}
@@ -36,7 +36,7 @@ same_written one other options starts =
     ap (λ rows. rows ++ codes "--" ∷ if_any (first_start one)) (same_rows one other table options)
     ∙ ap (λ rest. flat_map (λ row. row_words row (value_of other row)) table ++ codes "--" ∷ rest) (same_first one other starts)
 
-pub order_read : (said : List (Saying Text)) → first_unread said ≡ None → order_said said ≡ guarded (with_others (others_in said) (order_of_written (written said)))
+pub order_read : (said : List (Saying Text)) → first_unread said ≡ None → order_said said ≡ logged (starts_in said) (guarded (with_others (others_in said) (order_of_written (written said))))
 unfolding order_said
 order_read said read = rw read refl
 
@@ -47,6 +47,6 @@ order_unread said word unread = rw unread refl
 pub orders_by_sayings : (words : List Text) → OrdersBySayings words
 orders_by_sayings words others same =
     order_read (sayings words) same.read
-    ∙ ap (λ more. guarded (with_others (drop 1 more) (order_of_written (written (sayings words))))) same.starts
-    ∙ ap (λ out. guarded (with_others (others_in (sayings others)) (order_of_written out))) (same_written (sayings words) (sayings others) same.options same.starts)
+    ∙ ap (λ more. logged more (guarded (with_others (drop 1 more) (order_of_written (written (sayings words)))))) same.starts
+    ∙ ap (λ out. logged (starts_in (sayings others)) (guarded (with_others (others_in (sayings others)) (order_of_written out)))) (same_written (sayings words) (sayings others) same.options same.starts)
     ∙ sym (order_read (sayings others) same.others_read)

@@ -28,7 +28,7 @@ accepted_words = codes "wgetr --help says which words are accepted"
 -- as a start
 abbrev pub accepted_start : List ℕ
 accepted_start =
-    codes "START is an address in full, as http://example.org/path?query, without user name and password, with at most 8192 bytes and a host of at most 255 (see wgetr --help)"
+    codes "START is an address in full, as http://example.org/path?query, with at most 8192 bytes and a host of at most 255 (see wgetr --help)"
 
 -- ---- what is told
 
@@ -55,7 +55,7 @@ abbrev pub wrong_start : AddressFault → Option (List ℕ)
 wrong_start refused.TooLong = Some (codes "START is too long")
 wrong_start refused.NotUrl = Some (codes "START is no URL")
 wrong_start refused.NotHttp = Some (codes "START isn't an http address, and an https one needs --https-proxy, a proxy that speaks TLS")
-wrong_start refused.UserInfo = Some (codes "START has a user name or a password, which --user, --password and --auth-no-challenge send")
+wrong_start refused.UserInfo = Some (codes "START has a user name with a colon, or it and the password are too long")
 wrong_start refused.Memory = None
 
 -- of words that ask for something: for the version, or for help

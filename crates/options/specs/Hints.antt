@@ -19,7 +19,7 @@ use Rattle.options.specs.declared.said.Meaning.TheVariants as meaning
 use Rattle.options.specs.Meant.{fronts, long_name, meant}
 use Rattle.options.specs.Said.{named, sayings}
 use Rattle.options.specs.Table.{instead, table, wget}
-use Rattle.options.specs.Start.{with_scheme}
+use Rattle.options.specs.Start.{typed}
 use Rattle.options.specs.Written.{first_unread, starts_in, value_from}
 use Rattle.requests.specs.Fields.{bad_line}
 
@@ -150,7 +150,7 @@ is_wrong (Ok address) = false
 
 -- a start that is no address, neither http nor https
 abbrev pub is_no_start : Text → Bool
-is_no_start start = is_wrong (read_either (with_scheme start))
+is_no_start start = is_wrong (read_either (typed start))
 
 -- of the first start of words that is no address
 abbrev pub start_hint : List Text → Text

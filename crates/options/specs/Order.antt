@@ -1,5 +1,5 @@
 -- What the words order, or why they are refused: one function of the words.
-use Rattle.std.specs.Prelude.{◌≡◌, ◌⊎◌, ◌==◌, ℕ, length, option_and_then, Bool, true, false, not, ◌&&◌, ◌||◌, List, [], ◌∷◌, ◌++◌, codes, Option, Some, None, is_some, nat_eq, nat_lt, unwrap_or, bytes_eq, map, option_map, Result, Ok, Err, MatchResult, if◌then◌else◌}
+use Rattle.std.specs.Prelude.{◌≡◌, ◌⊎◌, ◌==◌, ℕ, length, option_and_then, Bool, true, false, not, ◌&&◌, ◌||◌, List, [], ◌∷◌, ◌++◌, codes, Option, Some, None, is_some, nat_eq, nat_lt, unwrap_or, bytes_eq, drop, map, option_map, Result, Ok, Err, MatchResult, if◌then◌else◌}
 use Rattle.std.specs.Char.{is_ascii_digit}
 use Rattle.std.specs.List.{list_all, list_any, starts_with}
 use Rattle.clap.specs.Kinds.{Kinds}
@@ -30,14 +30,14 @@ use Rattle.options.specs.Manners.{manner_of}
 use Rattle.pacing.specs.Retries.{Retried, retries_by}
 use Rattle.options.specs.Retries.{retries_of}
 use Rattle.options.specs.Naming.{Naming, naming_by, naming_of}
-use Rattle.requests.specs.Fields.{Sent, read_fields}
+use Rattle.requests.specs.Fields.{Sent, login_of as login_value_of, read_fields}
 use Rattle.requests.specs.declared.fields.FieldsFault.{FieldsFault}
 use Rattle.requests.specs.declared.fields.FieldsFault.TheVariants as unsent
-use Rattle.requests.specs.Requests.{Sending}
+use Rattle.requests.specs.Requests.{Home, Sending, home_of}
 use Rattle.options.specs.declared.said.Saying.{Saying}
 use Rattle.options.specs.Said.{sayings}
-use Rattle.options.specs.Start.{with_scheme}
-use Rattle.options.specs.Written.{SayTheSame, first_unread, others_in, written}
+use Rattle.options.specs.Start.{has_colon, typed, typed_login, with_scheme}
+use Rattle.options.specs.Written.{SayTheSame, first_unread, others_in, starts_in, written}
 
 -- ---- words that `clap` takes and that are refused all the same
 
@@ -56,6 +56,7 @@ are_good found = is_plain_value (first_of (codes "compression") found)
 pub record Ordered : Type 0 where
   pub start : List ℕ
   pub others : List (List ℕ)
+  pub logins : List (Option Text)
   pub limit : Limit
   pub span_hosts : Bool
   pub no_parent : Bool
@@ -179,13 +180,15 @@ abbrev pub said_or : Option Text → Option Text → Option Text
 said_or None other = other
 said_or (Some value) other = Some value
 
--- a colon ends a user name (RFC 7617, section 2)
-abbrev pub has_colon : Text → Bool
-has_colon user = list_any (λ byte. byte == 58) user
+-- credentials, unless they are too long
+abbrev pub login_read : Option Text → Result (Option Text) LineFault
+login_read None = Err fault.Fields
+login_read (Some login) = Ok (Some login)
 
 -- a user and a password that are sent unasked; no challenge is answered
 abbrev pub login_with : Bool → Text → Text → Result (Option Text) LineFault
-login_with unasked user password = if not unasked || has_colon user then Err fault.Login else Ok (Some (user ++ (codes ":" ++ password)))
+login_with unasked user password =
+    if not unasked || has_colon user then Err fault.Login else login_read (login_value_of user password)
 
 -- what is sent of a user and a password, of which none or both are given
 abbrev pub login_by : Bool → Option Text → Option Text → Result (Option Text) LineFault
@@ -221,10 +224,10 @@ abbrev pub fielded_by : {Y : Type 0} → Result Sent LineFault → (Sent → Res
 fielded_by (Err why) next = Err why
 fielded_by (Ok fields) next = next fields
 
--- the start, or why it is no address; `http` is its scheme where it has none
+-- the start, or why it is no address; `http` is its scheme where it has none, and user and password are left out
 unfoldable pub start_of : List Row → Result (List ℕ) AddressFault
 start_of found =
-    read_start (is_some (proxy_value found)) (with_scheme (unwrap_or (first_of (codes "start") found) []))
+    read_start (is_some (proxy_value found)) (typed (unwrap_or (first_of (codes "start") found) []))
 
 -- the start, and what follows from it
 abbrev pub started_at : {Y : Type 0} → Result (List ℕ) AddressFault → (List ℕ → Result Y LineFault) → Result Y LineFault
@@ -262,6 +265,7 @@ abbrev pub ordered : List Row → Counts → Option (List ℕ) → Naming → Se
 ordered found counts proxy names fields manner retries level patterns directories domains start = record {
   start = start;
   others = [];
+  logins = [];
   limit = limit_within level found;
   span_hosts = is_set (codes "span-hosts") found;
   no_parent = is_set (codes "no-parent") found;
@@ -323,7 +327,7 @@ order_of_written words = if are_taken (refusals words) then order_of_rows (rows 
 abbrev pub starts_after : List (List ℕ) → Bool → List Text → Result (List (List ℕ)) LineFault
 starts_after before by_proxy [] = Ok before
 starts_after before by_proxy (text ∷ texts) =
-    started_at (read_start by_proxy (with_scheme text)) (λ start. starts_after (before ++ start ∷ []) by_proxy texts)
+    started_at (read_start by_proxy (typed text)) (λ start. starts_after (before ++ start ∷ []) by_proxy texts)
 
 -- the order with these starts besides its own; all of them are among the addresses that it may hold
 abbrev pub besides : Ordered → List (List ℕ) → Result Ordered LineFault
@@ -372,6 +376,13 @@ abbrev pub guarded : Result Ordered LineFault → Result Ordered LineFault
 guarded (Err why) = Err why
 guarded (Ok order) = if is_trusted order.trusts order.proxy || not (has_https order) then Ok order else Err fault.FarProxy
 
+-- ---- user and password in starts
+
+-- the order with the credentials of these starts
+abbrev pub logged : List Text → Result Ordered LineFault → Result Ordered LineFault
+logged starts (Err why) = Err why
+logged starts (Ok order) = Ok (record order { logins = map typed_login starts })
+
 -- ---- all words
 
 -- the fault of the first word that isn't read, or this
@@ -382,7 +393,8 @@ read_or (Some word) result = Err (refusal_of word)
 -- what is ordered by what is said, or the lowest fault, that of the first start before those of others: each word is read, and the first that
 -- isn't may ask for the help
 unfoldable pub order_said : List (Saying Text) → Result Ordered LineFault
-order_said said = read_or (first_unread said) (guarded (with_others (others_in said) (order_of_written (written said))))
+order_said said =
+    read_or (first_unread said) (logged (starts_in said) (guarded (with_others (others_in said) (order_of_written (written said)))))
 
 -- what the words order, or the lowest fault
 abbrev pub order_of : List Text → Result Ordered LineFault
@@ -403,6 +415,7 @@ abbrev pub ordered_by : Order → Ordered
 ordered_by order = record {
   start = order.plan.start;
   others = order.plan.others;
+  logins = order.logins.items;
   limit = order.plan.limit;
   span_hosts = order.plan.span_hosts;
   no_parent = order.plan.no_parent;
@@ -439,9 +452,19 @@ ordered_by order = record {
 abbrev pub kept_of : Order → Option ℕ
 kept_of order = if order.keeps_connections then Some order.plan.per_host else None
 
--- what is sent with each request: secret fields go to the origins of the starts alone
+-- the first of these credentials
+abbrev pub first_login : List (Option Text) → Option Text
+first_login [] = None
+first_login (login ∷ logins) = login
+
+-- the origins of these starts, each with its credentials
+abbrev pub homes_of : List (List ℕ) → List (Option Text) → List Home
+homes_of [] logins = []
+homes_of (start ∷ starts) logins = home_of start (first_login logins) ∷ homes_of starts (drop 1 logins)
+
+-- what is sent with each request: secret fields and credentials go to the origins of the starts alone
 abbrev pub sending_of : Order → Sending
-sending_of order = record { sent = order.fields; homes = map origin_of (order.plan.start ∷ order.plan.others) }
+sending_of order = record { sent = order.fields; homes = homes_of (order.plan.start ∷ order.plan.others) order.logins.items }
 
 -- the result is the expected order, or the expected fault, unless memory ran out
 abbrev pub AnswersOrder : Result Order LineFault → Result Ordered LineFault → Type 0

@@ -25,8 +25,7 @@ pub(crate) enum Advice {
 
 const OPTIONS: &str = "wgetr --help says which words are accepted";
 
-const START: &str =
-    "START is an address in full, as http://example.org/path?query, without user name and password, with at most \
+const START: &str = "START is an address in full, as http://example.org/path?query, with at most \
 8192 bytes and a host of at most 255 (see wgetr --help)";
 
 const FIELD: &str =
@@ -49,7 +48,7 @@ fn wrong_start(refused: AddressFault) -> Option<&'static str>
             "START isn't an http address, and an https one needs --https-proxy, a proxy that speaks TLS",
         ),
         AddressFault::UserInfo => Some(
-            "START has a user name or a password, which --user, --password and --auth-no-challenge send",
+            "START has a user name with a colon, or it and the password are too long",
         ),
         AddressFault::Memory => None,
     }

@@ -7,9 +7,9 @@ ghost use Rattle.options.specs.inner.Table.{instead_in, row_in};
 ghost use Rattle.address.specs.declared.fault.AddressFault.TheVariants as address_fault;
 
 use crate::fault::LineFault;
+use crate::login::typed;
 use crate::meant::{fronts, long_name, meant};
 use crate::said::{Meaning, named, sayings};
-use crate::start::with_scheme;
 use crate::table::{Instead, Row, insteads, option_rows, wget_forms};
 use crate::written::{first_unread, starts, value_in};
 use address::{Address, AddressFault};
@@ -296,7 +296,7 @@ fn scheme_hint(alloc: Global, start: &str) -> Result<String, AllocError>
 fn is_no_start(alloc: Global, start: &str) -> Result<bool, AllocError>
     ensures { IfOk result (λ wrong. wrong ≡ is_no_start start.now) }
 {
-    let text = with_scheme(alloc, start)?;
+    let text = typed(alloc, start)?;
     match Address::read_either(alloc, text.as_str()) {
         Ok(_address) => Ok(false),
         Err(AddressFault::Memory) => Err(AllocError),

@@ -1,14 +1,15 @@
 //! What the words order.
-ghost use Rattle.std.specs.Prelude.{◌≡◌, ◌∷◌, ◌<◌, ◌≤◌, IfOk, false, length, map};
+ghost use Rattle.std.specs.Prelude.{◌≡◌, ◌<◌, ◌≤◌, IfOk, false, length};
 ghost use Rattle.std.specs.List.{list_any};
-ghost use Rattle.address.specs.Address.{is_robots_file, origin_of};
+ghost use Rattle.address.specs.Address.{is_robots_file};
 ghost use Rattle.options.specs.declared.order.TheConstants.{MAX_WORKERS};
 
+use crate::homes::homes_of;
 use crate::naming::PageNames;
-use address::{Address, Origin};
+use address::Origin;
 use follow_filters::{Plan, Starts};
 use pacing::{Manner, Retries};
-use requests::{Fields, Sending};
+use requests::{Fields, Login, Sending};
 use std::alloc::{AllocError, Global};
 use std::marker::Model;
 
@@ -115,6 +116,8 @@ pub struct Log {
 pub struct Order {
     /// What is retrieved.
     pub plan: Plan,
+    /// User and password of each start, if it has them.
+    pub logins: Vec<Option<Login>>,
     /// How many workers retrieve it, 1 to 64.
     pub workers: u32,
     /// Whether connections are kept, to be used again.
@@ -211,18 +214,6 @@ fn with_starts(plan: Plan, others: Starts) -> Plan
     }
 }
 
-// The origins of these addresses.
-fn homes_of(alloc: Global, start: &Address, others: &[Address]) -> Result<Vec<Origin>, AllocError>
-    ensures { IfOk result (λ homes. homes.items ≡ map origin_of (start.now ∷ others.now)) }
-{
-    let mut homes = Vec::new(alloc);
-    homes.push(Origin::of(start)?)?;
-    for other in others {
-        homes.push(Origin::of(other)?)?;
-    }
-    Ok(homes)
-}
-
 impl Order {
     ghost use Rattle.std.specs.Prelude.{◌≡◌, false, length};
     ghost use Rattle.std.specs.List.{list_any};
@@ -244,7 +235,12 @@ impl Order {
         ensures { IfOk result (λ sending. sending ≡ sending_of self.now) }
     {
         let fields = self.fields.try_clone()?;
-        let homes = homes_of(alloc, &self.plan.start, self.plan.others.as_slice())?;
+        let homes = homes_of(
+            alloc,
+            &self.plan.start,
+            self.plan.others.as_slice(),
+            self.logins.as_slice(),
+        )?;
         Ok(Sending::new(fields, homes))
     }
 
@@ -256,6 +252,7 @@ impl Order {
     {
         let Order {
             plan,
+            logins,
             workers,
             keeps_connections,
             source,
@@ -274,6 +271,51 @@ impl Order {
         } = self;
         Order {
             plan: with_starts(plan, others),
+            logins,
+            workers,
+            keeps_connections,
+            source,
+            trace,
+            quiet,
+            log,
+            prefix,
+            names,
+            fields,
+            manner,
+            retries,
+            proxy,
+            trusts_proxy,
+            resume,
+            save,
+        }
+    }
+
+    /// The same order with the credentials of its starts.
+    pub(crate) fn with_logins(self, logins: Vec<Option<Login>>) -> Order
+        ensures { ordered_by result ≡ record (ordered_by self) { logins = logins.items } }
+    {
+        let Order {
+            plan,
+            logins: _logins,
+            workers,
+            keeps_connections,
+            source,
+            trace,
+            quiet,
+            log,
+            prefix,
+            names,
+            fields,
+            manner,
+            retries,
+            proxy,
+            trusts_proxy,
+            resume,
+            save,
+        } = self;
+        Order {
+            plan,
+            logins,
             workers,
             keeps_connections,
             source,

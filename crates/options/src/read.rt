@@ -2,7 +2,7 @@
 ghost use Rattle.std.specs.Prelude.{◌≡◌, ◌≢◌, ◌⊎◌, ℕ, List, true, ◌<◌, ◌≤◌, codes, drop, false, not, is_none, option_map, if◌then◌else◌, Some, None, Ok, Err, map, string_bytes, IfErr, IfOk, IfSome, MatchOption, MatchResult};
 ghost use Rattle.clap.specs.Words.{found_of, rows_of, first_of, kind_of};
 ghost use Rattle.address.specs.Address as address;
-ghost use Rattle.address.specs.Address.{is_robots_file};
+ghost use Rattle.address.specs.Address.{is_robots_file, read_address};
 ghost use Rattle.address.specs.declared.fault.AddressFault.{AddressFault};
 ghost use Rattle.address.specs.declared.fault.AddressFault.TheVariants as address_fault;
 ghost use Rattle.options.specs.declared.fault.LineFault.TheVariants as fault;
@@ -14,17 +14,18 @@ ghost use Rattle.options.specs.Given.{level_of, list_of};
 ghost use Rattle.pacing.specs.Manners.{mannered};
 ghost use Rattle.pacing.specs.Retries.{retries_by};
 ghost use Rattle.options.specs.Naming.{naming_by};
-ghost use Rattle.options.specs.Order.{AnswersOrder, OrdersBySayings, order_of, order_of_rows, order_of_written, order_said, are_good, is_plain_value, both, counts_of, patterns_of, directories_of, domains_of, fields_fault, fields_of, fields_with, has_colon, login_by, login_of, login_with, password_of, said_or, start_of, source_of, user_of, honours_robots, limit_within, ordered, ordered_by, folder_of, guarded, prefix_of, log_by, log_of, proxy_by, proxy_of, proxy_value, read_start, root_origin, unless_empty, with_others};
+ghost use Rattle.options.specs.Order.{AnswersOrder, OrdersBySayings, order_of, order_of_rows, order_of_written, order_said, are_good, is_plain_value, both, counts_of, patterns_of, directories_of, domains_of, fields_fault, fields_of, fields_with, logged, login_by, login_of, login_with, password_of, said_or, start_of, source_of, user_of, honours_robots, limit_within, ordered, ordered_by, folder_of, guarded, prefix_of, log_by, log_of, proxy_by, proxy_of, proxy_value, read_start, root_origin, unless_empty, with_others};
 ghost use Rattle.options.specs.Asked.{refusal_of, without_kind, words_refused};
 ghost use Rattle.options.specs.inner.Said.{saying_in};
 ghost use Rattle.options.specs.inner.Order.{StartsAt, FailsToStart, FailsToFilter, IsNoStart, Settles, fault_of_kind, unasked};
-ghost use Rattle.options.specs.Start.{with_scheme};
+ghost use Rattle.options.specs.Start.{has_colon, typed, with_scheme};
 ghost use Rattle.options.specs.Written.{written};
 
 use crate::asked::{is_asking, wish_fault, wish_of};
 use crate::fault::LineFault;
 use crate::given::{elements, given, is_set, level, number};
 use crate::line::parse;
+use crate::login::{has_colon, logins, typed};
 use crate::manner::manner;
 use crate::naming::{PageNames, names};
 use crate::order::{
@@ -245,11 +246,23 @@ fn read_start(alloc: Global, matches: &ArgMatches) -> Result<Address, AddressFau
     )
 }
 
-// A start as it is typed. Https is one if a proxy is given.
-fn read_typed(alloc: Global, by_proxy: bool, text: &str) -> Result<Address, AddressFault>
-    ensures { address.Gives result (read_start by_proxy (with_scheme text.now)) }
+// A proxy as it is typed.
+fn read_proxy(alloc: Global, text: &str) -> Result<Address, AddressFault>
+    ensures { address.Gives result (read_address (with_scheme text.now)) }
 {
     let Ok(text) = with_scheme(alloc, text) else {
+        return Err(AddressFault::Memory);
+    };
+    let proxy = Address::read(alloc, text.as_str());
+    drop(text);
+    proxy
+}
+
+// A start as it is typed. Https is one if a proxy is given.
+fn read_typed(alloc: Global, by_proxy: bool, text: &str) -> Result<Address, AddressFault>
+    ensures { address.Gives result (read_start by_proxy (typed text.now)) }
+{
+    let Ok(text) = typed(alloc, text) else {
         return Err(AddressFault::Memory);
     };
     let start = read_by(alloc, by_proxy, text.as_str());
@@ -260,8 +273,8 @@ fn read_typed(alloc: Global, by_proxy: bool, text: &str) -> Result<Address, Addr
 /// A start as it is typed, which is an address and no robots file. Https is one if a proxy is given.
 pub(crate) fn read_page(alloc: Global, by_proxy: bool, text: &str) -> Result<Address, LineFault>
     ensures { MatchResult result
-        (λ a. (read_start by_proxy (with_scheme text.now) ≡ Ok a) × (is_robots_file a ≡ false))
-        (λ f. IsNoStart (read_start by_proxy (with_scheme text.now)) f ⊎ (f ≡ fault.Memory)) }
+        (λ a. (read_start by_proxy (typed text.now) ≡ Ok a) × (is_robots_file a ≡ false))
+        (λ f. IsNoStart (read_start by_proxy (typed text.now)) f ⊎ (f ≡ fault.Memory)) }
 {
     page_of(read_typed(alloc, by_proxy, text))
 }
@@ -307,7 +320,7 @@ fn proxy_by(alloc: Global, value: Option<&str>) -> Result<Option<Origin>, LineFa
     ensures kept { IfErr result (λ f. without_kind f ≡ f) }
 {
     match value {
-        Some(text) => match read_typed(alloc, false, text) {
+        Some(text) => match read_proxy(alloc, text) {
             Ok(address) => origin_at(&address),
             Err(AddressFault::Memory) => Err(LineFault::Memory),
             Err(AddressFault::UserInfo) => Err(LineFault::ProxyUser),
@@ -410,13 +423,6 @@ fn said_or<'a>(value: Option<&'a str>, other: Option<&'a str>) -> Option<&'a str
     }
 }
 
-// Whether a text has a colon, which ends a user name.
-fn has_colon(user: &[u8]) -> bool
-    ensures { result ≡ has_colon user.now }
-{
-    user.iter().any(|byte| *byte == b':')
-}
-
 // A user and a password that are sent unasked.
 fn login_with(
     alloc: Global,
@@ -432,8 +438,9 @@ fn login_with(
     if !unasked || has_colon(user.as_bytes()) {
         return Err(LineFault::Login);
     }
-    match Login::of(alloc, user, password) {
-        Ok(login) => Ok(Some(login)),
+    match Login::of(alloc, user.as_bytes(), password.as_bytes()) {
+        Ok(Some(login)) => Ok(Some(login)),
+        Ok(None) => Err(LineFault::Fields),
         Err(_) => Err(LineFault::Memory),
     }
 }
@@ -490,11 +497,11 @@ fn login(alloc: Global, matches: &ArgMatches) -> Result<Option<Login>, LineFault
 fn fields_with(
     alloc: Global,
     matches: &ArgMatches,
-    login: Option<&Login>,
+    login: Option<Login>,
 ) -> Result<Fields, LineFault>
     ensures answers { MatchResult result
-        (λ fields. fields_with (rows_of (found_of matches.now)) (Ok (option_map (λ l. l.now) login.entry)) ≡ Ok fields)
-        (λ f. (fields_with (rows_of (found_of matches.now)) (Ok (option_map (λ l. l.now) login.entry)) ≡ Err f) ⊎ (f ≡ fault.Memory)) }
+        (λ fields. fields_with (rows_of (found_of matches.now)) (Ok login) ≡ Ok fields)
+        (λ f. (fields_with (rows_of (found_of matches.now)) (Ok login) ≡ Err f) ⊎ (f ≡ fault.Memory)) }
     ensures kept { IfErr result (λ f. without_kind f ≡ f) }
 {
     let read = Fields::read(
@@ -519,12 +526,7 @@ fn fields(alloc: Global, matches: &ArgMatches) -> Result<Fields, LineFault>
     ensures kept { IfErr result (λ f. without_kind f ≡ f) }
 {
     match login(alloc, matches) {
-        Ok(Some(login)) => {
-            let fields = fields_with(alloc, matches, Some(&login));
-            drop(login);
-            fields
-        }
-        Ok(None) => fields_with(alloc, matches, None),
+        Ok(login) => fields_with(alloc, matches, login),
         Err(fault) => Err(fault),
     }
 }
@@ -671,6 +673,7 @@ fn filled(
             max_urls: counts.max_urls,
             per_host: counts.per_host,
         },
+        logins: Vec::new(alloc),
         workers: counts.workers,
         keeps_connections: !is_set(matches, "no-http-keep-alive"),
         source: source(matches),
@@ -847,6 +850,29 @@ fn with_all(alloc: Global, order: Order, texts: &[&str]) -> Result<Order, LineFa
     }
 }
 
+// The order with the credentials of these starts.
+fn logged(alloc: Global, order: Order, starts: &[&str]) -> Result<Order, LineFault>
+    ensures { AnswersOrder result (logged (map (λ text. text.now) starts.now) (Ok (ordered_by order))) }
+{
+    match logins(alloc, starts) {
+        Ok(logins) => Ok(order.with_logins(logins)),
+        Err(_) => {
+            drop(order);
+            Err(LineFault::Memory)
+        }
+    }
+}
+
+// The order with the starts besides its own, and with the credentials of all.
+fn with_starts(alloc: Global, order: Order, starts: &[&str]) -> Result<Order, LineFault>
+    ensures { AnswersOrder result (logged (map (λ text. text.now) starts.now) (guarded (with_others (map (λ text. text.now) (drop 1 starts.now)) (Ok (ordered_by order))))) }
+{
+    match with_all(alloc, order, after_first(starts)) {
+        Ok(order) => logged(alloc, order, starts),
+        Err(fault) => Err(fault),
+    }
+}
+
 // Reads what is said by words.
 fn read_said(alloc: Global, said: &[Saying<&str>]) -> Result<Order, LineFault>
     ensures { AnswersOrder result (order_said (map saying_in said.now)) }
@@ -862,7 +888,7 @@ fn read_said(alloc: Global, said: &[Saying<&str>]) -> Result<Order, LineFault>
         drop(order);
         return Err(LineFault::Memory);
     };
-    let order = with_all(alloc, order, after_first(starts.as_slice()));
+    let order = with_starts(alloc, order, starts.as_slice());
     drop(starts);
     order
 }

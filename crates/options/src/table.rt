@@ -886,7 +886,7 @@ pub(crate) struct Instead<T> {
 }
 
 /// What to do in place of Wget's options, if there is something. None of these forms is read.
-const INSTEAD: [Instead<&str>; 74] = [
+const INSTEAD: [Instead<&str>; 76] = [
     Instead {
         form: "--background",
         advice: "& of the shell, or nohup",
@@ -978,6 +978,14 @@ const INSTEAD: [Instead<&str>; 74] = [
     Instead {
         form: "--dns-timeout",
         advice: "options timeout:N in /etc/resolv.conf limits look-ups",
+    },
+    Instead {
+        form: "--bind-address",
+        advice: "src of ip route sets the address that requests come from",
+    },
+    Instead {
+        form: "--prefer-family",
+        advice: "-4 or -6 connects to addresses of one family alone",
     },
     Instead {
         form: "--limit-rate",

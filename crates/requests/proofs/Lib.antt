@@ -2,3 +2,4 @@ pub mod TextLemmas
 pub mod LineLemmas
 pub mod CutLemmas
 pub mod FieldsLemmas
+pub mod SendingLemmas

@@ -28,6 +28,17 @@ six a b c d e f s t u v w x y t_is u_is v_is w_is x_is y_is =
     ∙ ap (λ (l : List ℕ). s ++ l) (append_assoc a (b ++ (c ++ d)) (e ++ f)
     ∙ ap (λ (l : List ℕ). a ++ l) (append_assoc b (c ++ d) (e ++ f) ∙ ap (λ (l : List ℕ). b ++ l) (append_assoc c d (e ++ f))))
 
+-- seven parts
+pub seven : (a b c d e f g s t u v w x y z : List ℕ) → t ≡ s ++ a → u ≡ t ++ b → v ≡ u ++ c → w ≡ v ++ d → x ≡ w ++ e → y ≡ x ++ f → z ≡ y ++ g
+    → z ≡ s ++ (a ++ (b ++ (c ++ (d ++ (e ++ (f ++ g))))))
+seven a b c d e f g s t u v w x y z t_is u_is v_is w_is x_is y_is z_is =
+    z_is ∙ ap (λ (l : List ℕ). l ++ g) (six a b c d e f s t u v w x y t_is u_is v_is w_is x_is y_is)
+    ∙ append_assoc s (a ++ (b ++ (c ++ (d ++ (e ++ f))))) g
+    ∙ ap (λ (l : List ℕ). s ++ l) (append_assoc a (b ++ (c ++ (d ++ (e ++ f)))) g
+    ∙ ap (λ (l : List ℕ). a ++ l) (append_assoc b (c ++ (d ++ (e ++ f))) g
+    ∙ ap (λ (l : List ℕ). b ++ l) (append_assoc c (d ++ (e ++ f)) g
+    ∙ ap (λ (l : List ℕ). c ++ l) (append_assoc d (e ++ f) g ∙ ap (λ (l : List ℕ). d ++ l) (append_assoc e f g)))))
+
 -- three parts, and then the rest
 pub three : (a b c more y z : List ℕ) → y ≡ a ++ (b ++ c) → z ≡ y ++ more → z ≡ a ++ (b ++ (c ++ more))
 three a b c more y z y_is z_is =

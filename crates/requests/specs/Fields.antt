@@ -9,6 +9,7 @@ use Rattle.requests.specs.declared.fields.FieldsFault.{FieldsFault}
 use Rattle.requests.specs.declared.fields.FieldsFault.TheVariants.{Agent, Line, Referer, Size}
 use Rattle.requests.specs.declared.fields.TheConstants.{MAX_SENT}
 use Rattle.requests.specs.declared.line.TheConstants.{MAX_FIELD_LINE}
+use Rattle.requests.specs.declared.login.TheConstants.{MAX_LOGIN}
 
 -- ---- the program's own fields
 
@@ -42,13 +43,13 @@ referer_fields (Some url) = some_field (codes "Referer") url
 abbrev pub login_value : Text → Text
 login_value login = codes "Basic " ++ encode_of standard login
 
-abbrev pub login_fields : Option Text → List Field
-login_fields None = []
-login_fields (Some login) = field (codes "Authorization") (login_value login) ∷ []
+-- the same of both, unless they are too long
+abbrev pub login_of : Text → Text → Option Text
+login_of user password =
+    if nat_le (length (login_value (user ++ (codes ":" ++ password)))) MAX_LOGIN then Some (login_value (user ++ (codes ":" ++ password))) else None
 
-abbrev pub own_fields : Option Text → Option Text → Bool → Option Text → List Field
-own_fields agent referer is_uncached login =
-    agent_fields agent ++ (accept_fields ++ (cache_fields is_uncached ++ (referer_fields referer ++ login_fields login)))
+abbrev pub own_fields : Option Text → Option Text → Bool → List Field
+own_fields agent referer is_uncached = agent_fields agent ++ (accept_fields ++ (cache_fields is_uncached ++ referer_fields referer))
 
 -- ---- those that a person adds
 
@@ -102,14 +103,23 @@ abbrev pub last_named : Text → Option Text → List Field → Option Text
 last_named name before [] = before
 last_named name before (first ∷ later) = last_named name (if is_named first.name name then Some first.value else before) later
 
--- what is sent: a host in place of the address's, if one is given, the lines to each server, and those to the origins of the starts alone
+-- what is sent: a host in place of the address's, if one is given, the lines to each server, and to the origins of the starts alone those that
+-- are secret, and credentials, unless an `Authorization` is among the lines
 pub record Sent : Type 0 where
   pub host : Option Text
   pub common : Text
   pub secret : Text
+  pub signs : Bool
+  pub login : Option Text
 
-abbrev pub sent : List Field → Sent
-sent fields = record { host = last_named (codes "host") None fields; common = lines_text false fields; secret = lines_text true fields }
+abbrev pub sent : Option Text → List Field → Sent
+sent login fields = record {
+  host = last_named (codes "host") None fields;
+  common = lines_text false fields;
+  secret = lines_text true fields;
+  signs = is_among (codes "authorization") fields;
+  login = login;
+}
 
 -- how many bytes it has
 abbrev pub bytes_sent : Sent → ℕ
@@ -128,7 +138,7 @@ is_value value = option_map_or (λ text. is_clean text && nat_le (length text) M
 -- what is sent of the program's own fields and those that are added, if their lines say fields
 abbrev pub sent_with : Option Text → Option Text → Bool → Option Text → Option (List Field) → Result Sent FieldsFault
 sent_with agent referer is_uncached login None = Err Line
-sent_with agent referer is_uncached login (Some said) = fitting (sent (own_fields agent referer is_uncached login ++ said))
+sent_with agent referer is_uncached login (Some said) = fitting (sent login (own_fields agent referer is_uncached ++ said))
 
 -- what is sent if the agent, the page that led here, whether caches are passed by, the credentials, and the lines that are added are these,
 -- or the first of them that can't be sent

@@ -1,15 +1,26 @@
 -- The request for an address (RFC 9112, section 3.2), with what a run says besides.
-use Rattle.std.specs.Prelude.{◌++◌, Bool, true, false, List, [], Option, Some, None, bytes_eq, codes, if◌then◌else◌}
+use Rattle.std.specs.Prelude.{◌++◌, ◌||◌, Bool, true, false, not, List, [], ◌∷◌, Option, Some, None, is_some, bytes_eq, codes, if◌then◌else◌}
 use Rattle.std.specs.List.{list_any}
 use Rattle.address.specs.Address.{AddressText, OriginText, authority_of, origin_of, scheme_of}
 use Rattle.response_reader.specs.Request.{target_by}
 use Rattle.requests.specs.Fields.{Sent}
 use Rattle.requests.specs.Lines.{Text}
 
+-- the origin of a start, and the credentials that the start has
+pub record Home : Type 0 where
+  pub origin : OriginText
+  pub login : Option Text
+
+abbrev pub home_of : AddressText → Option Text → Home
+home_of start login = record { origin = origin_of start; login = login }
+
+abbrev pub has_login : Home → Bool
+has_login home = is_some home.login
+
 -- what a run sends, and the origins of its starts
 pub record Sending : Type 0 where
   pub sent : Sent
-  pub homes : List OriginText
+  pub homes : List Home
 
 -- the host and port of the address, or what is sent in their place
 abbrev pub host_by : Option Text → AddressText → Text
@@ -17,8 +28,32 @@ host_by None at = authority_of at
 host_by (Some host) at = host
 
 -- the address is at an origin of a start
-abbrev pub is_home : List OriginText → AddressText → Bool
-is_home homes at = list_any (λ home. bytes_eq home (origin_of at)) homes
+abbrev pub is_home : List Home → AddressText → Bool
+is_home homes at = list_any (λ home. bytes_eq home.origin (origin_of at)) homes
+
+-- the first of these that is there
+abbrev pub or_login : Option Text → Option Text → Option Text
+or_login None other = other
+or_login (Some login) other = Some login
+
+-- the credentials of a start, if the address is at its origin
+abbrev pub login_here : Home → AddressText → Option Text
+login_here home at = if bytes_eq home.origin (origin_of at) then home.login else None
+
+-- those of the first start at the address's origin that has any
+abbrev pub login_at : List Home → AddressText → Option Text
+login_at [] at = None
+login_at (home ∷ homes) at = or_login (login_here home at) (login_at homes at)
+
+-- the credentials for an address: at an origin of a start those of the start, or else those for all of them, unless a line has others
+abbrev pub login_for : Sending → AddressText → Option Text
+login_for sending at =
+    if sending.sent.signs || not (is_home sending.homes at) then None else or_login (login_at sending.homes at) sending.sent.login
+
+-- their line (RFC 9110, section 11.6.2)
+abbrev pub login_line : Option Text → Text
+login_line None = []
+login_line (Some login) = codes "Authorization: " ++ (login ++ codes "\r\n")
 
 -- secret lines go to origins of starts, and to no other
 abbrev pub secret_for : Sending → AddressText → Text
@@ -29,8 +64,9 @@ abbrev pub closing : Bool → Text
 closing true = []
 closing false = codes "Connection: close\r\n"
 
--- a GET of the address in one head: host, the lines to each server, those to origins of starts if it is at one, and the connection
+-- a GET of the address in one head: host, the lines to each server, those to origins of starts if it is at one, credentials first, and the
+-- connection
 abbrev pub request_of : Sending → Bool → AddressText → Text
 request_of sending keeps at =
     codes "GET " ++ (target_by (scheme_of at) at ++ (codes " HTTP/1.1\r\nHost: " ++ (host_by sending.sent.host at
-    ++ (codes "\r\n" ++ (sending.sent.common ++ (secret_for sending at ++ (closing keeps ++ codes "\r\n")))))))
+    ++ (codes "\r\n" ++ (sending.sent.common ++ (login_line (login_for sending at) ++ (secret_for sending at ++ (closing keeps ++ codes "\r\n"))))))))

@@ -2,11 +2,11 @@
 ghost use Rattle.std.specs.Prelude.{◌≡◌, ◌⊎◌, ◌<◌, ◌≤◌, ◌+◌, ◌++◌, ◌∷◌, [], codes, Err, IfOk, None, Ok, OnOk, Some, MatchOption, MatchResult, length, nat_le, option_map, string_bytes, unwrap_or};
 ghost use Rattle.std.specs.List.{slice_split};
 ghost use Rattle.requests.specs.Lines.{is_clean, line_of};
-ghost use Rattle.requests.specs.Fields.{accept_fields, agent_fields, bad_line, bytes_sent, cache_fields, field, first_text, fitting, goes, is_among, is_bad_line, is_nul, is_value, last_named, lines_text, login_fields, own_fields, read_fields, read_lines, referer_fields, sent, sent_with, some_field};
+ghost use Rattle.requests.specs.Fields.{accept_fields, agent_fields, bad_line, bytes_sent, cache_fields, field, first_text, fitting, goes, is_among, is_bad_line, is_nul, is_value, last_named, lines_text, own_fields, read_fields, read_lines, referer_fields, sent, sent_with, some_field};
 ghost use Rattle.requests.specs.declared.fields.FieldsFault.TheVariants.{Agent, Line, Memory, Referer, Size};
 
 use crate::line::{Field, MAX_FIELD_LINE, is_clean, is_named, is_secret, read_line};
-use crate::login::Login;
+use crate::login::{Login, copy_of};
 use std::alloc::{AllocError, AllocFailed, Global};
 use std::marker::Model;
 
@@ -51,12 +51,15 @@ impl<T: Drop> From<AllocFailed<T>> for FieldsFault {
 }
 
 /// What requests say: a host in place of the address's, if one is given, lines to each server, and lines that go to the origins of
-/// the starts alone. Together these have at most 32,768 bytes.
+/// the starts alone. Together these have at most 32,768 bytes. The credentials are for these origins, too.
 #[derive(Drop)]
 pub struct Fields {
     host: Option<String>,
     common: String,
     secret: String,
+    // Whether an `Authorization` is among the secret lines.
+    signs: bool,
+    login: Option<Login>,
 }
 
 impl Model for Fields {
@@ -67,9 +70,9 @@ impl Model for Fields {
 
     ghost Value = { Sent };
 
-    ghost view = { λ f. record { host = option_map string_bytes f.host; common = string_bytes f.common; secret = string_bytes f.secret } };
+    ghost view = { λ f. record { host = option_map string_bytes f.host; common = string_bytes f.common; secret = string_bytes f.secret; signs = f.signs; login = f.login } };
 
-    ghost invariant = { λ f. bytes_sent (record { host = option_map string_bytes f.host; common = string_bytes f.common; secret = string_bytes f.secret }) ≤ MAX_SENT };
+    ghost invariant = { λ f. bytes_sent (record { host = option_map string_bytes f.host; common = string_bytes f.common; secret = string_bytes f.secret; signs = f.signs; login = f.login }) ≤ MAX_SENT };
 }
 
 // Adds a field of these texts.
@@ -139,39 +142,20 @@ fn push_referer(
     }
 }
 
-// Adds the credentials, if there are any.
-fn push_login(
-    alloc: Global,
-    fields: &mut Vec<Field>,
-    login: Option<&Login>,
-) -> Result<(), AllocError>
-    ensures { OnOk result (fields.new.items ≡ fields.old.items ++ login_fields (option_map (λ l. l.now) login.entry)) }
-{
-    match login {
-        Some(login) => {
-            let value = login.value(alloc)?;
-            push(alloc, fields, "Authorization", value.as_str())
-        }
-        None => Ok(()),
-    }
-}
-
 // The program's own fields.
 fn own_fields(
     alloc: Global,
     agent: Option<&str>,
     referer: Option<&str>,
     is_uncached: bool,
-    login: Option<&Login>,
 ) -> Result<Vec<Field>, AllocError>
-    ensures { IfOk result (λ fields. fields.items ≡ own_fields (option_map (λ s. s.now) agent.entry) (option_map (λ s. s.now) referer.entry) is_uncached (option_map (λ l. l.now) login.entry)) }
+    ensures { IfOk result (λ fields. fields.items ≡ own_fields (option_map (λ s. s.now) agent.entry) (option_map (λ s. s.now) referer.entry) is_uncached) }
 {
     let mut fields = Vec::new(alloc);
     push_agent(alloc, &mut fields, agent)?;
     push_accept(alloc, &mut fields)?;
     push_cache(alloc, &mut fields, is_uncached)?;
     push_referer(alloc, &mut fields, referer)?;
-    push_login(alloc, &mut fields, login)?;
     Ok(fields)
 }
 
@@ -328,11 +312,11 @@ fn fits(host: usize, common: usize, secret: usize) -> bool
     host <= MAX_SENT && common <= MAX_SENT - host && secret <= MAX_SENT - host - common
 }
 
-// What is sent of these fields.
-fn sent(alloc: Global, fields: &[Field]) -> Result<Fields, FieldsFault>
+// What is sent of these fields and with these credentials.
+fn sent(alloc: Global, login: Option<Login>, fields: &[Field]) -> Result<Fields, FieldsFault>
     ensures { MatchResult result
-        (λ said. fitting (sent fields.now) ≡ Ok said)
-        (λ f. (fitting (sent fields.now) ≡ Err f) ⊎ (f ≡ Memory)) }
+        (λ said. fitting (sent login fields.now) ≡ Ok said)
+        (λ f. (fitting (sent login fields.now) ≡ Err f) ⊎ (f ≡ Memory)) }
 {
     let host = last_named(alloc, "host", fields)?;
     let common = lines_text(alloc, false, fields)?;
@@ -342,6 +326,8 @@ fn sent(alloc: Global, fields: &[Field]) -> Result<Fields, FieldsFault>
             host,
             common,
             secret,
+            signs: is_among("authorization", fields),
+            login,
         })
     } else {
         Err(FieldsFault::Size)
@@ -364,13 +350,12 @@ fn all_fields(
     agent: Option<&str>,
     referer: Option<&str>,
     is_uncached: bool,
-    login: Option<&Login>,
     said: Vec<Field>,
 ) -> Result<Vec<Field>, AllocError>
-    ensures { IfOk result (λ fields. fields.items ≡ own_fields (option_map (λ s. s.now) agent.entry) (option_map (λ s. s.now) referer.entry) is_uncached (option_map (λ l. l.now) login.entry) ++ said.items) }
+    ensures { IfOk result (λ fields. fields.items ≡ own_fields (option_map (λ s. s.now) agent.entry) (option_map (λ s. s.now) referer.entry) is_uncached ++ said.items) }
 {
     let mut said = said;
-    let mut fields = own_fields(alloc, agent, referer, is_uncached, login)?;
+    let mut fields = own_fields(alloc, agent, referer, is_uncached)?;
     fields.append(&mut said)?;
     Ok(fields)
 }
@@ -381,15 +366,15 @@ fn sent_with(
     agent: Option<&str>,
     referer: Option<&str>,
     is_uncached: bool,
-    login: Option<&Login>,
+    login: Option<Login>,
     said: Vec<Field>,
 ) -> Result<Fields, FieldsFault>
     ensures { MatchResult result
-        (λ all. sent_with (option_map (λ s. s.now) agent.entry) (option_map (λ s. s.now) referer.entry) is_uncached (option_map (λ l. l.now) login.entry) (Some said.items) ≡ Ok all)
-        (λ f. (sent_with (option_map (λ s. s.now) agent.entry) (option_map (λ s. s.now) referer.entry) is_uncached (option_map (λ l. l.now) login.entry) (Some said.items) ≡ Err f) ⊎ (f ≡ Memory)) }
+        (λ all. sent_with (option_map (λ s. s.now) agent.entry) (option_map (λ s. s.now) referer.entry) is_uncached login (Some said.items) ≡ Ok all)
+        (λ f. (sent_with (option_map (λ s. s.now) agent.entry) (option_map (λ s. s.now) referer.entry) is_uncached login (Some said.items) ≡ Err f) ⊎ (f ≡ Memory)) }
 {
-    match all_fields(alloc, agent, referer, is_uncached, login, said) {
-        Ok(fields) => sent(alloc, fields.as_slice()),
+    match all_fields(alloc, agent, referer, is_uncached, said) {
+        Ok(fields) => sent(alloc, login, fields.as_slice()),
         Err(_) => Err(FieldsFault::Memory),
     }
 }
@@ -404,12 +389,12 @@ impl Fields {
         agent: Option<&str>,
         referer: Option<&str>,
         is_uncached: bool,
-        login: Option<&Login>,
+        login: Option<Login>,
         lines: &str,
     ) -> Result<Fields, FieldsFault>
         ensures { MatchResult result
-            (λ said. read_fields (option_map (λ s. s.now) agent.entry) (option_map (λ s. s.now) referer.entry) is_uncached (option_map (λ l. l.now) login.entry) lines.now ≡ Ok said)
-            (λ f. (read_fields (option_map (λ s. s.now) agent.entry) (option_map (λ s. s.now) referer.entry) is_uncached (option_map (λ l. l.now) login.entry) lines.now ≡ Err f) ⊎ (f ≡ Memory)) }
+            (λ said. read_fields (option_map (λ s. s.now) agent.entry) (option_map (λ s. s.now) referer.entry) is_uncached login lines.now ≡ Ok said)
+            (λ f. (read_fields (option_map (λ s. s.now) agent.entry) (option_map (λ s. s.now) referer.entry) is_uncached login lines.now ≡ Err f) ⊎ (f ≡ Memory)) }
     {
         if !is_value(agent) {
             return Err(FieldsFault::Agent);
@@ -449,6 +434,23 @@ impl Fields {
         self.secret.as_str()
     }
 
+    /// Whether an `Authorization` is among the secret lines. Takes no memory.
+    pub(crate) fn signs(&self) -> bool
+        ensures { result ≡ self.now.signs }
+    {
+        self.signs
+    }
+
+    /// The credentials for the origins of starts, if there are any. Takes no memory.
+    pub(crate) fn login(&self) -> Option<&Login>
+        ensures { option_map (λ l. l.now) result ≡ self.now.login }
+    {
+        match &self.login {
+            Some(login) => Some(login),
+            None => None,
+        }
+    }
+
     /// The same once more.
     pub fn try_clone(&self) -> Result<Fields, AllocError>
         ensures { IfOk result (λ copy. copy ≡ self.now) }
@@ -457,6 +459,8 @@ impl Fields {
             host: self.host.clone()?,
             common: self.common.clone()?,
             secret: self.secret.clone()?,
+            signs: self.signs,
+            login: copy_of(&self.login)?,
         })
     }
 }

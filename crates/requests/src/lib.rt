@@ -4,13 +4,15 @@
 #![tactic(auto)]
 
 mod fields;
+mod home;
 mod line;
 mod login;
 mod request;
 mod sending;
 
 pub use crate::fields::{Fields, FieldsFault, MAX_SENT, bad_line};
+pub use crate::home::Home;
 pub use crate::line::MAX_FIELD_LINE;
-pub use crate::login::Login;
+pub use crate::login::{Login, MAX_LOGIN};
 pub use crate::request::write_request;
 pub use crate::sending::Sending;

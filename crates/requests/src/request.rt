@@ -1,21 +1,23 @@
 //! The request for one address, with what a run says besides (RFC 9112, sections 3 and 9.6).
-ghost use Rattle.std.specs.Prelude.{◌≡◌, ◌≤◌, ◌<◌, ◌+◌, ◌++◌, ℕ, List, [], IfOk, IsTrue, OnErr, OnOk, codes, length};
+ghost use Rattle.std.specs.Prelude.{◌≡◌, ◌≤◌, ◌<◌, ◌+◌, ◌++◌, ℕ, List, [], IfOk, IsTrue, OnErr, OnOk, codes, length, option_map};
 ghost use Rattle.std.specs.Io.KnownBytes.{Appends, Keeps};
 ghost use Rattle.address.specs.Address.{scheme_of};
 ghost use Rattle.response_reader.specs.Request.{SendsFront, target_by};
 ghost use Rattle.response_reader.specs.Wire.{HasRisen};
 ghost use Rattle.response_reader.specs.inner.Request.{WritesGiveUp};
 ghost use Rattle.response_reader.specs.inner.Wire.{GoesOn, tally};
-ghost use Rattle.requests.specs.Requests.{closing, host_by, request_of, secret_for};
+ghost use Rattle.requests.specs.Requests.{closing, host_by, login_line, request_of, secret_for};
 
 use crate::fields::MAX_SENT;
+use crate::login::{Login, MAX_LOGIN};
 use crate::sending::Sending;
 use address::{Address, MAX_ADDRESS, MAX_HOST, Scheme};
 use arrayvec::ArrayVec;
 use response_reader::{MAX_INTERRUPTED, RequestFault, Wire, WireFault};
 
-/// Most bytes of a request: those of any address, of its host and port, of all that a run says, and room for the lines around them.
-const MAX_REQUEST: usize = MAX_ADDRESS + MAX_HOST + MAX_SENT + 144;
+/// Most bytes of a request: those of any address, of its host and port, of all that a run says, of credentials, and room for the lines
+/// around them.
+const MAX_REQUEST: usize = MAX_ADDRESS + MAX_HOST + MAX_SENT + MAX_LOGIN + 144;
 
 /// The text of a request, in room for that of any address.
 type RequestText = ArrayVec<u8, MAX_REQUEST>;
@@ -80,8 +82,10 @@ fn secret<'a>(sending: &'a Sending, at: &Address) -> &'a str
     ensures value { result.now ≡ secret_for sending.entry.now at.now }
     ensures short { length result.now ≤ length sending.entry.now.sent.secret }
 {
-    if sending.is_home(at) {
-        sending.fields().secret()
+    let secret = sending.fields().secret();
+    // Starts are gone through only if there is something to send.
+    if secret.is_empty() || sending.is_home(at) {
+        secret
     } else {
         ""
     }
@@ -117,16 +121,37 @@ fn put_front(text: &mut RequestText, at: &Address)
     put(text, b" HTTP/1.1\r\nHost: ");
 }
 
+// Adds the line of these credentials, if there are any.
+fn put_login(text: &mut RequestText, login: Option<&Login>)
+    requires { length text.old.items + (MAX_LOGIN + 17) ≤ MAX_REQUEST }
+    ensures value { text.new.items ≡ text.old.items ++ login_line (option_map (λ l. l.now) login.entry) }
+    ensures len { length text.new.items ≤ length text.old.items + (MAX_LOGIN + 17) }
+{
+    if let Some(login) = login {
+        put_text(text, "Authorization: ");
+        put_text(text, login.value());
+        put_text(text, "\r\n");
+    }
+}
+
 // Adds these pieces, and the ends of two lines.
-fn put_pieces(text: &mut RequestText, host: &str, common: &str, secret: &str, closing: &str)
+fn put_pieces(
+    text: &mut RequestText,
+    host: &str,
+    common: &str,
+    login: Option<&Login>,
+    secret: &str,
+    closing: &str,
+)
     requires room { length text.old.items ≤ MAX_ADDRESS + 32 }
     requires short { length host.now + (length common.now + length secret.now) ≤ MAX_HOST + 6 + MAX_SENT }
     requires closing { length closing.now ≤ 32 }
-    ensures { text.new.items ≡ text.old.items ++ (host.now ++ (codes "\r\n" ++ (common.now ++ (secret.now ++ (closing.now ++ codes "\r\n"))))) }
+    ensures { text.new.items ≡ text.old.items ++ (host.now ++ (codes "\r\n" ++ (common.now ++ (login_line (option_map (λ l. l.now) login.entry) ++ (secret.now ++ (closing.now ++ codes "\r\n")))))) }
 {
     put_text(text, host);
     put_text(text, "\r\n");
     put_text(text, common);
+    put_login(text, login);
     put_text(text, secret);
     put_text(text, closing);
     put_text(text, "\r\n");
@@ -143,6 +168,7 @@ fn put_request(text: &mut RequestText, sending: &Sending, keeps: bool, at: &Addr
         text,
         host(sending, at),
         fields.common(),
+        sending.login_for(at),
         secret(sending, at),
         closing(keeps),
     );

@@ -67,7 +67,8 @@ read => h/p?u=http://x/
 start: not url => //h/
 start: not url => /p
 start: not http => foo:bar
-start: user info => u@h
+read => u@h
+start: user info => a%3Ab@h
 start: not http => https://h/
 start: not http => --https-proxy=http://127.0.0.1:3128/ ftp://h/
 read => --https-proxy=http://127.0.0.1:3128/ https://h/
@@ -98,7 +99,8 @@ read => --https-proxy=http://p/ http://h/
 read => --https-proxy=http://p/ --trust-proxy https://h/
 read => --https-proxy=http://[::1]:1/ https://h/
 read => --https-proxy=http://127.1.2.3/ https://h/
-start: user info => http://u@h/
+read => http://u:p@h/
+start: not http => https://u:p@h/
 start: robots => http://h/robots.txt
 read => http://h/ http://k/ http://h/
 start: not url => http://h/ //k/
@@ -514,6 +516,8 @@ const ADVICE: &str = "\
 --nothing-near http://h/ => unexpected argument found: --nothing-near|wgetr --help says which words are accepted
 --mirror http://h/ => unexpected argument found: --mirror (an option of Wget that wgetr doesn't have: -r -l inf, and --save FILE and --resume FILE for -N)|wgetr --help says which words are accepted
 -r --save-cookies=a http://h/ => unexpected argument found: --save-cookies (an option of Wget that wgetr doesn't have)|wgetr --help says which words are accepted
+--bind-address 127.0.0.2 http://h/ => unexpected argument found: --bind-address (an option of Wget that wgetr doesn't have: src of ip route sets the address that requests come from)|wgetr --help says which words are accepted
+--dns-timeout=5 http://h/ => unexpected argument found: --dns-timeout (an option of Wget that wgetr doesn't have: options timeout:N in /etc/resolv.conf limits look-ups)|wgetr --help says which words are accepted
 --header a:b --header nocolon --header=c http://h/ => a value of --header is no field that can be sent: nocolon|a field is a name, a colon and a value, as Accept-Language: en, without control characters and with at most 8192 bytes (see wgetr --help)
 -U a\tb http://h/ => the value of -U, --user-agent has a control character or more than 8192 bytes|a field is a name, a colon and a value, as Accept-Language: en, without control characters and with at most 8192 bytes (see wgetr --help)
 --user=u --password=p http://h/ => user name and password are only sent together and with --auth-no-challenge|--user=USER --password=PASSWORD --auth-no-challenge send both with each request to the servers of STARTs; USER has no colon (see wgetr --help)
@@ -522,12 +526,12 @@ const ADVICE: &str = "\
 --no-cl http://h/ => unexpected argument found: --no-cl (an option of Wget that wgetr doesn't have: --save FILE, then --resume FILE: a later run requests what is missing)|wgetr --help says which words are accepted
 -nc http://h/ => one of the values isn't valid for an argument: -nc (an option of Wget that wgetr doesn't have: --save FILE, then --resume FILE: a later run requests what is missing)|wgetr --help says which words are accepted
 -e robots=of http://h/ => one of the values isn't valid for an argument|wgetr --help says which words are accepted
-h/ http://k/ //example.org/ => START is no URL (did you mean http://example.org/?)|START is an address in full, as http://example.org/path?query, without user name and password, with at most 8192 bytes and a host of at most 255 (see wgetr --help)
-//example.org/ => START is no URL (did you mean http://example.org/?)|START is an address in full, as http://example.org/path?query, without user name and password, with at most 8192 bytes and a host of at most 255 (see wgetr --help)
--r example.org:/a => START isn't an http address, and an https one needs --https-proxy, a proxy that speaks TLS (did you mean http://example.org/a?)|START is an address in full, as http://example.org/path?query, without user name and password, with at most 8192 bytes and a host of at most 255 (see wgetr --help)
-https://h/ => START isn't an http address, and an https one needs --https-proxy, a proxy that speaks TLS|START is an address in full, as http://example.org/path?query, without user name and password, with at most 8192 bytes and a host of at most 255 (see wgetr --help)
-a:b => START isn't an http address, and an https one needs --https-proxy, a proxy that speaks TLS|START is an address in full, as http://example.org/path?query, without user name and password, with at most 8192 bytes and a host of at most 255 (see wgetr --help)
-http://a@h/ => START has a user name or a password, which --user, --password and --auth-no-challenge send|START is an address in full, as http://example.org/path?query, without user name and password, with at most 8192 bytes and a host of at most 255 (see wgetr --help)
+h/ http://k/ //example.org/ => START is no URL (did you mean http://example.org/?)|START is an address in full, as http://example.org/path?query, with at most 8192 bytes and a host of at most 255 (see wgetr --help)
+//example.org/ => START is no URL (did you mean http://example.org/?)|START is an address in full, as http://example.org/path?query, with at most 8192 bytes and a host of at most 255 (see wgetr --help)
+-r example.org:/a => START isn't an http address, and an https one needs --https-proxy, a proxy that speaks TLS (did you mean http://example.org/a?)|START is an address in full, as http://example.org/path?query, with at most 8192 bytes and a host of at most 255 (see wgetr --help)
+https://h/ => START isn't an http address, and an https one needs --https-proxy, a proxy that speaks TLS|START is an address in full, as http://example.org/path?query, with at most 8192 bytes and a host of at most 255 (see wgetr --help)
+a:b => START isn't an http address, and an https one needs --https-proxy, a proxy that speaks TLS|START is an address in full, as http://example.org/path?query, with at most 8192 bytes and a host of at most 255 (see wgetr --help)
+http://a%3Ab@h/ => START has a user name with a colon, or it and the password are too long|START is an address in full, as http://example.org/path?query, with at most 8192 bytes and a host of at most 255 (see wgetr --help)
 http://h/robots.txt => START is a robots file|START is any other page (see wgetr --help)
 -l x http://h/ => the value of -l, --level is no level|a level is inf or decimal digits, at most 1000000 (see wgetr --help)
 -A [a http://h/ => an element of -A, --accept or -R, --reject is no pattern|an element is a suffix, or a pattern with *, ? and classes as [a-z], each closed (see wgetr --help)

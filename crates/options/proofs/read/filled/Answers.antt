@@ -21,4 +21,5 @@ returns c = rw (
   c.requires.resume,
   c.requires.save,
   c.requires.log,
+  c.new.ensures.items,
 ) refl

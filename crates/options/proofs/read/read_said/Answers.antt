@@ -1,9 +1,9 @@
 -- Each word is read, or the first that isn't is named; the other starts follow the first.
-use Rattle.std.proofs.Common.{◌∙◌, ap, drop, inl, inr, map, subst, sym, ⊎_elim}
+use Rattle.std.proofs.Common.{◌∙◌, List, ap, drop, inl, inr, map, subst, sym, ⊎_elim}
 use Rattle.std.specs.Prelude.{Err, Ok}
 use Rattle.std.proofs.lemmas.List.{drop-map}
-use Rattle.options.specs.Order.{AnswersOrder, guarded, ordered_by, with_others}
-use Rattle.options.specs.Written.{others_in}
+use Rattle.options.specs.Order.{AnswersOrder, guarded, logged, ordered_by, with_others}
+use Rattle.options.specs.Written.{others_in, starts_in}
 use Rattle.options.specs.inner.Said.{saying_in}
 use Rattle.options.proofs.SameLemmas.{order_read, order_unread}
 use Rattle.options.proofs.read.read_said.Goals as goal
@@ -20,17 +20,20 @@ pub returns-in-Err : goal.returns-in-Err
 returns-in-Err c =
     let said = map saying_in c.args.said.now in
     ⊎_elim
-    (λ refused. inl (order_read said (sym c.in_default.ensures) ∙ ap (λ order. guarded (with_others (others_in said) order)) refused))
+    (λ refused. inl (order_read said (sym c.in_default.ensures) ∙ ap (λ order. logged (starts_in said) (guarded (with_others (others_in said) order))) refused))
     (λ memory. inr memory)
     c.in-Err.ensures
 
 pub returns : goal.returns
 returns c =
     let said = map saying_in c.args.said.now in
-    let starts = sym c.in-Ok-starts.ensures in
+    let texts = ap (map (λ word. word.now)) c.as_slice.ensures.value ∙ c.in-Ok-starts.ensures in
+    let others = ap (λ (words : List _). map (λ word. word.now) (drop 1 words)) c.as_slice.ensures.value
+    ∙ sym (drop-map (λ word. word.now) 1 c.in-Ok-starts.starts.items) ∙ ap (drop 1) c.in-Ok-starts.ensures in
     subst
-    (AnswersOrder c.with_all-order.result)
-    (ap (λ texts. guarded (with_others texts (Ok (ordered_by c.in-Ok.order)))) (ap (map (λ word. word.now)) (c.after_first.ensures ∙ ap (drop 1) c.as_slice.ensures.value) ∙ sym (drop-map (λ word. word.now) 1 c.in-Ok-starts.starts.items) ∙ ap (drop 1) c.in-Ok-starts.ensures)
-    ∙ ap (λ order. guarded (with_others (others_in said) order)) (sym c.in-Ok.ensures)
+    (AnswersOrder c.with_starts-order.result)
+    (ap (λ starts. logged starts (guarded (with_others (map (λ word. word.now) (drop 1 c.as_slice.result.now)) (Ok (ordered_by c.in-Ok.order))))) texts
+    ∙ ap (λ more. logged (starts_in said) (guarded (with_others more (Ok (ordered_by c.in-Ok.order))))) others
+    ∙ ap (λ order. logged (starts_in said) (guarded (with_others (others_in said) order))) (sym c.in-Ok.ensures)
     ∙ sym (order_read said (sym c.in_default.ensures)))
-    c.with_all-order.ensures
+    c.with_starts-order.ensures

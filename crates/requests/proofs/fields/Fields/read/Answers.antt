@@ -20,9 +20,8 @@ pub returns-in-Ok : goal.returns-in-Ok
 returns-in-Ok c =
     let agent : Option Text = option_map (λ s. s.now) c.args.agent in
     let referer : Option Text = option_map (λ s. s.now) c.args.referer in
-    let login : Option Text = option_map (λ l. l.now) c.args.login in
     subst (λ (x : Result Sent FieldsFault). MatchResult c.sent_with.result (λ all. x ≡ Ok all) (λ f. (x ≡ Err f) ⊎ (f ≡ Memory)))
-    (sym (all-read agent referer c.args.is_uncached login c.args.lines.now c.in-Ok.said.items (sym c.is_value.ensures ∙ c.if-not-is_value.false) (sym c.is_value-2.ensures ∙ c.if-not-is_value-2.false) c.in-Ok.ensures)) c.sent_with.ensures
+    (sym (all-read agent referer c.args.is_uncached c.args.login c.args.lines.now c.in-Ok.said.items (sym c.is_value.ensures ∙ c.if-not-is_value.false) (sym c.is_value-2.ensures ∙ c.if-not-is_value-2.false) c.in-Ok.ensures)) c.sent_with.ensures
 
 pub returns-in-Err : goal.returns-in-Err
 returns-in-Err c =
