@@ -1,6 +1,6 @@
 mod CleanLemmas
 mod CutLemmas
 mod JarLemmas
-mod Meaning
+pub mod Meaning
 mod OrderLemmas
 mod ValueLemmas

@@ -1,4 +1,5 @@
 pub mod Lines
 pub mod Jars
 pub mod Matches
+pub mod Faults
 pub mod inner

@@ -1,6 +1,8 @@
-//! Why a file is no cookie file.
+//! Why a file is no cookie file: the line that is written in place of a report, and what a person is told.
+ghost use Rattle.std.specs.Prelude.{◌≡◌, ◌++◌, IfOk, codes, string_bytes};
+ghost use Rattle.cookie_files.specs.Faults.{cookies_words};
 
-use std::alloc::{AllocError, AllocFailed};
+use std::alloc::{AllocError, Global};
 
 /// Why a line says no cookie: the first of its fields that can't be.
 #[derive(Clone, Copy, PartialEq, Eq, Debug)]
@@ -26,6 +28,8 @@ pub enum LineFault {
 /// Why a file can't be used.
 #[derive(Clone, Copy, PartialEq, Eq, Debug)]
 pub enum CookieFault {
+    /// It can't be read.
+    Unread,
     /// It has more than 4 MiB.
     TooLong,
     /// It has more than 10,000 lines.
@@ -34,6 +38,60 @@ pub enum CookieFault {
     Line(usize, LineFault),
     /// Memory ran out.
     Memory,
+}
+
+impl LineFault {
+    ghost use Rattle.std.specs.Prelude.{◌≡◌};
+    ghost use Rattle.cookie_files.specs.Faults.{why};
+
+    /// What is wrong with the line.
+    pub fn as_str(&self) -> &'static str
+        ensures { result.now ≡ why self.now }
+    {
+        match self {
+            LineFault::Fields => "a cookie has seven fields, with a TAB between two",
+            LineFault::Domain => "the domain is no host",
+            LineFault::Subdomains => "the second field is neither TRUE nor FALSE",
+            LineFault::Path => "the path doesn't begin with a slash, or has a control character",
+            LineFault::Secure => "the fourth field is neither TRUE nor FALSE",
+            LineFault::Expiry => "the expiry is no number of seconds",
+            LineFault::Name =>
+                "the name is empty, or has a control character, a semicolon or an equals sign",
+            LineFault::Value => "the value has a control character or a semicolon",
+        }
+    }
+}
+
+impl CookieFault {
+    ghost use Rattle.std.specs.Prelude.{◌≡◌};
+    ghost use Rattle.cookie_files.specs.Faults.{cookies_status};
+
+    /// The status with which the run ends: 1 if memory ran out, and else 2.
+    pub fn status(&self) -> u8
+        ensures { result ≡ cookies_status self.now }
+    {
+        match self {
+            CookieFault::Unread
+            | CookieFault::TooLong
+            | CookieFault::TooManyLines
+            | CookieFault::Line(_, _) => 2,
+            CookieFault::Memory => 1,
+        }
+    }
+}
+
+/// The line of a fault.
+pub fn cookies_text(alloc: Global, fault: CookieFault) -> Result<String, AllocError>
+    ensures { IfOk result (λ text. string_bytes text ≡ cookies_words fault ++ codes "\n") }
+{
+    match fault {
+        CookieFault::Unread => String::from_str(alloc, "cookies read\n"),
+        CookieFault::TooLong | CookieFault::TooManyLines => {
+            String::from_str(alloc, "cookies long\n")
+        }
+        CookieFault::Line(number, _) => format!(in alloc; "cookies line {number}\n"),
+        CookieFault::Memory => String::from_str(alloc, "stopped memory\n"),
+    }
 }
 
 impl From<AllocError> for CookieFault {
