@@ -3,6 +3,7 @@
 #![tactic(auto)]
 
 mod asking;
+mod cookie_file;
 mod disk;
 mod network;
 mod output;
@@ -12,6 +13,7 @@ mod stand_ins;
 mod start_file;
 
 pub use crate::asking::Asking;
+pub use crate::cookie_file::jar_of;
 pub use crate::disk::{Disk, Saved};
 pub use crate::network::Network;
 pub use crate::output::Output;

@@ -7,6 +7,7 @@ use live_system::{FetcherSettings, HoldFault, System};
 use local_tree::DiskFolder;
 use progress::Progress;
 use record_journal::{HoldFault as Held, Journaled, Pen, SavedFile, Saving};
+use requests::Jar;
 use std::alloc::{AllocError, Global};
 use std::fs::Files;
 use std::net::Net;
@@ -29,11 +30,14 @@ pub struct Network<'a, R: Net + Wait + Files + Clock + Eprint> {
     saving: &'a Saving<R>,
     crew: &'a PartThreads<'a, R>,
     failures: &'a SharedFailures,
+    jar: Option<Jar>,
 }
 
 impl<'a, R: Net + Wait + Files + Clock + Eprint> Network<'a, R> {
+    ghost use Rattle.std.specs.Prelude.{◌≡◌, IfOk};
+
     /// By this handle, with what the run knows of hosts and keeps of connections, the line that counts them, where it saves, what
-    /// writes parts of files and what keeps why something failed. Takes no memory.
+    /// writes parts of files and what keeps why something failed, and cookies of a file. Takes no memory.
     pub fn new(
         rt: &'a R,
         alloc: Global,
@@ -43,6 +47,7 @@ impl<'a, R: Net + Wait + Files + Clock + Eprint> Network<'a, R> {
         saving: &'a Saving<R>,
         crew: &'a PartThreads<'a, R>,
         failures: &'a SharedFailures,
+        jar: Option<Jar>,
     ) -> Network<'a, R> {
         Network {
             rt,
@@ -53,6 +58,17 @@ impl<'a, R: Net + Wait + Files + Clock + Eprint> Network<'a, R> {
             saving,
             crew,
             failures,
+            jar,
+        }
+    }
+
+    // The cookies of a file, if there are any. Takes no memory; the error is that 2^63 copies are there.
+    fn jar(&self) -> Result<Option<Jar>, AllocError>
+        ensures { IfOk result (λ jar. jar ≡ self.now.jar) }
+    {
+        match &self.jar {
+            Some(jar) => Ok(Some(jar.try_clone()?)),
+            None => Ok(None),
         }
     }
 }
@@ -71,7 +87,7 @@ where
 
     type Record = Saved<'a, R>;
 
-    ghost makes = { λ network settings fetcher. (fetcher.inner.inner.robots ≡ settings.robots) × (fetcher.inner.inner.keeps ≡ is_some settings.kept) × (fetcher.inner.inner.most ≡ settings.kept) × (fetcher.inner.inner.sends ≡ Some settings.sends) × (fetcher.inner.inner.retries ≡ settings.retries) × (fetcher.inner.is_recording ≡ settings.is_recording) };
+    ghost makes = { λ network settings fetcher. (fetcher.inner.inner.robots ≡ settings.robots) × (fetcher.inner.inner.keeps ≡ is_some settings.kept) × (fetcher.inner.inner.most ≡ settings.kept) × (fetcher.inner.inner.sends ≡ Some (record settings.sends { jar = network.jar })) × (fetcher.inner.inner.retries ≡ settings.retries) × (fetcher.inner.is_recording ≡ settings.is_recording) };
 
     ghost opens = { λ network path folder. folder.inner ≡ opened_at path };
 
@@ -79,7 +95,8 @@ where
 
     ghost names = { λ network path saved. ⊤ };
 
-    fn fetcher(&self, settings: FetcherSettings) -> Asking<'a, R> {
+    fn fetcher(&self, settings: FetcherSettings) -> Result<Asking<'a, R>, AllocError> {
+        let jar = self.jar()?;
         let FetcherSettings {
             robots,
             is_recording,
@@ -98,17 +115,17 @@ where
             robots,
             kept,
             proxy,
-            sends,
+            sends.with_jar(jar),
             manner,
             retries,
         );
         let pen = Pen::new(self.rt, self.saving);
-        Asking {
+        Ok(Asking {
             inner: Journaled::new(self.alloc, fetcher, pen, is_recording),
             rt: self.rt,
             progress: self.progress,
             failures: self.failures,
-        }
+        })
     }
 
     fn tell(&self, text: &str) {

@@ -17,7 +17,7 @@ use streams::{ReadFault, read_input};
 const MAX_FILE: usize = 1_073_741_824;
 
 // The words after the program's name.
-fn words_of(alloc: Global, args: Args) -> Result<Vec<String>, AllocError> {
+pub(crate) fn words_of(alloc: Global, args: Args) -> Result<Vec<String>, AllocError> {
     let mut words = Vec::new(alloc);
     let mut is_name = true;
     for word in args {
@@ -31,7 +31,7 @@ fn words_of(alloc: Global, args: Args) -> Result<Vec<String>, AllocError> {
 }
 
 // Their texts.
-fn texts_of(alloc: Global, words: &[String]) -> Result<Vec<&str>, AllocError> {
+pub(crate) fn texts_of(alloc: Global, words: &[String]) -> Result<Vec<&str>, AllocError> {
     let mut texts = Vec::new(alloc);
     for word in words {
         texts.push(word.as_str())?;
@@ -40,21 +40,28 @@ fn texts_of(alloc: Global, words: &[String]) -> Result<Vec<&str>, AllocError> {
 }
 
 // Why the file at a path can't be read, for a person. Without memory for it nobody is told.
-fn tell<R: Wait>(rt: &R, alloc: Global, failures: &SharedFailures, path: &str, error: &Error) {
+pub(crate) fn tell<R: Wait>(
+    rt: &R,
+    alloc: Global,
+    failures: &SharedFailures,
+    path: &str,
+    error: &Error,
+) {
     if let Ok(text) = format!(in alloc; "couldn't read {path}: {error}\n") {
         failures.say(rt, text.as_str());
     }
 }
 
-// All bytes of the file at a path.
-fn read_at<D: Files + Wait>(
+// All bytes of the file at a path, at most so many.
+pub(crate) fn read_at<D: Files + Wait>(
     disk: &D,
     alloc: Global,
     failures: &SharedFailures,
     path: &str,
+    most: usize,
 ) -> Result<Vec<u8>, ReadFault> {
     match File::open(disk, path) {
-        Ok(mut file) => read_input(alloc, &mut file, MAX_FILE),
+        Ok(mut file) => read_input(alloc, &mut file, most),
         Err(error) => {
             tell(disk, alloc, failures, path, &error);
             Err(ReadFault::Failed)
@@ -74,7 +81,7 @@ fn read_file<D: Files + Wait, R: Read>(
     let bytes = if path == "-" {
         read_input(alloc, input, MAX_FILE)?
     } else {
-        read_at(disk, alloc, failures, path)?
+        read_at(disk, alloc, failures, path, MAX_FILE)?
     };
     starts_of_file(alloc, file, bytes.as_slice())
 }

@@ -1,5 +1,5 @@
 //! A fetcher that asks over connections, a new one for each question or one that served before (RFC 9112, sections 9.3 and 9.6).
-ghost use Rattle.std.specs.Prelude.{◌≡◌, ◌⊎◌, ◌≤◌, ◌+◌, ℕ, Bool, List, [], ◌∷◌, ◌++◌, true, false, length, IsTrue, None, Some, IfOk, IfSome, IfNone, OnOk, OnErr, MatchBool, codes};
+ghost use Rattle.std.specs.Prelude.{◌≡◌, ◌⊎◌, ◌≤◌, ◌+◌, ℕ, Bool, List, [], ◌∷◌, ◌++◌, true, false, length, IsTrue, Err, None, Some, IfOk, IfSome, IfNone, OnOk, OnErr, MatchBool, codes};
 ghost use Rattle.std.specs.Io.KnownBytes.{Appends, IsAtEnd, Keeps};
 ghost use Rattle.response_reader.specs.Wire.{counted, HasRisen, OfBytes, IsLostInTime};
 ghost use Rattle.response_reader.specs.Reusable.{Reusable};
@@ -27,7 +27,7 @@ use answer_notes::{Given, Hops, MAX_REDIRECTS, Noted, Recording, Telling, Told};
 use connect::{Connect, ConnectFault};
 use fetcher::{Answer, Ask, Body, FaultKind, Fetcher, Outcome};
 use kept_bodies::Keeper;
-use requests::Sending;
+use requests::{SendFault, Sending};
 use response_answer::{PageSink, kind_of_fault};
 use response_reader::{
     ReadFault, Reply, RequestFault, Room, Wire, read_if_any, read_into, read_reply,
@@ -320,14 +320,18 @@ impl<C: Connect> HttpFetcher<C> {
     }
 
     // Writes the request, which asks to close the connection unless it is kept.
-    fn write(&self, wire: &mut C::Wire, at: &Address) -> Result<(), RequestFault>
+    fn write(&self, wire: &mut C::Wire, at: &Address) -> Result<(), SendFault>
         ensures written { OnOk result (Appends (C.Wire.outgoing wire.old) (C.Wire.outgoing wire.new) (request_by self.now.sends self.now.keeps at.now)) }
-        ensures device { OnErr result (HasRisen (C.Wire.failed wire.old) (C.Wire.failed wire.new)) }
+        ensures device { result ≡ Err SendFault.Device → HasRisen (C.Wire.failed wire.old) (C.Wire.failed wire.new) }
+        ensures memory { result ≡ Err SendFault.Memory → Keeps (C.Wire.outgoing wire.old) (C.Wire.outgoing wire.new) }
         ensures read { Keeps (C.Wire.incoming wire.old) (C.Wire.incoming wire.new) }
     {
         match &self.sends {
-            Some(sending) => requests::write_request(wire, sending, self.keeps, at),
-            None => self.write_usual(wire, at),
+            Some(sending) => requests::write_request(wire, self.alloc, sending, self.keeps, at),
+            None => match self.write_usual(wire, at) {
+                Ok(()) => Ok(()),
+                Err(_) => Err(SendFault::Device),
+            },
         }
     }
 
@@ -336,13 +340,16 @@ impl<C: Connect> HttpFetcher<C> {
         ensures same { self.new ≡ self.old }
         ensures told { IfOk result (λ h. ComesOver C.Wire.Wire (question_of self.old at.now) wire.old (answer_told self.old.robots at.now h.told)) }
         ensures serves { IfOk result (λ h. IsTrue h.serves → LeavesUsable C.Wire.Wire (question_of self.old at.now) wire.old wire.new) }
-        // Nothing is written behind the request.
-        ensures sent { Appends (C.Wire.outgoing wire.old) (C.Wire.outgoing wire.new) (request_by self.old.sends self.old.keeps at.now)
-            ⊎ HasRisen (C.Wire.failed wire.old) (C.Wire.failed wire.new) }
+        // Nothing is written behind the request, and nothing at all if memory runs out for it.
+        ensures sent { OnOk result (Appends (C.Wire.outgoing wire.old) (C.Wire.outgoing wire.new) (request_by self.old.sends self.old.keeps at.now)
+            ⊎ HasRisen (C.Wire.failed wire.old) (C.Wire.failed wire.new)) }
+        ensures unsent { OnErr result (Appends (C.Wire.outgoing wire.old) (C.Wire.outgoing wire.new) (request_by self.old.sends self.old.keeps at.now)
+            ⊎ Keeps (C.Wire.outgoing wire.old) (C.Wire.outgoing wire.new)) }
     {
         match self.write(wire, at) {
             Ok(()) => self.read_told(wire),
-            Err(_) => Ok(unwritten()),
+            Err(SendFault::Device) => Ok(unwritten()),
+            Err(SendFault::Memory) => Err(AllocError),
         }
     }
 
@@ -355,7 +362,8 @@ impl<C: Connect> HttpFetcher<C> {
     {
         match self.write(wire, at) {
             Ok(()) => self.read_again(wire),
-            Err(_) => {
+            Err(SendFault::Memory) => Err(AllocError),
+            Err(SendFault::Device) => {
                 if wire.has_timed_out() {
                     return Ok(Some(unwritten()));
                 }
@@ -671,7 +679,8 @@ impl<C: Connect> HttpFetcher<C> {
     {
         match self.write(wire, at) {
             Ok(()) => self.read_page_again(wire, at, sink),
-            Err(_) => {
+            Err(SendFault::Memory) => Err(AllocError),
+            Err(SendFault::Device) => {
                 if wire.has_timed_out() {
                     let answer = sink.fault(FaultKind::Device)?;
                     return Ok(Some(HeardPage {
@@ -697,7 +706,8 @@ impl<C: Connect> HttpFetcher<C> {
     {
         match self.write(wire, at) {
             Ok(()) => self.read_page(wire, at, sink),
-            Err(_) => Ok(HeardPage {
+            Err(SendFault::Memory) => Err(AllocError),
+            Err(SendFault::Device) => Ok(HeardPage {
                 answer: sink.fault(FaultKind::Device)?,
                 serves: false,
             }),

@@ -77,9 +77,9 @@ pub trait System {
     // The writers that may be given for a path.
     ghost names: { Self → List ℕ → Self.Record → Type 0 };
 
-    /// A fetcher for one more worker, with these settings.
-    fn fetcher(&self, settings: FetcherSettings) -> Self::Fetcher
-        ensures { makes self.now settings result };
+    /// A fetcher for one more worker, with these settings. The error is that memory ran out.
+    fn fetcher(&self, settings: FetcherSettings) -> Result<Self::Fetcher, AllocError>
+        ensures { IfOk result (λ fetcher. makes self.now settings fetcher) };
 
     /// The folder at a path. Nothing is made there before the first put. The error is that memory is wanting.
     fn folder(&self, path: &str) -> Result<Self::Folder, AllocError>

@@ -1,5 +1,6 @@
--- The file whose addresses are starts too, as words name it (GNU Wget manual, chapter Logging and Input File Options).
-use Rattle.std.specs.Prelude.{Bool, false, List, Option, None, Some, codes, bytes_eq, option_map, string_bytes}
+-- The files that are read before a run, as words name them: one whose addresses are starts too, and one of cookies (GNU Wget manual,
+-- chapters Logging and Input File Options, HTTP Options).
+use Rattle.std.specs.Prelude.{Bool, false, List, Option, None, Some, codes, bytes_eq, option_map, string_bytes, if◌then◌else◌}
 use Rattle.clap.specs.Walk.{Text}
 use Rattle.options.specs.declared.listed.StartList.{StartList}
 use Rattle.options.specs.declared.said.Saying.{Saying}
@@ -34,3 +35,11 @@ list_in said =
 -- the file of starts that words name, if they name one
 abbrev pub list_of_words : List Text → Option ListSaid
 list_of_words words = list_in (sayings words)
+
+-- the cookie file that is named, unless no cookies are sent
+abbrev pub cookie_file_in : List (Saying Text) → Option Text
+cookie_file_in said = if is_on (last_said (codes "no-cookies") said) then None else last_said (codes "load-cookies") said
+
+-- the cookie file that words name, if they name one
+abbrev pub cookie_file_of_words : List Text → Option Text
+cookie_file_of_words words = cookie_file_in (sayings words)

@@ -1,6 +1,6 @@
-//! The file whose addresses are starts too.
+//! The files that are read before a run: one whose addresses are starts too, and one of cookies.
 ghost use Rattle.std.specs.Prelude.{◌≡◌, IfOk, map, option_map, string_bytes};
-ghost use Rattle.options.specs.Listed.{is_on, last_said, list_in, list_of_words, list_said};
+ghost use Rattle.options.specs.Listed.{cookie_file_in, cookie_file_of_words, is_on, last_said, list_in, list_of_words, list_said};
 ghost use Rattle.options.specs.inner.Said.{saying_in};
 
 use crate::said::{Saying, sayings};
@@ -57,4 +57,23 @@ pub fn start_list(alloc: Global, words: &[&str]) -> Result<Option<StartList>, Al
 {
     let said = sayings(alloc, words)?;
     list_in(alloc, said.as_slice())
+}
+
+// The cookie file that is named, unless no cookies are sent.
+fn cookie_file_in(alloc: Global, said: &[Saying<&str>]) -> Result<Option<String>, AllocError>
+    ensures { IfOk result (λ path. option_map string_bytes path ≡ cookie_file_in (map saying_in said.now)) }
+{
+    let none = last_said(alloc, "no-cookies", said)?;
+    if is_on(&none) {
+        return Ok(None);
+    }
+    last_said(alloc, "load-cookies", said)
+}
+
+/// The cookie file that words name, if they name one.
+pub fn cookie_file(alloc: Global, words: &[&str]) -> Result<Option<String>, AllocError>
+    ensures { IfOk result (λ path. option_map string_bytes path ≡ cookie_file_of_words (map (λ word. word.now) words.now)) }
+{
+    let said = sayings(alloc, words)?;
+    cookie_file_in(alloc, said.as_slice())
 }

@@ -42,7 +42,7 @@ pub(crate) struct Row<T> {
 }
 
 /// The options.
-const TABLE: [Row<&str>; 79] = [
+const TABLE: [Row<&str>; 80] = [
     Row {
         short: "r",
         name: "recursive",
@@ -238,6 +238,13 @@ const TABLE: [Row<&str>; 79] = [
         kind: Kind::Flag,
         heading: "",
         says: "send both with each request to these servers",
+    },
+    Row {
+        short: "",
+        name: "load-cookies",
+        kind: Kind::Value("FILE"),
+        heading: "",
+        says: "send the cookies of FILE to the hosts in it",
     },
     Row {
         short: "w",
@@ -1243,7 +1250,7 @@ pub(crate) struct Command<T> {
 }
 
 /// The commands of wgetrc whose options are here.
-const COMMANDS: [Command<&str>; 64] = [
+const COMMANDS: [Command<&str>; 65] = [
     Command {
         name: "accept",
         option: "accept",
@@ -1363,6 +1370,10 @@ const COMMANDS: [Command<&str>; 64] = [
     Command {
         name: "input",
         option: "input-file",
+    },
+    Command {
+        name: "loadcookies",
+        option: "load-cookies",
     },
     Command {
         name: "logfile",

@@ -3,3 +3,4 @@ pub mod LineLemmas
 pub mod CutLemmas
 pub mod FieldsLemmas
 pub mod SendingLemmas
+pub mod JarLemmas

@@ -1,7 +1,9 @@
 -- The request for an address (RFC 9112, section 3.2), with what a run says besides.
-use Rattle.std.specs.Prelude.{◌++◌, ◌||◌, Bool, true, false, not, List, [], ◌∷◌, Option, Some, None, is_some, bytes_eq, codes, if◌then◌else◌}
-use Rattle.std.specs.List.{list_any}
+use Rattle.std.specs.Prelude.{◌≡◌, ◌++◌, ◌||◌, ℕ, Bool, true, false, not, List, [], ◌∷◌, Option, Some, None, is_some, bytes_eq, codes, if◌then◌else◌}
+use Rattle.std.specs.List.{Contains, list_any}
 use Rattle.address.specs.Address.{AddressText, OriginText, authority_of, origin_of, scheme_of}
+use Rattle.cookie_files.specs.Lines.{Cookie}
+use Rattle.cookie_files.specs.Matches.{Goes, asked_of, sent, some_value}
 use Rattle.response_reader.specs.Request.{target_by}
 use Rattle.requests.specs.Fields.{Sent}
 use Rattle.requests.specs.Lines.{Text}
@@ -17,10 +19,16 @@ home_of start login = record { origin = origin_of start; login = login }
 abbrev pub has_login : Home → Bool
 has_login home = is_some home.login
 
--- what a run sends, and the origins of its starts
+-- the cookies of a file, and the time by which they are too old, in seconds since 1970
+pub record Jar : Type 0 where
+  pub cookies : List Cookie
+  pub time : ℕ
+
+-- what a run sends, the origins of its starts, and the cookies of a file if there is one
 pub record Sending : Type 0 where
   pub sent : Sent
   pub homes : List Home
+  pub jar : Option Jar
 
 -- the host and port of the address, or what is sent in their place
 abbrev pub host_by : Option Text → AddressText → Text
@@ -64,9 +72,38 @@ abbrev pub closing : Bool → Text
 closing true = []
 closing false = codes "Connection: close\r\n"
 
--- a GET of the address in one head: host, the lines to each server, those to origins of starts if it is at one, credentials first, and the
--- connection
-abbrev pub request_of : Sending → Bool → AddressText → Text
-request_of sending keeps at =
+-- ---- cookies of a file
+
+-- those that a request for the address holds (RFC 6265, section 5.4)
+abbrev pub cookies_in : Option Jar → AddressText → List Cookie
+cookies_in None at = []
+cookies_in (Some jar) at = sent (asked_of at) jar.time jar.cookies
+
+-- none if a line has others
+abbrev pub cookies_for : Sending → AddressText → List Cookie
+cookies_for sending at = if sending.sent.has_cookie then [] else cookies_in sending.jar at
+
+-- their line (section 4.2.1), if there are any
+abbrev pub cookie_line : Option Text → Text
+cookie_line None = []
+cookie_line (Some value) = codes "Cookie: " ++ (value ++ codes "\r\n")
+
+-- a cookie is in the file, and goes there at that time: its host and its path are those, and so on
+abbrev pub IsThere : Jar → AddressText → Cookie → Type 0
+IsThere jar at cookie = Contains jar.cookies cookie × Goes (asked_of at) jar.time cookie
+
+-- cookies of the file go where it says, and nowhere else
+abbrev pub GoWhereNamed : Sending → AddressText → Type 0
+GoWhereNamed sending at = (cookie : Cookie) → Contains (cookies_for sending at) cookie → (jar : Jar) × (sending.jar ≡ Some jar) × IsThere jar at cookie
+
+-- ---- the head
+
+-- a GET of the address: host, the lines to each server, those to origins of starts if it is at one, credentials first, and the connection
+abbrev pub front_of : Sending → Bool → AddressText → Text
+front_of sending keeps at =
     codes "GET " ++ (target_by (scheme_of at) at ++ (codes " HTTP/1.1\r\nHost: " ++ (host_by sending.sent.host at
-    ++ (codes "\r\n" ++ (sending.sent.common ++ (login_line (login_for sending at) ++ (secret_for sending at ++ (closing keeps ++ codes "\r\n"))))))))
+    ++ (codes "\r\n" ++ (sending.sent.common ++ (login_line (login_for sending at) ++ (secret_for sending at ++ closing keeps)))))))
+
+-- the same with the cookies of a file, in one head
+abbrev pub request_of : Sending → Bool → AddressText → Text
+request_of sending keeps at = front_of sending keeps at ++ (cookie_line (some_value (cookies_for sending at)) ++ codes "\r\n")

@@ -59,6 +59,8 @@ pub struct Fields {
     secret: String,
     // Whether an `Authorization` is among the secret lines.
     signs: bool,
+    // Whether a `Cookie` is.
+    has_cookie: bool,
     login: Option<Login>,
 }
 
@@ -70,9 +72,9 @@ impl Model for Fields {
 
     ghost Value = { Sent };
 
-    ghost view = { λ f. record { host = option_map string_bytes f.host; common = string_bytes f.common; secret = string_bytes f.secret; signs = f.signs; login = f.login } };
+    ghost view = { λ f. record { host = option_map string_bytes f.host; common = string_bytes f.common; secret = string_bytes f.secret; signs = f.signs; has_cookie = f.has_cookie; login = f.login } };
 
-    ghost invariant = { λ f. bytes_sent (record { host = option_map string_bytes f.host; common = string_bytes f.common; secret = string_bytes f.secret; signs = f.signs; login = f.login }) ≤ MAX_SENT };
+    ghost invariant = { λ f. bytes_sent (record { host = option_map string_bytes f.host; common = string_bytes f.common; secret = string_bytes f.secret; signs = f.signs; has_cookie = f.has_cookie; login = f.login }) ≤ MAX_SENT };
 }
 
 // Adds a field of these texts.
@@ -327,6 +329,7 @@ fn sent(alloc: Global, login: Option<Login>, fields: &[Field]) -> Result<Fields,
             common,
             secret,
             signs: is_among("authorization", fields),
+            has_cookie: is_among("cookie", fields),
             login,
         })
     } else {
@@ -441,6 +444,13 @@ impl Fields {
         self.signs
     }
 
+    /// Whether a `Cookie` is among the secret lines. Takes no memory.
+    pub(crate) fn has_cookie(&self) -> bool
+        ensures { result ≡ self.now.has_cookie }
+    {
+        self.has_cookie
+    }
+
     /// The credentials for the origins of starts, if there are any. Takes no memory.
     pub(crate) fn login(&self) -> Option<&Login>
         ensures { option_map (λ l. l.now) result ≡ self.now.login }
@@ -460,6 +470,7 @@ impl Fields {
             common: self.common.clone()?,
             secret: self.secret.clone()?,
             signs: self.signs,
+            has_cookie: self.has_cookie,
             login: copy_of(&self.login)?,
         })
     }

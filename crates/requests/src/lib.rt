@@ -1,10 +1,11 @@
 //! What requests say besides the address that they are for: the program's own field lines, those that a person adds or puts in
-//! their place, and which of them go to which server. The meaning is in `specs/`: `Lines` says which field lines may be sent,
+//! their place, cookies of a file, and which of them go to which server. The meaning is in `specs/`: `Lines` says which field lines may be sent,
 //! `Fields` which of all lines are sent, and `Requests` what the request for an address is.
 #![tactic(auto)]
 
 mod fields;
 mod home;
+mod jar;
 mod line;
 mod login;
 mod request;
@@ -12,7 +13,8 @@ mod sending;
 
 pub use crate::fields::{Fields, FieldsFault, MAX_SENT, bad_line};
 pub use crate::home::Home;
+pub use crate::jar::Jar;
 pub use crate::line::MAX_FIELD_LINE;
 pub use crate::login::{Login, MAX_LOGIN};
-pub use crate::request::write_request;
+pub use crate::request::{SendFault, write_request};
 pub use crate::sending::Sending;

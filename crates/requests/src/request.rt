@@ -1,12 +1,12 @@
 //! The request for one address, with what a run says besides (RFC 9112, sections 3 and 9.6).
-ghost use Rattle.std.specs.Prelude.{◌≡◌, ◌≤◌, ◌<◌, ◌+◌, ◌++◌, ℕ, List, [], IfOk, IsTrue, OnErr, OnOk, codes, length, option_map};
+ghost use Rattle.std.specs.Prelude.{◌≡◌, ◌≤◌, ◌<◌, ◌+◌, ◌++◌, ℕ, List, [], Err, IfErr, IfOk, IsTrue, OnErr, OnOk, Some, codes, length, option_map};
 ghost use Rattle.std.specs.Io.KnownBytes.{Appends, Keeps};
 ghost use Rattle.address.specs.Address.{scheme_of};
 ghost use Rattle.response_reader.specs.Request.{SendsFront, target_by};
 ghost use Rattle.response_reader.specs.Wire.{HasRisen};
 ghost use Rattle.response_reader.specs.inner.Request.{WritesGiveUp};
 ghost use Rattle.response_reader.specs.inner.Wire.{GoesOn, tally};
-ghost use Rattle.requests.specs.Requests.{closing, host_by, login_line, request_of, secret_for};
+ghost use Rattle.requests.specs.Requests.{GoWhereNamed, closing, cookie_line, front_of, host_by, login_line, request_of, secret_for};
 
 use crate::fields::MAX_SENT;
 use crate::login::{Login, MAX_LOGIN};
@@ -14,6 +14,7 @@ use crate::sending::Sending;
 use address::{Address, MAX_ADDRESS, MAX_HOST, Scheme};
 use arrayvec::ArrayVec;
 use response_reader::{MAX_INTERRUPTED, RequestFault, Wire, WireFault};
+use std::alloc::{AllocError, Global};
 
 /// Most bytes of a request: those of any address, of its host and port, of all that a run says, of credentials, and room for the lines
 /// around them.
@@ -22,25 +23,117 @@ const MAX_REQUEST: usize = MAX_ADDRESS + MAX_HOST + MAX_SENT + MAX_LOGIN + 144;
 /// The text of a request, in room for that of any address.
 type RequestText = ArrayVec<u8, MAX_REQUEST>;
 
+/// Why a request wasn't written.
+#[derive(Clone, Copy, Debug, PartialEq, Eq)]
+pub enum SendFault {
+    /// A write failed, or 1,000 were interrupted.
+    Device,
+    /// Memory ran out for the cookies of a file. Nothing was written.
+    Memory,
+}
+
 /// Writes the request for an address: a GET of its path and query, of https of the whole address, with what the run says. Its secret
-/// lines are there if the address is at an origin of a start. It asks to close the connection unless that is kept. The text is put
-/// together on the stack and goes out in one write if that is taken whole. After a fault a front of it was written, and the wire
-/// isn't to be used again.
+/// lines are there if the address is at an origin of a start, and cookies of a file if they go there. It asks to close the connection
+/// unless that is kept. The text is put together on the stack, with cookies in memory, and goes out in one write if that is taken
+/// whole. After a fault a front of it was written, and the wire isn't to be used again.
 pub fn write_request<W: Wire>(
+    wire: &mut W,
+    alloc: Global,
+    sending: &Sending,
+    keeps: bool,
+    at: &Address,
+) -> Result<(), SendFault>
+    ensures written { OnOk result (Appends (W.outgoing wire.old) (W.outgoing wire.new) (request_of sending.now keeps at.now)) }
+    ensures part { OnErr result (SendsFront (W.outgoing wire.old) (W.outgoing wire.new) (request_of sending.now keeps at.now)) }
+    ensures device { result ≡ Err SendFault.Device → HasRisen (W.failed wire.old) (W.failed wire.new) }
+    ensures memory { result ≡ Err SendFault.Memory → Keeps (W.outgoing wire.old) (W.outgoing wire.new) }
+    ensures read { Keeps (W.incoming wire.old) (W.incoming wire.new) }
+    ensures cookies { GoWhereNamed sending.now at.now }
+{
+    match sending.cookie_for(alloc, at) {
+        Ok(None) => write_plain(wire, sending, keeps, at),
+        Ok(Some(value)) => write_with_cookie(wire, alloc, sending, keeps, at, value.as_slice()),
+        Err(_) => Err(SendFault::Memory),
+    }
+}
+
+// Writes it without cookies of a file.
+fn write_plain<W: Wire>(
     wire: &mut W,
     sending: &Sending,
     keeps: bool,
     at: &Address,
-) -> Result<(), RequestFault>
-    ensures written { OnOk result (Appends (W.outgoing wire.old) (W.outgoing wire.new) (request_of sending.now keeps at.now)) }
-    ensures part { OnErr result (SendsFront (W.outgoing wire.old) (W.outgoing wire.new) (request_of sending.now keeps at.now)) }
-    ensures device { OnErr result (HasRisen (W.failed wire.old) (W.failed wire.new)) }
+) -> Result<(), SendFault>
+    ensures written { OnOk result (Appends (W.outgoing wire.old) (W.outgoing wire.new) (front_of sending.now keeps at.now ++ codes "\r\n")) }
+    ensures part { OnErr result (SendsFront (W.outgoing wire.old) (W.outgoing wire.new) (front_of sending.now keeps at.now ++ codes "\r\n")) }
+    ensures device { IfErr result (λ fault. (fault ≡ SendFault.Device) × HasRisen (W.failed wire.old) (W.failed wire.new)) }
     ensures read { Keeps (W.incoming wire.old) (W.incoming wire.new) }
 {
     let mut text = ArrayVec::new();
     put_request(&mut text, sending, keeps, at);
-    write_all(wire, text.as_slice(), 0)?;
-    Ok(())
+    put(&mut text, b"\r\n");
+    write_text(wire, text.as_slice())
+}
+
+// A front of a request, the line of its cookies, and its end.
+fn text_with(alloc: Global, front: &[u8], cookie: &[u8]) -> Result<Vec<u8>, AllocError>
+    ensures { IfOk result (λ text. text.items ≡ front.now ++ (cookie_line (Some cookie.now) ++ codes "\r\n")) }
+{
+    let mut text = Vec::new(alloc);
+    text.extend_from_slice(front)?;
+    text.extend_from_slice(b"Cookie: ")?;
+    text.extend_from_slice(cookie)?;
+    text.extend_from_slice(b"\r\n\r\n")?;
+    Ok(text)
+}
+
+// The whole text of a request with these cookies.
+fn request_with(
+    alloc: Global,
+    sending: &Sending,
+    keeps: bool,
+    at: &Address,
+    cookie: &[u8],
+) -> Result<Vec<u8>, AllocError>
+    ensures { IfOk result (λ text. text.items ≡ front_of sending.now keeps at.now ++ (cookie_line (Some cookie.now) ++ codes "\r\n")) }
+{
+    let mut front = ArrayVec::new();
+    put_request(&mut front, sending, keeps, at);
+    text_with(alloc, front.as_slice(), cookie)
+}
+
+// Writes it with these cookies.
+fn write_with_cookie<W: Wire>(
+    wire: &mut W,
+    alloc: Global,
+    sending: &Sending,
+    keeps: bool,
+    at: &Address,
+    cookie: &[u8],
+) -> Result<(), SendFault>
+    ensures written { OnOk result (Appends (W.outgoing wire.old) (W.outgoing wire.new) (front_of sending.now keeps at.now ++ (cookie_line (Some cookie.now) ++ codes "\r\n"))) }
+    ensures part { OnErr result (SendsFront (W.outgoing wire.old) (W.outgoing wire.new) (front_of sending.now keeps at.now ++ (cookie_line (Some cookie.now) ++ codes "\r\n"))) }
+    ensures device { result ≡ Err SendFault.Device → HasRisen (W.failed wire.old) (W.failed wire.new) }
+    ensures memory { result ≡ Err SendFault.Memory → Keeps (W.outgoing wire.old) (W.outgoing wire.new) }
+    ensures read { Keeps (W.incoming wire.old) (W.incoming wire.new) }
+{
+    match request_with(alloc, sending, keeps, at, cookie) {
+        Ok(text) => write_text(wire, text.as_slice()),
+        Err(_) => Err(SendFault::Memory),
+    }
+}
+
+// Writes a text.
+fn write_text<W: Wire>(wire: &mut W, text: &[u8]) -> Result<(), SendFault>
+    ensures written { OnOk result (Appends (W.outgoing wire.old) (W.outgoing wire.new) text.now) }
+    ensures part { OnErr result (SendsFront (W.outgoing wire.old) (W.outgoing wire.new) text.now) }
+    ensures device { IfErr result (λ fault. (fault ≡ SendFault.Device) × HasRisen (W.failed wire.old) (W.failed wire.new)) }
+    ensures read { Keeps (W.incoming wire.old) (W.incoming wire.new) }
+{
+    match write_all(wire, text, 0) {
+        Ok(_) => Ok(()),
+        Err(_) => Err(SendFault::Device),
+    }
 }
 
 /// Adds bytes to a text that has room for them.
@@ -134,7 +227,7 @@ fn put_login(text: &mut RequestText, login: Option<&Login>)
     }
 }
 
-// Adds these pieces, and the ends of two lines.
+// Adds these pieces, and the end of the host's line.
 fn put_pieces(
     text: &mut RequestText,
     host: &str,
@@ -146,7 +239,8 @@ fn put_pieces(
     requires room { length text.old.items ≤ MAX_ADDRESS + 32 }
     requires short { length host.now + (length common.now + length secret.now) ≤ MAX_HOST + 6 + MAX_SENT }
     requires closing { length closing.now ≤ 32 }
-    ensures { text.new.items ≡ text.old.items ++ (host.now ++ (codes "\r\n" ++ (common.now ++ (login_line (option_map (λ l. l.now) login.entry) ++ (secret.now ++ (closing.now ++ codes "\r\n")))))) }
+    ensures value { text.new.items ≡ text.old.items ++ (host.now ++ (codes "\r\n" ++ (common.now ++ (login_line (option_map (λ l. l.now) login.entry) ++ (secret.now ++ closing.now))))) }
+    ensures room { length text.new.items + 2 ≤ MAX_REQUEST }
 {
     put_text(text, host);
     put_text(text, "\r\n");
@@ -154,13 +248,13 @@ fn put_pieces(
     put_login(text, login);
     put_text(text, secret);
     put_text(text, closing);
-    put_text(text, "\r\n");
 }
 
-/// Puts the request for an address into an empty text.
+/// Puts the front of the request for an address into an empty text, with room for an end.
 fn put_request(text: &mut RequestText, sending: &Sending, keeps: bool, at: &Address)
     requires empty { text.old.items ≡ [] }
-    ensures { text.new.items ≡ request_of sending.now keeps at.now }
+    ensures value { text.new.items ≡ front_of sending.now keeps at.now }
+    ensures room { length text.new.items + 2 ≤ MAX_REQUEST }
 {
     put_front(text, at);
     let fields = sending.fields();

@@ -1,21 +1,26 @@
 //! What a run sends, and which origins are those of its starts.
-ghost use Rattle.std.specs.Prelude.{◌≡◌, IfOk, option_map};
+ghost use Rattle.std.specs.Prelude.{◌≡◌, IfOk, None, option_map};
+ghost use Rattle.cookie_files.specs.Matches.{some_value};
 ghost use Rattle.std.specs.List.{list_any};
-ghost use Rattle.requests.specs.Requests.{has_login, is_home, login_at, login_for, login_here, or_login};
+ghost use Rattle.requests.specs.Requests.{cookies_for, cookies_in, has_login, is_home, login_at, login_for, login_here, or_login};
 
 use crate::fields::Fields;
 use crate::home::Home;
+use crate::jar::Jar;
 use crate::login::Login;
 use address::Address;
+use std::alloc::{AllocError, Global};
 use std::marker::Model;
 
-/// What is sent with each request of a run: its fields, of which the secret ones go to the origins of its starts alone.
+/// What is sent with each request of a run: its fields, of which the secret ones go to the origins of its starts alone, and cookies of
+/// a file, which go where that says.
 #[derive(Drop)]
 pub struct Sending {
     fields: Fields,
     homes: Vec<Home>,
     // Whether a start has credentials. There may be 100,000 starts, and most lists have none.
     has_logins: bool,
+    jar: Option<Jar>,
 }
 
 impl Model for Sending {
@@ -25,7 +30,7 @@ impl Model for Sending {
 
     ghost Value = { Sending };
 
-    ghost view = { λ s. record { sent = s.fields; homes = s.homes.items } };
+    ghost view = { λ s. record { sent = s.fields; homes = s.homes.items; jar = s.jar } };
 
     ghost invariant = { λ s. s.has_logins ≡ list_any has_login s.homes.items };
 }
@@ -64,12 +69,32 @@ impl Sending {
     pub fn new(fields: Fields, homes: Vec<Home>) -> Sending
         ensures sent { result.sent ≡ fields }
         ensures homes { result.homes ≡ homes.items }
+        ensures jar { result.jar ≡ None }
     {
         let has_logins = has_logins(homes.as_slice());
         Sending {
             fields,
             homes,
             has_logins,
+            jar: None,
+        }
+    }
+
+    /// The same with these cookies, or without any.
+    pub fn with_jar(self, jar: Option<Jar>) -> Sending
+        ensures { result ≡ record self { jar = jar } }
+    {
+        let Sending {
+            fields,
+            homes,
+            has_logins,
+            jar: _jar,
+        } = self;
+        Sending {
+            fields,
+            homes,
+            has_logins,
+            jar,
         }
     }
 
@@ -119,6 +144,20 @@ impl Sending {
         match self.login_at_home(at) {
             Some(login) => { if self.is_home(at) { Some(login) } else { None } }
             None => None,
+        }
+    }
+
+    /// What the `Cookie` field for an address says, unless a line of a person's has others. Takes memory only if there are any.
+    pub(crate) fn cookie_for(
+        &self,
+        alloc: Global,
+        at: &Address,
+    ) -> Result<Option<Vec<u8>>, AllocError>
+        ensures { IfOk result (λ value. option_map (λ text. text.items) value ≡ some_value (cookies_for self.now at.now)) }
+    {
+        match &self.jar {
+            Some(jar) if !self.fields.has_cookie() => jar.value(alloc, at),
+            _ => Ok(None),
         }
     }
 }

@@ -7,6 +7,7 @@ pub mod InputFound
 pub mod Advice
 pub mod Telling
 pub mod Lists
+pub mod Cookies
 pub mod Program
 pub mod Found
 pub mod Live

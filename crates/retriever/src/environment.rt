@@ -2,6 +2,7 @@
 ghost use Rattle.std.specs.Prelude.{◌≡◌, ◌++◌, IfOk, option_map, string_bytes};
 ghost use Rattle.std.specs.Vec.Iter.{into_iter_items};
 ghost use Rattle.options.specs.Environment.{with_environment};
+ghost use Rattle.retriever.specs.Cookies.{AreCookiesRefused};
 ghost use Rattle.retriever.specs.Lists.{IsListRefused};
 ghost use Rattle.retriever.specs.Program.{IsExplained, outputs, words_behind};
 ghost use Rattle.retriever.specs.declared.fault.Fault.TheVariants.{Line};
@@ -11,6 +12,7 @@ use crate::fault::Fault;
 use crate::input_run::deliver;
 use crate::program::{all_words, explain, texts_behind};
 use address::Address;
+use cookie_files::{CookieFault, cookies_text};
 use options::{Environment, LineFault};
 use start_lists::{ListFault, NoStarts, before, list_text};
 use std::alloc::{AllocError, Global};
@@ -114,5 +116,15 @@ pub fn refuse_starts<W: Write, E: Write>(
             Ok(all) => refuse_words(alloc, wrong, all.as_slice(), writer, errors),
             Err(_) => deliver(writer, b"stopped memory\n", 1),
         },
+    }
+}
+
+/// Ends the run of a program whose cookie file can't be used: it writes why, and gives the status.
+pub fn refuse_cookies<W: Write>(alloc: Global, fault: CookieFault, writer: &mut W) -> u8
+    ensures { AreCookiesRefused (W.contents writer.old) (W.contents writer.new) fault result }
+{
+    match cookies_text(alloc, fault) {
+        Ok(text) => deliver(writer, text.as_bytes(), fault.status()),
+        Err(_) => deliver(writer, b"stopped memory\n", 1),
     }
 }

@@ -4,7 +4,9 @@
 //! and told to a person in `specs/Program.antt`. Its tests stand in `live_tests`.
 #![tactic(auto)]
 
-pub use crate::environment::{arguments, refuse_starts, with_environment, with_starts};
+pub use crate::environment::{
+    arguments, refuse_cookies, refuse_starts, with_environment, with_starts,
+};
 pub use crate::input_run::{run, run_of_order};
 pub use crate::live_run::live;
 pub use crate::program::run_program;

@@ -59,7 +59,8 @@ fn fetchers_of<S: System>(
     let mut fetchers = Vec::new(alloc);
     for _ in 0..order.workers {
         let settings = settings_of(alloc, order, is_recording)?;
-        fetchers.push(system.fetcher(settings))?;
+        let fetcher = system.fetcher(settings)?;
+        fetchers.push(fetcher)?;
     }
     Ok(fetchers)
 }

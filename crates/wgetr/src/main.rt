@@ -2,10 +2,10 @@
 //! its arguments and its streams is stated at `retriever::run_program`; `main` only names them, and what the system gives.
 #![tactic(auto)]
 
-use host_system::{Network, Output, PartThreads, SharedFailures, StandIns, starts_of};
+use host_system::{Network, Output, PartThreads, SharedFailures, StandIns, jar_of, starts_of};
 use progress::{BehindLine, Progress};
 use record_journal::Saving;
-use retriever::{arguments, refuse_starts, run_program, telling_of, with_starts};
+use retriever::{arguments, refuse_cookies, refuse_starts, run_program, telling_of, with_starts};
 use std::io::{IsTerminal, Write};
 use std::process::ExitCode;
 use tcp_connect::{Hosts, Kept};
@@ -30,6 +30,20 @@ fn main(rt: HostRuntime) -> ExitCode {
                 &mut rt.stdout(),
                 &mut rt.stderr(),
             );
+            failures.tell(&rt, &mut rt.stderr());
+            return ExitCode::from(status);
+        }
+    };
+    let jar = match jar_of(
+        &rt,
+        rt.alloc(),
+        &failures,
+        arguments(&rt, rt.alloc()),
+        starts.as_slice(),
+    ) {
+        Ok(jar) => jar,
+        Err(fault) => {
+            let status = refuse_cookies(rt.alloc(), fault, &mut rt.stdout());
             failures.tell(&rt, &mut rt.stderr());
             return ExitCode::from(status);
         }
@@ -65,6 +79,7 @@ fn main(rt: HostRuntime) -> ExitCode {
         &saving,
         &crew,
         &failures,
+        jar,
     );
     let mut writer = BehindLine::new(output, &progress);
     let status = run_program(

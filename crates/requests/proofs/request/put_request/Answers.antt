@@ -7,18 +7,18 @@ use Rattle.requests.specs.Requests.{closing, host_by, login_for, login_line, sec
 use Rattle.requests.proofs.TextLemmas.{three}
 use Rattle.requests.proofs.request.put_request.Goals as goal
 
-pub returns : goal.returns
-returns c =
+pub returns-clause-value : goal.returns-clause-value
+returns-clause-value c =
     let sending = c.args.sending.now in
     let at = c.args.at.now in
     let front : List ℕ = c.put_front.new.text.items in
     let login : List ℕ = login_line (option_map (λ l. l.now) c.login_for.result) in
     three (codes "GET ") (target_by (scheme_of at) at) (codes " HTTP/1.1\r\nHost: ")
-    (host_by sending.sent.host at ++ (codes "\r\n" ++ (sending.sent.common ++ (login_line (login_for sending at) ++ (secret_for sending at ++ (closing c.args.keeps ++ codes "\r\n"))))))
+    (host_by sending.sent.host at ++ (codes "\r\n" ++ (sending.sent.common ++ (login_line (login_for sending at) ++ (secret_for sending at ++ closing c.args.keeps)))))
     front c.put_pieces.new.text.items c.put_front.ensures.value
-    (c.put_pieces.ensures
-    ∙ ap (λ (l : List ℕ). front ++ (l ++ (codes "\r\n" ++ (c.common.result.now ++ (login ++ (c.secret.result.now ++ (c.closing.result.now ++ codes "\r\n"))))))) c.host.ensures.value
-    ∙ ap (λ (l : List ℕ). front ++ (host_by sending.sent.host at ++ (codes "\r\n" ++ (l ++ (login ++ (c.secret.result.now ++ (c.closing.result.now ++ codes "\r\n"))))))) (c.common.ensures ∙ ap (λ s. s.common) c.fields-fields.ensures)
-    ∙ ap (λ (l : Option (List ℕ)). front ++ (host_by sending.sent.host at ++ (codes "\r\n" ++ (sending.sent.common ++ (login_line l ++ (c.secret.result.now ++ (c.closing.result.now ++ codes "\r\n"))))))) c.login_for.ensures
-    ∙ ap (λ (l : List ℕ). front ++ (host_by sending.sent.host at ++ (codes "\r\n" ++ (sending.sent.common ++ (login_line (login_for sending at) ++ (l ++ (c.closing.result.now ++ codes "\r\n"))))))) c.secret.ensures.value
-    ∙ ap (λ (l : List ℕ). front ++ (host_by sending.sent.host at ++ (codes "\r\n" ++ (sending.sent.common ++ (login_line (login_for sending at) ++ (secret_for sending at ++ (l ++ codes "\r\n"))))))) c.closing.ensures.value)
+    (c.put_pieces.ensures.value
+    ∙ ap (λ (l : List ℕ). front ++ (l ++ (codes "\r\n" ++ (c.common.result.now ++ (login ++ (c.secret.result.now ++ c.closing.result.now)))))) c.host.ensures.value
+    ∙ ap (λ (l : List ℕ). front ++ (host_by sending.sent.host at ++ (codes "\r\n" ++ (l ++ (login ++ (c.secret.result.now ++ c.closing.result.now)))))) (c.common.ensures ∙ ap (λ s. s.common) c.fields-fields.ensures)
+    ∙ ap (λ (l : Option (List ℕ)). front ++ (host_by sending.sent.host at ++ (codes "\r\n" ++ (sending.sent.common ++ (login_line l ++ (c.secret.result.now ++ c.closing.result.now)))))) c.login_for.ensures
+    ∙ ap (λ (l : List ℕ). front ++ (host_by sending.sent.host at ++ (codes "\r\n" ++ (sending.sent.common ++ (login_line (login_for sending at) ++ (l ++ c.closing.result.now)))))) c.secret.ensures.value
+    ∙ ap (λ (l : List ℕ). front ++ (host_by sending.sent.host at ++ (codes "\r\n" ++ (sending.sent.common ++ (login_line (login_for sending at) ++ (secret_for sending at ++ l)))))) c.closing.ensures.value)

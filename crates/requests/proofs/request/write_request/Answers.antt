@@ -1,12 +1,9 @@
-use Rattle.std.proofs.lemmas.Result.{err_from_is_err_and}
-use Rattle.response_reader.proofs.RequestLemmas.{none_counted}
+-- Cookies of a file go where it says, whether the request is written or not.
+use Rattle.requests.proofs.JarLemmas.{go_where_named}
 use Rattle.requests.proofs.request.write_request.Goals as goal
 
-pub returns-in_err-write_all-clause-device : goal.returns-in_err-write_all-clause-device
-returns-in_err-write_all-clause-device g c =
-    let p = err_from_is_err_and c.from_residual.result c.from_residual.ensures.1 in
-    let gave = c.in_err-write_all.ensures.gives_up 0 in
-    rw p.1 (gave.risen (g.W.Wire.failed c.args.wire.now) (none_counted (g.W.Wire.failed c.args.wire.now)))
+pub returns-in-Ok-Some-clause-cookies : goal.returns-in-Ok-Some-clause-cookies
+returns-in-Ok-Some-clause-cookies g c = go_where_named c.args.sending.now c.args.at.now
 
-pub returns-in_err-write_all-clause-read : goal.returns-in_err-write_all-clause-read
-returns-in_err-write_all-clause-read g c = (c.in_err-write_all.ensures.gives_up 0).kept
+pub returns-in-Err-clause-cookies : goal.returns-in-Err-clause-cookies
+returns-in-Err-clause-cookies g c = go_where_named c.args.sending.now c.args.at.now

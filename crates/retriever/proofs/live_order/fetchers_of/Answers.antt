@@ -8,12 +8,13 @@ use Rattle.retriever.proofs.live_order.fetchers_of.Goals as goal
 pub loop-preserved : goal.loop-preserved
 loop-preserved g c =
     let Made = g.S.System.makes c.args.system.now (settings_of c.args.order.now c.args.is_recording) in
-    let here : Made c.fetcher.result =
-    subst (λ settings. g.S.System.makes c.args.system.now settings c.fetcher.result) c.in_ok-settings.ensures c.fetcher.ensures in
+    let new = c.in_ok-fetcher.fetcher in
+    let here : Made new =
+    subst (λ settings. g.S.System.makes c.args.system.now settings new) c.in_ok-settings.ensures c.in_ok-fetcher.ensures in
     let items = c.in_ok-push.ensures.items in
     record {
-      count = omega (arith, ap length items ∙ length-append c.loop.fetchers.items (c.fetcher.result ∷ []), c.loop.invariant.count);
-      made = subst (All Made) (sym items) (All-append Made c.loop.fetchers.items (c.fetcher.result ∷ []) c.loop.invariant.made (All-cons Made c.fetcher.result [] here (All-nil Made)));
+      count = omega (arith, ap length items ∙ length-append c.loop.fetchers.items (new ∷ []), c.loop.invariant.count);
+      made = subst (All Made) (sym items) (All-append Made c.loop.fetchers.items (new ∷ []) c.loop.invariant.made (All-cons Made new [] here (All-nil Made)));
     }
 
 pub returns : goal.returns

@@ -1,4 +1,4 @@
-use Rattle.std.proofs.Common.{[], inl, inr, refl}
+use Rattle.std.proofs.Common.{[], Err, ap, inl, inr, refl}
 use Rattle.kept_bodies.specs.Bodies.{no_body}
 use Rattle.fetcher.specs.declared.fault_kind.FaultKind.TheVariants.{Device}
 use Rattle.fetcher.specs.declared.outcome.Outcome.TheVariants.{Fault}
@@ -12,5 +12,5 @@ returns-in-Ok-clause-told g c =
 
 pub returns-then-has_timed_out-clause-told : goal.returns-then-has_timed_out-clause-told
 returns-then-has_timed_out-clause-told g c =
-    let heard = c.in_ok-answer-in-Err.ensures in
-    (record { outcome = Fault Device; body = no_body }, (heard.outcome, heard.body), (c.write.new.wire, c.write.new.wire, inl (c.in-Err.ensures.device, refl, refl)))
+    let heard = c.in_ok-answer-in-Err-Device.ensures in
+    (record { outcome = Fault Device; body = no_body }, (heard.outcome, heard.body), (c.write.new.wire, c.write.new.wire, inl (c.in-Err-Device.ensures.device (ap Err c.in-Err-Device.field-0-is), refl, refl)))
