@@ -429,6 +429,7 @@ How it is asked for:
        --http-user=USER            likewise, before --user
        --http-password=PASSWORD    likewise, before --password
        --auth-no-challenge         send both with each request to these servers
+       --load-cookies=FILE         send the cookies of FILE to the hosts in it
   -w,  --wait=S                    S seconds between requests; 2m, 3h and 1d too
        --random-wait               that pause varies, from S/2 to 3S/2
   -t,  --tries=N                   up to N requests; 0 and inf are no limit (1)
