@@ -507,6 +507,8 @@ SHOWN = {(element, "src") for element in ("img", "script", "iframe", "frame", "e
     | {(element, "background") for element in ("body", "table", "thead", "tbody", "tfoot", "tr", "td", "th")} \
     | {("img", "lowsrc"), ("video", "poster"), ("object", "data")}
 SETS = {("img", "srcset"), ("source", "srcset"), ("link", "imagesrcset")}
+# Attributes of any element that are read like a style sheet (SVG 2, 6.6: presentation attributes)
+STYLING = ("style", "fill", "stroke", "filter", "mask", "clip-path", "cursor", "marker-start", "marker-mid", "marker-end")
 SHOWN_WORDS = {"stylesheet", "icon", "manifest", "preload", "modulepreload", "apple-touch-icon", "apple-touch-icon-precomposed", "mask-icon"}
 HOST_WORDS = {"dns-prefetch", "preconnect"}
 
@@ -539,7 +541,7 @@ def links_of_page(text):
             elif place == ("meta", "content") and lower(values.get("http-equiv", "")) == "refresh":
                 url = url_of_refresh(value)
                 links += [("link", url)] if url is not None else []
-            elif attribute == "style":
+            elif attribute in STYLING:
                 links += [("shown", url) for url in urls_of_sheet(value)]
         if name == "style":
             links += [("shown", url) for url in urls_of_sheet(raw)]

@@ -3,6 +3,7 @@ use crate::asking::Asking;
 use crate::disk::{Disk, Saved};
 use crate::part_threads::PartThreads;
 use crate::shared_failures::SharedFailures;
+use kept_bodies::Body;
 use live_system::{FetcherSettings, HoldFault, System};
 use local_tree::DiskFolder;
 use progress::Progress;
@@ -34,7 +35,7 @@ pub struct Network<'a, R: Net + Wait + Files + Clock + Eprint> {
 }
 
 impl<'a, R: Net + Wait + Files + Clock + Eprint> Network<'a, R> {
-    ghost use Rattle.std.specs.Prelude.{◌≡◌, IfOk};
+    ghost use Rattle.std.specs.Prelude.{◌≡◌, IfOk, Some, is_some};
 
     /// By this handle, with what the run knows of hosts and keeps of connections, the line that counts them, where it saves, what
     /// writes parts of files and what keeps why something failed, and cookies of a file. Takes no memory.
@@ -71,31 +72,11 @@ impl<'a, R: Net + Wait + Files + Clock + Eprint> Network<'a, R> {
             None => Ok(None),
         }
     }
-}
 
-impl<'a, R: Net + Wait + Files + Clock + Eprint + Threads + Sync> System for Network<'a, R>
-where
-    R::File: Close + Lock + Send + Sync,
-    R::Stream: Send,
-{
-    ghost use Rattle.std.specs.Prelude.{◌≡◌, ⊤, Some, is_some};
-    ghost use Rattle.local_tree.specs.Folders.{opened_at};
-
-    type Fetcher = Asking<'a, R>;
-
-    type Folder = Disk<'a, R>;
-
-    type Record = Saved<'a, R>;
-
-    ghost makes = { λ network settings fetcher. (fetcher.inner.inner.robots ≡ settings.robots) × (fetcher.inner.inner.keeps ≡ is_some settings.kept) × (fetcher.inner.inner.most ≡ settings.kept) × (fetcher.inner.inner.sends ≡ Some (record settings.sends { jar = network.jar })) × (fetcher.inner.inner.retries ≡ settings.retries) × (fetcher.inner.is_recording ≡ settings.is_recording) };
-
-    ghost opens = { λ network path folder. folder.inner ≡ opened_at path };
-
-    ghost holds = { λ network path bytes. ⊤ };
-
-    ghost names = { λ network path saved. ⊤ };
-
-    fn fetcher(&self, settings: FetcherSettings) -> Result<Asking<'a, R>, AllocError> {
+    // What asks for one worker, with these settings, and with the cookies of the run.
+    fn asking(&self, settings: FetcherSettings) -> Result<Asking<'a, R>, AllocError>
+        ensures { IfOk result (λ asking. (asking.inner.inner.robots ≡ settings.robots) × (asking.inner.inner.keeps ≡ is_some settings.kept) × (asking.inner.inner.most ≡ settings.kept) × (asking.inner.inner.sends ≡ Some (record settings.sends { jar = self.now.jar })) × (asking.inner.inner.retries ≡ settings.retries) × (asking.inner.is_recording ≡ settings.is_recording)) }
+    {
         let jar = self.jar()?;
         let FetcherSettings {
             robots,
@@ -126,6 +107,43 @@ where
             progress: self.progress,
             failures: self.failures,
         })
+    }
+}
+
+impl<'a, R: Net + Wait + Files + Clock + Eprint + Threads + Sync> System for Network<'a, R>
+where
+    R::File: Close + Lock + Send + Sync,
+    R::Stream: Send,
+{
+    ghost use Rattle.std.specs.Prelude.{◌≡◌, ⊤, Some, is_some};
+    ghost use Rattle.local_tree.specs.Folders.{opened_at};
+
+    type Body = Body;
+
+    type Fetcher = Asking<'a, R>;
+
+    type Recorder = Asking<'a, R>;
+
+    type Folder = Disk<'a, R>;
+
+    type Record = Saved<'a, R>;
+
+    ghost makes = { λ network settings fetcher. (fetcher.inner.inner.robots ≡ settings.robots) × (fetcher.inner.inner.keeps ≡ is_some settings.kept) × (fetcher.inner.inner.most ≡ settings.kept) × (fetcher.inner.inner.sends ≡ Some (record settings.sends { jar = network.jar })) × (fetcher.inner.inner.retries ≡ settings.retries) × (fetcher.inner.is_recording ≡ settings.is_recording) };
+
+    ghost makes_recorder = { λ network settings fetcher. (fetcher.inner.inner.robots ≡ settings.robots) × (fetcher.inner.inner.keeps ≡ is_some settings.kept) × (fetcher.inner.inner.most ≡ settings.kept) × (fetcher.inner.inner.sends ≡ Some (record settings.sends { jar = network.jar })) × (fetcher.inner.inner.retries ≡ settings.retries) × (fetcher.inner.is_recording ≡ settings.is_recording) };
+
+    ghost opens = { λ network path folder. folder.inner ≡ opened_at path };
+
+    ghost holds = { λ network path bytes. ⊤ };
+
+    ghost names = { λ network path saved. ⊤ };
+
+    fn fetcher(&self, settings: FetcherSettings) -> Result<Asking<'a, R>, AllocError> {
+        self.asking(settings)
+    }
+
+    fn recorder(&self, settings: FetcherSettings) -> Result<Asking<'a, R>, AllocError> {
+        self.asking(settings)
     }
 
     fn tell(&self, text: &str) {

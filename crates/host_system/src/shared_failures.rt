@@ -5,6 +5,7 @@ use std::alloc::{AllocError, Global};
 use std::io::{Error, Write};
 use std::sync::{Mutex, Wait};
 use streams::write_text;
+use tcp_connect::Kept;
 
 /// Why something failed in a run, for a person. All its workers share it.
 pub struct SharedFailures {
@@ -78,6 +79,13 @@ impl SharedFailures {
     // A person is to be told this, too.
     pub(crate) fn say<R: Wait>(&self, rt: &R, text: &str) {
         say(&mut self.said.lock(rt), text);
+    }
+
+    /// A person is to be told of the servers to which no connection is kept any more, too.
+    pub fn say_unasked<R: Wait, S: Drop>(&self, rt: &R, kept: &Kept<S>) {
+        if let Ok(text) = kept.unasked_text(rt) {
+            self.say(rt, text.as_str());
+        }
     }
 
     /// The lines that tell a person what failed, as [`Failures::text`] has them, and then what else is said.

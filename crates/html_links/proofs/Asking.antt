@@ -12,8 +12,8 @@ use Rattle.html_links.specs.Values.{value_text_of, written, value_of}
 use Rattle.html_links.specs.declared.table.Form.{Form}
 use Rattle.html_links.specs.declared.links.LinkKind.{LinkKind}
 use Rattle.html_links.specs.declared.table.Form.TheVariants as form
-use Rattle.html_links.specs.Links.{Links, Row, link_table, kind_in, related, pressed, refreshed, link_with, link_by, row_links, table_links, sheet_links, links_of, source_links, base_of, is_nofollow, first_base, any_nofollow, with_tags}
-use Rattle.html_links.specs.Asked.{is_asked_element, is_asked_attribute, is_wanted, asked_attributes, given, asked}
+use Rattle.html_links.specs.Links.{Link, Links, Row, link_table, kind_in, related, pressed, refreshed, link_with, link_by, row_links, table_links, styling, style_links, styling_links, links_of, source_links, base_of, is_nofollow, first_base, any_nofollow, with_tags}
+use Rattle.html_links.specs.Asked.{is_asked_element, is_asked_attribute, is_styling, is_wanted, asked_attributes, given, asked}
 use Rattle.html_links.specs.declared.asked.Wanted.{Wanted}
 use Rattle.html_links.specs.declared.asked.Wanted.TheVariants as wanted
 use Rattle.std.proofs.lemmas.Slice.Eq.{bytes_eq-Decides}
@@ -79,9 +79,67 @@ rows_kept tag (r ∷ others) h = go (is_asked_attribute r.attribute) refl h (row
   go true e h g = rw (row_kept tag r e, g h) refl
   go false e h g = absurd (cc)
 
+-- whether the attributes of these names are kept
+abbrev all_wanted : Wanted → List (List ℕ) → Bool
+all_wanted w [] = true
+all_wanted w (n ∷ others) = if is_wanted w n then all_wanted w others else false
+
+styles_kept : (w : Wanted) (all : List Attribute) (names : List (List ℕ)) → all_wanted w names ≡ true
+    → flat_map (style_links (asked_attributes w all)) names ≡ flat_map (style_links all) names
+styles_kept w all [] h = refl
+styles_kept w all (n ∷ others) h = go (is_wanted w n) refl h (styles_kept w all others) where
+  go : (t : Bool) → is_wanted w n ≡ t → (if t then all_wanted w others else false) ≡ true
+      → (all_wanted w others ≡ true → flat_map (style_links (asked_attributes w all)) others ≡ flat_map (style_links all) others)
+      → flat_map (style_links (asked_attributes w all)) (n ∷ others) ≡ flat_map (style_links all) (n ∷ others)
+  go true e h g = rw (value_kept w n all e, g h) refl
+  go false e h g = absurd (cc)
+
+-- attributes that are read like a style sheet are kept of any tag
+styling_kept : (w : Wanted) (all : List Attribute) → all_wanted w styling ≡ true → styling_links (asked_attributes w all) ≡ styling_links all
+unfolding styling_links
+styling_kept w all h = styles_kept w all styling h
+
+styling_asked : all_wanted wanted.All styling ≡ true
+unfolding styling
+styling_asked = refl
+
+styling_wanted : all_wanted wanted.Style styling ≡ true
+unfolding styling is_styling
+styling_wanted = refl
+
+-- an attribute that is read so isn't there if none is
+none_written : (name : List ℕ) (all : List Attribute) → is_styling name ≡ true → list_any (λ a. is_styling a.name) all ≡ false → written name all ≡ None
+none_written name [] h none = refl
+none_written name (a ∷ others) h none = go (is_styling a.name) refl none (none_written name others h) where
+  go : (t : Bool) → is_styling a.name ≡ t → (t || list_any (λ b. is_styling b.name) others) ≡ false
+      → (list_any (λ b. is_styling b.name) others ≡ false → written name others ≡ None)
+      → written name (a ∷ others) ≡ None
+  go true e none g = absurd (cc)
+  go false e none g = rw (other_name wanted.Style name a.name h e) (g none)
+
+none_styled : (all : List Attribute) (names : List (List ℕ)) → all_wanted wanted.Style names ≡ true → list_any (λ a. is_styling a.name) all ≡ false
+    → flat_map (style_links all) names ≡ []
+none_styled all [] h none = refl
+none_styled all (n ∷ others) h none = go (is_styling n) refl h (λ more. none_styled all others more none) where
+  go : (t : Bool) → is_styling n ≡ t → (if t then all_wanted wanted.Style others else false) ≡ true
+      → (all_wanted wanted.Style others ≡ true → flat_map (style_links all) others ≡ [])
+      → flat_map (style_links all) (n ∷ others) ≡ []
+  go true e h g = rw (none_written n all e none) (g h)
+  go false e h g = absurd (cc)
+
+-- such a tag has no style
+pub unstyled : (found : List Link) (all : List Attribute) → list_any (λ a. is_styling a.name) all ≡ false → found ≡ found ++ styling_links all
+unfolding styling_links
+unstyled found all none = rw (none_styled all styling styling_wanted none) (sym (append-nil found))
+
+-- without attributes there is no style
+no_styling : styling_links [] ≡ []
+unfolding styling_links styling
+no_styling = refl
+
 links_kept : (tag : Tag) → links_of (kept tag) ≡ links_of tag
 unfolding links_of table_links
-links_kept tag = rw (rows_kept tag link_table table_asked, value_asked (codes "style") tag.attributes refl) refl
+links_kept tag = rw (rows_kept tag link_table table_asked, styling_kept wanted.All tag.attributes styling_asked) refl
 
 base_kept : (tag : Tag) → base_of (kept tag) ≡ base_of tag
 unfolding base_of
@@ -114,7 +172,7 @@ none_holds true b c h = absurd (cc)
 
 -- a tag that no rule asks for has the links of its style alone
 record IsPlain (tag : Tag) : Type 0 where
-  links : links_of tag ≡ sheet_links (value_of (codes "style") tag.attributes)
+  links : links_of tag ≡ styling_links tag.attributes
   base : base_of tag ≡ None
   nofollow : is_nofollow tag ≡ false
 
@@ -150,7 +208,7 @@ if_same false x = refl
 
 silent : (name : List ℕ) → IsSilent (record { name = name; attributes = [] })
 unfolding links_of table_links base_of is_nofollow
-silent name = record { links = rw (rows_alone name link_table) refl; base = if_same (bytes_eq name (codes "base")) None; nofollow = if_same (bytes_eq name (codes "meta")) false }
+silent name = record { links = rw (rows_alone name link_table, no_styling) refl; base = if_same (bytes_eq name (codes "base")) None; nofollow = if_same (bytes_eq name (codes "meta")) false }
 
 -- what is given of a tag that a rule names says the same
 all_links : (name : List ℕ) (kept : List Attribute) → flat_map source_links (given wanted.All name kept) ≡ links_of (record { name = name; attributes = kept })
@@ -168,12 +226,12 @@ all_nofollow name [] others = rw (silent name).nofollow refl
 all_nofollow name (a ∷ more) others = refl
 
 -- so does what is given of another
-styled_links : (name : List ℕ) (kept all : List Attribute) → is_asked_element name ≡ false → value_of (codes "style") kept ≡ value_of (codes "style") all
+styled_links : (name : List ℕ) (kept all : List Attribute) → is_asked_element name ≡ false → styling_links kept ≡ styling_links all
     → flat_map source_links (given wanted.Style name kept) ≡ links_of (record { name = name; attributes = all })
-styled_links name [] all h same = ap sheet_links same ∙ sym (plain (record { name = name; attributes = all }) h).links
+styled_links name [] all h same = sym no_styling ∙ same ∙ sym (plain (record { name = name; attributes = all }) h).links
 styled_links name (a ∷ others) all h same =
     append-nil (links_of (record { name = name; attributes = a ∷ others }))
-    ∙ (plain (record { name = name; attributes = a ∷ others }) h).links ∙ ap sheet_links same ∙ sym (plain (record { name = name; attributes = all }) h).links
+    ∙ (plain (record { name = name; attributes = a ∷ others }) h).links ∙ same ∙ sym (plain (record { name = name; attributes = all }) h).links
 
 styled_base : (name : List ℕ) (kept : List Attribute) (others : List Source) → is_asked_element name ≡ false → first_base (given wanted.Style name kept ++ others) ≡ first_base others
 styled_base name [] others h = refl
@@ -198,7 +256,7 @@ links_asked (FromTag tag ∷ others) = go (is_asked_element tag.name) refl (link
       ∙ rw (all_links tag.name (kept_of tag.attributes), links_kept tag, g) refl
   go false e g =
       flat_map-append source_links (given_if false tag) (asked others)
-      ∙ rw (styled_links tag.name (asked_attributes wanted.Style tag.attributes) tag.attributes e (value_kept wanted.Style (codes "style") tag.attributes refl), g) refl
+      ∙ rw (styled_links tag.name (asked_attributes wanted.Style tag.attributes) tag.attributes e (styling_kept wanted.Style tag.attributes styling_wanted), g) refl
 
 base_asked : (tags : List Source) → first_base (asked tags) ≡ first_base tags
 base_asked [] = refl

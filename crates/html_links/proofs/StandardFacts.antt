@@ -11,7 +11,8 @@ use Rattle.html_links.specs.declared.context.Syntax.{Syntax}
 use Rattle.html_links.specs.declared.context.Syntax.TheVariants as syntax
 use Rattle.html_links.specs.Markup.{is_raw, start_tags}
 use Rattle.html_links.specs.References.{Reference, reference_at, referenced}
-use Rattle.html_links.specs.Links.{Row, link_table, kind_in, related, pressed, refreshed, is_robots, forbids}
+use Rattle.html_links.specs.Asked.{is_styling}
+use Rattle.html_links.specs.Links.{Row, link_table, styling, kind_in, related, pressed, refreshed, is_robots, forbids}
 use Rattle.html_links.specs.declared.links.LinkKind.{LinkKind}
 use Rattle.html_links.specs.declared.links.LinkKind.TheVariants as kind
 
@@ -86,9 +87,15 @@ bans = refl
 names_of_robots : map (λ name. is_robots (Some name)) (codes "robots" ∷ codes "ROBOTS" ∷ codes "robot" ∷ codes "googlebot" ∷ []) ≡ true ∷ true ∷ false ∷ false ∷ []
 names_of_robots = refl
 
--- elements whose content is text, and some whose isn't here
-raw : map is_raw (codes "script" ∷ codes "style" ∷ codes "title" ∷ codes "textarea" ∷ codes "noscript" ∷ codes "pre" ∷ codes "xmp" ∷ [])
+-- properties of SVG that may have a URL are read like a `style`, others aren't
+styles : map is_styling (codes "style" ∷ codes "fill" ∷ codes "clip-path" ∷ codes "marker-mid" ∷ codes "marker" ∷ codes "mask-type" ∷ codes "fill-opacity" ∷ [])
     ≡ true ∷ true ∷ true ∷ true ∷ false ∷ false ∷ false ∷ []
+unfolding is_styling styling
+styles = refl
+
+-- elements whose content is text, and some whose isn't here
+raw : map is_raw (codes "script" ∷ codes "style" ∷ codes "title" ∷ codes "textarea" ∷ codes "xmp" ∷ codes "noscript" ∷ codes "pre" ∷ [])
+    ≡ true ∷ true ∷ true ∷ true ∷ true ∷ false ∷ false ∷ []
 raw = refl
 
 abbrev reference : ℕ → List ℕ → Option Reference
@@ -111,9 +118,9 @@ abbrev bare : List ℕ → List Source
 bare name = FromTag (record { name = name; attributes = [] }) ∷ []
 
 -- start tags alone are tags, a comment ends at `-->`, and a script's content has none
-samples : map (start_tags (outermost syntax.Html)) (codes "a<B>" ∷ codes "</b>" ∷ codes "<b" ∷ codes "< b>" ∷ codes "<!--<b>--><i>" ∷ codes "<!-- -- ><b>" ∷ codes "<!b><i>" ∷ codes "<?b><i>" ∷ codes "</ b><i>" ∷ codes "<title><b></title ><i>" ∷ [])
+samples : map (start_tags (outermost syntax.Html)) (codes "a<B>" ∷ codes "</b>" ∷ codes "<b" ∷ codes "< b>" ∷ codes "<!--<b>--><i>" ∷ codes "<!-- -- ><b>" ∷ codes "<!b><i>" ∷ codes "<?b><i>" ∷ codes "</ b><i>" ∷ codes "<title><b></title ><i>" ∷ codes "<xmp><b></xm></xmp><i>" ∷ [])
     ≡ bare (codes "b") ∷ [] ∷ [] ∷ [] ∷ bare (codes "i") ∷ [] ∷ bare (codes "i") ∷ bare (codes "i") ∷ bare (codes "i")
-    ∷ (FromTag (record { name = codes "title"; attributes = [] }) ∷ bare (codes "i")) ∷ []
+    ∷ (FromTag (record { name = codes "title"; attributes = [] }) ∷ bare (codes "i")) ∷ (FromTag (record { name = codes "xmp"; attributes = [] }) ∷ bare (codes "i")) ∷ []
 unfolding start_tags broken left
 samples = refl
 

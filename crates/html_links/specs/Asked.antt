@@ -7,10 +7,10 @@ use Rattle.html_links.specs.Pieces.Source.{FromTag, FromSheet}
 use Rattle.html_links.specs.Contexts.{Context}
 use Rattle.html_links.specs.Markup.{start_tags}
 use Rattle.html_links.specs.declared.asked.AskedName.{AskedName}
-use Rattle.html_links.specs.declared.asked.AskedName.TheVariants.{Href, XlinkHref, Src, Background, LongDesc, LowSrc, Poster, Data, SrcSet, ImageSrcSet, Rel, OfType, HttpEquiv, Style, Name, Content}
+use Rattle.html_links.specs.declared.asked.AskedName.TheVariants.{Href, XlinkHref, Src, Background, LongDesc, LowSrc, Poster, Data, SrcSet, ImageSrcSet, Rel, OfType, HttpEquiv, Style, Name, Content, Fill, Stroke, Filter, Mask, ClipPath, Cursor, MarkerStart, MarkerMid, MarkerEnd}
 use Rattle.html_links.specs.declared.asked.Wanted.{Wanted}
 use Rattle.html_links.specs.declared.asked.Wanted.TheVariants as wanted
-use Rattle.html_links.specs.Links.{link_table}
+use Rattle.html_links.specs.Links.{link_table, styling}
 
 -- elements that a rule names: those of the link table, `base` and `meta`
 unfoldable pub is_asked_element : List ℕ → Bool
@@ -34,22 +34,37 @@ asked_name HttpEquiv = codes "http-equiv"
 asked_name Style = codes "style"
 asked_name Name = codes "name"
 asked_name Content = codes "content"
+asked_name Fill = codes "fill"
+asked_name Stroke = codes "stroke"
+asked_name Filter = codes "filter"
+asked_name Mask = codes "mask"
+asked_name ClipPath = codes "clip-path"
+asked_name Cursor = codes "cursor"
+asked_name MarkerStart = codes "marker-start"
+asked_name MarkerMid = codes "marker-mid"
+asked_name MarkerEnd = codes "marker-end"
 
 -- these attributes
 abbrev pub asked_names : List AskedName
-asked_names = Href ∷ XlinkHref ∷ Src ∷ Background ∷ LongDesc ∷ LowSrc ∷ Poster ∷ Data ∷ SrcSet ∷ ImageSrcSet ∷ Rel ∷ OfType ∷ HttpEquiv ∷ Style ∷ Name ∷ Content ∷ []
+asked_names =
+    Href ∷ XlinkHref ∷ Src ∷ Background ∷ LongDesc ∷ LowSrc ∷ Poster ∷ Data ∷ SrcSet ∷ ImageSrcSet ∷ Rel ∷ OfType ∷ HttpEquiv ∷ Style ∷ Name ∷ Content
+    ∷ Fill ∷ Stroke ∷ Filter ∷ Mask ∷ ClipPath ∷ Cursor ∷ MarkerStart ∷ MarkerMid ∷ MarkerEnd ∷ []
 
 -- whether a rule names attributes of that name
 abbrev pub is_asked_attribute : List ℕ → Bool
 is_asked_attribute name = list_any (λ n. bytes_eq name (asked_name n)) asked_names
 
+-- whether an attribute of that name is read like a style sheet
+unfoldable pub is_styling : List ℕ → Bool
+is_styling name = list_any (bytes_eq name) styling
+
 -- whether an attribute of that name is kept
 abbrev pub is_wanted : Wanted → List ℕ → Bool
 is_wanted wanted.Nothing name = false
-is_wanted wanted.Style name = bytes_eq name (codes "style")
+is_wanted wanted.Style name = is_styling name
 is_wanted wanted.All name = is_asked_attribute name
 
--- what is kept of a start tag of that name: `style` of any
+-- what is kept of a start tag of that name: its style of any
 abbrev pub wanted_of : List ℕ → Wanted
 wanted_of name = if is_asked_element name then wanted.All else wanted.Style
 

@@ -1,8 +1,9 @@
 //! What the rules ask of start tags: elements and attributes by their names in lower case.
-ghost use Rattle.std.specs.Prelude.{◌≡◌, true, false, codes, MatchOption};
+ghost use Rattle.std.specs.Prelude.{◌≡◌, true, false, map, MatchOption};
 ghost use Rattle.std.specs.List.{list_any};
 ghost use Rattle.std.specs.Str.{bytes_eq};
-ghost use Rattle.html_links.specs.Asked.{is_asked_element, is_asked_attribute, asked_name, asked_names, wanted_of, is_wanted};
+ghost use Rattle.html_links.specs.Asked.{is_asked_element, is_asked_attribute, asked_name, asked_names, is_styling, wanted_of, is_wanted};
+ghost use Rattle.html_links.specs.Links.{styling};
 ghost use Rattle.html_links.specs.inner.Rows.{names_with};
 
 use crate::bytes::is_name;
@@ -35,6 +36,15 @@ pub(crate) enum AskedName {
     Style,
     Name,
     Content,
+    Fill,
+    Stroke,
+    Filter,
+    Mask,
+    ClipPath,
+    Cursor,
+    MarkerStart,
+    MarkerMid,
+    MarkerEnd,
 }
 
 impl AskedName {
@@ -48,14 +58,49 @@ impl AskedName {
         }
     }
 
-    /// `style`, where that is the name.
-    fn style(name: &[u8]) -> Option<AskedName>
-        ensures { MatchOption result (bytes_eq name.now (codes "style") ≡ false) (λ n. (name.now ≡ asked_name n) × (bytes_eq name.now (codes "style") ≡ true)) }
+    /// The attribute of that name, if it is read like a style sheet.
+    #[tactic(auto, using(crate::proofs::Names::styling_is_asked))]
+    fn styling(name: &[u8]) -> Option<AskedName>
+        ensures { MatchOption result (is_styling name.now ≡ false) (λ n. (name.now ≡ asked_name n) × (is_styling name.now ≡ true)) }
     {
-        if is_name(name, b"style") {
-            Some(AskedName::Style)
-        } else {
-            None
+        match AskedName::named(name) {
+            Some(asked) if asked.is_styling() => Some(asked),
+            _ => None,
+        }
+    }
+
+    /// Whether it is read like a style sheet.
+    #[tactic(auto, unfolding(crate::specs::Asked::is_styling, crate::specs::Links::styling))]
+    pub(crate) fn is_styling(self) -> bool
+        ensures { result ≡ is_styling (asked_name self) }
+    {
+        // One by one, so that each is seen by its own name.
+        match self {
+            AskedName::Style => true,
+            AskedName::Fill => true,
+            AskedName::Stroke => true,
+            AskedName::Filter => true,
+            AskedName::Mask => true,
+            AskedName::ClipPath => true,
+            AskedName::Cursor => true,
+            AskedName::MarkerStart => true,
+            AskedName::MarkerMid => true,
+            AskedName::MarkerEnd => true,
+            AskedName::Href => false,
+            AskedName::XlinkHref => false,
+            AskedName::Src => false,
+            AskedName::Background => false,
+            AskedName::LongDesc => false,
+            AskedName::LowSrc => false,
+            AskedName::Poster => false,
+            AskedName::Data => false,
+            AskedName::SrcSet => false,
+            AskedName::ImageSrcSet => false,
+            AskedName::Rel => false,
+            AskedName::OfType => false,
+            AskedName::HttpEquiv => false,
+            AskedName::Name => false,
+            AskedName::Content => false,
         }
     }
 
@@ -80,6 +125,15 @@ impl AskedName {
             AskedName::Style => b"style",
             AskedName::Name => b"name",
             AskedName::Content => b"content",
+            AskedName::Fill => b"fill",
+            AskedName::Stroke => b"stroke",
+            AskedName::Filter => b"filter",
+            AskedName::Mask => b"mask",
+            AskedName::ClipPath => b"clip-path",
+            AskedName::Cursor => b"cursor",
+            AskedName::MarkerStart => b"marker-start",
+            AskedName::MarkerMid => b"marker-mid",
+            AskedName::MarkerEnd => b"marker-end",
         }
     }
 }
@@ -87,9 +141,11 @@ impl AskedName {
 // The attributes by the first letters of their names, so that most names are compared with few of them.
 static B: [AskedName; 1] = [AskedName::Background];
 
-static C: [AskedName; 1] = [AskedName::Content];
+static C: [AskedName; 3] = [AskedName::Content, AskedName::ClipPath, AskedName::Cursor];
 
 static D: [AskedName; 1] = [AskedName::Data];
+
+static F: [AskedName; 2] = [AskedName::Fill, AskedName::Filter];
 
 static H: [AskedName; 2] = [AskedName::Href, AskedName::HttpEquiv];
 
@@ -97,13 +153,25 @@ static I: [AskedName; 1] = [AskedName::ImageSrcSet];
 
 static L: [AskedName; 2] = [AskedName::LongDesc, AskedName::LowSrc];
 
+static M: [AskedName; 4] = [
+    AskedName::Mask,
+    AskedName::MarkerStart,
+    AskedName::MarkerMid,
+    AskedName::MarkerEnd,
+];
+
 static N: [AskedName; 1] = [AskedName::Name];
 
 static P: [AskedName; 1] = [AskedName::Poster];
 
 static R: [AskedName; 1] = [AskedName::Rel];
 
-static S: [AskedName; 3] = [AskedName::Src, AskedName::SrcSet, AskedName::Style];
+static S: [AskedName; 4] = [
+    AskedName::Src,
+    AskedName::SrcSet,
+    AskedName::Style,
+    AskedName::Stroke,
+];
 
 static T: [AskedName; 1] = [AskedName::OfType];
 
@@ -117,9 +185,11 @@ fn names_with(first: u8) -> &'static [AskedName]
         b'b' => &B,
         b'c' => &C,
         b'd' => &D,
+        b'f' => &F,
         b'h' => &H,
         b'i' => &I,
         b'l' => &L,
+        b'm' => &M,
         b'n' => &N,
         b'p' => &P,
         b'r' => &R,
@@ -128,6 +198,27 @@ fn names_with(first: u8) -> &'static [AskedName]
         b'x' => &X,
         _ => &[],
     }
+}
+
+static STYLING: [AskedName; 10] = [
+    AskedName::Style,
+    AskedName::Fill,
+    AskedName::Stroke,
+    AskedName::Filter,
+    AskedName::Mask,
+    AskedName::ClipPath,
+    AskedName::Cursor,
+    AskedName::MarkerStart,
+    AskedName::MarkerMid,
+    AskedName::MarkerEnd,
+];
+
+/// The attributes that are read like a style sheet.
+#[tactic(auto, unfolding(crate::specs::Links::styling))]
+pub(crate) fn styling() -> &'static [AskedName]
+    ensures { map asked_name result.now ≡ styling }
+{
+    &STYLING
 }
 
 /// The one of these attributes that has that name.
@@ -147,7 +238,7 @@ fn find(names: &[AskedName], name: &[u8]) -> Option<AskedName>
 pub(crate) enum Wanted {
     /// None: those of end tags.
     Nothing,
-    /// `style`, which any element may have.
+    /// Those that are read like a style sheet, which any element may have.
     Style,
     /// Those that a rule names.
     All,
@@ -172,7 +263,7 @@ impl Wanted {
     {
         match self {
             Wanted::Nothing => None,
-            Wanted::Style => AskedName::style(name),
+            Wanted::Style => AskedName::styling(name),
             Wanted::All => AskedName::named(name),
         }
     }

@@ -1,4 +1,5 @@
-//! Elements whose content is text: raw text and escapable raw text (HTML Standard, sections 13.1.2 and 13.1.2.6).
+//! Elements whose content is text: raw text and escapable raw text (HTML Standard, sections 13.1.2 and 13.1.2.6; for
+//! `xmp` section 13.2.6.4.7).
 ghost use Rattle.std.specs.Prelude.{◌≡◌, false, MatchOption};
 ghost use Rattle.html_links.specs.Markup.{is_raw, closing_text};
 ghost use Rattle.html_links.specs.Lexing.{raw_name};
@@ -12,6 +13,7 @@ pub(crate) enum RawElement {
     Style,
     Title,
     Textarea,
+    Xmp,
 }
 
 impl RawElement {
@@ -28,6 +30,8 @@ impl RawElement {
             Some(RawElement::Title)
         } else if is_name(name, b"textarea") {
             Some(RawElement::Textarea)
+        } else if is_name(name, b"xmp") {
+            Some(RawElement::Xmp)
         } else {
             None
         }
@@ -42,6 +46,7 @@ impl RawElement {
             RawElement::Style => b"</style",
             RawElement::Title => b"</title",
             RawElement::Textarea => b"</textarea",
+            RawElement::Xmp => b"</xmp",
         }
     }
 }

@@ -4,7 +4,8 @@ ghost use Rattle.live_system.specs.Settings.{Settings};
 
 use address::Origin;
 use answer_notes::Recording;
-use local_tree::Folder;
+use fetcher::Fetcher;
+use local_tree::{HasKind, Shelf};
 use pacing::{Manner, Retries};
 use requests::Sending;
 use std::alloc::{AllocError, Global};
@@ -53,17 +54,26 @@ impl Model for FetcherSettings {
 
 /// Makes a live run's fetchers, its folder and its records.
 pub trait System {
+    /// A body as the fetchers hand it out.
+    type Body: HasKind + Send + Drop;
+
     /// What asks the site for one worker.
-    type Fetcher: Recording + Send;
+    type Fetcher: Fetcher<Body = Self::Body> + Send;
+
+    /// What does so and may note what it is told. It keeps bodies in memory.
+    type Recorder: Recording + Send;
 
     /// A folder that files are put into.
-    type Folder: Folder + Drop;
+    type Folder: Shelf<Self::Body> + Drop;
 
     /// What the record of a run is written into.
     type Record: Write + Drop;
 
     // The fetchers that may be given for these settings.
     ghost makes: { Self → Settings → Self.Fetcher → Type 0 };
+
+    // The same of those that may note what they are told.
+    ghost makes_recorder: { Self → Settings → Self.Recorder → Type 0 };
 
     // The folders that may be given for a path.
     ghost opens: { Self → List ℕ → Self.Folder → Type 0 };
@@ -80,6 +90,10 @@ pub trait System {
     /// A fetcher for one more worker, with these settings. The error is that memory ran out.
     fn fetcher(&self, settings: FetcherSettings) -> Result<Self::Fetcher, AllocError>
         ensures { IfOk result (λ fetcher. makes self.now settings fetcher) };
+
+    /// The same, of a run that goes on from a record or saves one.
+    fn recorder(&self, settings: FetcherSettings) -> Result<Self::Recorder, AllocError>
+        ensures { IfOk result (λ recorder. makes_recorder self.now settings recorder) };
 
     /// The folder at a path. Nothing is made there before the first put. The error is that memory is wanting.
     fn folder(&self, path: &str) -> Result<Self::Folder, AllocError>

@@ -1,2 +1,3 @@
 pub mod FolderLaws
+pub mod ShelfLaws
 pub mod SiteFilesLaws

@@ -1,3 +1,4 @@
 pub mod Folders
 pub mod MemoryFolders
+pub mod Shelves
 pub mod SiteFiles

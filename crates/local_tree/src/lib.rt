@@ -8,6 +8,7 @@ pub use crate::disk_folder::DiskFolder;
 pub use crate::folder::{Folder, FolderFault};
 pub use crate::memory_folder::MemoryFolder;
 pub use crate::parts::{Naming, Part, PartCrew};
+pub use crate::shelf::{HasKind, Shelf};
 pub use crate::site_files::{WriteFault, write_site};
 pub use streams::{Close, Lock};
 
@@ -16,4 +17,5 @@ mod folder;
 mod memory_folder;
 mod own_dir;
 mod parts;
+mod shelf;
 mod site_files;

@@ -5,5 +5,5 @@
 mod part;
 mod part_keeper;
 
-pub use part::{Part, part_path};
+pub use part::{Part, Standing, part_path};
 pub use part_keeper::PartKeeper;

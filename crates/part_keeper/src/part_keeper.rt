@@ -1,7 +1,7 @@
 //! What keeps bodies in files.
 ghost use Rattle.std.specs.Prelude.{◌≡◌, ◌+◌, ℕ, List, length, OnOk, IfOk, OnErr};
 
-use crate::part::{Part, part_path};
+use crate::part::{Part, Standing, part_path};
 use kept_bodies::{BodyKind, Keeper};
 use std::alloc::{AllocError, Global};
 use std::fs::{File, Files};
@@ -141,8 +141,9 @@ where
 {
     type Kept = Part;
 
-    // A part tells what the body is, and how many bytes came.
-    ghost holds = { λ part body. (body.kind ≡ part.kind) × (length body.bytes ≡ part.len) };
+    ghost use Rattle.part_keeper.specs.Parts.{holds_part};
+
+    ghost holds = { holds_part };
 
     ghost begun = { λ keeper bytes. length bytes ≡ keeper.len };
 
@@ -175,12 +176,16 @@ where
                 self.error = Some(error);
             }
         }
+        let standing = match &self.error {
+            Some(_) => Standing::Lost,
+            None => Standing::Whole,
+        };
         let part = Part {
             worker: self.worker,
             number: self.number,
             kind,
             len: self.len,
-            is_whole: self.error.is_none(),
+            standing,
         };
         self.number = self.number.saturating_add(1);
         Ok(part)
@@ -192,7 +197,7 @@ where
             number: self.number,
             kind: BodyKind::Other,
             len: 0,
-            is_whole: true,
+            standing: Standing::Absent,
         })
     }
 }

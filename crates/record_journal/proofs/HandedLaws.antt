@@ -38,3 +38,9 @@ is_handed contents {n} {m} {j} {kept} old new same before note (inr (refused, mo
 pub says_told : {S : Type 0} (says : S → AddressText → Outcome → BodyValue → Type 0) {was old : S} {honours robots : Bool} {at : AddressText} (told : Told) (a : Answer BodyValue) → was ≡ old → robots ≡ honours
     → a.outcome ≡ outcome_told robots at told → a.body ≡ body_told told → says was at (outcome_told honours at told) (body_told told) → says old at a.outcome a.body
 says_told says told a site robots outcome body said = rw (outcome, body, robots, sym site) said
+
+-- a journal gained a front of the entry of a note over what is the same before, and so of one that is equal
+pub half_handed : {J : Type 0} (contents : J → Option (List ℕ)) {n m : Noted} {j old : J} (new : J) → j ≡ old → n ≡ m
+    → AppendsFront (contents j) (contents new) (written_note n) → AppendsFront (contents old) (contents new) (written_note m)
+half_handed contents {n} {m} {j} {old} new same note front =
+    subst (λ k. AppendsFront (contents k) (contents new) (written_note m)) same (subst (λ x. AppendsFront (contents j) (contents new) (written_note x)) note front)

@@ -39,3 +39,14 @@ HandsPage contents robots at answer old new =
 abbrev pub HandsChain : {F J : Type 0} → (J → Option (List ℕ)) → OriginText → RuleSetValue → Journaling F J → Journaling F J → Type 0
 HandsChain contents of rules old new =
     (hops : List HopValue) × IsHanded contents (Chain (record { of = of; hops = hops })) old new × (rules ≡ rules_of_hops hops)
+
+-- after a call that failed the journal is what it was, or it gained a front of the entry of a note of this address
+abbrev pub IsHalfHandedPage : {F J : Type 0} → (J → Option (List ℕ)) → AddressText → Journaling F J → Journaling F J → Type 0
+IsHalfHandedPage contents at old new =
+    (new.journal ≡ old.journal) ⊎ ((told : Told) × AppendsFront (contents old.journal) (contents new.journal) (written_note (Page at told)))
+
+-- the same of a note of this origin
+abbrev pub IsHalfHandedChain : {F J : Type 0} → (J → Option (List ℕ)) → OriginText → Journaling F J → Journaling F J → Type 0
+IsHalfHandedChain contents of old new =
+    (new.journal ≡ old.journal)
+    ⊎ ((hops : List HopValue) × AppendsFront (contents old.journal) (contents new.journal) (written_note (Chain (record { of = of; hops = hops }))))

@@ -5,7 +5,7 @@ ghost use Rattle.fetcher.specs.declared.fetcher.Ask.TheVariants as ask;
 ghost use Rattle.fetcher.specs.Logs.{GainedAtMost};
 ghost use Rattle.site_records.specs.WrittenEntries.{written_note};
 ghost use Rattle.streams.specs.Streams.{AppendsFront};
-ghost use Rattle.record_journal.specs.Handed.{HandsPage, HandsChain, IsHanded, IsStill};
+ghost use Rattle.record_journal.specs.Handed.{HandsPage, HandsChain, IsHanded, IsHalfHandedPage, IsHalfHandedChain, IsStill};
 
 use crate::journal::Journal;
 use address::{Address, Origin};
@@ -93,6 +93,7 @@ impl<F: Telling, J: Journal> Journaled<F, J> {
         ensures is_recording { self.new.is_recording ≡ self.old.is_recording }
         ensures ok { OnOk result (IsHanded J.contents note self.old self.new) }
         ensures err { OnErr result (self.new.kept ≡ self.old.kept) }
+        ensures half { OnErr result (AppendsFront (J.contents self.old.journal) (J.contents self.new.journal) (written_note note)) }
     {
         if is_taken(self.alloc, &mut self.journal, &note) {
             drop(note);
@@ -112,6 +113,7 @@ impl<F: Telling, J: Journal> Journaled<F, J> {
         ensures refused { OnErr result (GainedAtMost (F.log self.old.inner) (F.log self.new.inner) (ask.Page at.now)) }
         ensures handed { IfOk result (λ a. HandsPage J.contents (F.honours self.old.inner) at.now a self.old self.new) }
         ensures unkept { OnErr result (self.new.kept ≡ self.old.kept) }
+        ensures half { OnErr result (IsHalfHandedPage J.contents at.now self.old self.new) }
     {
         let name = at.try_clone()?;
         let told = self.inner.ask_told(at)?;
@@ -130,6 +132,7 @@ impl<F: Telling, J: Journal> Journaled<F, J> {
         ensures refused { OnErr result (GainedAtMost (F.log self.old.inner) (F.log self.new.inner) (ask.Rules of.now)) }
         ensures handed { IfOk result (λ r. HandsChain J.contents of.now r self.old self.new) }
         ensures unkept { OnErr result (self.new.kept ≡ self.old.kept) }
+        ensures half { OnErr result (IsHalfHandedChain J.contents of.now self.old self.new) }
     {
         let hops = self.inner.ask_hops(of)?;
         let rules = hops.rules(self.alloc)?;
@@ -160,6 +163,7 @@ impl<F: Telling, J: Journal> Fetcher for Journaled<F, J> {
         ensures is_recording { self.new.is_recording ≡ self.old.is_recording }
         ensures handed { IfOk result (λ a. MatchBool self.old.is_recording (HandsPage J.contents (F.honours self.old.inner) at.now a self.old self.new) (IsStill self.old self.new)) }
         ensures unkept { OnErr result (self.new.kept ≡ self.old.kept) }
+        ensures half { OnErr result (IsHalfHandedPage J.contents at.now self.old self.new) }
     {
         if self.is_recording {
             return self.ask_and_hand(at);
@@ -176,6 +180,7 @@ impl<F: Telling, J: Journal> Fetcher for Journaled<F, J> {
         ensures is_recording { self.new.is_recording ≡ self.old.is_recording }
         ensures handed { IfOk result (λ r. MatchBool self.old.is_recording (HandsChain J.contents of.now r self.old self.new) (IsStill self.old self.new)) }
         ensures unkept { OnErr result (self.new.kept ≡ self.old.kept) }
+        ensures half { OnErr result (IsHalfHandedChain J.contents of.now self.old self.new) }
     {
         if self.is_recording {
             return self.ask_robots_and_hand(of);

@@ -1,5 +1,5 @@
 //! A sink that digests responses while their bodies arrive and go to a keeper (RFC 9110, section 15).
-ghost use Rattle.std.specs.Prelude.{◌≡◌, ◌⊎◌, ℕ, List, [], ◌++◌, Option, Some, None, true, false, IfOk, OnOk, ⊤};
+ghost use Rattle.std.specs.Prelude.{◌≡◌, ◌⊎◌, ℕ, List, [], ◌++◌, Option, Some, None, true, false, IfOk, OnOk, option_map, vec_items, ⊤};
 ghost use Rattle.response_reader.specs.Fields.{HeadParts};
 ghost use Rattle.response_reader.specs.Passes.{head_parts, AddsPiece};
 ghost use Rattle.response_reader.specs.Refusals.{NotesRefusal};
@@ -21,23 +21,36 @@ use std::marker::Model;
 use std::mem;
 
 /// Takes responses, one after another, and keeps of each what its answer is made of: the links of a page, the target of a
-/// redirect, and, where the status is one of success, the body, which goes to a keeper as it comes. After a refused growth each
-/// later call answers want of memory, until the next response is begun.
+/// redirect, and, if the status is one of success, the body, which goes to a keeper as it comes. After a refused growth each
+/// later call answers that memory ran out, until the next response is begun.
 #[derive(Drop)]
 pub struct PageSink<K: Keeper> {
     alloc: Global,
     stage: Stage,
     kind: BodyKind,
+    // How long the server wants to be left alone, as its head says it.
+    retry_after: Option<Vec<u8>>,
     keeper: K,
     failed: bool,
 }
 
 impl<K: Keeper> Model for PageSink<K> {
+    ghost use Rattle.std.specs.Prelude.{option_map, vec_items};
     ghost use Rattle.response_answer.specs.Sinking.{Sinking};
 
     ghost Value = { Sinking K };
 
-    ghost view = { λ s. record { stage = s.stage; kind = s.kind; keeper = s.keeper; failed = s.failed } };
+    ghost view = { λ s. record { stage = s.stage; kind = s.kind; retry_after = option_map vec_items s.retry_after; keeper = s.keeper; failed = s.failed } };
+}
+
+// A copy of a field's value, if there is one. The error is out of memory.
+fn copy_of(alloc: Global, value: &Option<Vec<u8>>) -> Result<Option<Vec<u8>>, AllocError>
+    ensures { IfOk result (λ copy. option_map vec_items copy ≡ option_map vec_items value.now) }
+{
+    match value {
+        Some(value) => Ok(Some(Vec::from_slice(alloc, value)?)),
+        None => Ok(None),
+    }
 }
 
 impl<K: Keeper> PageSink<K> {
@@ -47,8 +60,27 @@ impl<K: Keeper> PageSink<K> {
             alloc,
             stage: Stage::Fresh,
             kind: BodyKind::Other,
+            retry_after: None,
             keeper,
             failed: false,
+        }
+    }
+
+    /// What keeps the bodies.
+    pub fn keeper(&self) -> &K
+        ensures { result.now ≡ self.now.keeper }
+    {
+        &self.keeper
+    }
+
+    /// The value of the `Retry-After` of the response that was taken last (RFC 9110, section 10.2.3), if it has one. Before a head
+    /// was taken, and if no response was read, there is none.
+    pub fn retry_after(&self) -> Option<&[u8]>
+        ensures { option_map (λ value. value.now) result ≡ self.now.retry_after }
+    {
+        match &self.retry_after {
+            Some(value) => Some(value.as_slice()),
+            None => None,
         }
     }
 
@@ -57,6 +89,7 @@ impl<K: Keeper> PageSink<K> {
         ensures { HasSunk K.begun self.new None [] }
     {
         self.stage = Stage::Fresh;
+        self.retry_after = None;
         self.failed = false;
         self.keeper.begin();
     }
@@ -65,6 +98,7 @@ impl<K: Keeper> PageSink<K> {
     fn take_head(&mut self, head: &Head) -> Result<(), AllocError>
         ensures stage { OnOk result (IsStageOf (head_parts head.now) [] self.new.stage) }
         ensures kind { OnOk result (self.new.kind ≡ kind_of (head_parts head.now)) }
+        ensures retry_after { OnOk result (self.new.retry_after ≡ (head_parts head.now).retry_after) }
         ensures keeper { self.new.keeper ≡ self.old.keeper }
         ensures failed { self.new.failed ≡ self.old.failed }
     {
@@ -77,6 +111,7 @@ impl<K: Keeper> PageSink<K> {
         };
         self.stage = Stage::of(self.alloc, &fields)?;
         self.kind = kind_of(&fields);
+        self.retry_after = copy_of(self.alloc, &head.retry_after)?;
         Ok(())
     }
 
@@ -96,6 +131,7 @@ impl<K: Keeper> PageSink<K> {
     fn finish_body(&mut self) -> Result<K::Kept, AllocError>
         ensures body { IfOk result (λ kept. (h : HeadParts) (body : List ℕ) → HasSunk K.begun self.old (Some h) body → K.holds kept (body_of h body)) }
         ensures stage { self.new.stage ≡ self.old.stage }
+        ensures retry_after { self.new.retry_after ≡ self.old.retry_after }
     {
         if self.stage.keeps_body() {
             self.keeper.finish(self.kind)
@@ -104,11 +140,13 @@ impl<K: Keeper> PageSink<K> {
         }
     }
 
-    /// The answer where no response was read, for this reason. The error is want of memory.
+    /// The answer if no response was read, for this reason. The error is out of memory.
     pub fn fault(&mut self, kind: FaultKind) -> Result<Answer<K::Kept>, AllocError>
         ensures outcome { IfOk result (λ a. a.outcome ≡ outcome.Fault kind) }
         ensures body { IfOk result (λ a. K.holds a.body no_body) }
+        ensures retry_after { self.new.retry_after ≡ None }
     {
+        self.retry_after = None;
         let body = self.keeper.empty()?;
         Ok(Answer {
             outcome: Outcome::Fault(kind),
@@ -117,13 +155,14 @@ impl<K: Keeper> PageSink<K> {
     }
 
     /// The answer of the response that was taken, for the address that was asked. Where `robots` says so, a page that asks that its
-    /// links aren't followed has no edges. The error is want of memory, now or at an earlier call.
+    /// links aren't followed has no edges. The error is out of memory, now or at an earlier call.
     pub fn finish(&mut self, at: &Address, robots: bool) -> Result<Answer<K::Kept>, AllocError>
         requires { (has_head self.old.stage ≡ true) ⊎ (self.old.failed ≡ true) }
         ensures outcome { IfOk result (λ a. (h : HeadParts) (body : List ℕ) → HasSunk K.begun self.old (Some h) body
             → a.outcome ≡ digest_of robots at.now (record { head = h; body = body })) }
         ensures body { IfOk result (λ a. (h : HeadParts) (body : List ℕ) → HasSunk K.begun self.old (Some h) body
             → K.holds a.body (body_of h body)) }
+        ensures retry_after { self.new.retry_after ≡ self.old.retry_after }
         ensures failed { self.old.failed ≡ true → IfOk result (λ _. ⊥) }
     {
         if self.failed {

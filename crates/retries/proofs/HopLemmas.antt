@@ -1,5 +1,5 @@
 -- Whether a robots file is worth another try, and how long the origin is left alone before it, is decided by the last of its hops.
-use Rattle.std.proofs.Common.{◌≡◌, ◌∙◌, ◌<◌, ◌-◌, ℕ, suc, Bool, List, [], ◌∷◌, Option, get_or, length, arith, ap, sym, refl}
+use Rattle.std.proofs.Common.{◌≡◌, ◌∙◌, ◌<◌, ◌-◌, ℕ, suc, List, [], ◌∷◌, Option, get_or, length, arith, ap, sym, refl}
 use Rattle.run_failures.specs.declared.loss_kind.LossKind.{LossKind}
 use Rattle.answer_notes.specs.HopChains.{HopValue}
 use Rattle.pacing.specs.Retries.{Retried}

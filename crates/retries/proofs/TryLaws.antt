@@ -1,5 +1,5 @@
 -- A fetcher that tries again asks as often as it was told something, and its tries can be added to.
-use Rattle.std.proofs.Common.{◌≡◌, ◌∙◌, ◌+◌, ◌≤◌, ℕ, Bool, true, false, inl, inr, List, [], ◌∷◌, ◌++◌, length, length-append, Option, arith, append_assoc, ap, sym, refl}
+use Rattle.std.proofs.Common.{◌≡◌, ◌∙◌, ◌+◌, ◌≤◌, ℕ, Bool, true, false, inl, inr, List, [], ◌∷◌, ◌++◌, length, length-append, Option, arith, ap, refl}
 use Rattle.std.specs.Prelude.{IfOk, Result, Ok, Err}
 use Rattle.run_failures.specs.declared.loss_kind.LossKind.{LossKind}
 use Rattle.fetcher.specs.declared.fetcher.Ask.{Ask}

@@ -29,10 +29,18 @@ abbrev pub seconds_told : Option ℕ → Told → Option ℕ
 seconds_told now (Whole response) = option_and_then (seconds_after now) response.head.retry_after
 seconds_told now (Fault kind) = None
 
--- The nanoseconds before one more try: those that were said, or else those of one second, and of a second more for each try that was
--- made again; no more than the longest pause
+-- The nanoseconds before one more try: those of the seconds that were said, or else those of one second, and of a second more for each
+-- try that was made again; no more than the longest pause
+abbrev pub pause_of : Retried → ℕ → Option ℕ → ℕ
+pause_of retries made seconds = min (unwrap_or seconds (made + 1) * 1_000_000_000) retries.wait
+
+-- those after this was told
 abbrev pub pause_before : Retried → ℕ → Option ℕ → Told → ℕ
-pause_before retries made now told = min (unwrap_or (seconds_told now told) (made + 1) * 1_000_000_000) retries.wait
+pause_before retries made now told = pause_of retries made (seconds_told now told)
+
+-- those after a response with this Retry-After, if it has one
+abbrev pub pause_after : Retried → ℕ → Option ℕ → Option (List ℕ) → ℕ
+pause_after retries made now said = pause_of retries made (option_and_then (seconds_after now) said)
 
 -- the same of a robots file: the last of its hops counts
 abbrev pub pause_before_hops : Retried → ℕ → Option ℕ → List HopValue → ℕ

@@ -1,3 +1,4 @@
 pub mod Delays
+pub mod Keeping
 pub mod Tries
 pub mod Worth

@@ -6,6 +6,8 @@ use Rattle.run_failures.specs.declared.loss_kind.LossKind.{LossKind}
 use Rattle.run_failures.specs.declared.loss_kind.LossKind.TheVariants as loss
 use Rattle.fetcher.specs.declared.fault_kind.FaultKind.{FaultKind}
 use Rattle.fetcher.specs.declared.fault_kind.FaultKind.TheVariants as kind
+use Rattle.fetcher.specs.declared.outcome.Outcome.{Outcome}
+use Rattle.fetcher.specs.declared.outcome.Outcome.TheVariants as outcome
 use Rattle.answer_notes.specs.HopChains.{HopValue}
 use Rattle.answer_notes.specs.declared.told.Told.{Told}
 use Rattle.answer_notes.specs.declared.told.Told.TheVariants.{Whole, Fault}
@@ -51,3 +53,10 @@ abbrev pub is_worth_hops : Retried → List HopValue → Option LossKind → Boo
 is_worth_hops retries [] lost = false
 is_worth_hops retries (hop ∷ []) lost = is_worth retries hop.1 lost
 is_worth_hops retries (hop ∷ next ∷ more) lost = is_worth_hops retries (next ∷ more) lost
+
+-- the same by what became of the address
+abbrev pub is_worth_outcome : Retried → Outcome → Option LossKind → Bool
+is_worth_outcome retries (outcome.Page status edges) lost = is_worth_status retries status
+is_worth_outcome retries (outcome.Moved status target) lost = is_worth_status retries status
+is_worth_outcome retries (outcome.Leaf status) lost = is_worth_status retries status
+is_worth_outcome retries (outcome.Fault kind) lost = is_worth_fault retries kind lost

@@ -1,10 +1,10 @@
 //! How long an origin is left alone before it is asked again (RFC 9110, section 10.2.3; GNU Wget manual, option `--waitretry`).
-ghost use Rattle.std.specs.Prelude.{◌≡◌, ◌&&◌, length, min, nat_lt};
+ghost use Rattle.std.specs.Prelude.{◌≡◌, ◌&&◌, length, min, nat_lt, option_map};
 ghost use Rattle.std.specs.Duration.{as_nanos};
 ghost use Rattle.std.specs.List.{list_all};
 ghost use Rattle.std.specs.Char.{is_ascii_digit};
 ghost use Rattle.pacing.specs.Retries.{retries_by};
-ghost use Rattle.retries.specs.Delays.{pause_before, pause_before_hops, seconds_after, seconds_in, seconds_told};
+ghost use Rattle.retries.specs.Delays.{pause_after, pause_before, pause_before_hops, pause_of, seconds_after, seconds_in, seconds_told};
 
 use answer_notes::{Hops, Told};
 use httpdate::HttpDate;
@@ -70,12 +70,35 @@ fn shorter(first: Duration, second: Duration) -> Duration
     if first < second { first } else { second }
 }
 
+// How long the origin is left alone if so many tries were made again and so many seconds were said.
+fn pause_of(retries: &Retries, made: u32, said: Option<u64>) -> Duration
+    ensures { as_nanos result ≡ pause_of (retries_by retries.now) made said }
+{
+    let seconds = said.unwrap_or(u64::from(made) + 1);
+    shorter(Duration::from_secs(seconds), retries.wait)
+}
+
 // How long the origin is left alone after this was told, if so many tries were made again, and this is the time.
 pub(crate) fn pause_before(retries: &Retries, made: u32, now: Option<u64>, told: &Told) -> Duration
     ensures { as_nanos result ≡ pause_before (retries_by retries.now) made now told.now }
 {
-    let seconds = seconds_told(told, now).unwrap_or(u64::from(made) + 1);
-    shorter(Duration::from_secs(seconds), retries.wait)
+    pause_of(retries, made, seconds_told(told, now))
+}
+
+// The same after a response with this Retry-After, if it has one.
+pub(crate) fn pause_after(
+    retries: &Retries,
+    made: u32,
+    now: Option<u64>,
+    said: Option<&[u8]>,
+) -> Duration
+    ensures { as_nanos result ≡ pause_after (retries_by retries.now) made now (option_map (λ value. value.now) said.entry) }
+{
+    let seconds = match said {
+        Some(value) => seconds_after(value, now),
+        None => None,
+    };
+    pause_of(retries, made, seconds)
 }
 
 // The same of an origin's robots file: the last of its hops counts.

@@ -5,8 +5,10 @@
 
 mod calling;
 mod delay;
+mod keeping;
 mod retrying;
 mod worth;
 
 pub use crate::calling::{Calling, CallingConnect};
+pub use crate::keeping::ask_into;
 pub use crate::retrying::{ask, ask_robots, tell, tell_hops};

@@ -1,10 +1,10 @@
 //! Answers and faults that are worth another try (GNU Wget manual, option `--tries`; RFC 9110, section 10.2.3).
 ghost use Rattle.std.specs.Prelude.{◌≡◌};
 ghost use Rattle.pacing.specs.Retries.{retries_by};
-ghost use Rattle.retries.specs.Worth.{is_worth, is_worth_fault, is_worth_hops, is_worth_loss, is_worth_status};
+ghost use Rattle.retries.specs.Worth.{is_worth, is_worth_fault, is_worth_hops, is_worth_loss, is_worth_outcome, is_worth_status};
 
 use answer_notes::{Hops, Told};
-use fetcher::FaultKind;
+use fetcher::{FaultKind, Outcome};
 use pacing::Retries;
 use run_failures::LossKind;
 
@@ -72,5 +72,17 @@ pub(crate) fn is_worth_hops(retries: &Retries, hops: &Hops, loss: Option<LossKin
     match hops.hops() {
         [.., (_, told)] => is_worth(retries, told, loss),
         [] => false,
+    }
+}
+
+// The same by what became of an address.
+pub(crate) fn is_worth_outcome(retries: &Retries, outcome: &Outcome, loss: Option<LossKind>) -> bool
+    ensures { result ≡ is_worth_outcome (retries_by retries.now) outcome.now loss }
+{
+    match outcome {
+        Outcome::Page(status, _) | Outcome::Moved(status, _) | Outcome::Leaf(status) => {
+            is_worth_status(retries, *status)
+        }
+        Outcome::Fault(kind) => is_worth_fault(retries, *kind, loss),
     }
 }

@@ -45,7 +45,8 @@ use Rattle.retriever.specs.Retrieved.{IsPartOf, AreEventsOf, AreShown, HasStoppe
 use Rattle.retriever.specs.declared.told.Output.{Output}
 use Rattle.std.specs.declared.alloc.AllocError.{AllocError}
 use Rattle.kept_bodies.specs.Bodies.{BodyValue}
-use Rattle.retriever.specs.Site.{AreNamed, AreNamesOf, kind_at, kinds_of, plain_names_by, whole_of, with_bare_bodies}
+use Rattle.retriever.specs.Keeping.{kind_in, kinds_of}
+use Rattle.retriever.specs.Site.{AreNamed, AreNamesOf, kind_at, plain_names_by, whole_of, with_bare_bodies}
 use Rattle.retriever.proofs.FoundLaws.{are_lines}
 
 -- a map's site gives what its answers name
@@ -81,12 +82,12 @@ copies_kinds {F = F} m site one count copies are has =
 
 -- the kinds of kept bodies are those that the site tells of their pages
 kinds_told : (may_say : Text → Outcome → BodyValue → Type 0) (site : RecordedAnswers) (m : Answers) → HasKinds may_say site → (pages : List Text) (bodies : List BodyValue) → AllZip (IsBodyOf may_say m) pages bodies
-    → kinds_of bodies ≡ map (kind_at site) pages
+    → kinds_of kind_in bodies ≡ map (kind_at site) pages
 kinds_told may_say site m has [] [] are = refl
 kinds_told may_say site m has [] (body ∷ bodies) are = absurd are
 kinds_told may_say site m has (page ∷ pages) [] are = absurd are
 kinds_told may_say site m has (page ∷ pages) (body ∷ bodies) ((x, is, said), are) =
-    ap (λ (kind : BodyKind). kind ∷ kinds_of bodies) (has page x body said) ∙ ap (λ (kinds : List BodyKind). kind_at site page ∷ kinds) (kinds_told may_say site m has pages bodies are)
+    ap (λ (kind : BodyKind). kind ∷ kinds_of kind_in bodies) (has page x body said) ∙ ap (λ (kinds : List BodyKind). kind_at site page ∷ kinds) (kinds_told may_say site m has pages bodies are)
 
 -- as many pages have plain names
 pub plain_count : (h : Bool) (rules : NameRules) (pages : List Text) (kinds : List BodyKind) → length (plain_names_by h rules pages kinds) ≡ length pages
@@ -94,8 +95,8 @@ plain_count false rules pages kinds = length-map pages (plain_name_of rules)
 plain_count true rules pages kinds = length-ended_names rules pages kinds
 
 -- as many have names
-pub names_count : (naming : PageNames) (h : Harvested BodyValue) (names : List (List ℕ)) → AreNamesOf naming h.kept (kinds_of h.bodies) names → length names ≡ length h.kept
-names_count naming h names given = given.count ∙ plain_count naming.has_endings naming.rules h.kept (kinds_of h.bodies)
+pub names_count : {B : Type 0} (kind_of : B → BodyKind) (naming : PageNames) (h : Harvested B) (names : List (List ℕ)) → AreNamesOf naming h.kept (kinds_of kind_of h.bodies) names → length names ≡ length h.kept
+names_count kind_of naming h names given = given.count ∙ plain_count naming.has_endings naming.rules h.kept (kinds_of kind_of h.bodies)
 
 told_part : (may_say : Text → Outcome → BodyValue → Type 0) (may_rule : Text → RuleSetValue → Type 0) (whole m : Answers) → Fits may_say may_rule whole → IsTold may_say may_rule m
     → IsPartOf m whole
@@ -115,11 +116,11 @@ none_shown false trace is = refl
 -- ---- a harvest
 
 -- the lines of a harvest have the names of its kept pages
-pub are_named : (plan : Plan) (naming : PageNames) (h : Harvested BodyValue) (names : List (List ℕ)) → AreEntries h → AreRecords h → ArePages h → h.plan ≡ Some plan → IsOnce (keys h.state.entries)
-    → AreNamesOf naming h.kept (kinds_of h.bodies) names → AreNamed plan naming (kinds_of h.bodies) (harvest_lines_of h names)
-are_named plan naming h names are records pages follows once given =
-    let long : length names ≡ length h.kept = names_count naming h names given in
-    let kinds = kinds_of h.bodies in
+pub are_named : {B : Type 0} (kind_of : B → BodyKind) (plan : Plan) (naming : PageNames) (h : Harvested B) (names : List (List ℕ)) → AreEntries h → AreRecords h → ArePages h → h.plan ≡ Some plan → IsOnce (keys h.state.entries)
+    → AreNamesOf naming h.kept (kinds_of kind_of h.bodies) names → AreNamed plan naming (kinds_of kind_of h.bodies) (harvest_lines_of h names)
+are_named kind_of plan naming h names are records pages follows once given =
+    let long : length names ≡ length h.kept = names_count kind_of naming h names given in
+    let kinds = kinds_of kind_of h.bodies in
     let kept = subst (λ (o : Option Plan). MatchOption o (h.kept ≡ []) (λ plan. (u : Text) → Contains h.kept u ↔ IsKept plan (answers h.state) u)) follows pages.kept in
     record {
       kept = λ k d lt. line_to_keep plan h names are records once long kept _ (Contains-get_or (harvest_lines_of h names) k d lt);
@@ -129,20 +130,20 @@ are_named plan naming h names are records pages follows once given =
 
 pub retrieved : (order : Order) (may_say : Text → Outcome → BodyValue → Type 0) (may_rule : Text → RuleSetValue → Type 0) (site : RecordedAnswers) (asks : List Ask) (h : Harvested BodyValue) (names : List (List ℕ))
     → Fits may_say may_rule (whole_of site) → HasKinds may_say site → IsRetrieved may_say may_rule order.plan asks h → IsRead h → IsCompleteFor (policy order.plan) (whole_of site) h.state → AreByCrew order.workers h.trace
-    → AreNamesOf order.names h.kept (kinds_of h.bodies) names → Finishes order site (shown_of order.trace h.trace) (Retrieved (harvest_lines_of h names))
+    → AreNamesOf order.names h.kept (kinds_of kind_in h.bodies) names → Finishes order site (shown_of order.trace h.trace) (Retrieved (harvest_lines_of h names))
 retrieved order may_say may_rule site asks h names fits has is read complete by_one given =
     let whole = whole_of site in
     let lines = harvest_lines_of h names in
     let sound = subst (λ (o : Option Plan). IfSome o (λ plan. IsSound (policy plan) h.state)) is.follows read.3 in
-    let stated = pages_of_lines h names read.0 read.1 read.2 (names_count order.names h names given) in
+    let stated = pages_of_lines h names read.0 read.1 read.2 (names_count kind_in order.names h names given) in
     let kinds = kinds_told may_say site (answers h.state) has h.kept h.bodies is.bodies ∙ ap (λ (pages : List Text). map (kind_at site) pages) (sym stated) in (
       are_lines (policy order.plan) whole h names read.0 read.1 sound.addresses sound.few complete is.quiet,
-      subst (λ (kinds : List BodyKind). AreNamed order.plan order.names kinds lines) kinds (are_named order.plan order.names h names read.0 read.1 read.2 is.follows sound.addresses given),
+      subst (λ (kinds : List BodyKind). AreNamed order.plan order.names kinds lines) kinds (are_named kind_in order.plan order.names h names read.0 read.1 read.2 is.follows sound.addresses given),
       are_shown order.trace (AreEventsOf order.workers order.plan whole IsQuiet) h.trace (by_one, h.state, is.replay, told_part may_say may_rule whole (answers h.state) fits is.told, is.quiet),
     )
 
 -- the exit status of a report is that of its lines
-pub status_of : (order : Order) (h : Harvested BodyValue) (names : List (List ℕ)) → IsRead h → h.plan ≡ Some order.plan → exit_status (map (λ recorded. recorded.1) h.records) ≡ exit_status (outcomes_in (harvest_lines_of h names))
+pub status_of : {B : Type 0} (order : Order) (h : Harvested B) (names : List (List ℕ)) → IsRead h → h.plan ≡ Some order.plan → exit_status (map (λ recorded. recorded.1) h.records) ≡ exit_status (outcomes_in (harvest_lines_of h names))
 status_of order h names read follows =
     same_status h names read.0 read.1 (subst (λ (o : Option Plan). IfSome o (λ plan. IsSound (policy plan) h.state)) follows read.3).addresses
 

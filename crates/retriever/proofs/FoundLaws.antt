@@ -5,7 +5,6 @@ use Rattle.std.specs.List.{filter_map}
 use Rattle.std.proofs.lemmas.Bool.{false≢true}
 use Rattle.std.proofs.lemmas.List.Elements.{Contains-get_or}
 use Rattle.std.proofs.lemmas.List.Sorted.{Contains-permutation}
-use Rattle.kept_bodies.specs.Bodies.{BodyValue}
 use Rattle.fetcher.specs.declared.outcome.Outcome.{Outcome}
 use Rattle.frontier_core.specs.Tables.{Text, lookup, keys, IsOnce}
 use Rattle.frontier_core.specs.Routes.{Policy, Answers, IsDepth, is_open_address}
@@ -69,7 +68,7 @@ fate_asked p s whole complete u e x found is =
 -- ---- the lines
 
 -- what a line says is so of the whole site
-line_true : (p : Policy) (whole : Answers) (h : Harvested BodyValue) (names : List (List ℕ)) → AreEntries h → AreRecords h → IsOnce (keys h.state.entries) → IsCompleteFor p whole h.state
+line_true : {B : Type 0} (p : Policy) (whole : Answers) (h : Harvested B) (names : List (List ℕ)) → AreEntries h → AreRecords h → IsOnce (keys h.state.entries) → IsCompleteFor p whole h.state
     → (line : Line) → Contains (harvest_lines_of h names) line → IsDepth p whole line.address line.depth × IsFate p whole line.address line.fate
 line_true p whole h names are records once complete line among =
     let (e, there, is) = from_given (line_at h names) h.entries line among in
@@ -93,12 +92,12 @@ line_true p whole h names are records once complete line among =
         ]
 
 -- an entry of which something became has a line
-has_line : (h : Harvested BodyValue) (names : List (List ℕ)) (e : Entry) (fate : Fate) → Contains h.entries e → fate_at h.records e.refused e.answer ≡ Some fate
+has_line : {B : Type 0} (h : Harvested B) (names : List (List ℕ)) (e : Entry) (fate : Fate) → Contains h.entries e → fate_at h.records e.refused e.answer ≡ Some fate
     → Contains (harvest_lines_of h names) (record { address = e.address; depth = e.depth; fate = fate; name = name_among h.kept names e.address })
 has_line h names e fate there is = to_given (line_at h names) h.entries e _ there (rw is refl)
 
 -- something became of each entry of a quiet frontier
-something : (h : Harvested BodyValue) → AreEntries h → AreRecords h → (e : Entry) → Contains h.entries e → (slot : Slot) → lookup h.state.entries e.address ≡ Some slot
+something : {B : Type 0} (h : Harvested B) → AreEntries h → AreRecords h → (e : Entry) → Contains h.entries e → (slot : Slot) → lookup h.state.entries e.address ≡ Some slot
     → is_refused (condition_of slot.progress) ≡ e.refused → is_done slot.progress ≡ true → (fate : Fate) × (fate_at h.records e.refused e.answer ≡ Some fate)
 something h are records e there slot found refusal done =
     elim (came slot.progress done) [
@@ -117,7 +116,7 @@ something h are records e there slot found refusal done =
     by_place (Some i) false free (x, is) among = (Asked x, rw is refl)
 
 -- a candidate of the whole site has a line
-candidate_line : (p : Policy) (whole : Answers) (h : Harvested BodyValue) (names : List (List ℕ)) → AreEntries h → AreRecords h → IsOnce (keys h.state.entries) → IsCompleteFor p whole h.state → IsQuiet h.state
+candidate_line : {B : Type 0} (p : Policy) (whole : Answers) (h : Harvested B) (names : List (List ℕ)) → AreEntries h → AreRecords h → IsOnce (keys h.state.entries) → IsCompleteFor p whole h.state → IsQuiet h.state
     → (u : Text) (slot : Slot) → lookup h.state.entries u ≡ Some slot → (line : Line) × Contains (harvest_lines_of h names) line × (line.address ≡ u)
 candidate_line p whole h names are records once complete quiet u slot found =
     let stands = found_stands h.state.entries u slot found in
@@ -130,7 +129,7 @@ candidate_line p whole h names are records once complete quiet u slot found =
     let (fate, became) = something h are records e there slot (subst (λ (v : Text). lookup h.state.entries v ≡ Some slot) (sym named) found) (sym (ap (λ (z : Seen). z.2) is)) done in
     (record { address = e.address; depth = e.depth; fate = fate; name = name_among h.kept names e.address }, has_line h names e fate there became, named)
 
-pub are_lines : (p : Policy) (whole : Answers) (h : Harvested BodyValue) (names : List (List ℕ)) → AreEntries h → AreRecords h → IsOnce (keys h.state.entries) → length h.state.entries ≤ p.max_urls
+pub are_lines : {B : Type 0} (p : Policy) (whole : Answers) (h : Harvested B) (names : List (List ℕ)) → AreEntries h → AreRecords h → IsOnce (keys h.state.entries) → length h.state.entries ≤ p.max_urls
     → IsCompleteFor p whole h.state → IsQuiet h.state → AreLines p whole (harvest_lines_of h names)
 are_lines p whole h names are records once few complete quiet = record {
   ascending = ascending_lines h names are;

@@ -2,7 +2,7 @@
 use Rattle.std.proofs.Common.{◌≡◌, ◌≢◌, ◌⊎◌, ◌∙◌, ◌++◌, ℕ, inl, inr, Bool, false, List, [], length, map, Option, refl, sym, ap, subst, append_assoc}
 use Rattle.std.specs.Prelude.{IfSome, IfOk, IfErr, Result, Ok, Err}
 use Rattle.std.specs.List.{AllZip}
-use Rattle.kept_bodies.specs.Bodies.{BodyValue}
+use Rattle.kept_bodies.specs.declared.body_kind.BodyKind.{BodyKind}
 use Rattle.follow_filters.specs.declared.plan.Plan.{Plan}
 use Rattle.options.specs.declared.naming.PageNames.{PageNames}
 use Rattle.options.specs.declared.order.Order.{Order}
@@ -25,7 +25,7 @@ use Rattle.workers.specs.Retrieval.{IsRetrieved, IsPartRetrieved, IsStopped}
 use Rattle.workers.specs.Sites.{IsCompleteFor}
 use Rattle.workers.specs.declared.retrieval.Halt.{Halt}
 use Rattle.local_tree.specs.Folders.{Holding}
-use Rattle.local_tree.specs.SiteFiles.{IsWhole, IsTorn}
+use Rattle.local_tree.specs.Shelves.{IsShelved, IsHalfShelved}
 use Rattle.report.specs.Entries.{harvest_lines_of}
 use Rattle.report.specs.Named.{names_in}
 use Rattle.report.specs.Report.{report_text}
@@ -34,7 +34,8 @@ use Rattle.retriever.specs.Found.{Crew, crew_of, MaySay, MaySayRules, asks_of, E
 use Rattle.retriever.specs.Live.{AreOfCrew, IsRetrievedLive, IsStoppedLive, EndsLive, Lives}
 use Rattle.retriever.specs.Parts.{shown_of}
 use Rattle.retriever.specs.Retrieved.{Retrieved, Stopped}
-use Rattle.retriever.specs.Site.{AreNamesOf, kinds_of}
+use Rattle.retriever.specs.Keeping.{Keeping, kinds_of}
+use Rattle.retriever.specs.Site.{AreNamesOf}
 use Rattle.retriever.specs.inner.Parts.{IsRead, IsToldAs, status_told}
 use Rattle.retriever.specs.inner.Puts.{IsHaltTold, IsPutOf}
 use Rattle.report.specs.Trace.{trace_text}
@@ -55,11 +56,11 @@ complete_for p s complete = record {
 
 -- ---- a harvest
 
-retrieved : {F : Type 0} (crew : Crew F) (plan : Plan) (naming : PageNames) (h : Harvested BodyValue) (names : List (List ℕ)) → IsRetrieved (MaySay crew) (MaySayRules crew) plan (asks_of crew) h → IsRead h
-    → AreNamesOf naming h.kept (kinds_of h.bodies) names → AreOfCrew crew h.trace → IsRetrievedLive crew plan naming h.trace (harvest_lines_of h names) h.bodies
+retrieved : {F B : Type 0} (crew : Crew F B) (plan : Plan) (naming : PageNames) (h : Harvested B) (names : List (List ℕ)) → IsRetrieved (MaySay crew) (MaySayRules crew) plan (asks_of crew) h → IsRead h
+    → AreNamesOf naming h.kept (kinds_of crew.keeps.kind_of h.bodies) names → AreOfCrew crew h.trace → IsRetrievedLive crew plan naming h.trace (harvest_lines_of h names) h.bodies
 retrieved crew plan naming h names is read given by =
     let sound = subst (λ (o : Option Plan). IfSome o (λ plan. IsSound (policy plan) h.state)) is.follows read.3 in
-    let long : length names ≡ length h.kept = names_count naming h names given in
+    let long : length names ≡ length h.kept = names_count crew.keeps.kind_of naming h names given in
     record {
       state = h.state;
       replay = is.replay;
@@ -68,16 +69,17 @@ retrieved crew plan naming h names is read given by =
       found = record {
         asked = are_asked (MaySay crew) (MaySayRules crew) plan (asks_of crew) h.state is.once is.recorded is.complete is.told;
         reported = are_lines (policy plan) (answers h.state) h names read.0 read.1 sound.addresses sound.few (complete_for (policy plan) h.state is.complete) is.quiet;
-        named = are_named plan naming h names read.0 read.1 read.2 is.follows sound.addresses given;
+        named = are_named crew.keeps.kind_of plan naming h names read.0 read.1 read.2 is.follows sound.addresses given;
         kept = subst (λ (pages : List Text). AllZip (IsBodyOf (MaySay crew) (answers h.state)) pages h.bodies) (sym (pages_of_lines h names read.0 read.1 read.2 long)) is.bodies;
       };
     }
 
 -- the names in the lines of a harvest are those that were given
-given : (naming : PageNames) (h : Harvested BodyValue) (names : List (List ℕ)) → IsRead h → AreNamesOf naming h.kept (kinds_of h.bodies) names → names ≡ names_in (harvest_lines_of h names)
-given naming h names read are = sym (names_of_lines h names read.0 read.1 read.2 (names_count naming h names are))
+given : {B : Type 0} (kind_of : B → BodyKind) (naming : PageNames) (h : Harvested B) (names : List (List ℕ)) → IsRead h → AreNamesOf naming h.kept (kinds_of kind_of h.bodies) names
+    → names ≡ names_in (harvest_lines_of h names)
+given kind_of naming h names read are = sym (names_of_lines h names read.0 read.1 read.2 (names_count kind_of naming h names are))
 
-part_retrieved : {F : Type 0} (crew : Crew F) (plan : Plan) (cause : Cause) (h : Harvested BodyValue) → IsPartRetrieved (MaySay crew) (MaySayRules crew) plan (asks_of crew) cause h
+part_retrieved : {F B : Type 0} (crew : Crew F B) (plan : Plan) (cause : Cause) (h : Harvested B) → IsPartRetrieved (MaySay crew) (MaySayRules crew) plan (asks_of crew) cause h
     → (cause ≡ why.Full → HasTooMany (policy plan) (answers h.state)) → AreOfCrew crew h.trace → IsStoppedLive crew plan cause h.trace
 part_retrieved crew plan cause h part many by = record {
   state = h.state;
@@ -96,12 +98,12 @@ part_retrieved crew plan cause h part many by = record {
 
 -- ---- an end
 
-module _ {F : Type 0} (crew : Crew F) (order : Order) (old new : Holding) (IsTold : List ℕ → ℕ → Type 0) where
+module _ {F B : Type 0} (crew : Crew F B) (order : Order) (old new : Holding) (IsTold : List ℕ → ℕ → Type 0) where
   -- an end, with what is shown, and its text is told
   abbrev pub EndsTold : Type 0
   EndsTold = (shown : List Event) × (ending : LiveEnd) × EndsLive crew order old new shown ending × IsTold (trace_text shown ++ live_text ending) (live_status ending)
 
-  ended : (h : Harvested BodyValue) → IsRetrieved (MaySay crew) (MaySayRules crew) order.plan (asks_of crew) h → AreOfCrew crew h.trace → IsPutOf IsTold order.names order.trace (Ok h) old new → EndsTold
+  ended : (h : Harvested B) → IsRetrieved (MaySay crew) (MaySayRules crew) order.plan (asks_of crew) h → AreOfCrew crew h.trace → IsPutOf crew.keeps IsTold order.names order.trace (Ok h) old new → EndsTold
   ended h is by (inl (same, told)) = ([], Finished (Stopped why.Memory), (made_once (asks_of crew) is.once, inl refl, inl same), told)
   ended h is by (inr (read, names, naming, inl (whole, quiet, told))) =
       let lines = harvest_lines_of h names in (
@@ -112,7 +114,7 @@ module _ {F : Type 0} (crew : Crew F) (order : Order) (old new : Holding) (IsTol
           h.bodies,
           retrieved crew order.plan order.names h names is read naming by,
           refl,
-          (subst (λ (given : List (List ℕ)). IsWhole given h.bodies old.files new.files) (given order.names h names read naming) whole, quiet),
+          (subst (λ (given : List (List ℕ)). IsShelved crew.keeps.holds given h.bodies old.files new.files) (given crew.keeps.kind_of order.names h names read naming) whole, quiet),
         ),
         subst (λ (wanted : ℕ). IsTold (trace_text (shown_of order.trace h.trace) ++ report_text lines) wanted) (status_of order h names read is.follows) told,
       )
@@ -125,7 +127,7 @@ module _ {F : Type 0} (crew : Crew F) (order : Order) (old new : Holding) (IsTol
           h.bodies,
           retrieved crew order.plan order.names h names is read naming by,
           refl,
-          subst (λ (given : List (List ℕ)). IsTorn given h.bodies old new whole) (given order.names h names read naming) torn,
+          subst (λ (given : List (List ℕ)). IsHalfShelved crew.keeps.holds given h.bodies old new whole) (given crew.keeps.kind_of order.names h names read naming) torn,
         ),
         subst (λ (text : List ℕ). IsTold text 3) (append_assoc (trace_text (shown_of order.trace h.trace)) (report_text lines) (torn_line whole)) told,
       )
@@ -141,19 +143,19 @@ module _ {F : Type 0} (crew : Crew F) (order : Order) (old new : Holding) (IsTol
         h.bodies,
         whole,
         retrieved crew order.plan order.names h names is read naming by,
-        subst (λ (given : List (List ℕ)). IsTorn given h.bodies old new whole) (given order.names h names read naming) torn,
+        subst (λ (given : List (List ℕ)). IsHalfShelved crew.keeps.holds given h.bodies old new whole) (given crew.keeps.kind_of order.names h names read naming) torn,
       ),
     ),
     told,
   )
 
   -- a stop whose trace there was memory for
-  part_stopped : (cause : Cause) (h : Harvested BodyValue) → IsStopped (MaySay crew) (MaySayRules crew) order.plan (asks_of crew) cause h → (cause ≡ why.Full → HasTooMany (policy order.plan) (answers h.state))
+  part_stopped : (cause : Cause) (h : Harvested B) → IsStopped (MaySay crew) (MaySayRules crew) order.plan (asks_of crew) cause h → (cause ≡ why.Full → HasTooMany (policy order.plan) (answers h.state))
       → AreOfCrew crew h.trace → (shown_of order.trace h.trace ≡ []) ⊎ ((events : List Event) × IsStoppedLive crew order.plan cause events × (shown_of order.trace h.trace ≡ shown_of order.trace events))
   part_stopped cause h (inl part) many by = inr (h.trace, part_retrieved crew order.plan cause h part many by, refl)
   part_stopped cause h (inr empty) many by = inl (none_shown order.trace h.trace empty.trace)
 
-  stopped : (cause : Cause) (h : Harvested BodyValue) → (cause ≢ why.Mismatch → IsStopped (MaySay crew) (MaySayRules crew) order.plan (asks_of crew) cause h) → (cause ≡ why.Full → HasTooMany (policy order.plan) (answers h.state))
+  stopped : (cause : Cause) (h : Harvested B) → (cause ≢ why.Mismatch → IsStopped (MaySay crew) (MaySayRules crew) order.plan (asks_of crew) cause h) → (cause ≡ why.Full → HasTooMany (policy order.plan) (answers h.state))
       → (length crew.first ≡ 1 → cause ≢ why.Mismatch) → (cause ≢ why.Mismatch → AreOfCrew crew h.trace) → new ≡ old → IsHaltTold IsTold order.trace (record { cause = cause; harvest = h }) → EndsTold
   stopped why.Full h stop many one by same (inl told) =
       elim (stop (λ is. cc)) [
@@ -175,20 +177,20 @@ module _ {F : Type 0} (crew : Crew F) (order : Order) (old new : Holding) (IsTol
 
 -- ---- a crew
 
-module _ {F : Type 0} (crew : Crew F) where
+module _ {F B : Type 0} (crew : Crew F B) where
   -- what is put and told of what a crew retrieved is an end, by what is known of its fetchers
-  pub crew_ends : (order : Order) (r : Result (Harvested BodyValue) (Halt BodyValue)) (old new : Holding) (IsTold : List ℕ → ℕ → Type 0) → IfOk r (IsRetrieved (MaySay crew) (MaySayRules crew) order.plan (asks_of crew))
+  pub crew_ends : (order : Order) (r : Result (Harvested B) (Halt B)) (old new : Holding) (IsTold : List ℕ → ℕ → Type 0) → IfOk r (IsRetrieved (MaySay crew) (MaySayRules crew) order.plan (asks_of crew))
       → IfErr r (λ halt. halt.cause ≢ why.Mismatch → IsStopped (MaySay crew) (MaySayRules crew) order.plan (asks_of crew) halt.cause halt.harvest)
       → IfErr r (λ halt. halt.cause ≡ why.Full → HasTooMany (policy order.plan) (answers halt.harvest.state) × IsOverfull (policy order.plan) halt.harvest.state)
       → (length crew.first ≡ 1 → IfErr r (λ halt. halt.cause ≢ why.Mismatch))
       → IfOk r (λ h. AreOfCrew crew h.trace) × IfErr r (λ halt. halt.cause ≢ why.Mismatch → AreOfCrew crew halt.harvest.trace)
-      → IsPutOf IsTold order.names order.trace r old new → EndsTold crew order old new IsTold
+      → IsPutOf crew.keeps IsTold order.names order.trace r old new → EndsTold crew order old new IsTold
   crew_ends order (Ok h) old new IsTold is stop full one by put = ended crew order old new IsTold h is by.0 put
   crew_ends order (Err halt) old new IsTold is stop full one by put =
       stopped crew order old new IsTold halt.cause halt.harvest stop (λ why. (full why).0) one by.1 put.0 put.1
 
   -- what two clauses say of a crew's trace is what one says
-  pub of_crew : (r : Result (Harvested BodyValue) (Halt BodyValue)) (count : ℕ) → count ≡ length crew.first
+  pub of_crew : (r : Result (Harvested B) (Halt B)) (count : ℕ) → count ≡ length crew.first
       → IfOk r (λ h. AreByCrew count h.trace) × IfErr r (λ halt. halt.cause ≢ why.Mismatch → AreByCrew count halt.harvest.trace)
       → IfOk r (λ h. AreOwn crew.means 0 crew.first crew.left h.trace)
       × IfErr r (λ halt. halt.cause ≢ why.Mismatch → AreOwn crew.means 0 crew.first crew.left halt.harvest.trace)
@@ -197,9 +199,9 @@ module _ {F : Type 0} (crew : Crew F) where
   of_crew (Err halt) count long numbered own = (tt, λ other. (subst (λ (n : ℕ). AreByCrew n halt.harvest.trace) long (numbered.1 other), own.1 other))
 
 -- an end whose text is delivered is a live retrieval
-pub lives_from : {F E : Type 0} (m : Meaning F BodyValue) (order : Order) (olds news : List F) (before after : Outside) (told : Result ℕ E) (status : ℕ) → AreLater m olds news → status ≡ status_told told
-    → EndsTold (crew_of m olds news) order before.folder after.folder (IsToldAs before.written after.written told) → Lives m order olds before after status
-lives_from m order olds news before after told status later same (shown, ending, ends, written) = record {
+pub lives_from : {F B E : Type 0} (m : Meaning F B) (keeps : Keeping B) (order : Order) (olds news : List F) (before after : Outside) (told : Result ℕ E) (status : ℕ) → AreLater m olds news → status ≡ status_told told
+    → EndsTold (crew_of m keeps olds news) order before.folder after.folder (IsToldAs before.written after.written told) → Lives m keeps order olds before after status
+lives_from m keeps order olds news before after told status later same (shown, ending, ends, written) = record {
   left = news;
   later = later;
   shown = shown;
@@ -211,7 +213,7 @@ lives_from m order olds news before after told status later same (shown, ending,
 -- ---- what was found, apart from the events that led there
 
 -- what a live retrieval comes to is what it found
-found_end : {F : Type 0} (crew : Crew F) (order : Order) (old new : Holding) (shown : List Event) (ending : LiveEnd) → EndsLive crew order old new shown ending → EndsFound crew order old new ending
+found_end : {F B : Type 0} (crew : Crew F B) (order : Order) (old new : Holding) (shown : List Event) (ending : LiveEnd) → EndsLive crew order old new shown ending → EndsFound crew order old new ending
 found_end crew order old new shown (Finished (Retrieved lines)) (events, bodies, r, is, whole) = (answers r.state, bodies, r.found, whole)
 found_end crew order old new shown (Torn lines whole) (events, bodies, r, is, torn) = (answers r.state, bodies, r.found, torn)
 found_end crew order old new shown (Finished (Stopped why.Full)) (events, h, is, same) = (answers h.state, h.found, h.full refl, same)
@@ -224,7 +226,7 @@ found_end crew order old new shown (Finished (Stopped why.Mismatch)) (many, none
 unshown : (is_shown : Bool) (shown events : List Event) → shown ≡ shown_of is_shown events → is_shown ≡ false → trace_text shown ≡ []
 unshown is_shown shown events is off = ap trace_text (is ∙ ap (λ b. shown_of b events) off)
 
-untraced_end : {F : Type 0} (crew : Crew F) (order : Order) (old new : Holding) (shown : List Event) (ending : LiveEnd) → EndsLive crew order old new shown ending → order.trace ≡ false
+untraced_end : {F B : Type 0} (crew : Crew F B) (order : Order) (old new : Holding) (shown : List Event) (ending : LiveEnd) → EndsLive crew order old new shown ending → order.trace ≡ false
     → trace_text shown ≡ []
 untraced_end crew order old new shown (Finished (Retrieved lines)) (events, bodies, r, is, whole) off = unshown order.trace shown events is off
 untraced_end crew order old new shown (Torn lines whole) (events, bodies, r, is, torn) off = unshown order.trace shown events is off
@@ -234,10 +236,10 @@ untraced_end crew order old new shown (Finished (Stopped why.Memory)) (once, inr
 untraced_end crew order old new shown (Finished (Stopped why.Mismatch)) (many, none, same) off = ap trace_text none
 
 -- a live retrieval found what it comes to
-pub finds_of_lives : {F : Type 0} (m : Meaning F BodyValue) (order : Order) (fetchers : List F) (before after : Outside) (status : ℕ) → Lives m order fetchers before after status
-    → Finds m order fetchers before after status
-finds_of_lives m order fetchers before after status lives =
-    let crew = crew_of m fetchers lives.left in
+pub finds_of_lives : {F B : Type 0} (m : Meaning F B) (keeps : Keeping B) (order : Order) (fetchers : List F) (before after : Outside) (status : ℕ) → Lives m keeps order fetchers before after status
+    → Finds m keeps order fetchers before after status
+finds_of_lives m keeps order fetchers before after status lives =
+    let crew = crew_of m keeps fetchers lives.left in
     record {
       left = lives.left;
       later = lives.later;

@@ -9,11 +9,9 @@ use Rattle.site_records.specs.RecordSites.{RecordValue}
 use Rattle.site_records.specs.Records.{IsFault}
 use Rattle.site_records.specs.Resumption.{Resuming}
 use Rattle.streams.specs.declared.input.ReadFault.TheVariants as reading
-use Rattle.retriever.specs.Found.{outside}
-use Rattle.retriever.specs.Live.{Lives}
-use Rattle.retriever.specs.Saving.{resuming_means, resuming_of}
-use Rattle.retriever.specs.Systems.{Means, IsNotRead, IsNotResumed, IsRecordRead, IsResumed, LivesAgain, LivesBy, LivesPlainly, LivesSaving, LivesWith, held, settings_of}
-use Rattle.retriever.specs.inner.Systems.{AreResuming, LivesInto, is_plain}
+use Rattle.retriever.specs.Saving.{resuming_of}
+use Rattle.retriever.specs.Systems.{Means, IsNotRead, IsNotResumed, IsRecordRead, IsResumed, LivesAgain, LivesBy, LivesPlainly, LivesSaving, LivesWith, settings_of}
+use Rattle.retriever.specs.inner.Systems.{AreResuming, is_plain}
 use Rattle.retriever.specs.declared.resume_fault.ResumeFault.{ResumeFault}
 use Rattle.retriever.specs.declared.resume_fault.ResumeFault.TheVariants.{Read, Input, Refused}
 
@@ -23,7 +21,7 @@ fault_not_read holds robots bytes input.Memory held bad = tt
 fault_not_read holds robots bytes (input.Line n) held bad = (bytes, held, bad)
 fault_not_read holds robots bytes (input.Address n) held bad = (bytes, held, bad)
 
-module _ {S F D V : Type 0} (m : Means S F D V) (order : Order) where
+module _ {S B F K D V : Type 0} (m : Means S B F K D V) (order : Order) where
   -- what is read of the file that the order names is resumed
   pub read_resumed : (path given : List ℕ) (r : Result RecordValue ResumeFault) → order.resume ≡ Some path → given ≡ path
       → IfOk r (λ x. (bytes : List ℕ) × m.gives.holds m.system given bytes × IsRecordRead (is_some order.save) order.plan.robots bytes x) → IfOk r (λ x. IsResumed m order x)
@@ -45,34 +43,13 @@ module _ {S F D V : Type 0} (m : Means S F D V) (order : Order) where
       (path, is, (bytes, subst (λ (p : List ℕ). m.gives.holds m.system p bytes) same held, bad))
 
   -- fetchers of the system that are put behind a record
-  pub are_resuming : {T : Type 0} (r : Result T AllocError) (items : T → List (Resuming F)) (is_recording : Bool) (recorded : RecordValue) (fetchers : List F)
-      → All (m.gives.makes m.system (settings_of order is_recording)) fetchers → length fetchers ≡ order.workers
-      → IfOk r (λ all. items all ≡ map (resuming_of m.fetchers.log recorded) fetchers) → IfOk r (λ all. AreResuming m order is_recording recorded (items all))
+  pub are_resuming : {T : Type 0} (r : Result T AllocError) (items : T → List (Resuming K)) (is_recording : Bool) (recorded : RecordValue) (fetchers : List K)
+      → All (m.gives.makes_recorder m.system (settings_of order is_recording)) fetchers → length fetchers ≡ order.workers
+      → IfOk r (λ all. items all ≡ map (resuming_of m.recorders.log recorded) fetchers) → IfOk r (λ all. AreResuming m order is_recording recorded (items all))
   are_resuming (Ok all) items is_recording recorded fetchers made count are = record { fetchers = fetchers; made = made; count = count; are = are }
   are_resuming (Err wrong) items is_recording recorded fetchers made count are = are
 
   module _ (before after : Option (List ℕ)) where
-    -- a retrieval by fetchers of the system
-    pub plainly_into : (r : Result ℕ AllocError) (fetchers : List F) → All (m.gives.makes m.system (settings_of order false)) fetchers → length fetchers ≡ order.workers
-        → IfOk r (LivesInto m order m.fetchers fetchers before after) → IfOk r (LivesPlainly m order before after)
-    plainly_into (Ok status) fetchers made count into =
-        record { fetchers = fetchers; folder = into.folder; given = record { made = made; count = count; opened = into.opened }; left = into.left; lives = into.lives }
-    plainly_into (Err wrong) fetchers made count into = into
-
-    -- one by such fetchers behind the record
-    pub again_into : (r : Result ℕ AllocError) (recorded : RecordValue) (all : List (Resuming F)) → IsResumed m order recorded → AreResuming m order false recorded all
-        → IfOk r (LivesInto m order (resuming_means m.fetchers) all before after) → IfOk r (LivesAgain m order before after)
-    again_into (Ok status) recorded all resumed those into = record {
-      recorded = recorded;
-      resumed = resumed;
-      fetchers = those.fetchers;
-      folder = into.folder;
-      given = record { made = those.made; count = those.count; opened = into.opened };
-      left = into.left;
-      lives = subst (λ (fs : List (Resuming F)). Lives (resuming_means m.fetchers) order fs (outside (held m into.folder) before) (outside (held m into.left) after) status) those.are into.lives;
-    }
-    again_into (Err wrong) recorded all resumed those into = into
-
     -- a retrieval that is saved at the order's path
     pub saves : (path given : List ℕ) (r : Result ℕ AllocError) → order.save ≡ Some path → given ≡ path → IfOk r (LivesSaving m order given before after)
         → IfOk r (LivesWith m order.save order before after)

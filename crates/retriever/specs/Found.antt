@@ -3,7 +3,6 @@
 use Rattle.std.specs.Prelude.{◌≡◌, ◌≢◌, ◌⊎◌, ℕ, List, [], ◌++◌, length, codes, Option, Contains, false}
 use Rattle.std.specs.Fmt.{decimal}
 use Rattle.std.specs.List.{AllZip}
-use Rattle.kept_bodies.specs.Bodies.{BodyValue}
 use Rattle.follow_filters.specs.declared.plan.Plan.{Plan}
 use Rattle.options.specs.declared.naming.PageNames.{PageNames}
 use Rattle.options.specs.declared.order.Order.{Order}
@@ -21,36 +20,38 @@ use Rattle.workers.specs.Asks.{IsTold}
 use Rattle.workers.specs.Crews.{AreLater, all_gained, SomeSays, SomeRules}
 use Rattle.workers.specs.Found.{AreMadeOnce, AreAsked}
 use Rattle.local_tree.specs.Folders.{Holding}
-use Rattle.local_tree.specs.SiteFiles.{IsWhole, IsTorn}
+use Rattle.local_tree.specs.Shelves.{IsShelved, IsHalfShelved}
 use Rattle.report.specs.Named.{named_pages, names_in}
 use Rattle.report.specs.Report.{Line, report_text}
+use Rattle.retriever.specs.Keeping.{Keeping, kinds_of}
 use Rattle.retriever.specs.Parts.{IsDelivered}
 use Rattle.retriever.specs.Retrieved.{Finish, Retrieved, Stopped}
 use Rattle.retriever.specs.Run.{finish_text, finish_status}
-use Rattle.retriever.specs.Site.{AreLines, AreNamed, kinds_of}
+use Rattle.retriever.specs.Site.{AreLines, AreNamed}
 
 -- ---- a crew
 
--- what the fetchers of a retrieval mean, and what they are at its start and at its end, in their order
-pub record Crew (F : Type 0) : Type 1 where
-  pub means : Meaning F BodyValue
+-- what the fetchers of a retrieval mean, how their bodies are kept, and what they are at its start and at its end, in their order
+pub record Crew (F B : Type 0) : Type 1 where
+  pub means : Meaning F B
+  pub keeps : Keeping B
   pub first : List F
   pub left : List F
 
 -- the fetchers of this meaning that were those and are these
-abbrev pub crew_of : {F : Type 0} → Meaning F BodyValue → List F → List F → Crew F
-crew_of m first left = record { means = m; first = first; left = left }
+abbrev pub crew_of : {F B : Type 0} → Meaning F B → Keeping B → List F → List F → Crew F B
+crew_of m keeps first left = record { means = m; keeps = keeps; first = first; left = left }
 
 -- some fetcher that was asked for the address may say this of it
-abbrev pub MaySay : {F : Type 0} → Crew F → Text → Outcome → BodyValue → Type 0
+abbrev pub MaySay : {F B : Type 0} → Crew F B → Text → Outcome → B → Type 0
 MaySay crew = SomeSays crew.means crew.first crew.left
 
 -- some fetcher that was asked for the origin's rules may say that they are these
-abbrev pub MaySayRules : {F : Type 0} → Crew F → Text → RuleSetValue → Type 0
+abbrev pub MaySayRules : {F B : Type 0} → Crew F B → Text → RuleSetValue → Type 0
 MaySayRules crew = SomeRules crew.means crew.first crew.left
 
 -- what the fetchers were asked between, all together
-abbrev pub asks_of : {F : Type 0} → Crew F → List Ask
+abbrev pub asks_of : {F B : Type 0} → Crew F B → List Ask
 asks_of crew = all_gained crew.means crew.first crew.left
 
 -- ---- what was found
@@ -58,15 +59,15 @@ asks_of crew = all_gained crew.means crew.first crew.left
 -- Just this is recorded of what the fetchers were asked, each ask made once. The lines are those of the breadth-first retrieval of
 -- what is recorded, whose pages have their names by these rules and by the kinds of their bodies, and the bodies those of the pages with names, each one that the
 -- fetchers may have answered.
-pub record IsFound {F : Type 0} (crew : Crew F) (plan : Plan) (naming : PageNames) (recorded_as : Answers) (lines : List Line) (bodies : List BodyValue) : Type 0 where
+pub record IsFound {F B : Type 0} (crew : Crew F B) (plan : Plan) (naming : PageNames) (recorded_as : Answers) (lines : List Line) (bodies : List B) : Type 0 where
   pub asked : AreAsked (MaySay crew) (MaySayRules crew) plan (asks_of crew) recorded_as
   pub reported : AreLines (policy plan) recorded_as lines
-  pub named : AreNamed plan naming (kinds_of bodies) lines
+  pub named : AreNamed plan naming (kinds_of crew.keeps.kind_of bodies) lines
   pub kept : AllZip (IsBodyOf (MaySay crew) recorded_as) (named_pages lines) bodies
 
 -- This is recorded of what the fetchers were asked before the retrieval stopped: what was asked for, each once, is wanted by what
 -- is recorded. Each outcome and rule set is one that the fetchers may have answered.
-pub record IsPartFound {F : Type 0} (crew : Crew F) (plan : Plan) (recorded_as : Answers) : Type 0 where
+pub record IsPartFound {F B : Type 0} (crew : Crew F B) (plan : Plan) (recorded_as : Answers) : Type 0 where
   pub once : AreMadeOnce (asks_of crew)
   pub wanted : (u : Text) → Contains (asks_of crew) (ask.Page u) → IsWanted (policy plan) recorded_as u
   pub needed : (o : Text) → Contains (asks_of crew) (ask.Rules o) → IsNeeded (policy plan) recorded_as o
@@ -104,36 +105,36 @@ live_status (Finished finish) = finish_status finish
 live_status (Torn lines whole) = 3
 
 -- so many of the files of these lines are whole, the next may hold anything, and all else is as before
-abbrev pub IsTornAt : List Line → List BodyValue → Holding → Holding → ℕ → Type 0
-IsTornAt lines bodies old new whole = IsTorn (names_in lines) bodies old new whole
+abbrev pub IsTornAt : {B : Type 0} → Keeping B → List Line → List B → Holding → Holding → ℕ → Type 0
+IsTornAt keeps lines bodies old new whole = IsHalfShelved keeps.holds (names_in lines) bodies old new whole
 
 -- all files of these lines are whole, and all else is as before
-abbrev pub IsWholeAt : List Line → List BodyValue → Holding → Holding → Type 0
-IsWholeAt lines bodies old new = IsWhole (names_in lines) bodies old.files new.files × (new.failed ≡ old.failed)
+abbrev pub IsWholeAt : {B : Type 0} → Keeping B → List Line → List B → Holding → Holding → Type 0
+IsWholeAt keeps lines bodies old new = IsShelved keeps.holds (names_in lines) bodies old.files new.files × (new.failed ≡ old.failed)
 
 -- The retrieval that is ordered found what is to be found, and this came of it. Before its end nothing is put into the folder.
 -- The table is full only where what is recorded has more candidates than the plan lets be held. Memory may run out at any time,
 -- and may do so when a put has failed. A check of several workers may fail; then nothing more is said.
-abbrev pub EndsFound : {F : Type 0} → Crew F → Order → Holding → Holding → LiveEnd → Type 0
-EndsFound crew order old new (Finished (Retrieved lines)) =
-    (m : Answers) × (bodies : List BodyValue) × IsFound crew order.plan order.names m lines bodies × IsWholeAt lines bodies old new
-EndsFound crew order old new (Torn lines whole) =
-    (m : Answers) × (bodies : List BodyValue) × IsFound crew order.plan order.names m lines bodies × IsTornAt lines bodies old new whole
+abbrev pub EndsFound : {F B : Type 0} → Crew F B → Order → Holding → Holding → LiveEnd → Type 0
+EndsFound {B = B} crew order old new (Finished (Retrieved lines)) =
+    (m : Answers) × (bodies : List B) × IsFound crew order.plan order.names m lines bodies × IsWholeAt crew.keeps lines bodies old new
+EndsFound {B = B} crew order old new (Torn lines whole) =
+    (m : Answers) × (bodies : List B) × IsFound crew order.plan order.names m lines bodies × IsTornAt crew.keeps lines bodies old new whole
 EndsFound crew order old new (Finished (Stopped cause.Full)) = (m : Answers) × IsPartFound crew order.plan m × HasTooMany (policy order.plan) m × (new ≡ old)
-EndsFound crew order old new (Finished (Stopped cause.Memory)) =
+EndsFound {B = B} crew order old new (Finished (Stopped cause.Memory)) =
     AreMadeOnce (asks_of crew)
-    × ((new ≡ old) ⊎ ((m : Answers) × (lines : List Line) × (bodies : List BodyValue) × (whole : ℕ) × IsFound crew order.plan order.names m lines bodies
-    × IsTornAt lines bodies old new whole))
+    × ((new ≡ old) ⊎ ((m : Answers) × (lines : List Line) × (bodies : List B) × (whole : ℕ) × IsFound crew order.plan order.names m lines bodies
+    × IsTornAt crew.keeps lines bodies old new whole))
 EndsFound crew order old new (Finished (Stopped cause.Mismatch)) = (length crew.first ≢ 1) × (new ≡ old)
 
 -- A live retrieval with these fetchers, one for each worker: it found what is to be found, by what the fetchers were asked and
 -- may have answered until its end. Either the writer gained that end's text, behind a trace where one is ordered, and the
 -- status is the end's, or the writer failed behind a front of it, and the status is 1.
-pub record Finds {F : Type 0} (m : Meaning F BodyValue) (order : Order) (fetchers : List F) (before after : Outside) (status : ℕ) : Type 0 where
+pub record Finds {F B : Type 0} (m : Meaning F B) (keeps : Keeping B) (order : Order) (fetchers : List F) (before after : Outside) (status : ℕ) : Type 0 where
   pub left : List F
   pub later : AreLater m fetchers left
   pub ending : LiveEnd
-  pub ends : EndsFound (crew_of m fetchers left) order before.folder after.folder ending
+  pub ends : EndsFound (crew_of m keeps fetchers left) order before.folder after.folder ending
   pub trace : List ℕ
   pub untraced : order.trace ≡ false → trace ≡ []
   pub written : IsDelivered before.written after.written (trace ++ live_text ending) (live_status ending) status

@@ -1,4 +1,5 @@
 pub mod Order
+pub mod Keeping
 pub mod Site
 pub mod Retrieved
 pub mod Run

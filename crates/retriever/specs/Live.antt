@@ -1,6 +1,5 @@
 -- How a live retrieval came to what it found: the events that led there, and what is shown of them.
 use Rattle.std.specs.Prelude.{◌≡◌, ◌≢◌, ◌⊎◌, ℕ, List, [], ◌++◌, length, Some}
-use Rattle.kept_bodies.specs.Bodies.{BodyValue}
 use Rattle.follow_filters.specs.declared.plan.Plan.{Plan}
 use Rattle.options.specs.declared.naming.PageNames.{PageNames}
 use Rattle.options.specs.declared.order.Order.{Order}
@@ -20,6 +19,7 @@ use Rattle.workers.specs.Takers.{AreOwn}
 use Rattle.local_tree.specs.Folders.{Holding}
 use Rattle.report.specs.Report.{Line}
 use Rattle.retriever.specs.Found.{Crew, crew_of, asks_of, IsFound, IsPartFound, Outside, LiveEnd, Finished, Torn, IsTornAt, IsWholeAt, live_text, live_status}
+use Rattle.retriever.specs.Keeping.{Keeping}
 use Rattle.retriever.specs.Parts.{IsDelivered, shown_of}
 use Rattle.retriever.specs.Retrieved.{Retrieved, Stopped}
 use Rattle.report.specs.Trace.{trace_text}
@@ -28,11 +28,11 @@ use Rattle.report.specs.Trace.{trace_text}
 
 -- the lines name the fetchers' workers, which are counted from 0 in the fetchers' order, and by them each fetcher was asked for
 -- what its own worker took
-abbrev pub AreOfCrew : {F : Type 0} → Crew F → List Event → Type 0
+abbrev pub AreOfCrew : {F B : Type 0} → Crew F B → List Event → Type 0
 AreOfCrew crew events = AreByCrew (length crew.first) events × AreOwn crew.means 0 crew.first crew.left events
 
 -- The fetchers were asked, and these events of their workers happened, until nothing was left to do, and this was found.
-pub record IsRetrievedLive {F : Type 0} (crew : Crew F) (plan : Plan) (naming : PageNames) (events : List Event) (lines : List Line) (bodies : List BodyValue) : Type 0 where
+pub record IsRetrievedLive {F B : Type 0} (crew : Crew F B) (plan : Plan) (naming : PageNames) (events : List Event) (lines : List Line) (bodies : List B) : Type 0 where
   pub state : State
   pub replay : IsReplay (policy plan) events state
   pub by : AreOfCrew crew events
@@ -42,7 +42,7 @@ pub record IsRetrievedLive {F : Type 0} (crew : Crew F) (plan : Plan) (naming : 
 -- The fetchers were asked, and these events of their workers happened, until the retrieval stopped for the cause: what was
 -- asked for is recorded or was given up. The table is full only where what is recorded has more candidates than the plan lets be
 -- held.
-pub record IsStoppedLive {F : Type 0} (crew : Crew F) (plan : Plan) (why : Cause) (events : List Event) : Type 0 where
+pub record IsStoppedLive {F B : Type 0} (crew : Crew F B) (plan : Plan) (why : Cause) (events : List Event) : Type 0 where
   pub state : State
   pub replay : IsReplay (policy plan) events state
   pub by : AreOfCrew crew events
@@ -56,28 +56,28 @@ pub record IsStoppedLive {F : Type 0} (crew : Crew F) (plan : Plan) (why : Cause
 -- The retrieval that is ordered comes to this, with this shown of its trace. Before its end nothing is put into the
 -- folder. Memory may run out at any time, and may do so when a put has failed. A check of several workers may fail; then
 -- nothing more is said.
-abbrev pub EndsLive : {F : Type 0} → Crew F → Order → Holding → Holding → List Event → LiveEnd → Type 0
-EndsLive crew order old new shown (Finished (Retrieved lines)) =
-    (events : List Event) × (bodies : List BodyValue) × IsRetrievedLive crew order.plan order.names events lines bodies × (shown ≡ shown_of order.trace events)
-    × IsWholeAt lines bodies old new
-EndsLive crew order old new shown (Torn lines whole) =
-    (events : List Event) × (bodies : List BodyValue) × IsRetrievedLive crew order.plan order.names events lines bodies × (shown ≡ shown_of order.trace events)
-    × IsTornAt lines bodies old new whole
+abbrev pub EndsLive : {F B : Type 0} → Crew F B → Order → Holding → Holding → List Event → LiveEnd → Type 0
+EndsLive {B = B} crew order old new shown (Finished (Retrieved lines)) =
+    (events : List Event) × (bodies : List B) × IsRetrievedLive crew order.plan order.names events lines bodies × (shown ≡ shown_of order.trace events)
+    × IsWholeAt crew.keeps lines bodies old new
+EndsLive {B = B} crew order old new shown (Torn lines whole) =
+    (events : List Event) × (bodies : List B) × IsRetrievedLive crew order.plan order.names events lines bodies × (shown ≡ shown_of order.trace events)
+    × IsTornAt crew.keeps lines bodies old new whole
 EndsLive crew order old new shown (Finished (Stopped cause.Full)) =
     (events : List Event) × IsStoppedLive crew order.plan cause.Full events × (shown ≡ shown_of order.trace events) × (new ≡ old)
-EndsLive crew order old new shown (Finished (Stopped cause.Memory)) =
+EndsLive {B = B} crew order old new shown (Finished (Stopped cause.Memory)) =
     AreMadeOnce (asks_of crew) × ((shown ≡ []) ⊎ ((events : List Event) × IsStoppedLive crew order.plan cause.Memory events × (shown ≡ shown_of order.trace events)))
-    × ((new ≡ old) ⊎ ((events : List Event) × (lines : List Line) × (bodies : List BodyValue) × (whole : ℕ) × IsRetrievedLive crew order.plan order.names events lines bodies
-    × IsTornAt lines bodies old new whole))
+    × ((new ≡ old) ⊎ ((events : List Event) × (lines : List Line) × (bodies : List B) × (whole : ℕ) × IsRetrievedLive crew order.plan order.names events lines bodies
+    × IsTornAt crew.keeps lines bodies old new whole))
 EndsLive crew order old new shown (Finished (Stopped cause.Mismatch)) = (length crew.first ≢ 1) × (shown ≡ []) × (new ≡ old)
 
 -- A live retrieval with these fetchers, one for each worker: it comes to an end, by what the fetchers were asked and may
 -- have answered until then. Either the writer gained that end's text, behind what is shown of the trace, and the status is
 -- the end's, or the writer failed behind a front of it, and the status is 1.
-pub record Lives {F : Type 0} (m : Meaning F BodyValue) (order : Order) (fetchers : List F) (before after : Outside) (status : ℕ) : Type 0 where
+pub record Lives {F B : Type 0} (m : Meaning F B) (keeps : Keeping B) (order : Order) (fetchers : List F) (before after : Outside) (status : ℕ) : Type 0 where
   pub left : List F
   pub later : AreLater m fetchers left
   pub shown : List Event
   pub ending : LiveEnd
-  pub ends : EndsLive (crew_of m fetchers left) order before.folder after.folder shown ending
+  pub ends : EndsLive (crew_of m keeps fetchers left) order before.folder after.folder shown ending
   pub written : IsDelivered before.written after.written (trace_text shown ++ live_text ending) (live_status ending) status

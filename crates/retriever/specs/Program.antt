@@ -45,6 +45,6 @@ IsFaultTold words before after status = (wrong : Fault) × IsRefused words wrong
 -- ---- a site on the network
 
 -- the live retrieval that the words order, or the line of want of memory before it
-abbrev pub LivesFor : {S F D V : Type 0} → Means S F D V → Option (List ℕ) → Option (List ℕ) → ℕ → List (List ℕ) → Type 0
+abbrev pub LivesFor : {S B F K D V : Type 0} → Means S B F K D V → Option (List ℕ) → Option (List ℕ) → ℕ → List (List ℕ) → Type 0
 LivesFor m before after status words =
     ((order : Order) × IsLiveOrder words order × LivesIn m order before after status) ⊎ IsFaultDelivered before after fault.Memory status

@@ -16,6 +16,7 @@ use Rattle.streams.specs.Streams.{AppendsFront}
 use Rattle.workers.specs.Crews.{AreLater}
 use Rattle.local_tree.specs.Folders.{Holding}
 use Rattle.retriever.specs.Found.{crew_of, LiveEnd, live_text, live_status}
+use Rattle.retriever.specs.Keeping.{in_memory}
 use Rattle.retriever.specs.Live.{EndsLive}
 use Rattle.retriever.specs.Parts.{IsDelivered}
 use Rattle.report.specs.Trace.{trace_text}
@@ -69,7 +70,7 @@ pub record LivesSaved {F : Type 0} (notes : Notes F) (order : Order) (fetchers :
   pub later : AreLater notes.means fetchers left
   pub shown : List Event
   pub ending : LiveEnd
-  pub ends : EndsLive (crew_of notes.means fetchers left) order before.folder after.folder shown ending
+  pub ends : EndsLive (crew_of notes.means in_memory fetchers left) order before.folder after.folder shown ending
   pub saving : Result (Unit {0}) RecordFault
   pub saved : IsSaved saving before.saved after.saved (record_text (notes.given ++ flat_map notes.noted left))
   pub written : IsDelivered before.written after.written ((trace_text shown ++ live_text ending) ++ save_text saving) (save_status saving (live_status ending)) status

@@ -15,6 +15,7 @@ use Rattle.site_records.specs.RecordNotes.{HasNotes}
 use Rattle.site_records.specs.RecordSites.{RecordValue}
 use Rattle.site_records.specs.Records.{IsRecord, IsFault, answers_of, rules_of}
 use Rattle.retriever.specs.Found.{outside}
+use Rattle.retriever.specs.Keeping.{Keeping, in_memory}
 use Rattle.retriever.specs.Live.{Lives}
 use Rattle.retriever.specs.Resuming.{IsUnresumed}
 use Rattle.retriever.specs.Saving.{LivesResumed, outside_saved, resumes, resuming_means, resuming_of}
@@ -24,19 +25,21 @@ use Rattle.live_system.specs.Settings.{Settings}
 use Rattle.pacing.specs.Retries.{retries_by}
 use Rattle.live_system.specs.declared.system.System.{Ghosts as Systems}
 
--- a system, and what its fetchers, its folders and the writers of its records mean
-pub record Means (S F D V : Type 0) : Type 1 where
-  pub gives : Systems S F D V
+-- a system, and what its fetchers, those that note, its folders and the writers of its records mean, and how bodies are kept
+pub record Means (S B F K D V : Type 0) : Type 1 where
+  pub gives : Systems S B F K D V
   pub system : S
-  pub fetchers : Fetchers F BodyValue
-  pub noted : F → List Noted
+  pub fetchers : Fetchers F B
+  pub recorders : Fetchers K BodyValue
+  pub noted : K → List Noted
+  pub keeps : Keeping B
   pub folders : Folders D
   pub records : Writers V
 
 -- what belongs to a system
-abbrev pub means : {S F D V : Type 0} → Systems S F D V → S → Fetchers F BodyValue → (F → List Noted) → Folders D → Writers V → Means S F D V
-means gives system fetchers noted folders records =
-    record { gives = gives; system = system; fetchers = fetchers; noted = noted; folders = folders; records = records }
+abbrev pub means : {S B F K D V : Type 0} → Systems S B F K D V → S → Fetchers F B → Fetchers K BodyValue → (K → List Noted) → Keeping B → Folders D → Writers V → Means S B F K D V
+means gives system fetchers recorders noted keeps folders records =
+    record { gives = gives; system = system; fetchers = fetchers; recorders = recorders; noted = noted; keeps = keeps; folders = folders; records = records }
 
 -- how the fetchers of an order make their requests, with notes or without
 abbrev pub settings_of : Order → Bool → Settings
@@ -55,15 +58,15 @@ IsNotRead holds robots (Input input.Memory) = Unit {0}
 IsNotRead holds robots Refused = ⊥
 IsNotRead holds robots (Input wrong) = (bytes : List ℕ) × holds bytes × IsFault robots bytes wrong
 
-module _ {S F D V : Type 0} (m : Means S F D V) where
+module _ {S B F K D V : Type 0} (m : Means S B F K D V) where
   -- what a folder of the system tells
   abbrev pub held : D → Holding
   held folder = holding m.folders.files m.folders.failed folder
 
-  -- fetchers that the system makes for the order, with notes or without, as many as there are to be workers, and a folder that it opens at the
+  -- fetchers that are made for the order, with notes or without, as many as there are to be workers, and a folder that the system opens at the
   -- order's prefix
-  pub record AreGiven (order : Order) (is_recording : Bool) (fetchers : List F) (folder : D) : Type 0 where
-    pub made : All (m.gives.makes m.system (settings_of order is_recording)) fetchers
+  pub record AreGiven {X : Type 0} (makes : Settings → X → Type 0) (order : Order) (is_recording : Bool) (fetchers : List X) (folder : D) : Type 0 where
+    pub made : All (makes (settings_of order is_recording)) fetchers
     pub count : length fetchers ≡ order.workers
     pub opened : m.gives.opens m.system order.prefix folder
 
@@ -71,9 +74,9 @@ module _ {S F D V : Type 0} (m : Means S F D V) where
   pub record LivesPlainly (order : Order) (before after : Option (List ℕ)) (status : ℕ) : Type 0 where
     pub fetchers : List F
     pub folder : D
-    pub given : AreGiven order false fetchers folder
+    pub given : AreGiven (m.gives.makes m.system) order false fetchers folder
     pub left : D
-    pub lives : Lives m.fetchers order fetchers (outside (held folder) before) (outside (held left) after) status
+    pub lives : Lives m.fetchers m.keeps order fetchers (outside (held folder) before) (outside (held left) after) status
 
   -- this is recorded in the file that the order resumes, or in a record without entries where it resumes none
   abbrev pub IsResumed : Order → RecordValue → Type 0
@@ -81,28 +84,28 @@ module _ {S F D V : Type 0} (m : Means S F D V) where
       MatchOption order.resume (IsRecordRead (is_some order.save) order.plan.robots (codes "wgetr-record 2\n") recorded)
       (λ path. (bytes : List ℕ) × m.gives.holds m.system path bytes × IsRecordRead (is_some order.save) order.plan.robots bytes recorded)
 
-  -- the same by fetchers that ask such ones for what is recorded in the file that the order resumes
+  -- the same by fetchers that ask such as note for what is recorded in the file that the order resumes
   pub record LivesAgain (order : Order) (before after : Option (List ℕ)) (status : ℕ) : Type 0 where
     pub recorded : RecordValue
     pub resumed : IsResumed order recorded
-    pub fetchers : List F
+    pub fetchers : List K
     pub folder : D
-    pub given : AreGiven order false fetchers folder
+    pub given : AreGiven (m.gives.makes_recorder m.system) order false fetchers folder
     pub left : D
-    pub lives : Lives (resuming_means m.fetchers) order (map (resuming_of m.fetchers.log recorded) fetchers) (outside (held folder) before) (outside (held left) after) status
+    pub lives : Lives (resuming_means m.recorders) in_memory order (map (resuming_of m.recorders.log recorded) fetchers) (outside (held folder) before) (outside (held left) after) status
 
   -- the same, where the notes of what is recorded, and what such fetchers note, are saved at this path
   pub record LivesSaving (order : Order) (path : List ℕ) (before after : Option (List ℕ)) (status : ℕ) : Type 0 where
     pub recorded : RecordValue
     pub resumed : IsResumed order recorded
-    pub fetchers : List F
+    pub fetchers : List K
     pub folder : D
-    pub given : AreGiven order true fetchers folder
+    pub given : AreGiven (m.gives.makes_recorder m.system) order true fetchers folder
     pub left : D
     pub record_begun : V
     pub named : m.gives.names m.system path record_begun
     pub record_left : V
-    pub lives : LivesResumed (resumes m.fetchers m.noted recorded) order fetchers (outside_saved (held folder) before (m.records.contents record_begun))
+    pub lives : LivesResumed (resumes m.recorders m.noted recorded) order fetchers (outside_saved (held folder) before (m.records.contents record_begun))
         (outside_saved (held left) after (m.records.contents record_left)) status
 
   -- one of the last two, by where the order saves

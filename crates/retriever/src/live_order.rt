@@ -1,9 +1,13 @@
 //! A live order: what it names is taken from the system, a record is read and written where it says so, and its site is retrieved.
-ghost use Rattle.std.specs.Prelude.{◌≡◌, ◌≢◌, ◌<◌, ◌≤◌, ◌⊎◌, ℕ, List, All, IfOk, IfErr, OnErr, codes, is_some, vec_len};
+ghost use Rattle.std.specs.Prelude.{◌≡◌, ◌≢◌, ◌<◌, ◌≤◌, ◌⊎◌, ℕ, List, All, false, IfOk, IfErr, OnErr, codes, is_some, vec_len};
 ghost use Rattle.site_records.specs.Records.{IsFault};
+ghost use Rattle.local_tree.specs.Folders.{holding};
+ghost use Rattle.retriever.specs.Found.{outside};
+ghost use Rattle.retriever.specs.Keeping.{kept_as};
+ghost use Rattle.retriever.specs.Live.{Lives};
 ghost use Rattle.retriever.specs.Resuming.{IsUnresumed};
 ghost use Rattle.retriever.specs.Systems.{IsNotRead, IsNotResumed, IsRecordRead, IsResumed, LivesAgain, LivesBy, LivesIn, LivesPlainly, LivesSaving, LivesWith, means, settings_of};
-ghost use Rattle.retriever.specs.inner.Systems.{AreResuming, LivesInto, goes_on_from, is_plain};
+ghost use Rattle.retriever.specs.inner.Systems.{AreResuming, goes_on_from, is_plain};
 
 use crate::input_run::{MAX_INPUT, deliver};
 use crate::live_run::live_shown;
@@ -11,8 +15,8 @@ use crate::moves::tell_moves;
 use crate::resume_fault::{ResumeFault, resume_status, resume_text};
 use crate::saved_run::{live_saved, resuming};
 use fetcher::Fetcher;
-use kept_bodies::Body;
 use live_system::{FetcherSettings, HoldFault, System};
+use local_tree::{HasKind, Shelf};
 use options::Order;
 use site_inputs::InputFault;
 use site_records::{RecordedSite, Resumed};
@@ -51,46 +55,66 @@ fn fetchers_of<S: System>(
     alloc: Global,
     system: &S,
     order: &Order,
-    is_recording: bool,
 ) -> Result<Vec<S::Fetcher>, AllocError>
     ensures count { IfOk result (λ fetchers. vec_len fetchers ≡ order.now.workers) }
-    ensures made { IfOk result (λ fetchers. All (S.makes system.now (settings_of order.now is_recording)) fetchers.items) }
+    ensures made { IfOk result (λ fetchers. All (S.makes system.now (settings_of order.now false)) fetchers.items) }
 {
     let mut fetchers = Vec::new(alloc);
     for _ in 0..order.workers {
-        let settings = settings_of(alloc, order, is_recording)?;
+        let settings = settings_of(alloc, order, false)?;
         let fetcher = system.fetcher(settings)?;
         fetchers.push(fetcher)?;
     }
     Ok(fetchers)
 }
 
+// The same, of such as may note what they are told.
+fn recorders_of<S: System>(
+    alloc: Global,
+    system: &S,
+    order: &Order,
+    is_recording: bool,
+) -> Result<Vec<S::Recorder>, AllocError>
+    ensures count { IfOk result (λ fetchers. vec_len fetchers ≡ order.now.workers) }
+    ensures made { IfOk result (λ fetchers. All (S.makes_recorder system.now (settings_of order.now is_recording)) fetchers.items) }
+{
+    let mut fetchers = Vec::new(alloc);
+    for _ in 0..order.workers {
+        let settings = settings_of(alloc, order, is_recording)?;
+        let recorder = system.recorder(settings)?;
+        fetchers.push(recorder)?;
+    }
+    Ok(fetchers)
+}
+
 // Lets what was retrieved stand to the end. To give its memory back to the system, page by page, would take a tenth of a large
 // run, and the process ends behind it.
-fn keep_to_the_end(retrieved: Result<Harvest<Body>, Halt<Body>>) {
+fn keep_to_the_end<B: Drop>(retrieved: Result<Harvest<B>, Halt<B>>) {
     mem::forget(retrieved);
 }
 
-// Retrieves the live site that the order says, by these fetchers, into a folder of the system.
-fn live_into<H: Threads + Wait + Sync, S: System, F: Fetcher<Body = Body> + Send, W: Write>(
+// Retrieves the live site that the order says, by these fetchers, into a folder.
+fn live_into<H: Threads + Wait + Sync, S: System, F: Fetcher + Send, D: Shelf<F::Body>, W: Write>(
     rt: &H,
     alloc: Global,
     system: &S,
     order: &Order,
     fetchers: Vec<F>,
+    folder: &mut D,
     writer: &mut W,
-) -> Result<u8, AllocError>
+) -> u8
+where
+    F::Body: HasKind + Send,
     requires some { 0 < vec_len fetchers }
     requires most { vec_len fetchers ≤ 64 }
-    ensures lives { IfOk result (LivesInto (means S.System system.now S.Fetcher.Fetcher S.Fetcher.noted S.Folder.Folder S.Record.Write) order.now F.Fetcher fetchers.items (W.contents writer.old) (W.contents writer.new)) }
-    ensures unwritten { OnErr result (writer.new ≡ writer.old) }
+    ensures { Lives F.Fetcher (kept_as F.Body.kind_of D.holds) order.now fetchers.items (outside (holding D.files D.failed folder.old) (W.contents writer.old))
+        (outside (holding D.files D.failed folder.new) (W.contents writer.new)) result }
 {
-    let mut folder = system.folder(order.prefix.as_str())?;
     let waiting = system.waiting();
-    let (status, retrieved) = live_shown(rt, alloc, order, fetchers, &mut folder, writer, waiting);
+    let (status, retrieved) = live_shown(rt, alloc, order, fetchers, folder, writer, waiting);
     tell_moves(alloc, system, &retrieved);
     keep_to_the_end(retrieved);
-    Ok(status)
+    status
 }
 
 // Retrieves the live site that the order says, by fetchers of the system, into its folder.
@@ -101,11 +125,12 @@ fn live_plainly<H: Threads + Wait + Sync, S: System, W: Write>(
     order: &Order,
     writer: &mut W,
 ) -> Result<u8, AllocError>
-    ensures lives { IfOk result (LivesPlainly (means S.System system.now S.Fetcher.Fetcher S.Fetcher.noted S.Folder.Folder S.Record.Write) order.now (W.contents writer.old) (W.contents writer.new)) }
+    ensures lives { IfOk result (LivesPlainly (means S.System system.now S.Fetcher.Fetcher S.Recorder.Fetcher S.Recorder.noted (kept_as S.Body.kind_of S.Folder.holds) S.Folder.Folder S.Record.Write) order.now (W.contents writer.old) (W.contents writer.new)) }
     ensures unwritten { OnErr result (writer.new ≡ writer.old) }
 {
-    let fetchers = fetchers_of(alloc, system, order, false)?;
-    live_into(rt, alloc, system, order, fetchers, writer)
+    let fetchers = fetchers_of(alloc, system, order)?;
+    let mut folder = system.folder(order.prefix.as_str())?;
+    Ok(live_into(rt, alloc, system, order, fetchers, &mut folder, writer))
 }
 
 // Fetchers for the order's workers that ask those of the system for what the record doesn't state.
@@ -115,11 +140,11 @@ fn resumed_of<S: System>(
     order: &Order,
     recorded: &RecordedSite,
     is_recording: bool,
-) -> Result<Vec<Resumed<S::Fetcher>>, AllocError>
+) -> Result<Vec<Resumed<S::Recorder>>, AllocError>
     ensures count { IfOk result (λ all. vec_len all ≡ order.now.workers) }
-    ensures resumed { IfOk result (λ all. AreResuming (means S.System system.now S.Fetcher.Fetcher S.Fetcher.noted S.Folder.Folder S.Record.Write) order.now is_recording recorded.now all.items) }
+    ensures resumed { IfOk result (λ all. AreResuming (means S.System system.now S.Fetcher.Fetcher S.Recorder.Fetcher S.Recorder.noted (kept_as S.Body.kind_of S.Folder.holds) S.Folder.Folder S.Record.Write) order.now is_recording recorded.now all.items) }
 {
-    let fetchers = fetchers_of(alloc, system, order, is_recording)?;
+    let fetchers = recorders_of(alloc, system, order, is_recording)?;
     resuming(alloc, recorded, fetchers)
 }
 
@@ -132,12 +157,13 @@ fn live_again<H: Threads + Wait + Sync, S: System, W: Write>(
     recorded: &RecordedSite,
     writer: &mut W,
 ) -> Result<u8, AllocError>
-    requires resumed { IsResumed (means S.System system.now S.Fetcher.Fetcher S.Fetcher.noted S.Folder.Folder S.Record.Write) order.now recorded.now }
-    ensures lives { IfOk result (LivesAgain (means S.System system.now S.Fetcher.Fetcher S.Fetcher.noted S.Folder.Folder S.Record.Write) order.now (W.contents writer.old) (W.contents writer.new)) }
+    requires resumed { IsResumed (means S.System system.now S.Fetcher.Fetcher S.Recorder.Fetcher S.Recorder.noted (kept_as S.Body.kind_of S.Folder.holds) S.Folder.Folder S.Record.Write) order.now recorded.now }
+    ensures lives { IfOk result (LivesAgain (means S.System system.now S.Fetcher.Fetcher S.Recorder.Fetcher S.Recorder.noted (kept_as S.Body.kind_of S.Folder.holds) S.Folder.Folder S.Record.Write) order.now (W.contents writer.old) (W.contents writer.new)) }
     ensures unwritten { OnErr result (writer.new ≡ writer.old) }
 {
     let resumed = resumed_of(alloc, system, order, recorded, false)?;
-    live_into(rt, alloc, system, order, resumed, writer)
+    let mut folder = system.folder(order.prefix.as_str())?;
+    Ok(live_into(rt, alloc, system, order, resumed, &mut folder, writer))
 }
 
 // The same, and what the record says and these fetchers note is saved at the path.
@@ -150,8 +176,8 @@ fn live_saving<H: Threads + Wait + Sync, S: System, W: Write>(
     path: &str,
     writer: &mut W,
 ) -> Result<u8, AllocError>
-    requires resumed { IsResumed (means S.System system.now S.Fetcher.Fetcher S.Fetcher.noted S.Folder.Folder S.Record.Write) order.now recorded.now }
-    ensures lives { IfOk result (LivesSaving (means S.System system.now S.Fetcher.Fetcher S.Fetcher.noted S.Folder.Folder S.Record.Write) order.now path.now (W.contents writer.old) (W.contents writer.new)) }
+    requires resumed { IsResumed (means S.System system.now S.Fetcher.Fetcher S.Recorder.Fetcher S.Recorder.noted (kept_as S.Body.kind_of S.Folder.holds) S.Folder.Folder S.Record.Write) order.now recorded.now }
+    ensures lives { IfOk result (LivesSaving (means S.System system.now S.Fetcher.Fetcher S.Recorder.Fetcher S.Recorder.noted (kept_as S.Body.kind_of S.Folder.holds) S.Folder.Folder S.Record.Write) order.now path.now (W.contents writer.old) (W.contents writer.new)) }
     ensures unwritten { OnErr result (writer.new ≡ writer.old) }
 {
     let resumed = resumed_of(alloc, system, order, recorded, true)?;
@@ -214,8 +240,8 @@ fn resumption_of<S: System>(
     system: &S,
     order: &Order,
 ) -> Result<RecordedSite, ResumeFault>
-    ensures ok { IfOk result (λ r. IsResumed (means S.System system.now S.Fetcher.Fetcher S.Fetcher.noted S.Folder.Folder S.Record.Write) order.now r) }
-    ensures err { IfErr result (IsNotResumed (means S.System system.now S.Fetcher.Fetcher S.Fetcher.noted S.Folder.Folder S.Record.Write) order.now) }
+    ensures ok { IfOk result (λ r. IsResumed (means S.System system.now S.Fetcher.Fetcher S.Recorder.Fetcher S.Recorder.noted (kept_as S.Body.kind_of S.Folder.holds) S.Folder.Folder S.Record.Write) order.now r) }
+    ensures err { IfErr result (IsNotResumed (means S.System system.now S.Fetcher.Fetcher S.Recorder.Fetcher S.Recorder.noted (kept_as S.Body.kind_of S.Folder.holds) S.Folder.Folder S.Record.Write) order.now) }
 {
     match &order.resume {
         Some(path) => read_record(alloc, system, path.as_str(), order),
@@ -232,8 +258,8 @@ fn live_with<H: Threads + Wait + Sync, S: System, W: Write>(
     recorded: &RecordedSite,
     writer: &mut W,
 ) -> Result<u8, AllocError>
-    requires resumed { IsResumed (means S.System system.now S.Fetcher.Fetcher S.Fetcher.noted S.Folder.Folder S.Record.Write) order.now recorded.now }
-    ensures lives { IfOk result (LivesWith (means S.System system.now S.Fetcher.Fetcher S.Fetcher.noted S.Folder.Folder S.Record.Write) order.now.save order.now (W.contents writer.old) (W.contents writer.new)) }
+    requires resumed { IsResumed (means S.System system.now S.Fetcher.Fetcher S.Recorder.Fetcher S.Recorder.noted (kept_as S.Body.kind_of S.Folder.holds) S.Folder.Folder S.Record.Write) order.now recorded.now }
+    ensures lives { IfOk result (LivesWith (means S.System system.now S.Fetcher.Fetcher S.Recorder.Fetcher S.Recorder.noted (kept_as S.Body.kind_of S.Folder.holds) S.Folder.Folder S.Record.Write) order.now.save order.now (W.contents writer.old) (W.contents writer.new)) }
     ensures unwritten { OnErr result (writer.new ≡ writer.old) }
 {
     match &order.save {
@@ -254,7 +280,7 @@ fn goes_on_from(order: &Order, path: &str) -> bool
 
 // Holds the place where the order saves, where it does.
 fn hold<S: System>(system: &S, order: &Order) -> Result<(), ResumeFault>
-    ensures { IfErr result (IsNotResumed (means S.System system.now S.Fetcher.Fetcher S.Fetcher.noted S.Folder.Folder S.Record.Write) order.now) }
+    ensures { IfErr result (IsNotResumed (means S.System system.now S.Fetcher.Fetcher S.Recorder.Fetcher S.Recorder.noted (kept_as S.Body.kind_of S.Folder.holds) S.Folder.Folder S.Record.Write) order.now) }
 {
     let Some(path) = &order.save else {
         return Ok(());
@@ -282,8 +308,8 @@ fn live_in<H: Threads + Wait + Sync, S: System, W: Write>(
     order: &Order,
     writer: &mut W,
 ) -> Result<u8, ResumeFault>
-    ensures lives { IfOk result (LivesBy (means S.System system.now S.Fetcher.Fetcher S.Fetcher.noted S.Folder.Folder S.Record.Write) (order.now.resume, order.now.save) order.now (W.contents writer.old) (W.contents writer.new)) }
-    ensures unresumed { IfErr result (IsNotResumed (means S.System system.now S.Fetcher.Fetcher S.Fetcher.noted S.Folder.Folder S.Record.Write) order.now) }
+    ensures lives { IfOk result (LivesBy (means S.System system.now S.Fetcher.Fetcher S.Recorder.Fetcher S.Recorder.noted (kept_as S.Body.kind_of S.Folder.holds) S.Folder.Folder S.Record.Write) (order.now.resume, order.now.save) order.now (W.contents writer.old) (W.contents writer.new)) }
+    ensures unresumed { IfErr result (IsNotResumed (means S.System system.now S.Fetcher.Fetcher S.Recorder.Fetcher S.Recorder.noted (kept_as S.Body.kind_of S.Folder.holds) S.Folder.Folder S.Record.Write) order.now) }
     ensures unwritten { OnErr result (writer.new ≡ writer.old) }
 {
     if is_plain(order) {
@@ -316,7 +342,7 @@ pub(crate) fn live_order<H: Threads + Wait + Sync, S: System, W: Write>(
     order: &Order,
     writer: &mut W,
 ) -> u8
-    ensures { LivesIn (means S.System system.now S.Fetcher.Fetcher S.Fetcher.noted S.Folder.Folder S.Record.Write) order.now (W.contents writer.old) (W.contents writer.new) result }
+    ensures { LivesIn (means S.System system.now S.Fetcher.Fetcher S.Recorder.Fetcher S.Recorder.noted (kept_as S.Body.kind_of S.Folder.holds) S.Folder.Folder S.Record.Write) order.now (W.contents writer.old) (W.contents writer.new) result }
 {
     match live_in(rt, alloc, system, order, writer) {
         Ok(status) => status,

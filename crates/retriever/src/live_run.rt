@@ -4,6 +4,7 @@ ghost use Rattle.report.specs.ExitStatus.{exit_status};
 ghost use Rattle.local_tree.specs.Folders.{holding};
 ghost use Rattle.local_names.specs.Names.{AreDistinct};
 ghost use Rattle.retriever.specs.Found.{Finds, outside, torn_line};
+ghost use Rattle.retriever.specs.Keeping.{kept_as};
 ghost use Rattle.retriever.specs.Live.{Lives};
 ghost use Rattle.retriever.specs.inner.Live.{IsTornTold};
 ghost use Rattle.retriever.specs.inner.Parts.{IsToldAs, status_told};
@@ -14,8 +15,7 @@ ghost use Rattle.retriever.specs.Run.{finish_text};
 use crate::told::{halt_text, telling_of};
 use fetcher::Fetcher;
 use frontier_core::Cause;
-use kept_bodies::Body;
-use local_tree::{Folder, WriteFault, write_site};
+use local_tree::{HasKind, Shelf, WriteFault, write_site};
 use options::{Order, PageNames};
 use report::exit_status;
 use std::alloc::{AllocError, Global};
@@ -46,10 +46,10 @@ fn tell<W: Write>(writer: &mut W, text: &[u8], status: u8) -> Result<u8, WriteFa
 }
 
 // Tells of a retrieval that stopped.
-fn tell_halt<W: Write>(
+fn tell_halt<B: Drop, W: Write>(
     alloc: Global,
     is_shown: bool,
-    halt: &Halt<Body>,
+    halt: &Halt<B>,
     writer: &mut W,
 ) -> Result<u8, WriteFailed>
     ensures { IsHaltTold (IsToldAs (W.contents writer.old) (W.contents writer.new) result) is_shown halt.now }
@@ -61,8 +61,8 @@ fn tell_halt<W: Write>(
 }
 
 // Tells a harvest's text, with the status of its report.
-fn tell_report<W: Write>(
-    harvest: &Harvest<Body>,
+fn tell_report<B: Drop, W: Write>(
+    harvest: &Harvest<B>,
     text: &str,
     writer: &mut W,
 ) -> Result<u8, WriteFailed>
@@ -119,17 +119,17 @@ fn files_whole(fault: WriteFault) -> usize
 }
 
 // Puts the kept pages of a harvest into the folder under these names, and then tells its text.
-fn put_and_tell<D: Folder, W: Write>(
+fn put_and_tell<B: HasKind + Drop, D: Shelf<B>, W: Write>(
     alloc: Global,
     names: &[String],
     text: &str,
-    harvest: &Harvest<Body>,
+    harvest: &Harvest<B>,
     folder: &mut D,
     writer: &mut W,
 ) -> Result<u8, WriteFailed>
     requires count { length names.now ≡ length harvest.now.kept }
     requires distinct { AreDistinct (map string_bytes names.now) }
-    ensures { IsPutAndTold (IsToldAs (W.contents writer.old) (W.contents writer.new) result) (map string_bytes names.now) harvest.now.bodies
+    ensures { IsPutAndTold (kept_as B.kind_of D.holds) (IsToldAs (W.contents writer.old) (W.contents writer.new) result) (map string_bytes names.now) harvest.now.bodies
         (text.now, exit_status (map (λ recorded. recorded.1) harvest.now.records)) (holding D.files D.failed folder.old) (holding D.files D.failed folder.new) }
 {
     match write_site(folder, names, harvest) {
@@ -139,15 +139,15 @@ fn put_and_tell<D: Folder, W: Write>(
 }
 
 // Puts and tells a harvest, whose kept pages have their names by these rules; where there is no memory for its names and its text nothing is put.
-fn finish_harvest<D: Folder, W: Write>(
+fn finish_harvest<B: HasKind + Drop, D: Shelf<B>, W: Write>(
     alloc: Global,
     naming: &PageNames,
     is_shown: bool,
-    harvest: &Harvest<Body>,
+    harvest: &Harvest<B>,
     folder: &mut D,
     writer: &mut W,
 ) -> Result<u8, WriteFailed>
-    ensures { IsPutOf (IsToldAs (W.contents writer.old) (W.contents writer.new) result) naming.now is_shown (Ok harvest.now)
+    ensures { IsPutOf (kept_as B.kind_of D.holds) (IsToldAs (W.contents writer.old) (W.contents writer.new) result) naming.now is_shown (Ok harvest.now)
         (holding D.files D.failed folder.old) (holding D.files D.failed folder.new) }
 {
     match telling_of(alloc, naming, is_shown, harvest) {
@@ -164,15 +164,15 @@ fn finish_harvest<D: Folder, W: Write>(
 }
 
 /// Puts and tells what was retrieved, whose kept pages have their names by these rules. The error is that the writer failed.
-pub(crate) fn finish<D: Folder, W: Write>(
+pub(crate) fn finish<B: HasKind + Drop, D: Shelf<B>, W: Write>(
     alloc: Global,
     naming: &PageNames,
     is_shown: bool,
-    retrieved: &Result<Harvest<Body>, Halt<Body>>,
+    retrieved: &Result<Harvest<B>, Halt<B>>,
     folder: &mut D,
     writer: &mut W,
 ) -> Result<u8, WriteFailed>
-    ensures { IsPutOf (IsToldAs (W.contents writer.old) (W.contents writer.new) result) naming.now is_shown retrieved.now
+    ensures { IsPutOf (kept_as B.kind_of D.holds) (IsToldAs (W.contents writer.old) (W.contents writer.new) result) naming.now is_shown retrieved.now
         (holding D.files D.failed folder.old) (holding D.files D.failed folder.new) }
 {
     match retrieved {
@@ -193,12 +193,7 @@ fn status_told(told: Result<u8, WriteFailed>) -> u8
 
 /// Retrieves as [`live`] does, and gives what was retrieved beside the status. How many addresses wait is noted there, where a
 /// place is given for who looks on.
-pub(crate) fn live_shown<
-    H: Threads + Wait + Sync,
-    F: Fetcher<Body = Body> + Send,
-    D: Folder,
-    W: Write,
->(
+pub(crate) fn live_shown<H: Threads + Wait + Sync, F: Fetcher + Send, D: Shelf<F::Body>, W: Write>(
     rt: &H,
     alloc: Global,
     order: &Order,
@@ -206,10 +201,12 @@ pub(crate) fn live_shown<
     folder: &mut D,
     writer: &mut W,
     waiting: Option<&AtomicUsize>,
-) -> (u8, Result<Harvest<Body>, Halt<Body>>)
+) -> (u8, Result<Harvest<F::Body>, Halt<F::Body>>)
+where
+    F::Body: HasKind + Send,
     requires some { 0 < vec_len fetchers }
     requires most { vec_len fetchers ≤ 64 }
-    ensures lives { Lives F.Fetcher order.now fetchers.items (outside (holding D.files D.failed folder.old) (W.contents writer.old))
+    ensures lives { Lives F.Fetcher (kept_as F.Body.kind_of D.holds) order.now fetchers.items (outside (holding D.files D.failed folder.old) (W.contents writer.old))
         (outside (holding D.files D.failed folder.new) (W.contents writer.new)) result.0 }
 {
     let (retrieved, left) = workers::retrieve_shown(rt, alloc, &order.plan, fetchers, waiting);
@@ -225,7 +222,7 @@ pub(crate) fn live_shown<
 /// and the line `files written K` stands behind the report, K being how many files are whole; the status is 3. Where the
 /// retrieval stopped the line of its cause stands in place of the report, nothing is put, and the status is 1; so it is where
 /// memory runs out. Where the writer fails the status is 1, and a front of the text may have been written.
-pub fn live<H: Threads + Wait + Sync, F: Fetcher<Body = Body> + Send, D: Folder, W: Write>(
+pub fn live<H: Threads + Wait + Sync, F: Fetcher + Send, D: Shelf<F::Body>, W: Write>(
     rt: &H,
     alloc: Global,
     order: &Order,
@@ -233,13 +230,15 @@ pub fn live<H: Threads + Wait + Sync, F: Fetcher<Body = Body> + Send, D: Folder,
     folder: &mut D,
     writer: &mut W,
 ) -> u8
+where
+    F::Body: HasKind + Send,
     requires some { 0 < vec_len fetchers }
     requires most { vec_len fetchers ≤ 64 }
     // What was found and what came of it.
-    ensures finds { Finds F.Fetcher order.now fetchers.items (outside (holding D.files D.failed folder.old) (W.contents writer.old))
+    ensures finds { Finds F.Fetcher (kept_as F.Body.kind_of D.holds) order.now fetchers.items (outside (holding D.files D.failed folder.old) (W.contents writer.old))
         (outside (holding D.files D.failed folder.new) (W.contents writer.new)) result }
     // And which events led there.
-    ensures lives { Lives F.Fetcher order.now fetchers.items (outside (holding D.files D.failed folder.old) (W.contents writer.old))
+    ensures lives { Lives F.Fetcher (kept_as F.Body.kind_of D.holds) order.now fetchers.items (outside (holding D.files D.failed folder.old) (W.contents writer.old))
         (outside (holding D.files D.failed folder.new) (W.contents writer.new)) result }
 {
     let (status, retrieved) = live_shown(rt, alloc, order, fetchers, folder, writer, None);

@@ -1,15 +1,14 @@
 //! Starts that moved away, for a person.
-use kept_bodies::Body;
 use live_system::System;
 use moved_starts::moves_text;
 use std::alloc::Global;
 use workers::{Halt, Harvest};
 
 /// Tells a person of the starts that moved away. If there is no memory for it, or the retrieval stopped, nobody is told.
-pub(crate) fn tell_moves<S: System>(
+pub(crate) fn tell_moves<S: System, B: Drop>(
     alloc: Global,
     system: &S,
-    retrieved: &Result<Harvest<Body>, Halt<Body>>,
+    retrieved: &Result<Harvest<B>, Halt<B>>,
 ) {
     let Ok(harvest) = retrieved else {
         return;

@@ -8,12 +8,14 @@ ghost use Rattle.retriever.specs.Parts.{shown_of};
 ghost use Rattle.retriever.specs.inner.Parts.{IsRead, IsRetrievalTold, is_borne_out};
 ghost use Rattle.retriever.specs.Retrieved.{Stopped};
 ghost use Rattle.retriever.specs.Run.{finish_text};
-ghost use Rattle.retriever.specs.Site.{AreNamesOf, kinds_of};
+ghost use Rattle.retriever.specs.Keeping.{kinds_of};
+ghost use Rattle.retriever.specs.Site.{AreNamesOf};
 ghost use Rattle.report.specs.Trace.{trace_text};
 
 use frontier_core::{Cause, Event};
 use kept_bodies::{Body, BodyKind};
 use local_names::{names, names_with_endings};
+use local_tree::HasKind;
 use options::PageNames;
 use report::{cause_word, exit_status, push_trace, report_text};
 use std::alloc::{AllocError, Global};
@@ -44,24 +46,27 @@ fn push_shown(text: &mut String, is_shown: bool, trace: &[Event]) -> Result<(), 
 }
 
 // The kinds of a harvest's kept bodies, in their places.
-fn kinds_of(alloc: Global, harvest: &Harvest<Body>) -> Result<Vec<BodyKind>, AllocError>
+fn kinds_of<B: HasKind + Drop>(
+    alloc: Global,
+    harvest: &Harvest<B>,
+) -> Result<Vec<BodyKind>, AllocError>
     requires { length harvest.now.bodies ≡ length harvest.now.kept }
-    ensures { IfOk result (λ kinds. kinds.items ≡ kinds_of harvest.now.bodies) }
+    ensures { IfOk result (λ kinds. kinds.items ≡ kinds_of B.kind_of harvest.now.bodies) }
 {
     let mut kinds = Vec::new(alloc);
     for i in 0..harvest.kept().len() {
-        kinds.push(harvest.kept_body(i).kind())?;
+        kinds.push(harvest.kept_body(i).kind_of())?;
     }
     Ok(kinds)
 }
 
 // The names of a harvest's kept pages by these rules.
-fn names_of(
+fn names_of<B: HasKind + Drop>(
     alloc: Global,
     naming: &PageNames,
-    harvest: &Harvest<Body>,
+    harvest: &Harvest<B>,
 ) -> Result<Vec<String>, AllocError>
-    ensures naming { IfOk result (λ names. AreNamesOf naming.now harvest.now.kept (kinds_of harvest.now.bodies) (map string_bytes names.items)) }
+    ensures naming { IfOk result (λ names. AreNamesOf naming.now harvest.now.kept (kinds_of B.kind_of harvest.now.bodies) (map string_bytes names.items)) }
     ensures count { IfOk result (λ names. length names.items ≡ length harvest.now.kept) }
     ensures distinct { IfOk result (λ names. AreDistinct (map string_bytes names.items)) }
     ensures pages { ArePages harvest.now }
@@ -76,13 +81,13 @@ fn names_of(
 
 /// The names of a harvest's kept pages by these rules, and its text: its trace, if it is to be shown, and its report, in which
 /// these pages have their names.
-pub(crate) fn telling_of(
+pub(crate) fn telling_of<B: HasKind + Drop>(
     alloc: Global,
     naming: &PageNames,
     is_shown: bool,
-    harvest: &Harvest<Body>,
+    harvest: &Harvest<B>,
 ) -> Result<Telling, AllocError>
-    ensures naming { IfOk result (λ telling. AreNamesOf naming.now harvest.now.kept (kinds_of harvest.now.bodies) (map string_bytes telling.names.items)) }
+    ensures naming { IfOk result (λ telling. AreNamesOf naming.now harvest.now.kept (kinds_of B.kind_of harvest.now.bodies) (map string_bytes telling.names.items)) }
     ensures count { IfOk result (λ telling. length telling.names.items ≡ length harvest.now.kept) }
     ensures distinct { IfOk result (λ telling. AreDistinct (map string_bytes telling.names.items)) }
     ensures text { IfOk result (λ telling. string_bytes telling.text
@@ -109,10 +114,10 @@ fn is_borne_out(cause: Cause) -> bool
 }
 
 /// The text of a retrieval that stopped: its trace, where it is to be shown and no check failed, and the line of the cause.
-pub(crate) fn halt_text(
+pub(crate) fn halt_text<B: Drop>(
     alloc: Global,
     is_shown: bool,
-    halt: &Halt<Body>,
+    halt: &Halt<B>,
 ) -> Result<String, AllocError>
     ensures { IfOk result (λ text. string_bytes text ≡ trace_text (shown_of (is_borne_out halt.now.cause && is_shown) halt.now.harvest.trace) ++ finish_text (Stopped halt.now.cause)) }
 {

@@ -1,2 +1,3 @@
 pub mod Losses
 pub mod Files
+pub mod Unasked

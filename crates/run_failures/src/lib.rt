@@ -12,8 +12,10 @@ mod failures;
 mod file_fault;
 mod loss_kind;
 mod losses;
+mod unasked;
 
 pub use crate::failures::Failures;
 pub use crate::file_fault::FileFault;
 pub use crate::loss_kind::{KINDS, LossKind};
 pub use crate::losses::{Loss, Losses};
+pub use crate::unasked::Unasked;

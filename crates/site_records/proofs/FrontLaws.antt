@@ -8,7 +8,7 @@ use Rattle.site_records.specs.declared.entry_fault.EntryFault.{EntryFault}
 use Rattle.site_records.specs.declared.entry_fault.EntryFault.TheVariants.{Own, Hop}
 use Rattle.site_records.specs.declared.version.Version.{Version}
 use Rattle.site_records.specs.declared.reading.Reading.{Reading}
-use Rattle.site_records.specs.Entries.{IsBadLine, IsBadAddress}
+use Rattle.site_records.specs.Entries.{IsBadLine, IsBadAddress, IsFormed}
 use Rattle.site_records.specs.inner.Readings.{IsBad, fault_at}
 use Rattle.site_records.specs.Fronts.{HasNoLine, IsTornEntry, IsBadWhole, IsFrontFault, HasFront}
 use Rattle.site_records.proofs.ReadLaws.{IsReadTo, first_bad_at}
@@ -27,12 +27,14 @@ first_bad_whole robots bytes old number rest (Own Line) s whole bad =
     inr (first_bad_at robots bytes old number rest (IsBadWhole IsBadLine) None (number + 1) s (some_left old.version rest whole) (omega arith) (bad, whole))
 first_bad_whole robots bytes old number rest (Own Address) s whole bad =
     first_bad_at robots bytes old number rest (IsBadWhole IsBadAddress) None (number + 1) s (some_left old.version rest whole) (omega arith) (bad, whole)
-first_bad_whole robots bytes old number rest (Own Memory) s whole bad = tt
+first_bad_whole robots bytes old number rest (Own Memory) s whole bad =
+    inl (number + 1, first_bad_at robots bytes old number rest (λ version _ _ _ rest. IsFormed version rest) None (number + 1) s (some_left old.version rest whole) (omega arith) bad)
 first_bad_whole robots bytes old number rest (Hop k Line) s whole bad =
     inr (first_bad_at robots bytes old number rest (IsBadWhole IsBadLine) (Some k) (number + 1 + k + 1) s (some_left old.version rest whole) (omega arith) (bad, whole))
 first_bad_whole robots bytes old number rest (Hop k Address) s whole bad =
     first_bad_at robots bytes old number rest (IsBadWhole IsBadAddress) (Some k) (number + 1 + k + 1) s (some_left old.version rest whole) (omega arith) (bad, whole)
-first_bad_whole robots bytes old number rest (Hop k Memory) s whole bad = tt
+first_bad_whole robots bytes old number rest (Hop k Memory) s whole bad =
+    inl (number + 1 + k + 1, first_bad_at robots bytes old number rest (λ version _ _ _ rest. IsFormed version rest) (Some k) (number + 1 + k + 1) s (some_left old.version rest whole) (omega arith) bad)
 
 -- what is read before an entry within which the bytes end is a front
 pub front_read : (robots : Bool) (bytes : List ℕ) (reading : Reading) (number : ℕ) (rest : List ℕ) → (s : IsReadTo robots bytes reading number rest) → IsTornEntry reading.version rest → HasFront robots bytes s.above rest

@@ -1,5 +1,5 @@
 -- The whole front of a record that was cut at any byte, as one is whose writer was stopped.
-use Rattle.std.specs.Prelude.{◌≡◌, ◌≢◌, ◌≤◌, ◌+◌, ◌⊎◌, ◌++◌, ⊤, ℕ, zero, suc, Bool, List, [], ◌∷◌, Option, length, map, flat_map, take, drop}
+use Rattle.std.specs.Prelude.{◌≡◌, ◌≢◌, ◌≤◌, ◌+◌, ◌⊎◌, ◌++◌, ℕ, zero, suc, Bool, List, [], ◌∷◌, Option, length, map, flat_map, take, drop}
 use Rattle.kept_bodies.specs.Bodies.{BodyValue}
 use Rattle.address.specs.Address.{AddressText, OriginText}
 use Rattle.robots_rules.specs.Access.{RuleSetValue}
@@ -10,7 +10,7 @@ use Rattle.answer_notes.specs.declared.noted.Noted.{Noted}
 use Rattle.site_records.specs.declared.version.Version.{Version}
 use Rattle.site_records.specs.declared.version.Version.TheVariants.{Second}
 use Rattle.site_records.specs.EntryLines.{Statement, page, file, chain, HopStatement, hop, hopfault}
-use Rattle.site_records.specs.Entries.{Entry, IsLine, HasBytes, Begins, BeginsHop, IsBadLine, IsBadAddress}
+use Rattle.site_records.specs.Entries.{Entry, IsLine, HasBytes, Begins, BeginsHop, IsBadLine, IsBadAddress, IsFormed}
 use Rattle.site_records.specs.RecordSites.{RecordValue}
 use Rattle.site_records.specs.Records.{answers_of, rules_of, version_line, IsFront, HasVersion, FirstBad}
 use Rattle.site_records.specs.WrittenEntries.{note_text, note_entry}
@@ -64,11 +64,13 @@ abbrev pub IsBadWhole : (Version → List (AddressText × Answer BodyValue) → 
     → Version → List (AddressText × Answer BodyValue) → List (OriginText × RuleSetValue) → Option ℕ → List ℕ → Type 0
 IsBadWhole IsBad version answers rules place rest = IsBad version answers rules place rest × ¬ IsTornEntry version rest
 
--- what a fault says of the bytes: the first line, unless it is torn, or a line of the first entry that is bad and not torn; of Memory nothing
+-- what a fault says of the bytes: the first line, unless it is torn, or a line of the first entry that is bad and not torn; memory may run out over an entry whose line has its form, or after the last whole one
 abbrev pub IsFrontFault : Bool → List ℕ → InputFault → Type 0
 IsFrontFault robots bytes (Line n) = ((n ≡ 1) × ¬ HasVersion bytes × ((more : List ℕ) → version_line Second ≢ bytes ++ more)) ⊎ FirstBad robots bytes n (IsBadWhole IsBadLine)
 IsFrontFault robots bytes (Address n) = FirstBad robots bytes n (IsBadWhole IsBadAddress)
-IsFrontFault robots bytes Memory = ⊤
+IsFrontFault robots bytes Memory =
+    ((n : ℕ) × FirstBad robots bytes n (λ version _ _ _ rest. IsFormed version rest))
+    ⊎ (((said : List Entry) × (rest : List ℕ) × HasFront robots bytes said rest) ⊎ IsTornFirst bytes)
 
 -- ---- a record that is cut
 

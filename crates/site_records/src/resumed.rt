@@ -1,5 +1,7 @@
 //! A site that a fetcher asks for what a record doesn't say.
-ghost use Rattle.std.specs.Prelude.{◌≡◌, ◌++◌, List, [], drop, take, length, All};
+ghost use Rattle.std.specs.Prelude.{◌≡◌, ◌++◌, ◌∷◌, List, [], IfOk, OnOk, OnErr, drop, take, length, All};
+ghost use Rattle.fetcher.specs.Logs.{GainedAtMost};
+ghost use Rattle.fetcher.specs.declared.fetcher.Ask.TheVariants as ask;
 ghost use Rattle.fetcher.specs.Sites.{SiteAnswers, AreAnswers};
 ghost use Rattle.fetcher.specs.declared.fetcher.Ask.{Ask};
 ghost use Rattle.site_records.specs.Resumption.{AreOf, IsUnstated, IsSpared, RulesOr, SaysOr};
@@ -86,7 +88,14 @@ impl<F: Fetcher<Body = Body>> Fetcher for Resumed<F> {
 
     ghost log = { λ r. r.asks };
 
-    fn ask(&mut self, at: &Address) -> Result<Answer<Body>, AllocError> {
+    fn ask(&mut self, at: &Address) -> Result<Answer<Body>, AllocError>
+        ensures site { resumption_of F.site F.log self.new ≡ resumption_of F.site F.log self.old }
+        ensures told { IfOk result (λ a. SaysOr F.says (resumption_of F.site F.log self.old) at.now a.outcome a.body) }
+        ensures asked { OnOk result (self.new.asks ≡ self.old.asks ++ ask.Page at.now ∷ []) }
+        ensures refused { OnErr result (GainedAtMost self.old.asks self.new.asks (ask.Page at.now)) }
+        // The fetcher is asked this once, or not at all.
+        ensures once { GainedAtMost (F.log self.old.inner) (F.log self.new.inner) (ask.Page at.now) }
+    {
         self.asks.push(Ask::Page(at.try_clone()?))?;
         match self.recorded.stated_answer(at)? {
             Some(answer) => {
@@ -97,7 +106,14 @@ impl<F: Fetcher<Body = Body>> Fetcher for Resumed<F> {
         }
     }
 
-    fn ask_robots(&mut self, of: &Origin) -> Result<RuleSet, AllocError> {
+    fn ask_robots(&mut self, of: &Origin) -> Result<RuleSet, AllocError>
+        ensures site { resumption_of F.site F.log self.new ≡ resumption_of F.site F.log self.old }
+        ensures told { IfOk result (λ r. RulesOr F.rules (resumption_of F.site F.log self.old) of.now r) }
+        ensures asked { OnOk result (self.new.asks ≡ self.old.asks ++ ask.Rules of.now ∷ []) }
+        ensures refused { OnErr result (GainedAtMost self.old.asks self.new.asks (ask.Rules of.now)) }
+        // The fetcher is asked this once, or not at all.
+        ensures once { GainedAtMost (F.log self.old.inner) (F.log self.new.inner) (ask.Rules of.now) }
+    {
         self.asks.push(Ask::Rules(of.try_clone()?))?;
         match self.recorded.stated_rules(of)? {
             Some(rules) => {

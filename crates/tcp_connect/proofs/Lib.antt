@@ -1,2 +1,3 @@
 pub mod StandardFacts
 pub mod StandingLaws
+pub mod PooledLaws

@@ -1,5 +1,7 @@
 -- Connections that stand: how many, which waits longest, and which goes for a new one.
 use Rattle.std.specs.Prelude.{◌≡◌, ◌≢◌, ◌⊎◌, ◌<◌, ◌≤◌, ◌==◌, ◌+◌, ◌^◌, ℕ, Bool, true, false, ◌&&◌, List, [], ◌∷◌, ◌++◌, Option, Some, None, MatchOption, All, AllPairs, length, count_by, slice_get, slice_set, remove, bytes_eq, is_some}
+use Rattle.std.specs.List.{list_any}
+use Rattle.address.specs.Address.{OriginText}
 use Rattle.tcp_connect.specs.declared.standing.TheConstants.{MOST}
 
 -- a connection that stands: its number, the bytes of the origin that it was made for, and what waits there, where it isn't in use
@@ -105,3 +107,27 @@ abbrev pub Leaves : {W : Type 0} → ℕ → Pool W → Pool W → Type 0
 Leaves {W} number old new =
     (NonePasses (has_number number) old.stands × (new ≡ old))
     ⊎ ((at : ℕ) × (stand : Stand W) × IsFirst (has_number number) old.stands at stand × (new ≡ record old { stands = remove old.stands at }))
+
+-- what a run keeps of connections: those that stand, and the origins whose servers sent bytes that nobody had requested
+pub record Pooling (W : Type 0) : Type 0 where
+  pub pool : Pool W
+  pub unasked : List OriginText
+
+-- the origin's server sent such bytes
+abbrev pub has_unasked : {W : Type 0} → Pooling W → OriginText → Bool
+has_unasked kept of = list_any (λ one. bytes_eq one of) kept.unasked
+
+-- the last of those that wait for this origin is in use from now on; none, if its server sent such bytes
+pub record TakesKept {W : Type 0} (of : OriginText) (old : Pooling W) (taken : Option (ℕ × W)) (new : Pooling W) : Type 0 where
+  pub unasked : has_unasked old of ≡ true → (taken ≡ None) × (new ≡ old)
+  pub known : has_unasked old of ≡ false → TakesStand of old.pool taken new.pool × (new.unasked ≡ old.unasked)
+
+-- one more stands to this origin, if there is room for it; none, if its server sent such bytes
+pub record EntersKept {W : Type 0} (of : OriginText) (most : ℕ) (old : Pooling W) (place : Option ℕ) (ended : Option W) (new : Pooling W) : Type 0 where
+  pub unasked : has_unasked old of ≡ true → (place ≡ None) × (ended ≡ None) × (new ≡ old)
+  pub known : has_unasked old of ≡ false → (left : Pool W) × MakesRoom of most old.pool ended left × AddsStand of most left place new.pool
+
+-- the one of this number waits from now on; it comes back, if the server of its origin sent such bytes
+pub record PutsKept {W : Type 0} (of : OriginText) (number : ℕ) (waiting : W) (old : Pooling W) (back : Option W) (new : Pooling W) : Type 0 where
+  pub unasked : has_unasked old of ≡ true → (back ≡ Some waiting) × (new ≡ old)
+  pub known : has_unasked old of ≡ false → PutsDown number waiting old.pool back new.pool × (new.unasked ≡ old.unasked)

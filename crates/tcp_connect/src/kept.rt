@@ -1,12 +1,16 @@
 //! The connections of a run that are kept to be used again (RFC 9112, section 9.3), and how many stand.
-ghost use Rattle.std.specs.Prelude.{◌≡◌, Some, MatchOption};
-ghost use Rattle.tcp_connect.specs.Standing.{waits, NonePasses, EndsFirst};
-ghost use Rattle.tcp_connect.specs.declared.kept.Waiting.{Waiting};
+ghost use Rattle.std.specs.Prelude.{◌≡◌, ◌⊎◌, [], Some, IfOk, MatchOption, string_bytes};
+ghost use Rattle.std.specs.List.{flat_map};
+ghost use Rattle.run_failures.specs.Unasked.{unasked_line, with_origin};
+ghost use Rattle.tcp_connect.specs.Standing.{waits, EndsFirst, Leaves, TakesKept, EntersKept, PutsKept};
 
 use crate::standing::Standing;
 pub(crate) use crate::standing::{Entered, MOST};
+use address::Origin;
+use run_failures::Unasked;
 use std::alloc::{AllocError, Global};
 use std::io::ErrorKind;
+use std::marker::Model;
 use std::net::OpenStream;
 use std::sync::{Mutex, Wait};
 use std::time::{Clock, Instant};
@@ -14,18 +18,105 @@ use std::time::{Clock, Instant};
 /// The most seconds that one waits.
 const IDLE_SECONDS: u64 = 5;
 
-// One that waits to be used again, and since when.
+// One that waits to be used again, to which origin, and since when.
 #[derive(Drop)]
 pub(crate) struct Waiting<S: Drop> {
+    pub(crate) of: Origin,
     pub(crate) since: Instant,
     pub(crate) stream: S,
+}
+
+// What a run keeps of connections: those that stand, and the origins whose servers sent bytes that nobody had requested. Of these
+// none is kept any more.
+#[derive(Drop)]
+pub(crate) struct Pooled<W> {
+    standing: Standing<W>,
+    unasked: Unasked,
+}
+
+impl<W> Model for Pooled<W> {
+    ghost use Rattle.tcp_connect.specs.Standing.{Pooling};
+
+    ghost Value = { Pooling W };
+
+    ghost view = { λ p. record { pool = p.standing; unasked = p.unasked } };
+}
+
+impl<W: Drop> Pooled<W> {
+    // None stands, and no origin is known for such bytes. Takes no memory.
+    fn new(alloc: Global) -> Pooled<W>
+        ensures { result ≡ record { pool = record { stands = []; entered = 0 }; unasked = [] } }
+    {
+        Pooled {
+            standing: Standing::new(alloc),
+            unasked: Unasked::new(alloc),
+        }
+    }
+
+    // The one to this origin that was put down last, which is in use from now on.
+    fn take(&mut self, of: &Origin) -> Option<(u64, W)>
+        ensures { TakesKept of.now self.old result self.new }
+    {
+        if self.unasked.has(of) {
+            return None;
+        }
+        self.standing.take(of.as_str())
+    }
+
+    // A place for a new one to an origin, of which so many may stand.
+    fn enter(&mut self, alloc: Global, of: &Origin, most: usize) -> Result<Entered<W>, AllocError>
+        ensures ok { IfOk result (λ entered. EntersKept of.now most self.old entered.place entered.ended self.new) }
+        ensures unasked { self.new.unasked ≡ self.old.unasked }
+    {
+        if self.unasked.has(of) {
+            return Ok(Entered {
+                place: None,
+                ended: None,
+            });
+        }
+        let text = String::from_str(alloc, of.as_str())?;
+        self.standing.enter(text, most)
+    }
+
+    // Puts one to an origin down to wait. It comes back if there is no place for it.
+    fn put(&mut self, of: &Origin, number: u64, waiting: W) -> Option<W>
+        ensures { PutsKept of.now number waiting self.old result self.new }
+    {
+        if self.unasked.has(of) {
+            return Some(waiting);
+        }
+        self.standing.put(number, waiting)
+    }
+
+    // No connection to this origin is kept from now on. If there is no memory for that, one may be.
+    fn refuse(&mut self, of: &Origin)
+        ensures pool { self.new.pool ≡ self.old.pool }
+        ensures unasked { (self.new.unasked ≡ self.old.unasked) ⊎ (self.new.unasked ≡ with_origin self.old.unasked of.now) }
+    {
+        let _ = self.unasked.add(of);
+    }
+
+    // The connection of this number stands no longer.
+    fn leave(&mut self, number: u64)
+        ensures pool { Leaves number self.old.pool self.new.pool }
+        ensures unasked { self.new.unasked ≡ self.old.unasked }
+    {
+        self.standing.leave(number);
+    }
+
+    // The lines on the origins of which none is kept any more.
+    fn text(&self) -> Result<String, AllocError>
+        ensures { IfOk result (λ text. string_bytes text ≡ flat_map unasked_line self.now.unasked) }
+    {
+        self.unasked.text()
+    }
 }
 
 /// The connections of a run that are kept, shared by all its workers. Those in use are counted with those that wait. The lock is
 /// held while one is looked for, counted or put down, and never while one is made, used, looked at or closed.
 pub struct Kept<S: Drop> {
     alloc: Global,
-    standing: Mutex<Standing<Waiting<S>>>,
+    pooled: Mutex<Pooled<Waiting<S>>>,
 }
 
 // By hand: who drops one proves a call, and nothing of what it holds.
@@ -33,7 +124,7 @@ impl<S: Drop> Drop for Kept<S> {
     fn drop(self) {
         let Kept {
             alloc: _alloc,
-            standing: _standing,
+            pooled: _pooled,
         } = self;
     }
 }
@@ -43,86 +134,111 @@ impl<S: Drop> Kept<S> {
     pub fn new(alloc: Global) -> Kept<S> {
         Kept {
             alloc,
-            standing: Mutex::new(Standing::new(alloc)),
+            pooled: Mutex::new(Pooled::new(alloc)),
         }
     }
 
-    /// Ends those that wait. Each holds a descriptor, which files need too once a run has asked for all.
-    pub fn end_waiting<R: Wait>(&self, rt: &R) {
-        for _ in 0..MOST {
-            match self.take_oldest(rt) {
-                Some(stream) => drop(stream),
-                None => return,
-            }
-        }
+    /// A line for each origin to which no connection is kept any more, since its server sent bytes that nobody had requested.
+    pub fn unasked_text<R: Wait>(&self, rt: &R) -> Result<String, AllocError> {
+        text_among(&mut self.pooled.lock(rt))
     }
 
     // The one to this origin that was put down last, which is in use from now on.
-    pub(crate) fn take<R: Wait>(&self, rt: &R, of: &str) -> Option<(u64, Waiting<S>)> {
-        self.standing.lock(rt).take(of)
+    pub(crate) fn take<R: Wait>(&self, rt: &R, of: &Origin) -> Option<(u64, Waiting<S>)> {
+        self.pooled.lock(rt).take(of)
     }
 
     // A place for a new connection to an origin, of which so many may stand.
     pub(crate) fn enter<R: Wait>(
         &self,
         rt: &R,
-        of: &str,
+        of: &Origin,
         most: usize,
     ) -> Result<Entered<Waiting<S>>, AllocError> {
-        let of = String::from_str(self.alloc, of)?;
-        self.standing.lock(rt).enter(of, most)
+        self.pooled.lock(rt).enter(self.alloc, of, most)
     }
 
     // The connection of this number stands no longer.
     pub(crate) fn leave<R: Wait>(&self, rt: &R, number: u64) {
-        self.standing.lock(rt).leave(number);
+        self.pooled.lock(rt).leave(number);
     }
 
-    // Puts one down to wait. It comes back where there is no place for it.
-    pub(crate) fn put<R: Wait>(&self, rt: &R, number: u64, waiting: Waiting<S>) -> Option<S> {
-        put_among(&mut self.standing.lock(rt), number, waiting)
+    // Puts one to an origin down to wait. It comes back if there is no place for it.
+    pub(crate) fn put<R: Wait>(
+        &self,
+        rt: &R,
+        of: &Origin,
+        number: u64,
+        waiting: Waiting<S>,
+    ) -> Option<Waiting<S>> {
+        self.pooled.lock(rt).put(of, number, waiting)
     }
 
-    // The one that waits longest, where it waits too long.
-    pub(crate) fn take_stale<R: Wait + Clock>(&self, rt: &R) -> Option<S> {
-        stale_among(&mut self.standing.lock(rt), rt)
+    // The one that waits longest, if it waits too long.
+    pub(crate) fn take_stale<R: Wait + Clock>(&self, rt: &R) -> Option<Waiting<S>> {
+        stale_among(&mut self.pooled.lock(rt), rt)
     }
 
     // The one that waits longest.
-    pub(crate) fn take_oldest<R: Wait>(&self, rt: &R) -> Option<S> {
-        oldest_among(&mut self.standing.lock(rt))
+    pub(crate) fn take_oldest<R: Wait>(&self, rt: &R) -> Option<Waiting<S>> {
+        oldest_among(&mut self.pooled.lock(rt))
+    }
+}
+
+impl<S: OpenStream + Drop> Kept<S> {
+    /// Ends those that wait. Each holds a descriptor, which files need too once a run has asked for all.
+    pub fn end_waiting<R: Wait>(&self, rt: &R) {
+        for _ in 0..MOST {
+            match self.take_oldest(rt) {
+                Some(waiting) => self.end(rt, waiting),
+                None => return,
+            }
+        }
+    }
+
+    // Ends one that waited. What came over it is known of its server from now on.
+    pub(crate) fn end<R: Wait>(&self, rt: &R, waiting: Waiting<S>) {
+        let Waiting { of, stream, .. } = waiting;
+        let _ = self.is_quiet(rt, &of, &stream);
+        drop(stream);
+    }
+
+    // Whether nothing can be read from a connection to an origin over which nothing was requested since the last answer. If bytes
+    // can, no connection to that origin is kept from now on.
+    pub(crate) fn is_quiet<R: Wait>(&self, rt: &R, of: &Origin, stream: &S) -> bool {
+        let idle = look_at(stream);
+        if idle == Idle::Unasked {
+            self.pooled.lock(rt).refuse(of);
+        }
+        idle == Idle::Quiet
     }
 }
 
 // What stands under the lock is lent to functions of its own: there no way out of them lets go of the lock.
 
-// The one that waits longest, where it waits too long.
-fn stale_among<S: Drop, R: Clock>(standing: &mut Standing<Waiting<S>>, rt: &R) -> Option<S>
-    ensures { MatchOption result (standing.new ≡ standing.old) (λ stream. (waiting : Waiting S) × (waiting.stream ≡ stream) × EndsFirst waits standing.old (Some waiting) standing.new) }
+// The one that waits longest, if it waits too long.
+fn stale_among<S: Drop, R: Clock>(pooled: &mut Pooled<Waiting<S>>, rt: &R) -> Option<Waiting<S>>
+    ensures stale { MatchOption result (pooled.new ≡ pooled.old) (λ waiting. EndsFirst waits pooled.old.pool (Some waiting) pooled.new.pool) }
+    ensures unasked { pooled.new.unasked ≡ pooled.old.unasked }
 {
-    let oldest = standing.oldest()?;
+    let oldest = pooled.standing.oldest()?;
     if is_fresh(rt, &oldest.since) {
         return None;
     }
-    oldest_among(standing)
+    oldest_among(pooled)
 }
 
 // The one that waits longest.
-fn oldest_among<S: Drop>(standing: &mut Standing<Waiting<S>>) -> Option<S>
-    ensures { MatchOption result (NonePasses waits standing.old.stands × (standing.new ≡ standing.old)) (λ stream. (waiting : Waiting S) × (waiting.stream ≡ stream) × EndsFirst waits standing.old (Some waiting) standing.new) }
+fn oldest_among<W: Drop>(pooled: &mut Pooled<W>) -> Option<W>
+    ensures oldest { EndsFirst waits pooled.old.pool result pooled.new.pool }
+    ensures unasked { pooled.new.unasked ≡ pooled.old.unasked }
 {
-    let Waiting { stream, .. } = standing.take_oldest()?;
-    Some(stream)
+    pooled.standing.take_oldest()
 }
 
-// Puts one down to wait. It comes back where there is no place for it.
-fn put_among<S: Drop>(
-    standing: &mut Standing<Waiting<S>>,
-    number: u64,
-    waiting: Waiting<S>,
-) -> Option<S> {
-    let Waiting { stream, .. } = standing.put(number, waiting)?;
-    Some(stream)
+// The lines on the origins of which none is kept any more.
+fn text_among<W: Drop>(pooled: &mut Pooled<W>) -> Result<String, AllocError> {
+    pooled.text()
 }
 
 // Whether a connection that waits since then may be used. It may not where the clock can't be read.
@@ -133,15 +249,31 @@ pub(crate) fn is_fresh<R: Clock>(rt: &R, since: &Instant) -> bool {
     }
 }
 
-// Whether nothing can be read from a connection: neither its end, nor bytes that nobody asked for, nor a fault.
-pub(crate) fn is_quiet<S: OpenStream>(stream: &S) -> bool {
+// What can be read from a connection over which nothing was requested since the last answer.
+#[derive(Clone, Copy, PartialEq, Eq)]
+enum Idle {
+    // Nothing yet.
+    Quiet,
+    // Bytes that nobody had requested.
+    Unasked,
+    // Its end, or a fault.
+    Ended,
+}
+
+// Looks at a connection, and takes nothing from it.
+fn look_at<S: OpenStream>(stream: &S) -> Idle {
     if stream.set_nonblocking(true).is_err() {
-        return false;
+        return Idle::Ended;
     }
     let mut room = [0u8; 1];
-    let quiet = match stream.peek(&mut room) {
-        Ok(_) => false,
-        Err(e) => e.kind() == ErrorKind::WouldBlock,
+    let idle = match stream.peek(&mut room) {
+        Ok(0) => Idle::Ended,
+        Ok(_) => Idle::Unasked,
+        Err(e) if e.kind() == ErrorKind::WouldBlock => Idle::Quiet,
+        Err(_) => Idle::Ended,
     };
-    stream.set_nonblocking(false).is_ok() && quiet
+    match stream.set_nonblocking(false) {
+        Ok(()) => idle,
+        Err(_) => Idle::Ended,
+    }
 }

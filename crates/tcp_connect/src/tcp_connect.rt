@@ -7,7 +7,7 @@ ghost use Rattle.connect.specs.Connects.{CountsRefusal, refused_by};
 
 use crate::connection::Connection;
 use crate::hosts::{Host, Hosts, Known, has};
-use crate::kept::{Entered, Kept, MOST, Waiting, is_fresh, is_quiet};
+use crate::kept::{Entered, Kept, MOST, Waiting, is_fresh};
 use crate::lacks::{Lack, OpenFault, Patience, lack_of, loss_of};
 use crate::turn::{hold_turn, wait_turn};
 use address::{Origin, Scheme};
@@ -309,11 +309,11 @@ impl<'a, R: Net + Wait + Clock> TcpConnect<'a, R> {
         let Some(Keeping { kept, most }) = &self.keeping else {
             return Ok(None);
         };
-        let Entered { place, ended } = kept.enter(self.rt, of.as_str(), *most)?;
-        if ended.is_some() {
+        let Entered { place, ended } = kept.enter(self.rt, of, *most)?;
+        if let Some(ended) = ended {
+            kept.end(self.rt, ended);
             self.hosts.note_end();
         }
-        drop(ended);
         Ok(place)
     }
 
@@ -327,8 +327,8 @@ impl<'a, R: Net + Wait + Clock> TcpConnect<'a, R> {
     // A connection to an origin that waits, not too long, and from which nothing can be read. Others are ended.
     fn next_kept(&self, kept: &Kept<R::Stream>, of: &Origin) -> Option<Connection<'a, R>> {
         for _ in 0..MOST {
-            let (number, Waiting { since, stream }) = kept.take(self.rt, of.as_str())?;
-            if is_fresh(self.rt, &since) && is_quiet(&stream) {
+            let (number, Waiting { since, stream, .. }) = kept.take(self.rt, of)?;
+            if kept.is_quiet(self.rt, of, &stream) && is_fresh(self.rt, &since) {
                 return Some(self.connection(stream, Some(number)));
             }
             drop(stream);
@@ -342,7 +342,7 @@ impl<'a, R: Net + Wait + Clock> TcpConnect<'a, R> {
     fn end_stale(&self, kept: &Kept<R::Stream>) {
         for _ in 0..MOST {
             match kept.take_stale(self.rt) {
-                Some(stale) => drop(stale),
+                Some(stale) => kept.end(self.rt, stale),
                 None => return,
             }
             self.hosts.note_end();
@@ -355,8 +355,8 @@ impl<'a, R: Net + Wait + Clock> TcpConnect<'a, R> {
             return false;
         };
         match kept.take_oldest(self.rt) {
-            Some(stream) => {
-                drop(stream);
+            Some(oldest) => {
+                kept.end(self.rt, oldest);
                 self.hosts.note_end();
                 true
             }
@@ -364,14 +364,20 @@ impl<'a, R: Net + Wait + Clock> TcpConnect<'a, R> {
         }
     }
 
-    // Keeps a connection from now on, and says whether it is kept; else it is ended.
-    fn keep(&self, kept: &Kept<R::Stream>, number: u64, stream: R::Stream) -> bool {
-        match Instant::now(self.rt) {
-            Ok(since) => kept
-                .put(self.rt, number, Waiting { since, stream })
-                .is_none(),
-            Err(_) => false,
+    // Keeps a connection to an origin from now on, and says whether it is kept; else it is ended.
+    fn keep(&self, kept: &Kept<R::Stream>, of: &Origin, number: u64, stream: R::Stream) -> bool {
+        if !kept.is_quiet(self.rt, of, &stream) {
+            return false;
         }
+        let (Ok(since), Ok(copy)) = (Instant::now(self.rt), of.try_clone()) else {
+            return false;
+        };
+        let waiting = Waiting {
+            of: copy,
+            since,
+            stream,
+        };
+        kept.put(self.rt, of, number, waiting).is_none()
     }
 
     // What is read and written of a stream, in its place.
@@ -525,14 +531,14 @@ impl<'a, R: Net + Wait + Clock> Connect for TcpConnect<'a, R> {
     }
 
     // One that failed, or that has no place, isn't kept.
-    fn give_back(&mut self, _of: &Origin, wire: TcpWire<Connection<'a, R>>) {
+    fn give_back(&mut self, of: &Origin, wire: TcpWire<Connection<'a, R>>) {
         let connection = wire.into_stream();
         let (Some(kept), Some(number)) = (self.kept(), connection.place()) else {
             return self.end_wire(TcpWire::new(connection));
         };
         self.end_stale(kept);
         let is_kept = match connection.sound() {
-            Some(stream) => self.keep(kept, number, stream),
+            Some(stream) => self.keep(kept, of, number, stream),
             None => {
                 self.loss = Some(LossKind::Broken);
                 false

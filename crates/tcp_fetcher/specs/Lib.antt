@@ -1,1 +1,2 @@
+pub mod PartsFetching
 pub mod TcpFetching

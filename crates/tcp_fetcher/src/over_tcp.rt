@@ -6,6 +6,7 @@ ghost use Rattle.answer_notes.specs.HopChains.{ChainValue, rules_of_hops};
 ghost use Rattle.answer_notes.specs.Tellings.{outcome_told, body_told};
 ghost use Rattle.answer_notes.specs.declared.told.Told.{Told};
 ghost use Rattle.http_fetcher.specs.Meanings.{MayAnswer, MayRule};
+ghost use Rattle.retries.specs.Keeping.{MayKeep, StandsForAnswer, asks_of, is_worth_answer};
 ghost use Rattle.retries.specs.Tries.{IsLastOf};
 ghost use Rattle.retries.specs.Worth.{is_worth, is_worth_hops};
 
@@ -14,9 +15,11 @@ use address::{Address, Origin};
 use answer_notes::{Hops, Telling, Told};
 use fetcher::{Answer, Ask, Body, Fetcher};
 use http_fetcher::HttpFetcher;
+use kept_bodies::Keeper;
 use pacing::{Manner, Retries};
 use progress::Progress;
 use requests::Sending;
+use response_answer::PageSink;
 use retries::Calling;
 use robots_rules::RuleSet;
 use run_failures::LossKind;
@@ -98,9 +101,26 @@ impl<'a, R: Net + Wait + Clock + Eprint> OverTcp<'a, R> {
         }
     }
 
-    /// Why the last connection was lost, where it was.
+    /// Why the last connection was lost, if it was.
     pub fn loss(&self) -> Option<LossKind> {
         self.inner.loss()
+    }
+
+    // Asks for a page, whose body goes to the sink's keeper while it arrives.
+    pub(crate) fn ask_into<K: Keeper>(
+        &mut self,
+        sink: &mut PageSink<K>,
+        at: &Address,
+    ) -> Result<Answer<K::Kept>, AllocError>
+        ensures site { self.new.robots ≡ self.old.robots }
+        ensures told { IfOk result (StandsForAnswer K.holds self.old.robots at.now) }
+        ensures asked { OnOk result (self.new.asks ≡ self.old.asks ++ ask.Page at.now ∷ []) }
+        ensures refused { OnErr result (GainedAtMost self.old.asks self.new.asks (ask.Page at.now)) }
+        ensures tries { IfOk result (IsLastOf asks_of (MayKeep K.holds at.now) (is_worth_answer self.old.retries) (ask.Page at.now) self.old.retries.most self.old.single self.new.single) }
+        ensures retries { self.new.retries ≡ self.old.retries }
+    {
+        self.asks.push(Ask::Page(at.try_clone()?))?;
+        retries::ask_into(&mut self.inner, sink, &self.retries, at)
     }
 }
 

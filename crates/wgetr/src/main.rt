@@ -92,6 +92,7 @@ fn main(rt: HostRuntime) -> ExitCode {
         &mut rt.stderr(),
     );
     saving.end(&rt, &rt);
+    failures.say_unasked(&rt, &kept);
     if takes_failures {
         failures.tell(&rt, &mut writer);
     } else {

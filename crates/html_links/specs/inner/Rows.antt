@@ -1,5 +1,5 @@
 -- Rows of the link table by the first bytes of their elements, and attributes by the first bytes of their names.
-use Rattle.std.specs.Prelude.{ℕ, Bool, false, List, [], ◌∷◌, if◌then◌else◌, ◌==◌}
+use Rattle.std.specs.Prelude.{ℕ, Bool, false, ◌||◌, List, [], ◌∷◌, if◌then◌else◌, ◌==◌}
 use Rattle.html_links.specs.Links.{Row}
 use Rattle.html_links.specs.Asked.{asked_name}
 use Rattle.html_links.specs.declared.table.Row as declared
@@ -13,6 +13,10 @@ named r = record { element = r.0.now; attribute = asked_name r.1; form = r.2 }
 abbrev pub begins_with : ℕ → List ℕ → Bool
 begins_with first [] = false
 begins_with first (b ∷ bs) = first == b
+
+-- whether an attribute that is read like a style sheet begins with that byte: s, f, m or c
+abbrev pub begins_styling : ℕ → Bool
+begins_styling first = first == 115 || first == 102 || first == 109 || first == 99
 
 -- the rows of elements whose names begin with that byte
 abbrev pub rows_with : ℕ → List Row → List Row

@@ -1,7 +1,7 @@
 //! Attributes of tags (HTML Standard, sections 13.2.5.32 to 13.2.5.39).
 ghost use Rattle.std.specs.Prelude.{◌≡◌, true, false, MatchOption, ℕ, List, [], ◌∷◌, ◌++◌, IfOk, OnOk, length, ◌≤◌};
 ghost use Rattle.html_links.specs.Pieces.{from, is, lower, ends_attribute_name, ends_bare_value};
-ghost use Rattle.html_links.specs.Asked.{is_wanted, asked_name};
+ghost use Rattle.html_links.specs.Asked.{is_wanted, is_styling, asked_name};
 
 use crate::asked::{AskedName, Wanted};
 use crate::bytes::{Span, ends_attribute_name, ends_bare_value, is_quote, is_white, split_at_byte};
@@ -75,7 +75,7 @@ impl Lexer {
     {
         match self.wanted {
             Wanted::Nothing => false,
-            Wanted::Style => begins_style(&self.attribute),
+            Wanted::Style => begins_styling(&self.attribute),
             Wanted::All => true,
         }
     }
@@ -207,15 +207,20 @@ impl Lexer {
     }
 }
 
-ghost use Rattle.std.specs.Str.{bytes_eq};
-ghost use Rattle.std.specs.Prelude.{codes};
+ghost use Rattle.html_links.specs.inner.Rows.{begins_styling};
 
-/// Whether a front in lower case may be one of `style`, by its first byte.
-fn begins_style(front: &[u8]) -> bool
-    ensures { result ≡ false → (name : List ℕ) → bytes_eq (front.now ++ name) (codes "style") ≡ false }
+/// Whether a front in lower case may be one of an attribute that is read like a style sheet, by its first byte.
+fn begins_styling(front: &[u8]) -> bool
+    ensures { result ≡ false → (name : List ℕ) → is_styling (front.now ++ name) ≡ false }
 {
     match front {
-        [first, ..] => *first == b's',
+        [first, ..] => may_begin_styling(*first),
         [] => true,
     }
+}
+
+fn may_begin_styling(first: u8) -> bool
+    ensures { result ≡ begins_styling first }
+{
+    first == b's' || first == b'f' || first == b'm' || first == b'c'
 }

@@ -191,6 +191,7 @@ impl Lexer {
             RawElement::Script => self.mode = Mode::RawText(element, 0),
             RawElement::Title => self.mode = Mode::RawText(element, 0),
             RawElement::Textarea => self.mode = Mode::RawText(element, 0),
+            RawElement::Xmp => self.mode = Mode::RawText(element, 0),
         }
     }
 

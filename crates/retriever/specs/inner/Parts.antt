@@ -18,11 +18,12 @@ use Rattle.workers.specs.declared.retrieval.Halt.{Halt}
 use Rattle.report.specs.Entries.{harvest_lines_of}
 use Rattle.report.specs.ExitStatus.{exit_status}
 use Rattle.report.specs.Report.{report_text}
+use Rattle.retriever.specs.Keeping.{kind_in, kinds_of}
 use Rattle.retriever.specs.InputFound.{TellsSite, TellsFault}
 use Rattle.retriever.specs.Retrieved.{Finish, Stopped, Finishes}
 use Rattle.retriever.specs.Run.{finish_text, finish_status}
 use Rattle.site_records.specs.Records.{RecordedAnswers}
-use Rattle.retriever.specs.Site.{AreNamesOf, IsWrongBy, kind_at, kinds_of}
+use Rattle.retriever.specs.Site.{AreNamesOf, IsWrongBy, kind_at}
 use Rattle.streams.specs.Streams.{AppendsFront}
 use Rattle.report.specs.Trace.{trace_text}
 use Rattle.retriever.specs.declared.fault.Fault.{Fault}
@@ -68,7 +69,7 @@ is_borne_out cause.Mismatch = false
 
 -- what is said of a harvest beside its contents: the entries, the records and the kept pages say what its state holds,
 -- which is sound
-abbrev pub IsRead : Harvested BodyValue → Type 0
+abbrev pub IsRead : {B : Type 0} → Harvested B → Type 0
 IsRead h = AreEntries h × AreRecords h × ArePages h × IfSome h.plan (λ plan. IsSound (policy plan) h.state)
 
 -- what is told of a retrieval: its report, in which the kept pages have their names by these rules, and the status of its records, of a
@@ -76,7 +77,7 @@ IsRead h = AreEntries h × AreRecords h × ArePages h × IfSome h.plan (λ plan.
 -- check failed
 abbrev pub IsRetrievalTold : PageNames → Bool → Result (Harvested BodyValue) (Halt BodyValue) → List ℕ → ℕ → Type 0
 IsRetrievalTold naming is_shown (Ok h) text status =
-    IsRead h × (names : List (List ℕ)) × AreNamesOf naming h.kept (kinds_of h.bodies) names × (text ≡ trace_text (shown_of is_shown h.trace) ++ report_text (harvest_lines_of h names))
+    IsRead h × (names : List (List ℕ)) × AreNamesOf naming h.kept (kinds_of kind_in h.bodies) names × (text ≡ trace_text (shown_of is_shown h.trace) ++ report_text (harvest_lines_of h names))
     × (status ≡ exit_status (map (λ recorded. recorded.1) h.records))
 IsRetrievalTold naming is_shown (Err halt) text status =
     (text ≡ trace_text (shown_of (is_borne_out halt.cause && is_shown) halt.harvest.trace) ++ finish_text (Stopped halt.cause)) × (status ≡ 1)

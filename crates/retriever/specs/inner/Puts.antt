@@ -1,25 +1,25 @@
 -- What is put into a folder and told of what was retrieved, before it is said what that is. How a text is told, with the
 -- status that belongs to it, is left to who says it.
 use Rattle.std.specs.Prelude.{◌≡◌, ◌⊎◌, ◌&&◌, ℕ, Bool, List, ◌++◌, map, codes, Result, Ok, Err}
-use Rattle.kept_bodies.specs.Bodies.{BodyValue}
 use Rattle.frontier_core.specs.declared.event.Cause.{Cause}
 use Rattle.frontier_core.specs.declared.event.Cause.TheVariants as cause
 use Rattle.harvest.specs.Harvests.{Harvested}
 use Rattle.workers.specs.declared.retrieval.Halt.{Halt}
 use Rattle.local_tree.specs.Folders.{Holding}
 use Rattle.options.specs.declared.naming.PageNames.{PageNames}
-use Rattle.local_tree.specs.SiteFiles.{IsWhole, IsTorn}
+use Rattle.local_tree.specs.Shelves.{IsShelved, IsHalfShelved}
 use Rattle.local_tree.specs.declared.site_files.WriteFault.{WriteFault}
 use Rattle.local_tree.specs.declared.site_files.WriteFault.TheVariants.{Device}
 use Rattle.report.specs.Entries.{harvest_lines_of}
 use Rattle.report.specs.ExitStatus.{exit_status}
 use Rattle.report.specs.Report.{report_text}
+use Rattle.retriever.specs.Keeping.{Keeping, kinds_of}
 use Rattle.retriever.specs.inner.Live.{IsTornTold}
 use Rattle.retriever.specs.Parts.{shown_of}
 use Rattle.retriever.specs.inner.Parts.{IsRead, is_borne_out}
 use Rattle.retriever.specs.Retrieved.{Stopped}
 use Rattle.retriever.specs.Run.{finish_text}
-use Rattle.retriever.specs.Site.{AreNamesOf, kinds_of}
+use Rattle.retriever.specs.Site.{AreNamesOf}
 use Rattle.report.specs.Trace.{trace_text}
 
 -- the cause that is told where there is no memory for more
@@ -29,7 +29,7 @@ bare_cause cause.Memory = cause.Memory
 bare_cause cause.Mismatch = cause.Mismatch
 
 -- the line of a retrieval that stopped is told, behind what is shown of its trace, or without that for want of memory
-abbrev pub IsHaltTold : (List ℕ → ℕ → Type 0) → Bool → Halt BodyValue → Type 0
+abbrev pub IsHaltTold : {B : Type 0} → (List ℕ → ℕ → Type 0) → Bool → Halt B → Type 0
 IsHaltTold IsTold is_shown halt =
     IsTold (trace_text (shown_of (is_borne_out halt.cause && is_shown) halt.harvest.trace) ++ finish_text (Stopped halt.cause)) 1
     ⊎ IsTold (finish_text (Stopped (bare_cause halt.cause))) 1
@@ -39,20 +39,20 @@ abbrev pub files_whole : WriteFault → ℕ
 files_whole (Device whole) = whole
 
 -- these files were put, and then this text was told with this status, or a put failed
-abbrev pub IsPutAndTold : (List ℕ → ℕ → Type 0) → List (List ℕ) → List BodyValue → List ℕ × ℕ → Holding → Holding → Type 0
-IsPutAndTold IsTold names bodies (text, wanted) old new =
-    (IsWhole names bodies old.files new.files × (new.failed ≡ old.failed) × IsTold text wanted)
-    ⊎ ((whole : ℕ) × IsTorn names bodies old new whole × IsTornTold IsTold text whole)
+abbrev pub IsPutAndTold : {B : Type 0} → Keeping B → (List ℕ → ℕ → Type 0) → List (List ℕ) → List B → List ℕ × ℕ → Holding → Holding → Type 0
+IsPutAndTold keeps IsTold names bodies (text, wanted) old new =
+    (IsShelved keeps.holds names bodies old.files new.files × (new.failed ≡ old.failed) × IsTold text wanted)
+    ⊎ ((whole : ℕ) × IsHalfShelved keeps.holds names bodies old new whole × IsTornTold IsTold text whole)
 
 -- the text of a harvest whose kept pages have these names
-abbrev pub harvest_text : Bool → Harvested BodyValue → List (List ℕ) → List ℕ
+abbrev pub harvest_text : {B : Type 0} → Bool → Harvested B → List (List ℕ) → List ℕ
 harvest_text is_shown h names = trace_text (shown_of is_shown h.trace) ++ report_text (harvest_lines_of h names)
 
 -- what is put and told of what was retrieved: the kept pages and the report of a harvest that was read, or the line of the
 -- cause for which it stopped; or there is no memory for it, and nothing is put
-abbrev pub IsPutOf : (List ℕ → ℕ → Type 0) → PageNames → Bool → Result (Harvested BodyValue) (Halt BodyValue) → Holding → Holding → Type 0
-IsPutOf IsTold naming is_shown (Ok h) old new =
+abbrev pub IsPutOf : {B : Type 0} → Keeping B → (List ℕ → ℕ → Type 0) → PageNames → Bool → Result (Harvested B) (Halt B) → Holding → Holding → Type 0
+IsPutOf keeps IsTold naming is_shown (Ok h) old new =
     ((new ≡ old) × IsTold (codes "stopped memory\n") 1)
-    ⊎ (IsRead h × (names : List (List ℕ)) × AreNamesOf naming h.kept (kinds_of h.bodies) names
-    × IsPutAndTold IsTold names h.bodies (harvest_text is_shown h names, exit_status (map (λ recorded. recorded.1) h.records)) old new)
-IsPutOf IsTold naming is_shown (Err halt) old new = (new ≡ old) × IsHaltTold IsTold is_shown halt
+    ⊎ (IsRead h × (names : List (List ℕ)) × AreNamesOf naming h.kept (kinds_of keeps.kind_of h.bodies) names
+    × IsPutAndTold keeps IsTold names h.bodies (harvest_text is_shown h names, exit_status (map (λ recorded. recorded.1) h.records)) old new)
+IsPutOf keeps IsTold naming is_shown (Err halt) old new = (new ≡ old) × IsHaltTold IsTold is_shown halt

@@ -1,14 +1,10 @@
 -- What proofs alone need beside `Systems`.
 use Rattle.std.specs.Prelude.{◌≡◌, ◌&&◌, ℕ, Bool, is_none, false, List, All, Option, Some, None, bytes_eq, length, map}
 use Rattle.options.specs.declared.order.Order.{Order}
-use Rattle.fetcher.specs.declared.fetcher.Fetcher.{Ghosts as Fetchers}
-use Rattle.kept_bodies.specs.Bodies.{BodyValue}
 use Rattle.site_records.specs.RecordSites.{RecordValue}
 use Rattle.site_records.specs.Resumption.{Resuming}
-use Rattle.retriever.specs.Found.{outside}
-use Rattle.retriever.specs.Live.{Lives}
 use Rattle.retriever.specs.Saving.{resuming_of}
-use Rattle.retriever.specs.Systems.{Means, held, settings_of}
+use Rattle.retriever.specs.Systems.{Means, settings_of}
 
 -- an order that resumes this goes on from the file at the path
 abbrev pub goes_on_from : Option (List ℕ) → List ℕ → Bool
@@ -19,17 +15,10 @@ goes_on_from (Some from) path = bytes_eq from path
 abbrev pub is_plain : Option (List ℕ) → Option (List ℕ) → Bool
 is_plain resume save = is_none resume && is_none save
 
-module _ {S F D V : Type 0} (m : Means S F D V) (order : Order) where
-  -- the live retrieval that is ordered, by these fetchers, into a folder that the system opens at the order's prefix
-  pub record LivesInto {X : Type 0} (means : Fetchers X BodyValue) (fetchers : List X) (before after : Option (List ℕ)) (status : ℕ) : Type 0 where
-    pub folder : D
-    pub opened : m.gives.opens m.system order.prefix folder
-    pub left : D
-    pub lives : Lives means order fetchers (outside (held m folder) before) (outside (held m left) after) status
-
+module _ {S B F K D V : Type 0} (m : Means S B F K D V) (order : Order) where
   -- these fetchers ask such ones as the system makes for the order, with notes or without, for what is recorded
-  pub record AreResuming (is_recording : Bool) (recorded : RecordValue) (all : List (Resuming F)) : Type 0 where
-    pub fetchers : List F
-    pub made : All (m.gives.makes m.system (settings_of order is_recording)) fetchers
+  pub record AreResuming (is_recording : Bool) (recorded : RecordValue) (all : List (Resuming K)) : Type 0 where
+    pub fetchers : List K
+    pub made : All (m.gives.makes_recorder m.system (settings_of order is_recording)) fetchers
     pub count : length fetchers ≡ order.workers
-    pub are : all ≡ map (resuming_of m.fetchers.log recorded) fetchers
+    pub are : all ≡ map (resuming_of m.recorders.log recorded) fetchers

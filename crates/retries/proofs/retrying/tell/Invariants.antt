@@ -2,10 +2,9 @@
 use Rattle.std.proofs.Common.{◌≡◌}
 use Rattle.fetcher.specs.declared.fetcher.Ask.TheVariants as ask
 use Rattle.answer_notes.specs.Tellings.{outcome_told, body_told}
-use Rattle.answer_notes.specs.HopChains.{rules_of_hops}
 use Rattle.pacing.specs.Retries.{retries_by}
 use Rattle.retries.specs.Tries.{TriesSoFar}
-use Rattle.retries.specs.Worth.{is_worth, is_worth_hops}
+use Rattle.retries.specs.Worth.{is_worth}
 use Rattle.retries.proofs.retrying.tell.Given as goal
 
 abbrev pub invariant-loop-made : goal.invariant-loop-made

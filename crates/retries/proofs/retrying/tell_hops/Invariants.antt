@@ -1,11 +1,10 @@
 -- The fetcher was asked once and so often again, and its site is what it was.
 use Rattle.std.proofs.Common.{◌≡◌}
 use Rattle.fetcher.specs.declared.fetcher.Ask.TheVariants as ask
-use Rattle.answer_notes.specs.Tellings.{outcome_told, body_told}
 use Rattle.answer_notes.specs.HopChains.{rules_of_hops}
 use Rattle.pacing.specs.Retries.{retries_by}
 use Rattle.retries.specs.Tries.{TriesSoFar}
-use Rattle.retries.specs.Worth.{is_worth, is_worth_hops}
+use Rattle.retries.specs.Worth.{is_worth_hops}
 use Rattle.retries.proofs.retrying.tell_hops.Given as goal
 
 abbrev pub invariant-loop-made : goal.invariant-loop-made

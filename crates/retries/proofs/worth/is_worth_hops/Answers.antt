@@ -1,5 +1,5 @@
 -- The last hop decides.
-use Rattle.std.proofs.Common.{◌∙◌, ap, arith}
+use Rattle.std.proofs.Common.{◌∙◌, arith}
 use Rattle.pacing.specs.Retries.{retries_by}
 use Rattle.retries.proofs.HopLemmas.{last_worth}
 use Rattle.retries.proofs.worth.is_worth_hops.Goals as goal

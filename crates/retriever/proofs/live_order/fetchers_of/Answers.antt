@@ -1,4 +1,4 @@
-use Rattle.std.proofs.Common.{◌≡◌, [], ◌∷◌, All, length, sym, ap, ◌∙◌, subst, arith}
+use Rattle.std.proofs.Common.{◌≡◌, [], ◌∷◌, All, false, length, sym, ap, ◌∙◌, subst, arith}
 use Rattle.std.proofs.lemmas.List.{length-append}
 use Rattle.std.proofs.lemmas.List.Elements.{All-append, All-cons, All-nil}
 use Rattle.std.proofs.lemmas.Result.{IfOk-from_err}
@@ -7,7 +7,7 @@ use Rattle.retriever.proofs.live_order.fetchers_of.Goals as goal
 
 pub loop-preserved : goal.loop-preserved
 loop-preserved g c =
-    let Made = g.S.System.makes c.args.system.now (settings_of c.args.order.now c.args.is_recording) in
+    let Made = g.S.System.makes c.args.system.now (settings_of c.args.order.now false) in
     let new = c.in_ok-fetcher.fetcher in
     let here : Made new =
     subst (λ settings. g.S.System.makes c.args.system.now settings new) c.in_ok-settings.ensures c.in_ok-fetcher.ensures in

@@ -1,19 +1,44 @@
--- The fetchers are the system's, each behind the record.
-use Rattle.std.proofs.Common.{refl}
+-- The fetchers are the system's, each behind the record, and the folder is its, too.
+use Rattle.std.proofs.Common.{ℕ, List, refl, subst}
 use Rattle.std.proofs.lemmas.Result.{err_from_is_err_and}
-use Rattle.retriever.specs.Systems.{means}
-use Rattle.retriever.proofs.ResumeLaws.{again_into}
+use Rattle.local_tree.specs.Folders.{holding}
+use Rattle.site_records.specs.Resumption.{Resuming}
+use Rattle.retriever.specs.Found.{outside}
+use Rattle.retriever.specs.Keeping.{in_memory}
+use Rattle.retriever.specs.Live.{Lives}
+use Rattle.retriever.specs.Saving.{resuming_means}
 use Rattle.retriever.proofs.live_order.live_again.Goals as goal
 
 pub returns : goal.returns
 returns g c =
-    let m = means g.S.System c.args.system.now g.S.Fetcher.Fetcher g.S.Fetcher.Recording.noted g.S.Folder.Folder g.S.Record.Write in
+    let D = g.S.Folder.Folder in
+    let W = g.W.Write in
+    let those = c.in_ok-resumed.ensures.resumed in
+    let before = outside (holding D.files D.failed c.in_ok-folder.folder) (W.contents c.args.writer.now) in
+    let after = outside (holding D.files D.failed c.live_into.new.folder) (W.contents c.live_into.new.writer) in
     record {
-      lives = again_into m c.args.order.now _ _ c.live_into.result c.args.recorded.now c.in_ok-resumed.resumed.items c.requires.resumed c.in_ok-resumed.ensures.resumed c.live_into.ensures.lives;
-      unwritten = c.live_into.ensures.unwritten;
+      lives = record {
+        recorded = c.args.recorded.now;
+        resumed = c.requires.resumed;
+        fetchers = those.fetchers;
+        folder = c.in_ok-folder.folder;
+        given = record {
+          made = those.made;
+          count = those.count;
+          opened = subst (λ (path : List ℕ). g.S.System.opens c.args.system.now path c.in_ok-folder.folder) c.as_str.ensures c.in_ok-folder.ensures;
+        };
+        left = c.live_into.new.folder;
+        lives = subst (λ (fs : List (Resuming _)). Lives (resuming_means g.S.Recorder.Fetcher) in_memory c.args.order.now fs before after c.live_into.result) those.are c.live_into.ensures;
+      };
+      unwritten = tt;
     }
 
 pub returns-in_err-resumed : goal.returns-in_err-resumed
 returns-in_err-resumed g c =
     let p = err_from_is_err_and c.from_residual.result c.from_residual.ensures.1 in
+    rw p.1 (record { lives = tt; unwritten = refl })
+
+pub returns-in_err-folder : goal.returns-in_err-folder
+returns-in_err-folder g c =
+    let p = err_from_is_err_and c.from_residual-in_err-folder.result c.from_residual-in_err-folder.ensures.1 in
     rw p.1 (record { lives = tt; unwritten = refl })

@@ -1,21 +1,33 @@
--- The fetchers are the system's.
-use Rattle.std.proofs.Common.{◌∙◌, refl, sym}
+-- The fetchers and the folder are the system's.
+use Rattle.std.proofs.Common.{◌∙◌, ℕ, List, refl, subst, sym}
 use Rattle.std.proofs.lemmas.Result.{err_from_is_err_and}
-use Rattle.retriever.specs.Systems.{means}
-use Rattle.retriever.proofs.ResumeLaws.{plainly_into}
 use Rattle.retriever.proofs.live_order.live_plainly.Goals as goal
 
 pub returns : goal.returns
 returns g c =
-    let m = means g.S.System c.args.system.now g.S.Fetcher.Fetcher g.S.Fetcher.Recording.noted g.S.Folder.Folder g.S.Record.Write in
     let fetchers = c.in_ok-fetchers.fetchers in
     let given = c.in_ok-fetchers.ensures in
     record {
-      lives = plainly_into m c.args.order.now _ _ c.live_into.result fetchers.items given.made (sym fetchers.ok.0 ∙ given.count) c.live_into.ensures.lives;
-      unwritten = c.live_into.ensures.unwritten;
+      lives = record {
+        fetchers = fetchers.items;
+        folder = c.in_ok-folder.folder;
+        given = record {
+          made = given.made;
+          count = sym fetchers.ok.0 ∙ given.count;
+          opened = subst (λ (path : List ℕ). g.S.System.opens c.args.system.now path c.in_ok-folder.folder) c.as_str.ensures c.in_ok-folder.ensures;
+        };
+        left = c.live_into.new.folder;
+        lives = c.live_into.ensures;
+      };
+      unwritten = tt;
     }
 
 pub returns-in_err-fetchers : goal.returns-in_err-fetchers
 returns-in_err-fetchers g c =
     let p = err_from_is_err_and c.from_residual.result c.from_residual.ensures.1 in
+    rw p.1 (record { lives = tt; unwritten = refl })
+
+pub returns-in_err-folder : goal.returns-in_err-folder
+returns-in_err-folder g c =
+    let p = err_from_is_err_and c.from_residual-in_err-folder.result c.from_residual-in_err-folder.ensures.1 in
     rw p.1 (record { lives = tt; unwritten = refl })

@@ -4,6 +4,7 @@ use Rattle.std.specs.List.{flat_map}
 use Rattle.local_tree.specs.Folders.{holding}
 use Rattle.site_records.specs.WrittenRecords.{record_text}
 use Rattle.retriever.specs.Found.{crew_of}
+use Rattle.retriever.specs.Keeping.{in_memory}
 use Rattle.retriever.specs.inner.Parts.{IsToldAs}
 use Rattle.retriever.specs.Saving.{IsSaved}
 use Rattle.retriever.proofs.LiveLaws.{crew_ends, of_crew}
@@ -18,7 +19,7 @@ returns g c =
     let news = c.retrieve_shown-retrieved.result.1.items in
     let known = c.retrieve_shown-retrieved.ensures in
     let olds = c.args.fetchers.items in
-    let crew = crew_of F olds news in
+    let crew = crew_of F in_memory olds news in
     let by = of_crew crew r c.args.fetchers.len c.args.fetchers.ok.0 known.numbered known.own in
     let (shown, ending, ends, written) = crew_ends crew c.args.order.now r
     (holding D.files D.failed c.args.folder.now) (holding D.files D.failed c.finish-told.new.folder)

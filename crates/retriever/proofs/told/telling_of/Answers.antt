@@ -4,7 +4,7 @@ use Rattle.std.proofs.lemmas.Result.{IfOk-from_err}
 use Rattle.retriever.proofs.told.telling_of.Goals as goal
 
 pub returns : goal.returns
-returns c = record {
+returns g c = record {
   naming = c.in_ok-names.ensures.naming;
   count = c.in_ok-names.ensures.count;
   distinct = c.in_ok-names.ensures.distinct;
@@ -13,7 +13,7 @@ returns c = record {
 }
 
 pub returns-in_err-names : goal.returns-in_err-names
-returns-in_err-names c =
+returns-in_err-names g c =
     let failed = c.from_residual.ensures.0 in
     record {
       naming = IfOk-from_err _ _ failed;
@@ -24,7 +24,7 @@ returns-in_err-names c =
     }
 
 pub returns-in_err-report : goal.returns-in_err-report
-returns-in_err-report c =
+returns-in_err-report g c =
     let failed = c.from_residual-in_err-report.ensures.0 in
     record {
       naming = IfOk-from_err _ _ failed;
@@ -35,7 +35,7 @@ returns-in_err-report c =
     }
 
 pub returns-in_err-push_shown : goal.returns-in_err-push_shown
-returns-in_err-push_shown c =
+returns-in_err-push_shown g c =
     let failed = c.from_residual-in_err-push_shown.ensures.0 in
     record {
       naming = IfOk-from_err _ _ failed;
@@ -46,7 +46,7 @@ returns-in_err-push_shown c =
     }
 
 pub returns-in_err-push_str : goal.returns-in_err-push_str
-returns-in_err-push_str c =
+returns-in_err-push_str g c =
     let failed = c.from_residual-in_err-push_str.ensures.0 in
     record {
       naming = IfOk-from_err _ _ failed;

@@ -1,5 +1,6 @@
 -- The loop keeps the entries so far, and ends at the first bad one, or within the one in which the bytes end.
-use Rattle.std.proofs.Common.{◌≡◌, ◌++◌, ◌∙◌, [], sym, subst, inl, arith, rules}
+use Rattle.std.proofs.Common.{◌≡◌, ◌++◌, ◌∙◌, [], sym, subst, inl, inr, arith, rules}
+use Rattle.std.proofs.lemmas.Result.{err_from_is_err_and}
 use Rattle.site_records.specs.Records.{version_line}
 use Rattle.site_records.specs.RecordNotes.{HasNotes}
 use Rattle.site_records.specs.Fronts.{IsTornEntry}
@@ -30,6 +31,12 @@ pub returns-in-Err-clause-fault : goal.returns-in-Err-clause-fault
 returns-in-Err-clause-fault c =
     rw c.at.ensures (first_bad_whole _ _ _ _ _ c.in-Err.fault c.entries.invariant.read
     (not_so c.is_torn.result (IsTornEntry c.entries.reading.version c.entries.rest.now) (λ torn. c.is_torn.ensures.1 torn) c.entries-test.true) c.in-Err.ensures.read)
+
+pub returns-in_err-site-clause-fault : goal.returns-in_err-site-clause-fault
+returns-in_err-site-clause-fault c =
+    let p = err_from_is_err_and c.from_residual.result c.from_residual.ensures.1 in
+    let s = c.entries.invariant.read in
+    rw (p.1, p.2) (inr (inl (s.above, c.entries.rest.now, front_read _ _ _ _ _ s (c.is_torn.ensures.0 c.entries-test.false))))
 
 pub returns-clause-front : goal.returns-clause-front
 returns-clause-front c =

@@ -1,5 +1,5 @@
 use Rattle.std.proofs.Common.{◌∙◌, [], ◌∷◌}
-use Rattle.html_links.specs.Markup.{mark, until_section, beyond_section}
+use Rattle.html_links.specs.Markup.{until_section, beyond_section}
 use Rattle.html_links.proofs.Stepping.{section_put, in_section_other}
 use Rattle.html_links.proofs.lexer.Lexer.section.Goals as goal
 

@@ -5,7 +5,7 @@ use Rattle.fetcher.specs.declared.fetcher.Ask.TheVariants as ask
 use Rattle.answer_notes.specs.Tellings.{outcome_told}
 use Rattle.answer_notes.specs.declared.noted.Noted.TheVariants.{Page}
 use Rattle.record_journal.specs.Handed.{Journaling}
-use Rattle.record_journal.proofs.HandedLaws.{on_err, gained_over, is_handed, says_told}
+use Rattle.record_journal.proofs.HandedLaws.{on_err, gained_over, half_handed, is_handed, says_told}
 use Rattle.record_journal.proofs.journaled.Journaled.ask_and_hand.Goals as goal
 
 pub returns-in_err-name : goal.returns-in_err-name
@@ -20,6 +20,7 @@ returns-in_err-name g c =
       refused = on_err _ (inl refl);
       handed = IfOk-from_err _ _ failed;
       unkept = on_err _ refl;
+      half = on_err _ (inl refl);
     }
 
 pub returns-in_err-told : goal.returns-in_err-told
@@ -35,6 +36,7 @@ returns-in_err-told g c =
       refused = on_err _ (gained_over (ask.Page c.args.at.now) (ap (λ (f : Journaling _ _). g.F.Fetcher.log f.inner) view) c.in_err-told.ensures.refused);
       handed = IfOk-from_err _ _ failed;
       unkept = on_err _ (ap (λ (f : Journaling _ _). f.kept) view);
+      half = on_err _ (inl (ap (λ (f : Journaling _ _). f.journal) view));
     }
 
 pub returns-in_err-answer : goal.returns-in_err-answer
@@ -50,6 +52,7 @@ returns-in_err-answer g c =
       refused = on_err _ (gained_over (ask.Page c.args.at.now) (ap (λ (f : Journaling _ _). g.F.Fetcher.log f.inner) view) (inr c.in_ok-told.ensures.asked));
       handed = IfOk-from_err _ _ failed;
       unkept = on_err _ (ap (λ (f : Journaling _ _). f.kept) view);
+      half = on_err _ (inl (ap (λ (f : Journaling _ _). f.journal) view));
     }
 
 pub returns-in_err-hand : goal.returns-in_err-hand
@@ -66,6 +69,10 @@ returns-in_err-hand g c =
       refused = on_err _ (gained_over (ask.Page c.args.at.now) (ap (λ (f : Journaling _ _). g.F.Fetcher.log f.inner) view) (inr (ap g.F.Fetcher.log inner ∙ c.in_ok-told.ensures.asked)));
       handed = IfOk-from_err _ _ failed;
       unkept = on_err _ (c.in_err-hand.ensures.err ∙ ap (λ (f : Journaling _ _). f.kept) view);
+      half = on_err _ (inr (
+        c.in_ok-told.told,
+        half_handed g.J.Journal.contents c.hand.new.self.journal (ap (λ (f : Journaling _ _). f.journal) view) (ap (λ at. Page at c.in_ok-told.told) c.in_ok-name.ensures) c.in_err-hand.ensures.half,
+      ));
     }
 
 pub returns : goal.returns
@@ -91,4 +98,5 @@ returns g c =
         answer.body,
       );
       unkept = tt;
+      half = tt;
     }

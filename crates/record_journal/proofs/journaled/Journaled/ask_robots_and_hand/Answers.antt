@@ -1,10 +1,10 @@
 -- Each exit has asked for the rules at most, and the note that is handed over says them.
-use Rattle.std.proofs.Common.{◌∙◌, ◌++◌, ◌∷◌, [], sym, ap, subst, inr}
+use Rattle.std.proofs.Common.{◌∙◌, ◌++◌, ◌∷◌, [], sym, ap, subst, inl, inr}
 use Rattle.std.proofs.lemmas.Result.{IfOk-from_err}
 use Rattle.fetcher.specs.declared.fetcher.Ask.TheVariants as ask
 use Rattle.answer_notes.specs.declared.noted.Noted.TheVariants.{Chain}
 use Rattle.record_journal.specs.Handed.{Journaling}
-use Rattle.record_journal.proofs.HandedLaws.{on_err, gained_over, is_handed}
+use Rattle.record_journal.proofs.HandedLaws.{on_err, gained_over, half_handed, is_handed}
 use Rattle.record_journal.proofs.journaled.Journaled.ask_robots_and_hand.Goals as goal
 
 pub returns-in_err-hops : goal.returns-in_err-hops
@@ -20,6 +20,7 @@ returns-in_err-hops g c =
       refused = on_err _ (gained_over (ask.Rules c.args.of.now) (ap (λ (f : Journaling _ _). g.F.Fetcher.log f.inner) view) c.in_err-hops.ensures.refused);
       handed = IfOk-from_err _ _ failed;
       unkept = on_err _ (ap (λ (f : Journaling _ _). f.kept) view);
+      half = on_err _ (inl (ap (λ (f : Journaling _ _). f.journal) view));
     }
 
 pub returns-in_err-rules : goal.returns-in_err-rules
@@ -35,6 +36,7 @@ returns-in_err-rules g c =
       refused = on_err _ (gained_over (ask.Rules c.args.of.now) (ap (λ (f : Journaling _ _). g.F.Fetcher.log f.inner) view) (inr c.in_ok-hops.ensures.asked));
       handed = IfOk-from_err _ _ failed;
       unkept = on_err _ (ap (λ (f : Journaling _ _). f.kept) view);
+      half = on_err _ (inl (ap (λ (f : Journaling _ _). f.journal) view));
     }
 
 pub returns-in_err-hand : goal.returns-in_err-hand
@@ -51,6 +53,10 @@ returns-in_err-hand g c =
       refused = on_err _ (gained_over (ask.Rules c.args.of.now) (ap (λ (f : Journaling _ _). g.F.Fetcher.log f.inner) view) (inr (ap g.F.Fetcher.log inner ∙ c.in_ok-hops.ensures.asked)));
       handed = IfOk-from_err _ _ failed;
       unkept = on_err _ (c.in_err-hand.ensures.err ∙ ap (λ (f : Journaling _ _). f.kept) view);
+      half = on_err _ (inr (
+        c.in_ok-hops.hops.hops,
+        half_handed g.J.Journal.contents c.hand.new.self.journal (ap (λ (f : Journaling _ _). f.journal) view) (ap (λ of. Chain (record { of = of; hops = c.in_ok-hops.hops.hops })) c.in_ok-hops.ensures.of) c.in_err-hand.ensures.half,
+      ));
     }
 
 pub returns : goal.returns
@@ -73,4 +79,5 @@ returns g c =
         rules,
       );
       unkept = tt;
+      half = tt;
     }

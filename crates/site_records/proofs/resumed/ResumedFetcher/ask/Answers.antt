@@ -1,6 +1,7 @@
 -- What is asked is logged first; a site that answers from the record, or from the fetcher, is the same as before.
 use Rattle.std.proofs.Common.{◌∙◌, sym, ap, subst, inl, inr, take}
 use Rattle.std.proofs.lemmas.Result.{IfOk-from_err, IfOk-weaker}
+use Rattle.fetcher.specs.Logs.{GainedAtMost}
 use Rattle.fetcher.specs.declared.fetcher.Ask.TheVariants.{Page}
 use Rattle.site_records.specs.Resumption.{IsSpared, Resuming, SaysOr, resumption_of}
 use Rattle.site_records.proofs.ResumptionLaws.{gained, spared_more, on_err, on_ok, before_stays, logged, same_site, says_stated, says_inner}
@@ -15,6 +16,7 @@ returns-in_err-try_clone g c = record {
   told = IfOk-from_err _ _ c.from_residual.ensures.0;
   asked = IfOk-from_err _ _ c.from_residual.ensures.0;
   refused = on_err _ (inl (ap (λ (r : Resuming _). r.asks) c.self.view_is));
+  once = inl (ap (λ (r : Resuming _). g.F.Fetcher.log r.inner) c.self.view_is);
 }
 
 pub invariant_of-self-in_err-push : goal.invariant_of-self-in_err-push
@@ -26,6 +28,7 @@ returns-in_err-push g c = record {
   told = IfOk-from_err _ _ c.from_residual-in_err-push.ensures.0;
   asked = IfOk-from_err _ _ c.from_residual-in_err-push.ensures.0;
   refused = on_err _ (inl (c.in_err-push.ensures.items ∙ ap (λ (r : Resuming _). r.asks) c.self.view_is));
+  once = inl (ap (λ (r : Resuming _). g.F.Fetcher.log r.inner) c.self.view_is);
 }
 
 pub invariant_of-self-in_err-answer : goal.invariant_of-self-in_err-answer
@@ -37,6 +40,7 @@ returns-in_err-answer g c = record {
   told = IfOk-from_err _ _ c.from_residual-in_err-answer.ensures.0;
   asked = IfOk-from_err _ _ c.from_residual-in_err-answer.ensures.0;
   refused = on_err _ (inr (logged c.self.view_is c.in_ok-push.ensures.items (ap Page c.in_ok-try_clone.ensures)));
+  once = inl (ap (λ (r : Resuming _). g.F.Fetcher.log r.inner) c.self.view_is);
 }
 
 pub invariant_of-self-in-Some : goal.invariant_of-self-in-Some
@@ -53,6 +57,7 @@ returns-in-Some g c = record {
       (says_stated g.F.Fetcher.says site c.args.at.now _ (sym c.in_ok-answer.ensures ∙ c.in-Some.is));
   asked = logged c.self.view_is c.in_ok-push.ensures.items (ap Page c.in_ok-try_clone.ensures);
   refused = tt;
+  once = inl (c.tell_recorded.ensures.log ∙ ap (λ (r : Resuming _). g.F.Fetcher.log r.inner) c.self.view_is);
 }
 
 pub invariant_of-self-in-None : goal.invariant_of-self-in-None
@@ -72,4 +77,6 @@ returns-in-None g c = record {
       c.ask.ensures.told;
   asked = on_ok _ (logged c.self.view_is c.in_ok-push.ensures.items (ap Page c.in_ok-try_clone.ensures));
   refused = on_err _ (inr (logged c.self.view_is c.in_ok-push.ensures.items (ap Page c.in_ok-try_clone.ensures)));
+  once = subst (λ (r : Resuming _). GainedAtMost (g.F.Fetcher.log r.inner) (g.F.Fetcher.log c.ask.new.self) (Page c.args.at.now)) c.self.view_is
+      (gained _ c.ask.result c.ask.ensures.asked c.ask.ensures.refused);
 }

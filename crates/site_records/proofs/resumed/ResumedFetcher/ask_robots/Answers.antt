@@ -1,6 +1,7 @@
 -- What is asked is logged first; a site that answers from the record, or from the fetcher, is the same as before.
 use Rattle.std.proofs.Common.{◌∙◌, sym, ap, subst, inl, inr, take}
 use Rattle.std.proofs.lemmas.Result.{IfOk-from_err, IfOk-weaker}
+use Rattle.fetcher.specs.Logs.{GainedAtMost}
 use Rattle.fetcher.specs.declared.fetcher.Ask.TheVariants.{Rules}
 use Rattle.site_records.specs.Resumption.{IsSpared, Resuming, RulesOr, resumption_of}
 use Rattle.site_records.proofs.ResumptionLaws.{gained, spared_more, on_err, on_ok, before_stays, logged, same_site, rules_stated, rules_inner}
@@ -15,6 +16,7 @@ returns-in_err-try_clone g c = record {
   told = IfOk-from_err _ _ c.from_residual.ensures.0;
   asked = IfOk-from_err _ _ c.from_residual.ensures.0;
   refused = on_err _ (inl (ap (λ (r : Resuming _). r.asks) c.self.view_is));
+  once = inl (ap (λ (r : Resuming _). g.F.Fetcher.log r.inner) c.self.view_is);
 }
 
 pub invariant_of-self-in_err-push : goal.invariant_of-self-in_err-push
@@ -26,6 +28,7 @@ returns-in_err-push g c = record {
   told = IfOk-from_err _ _ c.from_residual-in_err-push.ensures.0;
   asked = IfOk-from_err _ _ c.from_residual-in_err-push.ensures.0;
   refused = on_err _ (inl (c.in_err-push.ensures.items ∙ ap (λ (r : Resuming _). r.asks) c.self.view_is));
+  once = inl (ap (λ (r : Resuming _). g.F.Fetcher.log r.inner) c.self.view_is);
 }
 
 pub invariant_of-self-in_err-rules : goal.invariant_of-self-in_err-rules
@@ -37,6 +40,7 @@ returns-in_err-rules g c = record {
   told = IfOk-from_err _ _ c.from_residual-in_err-rules.ensures.0;
   asked = IfOk-from_err _ _ c.from_residual-in_err-rules.ensures.0;
   refused = on_err _ (inr (logged c.self.view_is c.in_ok-push.ensures.items (ap Rules c.in_ok-try_clone.ensures)));
+  once = inl (ap (λ (r : Resuming _). g.F.Fetcher.log r.inner) c.self.view_is);
 }
 
 pub invariant_of-self-in-Some : goal.invariant_of-self-in-Some
@@ -53,6 +57,7 @@ returns-in-Some g c = record {
       (rules_stated g.F.Fetcher.rules site c.args.of.now _ (sym c.in_ok-rules.ensures ∙ c.in-Some.is));
   asked = logged c.self.view_is c.in_ok-push.ensures.items (ap Rules c.in_ok-try_clone.ensures);
   refused = tt;
+  once = inl (c.tell_recorded.ensures.log ∙ ap (λ (r : Resuming _). g.F.Fetcher.log r.inner) c.self.view_is);
 }
 
 pub invariant_of-self-in-None : goal.invariant_of-self-in-None
@@ -72,4 +77,6 @@ returns-in-None g c = record {
       c.ask_robots.ensures.told;
   asked = on_ok _ (logged c.self.view_is c.in_ok-push.ensures.items (ap Rules c.in_ok-try_clone.ensures));
   refused = on_err _ (inr (logged c.self.view_is c.in_ok-push.ensures.items (ap Rules c.in_ok-try_clone.ensures)));
+  once = subst (λ (r : Resuming _). GainedAtMost (g.F.Fetcher.log r.inner) (g.F.Fetcher.log c.ask_robots.new.self) (Rules c.args.of.now)) c.self.view_is
+      (gained _ c.ask_robots.result c.ask_robots.ensures.asked c.ask_robots.ensures.refused);
 }

@@ -1,0 +1,27 @@
+-- Pages that are requested again and whose bodies are kept while they arrive.
+use Rattle.std.specs.Prelude.{Bool, List, Option}
+use Rattle.run_failures.specs.declared.loss_kind.LossKind.{LossKind}
+use Rattle.address.specs.Address.{AddressText}
+use Rattle.kept_bodies.specs.Bodies.{BodyValue}
+use Rattle.fetcher.specs.declared.answer.Answer.{Answer}
+use Rattle.fetcher.specs.declared.fetcher.Ask.{Ask}
+use Rattle.http_fetcher.specs.Fetching.{Fetching, StandsForOne}
+use Rattle.http_fetcher.specs.Meanings.{MayAnswer}
+use Rattle.pacing.specs.Retries.{Retried}
+use Rattle.retries.specs.Worth.{is_worth_outcome}
+
+-- what was requested of a fetcher
+abbrev pub asks_of : {C : Type 0} → Fetching C → List Ask
+asks_of fetcher = fetcher.asks
+
+-- the answer, whose body is kept somewhere, stands for one that a site may give for the address, where robots rules are honoured or not
+abbrev pub StandsForAnswer : {B : Type 0} → (B → BodyValue → Type 0) → Bool → AddressText → Answer B → Type 0
+StandsForAnswer holds robots at answer = StandsForOne holds answer (λ real. MayAnswer robots at real.outcome real.body)
+
+-- it stands for one that may be given to this fetcher
+abbrev pub MayKeep : {C B : Type 0} → (B → BodyValue → Type 0) → AddressText → Fetching C → Answer B → Type 0
+MayKeep holds at fetcher answer = StandsForAnswer holds fetcher.robots at answer
+
+-- the answer is worth another try, where this was the connection's loss
+abbrev pub is_worth_answer : {B : Type 0} → Retried → Answer B → Option LossKind → Bool
+is_worth_answer retries answer lost = is_worth_outcome retries answer.outcome lost

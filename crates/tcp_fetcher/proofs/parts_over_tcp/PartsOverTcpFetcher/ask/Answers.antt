@@ -1,0 +1,5 @@
+-- What is answered stands for what the fetcher below it may be answered.
+use Rattle.tcp_fetcher.proofs.parts_over_tcp.PartsOverTcpFetcher.ask.Goals as goal
+
+pub returns-clause-told : goal.returns-clause-told
+returns-clause-told g c = rw (← c.self.view_is) c.ask_into.ensures.told
