@@ -18,6 +18,8 @@ use std::marker::Model;
 use std::{fs, io, mem};
 use streams::{Close, Lock};
 
+mod named_parts;
+
 /// How many files of a site are made ready together, at most.
 const BATCH: usize = 256;
 
@@ -66,6 +68,8 @@ pub struct DiskFolder<'a, R: Files> {
     rt: &'a R,
     alloc: Global,
     prefix: String,
+    // Where a keeper's parts are; empty if there is none.
+    parts: String,
     // Where parts are made, while files are put.
     own: Option<OwnDir<R::File>>,
     known: Known,
@@ -332,6 +336,7 @@ where
             rt,
             alloc,
             prefix,
+            parts: String::new(alloc),
             own: None,
             known: Known::nothing(alloc),
             failed: 0,
@@ -339,9 +344,16 @@ where
         })
     }
 
+    /// The folder that takes the parts below this directory, which is on its disk.
+    pub fn with_parts(self, parts: String) -> DiskFolder<'a, R>
+        ensures { result ≡ self.entry }
+    {
+        DiskFolder { parts, ..self }
+    }
+
     /// Why the last put that failed did: the system's error, or, with none of its numbers, one of the folder's own (`NotADirectory`
     /// and `AlreadyExists` where a link or something else stands in the place of a directory or a file, `InvalidInput` where the
-    /// name isn't local, `Other` where closing failed). None where no put failed.
+    /// name isn't local, `Other` where closing failed or a part was lost). None where no put failed.
     pub fn error(&self) -> Option<&Error> {
         self.error.as_ref()
     }
@@ -398,11 +410,11 @@ where
         put
     }
 
-    // Puts the file. The directory for parts stays.
-    fn put_by_part(&mut self, name: &str, bytes: &[u8]) -> Result<(), FolderFault>
-        ensures counted { CountsRefusedPut self.old.failed self.new.failed result }
+    // Keeps why a put failed, if it did, and counts it.
+    fn count(&mut self, put: io::Result<()>) -> Result<(), FolderFault>
+        ensures { CountsRefusedPut self.old.failed self.new.failed result }
     {
-        match self.write(name, bytes) {
+        match put {
             Ok(()) => Ok(()),
             Err(error) => {
                 // The directory may have gone.
@@ -412,6 +424,14 @@ where
                 Err(FolderFault::Device)
             }
         }
+    }
+
+    // Puts the file. The directory for parts stays.
+    fn put_by_part(&mut self, name: &str, bytes: &[u8]) -> Result<(), FolderFault>
+        ensures counted { CountsRefusedPut self.old.failed self.new.failed result }
+    {
+        let put = self.write(name, bytes);
+        self.count(put)
     }
 
     // Where parts are made, if the directory is there.
