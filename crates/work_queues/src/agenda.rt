@@ -15,7 +15,8 @@ use std::marker::Model;
 /// What is left to do for each number. Contracts see a list of items by their numbers, and the origins of which a number waits or is parked.
 ///
 /// Of an origin's waiting numbers, of its parked ones and of the due ones the one of least label is found; origins are gone through by the least
-/// label of theirs. No clause says that: order is free. Each call takes a bounded number of steps for each level of a heap; only a new number, or a
+/// label of theirs, and those of equal labels by turns, so that one worker needn't wait for one origin while another is free. No clause says that:
+/// order is free. Each call takes a bounded number of steps for each level of a heap; only a new number, or a
 /// new origin, takes memory.
 #[derive(Drop)]
 pub struct Agenda {

@@ -7,11 +7,14 @@ ghost use Rattle.work_queues.specs.Pools.{IsPool};
 use crate::queues::Queues;
 use std::alloc::{AllocError, Global};
 
-/// Numbers in queues by their hosts, and one queue of the hosts that have a number in theirs, by the label of its first.
+/// Numbers in queues by their hosts, and one queue of the hosts that have a number in theirs, by the label of its first; hosts of
+/// equal labels are gone through by turns.
 #[derive(Drop)]
 pub(crate) struct Pool {
     pub(crate) numbers: Queues,
     pub(crate) hosts: Queues,
+    // How many turns were given to hosts.
+    turns: u32,
 }
 
 impl Pool {
@@ -26,6 +29,7 @@ impl Pool {
         Ok(Pool {
             numbers: Queues::new(alloc),
             hosts,
+            turns: 0,
         })
     }
 
@@ -66,6 +70,18 @@ impl Pool {
         self.numbers.add(host);
     }
 
+    // The turn of this host: the last of all if a number of it goes, so that others come first, and else the one that it has.
+    fn turn_of(&self, host: usize, is_in: bool) -> u32
+        requires pool { IsPool self.now }
+        requires host { host < vec_len self.now.numbers.queues }
+    {
+        if is_in {
+            self.hosts.turn_of(host)
+        } else {
+            self.turns
+        }
+    }
+
     /// The number of this host is in from now on, at this label, or isn't. Takes no memory.
     pub(crate) fn put(&mut self, number: usize, host: usize, is_in: bool, label: u32)
         requires pool { IsPool self.old }
@@ -75,9 +91,11 @@ impl Pool {
         ensures seats { seats self.new.numbers ≡ slice_set (seats self.old.numbers) number (record { queue = host; is_queued = is_in }) }
         ensures hosts { vec_len self.new.numbers.queues ≡ vec_len self.old.numbers.queues }
     {
+        let turn = self.turn_of(host, is_in);
+        self.turns = self.turns.wrapping_add(1);
         self.numbers.put(number, is_in, label);
         match self.numbers.first_label(host) {
-            Some(first) => self.hosts.push(host, first),
+            Some(first) => self.hosts.push(host, first, turn),
             None => self.hosts.remove(host),
         }
     }

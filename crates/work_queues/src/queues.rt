@@ -1,15 +1,17 @@
-//! Queues of numbers: each number belongs to one queue, and is in it or not. A queue gives the number of the least label first, and of equal labels the least number.
+//! Queues of numbers: each number belongs to one queue, and is in it or not. A queue gives the number of the least label first, of equal
+//! labels that of the earliest turn, and of equal turns the least number.
 ghost use Rattle.std.specs.Prelude.{◌≡◌, ◌≢◌, ◌<◌, ◌≤◌, ◌+◌, ◌-◌, ℕ, true, false, [], ◌∷◌, ◌++◌, Some, length, slice_get, slice_set, nat_lt, vec_len, OnOk, OnErr, IfSome, IfNone};
 ghost use Rattle.work_queues.specs.Queues.{Seat, numbers_of, queued_of, seats, IsPlaced};
 ghost use Rattle.work_queues.specs.inner.Queues.{IsRearranged, HostHasRoom};
 
 use std::alloc::{AllocError, Global};
 
-/// A number that belongs to a queue, with its label.
+/// A number that belongs to a queue, with its label and its turn.
 #[derive(Clone, Copy)]
 struct Member {
     number: usize,
     label: u32,
+    turn: u32,
 }
 
 /// The numbers of one queue: the first `queued` of its members are in it, as a binary heap by label; the others aren't.
@@ -81,7 +83,16 @@ impl Queues {
         if self.queued(queue) == 0 {
             return None;
         }
-        Some(self.label(queue, 0))
+        Some(self.member(queue, 0).label)
+    }
+
+    /// The turn in which a number is in its queue, or was last.
+    pub(crate) fn turn_of(&self, number: usize) -> u32
+        requires placed { IsPlaced self.now }
+        requires number { number < vec_len self.now.places }
+    {
+        let Place { queue, place } = self.places[number];
+        self.member(queue, place).turn
     }
 
     /// How many numbers are in the queue.
@@ -137,17 +148,19 @@ impl Queues {
     {
         let number = self.places.len();
         let place = self.queues[queue].members.len();
-        self.queues[queue]
-            .members
-            .push_reserved(Member { number, label: 0 });
+        self.queues[queue].members.push_reserved(Member {
+            number,
+            label: 0,
+            turn: 0,
+        });
         self.places.push_reserved(Place { queue, place });
     }
 }
 
 /// What moves numbers; nothing here takes memory.
 impl Queues {
-    /// The number is in its queue from now on, at this label.
-    pub(crate) fn push(&mut self, number: usize, label: u32)
+    /// The number is in its queue from now on, at this label and in this turn.
+    pub(crate) fn push(&mut self, number: usize, label: u32, turn: u32)
         requires placed { IsPlaced self.old }
         requires number { number < vec_len self.old.places }
         ensures placed { IsPlaced self.new }
@@ -158,12 +171,12 @@ impl Queues {
         let Place { queue, place } = self.places[number];
         let queued = self.queued(queue);
         if place < queued {
-            self.relabel(queue, place, label);
+            self.relabel(queue, place, label, turn);
             self.settle(queue, place);
         } else {
             self.exchange(queue, place, queued);
             self.admit(queue);
-            self.relabel(queue, queued, label);
+            self.relabel(queue, queued, label, turn);
             self.rise(queue, queued);
         }
     }
@@ -198,7 +211,7 @@ impl Queues {
         ensures queues { vec_len self.new.queues ≡ vec_len self.old.queues }
     {
         if is_queued {
-            self.push(number, label);
+            self.push(number, label, 0);
         } else {
             self.remove(number);
         }
@@ -235,23 +248,25 @@ impl Queues {
 
 /// The heap of a queue.
 impl Queues {
-    /// The member at this place has this label.
-    fn relabel(&mut self, queue: usize, place: usize, label: u32)
+    /// The member at this place has this label and this turn.
+    fn relabel(&mut self, queue: usize, place: usize, label: u32, turn: u32)
         requires placed { IsPlaced self.old }
         requires place { place < length (numbers_of self.old.queues.items queue) }
         ensures { IsRearranged self.old self.new }
     {
-        self.queues[queue].members[place].label = label;
+        let member = &mut self.queues[queue].members[place];
+        member.label = label;
+        member.turn = turn;
     }
 
-    /// The label of the member at this place.
-    fn label(&self, queue: usize, place: usize) -> u32
+    /// The member at this place.
+    fn member(&self, queue: usize, place: usize) -> Member
         requires { place < length (numbers_of self.now.queues.items queue) }
     {
-        self.queues[queue].members[place].label
+        self.queues[queue].members[place]
     }
 
-    /// Whether the member at one place comes before that at another: by label, and of equal labels by number.
+    /// Whether the member at one place comes before that at another: by label, by turn and by number.
     fn precedes(&self, queue: usize, a: usize, b: usize) -> bool
         requires a { a < length (numbers_of self.now.queues.items queue) }
         requires b { b < length (numbers_of self.now.queues.items queue) }
@@ -259,7 +274,13 @@ impl Queues {
         let members = &self.queues[queue].members;
         let first = members[a];
         let second = members[b];
-        first.label < second.label || first.label == second.label && first.number < second.number
+        if first.label != second.label {
+            return first.label < second.label;
+        }
+        if first.turn != second.turn {
+            return first.turn < second.turn;
+        }
+        first.number < second.number
     }
 
     /// Two members of a queue change places; both are in it, or neither is.

@@ -5,7 +5,7 @@ use Rattle.work_queues.proofs.Additions.{IsAdded, added_placed, added_seats, add
 use Rattle.work_queues.proofs.queues.Queues.add.Goals as goal
 
 is_added : (c : goal.After-push_reserved-2) → IsAdded c.args.self.now (record { queues = Rattle.std.specs.Vec.with_item c.args.self.now.queues c.args.queue (record { members = c.push_reserved.new.self; queued = c.index_mut.result.now.queued }); places = c.push_reserved-2.new.self })
-    c.args.queue c.index_mut.result.now (record { members = c.push_reserved.new.self; queued = c.index_mut.result.now.queued }) (record { number = c.len-number.result; label = 0 })
+    c.args.queue c.index_mut.result.now (record { members = c.push_reserved.new.self; queued = c.index_mut.result.now.queued }) (record { number = c.len-number.result; label = 0; turn = 0 })
 is_added c =
     let room = c.requires.room.within in
     let lt : c.args.queue < length c.args.self.now.queues.items = omega (arith, room) in

@@ -10,8 +10,8 @@ index_mut-requires c =
     let lt = queue_within c.args.self.now.queues.items c.args.queue c.args.place c.requires.place in
     omega (arith, lt)
 
-pub index_mut-requires-2 : goal.index_mut-requires-2
-index_mut-requires-2 c =
+pub index_mut-member-requires : goal.index_mut-member-requires
+index_mut-member-requires c =
     let lt = queue_within c.args.self.now.queues.items c.args.queue c.args.place c.requires.place in
     let inside = member_within c.args.self.now.queues.items c.args.queue c.args.place c.index_mut.result.now lt c.index_mut.ensures.value c.requires.place in
     omega (arith, inside)
@@ -21,5 +21,5 @@ returns c =
     let lt = queue_within c.args.self.now.queues.items c.args.queue c.args.place c.requires.place in
     relabelled c.args.self.now _ c.args.queue c.index_mut.result.now _ c.requires.placed (read c.args.self.now.queues.items c.args.queue c.index_mut.result.now lt c.index_mut.ensures.value)
     refl
-    (map-set_same (λ (m : Member). m.number) c.index_mut.result.now.members.items c.args.place _ c.index_mut-2.result.now (ap (λ (m : Member). m.number) c.index_mut-2.ensures.value))
+    (map-set_same (λ (m : Member). m.number) c.index_mut.result.now.members.items c.args.place _ c.index_mut-member.result.now (ap (λ (m : Member). m.number) c.index_mut-member.ensures.value))
     refl refl refl refl

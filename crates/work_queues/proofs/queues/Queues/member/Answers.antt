@@ -1,6 +1,6 @@
 use Rattle.std.proofs.Common.{arith}
 use Rattle.work_queues.proofs.QueueLaws.{queue_within, member_within}
-use Rattle.work_queues.proofs.queues.Queues.label.Goals as goal
+use Rattle.work_queues.proofs.queues.Queues.member.Goals as goal
 
 pub index-requires : goal.index-requires
 index-requires c =
