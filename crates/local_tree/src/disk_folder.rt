@@ -5,18 +5,20 @@ ghost use Rattle.local_tree.specs.Folders.{CountsRefusedPut, opened_at, untold};
 ghost use Rattle.local_tree.specs.SiteFiles.{IsTornBy};
 
 use crate::folder::{Folder, FolderFault};
-use crate::own_dir::{OwnDir, make_own_dir};
 use crate::parts::{Batch, Naming, Part, PartCrew, write_new};
 use crate::site_files::WriteFault;
 use harvest::Harvest;
 use kept_bodies::Body;
 use local_names::is_local_name;
+use part_keeper::{OwnDir, make_own_dir};
 use std::alloc::{AllocError, Global};
 use std::fs::Files;
 use std::io::{Error, ErrorKind};
 use std::marker::Model;
 use std::{fs, io, mem};
 use streams::{Close, Lock};
+
+mod named_parts;
 
 /// How many files of a site are made ready together, at most.
 const BATCH: usize = 256;
@@ -66,6 +68,8 @@ pub struct DiskFolder<'a, R: Files> {
     rt: &'a R,
     alloc: Global,
     prefix: String,
+    // Where a keeper's parts are; empty if there is none.
+    parts: String,
     // Where parts are made, while files are put.
     own: Option<OwnDir<R::File>>,
     known: Known,
@@ -332,6 +336,7 @@ where
             rt,
             alloc,
             prefix,
+            parts: String::new(alloc),
             own: None,
             known: Known::nothing(alloc),
             failed: 0,
@@ -341,7 +346,7 @@ where
 
     /// Why the last put that failed did: the system's error, or, with none of its numbers, one of the folder's own (`NotADirectory`
     /// and `AlreadyExists` where a link or something else stands in the place of a directory or a file, `InvalidInput` where the
-    /// name isn't local, `Other` where closing failed). None where no put failed.
+    /// name isn't local, `Other` where closing failed or a part was lost). None where no put failed.
     pub fn error(&self) -> Option<&Error> {
         self.error.as_ref()
     }
@@ -398,11 +403,11 @@ where
         put
     }
 
-    // Puts the file. The directory for parts stays.
-    fn put_by_part(&mut self, name: &str, bytes: &[u8]) -> Result<(), FolderFault>
-        ensures counted { CountsRefusedPut self.old.failed self.new.failed result }
+    // Keeps why a put failed, if it did, and counts it.
+    fn count(&mut self, put: io::Result<()>) -> Result<(), FolderFault>
+        ensures { CountsRefusedPut self.old.failed self.new.failed result }
     {
-        match self.write(name, bytes) {
+        match put {
             Ok(()) => Ok(()),
             Err(error) => {
                 // The directory may have gone.
@@ -412,6 +417,14 @@ where
                 Err(FolderFault::Device)
             }
         }
+    }
+
+    // Puts the file. The directory for parts stays.
+    fn put_by_part(&mut self, name: &str, bytes: &[u8]) -> Result<(), FolderFault>
+        ensures counted { CountsRefusedPut self.old.failed self.new.failed result }
+    {
+        let put = self.write(name, bytes);
+        self.count(put)
     }
 
     // Where parts are made, if the directory is there.

@@ -15,7 +15,6 @@ pub use streams::{Close, Lock};
 mod disk_folder;
 mod folder;
 mod memory_folder;
-mod own_dir;
 mod parts;
 mod shelf;
 mod site_files;

@@ -2,6 +2,17 @@
 use kept_bodies::BodyKind;
 use std::alloc::{AllocError, Global};
 
+/// What is there of a body.
+#[derive(Clone, Copy, Debug, PartialEq, Eq)]
+pub enum Standing {
+    /// A file with all its bytes.
+    Whole,
+    /// Nothing, since its file couldn't be written: the number of the system's error, if it was one of the system.
+    Lost(Option<i32>),
+    /// Nothing, since there is no body.
+    Absent,
+}
+
 /// A body that a worker kept in a file of its own.
 #[derive(Clone, Copy, Debug, PartialEq, Eq)]
 pub struct Part {
@@ -13,8 +24,8 @@ pub struct Part {
     pub kind: BodyKind,
     /// How many bytes came.
     pub len: u64,
-    /// Whether they stand there.
-    pub is_whole: bool,
+    /// Whether they are there.
+    pub standing: Standing,
 }
 
 /// The path of a part below the directory of a run's parts, whose workers have each their own.

@@ -1,13 +1,15 @@
 //! What keeps bodies in files.
 ghost use Rattle.std.specs.Prelude.{◌≡◌, ◌+◌, ℕ, List, length, OnOk, IfOk, OnErr};
 
-use crate::part::{Part, part_path};
+use crate::part::{Part, Standing, part_path};
+use crate::parts_dir::PartsDir;
 use kept_bodies::{BodyKind, Keeper};
 use std::alloc::{AllocError, Global};
 use std::fs::{File, Files};
 use std::io::{Error, Write};
+use std::sync::Wait;
 use std::{fs, io};
-use streams::Close;
+use streams::{Close, Lock};
 
 /// How many bytes of a body stand in memory before it gets a file.
 const BUFFER: usize = 64 * 1024;
@@ -15,10 +17,12 @@ const BUFFER: usize = 64 * 1024;
 /// Keeps the bodies of one worker, each in a file of its own below a directory of a run's parts. A short body is written in one
 /// call once it is whole, so a file is open for long only where a body is long. Where a file can't be written, what comes of its
 /// body is counted and not kept, and the part says so.
-pub struct PartKeeper<'a, R: Files> {
+pub struct PartKeeper<'a, R: Files + Wait> {
     rt: &'a R,
     alloc: Global,
-    dir: &'a str,
+    run: &'a PartsDir<R>,
+    // Where its parts are; empty before the first.
+    dir: String,
     worker: u32,
     number: u32,
     buffer: Vec<u8>,
@@ -29,11 +33,12 @@ pub struct PartKeeper<'a, R: Files> {
 }
 
 // By hand: who drops one proves a call, and nothing of what it holds.
-impl<'a, R: Files> Drop for PartKeeper<'a, R> {
+impl<'a, R: Files + Wait> Drop for PartKeeper<'a, R> {
     fn drop(self) {
         let PartKeeper {
             rt: _rt,
             alloc: _alloc,
+            run: _run,
             dir: _dir,
             worker: _worker,
             number: _number,
@@ -45,32 +50,33 @@ impl<'a, R: Files> Drop for PartKeeper<'a, R> {
     }
 }
 
-// Makes the file of a part; the first of a worker makes the directory.
-fn create<R: Files>(
+// Makes the directory of a worker, and gives that of its run.
+fn make_dir<R: Files + Wait>(
     rt: &R,
     alloc: Global,
-    dir: &str,
+    run: &PartsDir<R>,
     worker: u32,
-    number: u32,
-) -> io::Result<R::File> {
-    if number == 0 {
-        let own = format!(in alloc; "{dir}/{worker}")?;
-        fs::create_dir_all(rt, own.as_str())?;
-    }
-    let path = part_path(alloc, dir, worker, number)?;
-    File::create_new(rt, path.as_str())
+) -> io::Result<String>
+where
+    R::File: Lock,
+{
+    let dir = run.path(rt, rt)?;
+    let own = format!(in alloc; "{dir}/{worker}")?;
+    fs::create_dir_all(rt, own.as_str())?;
+    Ok(dir)
 }
 
-impl<'a, R: Files> PartKeeper<'a, R>
+impl<'a, R: Files + Wait> PartKeeper<'a, R>
 where
-    R::File: Close,
+    R::File: Close + Lock,
 {
-    /// Keeps the bodies of this worker below this directory. Takes no memory, and makes nothing before a body comes.
-    pub fn new(rt: &'a R, alloc: Global, dir: &'a str, worker: u32) -> PartKeeper<'a, R> {
+    /// Keeps the bodies of this worker below the directory of its run. Takes no memory, and makes nothing before a body comes.
+    pub fn new(rt: &'a R, alloc: Global, run: &'a PartsDir<R>, worker: u32) -> PartKeeper<'a, R> {
         PartKeeper {
             rt,
             alloc,
-            dir,
+            run,
+            dir: String::new(alloc),
             worker,
             number: 0,
             buffer: Vec::new(alloc),
@@ -85,13 +91,24 @@ where
         self.error.as_ref()
     }
 
+    // Makes the file of the body; the first of a worker makes the directory.
+    fn create(&mut self) -> io::Result<R::File>
+        ensures { self.new.len ≡ self.old.len }
+    {
+        if self.dir.is_empty() {
+            self.dir = make_dir(self.rt, self.alloc, self.run, self.worker)?;
+        }
+        let path = part_path(self.alloc, self.dir.as_str(), self.worker, self.number)?;
+        File::create_new(self.rt, path.as_str())
+    }
+
     // Writes what stands in memory, and then these bytes, into the file of the body, which is made where there is none.
     fn write(&mut self, bytes: &[u8]) -> io::Result<()>
         ensures { self.new.len ≡ self.old.len }
     {
         let mut file = match self.file.take() {
             Some(file) => file,
-            None => create(self.rt, self.alloc, self.dir, self.worker, self.number)?,
+            None => self.create()?,
         };
         file.write_all(self.buffer.as_slice())?;
         self.buffer.clear();
@@ -106,7 +123,7 @@ where
     {
         self.buffer.clear();
         self.file = None;
-        if let Ok(path) = part_path(self.alloc, self.dir, self.worker, self.number) {
+        if let Ok(path) = part_path(self.alloc, self.dir.as_str(), self.worker, self.number) {
             let _ = self.rt.remove_file(path.as_str());
         }
     }
@@ -135,9 +152,9 @@ where
     }
 }
 
-impl<'a, R: Files> Keeper for PartKeeper<'a, R>
+impl<'a, R: Files + Wait> Keeper for PartKeeper<'a, R>
 where
-    R::File: Close,
+    R::File: Close + Lock,
 {
     type Kept = Part;
 
@@ -175,12 +192,16 @@ where
                 self.error = Some(error);
             }
         }
+        let standing = match &self.error {
+            Some(error) => Standing::Lost(error.raw_os_error()),
+            None => Standing::Whole,
+        };
         let part = Part {
             worker: self.worker,
             number: self.number,
             kind,
             len: self.len,
-            is_whole: self.error.is_none(),
+            standing,
         };
         self.number = self.number.saturating_add(1);
         Ok(part)
@@ -192,7 +213,7 @@ where
             number: self.number,
             kind: BodyKind::Other,
             len: 0,
-            is_whole: true,
+            standing: Standing::Absent,
         })
     }
 }
