@@ -5,6 +5,8 @@
 #![tactic(auto)]
 
 mod over_tcp;
+mod parts_over_tcp;
 mod watched_tcp;
 
 pub use crate::over_tcp::OverTcp;
+pub use crate::parts_over_tcp::PartsOverTcp;
