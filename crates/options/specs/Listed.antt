@@ -1,5 +1,5 @@
--- The files that are read before a run, as words name them: one whose addresses are starts too, and one of cookies (GNU Wget manual,
--- chapters Logging and Input File Options, HTTP Options).
+-- What is read of words before they are known to be an order: the files that are read before a run, one whose addresses are starts too
+-- and one of cookies, and whether nothing is to be printed (GNU Wget manual, chapters Logging and Input File Options, HTTP Options).
 use Rattle.std.specs.Prelude.{Bool, false, List, Option, None, Some, codes, bytes_eq, option_map, string_bytes, if◌then◌else◌}
 use Rattle.clap.specs.Walk.{Text}
 use Rattle.options.specs.declared.listed.StartList.{StartList}
@@ -43,3 +43,7 @@ cookie_file_in said = if is_on (last_said (codes "no-cookies") said) then None e
 -- the cookie file that words name, if they name one
 abbrev pub cookie_file_of_words : List Text → Option Text
 cookie_file_of_words words = cookie_file_in (sayings words)
+
+-- words say that nothing is to be printed, whatever else is wrong with them
+abbrev pub are_quiet : List Text → Bool
+are_quiet words = is_on (last_said (codes "quiet") (sayings words))

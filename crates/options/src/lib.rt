@@ -31,7 +31,7 @@ pub use crate::advice::{advice_text, no_text_advice};
 pub use crate::environment::Environment;
 pub use crate::fault::LineFault;
 pub use crate::help::{VERSION, help_text};
-pub use crate::listed::{StartList, cookie_file, start_list};
+pub use crate::listed::{StartList, are_quiet, cookie_file, start_list};
 pub use crate::naming::PageNames;
 pub use crate::order::{FilePath, Log, MAX_WORKERS, Order, Prefix, Source};
 pub use crate::read::read_order;

@@ -1,6 +1,7 @@
-//! The files that are read before a run: one whose addresses are starts too, and one of cookies.
+//! What is read of words before they are known to be an order: the files that are read before a run, one whose addresses are starts
+//! too and one of cookies, and whether nothing is to be printed.
 ghost use Rattle.std.specs.Prelude.{◌≡◌, IfOk, map, option_map, string_bytes};
-ghost use Rattle.options.specs.Listed.{cookie_file_in, cookie_file_of_words, is_on, last_said, list_in, list_of_words, list_said};
+ghost use Rattle.options.specs.Listed.{are_quiet, cookie_file_in, cookie_file_of_words, is_on, last_said, list_in, list_of_words, list_said};
 ghost use Rattle.options.specs.inner.Said.{saying_in};
 
 use crate::said::{Saying, sayings};
@@ -76,4 +77,13 @@ pub fn cookie_file(alloc: Global, words: &[&str]) -> Result<Option<String>, Allo
 {
     let said = sayings(alloc, words)?;
     cookie_file_in(alloc, said.as_slice())
+}
+
+/// Whether words say that nothing is to be printed, whatever else is wrong with them.
+pub fn are_quiet(alloc: Global, words: &[&str]) -> Result<bool, AllocError>
+    ensures { IfOk result (λ quiet. quiet ≡ are_quiet (map (λ word. word.now) words.now)) }
+{
+    let said = sayings(alloc, words)?;
+    let quiet = last_said(alloc, "quiet", said.as_slice())?;
+    Ok(is_on(&quiet))
 }

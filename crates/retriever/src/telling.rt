@@ -1,12 +1,12 @@
 //! Where a run tells what it has to tell: on standard output and standard error, nowhere, or into a file.
-ghost use Rattle.std.specs.Prelude.{◌≡◌, ◌≢◌, IfErr, IfOk, map, option_map, string_bytes};
+ghost use Rattle.std.specs.Prelude.{◌≡◌, None, IfErr, IfOk, false, map, option_map};
 ghost use Rattle.std.specs.Vec.Iter.{into_iter_items};
 ghost use Rattle.options.specs.Order.{log_by, order_of};
 ghost use Rattle.retriever.specs.Program.{words_behind};
 ghost use Rattle.retriever.specs.Telling.{telling_by};
 
 use crate::program::{all_words, texts_behind};
-use options::{LineFault, Log, read_order};
+use options::{LineFault, Log, are_quiet, read_order};
 use std::alloc::{AllocError, Global};
 use std::env::Args;
 use std::io;
@@ -30,19 +30,20 @@ impl Telling {
     }
 }
 
-// What is told of refused words goes to standard output and standard error.
-fn standard() -> Telling
-    ensures { (result.is_quiet, option_map log_by result.log) ≡ telling_by (Err LineFault.Memory) }
+// What is told of refused words goes to standard output and standard error, or to the latter alone.
+fn standard(is_quiet: bool) -> Telling
+    ensures quiet { result.is_quiet ≡ is_quiet }
+    ensures log { option_map log_by result.log ≡ None }
 {
     Telling {
-        is_quiet: false,
+        is_quiet,
         log: None,
     }
 }
 
 // By these words.
 fn telling_of_words(alloc: Global, words: &[&str]) -> Result<Telling, AllocError>
-    ensures { IfOk result (λ t. (t.is_quiet, option_map log_by t.log) ≡ telling_by (order_of (map (λ word. word.now) words.now))) }
+    ensures { IfOk result (λ t. (t.is_quiet, option_map log_by t.log) ≡ telling_by (map (λ word. word.now) words.now) (order_of (map (λ word. word.now) words.now))) }
 {
     match read_order(alloc, words) {
         Ok(order) => Ok(Telling {
@@ -50,29 +51,30 @@ fn telling_of_words(alloc: Global, words: &[&str]) -> Result<Telling, AllocError
             log: order.into_log(),
         }),
         Err(LineFault::Memory) => Err(AllocError),
-        Err(_) => Ok(standard()),
+        Err(_) => Ok(standard(are_quiet(alloc, words)?)),
     }
 }
 
 // By these words, the program's name first.
 fn telling_of_all(alloc: Global, all: &[String]) -> Result<Telling, AllocError>
-    ensures { IfOk result (λ t. (t.is_quiet, option_map log_by t.log) ≡ telling_by (order_of (words_behind all.now))) }
+    ensures { IfOk result (λ t. (t.is_quiet, option_map log_by t.log) ≡ telling_by (words_behind all.now) (order_of (words_behind all.now))) }
 {
     let words = texts_behind(alloc, all)?;
     telling_of_words(alloc, words.as_slice())
 }
 
-/// Where the program tells what it has to tell, by its arguments, the program's name first: what they order says it, and what is
-/// told of refused words goes to standard output and standard error. The error is that memory ran out.
+/// Where the program tells what it has to tell, by its arguments, the program's name first: what they order says it. What is told of
+/// refused words goes to standard output and standard error, or to the latter alone if they say that nothing is to be printed. The
+/// error is that memory ran out.
 pub fn telling_of(alloc: Global, args: io::Result<Args>) -> Result<Telling, AllocError>
-    ensures ordered { IfOk args (λ all. IfOk result (λ t. (t.is_quiet, option_map log_by t.log) ≡ telling_by (order_of (words_behind (into_iter_items all))))) }
-    ensures refused { IfErr args (λ error. IfOk result (λ t. (t.is_quiet, option_map log_by t.log) ≡ telling_by (Err LineFault.Memory))) }
+    ensures ordered { IfOk args (λ all. IfOk result (λ t. (t.is_quiet, option_map log_by t.log) ≡ telling_by (words_behind (into_iter_items all)) (order_of (words_behind (into_iter_items all))))) }
+    ensures refused { IfErr args (λ error. IfOk result (λ t. (t.is_quiet ≡ false) × (option_map log_by t.log ≡ None))) }
 {
     match args {
         Ok(args) => {
             let all = all_words(alloc, args)?;
             telling_of_all(alloc, all.as_slice())
         }
-        Err(_) => Ok(standard()),
+        Err(_) => Ok(standard(false)),
     }
 }

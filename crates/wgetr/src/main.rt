@@ -14,6 +14,14 @@ fn main(rt: HostRuntime) -> ExitCode {
     // Before anything is opened, so that no file of the run takes the place of a stream that is closed.
     let stand_ins = StandIns::open(&rt);
     let failures = SharedFailures::new(rt.alloc());
+    // What is wrong before the words are an order goes to standard output, unless they say that nothing does.
+    let Ok(first) = telling_of(rt.alloc(), arguments(&rt, rt.alloc())) else {
+        let _ = rt.stdout().write_all(b"stopped memory\n");
+        return ExitCode::from(1);
+    };
+    let Some(mut refusals) = Output::open(&rt, &failures, rt.stdout(), first.is_quiet, None) else {
+        return ExitCode::from(3);
+    };
     let starts = match starts_of(
         &rt,
         rt.alloc(),
@@ -27,7 +35,7 @@ fn main(rt: HostRuntime) -> ExitCode {
                 rt.alloc(),
                 why,
                 arguments(&rt, rt.alloc()),
-                &mut rt.stdout(),
+                &mut refusals,
                 &mut rt.stderr(),
             );
             failures.tell(&rt, &mut rt.stderr());
@@ -43,7 +51,7 @@ fn main(rt: HostRuntime) -> ExitCode {
     ) {
         Ok(jar) => jar,
         Err(fault) => {
-            let status = refuse_cookies(rt.alloc(), fault, &mut rt.stdout());
+            let status = refuse_cookies(rt.alloc(), fault, &mut refusals);
             failures.tell(&rt, &mut rt.stderr());
             return ExitCode::from(status);
         }
