@@ -14,7 +14,7 @@ use std::sync::Wait;
 use std::time::Clock;
 use tcp_fetcher::OverTcp;
 
-/// Asks over TCP, shows on the terminal what comes of it, hands what is told to the journal of the run, and keeps why a
+/// Asks over TCP, shows on the terminal what comes of it, hands what is received to the journal of the run, and keeps why a
 /// connection was lost.
 // A type of its own, as what it asks, since a call at a type that names all these parts costs its proof more than the checker
 // allows.

@@ -14,7 +14,7 @@ use std::sync::Wait;
 use std::time::{Clock, SystemTime, UNIX_EPOCH};
 use streams::ReadFault;
 
-// Why the file at a path isn't used, for a person. Without memory for it nobody is told.
+// Why the file at a path isn't used, for a person. If there is no memory for it, nothing is kept.
 fn told(alloc: Global, path: &str, fault: CookieFault) -> Result<String, AllocError> {
     match fault {
         CookieFault::TooLong | CookieFault::TooManyLines => {
@@ -135,7 +135,7 @@ fn jar_by<D: Files + Clock + Wait>(
 }
 
 /// The cookies of the file that the arguments of the program name, its name first, if they name one, with the time of now. It isn't
-/// read if the words are refused with these starts of a list, or ask for the help. Why it can't be used is told to a person.
+/// read if the words are refused with these starts of a list, or ask for the help. Why it can't be used is kept for a person.
 /// Arguments that can't be had name no file.
 pub fn jar_of<D: Files + Clock + Wait>(
     disk: &D,

@@ -37,7 +37,7 @@ fn file_of<D: Files>(disk: &D, log: Option<(&str, bool)>) -> io::Result<Option<D
 
 impl<W: Write + Drop, F: Write + Drop> Output<W, F> {
     /// Opens the file that takes the report, if there is one: its path, and whether it keeps what it has. If that can't be opened its
-    /// line is written to standard output, why is kept for a person, and there is nothing.
+    /// line is written to standard output, unless nothing is to be printed, why is kept for a person, and there is nothing.
     pub fn open<D: Files<File = F> + Wait>(
         disk: &D,
         failures: &SharedFailures,
@@ -52,7 +52,9 @@ impl<W: Write + Drop, F: Write + Drop> Output<W, F> {
                 if let Some((path, _)) = log {
                     failures.fail(disk, path, &error);
                 }
-                let _ = write_text(&mut standard, b"log not written\n");
+                if !is_quiet {
+                    let _ = write_text(&mut standard, b"log not written\n");
+                }
                 return None;
             }
         };

@@ -28,17 +28,17 @@ impl Drop for SharedFailures {
 
 // What stands under the lock is lent to functions of its own: there no way out of them lets go of the lock.
 
-// Where there is no memory for it, nobody is told.
+// If there is no memory for it, it isn't kept.
 fn fail(kept: &mut Failures, file: FileFault) {
     let _ = kept.fail(file);
 }
 
-// Where there is no memory for it, it isn't counted.
+// If there is no memory for it, it isn't counted.
 fn lose(kept: &mut Failures, kind: LossKind, at: Address) {
     let _ = kept.lose(kind, at);
 }
 
-// Where there is no memory for it, nobody is told.
+// If there is no memory for it, it isn't kept.
 fn say(said: &mut String, text: &str) {
     let _ = said.push_str(text);
 }

@@ -39,7 +39,7 @@ pub(crate) fn texts_of(alloc: Global, words: &[String]) -> Result<Vec<&str>, All
     Ok(texts)
 }
 
-// Why the file at a path can't be read, for a person. Without memory for it nobody is told.
+// Why the file at a path can't be read, for a person. If there is no memory for it, nothing is kept.
 pub(crate) fn tell<R: Wait>(
     rt: &R,
     alloc: Global,
@@ -137,7 +137,7 @@ fn starts_by<D: Files + Wait, R: Read>(
 }
 
 /// The starts of the file that the arguments of the program name, its name first, if they name one. It is read from the disk, or
-/// from this reader if its path is `-`; why it can't be read is told to a person. It isn't read if the words are refused whatever it
+/// from this reader if its path is `-`; why it can't be read is kept for a person. It isn't read if the words are refused whatever it
 /// has, or ask for the help. Arguments that can't be had name no file.
 pub fn starts_of<D: Files + Wait, R: Read>(
     disk: &D,
