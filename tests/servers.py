@@ -113,7 +113,9 @@ class Site:
     def close(self):
         # Else a thread might take the connections of the next server, whose socket has this one's number.
         for listener in self.listeners:
-            listener.shutdown(socket.SHUT_RDWR)
+            # (a test may have done so before)
+            with contextlib.suppress(OSError):
+                listener.shutdown(socket.SHUT_RDWR)
         for thread in self.accepting:
             thread.join()
         for listener in self.listeners:

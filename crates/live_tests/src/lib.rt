@@ -16,6 +16,4 @@ mod pool_tests;
 #[cfg(test)]
 mod progress_tests;
 #[cfg(test)]
-mod server;
-#[cfg(test)]
 mod stream_tests;

@@ -1,19 +1,15 @@
-//! Connections that are kept, over TCP on loopback: how many stand, which are used again, and what is asked once more.
+//! Connections that are kept, over TCP on loopback: how many are open, and which are used again.
 use crate::connect_tests::origin;
-use crate::server::follow;
-use address::{Address, Origin};
-use fetcher::{Answer, Body, Fetcher, Outcome};
-use http_fetcher::{Connect, HttpFetcher};
+use address::Origin;
+use http_fetcher::Connect;
 use response_reader::Wire;
 use std::alloc::Global;
-use std::fmt::Write as WriteText;
 use std::io;
 use std::io::{ErrorKind, Read, Write};
 use std::net::{Net, Shutdown, SocketAddr, TcpListener, TcpStream};
 use std::process::Abort;
 use std::sync::Wait;
 use std::sync::atomic::{AtomicBool, AtomicU64, Ordering};
-use std::thread::join;
 use std::time::{Clock, Duration};
 use tcp_connect::{Hosts, Kept, TcpConnect};
 
@@ -359,77 +355,4 @@ fn connections_that_wait_are_counted_and_those_that_died_are_dropped(rt: HostRun
     drop(kept);
     // Behind a run no connection stands.
     assert!(rt; are_ended(&mut server.ends));
-}
-
-/// What a server does by a script, the requests that it sees then, each as the number of its connection and what it asks for, and
-/// what one worker is told to its questions 1, 2 and so on. What was answered to `b` has a second answer after it, `d` is answered in
-/// chunks with a length besides, `h` by a byte alone and `-` by none.
-const EXCHANGES: &str = "aaa: 0/1 0/2 0/3: 1 2 3
-a,aa: 0/1 1/2 1/3: 1 2 3
-b,aa: 0/1 1/2 1/3: 1 2 3
-da,aa: 0/1 1/2 1/3: 1 2 3
-a-,aa: 0/1 0/2 1/2 1/3: 1 2 3
-a-,-,a: 0/1 0/2 1/2 2/3: 1 ended 3
-ah,a: 0/1 0/2 1/3: 1 ended 3
--,a: 0/1 1/2: ended 2";
-
-/// The body that came, or the word of the fault.
-fn word_of(answer: &Answer<Body>) -> &str {
-    match &answer.outcome {
-        Outcome::Fault(kind) => kind.word(),
-        _ => str::from_utf8(answer.body.as_slice()).unwrap_or(""),
-    }
-}
-
-/// Asks for an address, and notes what is told behind a blank.
-fn note_answer<F: Fetcher<Body = Body>>(
-    rt: &impl Abort,
-    alloc: Global,
-    fetcher: &mut F,
-    text: &str,
-    words: &mut String,
-) {
-    let at = Address::read(alloc, text).expect(rt, "an address");
-    let answer = fetcher.ask(&at).expect(rt, "memory");
-    write!(words, " {}", word_of(&answer)).expect(rt, "memory");
-}
-
-/// What a worker over these connections is told to so many questions, with a blank before each.
-fn told<C: Connect>(rt: &impl Abort, alloc: Global, connect: C, port: u16, count: usize) -> String {
-    let mut fetcher = HttpFetcher::new(alloc, connect, false).keeping();
-    let mut words = String::new(alloc);
-    for k in 0..count {
-        let number = k.saturating_add(1);
-        let text = format!(in alloc; "http://127.0.0.1:{port}/{number}").expect(rt, "memory");
-        note_answer(rt, alloc, &mut fetcher, text.as_str(), &mut words);
-    }
-    words
-}
-
-#[test]
-fn what_a_kept_connection_does_not_answer_is_asked_once_more(rt: HostRuntime) {
-    let alloc = rt.alloc();
-    for row in EXCHANGES.lines() {
-        let (script, rest) = row.split_once(':').unwrap_or((row, ""));
-        let (_, words) = rest.split_once(':').unwrap_or((rest, ""));
-        let count = words.split_whitespace().count();
-        let listener = TcpListener::bind(&rt, "127.0.0.1:0").expect(&rt, "a port");
-        let here = listener.local_addr().expect(&rt, "its address");
-        let (log, answers) = join(
-            &rt,
-            || follow(&rt, alloc, &listener, script),
-            || {
-                let still = Still::new(&rt);
-                let hosts = Hosts::new(alloc);
-                let kept = Kept::new(alloc);
-                let connect = TcpConnect::new(&still, alloc, &hosts).keeping(&kept, 1);
-                let answers = told(&rt, alloc, connect, here.port(), count);
-                // A connection without a request ends the server.
-                let _ = TcpStream::connect(&rt, here);
-                answers
-            },
-        );
-        let came = format!(in alloc; "{script}:{log}:{answers}").expect(&rt, "memory");
-        assert!(rt; came.as_str() == row, "{row}");
-    }
 }

@@ -4,11 +4,10 @@ use crate::network::Network;
 use address::Origin;
 use http_fetcher::{Connect, ConnectFault};
 use memory_connect::MemoryConnect;
-use progress::{BehindLine, Progress, Watched};
+use progress::{Progress, Watched};
 use response_reader::Wire;
 use std::alloc::Global;
-use std::fmt::{Display, Write as WriteText};
-use std::io::Write;
+use std::fmt::{Display, Write};
 use std::process::Abort;
 use std::sync::atomic::{AtomicU64, Ordering};
 use std::sync::{Mutex, Wait};
@@ -62,24 +61,6 @@ impl<R: Abort + Wait> Eprint for Terminal<'_, R> {
     }
 }
 
-/// Writes to a terminal.
-#[derive(Drop)]
-struct Screen<'a, R: Abort + Wait> {
-    terminal: &'a Terminal<'a, R>,
-}
-
-impl<R: Abort + Wait> Write for Screen<'_, R> {
-    fn write(&mut self, bytes: &[u8]) -> io::Result<usize> {
-        let text = str::from_utf8(bytes).unwrap_or("");
-        self.terminal.eprint(text)?;
-        Ok(bytes.len())
-    }
-
-    fn flush(&mut self) -> io::Result<()> {
-        self.terminal.eprint(", flushed")
-    }
-}
-
 /// When a connection ends, where it goes, and how many addresses wait then. What ports 82 and 84 send is 2,000 bytes in two
 /// pieces; connections to 83 break at a read, those to 84 at a write. Each is sent 1,000 bytes, which aren't counted.
 const ENDS: &[(u64, &str, usize)] = &[
@@ -91,7 +72,7 @@ const ENDS: &[(u64, &str, usize)] = &[
     (2200, "http://two:84/", 0),
 ];
 
-/// The lines that a terminal shows behind these, one over the other.
+/// The lines that a terminal shows after these, one over the other.
 const LINES: &str = "2 answered, 17 waiting, 0 failed, 4 kB, 13 kB/s
 3 answered, 1000000 waiting, 1 failed, 6 kB, 10 kB/s
 3 answered, 9 waiting, 2 failed, 6 kB, 6 kB/s
@@ -123,100 +104,42 @@ fn make_connections<R: Abort + Wait, C: Connect>(
     }
 }
 
-/// Makes them over a network of their own, and gives how many lookups, reads and tried addresses there were.
+/// Makes them over a network of their own.
 fn run<R: Abort + Wait>(
     rt: &R,
     alloc: Global,
     terminal: &Terminal<'_, R>,
     progress: &Progress<'_, Terminal<'_, R>>,
-) -> (u64, u64, usize) {
+) {
     let network = Network::new(rt, alloc);
     let hosts = Hosts::new(alloc);
     let connect = TcpConnect::new(&network, alloc, &hosts);
     make_connections(rt, alloc, connect, terminal, progress);
-    network.counts()
 }
 
-/// What stands on the terminal behind these lines: each is covered before the next, and the last before this text.
-fn shown(rt: &impl Abort, alloc: Global, lines: &str, behind: &str) -> String {
+/// What is on the terminal after the lines: each is covered before the next, and so is the last.
+fn shown(rt: &impl Abort, alloc: Global) -> String {
     let mut text = String::new(alloc);
-    for line in lines.lines() {
+    for line in LINES.lines() {
         write!(text, "\r{:79}\r{line}", "").expect(rt, "memory");
     }
-    write!(text, "\r{:79}\r{behind}", "").expect(rt, "memory");
+    write!(text, "\r{:79}\r", "").expect(rt, "memory");
     text
 }
 
-/// Whether this stands on the terminal behind the connections once the line is cleared, which is shown or not.
-fn shows<R: Abort + Wait>(rt: &R, alloc: Global, is_shown: bool, wanted: &str) -> bool {
+/// Whether the lines are on the terminal after the connections, once the line is cleared.
+fn shows<R: Abort + Wait>(rt: &R, alloc: Global) -> bool {
     let terminal = Terminal::new(rt, alloc);
-    let progress = Progress::new(&terminal, is_shown);
+    let progress = Progress::new(&terminal, true);
     run(rt, alloc, &terminal, &progress);
     progress.clear();
     progress.clear();
-    terminal.holds(wanted)
+    terminal.holds(shown(rt, alloc).as_str())
 }
 
 #[test]
 fn one_line_counts_at_most_four_times_a_second(rt: HostRuntime) {
-    let wanted = shown(&rt, rt.alloc(), LINES, "");
-    assert!(rt; shows(&rt, rt.alloc(), true, wanted.as_str()));
-}
-
-#[test]
-fn nothing_is_written_where_nothing_is_to_be_shown(rt: HostRuntime) {
-    assert!(rt; shows(&rt, rt.alloc(), false, ""));
-}
-
-#[test]
-fn connections_that_are_counted_are_handed_back(rt: HostRuntime) {
-    let alloc = rt.alloc();
-    let terminal = Terminal::new(&rt, alloc);
-    let counts = run(&rt, alloc, &terminal, &Progress::new(&terminal, true));
-    // Two reads of each of five connections, and one at the end of the three that didn't break.
-    assert_eq!(rt; counts, (2, 13, 6));
-}
-
-/// Writes two texts to a terminal and flushes it.
-fn write_two<W: Write>(rt: &impl Abort, output: &mut W) {
-    output.write_all(b"first, ").expect(rt, "a terminal");
-    output.write_all(b"second").expect(rt, "a terminal");
-    output.flush().expect(rt, "a terminal");
-}
-
-#[test]
-fn what_is_written_behind_the_line_covers_it_once(rt: HostRuntime) {
-    let alloc = rt.alloc();
-    let terminal = Terminal::new(&rt, alloc);
-    let progress = Progress::new(&terminal, true);
-    run(&rt, alloc, &terminal, &progress);
-    let screen = Screen {
-        terminal: &terminal,
-    };
-    write_two(&rt, &mut BehindLine::new(screen, &progress));
-    let wanted = shown(&rt, alloc, LINES, "first, second, flushed");
-    assert!(rt; terminal.holds(wanted.as_str()));
-}
-
-// Counts an answer from a record at each of these times.
-fn take_recorded<R: Abort + Wait>(
-    terminal: &Terminal<'_, R>,
-    progress: &Progress<'_, Terminal<'_, R>>,
-) {
-    for at in [1100u64, 1200, 1300] {
-        terminal.now.store(at, Ordering::SeqCst);
-        progress.took_recorded();
-    }
-}
-
-#[test]
-fn line_counts_the_answers_from_a_record(rt: HostRuntime) {
-    let alloc = rt.alloc();
-    let terminal = Terminal::new(&rt, alloc);
-    let progress = Progress::new(&terminal, true);
-    take_recorded(&terminal, &progress);
-    let line = "3 recorded, 0 answered, 0 waiting, 0 failed, 0 kB, 0 kB/s";
-    assert!(rt; terminal.holds(shown(&rt, alloc, "", line).as_str()));
+    assert!(rt; shows(&rt, rt.alloc()));
 }
 
 /// A terminal with a clock by which two threads meet: each of their calls waits for one of the other, and both are told the same

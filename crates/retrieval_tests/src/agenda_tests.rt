@@ -1,4 +1,4 @@
-//! Numbers by label, before and after one is lowered, and by what is left to do.
+//! Numbers by label, before and after one is lowered.
 use address::{Address, Origin};
 use std::alloc::Global;
 use std::process::Abort;
@@ -83,31 +83,4 @@ fn the_least_label_is_first_also_after_one_was_lowered(rt: HostRuntime) {
         come_in_order(&rt, &mut agenda, task);
         drop(agenda);
     }
-}
-
-// The parked number of an origin.
-fn first_parked(rt: &impl Abort, alloc: Global, agenda: &Agenda, text: &str) -> Option<usize> {
-    agenda.first_parked(&origin(rt, alloc, text))
-}
-
-// What the agenda of one number that is out and two that are parked says of these.
-fn say_what_is_left(rt: &impl Abort, alloc: Global, agenda: &Agenda) {
-    assert!(rt; agenda.len() == 3);
-    assert!(rt; agenda.first_due().is_none());
-    assert!(rt; first_parked(rt, alloc, agenda, "http://h/").is_none());
-    assert!(rt; first_parked(rt, alloc, agenda, "http://i/") == Some(2));
-    assert!(rt; agenda.origin(1).as_str() == "http://i");
-    assert!(rt; agenda.out(0) == 1);
-    assert!(rt; agenda.out(1) == 0);
-}
-
-#[test]
-fn a_number_is_found_by_what_is_left_to_do(rt: HostRuntime) {
-    let alloc = rt.alloc();
-    let mut agenda = Agenda::new(alloc).expect(&rt, "memory");
-    add(&rt, alloc, &mut agenda, "http://h/", Task::Out, 0);
-    add(&rt, alloc, &mut agenda, "http://i/", Task::Parked, 2);
-    add(&rt, alloc, &mut agenda, "http://i/", Task::Parked, 1);
-    say_what_is_left(&rt, alloc, &agenda);
-    drop(agenda);
 }

@@ -1,4 +1,4 @@
-//! Plans, and lines of rows. For tests.
+//! Plans. For tests.
 ghost use Rattle.std.specs.Prelude.{◌≡◌, true};
 ghost use Rattle.follow_filters.specs.Limits.{is_in_range};
 
@@ -6,18 +6,6 @@ use address::Address;
 use follow_filters::{Limit, Plan};
 use std::alloc::Global;
 use std::process::Abort;
-
-/// The lines behind a word.
-pub(crate) fn text_of(rt: &impl Abort, alloc: Global, row: &str, word: &str) -> String {
-    let mut text = String::new(alloc);
-    for line in row.lines() {
-        if let Some(rest) = line.strip_prefix(word) {
-            text.push_str(rest).expect(rt, "memory");
-            text.push('\n').expect(rt, "memory");
-        }
-    }
-    text
-}
 
 /// A plan without filters from this address, so deep and for so many addresses.
 fn plan_from(rt: &impl Abort, alloc: Global, start: &str, limit: Limit, most: u16) -> Plan
