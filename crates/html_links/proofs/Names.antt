@@ -1,5 +1,5 @@
--- Names of attributes that are kept.
-use Rattle.std.proofs.Common.{◌≡◌, ℕ, Bool, true, false, ◌||◌, ◌≤◌, List, [], ◌∷◌, ◌++◌, ◌==◌, if◌then◌else◌, length, get_or, refl, arith}
+-- Names, and those of attributes that are kept.
+use Rattle.std.proofs.Common.{◌≡◌, ℕ, Bool, true, false, ◌||◌, ◌≤◌, List, [], ◌∷◌, ◌++◌, ◌==◌, if◌then◌else◌, length, get_or, refl, ap, arith}
 use Rattle.std.specs.Prelude.{codes}
 use Rattle.std.specs.Str.{bytes_eq}
 use Rattle.html_links.specs.declared.asked.AskedName.{AskedName}
@@ -9,6 +9,13 @@ use Rattle.std.specs.List.{list_any}
 use Rattle.std.proofs.lemmas.Slice.Eq.{bytes_eq-Decides}
 use Rattle.html_links.specs.inner.Rows.{begins_styling}
 use Rattle.html_links.proofs.Rows.{differs}
+
+-- names of different lengths are different names
+pub lengths_differ : (name other : List ℕ) → (length name ≡ length other → ⊥) → bytes_eq name other ≡ false
+lengths_differ name other h = go (bytes_eq name other) refl where
+  go : (t : Bool) → bytes_eq name other ≡ t → t ≡ false
+  go true e = absurd (h (ap length ((bytes_eq-Decides name other).0 e)))
+  go false e = refl
 
 -- the names of attributes that a rule names are asked for
 pub asked_is_asked : (n : AskedName) → is_asked_attribute (asked_name n) ≡ true

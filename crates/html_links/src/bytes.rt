@@ -6,11 +6,13 @@ ghost use Rattle.html_links.specs.inner.Spans.{ends_span};
 
 use memchr::memchr;
 
-/// Whether two names are the same.
+/// Whether two names are the same. Most that are compared differ in length, which takes no call to see.
+#[inline(always)]
+#[tactic(auto, using(crate::proofs::Names::lengths_differ))]
 pub(crate) fn is_name(name: &[u8], other: &[u8]) -> bool
     ensures { result ≡ bytes_eq name.now other.now }
 {
-    name == other
+    name.len() == other.len() && name == other
 }
 
 pub(crate) fn is_white(byte: u8) -> bool
