@@ -1,10 +1,8 @@
 -- A text that begins with a line, and says one thing behind it, begins with one entry and no other.
-use Rattle.std.proofs.Common.{◌≡◌, ℕ, ◌∙◌, Bool, List, [], ◌∷◌, ◌++◌, refl, sym, ap, subst, inl, inr, length, arith}
-use Rattle.std.specs.Prelude.{IsOk}
+use Rattle.std.proofs.Common.{◌≡◌, ℕ, ◌∙◌, Bool, List, [], ◌∷◌, ◌++◌, refl, sym, ap, subst, inl, inr}
 use Rattle.kept_bodies.specs.Bodies.{BodyValue}
 use Rattle.address.specs.Address.{AddressText}
 use Rattle.fetcher.specs.declared.answer.Answer.{Answer}
-use Rattle.fetcher.specs.declared.fault_kind.FaultKind.{FaultKind}
 use Rattle.response_reader.specs.Response.{ResponseParts, BeginsWithResponse}
 use Rattle.response_reader.proofs.OneResponse.{one_response, faulty_has_none}
 use Rattle.response_answer.specs.Digests.{digest_of, body_of}
