@@ -8,8 +8,9 @@ import threading
 
 PROGRAM = os.path.join(os.path.dirname(os.path.dirname(os.path.abspath(__file__))), "crates", "wgetr", "out", "wgetr")
 NOT_FOUND = b"HTTP/1.1 404 Not Found\r\nContent-Type: text/plain\r\nContent-Length: 0\r\n\r\n"
-# The program reads it: no proxy of whoever runs the tests is asked.
-os.environ.pop("https_proxy", None)
+# The program reads these: no proxy of whoever runs the tests is asked.
+for variable in ("https_proxy", "http_proxy", "no_proxy"):
+    os.environ.pop(variable, None)
 
 # What came over a connection: the path, the whole head, the port that it came to, and which request of its connection it is, from 1.
 Request = collections.namedtuple("Request", "path head port nth")

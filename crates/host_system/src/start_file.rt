@@ -116,7 +116,7 @@ fn listed<D: Files + Wait, R: Read>(
             return Err(NoStarts::Words(wrong));
         }
     };
-    let file = file_of(alloc, list, order.source, order.proxy.is_some());
+    let file = file_of(alloc, list, order.source, order.proxies.https().is_some());
     drop(order);
     let starts = read_file(disk, alloc, failures, &file?, input)?;
     checked(alloc, starts, words)

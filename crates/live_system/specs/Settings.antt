@@ -1,16 +1,17 @@
 -- How a worker's fetcher makes its requests, as contracts see it.
-use Rattle.std.specs.Prelude.{ℕ, Bool, List, Option}
+use Rattle.std.specs.Prelude.{ℕ, Bool, Option}
 use Rattle.pacing.specs.Retries.{Retried}
 use Rattle.pacing.specs.declared.manner.Manner.{Manner}
+use Rattle.requests.specs.Proxies.{Proxies}
 use Rattle.requests.specs.Requests.{Sending}
 
--- whether robots files are honoured and answers are noted, how many connections to a server are kept, the proxy for https addresses,
+-- whether robots files are honoured and answers are noted, how many connections to a server are kept, the proxies,
 -- what each request says, how servers are treated, and when a request is made again
 pub record Settings : Type 0 where
   pub robots : Bool
   pub is_recording : Bool
   pub kept : Option ℕ
-  pub proxy : Option (List ℕ)
+  pub proxies : Proxies
   pub sends : Sending
   pub manner : Manner
   pub retries : Retried

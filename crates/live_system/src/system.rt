@@ -2,12 +2,11 @@
 ghost use Rattle.std.specs.Prelude.{◌≡◌, ℕ, List, IfOk, Err, ⊤};
 ghost use Rattle.live_system.specs.Settings.{Settings};
 
-use address::Origin;
 use answer_notes::Recording;
 use fetcher::Fetcher;
 use local_tree::{HasKind, Shelf};
 use pacing::{Manner, Retries};
-use requests::Sending;
+use requests::{Proxies, Sending};
 use std::alloc::{AllocError, Global};
 use std::io::Write;
 use std::marker::Model;
@@ -32,8 +31,8 @@ pub struct FetcherSettings {
     pub is_recording: bool,
     /// How many connections to a server are kept at most, if they are kept.
     pub kept: Option<u32>,
-    /// The proxy to which requests for https addresses go. Without one none is made.
-    pub proxy: Option<Origin>,
+    /// The proxies to which requests go in place of servers. Without one for https none is made for its addresses.
+    pub proxies: Proxies,
     /// What each request says besides its address.
     pub sends: Sending,
     /// How servers are treated.
@@ -49,7 +48,7 @@ impl Model for FetcherSettings {
 
     ghost Value = { Settings };
 
-    ghost view = { λ s. record { robots = s.robots; is_recording = s.is_recording; kept = s.kept; proxy = s.proxy; sends = s.sends; manner = s.manner; retries = retries_by s.retries } };
+    ghost view = { λ s. record { robots = s.robots; is_recording = s.is_recording; kept = s.kept; proxies = s.proxies; sends = s.sends; manner = s.manner; retries = retries_by s.retries } };
 }
 
 /// Makes a live run's fetchers, its folder and its records.

@@ -7,11 +7,13 @@ use Rattle.options.specs.Environment.{with_environment}
 use Rattle.options.specs.Said.{command_meaning, heard, sayings, trimmed, value_meaning}
 use Rattle.options.specs.Table.{commands, table}
 
--- without `https_proxy` the words are those that are typed
-pub environment_is_silent : (typed : List Text) → with_environment None typed ≡ typed
+-- without variables the words are those that are typed
+pub environment_is_silent : (typed : List Text) → with_environment (record { https_proxy = None; http_proxy = None; no_proxy = None }) typed ≡ typed
 environment_is_silent typed = refl
 
--- with it the first of them is the option, and each that is typed counts after it
-pub environment_is_said : (value : Text) (typed : List Text) → sayings (with_environment (Some value) typed) ≡ saying.Says (codes "https-proxy") (trimmed value) ∷ sayings typed
+-- with them the first words are their options, and each that is typed counts after them
+pub environment_is_said : (https http without : Text) (typed : List Text)
+    → sayings (with_environment (record { https_proxy = Some https; http_proxy = Some http; no_proxy = Some without }) typed)
+    ≡ saying.Says (codes "https-proxy") (trimmed https) ∷ saying.Says (codes "http-proxy") (trimmed http) ∷ saying.Says (codes "without-proxy") (trimmed without) ∷ sayings typed
 unfolding sayings heard value_meaning command_meaning table commands
-environment_is_said value typed = refl
+environment_is_said https http without typed = refl

@@ -21,8 +21,9 @@ use Rattle.options.specs.Manners.{manner_of}
 use Rattle.pacing.specs.Retries.{Retried}
 use Rattle.options.specs.Retries.{retries_of}
 use Rattle.options.specs.Naming.{Naming, naming_of}
-use Rattle.options.specs.Order.{Counts, proxy_of, start_of, started_at, are_good, counts_of, patterns_of, directories_of, domains_of, fields_of, login_by, login_of, password_of, user_of, order_of_rows, order_of_written, are_taken, AnswersOrder, ordered}
+use Rattle.options.specs.Order.{Counts, proxies_of, start_of, started_at, are_good, counts_of, patterns_of, directories_of, domains_of, fields_of, login_by, login_of, password_of, user_of, order_of_rows, order_of_written, are_taken, AnswersOrder, ordered}
 use Rattle.requests.specs.Fields.{Sent}
+use Rattle.requests.specs.Proxies.{Proxies}
 use Rattle.options.specs.inner.Order.{Both, StartsAt, FailsToStart, FailsToFilter, Settles, fault_of_kind}
 
 pub starts-at : (found : List Row) (start : List ℕ) → start_of found ≡ Ok start → is_robots_file start ≡ false → StartsAt found start
@@ -69,27 +70,27 @@ pub bad-retries : (found : List Row) (n : Counts) (w : Mannered) (m : Naming) �
 unfolding order_of_rows
 bad-retries found n w m words counts manner names retries = rw (words, counts, manner, names, retries) refl
 
-pub bad-proxy : (found : List Row) (n : Counts) (w : Mannered) (m : Naming) (r : Retried) (why : LineFault) → are_good found ≡ true → counts_of found ≡ Some n → manner_of found ≡ Some w → naming_of found ≡ Some m → retries_of found ≡ Some r → proxy_of found ≡ Err why → order_of_rows found ≡ Err why
+pub bad-proxy : (found : List Row) (n : Counts) (w : Mannered) (m : Naming) (r : Retried) (why : LineFault) → are_good found ≡ true → counts_of found ≡ Some n → manner_of found ≡ Some w → naming_of found ≡ Some m → retries_of found ≡ Some r → proxies_of found ≡ Err why → order_of_rows found ≡ Err why
 unfolding order_of_rows
 bad-proxy found n w m r why words counts manner names retries proxy = rw (words, counts, manner, names, retries, proxy) refl
 
-pub bad-fields : (found : List Row) (n : Counts) (w : Mannered) (x : Option (List ℕ)) (m : Naming) (r : Retried) (why : LineFault) → are_good found ≡ true → counts_of found ≡ Some n → manner_of found ≡ Some w → naming_of found ≡ Some m → retries_of found ≡ Some r → proxy_of found ≡ Ok x → fields_of found ≡ Err why → order_of_rows found ≡ Err why
+pub bad-fields : (found : List Row) (n : Counts) (w : Mannered) (x : Proxies) (m : Naming) (r : Retried) (why : LineFault) → are_good found ≡ true → counts_of found ≡ Some n → manner_of found ≡ Some w → naming_of found ≡ Some m → retries_of found ≡ Some r → proxies_of found ≡ Ok x → fields_of found ≡ Err why → order_of_rows found ≡ Err why
 unfolding order_of_rows
 bad-fields found n w x m r why words counts manner names retries proxy fields = rw (words, counts, manner, names, retries, proxy, fields) refl
 
-pub bad-level : (found : List Row) (n : Counts) (x : Option (List ℕ)) (m : Naming) (s : Sent) (w : Mannered) (r : Retried) → Settles found n x m s w r → level_of found ≡ None → order_of_rows found ≡ Err fault.Depth
+pub bad-level : (found : List Row) (n : Counts) (x : Proxies) (m : Naming) (s : Sent) (w : Mannered) (r : Retried) → Settles found n x m s w r → level_of found ≡ None → order_of_rows found ≡ Err fault.Depth
 unfolding order_of_rows
 bad-level found n x m s w r settles level = rw (settles.words, settles.counted, settles.treated, settles.named, settles.retried, settles.proxied, settles.fielded, level) refl
 
-pub bad-filters : (found : List Row) (n : Counts) (x : Option (List ℕ)) (m : Naming) (s : Sent) (w : Mannered) (r : Retried) (l : Limit) (why : LineFault) → Settles found n x m s w r → level_of found ≡ Some l → FailsToFilter found why → order_of_rows found ≡ Err why
+pub bad-filters : (found : List Row) (n : Counts) (x : Proxies) (m : Naming) (s : Sent) (w : Mannered) (r : Retried) (l : Limit) (why : LineFault) → Settles found n x m s w r → level_of found ≡ Some l → FailsToFilter found why → order_of_rows found ≡ Err why
 unfolding order_of_rows
 bad-filters found n x m s w r l why settles level fails = rw (settles.words, settles.counted, settles.treated, settles.named, settles.retried, settles.proxied, settles.fielded, level) (fails.1 _)
 
-pub bad-start : (found : List Row) (n : Counts) (x : Option (List ℕ)) (m : Naming) (s : Sent) (w : Mannered) (r : Retried) (l : Limit) (p d h : List (List ℕ) × List (List ℕ)) (why : LineFault) → Settles found n x m s w r → level_of found ≡ Some l → patterns_of found ≡ Some p → directories_of found ≡ Some d → domains_of found ≡ Some h → FailsToStart found why → order_of_rows found ≡ Err why
+pub bad-start : (found : List Row) (n : Counts) (x : Proxies) (m : Naming) (s : Sent) (w : Mannered) (r : Retried) (l : Limit) (p d h : List (List ℕ) × List (List ℕ)) (why : LineFault) → Settles found n x m s w r → level_of found ≡ Some l → patterns_of found ≡ Some p → directories_of found ≡ Some d → domains_of found ≡ Some h → FailsToStart found why → order_of_rows found ≡ Err why
 unfolding order_of_rows
 bad-start found n x m s w r l p d h why settles level patterns directories domains fails = rw (settles.words, settles.counted, settles.treated, settles.named, settles.retried, settles.proxied, settles.fielded, level, patterns, directories, domains) (fails.1 _)
 
-pub good-order : (found : List Row) (n : Counts) (x : Option (List ℕ)) (m : Naming) (s : Sent) (w : Mannered) (r : Retried) (l : Limit) (p d h : List (List ℕ) × List (List ℕ)) (start : List ℕ) → Settles found n x m s w r → level_of found ≡ Some l → patterns_of found ≡ Some p → directories_of found ≡ Some d → domains_of found ≡ Some h → StartsAt found start → order_of_rows found ≡ Ok (ordered found n x m s w r l p d h start)
+pub good-order : (found : List Row) (n : Counts) (x : Proxies) (m : Naming) (s : Sent) (w : Mannered) (r : Retried) (l : Limit) (p d h : List (List ℕ) × List (List ℕ)) (start : List ℕ) → Settles found n x m s w r → level_of found ≡ Some l → patterns_of found ≡ Some p → directories_of found ≡ Some d → domains_of found ≡ Some h → StartsAt found start → order_of_rows found ≡ Ok (ordered found n x m s w r l p d h start)
 unfolding order_of_rows
 good-order found n x m s w r l p d h start settles level patterns directories domains starts = rw (settles.words, settles.counted, settles.treated, settles.named, settles.retried, settles.proxied, settles.fielded, level, patterns, directories, domains) (starts _)
 

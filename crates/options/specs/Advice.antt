@@ -75,8 +75,8 @@ told_of_kind why = told_of_text why (kind_text why)
 -- of words that are no order; nothing where memory ran out
 abbrev pub told_on : LineFault → Option Told
 told_on (line.Words why) = Some (told_of_kind why)
-told_on line.NoProxy = Some (Correction (codes "the value of --https-proxy or https_proxy is no proxy") accepted_proxy)
-told_on line.ProxyUser = Some (Correction (codes "the proxy has a user name or a password, and none is sent") accepted_proxy)
+told_on line.NoProxy = Some (Correction (codes "the value of --https-proxy, --http-proxy or their variable is no proxy") accepted_proxy)
+told_on line.ProxyUser = Some (Correction (codes "the user name of the proxy has a colon, or it and the password are too long") accepted_proxy)
 told_on line.Login = Some (Correction (codes "user name and password are only sent together and with --auth-no-challenge") accepted_login)
 told_on line.Agent = Some (Correction (codes "the value of -U, --user-agent has a control character or more than 8192 bytes") accepted_field)
 told_on line.Referer = Some (Correction (codes "the value of --referer has a control character or more than 8192 bytes") accepted_field)

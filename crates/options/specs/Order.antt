@@ -33,6 +33,7 @@ use Rattle.options.specs.Naming.{Naming, naming_by, naming_of}
 use Rattle.requests.specs.Fields.{Sent, login_of as login_value_of, read_fields}
 use Rattle.requests.specs.declared.fields.FieldsFault.{FieldsFault}
 use Rattle.requests.specs.declared.fields.FieldsFault.TheVariants as unsent
+use Rattle.requests.specs.Proxies.{Proxies, Proxy, proxies_of as proxies_with}
 use Rattle.requests.specs.Requests.{Home, Sending, home_of}
 use Rattle.options.specs.declared.said.Saying.{Saying}
 use Rattle.options.specs.Said.{sayings}
@@ -83,7 +84,7 @@ pub record Ordered : Type 0 where
   pub fields : Sent
   pub manner : Mannered
   pub retries : Retried
-  pub proxy : Option (List ℕ)
+  pub proxies : Proxies
   pub trusts : Bool
   pub resume : Option Text
   pub save : Option Text
@@ -130,34 +131,55 @@ proxy_fault UserInfo = fault.ProxyUser
 proxy_fault other = fault.NoProxy
 
 -- the origin of an http address that is no more than that
-abbrev pub root_origin : Result (List ℕ) AddressFault → Result (Option (List ℕ)) LineFault
+abbrev pub root_origin : Result (List ℕ) AddressFault → Result (List ℕ) LineFault
 root_origin (Err why) = Err (proxy_fault why)
-root_origin (Ok address) = if bytes_eq (path_query_of address) (codes "/") then Ok (Some (origin_of address)) else Err fault.NoProxy
+root_origin (Ok address) = if bytes_eq (path_query_of address) (codes "/") then Ok (origin_of address) else Err fault.NoProxy
 
--- the proxy that a value names, or why it names none; `http` is its scheme if it has none
-unfoldable pub proxy_by : Option Text → Result (Option (List ℕ)) LineFault
+-- the proxy at an origin, with these credentials
+abbrev pub proxy_with : Option Text → Result (List ℕ) LineFault → Result Proxy LineFault
+proxy_with login (Err why) = Err why
+proxy_with login (Ok origin) = Ok (record { origin = origin; login = login })
+
+-- the proxy that a text names, with its user and password, or why it names none; `http` is its scheme if it has none
+abbrev pub proxy_at : Text → Result Proxy LineFault
+proxy_at text = proxy_with (typed_login text) (root_origin (read_address (typed text)))
+
+abbrev pub if_proxy : Result Proxy LineFault → Result (Option Proxy) LineFault
+if_proxy (Err why) = Err why
+if_proxy (Ok proxy) = Ok (Some proxy)
+
+-- the same of a value, if there is one
+unfoldable pub proxy_by : Option Text → Result (Option Proxy) LineFault
 proxy_by None = Ok None
-proxy_by (Some value) = root_origin (read_address (with_scheme value))
+proxy_by (Some value) = if_proxy (proxy_at value)
 
 -- a value that isn't empty
 abbrev pub unless_empty : Option Text → Option Text
 unless_empty None = None
 unless_empty (Some value) = if length value == 0 then None else Some value
 
--- the value that names the proxy, unless none is to be asked; an empty one names none
-abbrev pub proxy_value : List Row → Option Text
-proxy_value found = if is_set (codes "no-proxy") found then None else unless_empty (first_of (codes "https-proxy") found)
+-- the value that names a proxy by this option, unless none is to be asked; an empty one names none
+abbrev pub proxy_value : Text → List Row → Option Text
+proxy_value option found = if is_set (codes "no-proxy") found then None else unless_empty (first_of option found)
 
--- the proxy that speaks TLS, if one is given, or why its value is none
-abbrev pub proxy_of : List Row → Result (Option (List ℕ)) LineFault
-proxy_of found = proxy_by (proxy_value found)
+-- the proxies for https and for http, and the list of hosts that are requested without one, or why the first that is none is none
+abbrev pub both_proxies : Text → Result (Option Proxy) LineFault → Result (Option Proxy) LineFault → Result Proxies LineFault
+both_proxies without (Err why) http = Err why
+both_proxies without (Ok https) (Err why) = Err why
+both_proxies without (Ok https) (Ok http) = Ok (proxies_with https http without)
 
--- the proxy, and what follows from it
-abbrev pub proxied_by : {Y : Type 0} → Result (Option (List ℕ)) LineFault → (Option (List ℕ) → Result Y LineFault) → Result Y LineFault
+-- the proxies, or why what is given for one is none
+abbrev pub proxies_of : List Row → Result Proxies LineFault
+proxies_of found =
+    both_proxies (unwrap_or (first_of (codes "without-proxy") found) []) (proxy_by (proxy_value (codes "https-proxy") found))
+    (proxy_by (proxy_value (codes "http-proxy") found))
+
+-- the proxies, and what follows from them
+abbrev pub proxied_by : {Y : Type 0} → Result Proxies LineFault → (Proxies → Result Y LineFault) → Result Y LineFault
 proxied_by (Err why) next = Err why
-proxied_by (Ok proxy) next = next proxy
+proxied_by (Ok proxies) next = next proxies
 
--- a start; https is one where a proxy is given
+-- a start; https is one where a proxy for it is given
 abbrev pub read_start : Bool → Text → Result (List ℕ) AddressFault
 read_start false text = read_address text
 read_start true text = read_either text
@@ -227,7 +249,7 @@ fielded_by (Ok fields) next = next fields
 -- the start, or why it is no address; `http` is its scheme where it has none, and user and password are left out
 unfoldable pub start_of : List Row → Result (List ℕ) AddressFault
 start_of found =
-    read_start (is_some (proxy_value found)) (typed (unwrap_or (first_of (codes "start") found) []))
+    read_start (is_some (proxy_value (codes "https-proxy") found)) (typed (unwrap_or (first_of (codes "start") found) []))
 
 -- the start, and what follows from it
 abbrev pub started_at : {Y : Type 0} → Result (List ℕ) AddressFault → (List ℕ → Result Y LineFault) → Result Y LineFault
@@ -259,10 +281,10 @@ prefix_of found = folder_of (first_of (codes "directory-prefix") found)
 unfoldable pub log_of : List Row → Option (Text × Bool)
 log_of found = option_map (λ path. (path, is_some (first_of (codes "append-output") found))) (first_of (codes "output-file") found)
 
--- what the options order with these numbers, this proxy, these names, these fields, this manner, these retries, this level, these lists and this start; without `-r` no link is followed and
+-- what the options order with these numbers, these proxies, these names, these fields, this manner, these retries, this level, these lists and this start; without `-r` no link is followed and
 -- no robots file is honoured
-abbrev pub ordered : List Row → Counts → Option (List ℕ) → Naming → Sent → Mannered → Retried → Limit → (patterns directories domains : List (List ℕ) × List (List ℕ)) → List ℕ → Ordered
-ordered found counts proxy names fields manner retries level patterns directories domains start = record {
+abbrev pub ordered : List Row → Counts → Proxies → Naming → Sent → Mannered → Retried → Limit → (patterns directories domains : List (List ℕ) × List (List ℕ)) → List ℕ → Ordered
+ordered found counts proxies names fields manner retries level patterns directories domains start = record {
   start = start;
   others = [];
   logins = [];
@@ -292,7 +314,7 @@ ordered found counts proxy names fields manner retries level patterns directorie
   fields = fields;
   manner = manner;
   retries = retries;
-  proxy = proxy;
+  proxies = proxies;
   trusts = is_set (codes "trust-proxy") found;
   resume = first_of (codes "resume") found;
   save = first_of (codes "save") found;
@@ -306,13 +328,13 @@ order_of_rows found =
     found_or (manner_of found) words_refused (λ manner.
     found_or (naming_of found) words_refused (λ names.
     found_or (retries_of found) words_refused (λ retries.
-    proxied_by (proxy_of found) (λ proxy.
+    proxied_by (proxies_of found) (λ proxies.
     fielded_by (fields_of found) (λ fields.
     found_or (level_of found) fault.Depth (λ level.
     found_or (patterns_of found) fault.Pattern (λ patterns.
     found_or (directories_of found) fault.Directory (λ directories.
     found_or (domains_of found) fault.Domain (λ domains.
-    started_at (start_of found) (λ start. Ok (ordered found counts proxy names fields manner retries level patterns directories domains start))))))))))))
+    started_at (start_of found) (λ start. Ok (ordered found counts proxies names fields manner retries level patterns directories domains start))))))))))))
 
 -- words with no kind of refusal are taken
 abbrev pub are_taken : Kinds → Bool
@@ -340,7 +362,7 @@ started_besides order (Ok others) = besides order others
 -- the order with the starts that these texts name besides its own; of these too https is one if a proxy is given
 abbrev pub with_others : List Text → Result Ordered LineFault → Result Ordered LineFault
 with_others texts (Err why) = Err why
-with_others texts (Ok order) = started_besides order (starts_after [] (is_some order.proxy) texts)
+with_others texts (Ok order) = started_besides order (starts_after [] (is_some order.proxies.https) texts)
 
 -- ---- whom https is entrusted to
 
@@ -355,9 +377,9 @@ is_loopback host =
     bytes_eq host (codes "localhost") || bytes_eq host (codes "[::1]") || (starts_with nat_eq host (codes "127.") && list_all is_numeric host)
 
 -- there is no proxy, or it is on this machine, or trusted
-abbrev pub is_trusted : Bool → Option (List ℕ) → Bool
+abbrev pub is_trusted : Bool → Option Proxy → Bool
 is_trusted trusts None = true
-is_trusted trusts (Some proxy) = trusts || is_loopback (host_of (proxy ++ codes "/"))
+is_trusted trusts (Some proxy) = trusts || is_loopback (host_of (proxy.origin ++ codes "/"))
 
 abbrev pub is_secure : Scheme → Bool
 is_secure Http = false
@@ -374,7 +396,7 @@ has_https order = is_https order.start || list_any is_https order.others
 -- the order, unless https would go to a proxy on another machine that isn't trusted: the way there has no TLS
 abbrev pub guarded : Result Ordered LineFault → Result Ordered LineFault
 guarded (Err why) = Err why
-guarded (Ok order) = if is_trusted order.trusts order.proxy || not (has_https order) then Ok order else Err fault.FarProxy
+guarded (Ok order) = if is_trusted order.trusts order.proxies.https || not (has_https order) then Ok order else Err fault.FarProxy
 
 -- ---- user and password in starts
 
@@ -442,7 +464,7 @@ ordered_by order = record {
   fields = order.fields;
   manner = mannered order.manner;
   retries = retries_by order.retries;
-  proxy = order.proxy;
+  proxies = order.proxies;
   trusts = order.trusts_proxy;
   resume = order.resume;
   save = order.save;
@@ -462,9 +484,10 @@ abbrev pub homes_of : List (List ℕ) → List (Option Text) → List Home
 homes_of [] logins = []
 homes_of (start ∷ starts) logins = home_of start (first_login logins) ∷ homes_of starts (drop 1 logins)
 
--- what is sent with each request: secret fields and credentials go to the origins of the starts alone
+-- what is sent with each request: secret fields and credentials go to the origins of the starts alone, and those of a proxy to it
 abbrev pub sending_of : Order → Sending
-sending_of order = record { sent = order.fields; homes = homes_of (order.plan.start ∷ order.plan.others) order.logins.items; jar = None }
+sending_of order =
+    record { sent = order.fields; homes = homes_of (order.plan.start ∷ order.plan.others) order.logins.items; jar = None; proxies = order.proxies }
 
 -- the result is the expected order, or the expected fault, unless memory ran out
 abbrev pub AnswersOrder : Result Order LineFault → Result Ordered LineFault → Type 0

@@ -81,11 +81,11 @@ fn advice_on(wrong: LineFault) -> Option<Advice>
     match wrong {
         LineFault::Words(kind) => Some(kind_advice(kind)),
         LineFault::NoProxy => Some(Advice::Correction(
-            "the value of --https-proxy or https_proxy is no proxy",
+            "the value of --https-proxy, --http-proxy or their variable is no proxy",
             PROXY,
         )),
         LineFault::ProxyUser => Some(Advice::Correction(
-            "the proxy has a user name or a password, and none is sent",
+            "the user name of the proxy has a colon, or it and the password are too long",
             PROXY,
         )),
         LineFault::Login => Some(Advice::Correction(

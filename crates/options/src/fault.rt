@@ -9,9 +9,9 @@ pub enum LineFault {
     /// An option is unknown, is given twice, lacks its value or has a value out of its range; the
     /// start is missing or there are two. The kind is `clap`'s.
     Words(ErrorKind),
-    /// What a proxy's option or variable names is no proxy: it is the origin of no http address.
+    /// What an option or a variable of a proxy names is no proxy: it is the origin of no http address.
     NoProxy,
-    /// The proxy has a user name or a password.
+    /// The proxy has a user name with a colon, or it and the password are too long.
     ProxyUser,
     /// A user name without a password, or one without a user name, a user name with a colon, or either without
     /// `--auth-no-challenge`.

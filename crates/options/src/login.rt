@@ -139,8 +139,8 @@ pub(crate) fn typed(alloc: Global, text: &str) -> Result<String, AllocError>
     without_login(alloc, full.as_str())
 }
 
-// Its credentials.
-fn typed_login(alloc: Global, text: &str) -> Result<Option<Login>, AllocError>
+/// Its credentials.
+pub(crate) fn typed_login(alloc: Global, text: &str) -> Result<Option<Login>, AllocError>
     ensures { IfOk result (λ login. login ≡ typed_login text.now) }
 {
     let full = with_scheme(alloc, text)?;

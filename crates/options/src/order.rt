@@ -6,10 +6,9 @@ ghost use Rattle.options.specs.declared.order.TheConstants.{MAX_WORKERS};
 
 use crate::homes::homes_of;
 use crate::naming::PageNames;
-use address::Origin;
 use follow_filters::{Plan, Starts};
 use pacing::{Manner, Retries};
-use requests::{Fields, Login, Sending};
+use requests::{Fields, Login, Proxies, Sending};
 use std::alloc::{AllocError, Global};
 use std::marker::Model;
 
@@ -140,9 +139,9 @@ pub struct Order {
     pub manner: Manner,
     /// When requests are made again.
     pub retries: Retries,
-    /// The proxy that is asked for https addresses.
-    pub proxy: Option<Origin>,
-    /// Whether the proxy may be on another machine.
+    /// The proxies that are asked, and which hosts are requested without one.
+    pub proxies: Proxies,
+    /// Whether the proxy for https may be on another machine.
     pub trusts_proxy: bool,
     /// The record whose answers aren't asked for again.
     pub resume: Option<FilePath>,
@@ -220,17 +219,14 @@ impl Order {
     ghost use Rattle.address.specs.Address.{is_robots_file};
     ghost use Rattle.options.specs.Order.{kept_of, ordered_by, sending_of};
 
-    /// The proxy that is asked for https addresses. Takes no memory; the error is that 2^63 copies are there.
-    pub fn proxy(&self) -> Result<Option<Origin>, AllocError>
-        ensures { IfOk result (λ proxy. proxy ≡ self.now.proxy) }
+    /// The proxies that are asked, once more.
+    pub fn proxies(&self) -> Result<Proxies, AllocError>
+        ensures { IfOk result (λ proxies. proxies ≡ self.now.proxies) }
     {
-        match &self.proxy {
-            Some(proxy) => Ok(Some(proxy.try_clone()?)),
-            None => Ok(None),
-        }
+        self.proxies.try_clone()
     }
 
-    /// What is sent with each request: secret fields go to the origins of the starts alone.
+    /// What is sent with each request: secret fields go to the origins of the starts alone, and what a proxy wants to it alone.
     pub fn sending(&self, alloc: Global) -> Result<Sending, AllocError>
         ensures { IfOk result (λ sending. sending ≡ sending_of self.now) }
     {
@@ -241,7 +237,8 @@ impl Order {
             self.plan.others.as_slice(),
             self.logins.as_slice(),
         )?;
-        Ok(Sending::new(fields, homes))
+        let proxies = self.proxies()?;
+        Ok(Sending::new(fields, homes, proxies))
     }
 
     /// The same order with these starts besides its own.
@@ -264,7 +261,7 @@ impl Order {
             fields,
             manner,
             retries,
-            proxy,
+            proxies,
             trusts_proxy,
             resume,
             save,
@@ -283,7 +280,7 @@ impl Order {
             fields,
             manner,
             retries,
-            proxy,
+            proxies,
             trusts_proxy,
             resume,
             save,
@@ -308,7 +305,7 @@ impl Order {
             fields,
             manner,
             retries,
-            proxy,
+            proxies,
             trusts_proxy,
             resume,
             save,
@@ -327,7 +324,7 @@ impl Order {
             fields,
             manner,
             retries,
-            proxy,
+            proxies,
             trusts_proxy,
             resume,
             save,

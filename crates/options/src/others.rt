@@ -59,7 +59,7 @@ fn besides(alloc: Global, order: Order, others: Vec<Address>) -> Result<Order, L
 pub(crate) fn with_others(alloc: Global, order: Order, texts: &[&str]) -> Result<Order, LineFault>
     ensures { AnswersOrder result (with_others (map (λ text. text.now) texts.now) (Ok (ordered_by order))) }
 {
-    match read_starts(alloc, order.proxy.is_some(), texts) {
+    match read_starts(alloc, order.proxies.https().is_some(), texts) {
         Ok(others) => besides(alloc, order, others),
         Err(fault) => {
             drop(order);

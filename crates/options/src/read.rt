@@ -14,18 +14,18 @@ ghost use Rattle.options.specs.Given.{level_of, list_of};
 ghost use Rattle.pacing.specs.Manners.{mannered};
 ghost use Rattle.pacing.specs.Retries.{retries_by};
 ghost use Rattle.options.specs.Naming.{naming_by};
-ghost use Rattle.options.specs.Order.{AnswersOrder, OrdersBySayings, order_of, order_of_rows, order_of_written, order_said, are_good, is_plain_value, both, counts_of, patterns_of, directories_of, domains_of, fields_fault, fields_of, fields_with, logged, login_by, login_of, login_with, password_of, said_or, start_of, source_of, user_of, honours_robots, limit_within, ordered, ordered_by, folder_of, guarded, prefix_of, log_by, log_of, proxy_by, proxy_of, proxy_value, read_start, root_origin, unless_empty, with_others};
+ghost use Rattle.options.specs.Order.{AnswersOrder, OrdersBySayings, order_of, order_of_rows, order_of_written, order_said, are_good, is_plain_value, both, counts_of, patterns_of, directories_of, domains_of, fields_fault, fields_of, fields_with, logged, login_by, login_of, login_with, password_of, said_or, start_of, source_of, user_of, honours_robots, limit_within, ordered, ordered_by, folder_of, guarded, prefix_of, log_by, log_of, both_proxies, proxies_of, proxy_at, proxy_by, proxy_value, read_start, root_origin, unless_empty, with_others};
 ghost use Rattle.options.specs.Asked.{refusal_of, without_kind, words_refused};
 ghost use Rattle.options.specs.inner.Said.{saying_in};
 ghost use Rattle.options.specs.inner.Order.{StartsAt, FailsToStart, FailsToFilter, IsNoStart, Settles, fault_of_kind, unasked};
-ghost use Rattle.options.specs.Start.{has_colon, typed, with_scheme};
+ghost use Rattle.options.specs.Start.{has_colon, typed, typed_login};
 ghost use Rattle.options.specs.Written.{written};
 
 use crate::asked::{is_asking, wish_fault, wish_of};
 use crate::fault::LineFault;
 use crate::given::{elements, given, is_set, level, number};
 use crate::line::parse;
-use crate::login::{has_colon, logins, typed};
+use crate::login::{has_colon, logins, typed, typed_login};
 use crate::manner::manner;
 use crate::naming::{PageNames, names};
 use crate::order::{
@@ -35,7 +35,6 @@ use crate::order::{
 use crate::others::with_others;
 use crate::retries::retries;
 use crate::said::{Saying, sayings};
-use crate::start::with_scheme;
 use crate::trust::guarded;
 use crate::written::{first_unread, starts, written};
 use address::{Address, AddressFault, Origin};
@@ -45,7 +44,7 @@ use follow_filters::{
     Directory, Domain, Element, Elements, Limit, MAX_PER_HOST, MAX_URLS, Pattern, Plan, Starts,
 };
 use pacing::{Manner, Retries};
-use requests::{Fields, FieldsFault, Login};
+use requests::{Fields, FieldsFault, Login, Proxies, Proxy};
 use std::alloc::{AllocError, Global};
 
 // The numbers of workers, requests out to an origin, and addresses.
@@ -62,11 +61,11 @@ struct Counts {
     ghost max_urls_in_range: { max_urls ≤ MAX_URLS },
 }
 
-// Numbers, the proxy, what shapes names and what requests say, how servers are treated, and when requests are made again.
+// Numbers, the proxies, what shapes names and what requests say, how servers are treated, and when requests are made again.
 #[derive(Drop)]
 struct Settings {
     counts: Counts,
-    proxy: Option<Origin>,
+    proxies: Proxies,
     names: PageNames,
     fields: Fields,
     manner: Manner,
@@ -241,21 +240,9 @@ fn read_start(alloc: Global, matches: &ArgMatches) -> Result<Address, AddressFau
 {
     read_typed(
         alloc,
-        proxy_value(matches).is_some(),
+        proxy_value(matches, "https-proxy").is_some(),
         given(matches, "start").unwrap_or(""),
     )
-}
-
-// A proxy as it is typed.
-fn read_proxy(alloc: Global, text: &str) -> Result<Address, AddressFault>
-    ensures { address.Gives result (read_address (with_scheme text.now)) }
-{
-    let Ok(text) = with_scheme(alloc, text) else {
-        return Err(AddressFault::Memory);
-    };
-    let proxy = Address::read(alloc, text.as_str());
-    drop(text);
-    proxy
 }
 
 // A start as it is typed. Https is one if a proxy is given.
@@ -300,42 +287,21 @@ fn unless_empty(value: Option<&str>) -> Option<&str>
     }
 }
 
-// The value that names the proxy, unless none is to be asked. An empty one names none.
-fn proxy_value<'a>(matches: &ArgMatches<'a>) -> Option<&'a str>
-    ensures { option_map (λ s. s.now) result ≡ proxy_value (rows_of (found_of matches.now)) }
+// The value that names a proxy by this option, unless none is to be asked. An empty one names none.
+fn proxy_value<'a>(matches: &ArgMatches<'a>, option: &str) -> Option<&'a str>
+    ensures { option_map (λ s. s.now) result ≡ proxy_value option.now (rows_of (found_of matches.now)) }
 {
     if is_set(matches, "no-proxy") {
         None
     } else {
-        unless_empty(given(matches, "https-proxy"))
-    }
-}
-
-// The proxy that a value names, or why it names none.
-#[tactic(auto, unfolding(crate::specs::Order::proxy_by))]
-fn proxy_by(alloc: Global, value: Option<&str>) -> Result<Option<Origin>, LineFault>
-    ensures answers { MatchResult result
-        (λ proxy. proxy_by (option_map (λ s. s.now) value.entry) ≡ Ok proxy)
-        (λ f. (proxy_by (option_map (λ s. s.now) value.entry) ≡ Err f) ⊎ (f ≡ fault.Memory)) }
-    ensures kept { IfErr result (λ f. without_kind f ≡ f) }
-{
-    match value {
-        Some(text) => match read_proxy(alloc, text) {
-            Ok(address) => origin_at(&address),
-            Err(AddressFault::Memory) => Err(LineFault::Memory),
-            Err(AddressFault::UserInfo) => Err(LineFault::ProxyUser),
-            Err(AddressFault::TooLong | AddressFault::NotUrl | AddressFault::NotHttp) => {
-                Err(LineFault::NoProxy)
-            }
-        },
-        None => Ok(None),
+        unless_empty(given(matches, option))
     }
 }
 
 // The origin of an address that is no more than that.
-fn origin_at(address: &Address) -> Result<Option<Origin>, LineFault>
+fn root_origin(address: &Address) -> Result<Origin, LineFault>
     ensures answers { MatchResult result
-        (λ proxy. root_origin (Ok address.now) ≡ Ok proxy)
+        (λ origin. root_origin (Ok address.now) ≡ Ok origin)
         (λ f. (root_origin (Ok address.now) ≡ Err f) ⊎ (f ≡ fault.Memory)) }
     ensures kept { IfErr result (λ f. without_kind f ≡ f) }
 {
@@ -343,9 +309,106 @@ fn origin_at(address: &Address) -> Result<Option<Origin>, LineFault>
         return Err(LineFault::NoProxy);
     }
     match Origin::of(address) {
-        Ok(origin) => Ok(Some(origin)),
+        Ok(origin) => Ok(origin),
         Err(_) => Err(LineFault::Memory),
     }
+}
+
+// The origin of a proxy as it is typed, without its user and password.
+fn proxy_origin(alloc: Global, text: &str) -> Result<Origin, LineFault>
+    ensures answers { MatchResult result
+        (λ origin. root_origin (read_address (typed text.now)) ≡ Ok origin)
+        (λ f. (root_origin (read_address (typed text.now)) ≡ Err f) ⊎ (f ≡ fault.Memory)) }
+    ensures kept { IfErr result (λ f. without_kind f ≡ f) }
+{
+    match read_typed(alloc, false, text) {
+        Ok(address) => root_origin(&address),
+        Err(AddressFault::Memory) => Err(LineFault::Memory),
+        Err(AddressFault::UserInfo) => Err(LineFault::ProxyUser),
+        Err(AddressFault::TooLong | AddressFault::NotUrl | AddressFault::NotHttp) => {
+            Err(LineFault::NoProxy)
+        }
+    }
+}
+
+// The proxy that is typed so, with its user and password, or why it is none.
+fn proxy_at(alloc: Global, text: &str) -> Result<Proxy, LineFault>
+    ensures answers { MatchResult result
+        (λ proxy. proxy_at text.now ≡ Ok proxy)
+        (λ f. (proxy_at text.now ≡ Err f) ⊎ (f ≡ fault.Memory)) }
+    ensures kept { IfErr result (λ f. without_kind f ≡ f) }
+{
+    let Ok(login) = typed_login(alloc, text) else {
+        return Err(LineFault::Memory);
+    };
+    match proxy_origin(alloc, text) {
+        Ok(origin) => Ok(Proxy::new(origin, login)),
+        Err(fault) => {
+            drop(login);
+            Err(fault)
+        }
+    }
+}
+
+// The proxy that a value names, or why it names none.
+#[tactic(auto, unfolding(crate::specs::Order::proxy_by))]
+fn proxy_by(alloc: Global, value: Option<&str>) -> Result<Option<Proxy>, LineFault>
+    ensures answers { MatchResult result
+        (λ proxy. proxy_by (option_map (λ s. s.now) value.entry) ≡ Ok proxy)
+        (λ f. (proxy_by (option_map (λ s. s.now) value.entry) ≡ Err f) ⊎ (f ≡ fault.Memory)) }
+    ensures kept { IfErr result (λ f. without_kind f ≡ f) }
+{
+    match value {
+        Some(text) => match proxy_at(alloc, text) {
+            Ok(proxy) => Ok(Some(proxy)),
+            Err(fault) => Err(fault),
+        },
+        None => Ok(None),
+    }
+}
+
+// The proxies that these values name, or why one names none, and the list of hosts that are requested without one.
+fn both_proxies(
+    alloc: Global,
+    https: Option<&str>,
+    http: Option<&str>,
+    without: &str,
+) -> Result<Proxies, LineFault>
+    ensures answers { MatchResult result
+        (λ proxies. both_proxies without.now (proxy_by (option_map (λ s. s.now) https.entry)) (proxy_by (option_map (λ s. s.now) http.entry)) ≡ Ok proxies)
+        (λ f. (both_proxies without.now (proxy_by (option_map (λ s. s.now) https.entry)) (proxy_by (option_map (λ s. s.now) http.entry)) ≡ Err f) ⊎ (f ≡ fault.Memory)) }
+    ensures kept { IfErr result (λ f. without_kind f ≡ f) }
+{
+    let https = match proxy_by(alloc, https) {
+        Ok(https) => https,
+        Err(fault) => return Err(fault),
+    };
+    let http = match proxy_by(alloc, http) {
+        Ok(http) => http,
+        Err(fault) => {
+            drop(https);
+            return Err(fault);
+        }
+    };
+    match Proxies::new(alloc, https, http, without) {
+        Ok(proxies) => Ok(proxies),
+        Err(_) => Err(LineFault::Memory),
+    }
+}
+
+// The proxies, or why what is given for one is none.
+fn proxies(alloc: Global, matches: &ArgMatches) -> Result<Proxies, LineFault>
+    ensures answers { MatchResult result
+        (λ proxies. proxies_of (rows_of (found_of matches.now)) ≡ Ok proxies)
+        (λ f. (proxies_of (rows_of (found_of matches.now)) ≡ Err f) ⊎ (f ≡ fault.Memory)) }
+    ensures kept { IfErr result (λ f. without_kind f ≡ f) }
+{
+    both_proxies(
+        alloc,
+        proxy_value(matches, "https-proxy"),
+        proxy_value(matches, "http-proxy"),
+        given(matches, "without-proxy").unwrap_or(""),
+    )
 }
 
 // The address, unless it is a robots file or why there is none.
@@ -532,10 +595,10 @@ fn fields(alloc: Global, matches: &ArgMatches) -> Result<Fields, LineFault>
 }
 
 // The numbers, how servers are treated, what shapes names, when requests are made
-// again, the proxy and what requests say: their faults come before those of levels and lists.
+// again, the proxies and what requests say: their faults come before those of levels and lists.
 fn read_settings(alloc: Global, matches: &ArgMatches) -> Result<Settings, LineFault>
     ensures { MatchResult result
-        (λ s. Settles (rows_of (found_of matches.now)) (record { workers = s.counts.workers; per_host = s.counts.per_host; max_urls = s.counts.max_urls }) s.proxy (naming_by s.names) s.fields (mannered s.manner) (retries_by s.retries))
+        (λ s. Settles (rows_of (found_of matches.now)) (record { workers = s.counts.workers; per_host = s.counts.per_host; max_urls = s.counts.max_urls }) s.proxies (naming_by s.names) s.fields (mannered s.manner) (retries_by s.retries))
         (λ f. (order_of_rows (rows_of (found_of matches.now)) ≡ Err (without_kind f)) ⊎ (f ≡ fault.Memory)) }
 {
     if let Some(fault) = word_fault(matches) {
@@ -558,8 +621,8 @@ fn read_settings(alloc: Global, matches: &ArgMatches) -> Result<Settings, LineFa
             return Err(fault);
         }
     };
-    let proxy = match proxy_by(alloc, proxy_value(matches)) {
-        Ok(proxy) => proxy,
+    let proxies = match proxies(alloc, matches) {
+        Ok(proxies) => proxies,
         Err(fault) => {
             drop(names);
             drop(retries);
@@ -569,7 +632,7 @@ fn read_settings(alloc: Global, matches: &ArgMatches) -> Result<Settings, LineFa
     let fields = match fields(alloc, matches) {
         Ok(fields) => fields,
         Err(fault) => {
-            drop(proxy);
+            drop(proxies);
             drop(names);
             drop(retries);
             return Err(fault);
@@ -577,7 +640,7 @@ fn read_settings(alloc: Global, matches: &ArgMatches) -> Result<Settings, LineFa
     };
     Ok(Settings {
         counts,
-        proxy,
+        proxies,
         names,
         fields,
         manner,
@@ -638,11 +701,11 @@ fn filled(
     requires save { paths.save ≡ first_of (codes "save") (rows_of (found_of matches.now)) }
     requires log { option_map log_by paths.log ≡ log_of (rows_of (found_of matches.now)) }
     ensures { ordered_by result ≡ ordered (rows_of (found_of matches.now)) (record { workers = settings.counts.workers; per_host = settings.counts.per_host; max_urls = settings.counts.max_urls })
-        settings.proxy (naming_by settings.names) settings.fields (mannered settings.manner) (retries_by settings.retries) level (filters.names.given, filters.names.excluded) (filters.places.given, filters.places.excluded) (filters.hosts.given, filters.hosts.excluded) start }
+        settings.proxies (naming_by settings.names) settings.fields (mannered settings.manner) (retries_by settings.retries) level (filters.names.given, filters.names.excluded) (filters.places.given, filters.places.excluded) (filters.hosts.given, filters.hosts.excluded) start }
 {
     let Settings {
         counts,
-        proxy,
+        proxies,
         names: naming,
         fields,
         manner,
@@ -685,7 +748,7 @@ fn filled(
         fields,
         manner,
         retries,
-        proxy,
+        proxies,
         trusts_proxy: is_set(matches, "trust-proxy"),
         resume: paths.resume,
         save: paths.save,

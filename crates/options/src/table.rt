@@ -42,7 +42,7 @@ pub(crate) struct Row<T> {
 }
 
 /// The options.
-const TABLE: [Row<&str>; 80] = [
+const TABLE: [Row<&str>; 82] = [
     Row {
         short: "r",
         name: "recursive",
@@ -353,10 +353,24 @@ const TABLE: [Row<&str>; 80] = [
     },
     Row {
         short: "",
+        name: "http-proxy",
+        kind: Kind::Value("URL"),
+        heading: "",
+        says: "http by a proxy, which may be anywhere",
+    },
+    Row {
+        short: "",
+        name: "without-proxy",
+        kind: Kind::List("LIST"),
+        heading: "",
+        says: "hosts with these suffixes by no proxy",
+    },
+    Row {
+        short: "",
         name: "no-proxy",
         kind: Kind::Flag,
         heading: "",
-        says: "no proxy, whatever words and https_proxy say",
+        says: "no proxy, whatever words and environment say",
     },
     Row {
         short: "",
@@ -1210,8 +1224,9 @@ pub(crate) fn insteads() -> &'static [Instead<&'static str>]
 }
 
 /// The long forms of options that Wget doesn't have, and of their opposites.
-const OWN: [&str; 19] = [
+const OWN: [&str; 21] = [
     "--answer-timeout",
+    "--http-proxy",
     "--https-proxy",
     "--map",
     "--max-urls",
@@ -1229,6 +1244,7 @@ const OWN: [&str; 19] = [
     "--span-requisites",
     "--trace",
     "--trust-proxy",
+    "--without-proxy",
     "--workers",
 ];
 
@@ -1250,7 +1266,7 @@ pub(crate) struct Command<T> {
 }
 
 /// The commands of wgetrc whose options are here.
-const COMMANDS: [Command<&str>; 65] = [
+const COMMANDS: [Command<&str>; 67] = [
     Command {
         name: "accept",
         option: "accept",
@@ -1344,6 +1360,10 @@ const COMMANDS: [Command<&str>; 65] = [
         option: "http-password",
     },
     Command {
+        name: "httpproxy",
+        option: "http-proxy",
+    },
+    Command {
         name: "httpsproxy",
         option: "https-proxy",
     },
@@ -1390,6 +1410,10 @@ const COMMANDS: [Command<&str>; 65] = [
     Command {
         name: "noparent",
         option: "no-parent",
+    },
+    Command {
+        name: "noproxy",
+        option: "without-proxy",
     },
     Command {
         name: "pagerequisites",

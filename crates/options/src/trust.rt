@@ -1,12 +1,13 @@
 //! Whom https is entrusted to: the way to a proxy has no TLS.
-ghost use Rattle.std.specs.Prelude.{◌≡◌, ◌++◌, Ok, codes, map};
+ghost use Rattle.std.specs.Prelude.{◌≡◌, ◌++◌, Ok, codes, map, option_map};
 ghost use Rattle.std.specs.List.{list_all, list_any};
 ghost use Rattle.address.specs.Address.{host_of};
 ghost use Rattle.options.specs.Order.{AnswersOrder, guarded, has_https, is_https, is_loopback, is_numeric, is_trusted, ordered_by};
 
 use crate::fault::LineFault;
 use crate::order::Order;
-use address::{Address, Origin, Scheme};
+use address::{Address, Scheme};
+use requests::Proxy;
 
 // Whether these are digits and dots.
 fn is_numeric(text: &[u8]) -> bool
@@ -25,11 +26,11 @@ fn is_loopback(host: &str) -> bool
 }
 
 // Whether there is no proxy, or it is on this machine, or trusted.
-fn is_trusted(trusts: bool, proxy: &Option<Origin>) -> bool
-    ensures { result ≡ is_trusted trusts proxy.now }
+fn is_trusted(trusts: bool, proxy: Option<&Proxy>) -> bool
+    ensures { result ≡ is_trusted trusts (option_map (λ p. p.now) proxy.entry) }
 {
     match proxy {
-        Some(proxy) => trusts || is_loopback(proxy.host()),
+        Some(proxy) => trusts || is_loopback(proxy.origin().host()),
         None => true,
     }
 }
@@ -61,7 +62,7 @@ fn has_https(order: &Order) -> bool
 pub(crate) fn guarded(order: Order) -> Result<Order, LineFault>
     ensures { AnswersOrder result (guarded (Ok (ordered_by order))) }
 {
-    if is_trusted(order.trusts_proxy, &order.proxy) || !has_https(&order) {
+    if is_trusted(order.trusts_proxy, order.proxies.https()) || !has_https(&order) {
         return Ok(order);
     }
     drop(order);

@@ -1,12 +1,13 @@
 -- The request for an address (RFC 9112, section 3.2), with what a run says besides.
 use Rattle.std.specs.Prelude.{◌≡◌, ◌++◌, ◌||◌, ℕ, Bool, true, false, not, List, [], ◌∷◌, Option, Some, None, is_some, bytes_eq, codes, if◌then◌else◌}
 use Rattle.std.specs.List.{Contains, list_any}
-use Rattle.address.specs.Address.{AddressText, OriginText, authority_of, origin_of, scheme_of}
+use Rattle.address.specs.Address.{AddressText, OriginText, authority_of, host_of, origin_of, scheme_of}
 use Rattle.cookie_files.specs.Lines.{Cookie}
 use Rattle.cookie_files.specs.Matches.{Goes, asked_of, sent, some_value}
 use Rattle.response_reader.specs.Request.{target_by}
 use Rattle.requests.specs.Fields.{Sent}
 use Rattle.requests.specs.Lines.{Text}
+use Rattle.requests.specs.Proxies.{Proxies, Proxy, proxy_for}
 
 -- the origin of a start, and the credentials that the start has
 pub record Home : Type 0 where
@@ -24,11 +25,12 @@ pub record Jar : Type 0 where
   pub cookies : List Cookie
   pub time : ℕ
 
--- what a run sends, the origins of its starts, and the cookies of a file if there is one
+-- what a run sends, the origins of its starts, the cookies of a file if there is one, and the proxies
 pub record Sending : Type 0 where
   pub sent : Sent
   pub homes : List Home
   pub jar : Option Jar
+  pub proxies : Proxies
 
 -- the host and port of the address, or what is sent in their place
 abbrev pub host_by : Option Text → AddressText → Text
@@ -96,13 +98,36 @@ IsThere jar at cookie = Contains jar.cookies cookie × Goes (asked_of at) jar.ti
 abbrev pub GoWhereNamed : Sending → AddressText → Type 0
 GoWhereNamed sending at = (cookie : Cookie) → Contains (cookies_for sending at) cookie → (jar : Jar) × (sending.jar ≡ Some jar) × IsThere jar at cookie
 
+-- ---- proxies
+
+-- the proxy that is asked for an address, if one is
+abbrev pub proxy_at : Sending → AddressText → Option Proxy
+proxy_at sending at = proxy_for sending.proxies (scheme_of at) (host_of at)
+
+-- what is requested: of a proxy the whole address (RFC 9112, section 3.2.2), of a server path and query (section 3.2.1). There is no
+-- connection to a server of https
+abbrev pub target_at : Option Proxy → AddressText → Text
+target_at None at = target_by (scheme_of at) at
+target_at (Some proxy) at = at
+
+-- the line of its credentials (RFC 9110, section 11.7.2), if there are any
+abbrev pub proxy_login_line : Option Text → Text
+proxy_login_line None = []
+proxy_login_line (Some login) = codes "Proxy-Authorization: " ++ (login ++ codes "\r\n")
+
+-- a proxy's go to it, and none to a server
+abbrev pub proxy_line : Option Proxy → Text
+proxy_line None = []
+proxy_line (Some proxy) = proxy_login_line proxy.login
+
 -- ---- the head
 
--- a GET of the address: host, the lines to each server, those to origins of starts if it is at one, credentials first, and the connection
+-- a GET of the address: host, the lines to each server, those to origins of starts if it is at one, credentials first, those for a
+-- proxy if one is asked, and the connection
 abbrev pub front_of : Sending → Bool → AddressText → Text
 front_of sending keeps at =
-    codes "GET " ++ (target_by (scheme_of at) at ++ (codes " HTTP/1.1\r\nHost: " ++ (host_by sending.sent.host at
-    ++ (codes "\r\n" ++ (sending.sent.common ++ (login_line (login_for sending at) ++ (secret_for sending at ++ closing keeps)))))))
+    codes "GET " ++ (target_at (proxy_at sending at) at ++ (codes " HTTP/1.1\r\nHost: " ++ (host_by sending.sent.host at
+    ++ (codes "\r\n" ++ (sending.sent.common ++ (login_line (login_for sending at) ++ (secret_for sending at ++ (proxy_line (proxy_at sending at) ++ closing keeps))))))))
 
 -- the same with the cookies of a file, in one head
 abbrev pub request_of : Sending → Bool → AddressText → Text

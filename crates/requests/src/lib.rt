@@ -1,6 +1,6 @@
 //! What requests say besides the address that they are for: the program's own field lines, those that a person adds or puts in
-//! their place, cookies of a file, and which of them go to which server. The meaning is in `specs/`: `Lines` says which field lines may be sent,
-//! `Fields` which of all lines are sent, and `Requests` what the request for an address is.
+//! their place, cookies of a file, and which of them go to which server or proxy. The meaning is in `specs/`: `Lines` says which field lines may be sent,
+//! `Fields` which of all lines are sent, `Proxies` which proxy is asked, and `Requests` what the request for an address is.
 #![tactic(auto)]
 
 mod fields;
@@ -8,6 +8,7 @@ mod home;
 mod jar;
 mod line;
 mod login;
+mod proxies;
 mod request;
 mod sending;
 
@@ -16,5 +17,6 @@ pub use crate::home::Home;
 pub use crate::jar::Jar;
 pub use crate::line::MAX_FIELD_LINE;
 pub use crate::login::{Login, MAX_LOGIN};
+pub use crate::proxies::{Proxies, Proxy};
 pub use crate::request::{SendFault, write_request};
 pub use crate::sending::Sending;

@@ -1,24 +1,24 @@
 //! The request for one address, with what a run says besides (RFC 9112, sections 3 and 9.6).
 ghost use Rattle.std.specs.Prelude.{◌≡◌, ◌≤◌, ◌<◌, ◌+◌, ◌++◌, ℕ, List, [], Err, IfErr, IfOk, IsTrue, OnErr, OnOk, Some, codes, length, option_map};
 ghost use Rattle.std.specs.Io.KnownBytes.{Appends, Keeps};
-ghost use Rattle.address.specs.Address.{scheme_of};
-ghost use Rattle.response_reader.specs.Request.{SendsFront, target_by};
+ghost use Rattle.response_reader.specs.Request.{SendsFront};
 ghost use Rattle.response_reader.specs.Wire.{HasRisen};
 ghost use Rattle.response_reader.specs.inner.Request.{WritesGiveUp};
 ghost use Rattle.response_reader.specs.inner.Wire.{GoesOn, tally};
-ghost use Rattle.requests.specs.Requests.{GoWhereNamed, closing, cookie_line, front_of, host_by, login_line, request_of, secret_for};
+ghost use Rattle.requests.specs.Requests.{GoWhereNamed, closing, cookie_line, front_of, host_by, login_line, proxy_at, proxy_line, proxy_login_line, request_of, secret_for, target_at};
 
 use crate::fields::MAX_SENT;
 use crate::login::{Login, MAX_LOGIN};
+use crate::proxies::Proxy;
 use crate::sending::Sending;
 use address::{Address, MAX_ADDRESS, MAX_HOST, Scheme};
 use arrayvec::ArrayVec;
 use response_reader::{MAX_INTERRUPTED, RequestFault, Wire, WireFault};
 use std::alloc::{AllocError, Global};
 
-/// Most bytes of a request: those of any address, of its host and port, of all that a run says, of credentials, and room for the lines
-/// around them.
-const MAX_REQUEST: usize = MAX_ADDRESS + MAX_HOST + MAX_SENT + MAX_LOGIN + 144;
+/// Most bytes of a request: those of any address, of its host and port, of all that a run says, of credentials for a server and for a
+/// proxy, and room for the lines around them.
+const MAX_REQUEST: usize = MAX_ADDRESS + MAX_HOST + MAX_SENT + MAX_LOGIN + MAX_LOGIN + 176;
 
 /// The text of a request, in room for that of any address.
 type RequestText = ArrayVec<u8, MAX_REQUEST>;
@@ -32,8 +32,9 @@ pub enum SendFault {
     Memory,
 }
 
-/// Writes the request for an address: a GET of its path and query, of https of the whole address, with what the run says. Its secret
-/// lines are there if the address is at an origin of a start, and cookies of a file if they go there. It asks to close the connection
+/// Writes the request for an address: a GET of its path and query, or to a proxy of the whole address, with what the run says. Its
+/// secret lines are there if the address is at an origin of a start, cookies of a file if they go there, and a proxy's credentials
+/// if that is asked. It asks to close the connection
 /// unless that is kept. The text is put together on the stack, with cookies in memory, and goes out in one write if that is taken
 /// whole. After a fault a front of it was written, and the wire isn't to be used again.
 pub fn write_request<W: Wire>(
@@ -147,13 +148,13 @@ fn put(text: &mut RequestText, bytes: &[u8])
     }
 }
 
-/// The target: of https the whole address, since the request goes to a proxy (RFC 9112, section 3.2.2).
-fn target(address: &Address) -> &str
-    ensures { result.now ≡ target_by (scheme_of address.now) address.now }
+/// The target: of a proxy the whole address (RFC 9112, section 3.2.2). Nothing is requested of a server of https.
+fn target<'a>(proxy: Option<&Proxy>, at: &'a Address) -> &'a str
+    ensures { result.now ≡ target_at (option_map (λ p. p.now) proxy.entry) at.entry.now }
 {
-    match address.scheme() {
-        Scheme::Http => address.path_query(),
-        Scheme::Https => address.as_str(),
+    match (proxy, at.scheme()) {
+        (None, Scheme::Http) => at.path_query(),
+        (Some(_), _) | (None, Scheme::Https) => at.as_str(),
     }
 }
 
@@ -202,15 +203,15 @@ fn put_text(text: &mut RequestText, more: &str)
 }
 
 // Puts method and target into an empty text.
-fn put_front(text: &mut RequestText, at: &Address)
+fn put_front(text: &mut RequestText, proxy: Option<&Proxy>, at: &Address)
     requires empty { text.old.items ≡ [] }
-    ensures value { text.new.items ≡ codes "GET " ++ (target_by (scheme_of at.now) at.now ++ codes " HTTP/1.1\r\nHost: ") }
+    ensures value { text.new.items ≡ codes "GET " ++ (target_at (option_map (λ p. p.now) proxy.entry) at.now ++ codes " HTTP/1.1\r\nHost: ") }
     ensures room { length text.new.items ≤ MAX_ADDRESS + 32 }
 {
     // Every address is short enough.
     let _address = at.as_str();
     put(text, b"GET ");
-    put(text, target(at).as_bytes());
+    put(text, target(proxy, at).as_bytes());
     put(text, b" HTTP/1.1\r\nHost: ");
 }
 
@@ -227,6 +228,30 @@ fn put_login(text: &mut RequestText, login: Option<&Login>)
     }
 }
 
+// Adds the line of these credentials for a proxy, if there are any.
+fn put_proxy_login(text: &mut RequestText, login: Option<&Login>)
+    requires { length text.old.items + (MAX_LOGIN + 23) ≤ MAX_REQUEST }
+    ensures value { text.new.items ≡ text.old.items ++ proxy_login_line (option_map (λ l. l.now) login.entry) }
+    ensures len { length text.new.items ≤ length text.old.items + (MAX_LOGIN + 23) }
+{
+    if let Some(login) = login {
+        put_text(text, "Proxy-Authorization: ");
+        put_text(text, login.value());
+        put_text(text, "\r\n");
+    }
+}
+
+// Adds the line of a proxy's credentials, if one is asked and has some.
+fn put_proxy(text: &mut RequestText, proxy: Option<&Proxy>)
+    requires { length text.old.items + (MAX_LOGIN + 23) ≤ MAX_REQUEST }
+    ensures value { text.new.items ≡ text.old.items ++ proxy_line (option_map (λ p. p.now) proxy.entry) }
+    ensures len { length text.new.items ≤ length text.old.items + (MAX_LOGIN + 23) }
+{
+    if let Some(proxy) = proxy {
+        put_proxy_login(text, proxy.login());
+    }
+}
+
 // Adds these pieces, and the end of the host's line.
 fn put_pieces(
     text: &mut RequestText,
@@ -234,12 +259,13 @@ fn put_pieces(
     common: &str,
     login: Option<&Login>,
     secret: &str,
+    proxy: Option<&Proxy>,
     closing: &str,
 )
     requires room { length text.old.items ≤ MAX_ADDRESS + 32 }
     requires short { length host.now + (length common.now + length secret.now) ≤ MAX_HOST + 6 + MAX_SENT }
     requires closing { length closing.now ≤ 32 }
-    ensures value { text.new.items ≡ text.old.items ++ (host.now ++ (codes "\r\n" ++ (common.now ++ (login_line (option_map (λ l. l.now) login.entry) ++ (secret.now ++ closing.now))))) }
+    ensures value { text.new.items ≡ text.old.items ++ (host.now ++ (codes "\r\n" ++ (common.now ++ (login_line (option_map (λ l. l.now) login.entry) ++ (secret.now ++ (proxy_line (option_map (λ p. p.now) proxy.entry) ++ closing.now)))))) }
     ensures room { length text.new.items + 2 ≤ MAX_REQUEST }
 {
     put_text(text, host);
@@ -247,6 +273,7 @@ fn put_pieces(
     put_text(text, common);
     put_login(text, login);
     put_text(text, secret);
+    put_proxy(text, proxy);
     put_text(text, closing);
 }
 
@@ -256,7 +283,8 @@ fn put_request(text: &mut RequestText, sending: &Sending, keeps: bool, at: &Addr
     ensures value { text.new.items ≡ front_of sending.now keeps at.now }
     ensures room { length text.new.items + 2 ≤ MAX_REQUEST }
 {
-    put_front(text, at);
+    let proxy = sending.proxy_at(at);
+    put_front(text, proxy, at);
     let fields = sending.fields();
     put_pieces(
         text,
@@ -264,6 +292,7 @@ fn put_request(text: &mut RequestText, sending: &Sending, keeps: bool, at: &Addr
         fields.common(),
         sending.login_for(at),
         secret(sending, at),
+        proxy,
         closing(keeps),
     );
 }

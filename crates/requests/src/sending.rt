@@ -2,18 +2,19 @@
 ghost use Rattle.std.specs.Prelude.{◌≡◌, IfOk, None, option_map};
 ghost use Rattle.cookie_files.specs.Matches.{some_value};
 ghost use Rattle.std.specs.List.{list_any};
-ghost use Rattle.requests.specs.Requests.{cookies_for, cookies_in, has_login, is_home, login_at, login_for, login_here, or_login};
+ghost use Rattle.requests.specs.Requests.{cookies_for, cookies_in, has_login, is_home, login_at, login_for, login_here, or_login, proxy_at};
 
 use crate::fields::Fields;
 use crate::home::Home;
 use crate::jar::Jar;
 use crate::login::Login;
+use crate::proxies::{Proxies, Proxy};
 use address::Address;
 use std::alloc::{AllocError, Global};
 use std::marker::Model;
 
-/// What is sent with each request of a run: its fields, of which the secret ones go to the origins of its starts alone, and cookies of
-/// a file, which go where that says.
+/// What is sent with each request of a run: its fields, of which the secret ones go to the origins of its starts alone, cookies of
+/// a file, which go where that says, and to a proxy its credentials.
 #[derive(Drop)]
 pub struct Sending {
     fields: Fields,
@@ -21,6 +22,7 @@ pub struct Sending {
     // Whether a start has credentials. There may be 100,000 starts, and most lists have none.
     has_logins: bool,
     jar: Option<Jar>,
+    proxies: Proxies,
 }
 
 impl Model for Sending {
@@ -30,7 +32,7 @@ impl Model for Sending {
 
     ghost Value = { Sending };
 
-    ghost view = { λ s. record { sent = s.fields; homes = s.homes.items; jar = s.jar } };
+    ghost view = { λ s. record { sent = s.fields; homes = s.homes.items; jar = s.jar; proxies = s.proxies } };
 
     ghost invariant = { λ s. s.has_logins ≡ list_any has_login s.homes.items };
 }
@@ -65,11 +67,12 @@ fn has_logins(homes: &[Home]) -> bool
 }
 
 impl Sending {
-    /// These fields, by a run whose starts are at these origins. Takes no memory.
-    pub fn new(fields: Fields, homes: Vec<Home>) -> Sending
+    /// These fields, by a run whose starts are at these origins, and which has these proxies. Takes no memory.
+    pub fn new(fields: Fields, homes: Vec<Home>, proxies: Proxies) -> Sending
         ensures sent { result.sent ≡ fields }
         ensures homes { result.homes ≡ homes.items }
         ensures jar { result.jar ≡ None }
+        ensures proxies { result.proxies ≡ proxies }
     {
         let has_logins = has_logins(homes.as_slice());
         Sending {
@@ -77,6 +80,7 @@ impl Sending {
             homes,
             has_logins,
             jar: None,
+            proxies,
         }
     }
 
@@ -89,12 +93,14 @@ impl Sending {
             homes,
             has_logins,
             jar: _jar,
+            proxies,
         } = self;
         Sending {
             fields,
             homes,
             has_logins,
             jar,
+            proxies,
         }
     }
 
@@ -103,6 +109,13 @@ impl Sending {
         ensures { result.now ≡ self.now.sent }
     {
         &self.fields
+    }
+
+    /// The proxy that is asked for an address, if one is. Takes no memory.
+    pub(crate) fn proxy_at(&self, at: &Address) -> Option<&Proxy>
+        ensures { option_map (λ p. p.now) result ≡ proxy_at self.entry.now at.now }
+    {
+        self.proxies.proxy_for(at.scheme(), at.host())
     }
 
     /// Whether an address is at an origin of a start.

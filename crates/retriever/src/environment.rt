@@ -1,5 +1,5 @@
 //! The arguments of the program, with what its environment sets, and the starts of a file, before the words.
-ghost use Rattle.std.specs.Prelude.{◌≡◌, ◌++◌, IfOk, option_map, string_bytes};
+ghost use Rattle.std.specs.Prelude.{◌≡◌, ◌++◌, IfOk};
 ghost use Rattle.std.specs.Vec.Iter.{into_iter_items};
 ghost use Rattle.options.specs.Environment.{with_environment};
 ghost use Rattle.retriever.specs.Cookies.{AreCookiesRefused};
@@ -26,7 +26,7 @@ pub fn with_environment(
     args: Args,
     environment: &Environment,
 ) -> Result<Args, AllocError>
-    ensures { IfOk result (λ all. words_behind (into_iter_items all) ≡ with_environment (option_map string_bytes environment.now.https_proxy) (words_behind (into_iter_items args))) }
+    ensures { IfOk result (λ all. words_behind (into_iter_items all) ≡ with_environment environment.now (words_behind (into_iter_items args))) }
 {
     let given = all_words(alloc, args)?;
     let all = environment.before(alloc, given.as_slice())?;

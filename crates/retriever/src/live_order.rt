@@ -43,7 +43,7 @@ fn settings_of(
         robots: order.plan.robots,
         is_recording,
         kept: order.kept(),
-        proxy: order.proxy()?,
+        proxies: order.proxies()?,
         sends: order.sending(alloc)?,
         manner: order.manner,
         retries: order.retries.try_clone()?,

@@ -1,8 +1,9 @@
 -- What contracts see of what makes connections over TCP, and which server one goes to.
-use Rattle.std.specs.Prelude.{ℕ, Option, Some}
+use Rattle.std.specs.Prelude.{ℕ, Option, Some, None}
 use Rattle.address.specs.Address.{OriginText}
 use Rattle.address.specs.declared.scheme.Scheme.{Scheme}
 use Rattle.address.specs.declared.scheme.Scheme.TheVariants.{Http, Https}
+use Rattle.requests.specs.Proxies.{Proxy}
 
 -- how many connections were asked for, how many calls answered an error, how many of these `Failed`, how many connections that were
 -- kept were taken, and how many may stand to a server, where they are kept
@@ -13,7 +14,12 @@ pub record Connecting : Type 0 where
   pub taken : ℕ
   pub most : Option ℕ
 
--- the server that is connected to for an origin of a scheme: of http its own, of https the proxy, if there is one
-abbrev pub server_by : Scheme → Option OriginText → OriginText → Option OriginText
-server_by Http proxy of = Some of
-server_by Https proxy of = proxy
+-- the server of an origin itself, which is connected to without a proxy: there is none of https, since no TLS is spoken here
+abbrev pub server_itself : Scheme → OriginText → Option OriginText
+server_itself Http of = Some of
+server_itself Https of = None
+
+-- the server that is connected to for an origin of a scheme: the proxy, if one is asked, or its own
+abbrev pub server_by : Scheme → Option Proxy → OriginText → Option OriginText
+server_by scheme None of = server_itself scheme of
+server_by scheme (Some proxy) of = Some proxy.origin

@@ -1,7 +1,8 @@
 //! Connections over TCP.
 ghost use Rattle.std.specs.Prelude.{◌≡◌, ◌++◌, ⊤, None, Some, codes, option_map};
-ghost use Rattle.address.specs.Address.{scheme_of};
-ghost use Rattle.tcp_connect.specs.Connecting.{server_by};
+ghost use Rattle.address.specs.Address.{host_of, scheme_of};
+ghost use Rattle.requests.specs.Proxies.{proxy_for};
+ghost use Rattle.tcp_connect.specs.Connecting.{server_by, server_itself};
 ghost use Rattle.response_reader.specs.Wire.{CountsFault, counted};
 ghost use Rattle.connect.specs.Connects.{CountsRefusal, refused_by};
 
@@ -13,6 +14,7 @@ use crate::turn::{hold_turn, wait_turn};
 use address::{Origin, Scheme};
 use connect::{Connect, ConnectFault};
 use pacing::{Family, Manner};
+use requests::Proxies;
 use response_reader::TcpWire;
 use run_failures::LossKind;
 use std::alloc::{AllocError, Global};
@@ -47,8 +49,8 @@ pub struct TcpConnect<'a, R: Net + Wait + Clock> {
     late: Vec<SocketAddr>,
     // Where connections are kept; none where each ends behind its question.
     keeping: Option<Keeping<'a, R::Stream>>,
-    // The proxy that speaks TLS to servers.
-    proxy: Option<Origin>,
+    // The proxies that are asked in place of servers.
+    proxies: Proxies,
     manner: Manner,
     // The origin whose turn was waited for, while no connection was had for it yet.
     turn: Option<Origin>,
@@ -69,13 +71,23 @@ impl<'a, R: Net + Wait + Clock> Model for TcpConnect<'a, R> {
     ghost view = { λ c. record { made = c.made; failed = c.failed; refused = c.refused; taken = c.taken; most = option_map (λ k. k.most) c.keeping } };
 }
 
-// The server that is connected to for an origin: of http its own, of https the proxy, if there is one (RFC 9112, section 3.2.2).
-fn server_of<'b>(proxy: &'b Option<Origin>, of: &'b Origin) -> Option<&'b Origin>
-    ensures { option_map (λ o. o.now) result ≡ server_by (scheme_of (of.now ++ codes "/")) proxy.now of.now }
+// The server of an origin itself, which is connected to without a proxy: there is none of https.
+fn server_itself(of: &Origin) -> Option<&Origin>
+    ensures { option_map (λ o. o.now) result ≡ server_itself (scheme_of (of.entry.now ++ codes "/")) of.entry.now }
 {
     match of.scheme() {
         Scheme::Http => Some(of),
-        Scheme::Https => proxy.as_ref(),
+        Scheme::Https => None,
+    }
+}
+
+// The server that is connected to for an origin: the proxy, if one is asked (RFC 9112, section 3.2.2), or its own.
+fn server_of<'b>(proxies: &'b Proxies, of: &'b Origin) -> Option<&'b Origin>
+    ensures { option_map (λ o. o.now) result ≡ server_by (scheme_of (of.entry.now ++ codes "/")) (proxy_for proxies.entry.now (scheme_of (of.entry.now ++ codes "/")) (host_of (of.entry.now ++ codes "/"))) of.entry.now }
+{
+    match proxies.proxy_for(of.scheme(), of.host()) {
+        Some(proxy) => Some(proxy.origin()),
+        None => server_itself(of),
     }
 }
 
@@ -226,7 +238,7 @@ impl<'a, R: Net + Wait + Clock> TcpConnect<'a, R> {
             hosts,
             late: Vec::new(alloc),
             keeping: None,
-            proxy: None,
+            proxies: Proxies::none(alloc),
             manner: Manner::usual(),
             turn: None,
             made: 0,
@@ -260,11 +272,11 @@ impl<'a, R: Net + Wait + Clock> TcpConnect<'a, R> {
         }
     }
 
-    /// The same, which connects to this proxy for https origins. Without one there is no connection to them.
-    pub fn through(self, proxy: Option<Origin>) -> TcpConnect<'a, R>
+    /// The same, which connects to these proxies in place of servers. Without one there is no connection to an https origin.
+    pub fn through(self, proxies: Proxies) -> TcpConnect<'a, R>
         ensures { result ≡ self.entry }
     {
-        TcpConnect { proxy, ..self }
+        TcpConnect { proxies, ..self }
     }
 
     /// The same, which treats servers so.
@@ -277,7 +289,7 @@ impl<'a, R: Net + Wait + Clock> TcpConnect<'a, R> {
     /// Has no request to an origin begin before this time is over, whichever worker's. What was found out of the faults of its
     /// server's host is forgotten: it is looked up again if it had no address, and connected to again if it didn't answer.
     pub fn leave_alone(&self, of: &Origin, pause: Duration) {
-        if let Some(server) = server_of(&self.proxy, of) {
+        if let Some(server) = server_of(&self.proxies, of) {
             self.hosts.forget_faults(self.rt, server.host());
         }
         hold_turn(self.rt, self.hosts, of, pause);
@@ -408,7 +420,7 @@ impl<'a, R: Net + Wait + Clock> TcpConnect<'a, R> {
         of: &Origin,
         place: Option<u64>,
     ) -> Result<TcpWire<Connection<'a, R>>, OpenFault> {
-        let Some(server) = server_of(&self.proxy, of) else {
+        let Some(server) = server_of(&self.proxies, of) else {
             return Err(OpenFault::Failed(LossKind::Unknown));
         };
         let host = self.hosts.host(self.rt, server.host())?;

@@ -18,7 +18,7 @@ use http_fetcher::HttpFetcher;
 use kept_bodies::Keeper;
 use pacing::{Manner, Retries};
 use progress::Progress;
-use requests::Sending;
+use requests::{Proxies, Sending};
 use response_answer::PageSink;
 use retries::Calling;
 use robots_rules::RuleSet;
@@ -66,8 +66,8 @@ impl<'a, R: Net + Wait + Clock + Eprint> OverTcp<'a, R> {
 
     /// By this handle, with what the run knows of hosts and keeps of connections, and the line that counts what comes. Where robots
     /// rules are honoured, a page that asks that its links aren't followed has none. Connections are kept among those of the run
-    /// where it is said how many to a server may stand at a time; else each question has one of its own. For https addresses the
-    /// proxy is asked, and without one none is. Each request says this. Servers are treated so, and requests made again so. Takes no memory.
+    /// where it is said how many to a server may stand at a time; else each question has one of its own. These
+    /// proxies are asked in place of servers, and of https no server is. Each request says this. Servers are treated so, and requests made again so. Takes no memory.
     pub fn new(
         rt: &'a R,
         alloc: Global,
@@ -76,7 +76,7 @@ impl<'a, R: Net + Wait + Clock + Eprint> OverTcp<'a, R> {
         progress: &'a Progress<'a, R>,
         robots: bool,
         most: Option<u32>,
-        proxy: Option<Origin>,
+        proxies: Proxies,
         sends: Sending,
         manner: Manner,
         retries: Retries,
@@ -88,7 +88,7 @@ impl<'a, R: Net + Wait + Clock + Eprint> OverTcp<'a, R> {
         ensures retries { result.retries ≡ retries_by retries }
         ensures asks { result.asks ≡ [] }
     {
-        let connect = WatchedTcp::new(rt, alloc, hosts, kept, progress, most, proxy, manner);
+        let connect = WatchedTcp::new(rt, alloc, hosts, kept, progress, most, proxies, manner);
         let fetcher = HttpFetcher::new(alloc, connect, robots).sending(sends);
         OverTcp {
             alloc,

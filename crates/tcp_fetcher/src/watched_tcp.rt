@@ -7,6 +7,7 @@ use address::Origin;
 use connect::{Connect, ConnectFault};
 use pacing::Manner;
 use progress::{Progress, Watched, WatchedWire};
+use requests::Proxies;
 use response_reader::{TcpWire, Wire, WireFault};
 use retries::CallingConnect;
 use run_failures::LossKind;
@@ -63,13 +64,13 @@ impl<'a, R: Net + Wait + Clock + Eprint> WatchedTcp<'a, R> {
         kept: &'a Kept<R::Stream>,
         progress: &'a Progress<'a, R>,
         most: Option<u32>,
-        proxy: Option<Origin>,
+        proxies: Proxies,
         manner: Manner,
     ) -> WatchedTcp<'a, R>
         ensures { result ≡ record { made = 0; failed = 0; refused = 0; taken = 0; most = most } }
     {
         let connect = TcpConnect::new(rt, alloc, hosts)
-            .through(proxy)
+            .through(proxies)
             .treating(manner);
         match most {
             Some(most) => WatchedTcp {

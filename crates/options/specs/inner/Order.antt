@@ -13,8 +13,9 @@ use Rattle.options.specs.Manners.{manner_of}
 use Rattle.pacing.specs.Retries.{Retried}
 use Rattle.options.specs.Retries.{retries_of}
 use Rattle.options.specs.Naming.{Naming, naming_of}
-use Rattle.options.specs.Order.{Counts, Ordered, are_good, counts_of, proxy_of, patterns_of, directories_of, domains_of, fields_of, start_of, started_at, found_or}
+use Rattle.options.specs.Order.{Counts, Ordered, are_good, counts_of, proxies_of, patterns_of, directories_of, domains_of, fields_of, start_of, started_at, found_or}
 use Rattle.requests.specs.Fields.{Sent}
+use Rattle.requests.specs.Proxies.{Proxies}
 
 -- the options start at this address
 abbrev pub StartsAt : List Row → List ℕ → Type 0
@@ -30,15 +31,15 @@ IsNoStart read why =
     ((address : List ℕ) × (read ≡ Ok address) × (is_robots_file address ≡ true) × (why ≡ fault.StartIsRobots))
     ⊎ ((wrong : AddressFault) × (read ≡ Err wrong) × (why ≡ fault.Start wrong))
 
--- the options have values that may be, and these are the numbers, the proxy, what shapes names and what requests say, how servers are
+-- the options have values that may be, and these are the numbers, the proxies, what shapes names and what requests say, how servers are
 -- treated, and when requests are made again
-pub record Settles (found : List Row) (counts : Counts) (proxy : Option (List ℕ)) (names : Naming) (fields : Sent) (manner : Mannered) (retries : Retried) : Type 0 where
+pub record Settles (found : List Row) (counts : Counts) (proxies : Proxies) (names : Naming) (fields : Sent) (manner : Mannered) (retries : Retried) : Type 0 where
   pub words : are_good found ≡ true
   pub counted : counts_of found ≡ Some counts
   pub treated : manner_of found ≡ Some manner
   pub named : naming_of found ≡ Some names
   pub retried : retries_of found ≡ Some retries
-  pub proxied : proxy_of found ≡ Ok proxy
+  pub proxied : proxies_of found ≡ Ok proxies
   pub fielded : fields_of found ≡ Ok fields
 
 -- the lists of an option and of its opposite

@@ -3,7 +3,6 @@ use Rattle.std.proofs.Common.{◌∙◌, inl, inr, ⊎_elim, sym, ap}
 use Rattle.std.specs.Prelude.{Err}
 use Rattle.clap.specs.Words.{found_of, rows_of}
 use Rattle.options.specs.Asked.{without_kind}
-use Rattle.options.specs.Order.{proxy_by}
 use Rattle.options.proofs.ReadLemmas.{bad-words, bad-counts, bad-manner, bad-proxy, bad-names, bad-fields, bad-retries}
 use Rattle.options.proofs.read.read_settings.Goals as goal
 
@@ -35,18 +34,18 @@ returns-in-Err-retries c =
     (λ memory. inr memory)
     c.in-Err-retries.ensures
 
-pub returns-in-Err-proxy_by : goal.returns-in-Err-proxy_by
-returns-in-Err-proxy_by c =
+pub returns-in-Err-proxies : goal.returns-in-Err-proxies
+returns-in-Err-proxies c =
     let found = rows_of (found_of c.args.matches.now) in
     ⊎_elim
-    (λ bad. inl (bad-proxy found _ _ _ _ _ (sym c.in_default.ensures.good) c.in-Some-read_counts.ensures (sym c.in-Some-manner.ensures) c.in-Ok.ensures c.in-Ok-retries.ensures (ap proxy_by (sym c.proxy_value.ensures) ∙ bad) ∙ ap Err (sym c.in-Err-proxy_by.ensures.kept)))
+    (λ bad. inl (bad-proxy found _ _ _ _ _ (sym c.in_default.ensures.good) c.in-Some-read_counts.ensures (sym c.in-Some-manner.ensures) c.in-Ok.ensures c.in-Ok-retries.ensures bad ∙ ap Err (sym c.in-Err-proxies.ensures.kept)))
     (λ memory. inr memory)
-    c.in-Err-proxy_by.ensures.answers
+    c.in-Err-proxies.ensures.answers
 
 pub returns-in-Err-fields : goal.returns-in-Err-fields
 returns-in-Err-fields c =
     let found = rows_of (found_of c.args.matches.now) in
-    let proxy = ap proxy_by (sym c.proxy_value.ensures) ∙ c.in-Ok-proxy_by.ensures.answers in
+    let proxy = c.in-Ok-proxies.ensures.answers in
     ⊎_elim
     (λ bad. inl (bad-fields found _ _ _ _ _ _ (sym c.in_default.ensures.good) c.in-Some-read_counts.ensures (sym c.in-Some-manner.ensures) c.in-Ok.ensures c.in-Ok-retries.ensures proxy bad ∙ ap Err (sym c.in-Err-fields.ensures.kept)))
     (λ memory. inr memory)
@@ -60,6 +59,6 @@ returns c =
       treated = sym c.in-Some-manner.ensures;
       named = c.in-Ok.ensures;
       retried = c.in-Ok-retries.ensures;
-      proxied = ap proxy_by (sym c.proxy_value.ensures) ∙ c.in-Ok-proxy_by.ensures.answers;
+      proxied = c.in-Ok-proxies.ensures.answers;
       fielded = c.in-Ok-fields.ensures.answers;
     }
