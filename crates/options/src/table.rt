@@ -42,7 +42,7 @@ pub(crate) struct Row<T> {
 }
 
 /// The options.
-const TABLE: [Row<&str>; 80] = [
+const TABLE: [Row<&str>; 81] = [
     Row {
         short: "r",
         name: "recursive",
@@ -322,6 +322,13 @@ const TABLE: [Row<&str>; 80] = [
         kind: Kind::Value("S"),
         heading: "",
         says: "S for a whole answer",
+    },
+    Row {
+        short: "",
+        name: "max-body",
+        kind: Kind::Usual("BYTES", "1024g"),
+        heading: "",
+        says: "at most BYTES of a page; 5k, 5m, 5g",
     },
     Row {
         short: "4",
@@ -1210,10 +1217,11 @@ pub(crate) fn insteads() -> &'static [Instead<&'static str>]
 }
 
 /// The long forms of options that Wget doesn't have, and of their opposites.
-const OWN: [&str; 19] = [
+const OWN: [&str; 20] = [
     "--answer-timeout",
     "--https-proxy",
     "--map",
+    "--max-body",
     "--max-urls",
     "--no-map",
     "--no-record",

@@ -1,7 +1,7 @@
 //! Texts of responses, and what is read of each, however its bytes are cut.
 use crate::common::{bytes_of, demand, field, halves, number};
 use crate::reader_tests::{repeated_bytes, wire_of};
-use response_reader::{Gather, MemoryWire, ReadFault, Wire, read_into, read_response};
+use response_reader::{Gather, Limits, MemoryWire, ReadFault, Wire, read_into, read_response};
 use std::alloc::Global;
 use std::process::Abort;
 
@@ -75,7 +75,7 @@ pub(crate) fn keeps<W: Wire>(rt: &impl Abort, alloc: Global, wire: &mut W, wante
 /// Whether `read_into` gives this.
 pub(crate) fn gathers<W: Wire>(rt: &impl Abort, alloc: Global, wire: &mut W, wanted: &str) -> bool {
     let mut gather = Gather::new(alloc);
-    match read_into(alloc, wire, &mut gather) {
+    match read_into(alloc, wire, &mut gather, Limits::standard()) {
         Ok(_) => is_body(&gather.into_parts().1, wanted),
         Err(fault) => is_fault(rt, alloc, fault, wanted),
     }

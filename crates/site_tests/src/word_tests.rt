@@ -158,6 +158,10 @@ read => -t 0 --tries=inf --waitretry=0.5 --retry-connrefused --retry-on-host-err
 words: bad value => -T infinity http://h/
 words: bad value => --timeout=x --read-timeout=1 --connect-timeout=1 http://h/
 words: bad value => --answer-timeout=1w http://h/
+words: bad value => --max-body=0 http://h/
+words: bad value => --max-body=1.5m http://h/
+words: bad value => --max-body=1073741825g http://h/
+read => --max-body=1073741824g -e max-body=5k http://h/
 words: bad value => -4 -6 -l x http://h/
 read => -w.5 --random-wait -T 1.5m -4 --no-inet4-only -6 http://h/
 read => -w 365d --timeout=inf --read-timeout=0 --connect-timeout=0.000000001s --answer-timeout=2h http://h/
@@ -441,6 +445,7 @@ How it is asked for:
        --connect-timeout=S         S to connect
        --read-timeout=S            S until a server sends more (900)
        --answer-timeout=S          S for a whole answer
+       --max-body=BYTES            at most BYTES of a page; 5k, 5m, 5g (1024g)
   -4,  --inet4-only                only IPv4 addresses of hosts
   -6,  --inet6-only                only IPv6 addresses of hosts
        --https-proxy=URL           https by a proxy, as http://127.0.0.1:3128/
