@@ -3,8 +3,10 @@ pub mod EntryLaws
 pub mod ChainLaws
 pub mod ReadLaws
 pub mod ResumptionLaws
+pub mod OneEntryLaws
 pub mod WrittenEntryLaws
 pub mod WrittenRecordLaws
+pub mod OneRecordLaws
 pub mod DraftLaws
 pub mod TornLaws
 pub mod EntryTextLaws

@@ -53,13 +53,14 @@ hop_said_once fs (hopfault kind text) h = ap hop_said_by h ∙ ap (option_map (�
 same_some : {A : Type 0} (o : Option A) (x y : A) → o ≡ Some x → o ≡ Some y → x ≡ y
 same_some o x y p q = cc
 
-begins_once : (version : Version) (text line behind : List ℕ) (s t : Statement) (after : List ℕ) → IsLine text line behind → HasForm version line s → Begins version text t after → (t ≡ s) × (after ≡ behind)
+-- and so does the text
+pub begins_once : (version : Version) (text line behind : List ℕ) (s t : Statement) (after : List ℕ) → IsLine text line behind → HasForm version line s → Begins version text t after → (t ≡ s) × (after ≡ behind)
 begins_once version text line behind s t after is form b =
     let (lines, rests) = same_line text b.line line after behind b.is_line is in
     let other : IsForm (fields line) t = subst (λ l. IsForm (fields l) t) lines b.form.1 in
     (same_some (said_by (fields line)) t s (said_once (fields line) t other) (said_once (fields line) s form.1), rests)
 
-begins_hop_once : (text line behind : List ℕ) (s t : HopStatement) (after : List ℕ) → IsLine text line behind → HasHopForm line s → BeginsHop text t after → (t ≡ s) × (after ≡ behind)
+pub begins_hop_once : (text line behind : List ℕ) (s t : HopStatement) (after : List ℕ) → IsLine text line behind → HasHopForm line s → BeginsHop text t after → (t ≡ s) × (after ≡ behind)
 begins_hop_once text line behind s t after is form b =
     let (lines, rests) = same_line text b.line line after behind b.is_line is in
     let other : IsHopForm (fields line) t = subst (λ l. IsHopForm (fields l) t) lines b.form.1 in

@@ -1,4 +1,4 @@
--- What is written of a note is an entry, which states what was noted.
+-- What is written of a note is one entry, which states what was noted.
 use Rattle.std.proofs.Common.{◌≡◌, ◌==◌, ℕ, zero, suc, ◌+◌, ◌-◌, ◌^◌, ◌<◌, ◌≤◌, ◌++◌, ◌∙◌, Bool, true, false, ◌&&◌, ◌||◌, cond, List, [], ◌∷◌, Some, None, refl, sym, ap, subst, inl, inr, length, min, arith, append_assoc, append-nil, length-append}
 use Rattle.std.specs.Prelude.{codes, decimal, All, IsOk, slice_index, not, nat_lt, nat_le, get_or, flat_map}
 use Rattle.std.specs.List.{position, position_or_len, list_all}
@@ -35,12 +35,13 @@ use Rattle.answer_notes.specs.declared.noted.Noted.TheVariants as noted
 use Rattle.site_records.specs.declared.version.Version.{Version}
 use Rattle.site_records.specs.declared.version.Version.TheVariants.{Second}
 use Rattle.site_records.specs.EntryLines.{page, fault, chain, hop, hopfault, length_of, is_length, is_numeral}
-use Rattle.site_records.specs.Entries.{answered, chained, no_response, IsLine, HasBytes, IsEntry, IsHop, AreHopsOf, no_hops, more_hops}
+use Rattle.site_records.specs.Entries.{Entry, answered, chained, no_response, IsLine, HasBytes, States, IsEntry, IsHop, AreHopsOf, no_hops, more_hops}
 use Rattle.fetcher.specs.declared.fault_kind.FaultKind.{FaultKind}
 use Rattle.fetcher.specs.FaultWords.{place_of, words, word_of}
 use Rattle.fetcher.proofs.FaultLaws.{has_row}
 use Rattle.site_records.specs.WrittenEntries.{line_of_three, counted_entry, worded_entry, chain_line, told_head, is_short, hop_entry, note_text, note_entry, has_short_heads, IsToldOf, IsNote}
 use Rattle.site_records.proofs.FormLaws.{own_digits, and_parts}
+use Rattle.site_records.proofs.OneEntryLaws.{one_page, one_hop_told, IsOneEntry, one_entry, IsOneHop, one_hop, HopsRun, hops_run}
 
 -- the byte is visible: neither a line feed nor a space
 abbrev pub IsVisible : ℕ → Type 0
@@ -171,38 +172,41 @@ line_is line behind plain = record {
 abbrev pub answer_of : Bool → AddressText → ResponseParts → Answer BodyValue
 answer_of robots at r = record { outcome = digest_of robots at r; body = body_of r.head r.body }
 
--- what is written of a page is an entry, which states the answer of its response, whatever stands behind it
-pub page_is_entry : (version : Version) (robots : Bool) (at : AddressText) (r : ResponseParts) (after : List ℕ) → IsAddress at → CanBeGiven r → length (head_text r) ≤ MAX_HEADS
+-- what is written of a page is one entry, which states the answer of its response, whatever stands behind it
+page_is_one : (version : Version) (robots : Bool) (at : AddressText) (r : ResponseParts) (after : List ℕ) → IsAddress at → CanBeGiven r → length (head_text r) ≤ MAX_HEADS
     → length (response_text r) < 2 ^ 64 - 1
-    → IsEntry version robots (counted_entry (codes "page") at (response_text r) ++ after) (answered at (answer_of robots at r)) after
-page_is_entry version robots at r after is given short small =
+    → IsOneEntry version robots (counted_entry (codes "page") at (response_text r) ++ after) (answered at (answer_of robots at r)) after
+page_is_one version robots at r after is given short small =
     let bytes = response_text r in
     let n = length bytes in
+    let behind = bytes ++ 10 ∷ after in
     let line = line_of_three (codes "page") at (decimal n) in
     let digits = digits_visible (decimal n) (decimal_is_IsNumeral n (omega (arith, small))).0.1 in
     let plain = plain_line (codes "page") at (decimal n) page_visible (address_visible at is) digits in
     let same = named_is at is in
-    subst (λ t. IsEntry version robots t (answered at (answer_of robots at r)) after) (sym (entry_text (codes "page") bytes after at)) (record {
-      line = line;
-      behind = bytes ++ 10 ∷ after;
-      says = page at n;
-      is_line = line_is line (bytes ++ 10 ∷ after) plain;
-      form = (IsUtf8-from_ascii line (ascii_line line plain), (decimal n, three_fields (codes "page") at (decimal n) page_visible (address_visible at is) digits, length_is n small), refl);
-      is_named = subst (λ r. IsOk r) (sym is.either) refl;
-      at_root = tt;
-      states = (
-        bytes,
-        answer_of robots at r,
-        has_bytes bytes after,
-        inl (record {
-          response = r;
-          begins = ([], written_reads_back r given short);
-          outcome = ap (λ a. digest_of robots a r) (sym same);
-          body = refl;
-        }),
-        ap (λ a. answered a (answer_of robots at r)) (sym same),
-      );
-    })
+    subst (λ t. IsOneEntry version robots t (answered at (answer_of robots at r)) after) (sym (entry_text (codes "page") bytes after at))
+    (one_entry version robots (line ++ 10 ∷ behind) line behind (page at n) (answered at (answer_of robots at r)) after (line_is line behind plain)
+    (IsUtf8-from_ascii line (ascii_line line plain), (decimal n, three_fields (codes "page") at (decimal n) page_visible (address_visible at is) digits, length_is n small), refl)
+    (subst (λ r. IsOk r) (sym is.either) refl) tt (
+      bytes,
+      answer_of robots at r,
+      has_bytes bytes after,
+      inl (record {
+        response = r;
+        begins = ([], written_reads_back r given short);
+        outcome = ap (λ a. digest_of robots a r) (sym same);
+        body = refl;
+      }),
+      ap (λ a. answered a (answer_of robots at r)) (sym same),
+    )
+    (λ f rest other. only same f rest other))
+  where
+    only : named at ≡ at → (f : Entry) (rest : List ℕ) → States robots (page at (length (response_text r))) (response_text r ++ 10 ∷ after) f rest
+        → (f ≡ answered at (answer_of robots at r)) × (rest ≡ after)
+    only same f rest (bytes, a, has, read, stated) =
+        let (answer, rests) = one_page robots (named at) (response_text r ++ 10 ∷ after) (length (response_text r)) (response_text r) after bytes rest r a
+        (has_bytes (response_text r) after) ([], written_reads_back r given short) has read in
+        (stated ∙ ap (λ b. answered (named at) b) answer ∙ ap (λ t. answered t (answer_of robots t r)) same, rests)
 
 -- ---- an entry of a fault
 
@@ -224,23 +228,19 @@ pub word_visible : (kind : FaultKind) → All IsVisible (word_of kind)
 unfolding word_of is_visible
 word_visible kind = all_visible (get_or words (place_of kind) []) (AllPass-from_list_all is_visible words words_visible (place_of kind) [] (has_row kind))
 
--- what is written of a fault is an entry, whatever stands behind it
-pub fault_is_entry : (version : Version) (robots : Bool) (at : AddressText) (kind : FaultKind) (after : List ℕ) → IsAddress at
-    → IsEntry version robots (worded_entry (codes "fault") kind at ++ after) (answered at (no_response kind)) after
-fault_is_entry version robots at kind after is =
+-- what is written of a fault is one entry, whatever stands behind it
+fault_is_one : (version : Version) (robots : Bool) (at : AddressText) (kind : FaultKind) (after : List ℕ) → IsAddress at
+    → IsOneEntry version robots (worded_entry (codes "fault") kind at ++ after) (answered at (no_response kind)) after
+fault_is_one version robots at kind after is =
     let line = line_of_three (codes "fault") (word_of kind) at in
     let word = all_visible (codes "fault") refl in
     let plain = plain_line (codes "fault") (word_of kind) at word (word_visible kind) (address_visible at is) in
-    subst (λ t. IsEntry version robots t (answered at (no_response kind)) after) (sym (append_assoc line (10 ∷ []) after)) (record {
-      line = line;
-      behind = after;
-      says = fault kind at;
-      is_line = line_is line after plain;
-      form = (IsUtf8-from_ascii line (ascii_line line plain), three_fields (codes "fault") (word_of kind) at word (word_visible kind) (address_visible at is), refl);
-      is_named = subst (λ r. IsOk r) (sym is.either) refl;
-      at_root = tt;
-      states = (refl, ap (λ a. answered a (no_response kind)) (sym (named_is at is)));
-    })
+    let same = named_is at is in
+    subst (λ t. IsOneEntry version robots t (answered at (no_response kind)) after) (sym (append_assoc line (10 ∷ []) after))
+    (one_entry version robots (line ++ 10 ∷ after) line after (fault kind at) (answered at (no_response kind)) after (line_is line after plain)
+    (IsUtf8-from_ascii line (ascii_line line plain), three_fields (codes "fault") (word_of kind) at word (word_visible kind) (address_visible at is), refl)
+    (subst (λ r. IsOk r) (sym is.either) refl) tt (refl, ap (λ a. answered a (no_response kind)) (sym same))
+    (λ f rest other. (other.1 ∙ ap (λ a. answered a (no_response kind)) same, other.0)))
 
 -- ---- a hop of a chain
 
@@ -255,41 +255,31 @@ small_response r given short =
 pub short_head : (told : Told) → is_short told ≡ true → length (told_head told) ≤ MAX_HEADS
 short_head told h = leb-true (length (told_head told)) MAX_HEADS h
 
--- what is written of a hop is one, whatever stands behind it
-told_is_hop : (at : AddressText) (told : Told) (after : List ℕ) → IsToldOf at told → is_short told ≡ true → IsHop (hop_entry (at, told) ++ after) (at, told) after
-told_is_hop at (told.Whole r) after h few =
+-- what is written of a hop is one, and no other, whatever stands behind it
+told_is_one : (at : AddressText) (told : Told) (after : List ℕ) → IsToldOf at told → is_short told ≡ true → IsOneHop (hop_entry (at, told) ++ after) (at, told) after
+told_is_one at (told.Whole r) after h few =
     let short = short_head (told.Whole r) few in
     let bytes = response_text r in
     let n = length bytes in
+    let behind = bytes ++ 10 ∷ after in
     let small = small_response r h.1 short in
     let line = line_of_three (codes "hop") at (decimal n) in
     let word = all_visible (codes "hop") refl in
     let digits = digits_visible (decimal n) (decimal_is_IsNumeral n (omega (arith, small))).0.1 in
     let plain = plain_line (codes "hop") at (decimal n) word (address_visible at h.0) digits in
-    subst (λ t. IsHop t (at, told.Whole r) after) (sym (entry_text (codes "hop") bytes after at)) (record {
-      line = line;
-      behind = bytes ++ 10 ∷ after;
-      says = hop at n;
-      is_line = line_is line (bytes ++ 10 ∷ after) plain;
-      form = (IsUtf8-from_ascii line (ascii_line line plain), (decimal n, three_fields (codes "hop") at (decimal n) word (address_visible at h.0) digits, length_is n small));
-      is_named = subst (λ r. IsOk r) (sym h.0.either) refl;
-      at = sym (named_is at h.0);
-      tells = (bytes, has_bytes bytes after, ([], written_reads_back r h.1 short));
-    })
-told_is_hop at (told.Fault kind) after h few =
+    subst (λ t. IsOneHop t (at, told.Whole r) after) (sym (entry_text (codes "hop") bytes after at))
+    (one_hop (line ++ 10 ∷ behind) line behind (hop at n) at (told.Whole r) after (line_is line behind plain)
+    (IsUtf8-from_ascii line (ascii_line line plain), (decimal n, three_fields (codes "hop") at (decimal n) word (address_visible at h.0) digits, length_is n small))
+    (subst (λ r. IsOk r) (sym h.0.either) refl) (sym (named_is at h.0)) (bytes, has_bytes bytes after, ([], written_reads_back r h.1 short))
+    (λ other rest tells. one_hop_told behind n bytes after tells.0 rest r other (has_bytes bytes after) ([], written_reads_back r h.1 short) tells.1 tells.2))
+told_is_one at (told.Fault kind) after h few =
     let line = line_of_three (codes "hopfault") (word_of kind) at in
     let word = all_visible (codes "hopfault") refl in
     let plain = plain_line (codes "hopfault") (word_of kind) at word (word_visible kind) (address_visible at h) in
-    subst (λ t. IsHop t (at, told.Fault kind) after) (sym (append_assoc line (10 ∷ []) after)) (record {
-      line = line;
-      behind = after;
-      says = hopfault kind at;
-      is_line = line_is line after plain;
-      form = (IsUtf8-from_ascii line (ascii_line line plain), three_fields (codes "hopfault") (word_of kind) at word (word_visible kind) (address_visible at h));
-      is_named = subst (λ r. IsOk r) (sym h.either) refl;
-      at = sym (named_is at h);
-      tells = (refl, refl);
-    })
+    subst (λ t. IsOneHop t (at, told.Fault kind) after) (sym (append_assoc line (10 ∷ []) after))
+    (one_hop (line ++ 10 ∷ after) line after (hopfault kind at) at (told.Fault kind) after (line_is line after plain)
+    (IsUtf8-from_ascii line (ascii_line line plain), three_fields (codes "hopfault") (word_of kind) at word (word_visible kind) (address_visible at h))
+    (subst (λ r. IsOk r) (sym h.either) refl) (sym (named_is at h)) (refl, refl) (λ other rest tells. (tells.1, tells.0)))
 
 -- what is written of hops is these, behind others
 hops_follow : (text : List ℕ) (above hops : List HopValue) (after : List ℕ) → All (λ (h : HopValue). IsToldOf h.0 h.1) hops → list_all (λ (h : HopValue). is_short h.1) hops ≡ true
@@ -300,9 +290,23 @@ hops_follow text above (h ∷ hops) after told short are =
     let rest = flat_map hop_entry hops ++ after in
     let whole : flat_map hop_entry (h ∷ hops) ++ after ≡ hop_entry h ++ rest = append_assoc (hop_entry h) (flat_map hop_entry hops) after in
     let begun = subst (λ t. AreHopsOf text above t) whole are in
-    let is = told_is_hop h.0 h.1 rest (All-head (λ (h : HopValue). IsToldOf h.0 h.1) h hops told) here in
+    let is = (told_is_one h.0 h.1 rest (All-head (λ (h : HopValue). IsToldOf h.0 h.1) h hops told) here).0 in
     subst (λ l. AreHopsOf text l after) (append_assoc above (h ∷ []) hops)
     (hops_follow text (above ++ h ∷ []) hops after (All-tail (λ (h : HopValue). IsToldOf h.0 h.1) h hops told) more (more_hops above (hop_entry h ++ rest) h rest begun is))
+
+-- and no others, as many
+only_hops : (hops others : List HopValue) (after rest : List ℕ) → All (λ (h : HopValue). IsToldOf h.0 h.1) hops → list_all (λ (h : HopValue). is_short h.1) hops ≡ true
+    → length others ≡ length hops → HopsRun (flat_map hop_entry hops ++ after) others rest → (others ≡ hops) × (rest ≡ after)
+only_hops [] [] after rest told short long run = (refl, run)
+only_hops [] (g ∷ others) after rest told short long run = absurd (omega (arith, long))
+only_hops (h ∷ hops) [] after rest told short long run = absurd (omega (arith, long))
+only_hops (h ∷ hops) (g ∷ others) after rest told short long (left, is, run) =
+    let (here, more) = and_parts (is_short h.1) (list_all (λ (h : HopValue). is_short h.1) hops) short in
+    let behind = flat_map hop_entry hops ++ after in
+    let whole : flat_map hop_entry (h ∷ hops) ++ after ≡ hop_entry h ++ behind = append_assoc (hop_entry h) (flat_map hop_entry hops) after in
+    let (same, lefts) = (told_is_one h.0 h.1 behind (All-head (λ (h : HopValue). IsToldOf h.0 h.1) h hops told) here).1 g left (subst (λ t. IsHop t g left) whole is) in
+    let (alike, rests) = only_hops hops others after rest (All-tail (λ (h : HopValue). IsToldOf h.0 h.1) h hops told) more (omega (arith, long)) (subst (λ t. HopsRun t others rest) lefts run) in
+    ((λ i. same i ∷ alike i), rests)
 
 -- ---- an entry of a chain
 
@@ -321,11 +325,11 @@ root_path of is =
     let own : of ++ codes "/" ≡ of ++ path_query_of (of ++ codes "/") = split ∙ ap (λ o. o ++ path_query_of (of ++ codes "/")) is.origin in
     sym (append_cancel_left of (codes "/") (path_query_of (of ++ codes "/")) own)
 
--- what is written of a chain is an entry, whatever stands behind it
-chain_is_entry : (robots : Bool) (of : OriginText) (hops : List HopValue) (after : List ℕ) → IsOrigin of → IsAdmitted of hops → All (λ (h : HopValue). IsToldOf h.0 h.1) hops
+-- what is written of a chain is one entry, whatever stands behind it
+chain_is_one : (robots : Bool) (of : OriginText) (hops : List HopValue) (after : List ℕ) → IsOrigin of → IsAdmitted of hops → All (λ (h : HopValue). IsToldOf h.0 h.1) hops
     → list_all (λ (h : HopValue). is_short h.1) hops ≡ true
-    → IsEntry Second robots ((chain_line of (length hops) ++ flat_map hop_entry hops) ++ after) (chained of hops) after
-chain_is_entry robots of hops after is admitted told short =
+    → IsOneEntry Second robots ((chain_line of (length hops) ++ flat_map hop_entry hops) ++ after) (chained of hops) after
+chain_is_one robots of hops after is admitted told short =
     let n = length hops in
     let root = of ++ codes "/" in
     let count = hop_count max_redirects (robots_file of) hops admitted in
@@ -340,23 +344,28 @@ chain_is_entry robots of hops after is admitted told short =
     let whole : (chain_line of n ++ flat_map hop_entry hops) ++ after ≡ line ++ 10 ∷ behind =
     append_assoc (chain_line of n) (flat_map hop_entry hops) after ∙ append_assoc line (10 ∷ []) behind in
     let origin : origin_of (named root) ≡ of = ap origin_of same ∙ is.origin in
-    subst (λ t. IsEntry Second robots t (chained of hops) after) (sym whole) (record {
-      line = line;
-      behind = behind;
-      says = chain root n;
-      is_line = line_is line behind plain;
-      form = (IsUtf8-from_ascii line (ascii_line line plain), (decimal n, three_fields (codes "chain") root (decimal n) word at digits, length_is n few, count), refl);
-      is_named = subst (λ r. IsOk r) (sym is.address.either) refl;
-      at_root = ap path_query_of same ∙ root_path of is;
-      states = (hops, hops_follow behind [] hops after told short no_hops, refl, subst (λ o. IsAdmitted o hops) (sym origin) admitted, ap (λ o. chained o hops) (sym origin));
-    })
+    subst (λ t. IsOneEntry Second robots t (chained of hops) after) (sym whole)
+    (one_entry Second robots (line ++ 10 ∷ behind) line behind (chain root n) (chained of hops) after (line_is line behind plain)
+    (IsUtf8-from_ascii line (ascii_line line plain), (decimal n, three_fields (codes "chain") root (decimal n) word at digits, length_is n few, count), refl)
+    (subst (λ r. IsOk r) (sym is.address.either) refl) (ap path_query_of same ∙ root_path of is)
+    (hops, hops_follow behind [] hops after told short no_hops, refl, subst (λ o. IsAdmitted o hops) (sym origin) admitted, ap (λ o. chained o hops) (sym origin))
+    (λ f rest other. only origin f rest other))
+  where
+    only : origin_of (named (of ++ codes "/")) ≡ of → (f : Entry) (rest : List ℕ) → States robots (chain (of ++ codes "/") (length hops)) (flat_map hop_entry hops ++ after) f rest
+        → (f ≡ chained of hops) × (rest ≡ after)
+    only origin f rest (others, are, long, _, stated) =
+        let (same, rests) = only_hops hops others after rest told short long (hops_run (flat_map hop_entry hops ++ after) others rest are) in
+        (stated ∙ ap (λ l. chained (origin_of (named (of ++ codes "/"))) l) same ∙ ap (λ o. chained o hops) origin, rests)
 
 -- ---- an entry of any note
 
--- what is written of a note is its entry, whatever stands behind it
-pub note_is_entry : (robots : Bool) (note : Noted) (after : List ℕ) → IsNote note → has_short_heads note ≡ true → IsEntry Second robots (note_text note ++ after) (note_entry robots note) after
-note_is_entry robots (noted.Page at (told.Whole r)) after h short =
+-- what is written of a note is its entry and no other, whatever stands behind it
+pub note_is_one : (robots : Bool) (note : Noted) (after : List ℕ) → IsNote note → has_short_heads note ≡ true → IsOneEntry Second robots (note_text note ++ after) (note_entry robots note) after
+note_is_one robots (noted.Page at (told.Whole r)) after h short =
     let few = short_head (told.Whole r) short in
-    page_is_entry Second robots at r after h.0 h.1 few (small_response r h.1 few)
-note_is_entry robots (noted.Page at (told.Fault kind)) after h short = fault_is_entry Second robots at kind after h
-note_is_entry robots (noted.Chain c) after h short = chain_is_entry robots c.of c.hops after h.0 h.1 h.2 short
+    page_is_one Second robots at r after h.0 h.1 few (small_response r h.1 few)
+note_is_one robots (noted.Page at (told.Fault kind)) after h short = fault_is_one Second robots at kind after h
+note_is_one robots (noted.Chain c) after h short = chain_is_one robots c.of c.hops after h.0 h.1 h.2 short
+
+pub note_is_entry : (robots : Bool) (note : Noted) (after : List ℕ) → IsNote note → has_short_heads note ≡ true → IsEntry Second robots (note_text note ++ after) (note_entry robots note) after
+note_is_entry robots note after h short = (note_is_one robots note after h short).0

@@ -3,6 +3,7 @@ ghost use Rattle.std.specs.Prelude.{◌≡◌, ◌++◌, ◌∷◌, [], Bool, Li
 ghost use Rattle.std.specs.Io.KnownBytes.{Appends};
 ghost use Rattle.streams.specs.Streams.{AppendsFront};
 ghost use Rattle.answer_notes.specs.declared.noted.Noted.{Noted};
+ghost use Rattle.site_records.specs.Entries.{Entry};
 ghost use Rattle.site_records.specs.Records.{IsRecord};
 ghost use Rattle.site_records.specs.WrittenRecords.{is_repeated, written_notes, record_text, record_entries, all_noted};
 ghost use Rattle.site_records.specs.Fronts.{IsReadCut};
@@ -128,6 +129,8 @@ pub fn write_record<W: Write>(
 
     // It is read again, with or without robots rules, as just what the notes say.
     ensures reads { OnOk result ((robots : Bool) → IsRecord robots (record_text (all_noted notes.now)) (record_entries robots (all_noted notes.now))) }
+    // And as nothing else.
+    ensures one { OnOk result ((robots : Bool) (said : List Entry) → IsRecord robots (record_text (all_noted notes.now)) said → said ≡ record_entries robots (all_noted notes.now)) }
     // Cut anywhere behind its first line it is the entries of the first of these notes, and a front of the next one's.
     ensures cut { OnOk result ((robots : Bool) → IsReadCut robots (written_notes (all_noted notes.now))) }
 {
