@@ -5,9 +5,10 @@ import re
 
 import faults
 
-# One answer: the first word of its line, its address, where it begins and ends in the record, and its faults, which are those
-# of its line or of its hops.
-Entry = collections.namedtuple("Entry", "kind address start end faults")
+# One answer: the first word of its line, its address, where it begins and ends in the record, its faults, which are those of its
+# line or of its hops, and the status of its last response, if there is one.
+Entry = collections.namedtuple("Entry", "kind address start end faults status")
+STATUS = re.compile(rb"HTTP/\d\.\d (\d{3})")
 FIRST_LINES = {b"wgetr-record 1": 1, b"wgetr-record 2": 2}
 WORDS = [word.encode() for word in faults.WORDS]
 
@@ -41,40 +42,41 @@ def behind_bytes(text, at, length):
 
 
 def answer_at(text, at, page, fault):
-    """An answer, which is a response or a fault by its first word: its address, where it ends and its faults."""
+    """An answer, which is a response or a fault by its first word: its address, where it ends, its faults and its status."""
     line, end = line_at(text, at)
     match line.split(b" "):
         case [word, address, length] if word == page:
-            return address, behind_bytes(text, end, length), []
+            status = STATUS.match(text, end)
+            return address, behind_bytes(text, end, length), [], int(status[1]) if status else None
         case [word, kind, address] if word == fault and kind in WORDS:
-            return address, end, [kind.decode()]
+            return address, end, [kind.decode()], None
     raise Wrong(f"the line {line[:80]!r} at byte {at}")
 
 
 def hops_at(text, at, count):
-    """Where so many hops end, and their faults."""
-    faults = []
+    """Where so many hops end, their faults, and the status of the last."""
+    faults, status = [], None
     for _ in range(count):
-        _, at, more = answer_at(text, at, b"hop", b"hopfault")
+        _, at, more, status = answer_at(text, at, b"hop", b"hopfault")
         faults += more
-    return at, faults
+    return at, faults, status
 
 
 def entry_at(text, start, version):
     line, end = line_at(text, start)
-    faults = []
+    faults, status = [], None
     match line.split(b" "), version:
         case [b"page" | b"fault", *_], _:
-            address, end, faults = answer_at(text, start, b"page", b"fault")
+            address, end, faults, status = answer_at(text, start, b"page", b"fault")
         case [b"chain", address, count], 2 if count in (b"1", b"2", b"3", b"4", b"5", b"6"):
-            end, faults = hops_at(text, end, int(count))
+            end, faults, status = hops_at(text, end, int(count))
         case [b"robots", address, length], 1:
             end = behind_bytes(text, end, length)
         case [b"rules", b"all" | b"none", address], 1:
             pass
         case _:
             raise Wrong(f"the line {line[:80]!r} at byte {start}")
-    return Entry(line.split(b" ")[0].decode(), address.decode(), start, end, faults)
+    return Entry(line.split(b" ")[0].decode(), address.decode(), start, end, faults, status)
 
 
 def read_front(text):
