@@ -59,6 +59,23 @@ fn create_new<D: Files>(disk: &D, path: &str) -> io::Result<D::File> {
     }
 }
 
+// Whether a record's file can be made at a path: its part is made, and taken away. One that is there was made by a run.
+pub(crate) fn can_be_made<D: Files>(
+    disk: &D,
+    alloc: Global,
+    path: &str,
+) -> Result<bool, AllocError> {
+    let part = format!(in alloc; "{path}.part")?;
+    match File::create_new(disk, part.as_str()) {
+        Ok(file) => {
+            drop(file);
+            let _ = disk.remove_file(part.as_str());
+            Ok(true)
+        }
+        Err(e) => Ok(e.kind() == ErrorKind::AlreadyExists),
+    }
+}
+
 // The file that is being made, which is made now where none is.
 fn opened<'a, D: Files>(
     disk: &D,

@@ -2,6 +2,7 @@
 use crate::disk_journal::DiskJournal;
 use crate::held_journal::{HeldJournal, look_for_file};
 use crate::journal_fault::JournalFault;
+use crate::saved_file::can_be_made;
 use site_inputs::InputFault;
 use site_records::{RecordFault, RecordFront, RecordedSite, read_front, write_record};
 use std::alloc::{AllocError, Global};
@@ -21,7 +22,7 @@ const FIRST_LINE: &[u8] = b"wgetr-record 2\n";
 /// Why a run may not save there.
 #[derive(Clone, Copy, Debug, PartialEq, Eq, Error)]
 pub enum HoldFault {
-    /// Another run saves there, or answers are left there that this run would lose. A person is told.
+    /// Another run saves there, answers are there that this run would lose, or no file can be made. A person is told.
     #[error("answers can't be saved there")]
     Refused,
     /// Memory ran out.
@@ -161,17 +162,48 @@ fn read_at<D: Files>(
     }
 }
 
-// Refuses what isn't replaced by a record, and tells a person of it.
-fn refuse_no_file<R: Eprint, D: Files>(rt: &R, disk: &D, saved: &str) -> Result<(), HoldFault> {
+// Whether a file is at a path that a record may replace. What none may replace is refused, and a person is told.
+fn is_file<R: Eprint, D: Files>(rt: &R, disk: &D, saved: &str) -> Result<bool, HoldFault> {
     match look_for_file(disk, saved) {
+        Ok(is_there) => Ok(is_there),
         Err(e) if e.kind() == ErrorKind::AlreadyExists => {
             let _ = eprintln!(rt;
                 "{saved}: a link, a folder or a device isn't replaced; name a file"
             );
             Err(HoldFault::Refused)
         }
-        _ => Ok(()),
+        Err(_) => Ok(false),
     }
+}
+
+// Refuses a file that a run would replace by a record without its answers, and tells a person of it.
+fn refuse_other<R: Eprint, D: Files>(
+    rt: &R,
+    disk: &D,
+    saved: &str,
+    is_resumed: bool,
+) -> Result<(), HoldFault> {
+    if is_file(rt, disk, saved)? && !is_resumed {
+        let _ = eprintln!(rt;
+            "{saved}: is there; resume it by --resume {saved}, remove it, or save to another file"
+        );
+        return Err(HoldFault::Refused);
+    }
+    Ok(())
+}
+
+// Refuses a path at which no record can be made, and tells a person of it.
+fn refuse_unmade<R: Eprint, D: Files>(
+    rt: &R,
+    disk: &D,
+    alloc: Global,
+    saved: &str,
+) -> Result<(), HoldFault> {
+    if can_be_made(disk, alloc, saved)? {
+        return Ok(());
+    }
+    let _ = eprintln!(rt; "{saved}: no file can be made there");
+    Err(HoldFault::Refused)
 }
 
 // Whether a journal is at a path. What is neither a file nor nothing is refused, and a person is told: a link isn't followed, and
@@ -253,9 +285,9 @@ impl<D: Files> Saving<D> {
     }
 
     /// Holds the file of a record, so that no other run saves there, and begins its journal. Answers that are left in the journal
-    /// stay there; where the run doesn't resume them it is refused, and where a link, a folder or a device stands in the file's
-    /// place. Where the journal can't be opened a person is told, and the run goes on without one. To be called once, before
-    /// anything is asked.
+    /// stay there. The run is refused if it doesn't resume these, or a file that is there, and if the file is a link, a folder or a
+    /// device. If the journal can't be opened a person is told, and the run goes on without one, unless no file can be made there
+    /// at all. To be called once, before anything is requested.
     pub fn hold<R: Wait + Clock + Eprint>(
         &self,
         rt: &R,
@@ -267,7 +299,7 @@ impl<D: Files> Saving<D> {
     where
         D::File: Lock,
     {
-        refuse_no_file(rt, disk, saved)?;
+        refuse_other(rt, disk, saved, is_resumed)?;
         match HeldJournal::open(disk, alloc, saved) {
             Ok(held) => self.begin(rt, alloc, held, saved, is_resumed),
             Err(JournalFault::Memory) => Err(HoldFault::Memory),
@@ -276,6 +308,7 @@ impl<D: Files> Saving<D> {
                 Err(HoldFault::Refused)
             }
             Err(JournalFault::Device) => {
+                refuse_unmade(rt, disk, alloc, saved)?;
                 let _ = eprintln!(rt;
                     "{saved}.journal: can't be opened; answers are kept in memory, and lost if this run is killed"
                 );
