@@ -1,8 +1,8 @@
 -- What putting kept bodies leaves in a folder, whichever bodies they may be.
-use Rattle.std.specs.Prelude.{ℕ, ◌<◌, ◌+◌, List, Option, length}
+use Rattle.std.specs.Prelude.{◌≡◌, ◌⊎◌, ◌^◌, ◌-◌, ℕ, ◌<◌, ◌+◌, Bool, true, List, Option, length, min}
 use Rattle.std.specs.List.{AllZip}
 use Rattle.kept_bodies.specs.Bodies.{BodyValue, bytes_of}
-use Rattle.local_tree.specs.Folders.{Files, Holding, HasMoreRefused}
+use Rattle.local_tree.specs.Folders.{Files, Holding, HasMoreRefused, one_more_refused}
 use Rattle.local_tree.specs.SiteFiles.{AreWritten, OfFiles, IsWhole}
 use Rattle.local_tree.specs.declared.site_files.WriteFault.{WriteFault}
 use Rattle.local_tree.specs.declared.site_files.WriteFault.TheVariants.{Device}
@@ -20,3 +20,8 @@ pub record IsHalfShelved {B : Type 0} (holds : B → BodyValue → Type 0) (name
 -- how putting them ended that didn't end well
 abbrev pub IsHalfShelvedBy : {B : Type 0} → (B → BodyValue → Type 0) → List (List ℕ) → List B → Holding → Holding → WriteFault → Type 0
 IsHalfShelvedBy holds names kept old new (Device k) = IsHalfShelved holds names kept old new k
+
+-- no call failed and as many are lost, or a call failed and one more is, after which more may be put
+abbrev pub MakesOnePut : ℕ → ℕ → ℕ → ℕ × Bool → Type 0
+MakesOnePut lost old new made =
+    ((made.0 ≡ lost) × (new ≡ old) × (made.1 ≡ true)) ⊎ ((made.0 ≡ min (lost + 1) (2 ^ 64 - 1)) × (new ≡ one_more_refused old))

@@ -5,12 +5,12 @@ ghost use Rattle.local_tree.specs.Folders.{CountsRefusedPut, opened_at, untold};
 ghost use Rattle.local_tree.specs.SiteFiles.{IsTornBy};
 
 use crate::folder::{Folder, FolderFault};
-use crate::own_dir::{OwnDir, make_own_dir};
 use crate::parts::{Batch, Naming, Part, PartCrew, write_new};
 use crate::site_files::WriteFault;
 use harvest::Harvest;
 use kept_bodies::Body;
 use local_names::is_local_name;
+use part_keeper::{OwnDir, make_own_dir};
 use std::alloc::{AllocError, Global};
 use std::fs::Files;
 use std::io::{Error, ErrorKind};
@@ -19,6 +19,8 @@ use std::{fs, io, mem};
 use streams::{Close, Lock};
 
 mod named_parts;
+
+pub use named_parts::put_parts;
 
 /// How many files of a site are made ready together, at most.
 const BATCH: usize = 256;
@@ -68,7 +70,7 @@ pub struct DiskFolder<'a, R: Files> {
     rt: &'a R,
     alloc: Global,
     prefix: String,
-    // Where a keeper's parts are; empty if there is none.
+    // Below which directory the keepers of a run have their parts; empty if there is none.
     parts: String,
     // Where parts are made, while files are put.
     own: Option<OwnDir<R::File>>,
@@ -344,11 +346,11 @@ where
         })
     }
 
-    /// The folder that takes the parts below this directory, which is on its disk.
-    pub fn with_parts(self, parts: String) -> DiskFolder<'a, R>
-        ensures { result ≡ self.entry }
+    /// Takes the parts below this directory from now on, which is on its disk.
+    pub fn take_from(&mut self, parts: String)
+        ensures { self.new ≡ self.old }
     {
-        DiskFolder { parts, ..self }
+        self.parts = parts;
     }
 
     /// Why the last put that failed did: the system's error, or, with none of its numbers, one of the folder's own (`NotADirectory`

@@ -4,11 +4,10 @@
 //! Its tests are in `retrieval_tests`.
 #![tactic(auto)]
 
-pub use crate::disk_folder::DiskFolder;
+pub use crate::disk_folder::{DiskFolder, put_parts};
 pub use crate::folder::{Folder, FolderFault};
 pub use crate::memory_folder::MemoryFolder;
 pub use crate::parts::{Naming, Part, PartCrew};
-pub use crate::parts_dir::PartsDir;
 pub use crate::shelf::{HasKind, Shelf};
 pub use crate::site_files::{WriteFault, write_site};
 pub use streams::{Close, Lock};
@@ -16,8 +15,6 @@ pub use streams::{Close, Lock};
 mod disk_folder;
 mod folder;
 mod memory_folder;
-mod own_dir;
 mod parts;
-mod parts_dir;
 mod shelf;
 mod site_files;

@@ -5,7 +5,7 @@ use std::alloc::{AllocError, Global};
 /// What is there of a body.
 #[derive(Clone, Copy, Debug, PartialEq, Eq)]
 pub enum Standing {
-    /// A file with all its bytes.
+    /// A file with all its bytes, or bytes that wait for a descriptor.
     Whole,
     /// Nothing, since its file couldn't be written.
     Lost,
@@ -18,7 +18,7 @@ pub enum Standing {
 pub struct Part {
     /// The worker's number.
     pub worker: u32,
-    /// The number of the file among the worker's.
+    /// The number of the file among the worker's, or, of a part that was lost, of the reason.
     pub number: u32,
     /// What the body is.
     pub kind: BodyKind,

@@ -2,23 +2,27 @@
 ghost use Rattle.std.specs.Prelude.{◌≡◌, ◌+◌, ℕ, List, length, OnOk, IfOk, OnErr};
 
 use crate::part::{Part, Standing, part_path};
+use crate::parts_dir::{PartsDir, WorkerDir, lacks_descriptor};
 use kept_bodies::{BodyKind, Keeper};
 use std::alloc::{AllocError, Global};
 use std::fs::{File, Files};
 use std::io::{Error, Write};
-use std::{fs, io};
-use streams::Close;
+use std::sync::Wait;
+use std::{io, mem};
+use streams::{Close, Lock};
 
 /// How many bytes of a body stand in memory before it gets a file.
 const BUFFER: usize = 64 * 1024;
 
-/// Keeps the bodies of one worker, each in a file of its own below a directory of a run's parts. A short body is written in one
-/// call once it is whole, so a file is open for long only where a body is long. Where a file can't be written, what comes of its
-/// body is counted and not kept, and the part says so.
+/// Keeps the bodies of one worker, each in a file of its own below the directory of a run's parts. A short body is written in one
+/// call once it is whole, so a file is open for long only if a body is long. If there is no descriptor for a file, its body waits in
+/// memory. If it can't be written for another reason, what comes of its body is counted and not kept, and the part says so.
 pub struct PartKeeper<'a, R: Files> {
     rt: &'a R,
     alloc: Global,
-    dir: &'a str,
+    parts: &'a PartsDir<R::File>,
+    // The path of the run's directory; empty before the first file.
+    dir: String,
     worker: u32,
     number: u32,
     buffer: Vec<u8>,
@@ -34,6 +38,7 @@ impl<'a, R: Files> Drop for PartKeeper<'a, R> {
         let PartKeeper {
             rt: _rt,
             alloc: _alloc,
+            parts: _parts,
             dir: _dir,
             worker: _worker,
             number: _number,
@@ -45,33 +50,18 @@ impl<'a, R: Files> Drop for PartKeeper<'a, R> {
     }
 }
 
-// Makes the file of a part; the first of a worker makes the directory.
-fn create<R: Files>(
-    rt: &R,
-    alloc: Global,
-    dir: &str,
-    worker: u32,
-    number: u32,
-) -> io::Result<R::File> {
-    if number == 0 {
-        let own = format!(in alloc; "{dir}/{worker}")?;
-        fs::create_dir_all(rt, own.as_str())?;
-    }
-    let path = part_path(alloc, dir, worker, number)?;
-    File::create_new(rt, path.as_str())
-}
-
-impl<'a, R: Files> PartKeeper<'a, R>
+impl<'a, R: Files + Wait> PartKeeper<'a, R>
 where
-    R::File: Close,
+    R::File: Close + Lock,
 {
-    /// Keeps the bodies of this worker below this directory. Takes no memory, and makes nothing before a body comes.
-    pub fn new(rt: &'a R, alloc: Global, dir: &'a str, worker: u32) -> PartKeeper<'a, R> {
+    /// Keeps the bodies of one worker below this directory. Takes no memory, and makes nothing before a body comes.
+    pub fn new(rt: &'a R, alloc: Global, parts: &'a PartsDir<R::File>) -> PartKeeper<'a, R> {
         PartKeeper {
             rt,
             alloc,
-            dir,
-            worker,
+            parts,
+            dir: String::new(alloc),
+            worker: 0,
             number: 0,
             buffer: Vec::new(alloc),
             file: None,
@@ -80,18 +70,31 @@ where
         }
     }
 
-    /// Why the body that was last finished isn't kept, where it isn't.
-    pub fn error(&self) -> Option<&Error> {
-        self.error.as_ref()
+    // The path of the body's file.
+    fn path(&self) -> Result<String, AllocError> {
+        part_path(self.alloc, self.dir.as_str(), self.worker, self.number)
     }
 
-    // Writes what stands in memory, and then these bytes, into the file of the body, which is made where there is none.
+    // Makes the file of the body; the first has the worker's directory made.
+    fn create(&mut self) -> io::Result<R::File>
+        ensures { self.new.len ≡ self.old.len }
+    {
+        if self.dir.is_empty() {
+            let WorkerDir { dir, worker } = self.parts.enter(self.rt)?;
+            self.dir = dir;
+            self.worker = worker;
+        }
+        let path = self.path()?;
+        File::create_new(self.rt, path.as_str())
+    }
+
+    // Writes what stands in memory, and then these bytes, into the file of the body, which is made if there is none.
     fn write(&mut self, bytes: &[u8]) -> io::Result<()>
         ensures { self.new.len ≡ self.old.len }
     {
         let mut file = match self.file.take() {
             Some(file) => file,
-            None => create(self.rt, self.alloc, self.dir, self.worker, self.number)?,
+            None => self.create()?,
         };
         file.write_all(self.buffer.as_slice())?;
         self.buffer.clear();
@@ -106,21 +109,39 @@ where
     {
         self.buffer.clear();
         self.file = None;
-        if let Ok(path) = part_path(self.alloc, self.dir, self.worker, self.number) {
+        if self.dir.is_empty() {
+            return;
+        }
+        if let Ok(path) = self.path() {
             let _ = self.rt.remove_file(path.as_str());
         }
     }
 
-    // Keeps these bytes, or nothing of the body any more.
-    fn keep(&mut self, bytes: &[u8])
+    // Nothing of the body is kept any more, for this reason.
+    fn lose(&mut self, error: Error)
+        ensures { self.new.len ≡ self.old.len }
+    {
+        self.take_away();
+        self.error = Some(error);
+    }
+
+    // Keeps these bytes, or nothing of the body any more. If there is no descriptor for its file they wait in memory.
+    fn keep(&mut self, bytes: &[u8]) -> Result<(), AllocError>
         ensures { self.new.len ≡ self.old.len }
     {
         if self.error.is_some() {
-            return;
+            return Ok(());
         }
-        if let Err(error) = self.write(bytes) {
-            self.take_away();
-            self.error = Some(error);
+        match self.write(bytes) {
+            Err(error) if lacks_descriptor(&error) && !self.dir.is_empty() => {
+                drop(error);
+                self.buffer.extend_from_slice(bytes)
+            }
+            Err(error) => {
+                self.lose(error);
+                Ok(())
+            }
+            Ok(()) => Ok(()),
         }
     }
 
@@ -133,11 +154,45 @@ where
             None => Ok(()),
         }
     }
+
+    // Has a body written later for whose file there was no descriptor.
+    fn put_off(&mut self) -> Result<(), AllocError>
+        ensures { self.new.len ≡ self.old.len }
+    {
+        let path = self.path()?;
+        let bytes = mem::replace(&mut self.buffer, Vec::new(self.alloc));
+        self.parts.put_off(self.rt, path, bytes)
+    }
+
+    // The number of the reason for which the body was lost. If there is no memory for it nobody is told.
+    fn reason(&self, error: Error) -> u32 {
+        match self.parts.lose(self.rt, error) {
+            Ok(number) => u32::try_from(number).unwrap_or(u32::MAX),
+            Err(_) => u32::MAX,
+        }
+    }
+
+    // Ends the body.
+    fn end(&mut self) -> Result<(), AllocError>
+        ensures { self.new.len ≡ self.old.len }
+    {
+        self.keep(&[])?;
+        if self.error.is_some() {
+            return Ok(());
+        }
+        if self.file.is_none() {
+            return self.put_off();
+        }
+        if let Err(error) = self.close() {
+            self.lose(error);
+        }
+        Ok(())
+    }
 }
 
-impl<'a, R: Files> Keeper for PartKeeper<'a, R>
+impl<'a, R: Files + Wait> Keeper for PartKeeper<'a, R>
 where
-    R::File: Close,
+    R::File: Close + Lock,
 {
     type Kept = Part;
 
@@ -164,30 +219,23 @@ where
         if self.file.is_none() && self.error.is_none() && len <= BUFFER as u64 {
             return self.buffer.extend_from_slice(piece);
         }
-        self.keep(piece);
-        Ok(())
+        self.keep(piece)
     }
 
     fn finish(&mut self, kind: BodyKind) -> Result<Part, AllocError> {
-        self.keep(&[]);
-        if self.error.is_none() {
-            if let Err(error) = self.close() {
-                self.take_away();
-                self.error = Some(error);
-            }
-        }
-        let standing = match &self.error {
-            Some(_) => Standing::Lost,
-            None => Standing::Whole,
-        };
-        let part = Part {
+        self.end()?;
+        let mut part = Part {
             worker: self.worker,
             number: self.number,
             kind,
             len: self.len,
-            standing,
+            standing: Standing::Whole,
         };
         self.number = self.number.saturating_add(1);
+        if let Some(error) = self.error.take() {
+            part.standing = Standing::Lost;
+            part.number = self.reason(error);
+        }
         Ok(part)
     }
 

@@ -11,44 +11,50 @@ ghost use Rattle.tcp_fetcher.specs.PartsFetching.{MayAnswerIn};
 use crate::over_tcp::OverTcp;
 use address::{Address, Origin};
 use fetcher::{Answer, Ask, Fetcher};
-use part_keeper::{Part, PartKeeper};
+use part_keeper::{Part, PartKeeper, PartsDir};
 use response_answer::PageSink;
 use robots_rules::RuleSet;
 use run_failures::LossKind;
 use std::alloc::{AllocError, Global};
 use std::fs::Files;
-use std::io::Error;
 use std::marker::Model;
 use std::net::Net;
 use std::sync::Wait;
 use std::time::Clock;
-use streams::Close;
+use streams::{Close, Lock};
+use tcp_connect::Kept;
 
 /// Asks over TCP as [`OverTcp`] does, and has each page's body kept in a file of its own while it arrives.
 pub struct PartsOverTcp<'a, R: Net + Wait + Clock + Eprint + Files>
 where
-    R::File: Close,
+    R::File: Close + Lock,
 {
     inner: OverTcp<'a, R>,
     sink: PageSink<PartKeeper<'a, R>>,
+    rt: &'a R,
+    kept: &'a Kept<R::Stream>,
+    parts: &'a PartsDir<R::File>,
 }
 
 // By hand: who drops one proves a call, and nothing of what it holds.
 impl<'a, R: Net + Wait + Clock + Eprint + Files> Drop for PartsOverTcp<'a, R>
 where
-    R::File: Close,
+    R::File: Close + Lock,
 {
     fn drop(self) {
         let PartsOverTcp {
             inner: _inner,
             sink: _sink,
+            rt: _rt,
+            kept: _kept,
+            parts: _parts,
         } = self;
     }
 }
 
 impl<'a, R: Net + Wait + Clock + Eprint + Files> Model for PartsOverTcp<'a, R>
 where
-    R::File: Close,
+    R::File: Close + Lock,
 {
     ghost use Rattle.tcp_fetcher.specs.TcpFetching.{TcpFetching};
 
@@ -59,19 +65,25 @@ where
 
 impl<'a, R: Net + Wait + Clock + Eprint + Files> PartsOverTcp<'a, R>
 where
-    R::File: Close,
+    R::File: Close + Lock,
 {
-    /// Asks by this fetcher, and has this keep the bodies. Takes no memory.
+    /// Asks by this fetcher, and keeps the bodies below this directory. If a file needs a descriptor, connections that wait are ended.
+    /// Takes no memory.
     pub fn new(
+        rt: &'a R,
         alloc: Global,
         inner: OverTcp<'a, R>,
-        keeper: PartKeeper<'a, R>,
+        kept: &'a Kept<R::Stream>,
+        parts: &'a PartsDir<R::File>,
     ) -> PartsOverTcp<'a, R>
         ensures { result ≡ inner.entry }
     {
         PartsOverTcp {
             inner,
-            sink: PageSink::new(alloc, keeper),
+            sink: PageSink::new(alloc, PartKeeper::new(rt, alloc, parts)),
+            rt,
+            kept,
+            parts,
         }
     }
 
@@ -79,16 +91,23 @@ where
     pub fn loss(&self) -> Option<LossKind> {
         self.inner.loss()
     }
+}
 
-    /// Why the body that was last finished isn't kept, if it isn't.
-    pub fn error(&self) -> Option<&Error> {
-        self.sink.keeper().error()
+// Writes the bodies for whose files there was no descriptor. No connection of this worker is in use now, and those that wait are
+// ended.
+fn write_late<R: Net + Wait + Files>(rt: &R, kept: &Kept<R::Stream>, parts: &PartsDir<R::File>)
+where
+    R::File: Close + Lock,
+{
+    if parts.has_late(rt) {
+        kept.end_waiting(rt);
+        parts.write_late(rt);
     }
 }
 
 impl<'a, R: Net + Wait + Clock + Eprint + Files> Fetcher for PartsOverTcp<'a, R>
 where
-    R::File: Close,
+    R::File: Close + Lock,
 {
     ghost use Rattle.std.specs.Prelude.{Bool};
 
@@ -113,7 +132,9 @@ where
         ensures tries { IfOk result (IsLastOf asks_of (MayKeep holds_part at.now) (is_worth_answer self.old.retries) (ask.Page at.now) self.old.retries.most self.old.single self.new.single) }
         ensures retries { self.new.retries ≡ self.old.retries }
     {
-        self.inner.ask_into(&mut self.sink, at)
+        let answer = self.inner.ask_into(&mut self.sink, at);
+        write_late(self.rt, self.kept, self.parts);
+        answer
     }
 
     fn ask_robots(&mut self, of: &Origin) -> Result<RuleSet, AllocError> {

@@ -1,7 +1,13 @@
 //! Bodies that a keeper has put on the disk, and that a folder gives their names.
+ghost use Rattle.std.specs.Prelude.{◌≡◌, IfErr, OnOk, length, map, string_bytes};
+ghost use Rattle.local_tree.specs.Folders.{untold};
+ghost use Rattle.local_tree.specs.Shelves.{IsHalfShelvedBy, MakesOnePut};
+
 use super::{DiskFolder, find_place};
 use crate::folder::FolderFault;
 use crate::shelf::{HasKind, Shelf};
+use crate::site_files::WriteFault;
+use harvest::Harvest;
 use kept_bodies::BodyKind;
 use part_keeper::{Part, Standing, part_path};
 use std::fs::Files;
@@ -68,4 +74,40 @@ where
         let put = self.put_part(name, kept);
         self.count(put)
     }
+}
+
+// Puts a part. Gives how many are lost then, of which there were so many, and whether more are to be put.
+fn put_one<D: Shelf<Part>>(folder: &mut D, name: &str, part: &Part, lost: usize) -> (usize, bool)
+    ensures { MakesOnePut lost (D.failed folder.old) (D.failed folder.new) result }
+{
+    match folder.put_kept(name, part) {
+        Ok(()) => (lost, true),
+        Err(_) => (lost.saturating_add(1), part.standing == Standing::Lost),
+    }
+}
+
+/// Puts the kept pages of a harvest whose bodies are in parts, in their order, each under its name. Of a part that was lost nothing is
+/// put. If another put fails no more is made. The fault counts the files that are whole.
+pub fn put_parts<D: Shelf<Part>>(
+    folder: &mut D,
+    names: &[String],
+    harvest: &Harvest<Part>,
+) -> Result<(), WriteFault>
+    requires { length names.now ≡ length harvest.now.kept }
+    // As of a folder that tells no files.
+    ensures torn { IfErr result (IsHalfShelvedBy D.holds (map string_bytes names.now) harvest.now.bodies (untold (D.failed folder.old)) (untold (D.failed folder.new))) }
+    ensures quiet { OnOk result (D.failed folder.new ≡ D.failed folder.old) }
+{
+    let mut lost = 0usize;
+    for (i, name) in names.iter().enumerate() {
+        let (now, goes_on) = put_one(folder, name.as_str(), harvest.kept_body(i), lost);
+        if !goes_on {
+            return Err(WriteFault::Device(i.saturating_sub(lost)));
+        }
+        lost = now;
+    }
+    if lost > 0 {
+        return Err(WriteFault::Device(names.len().saturating_sub(lost)));
+    }
+    Ok(())
 }

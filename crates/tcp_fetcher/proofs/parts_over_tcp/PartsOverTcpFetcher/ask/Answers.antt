@@ -2,4 +2,4 @@
 use Rattle.tcp_fetcher.proofs.parts_over_tcp.PartsOverTcpFetcher.ask.Goals as goal
 
 pub returns-clause-told : goal.returns-clause-told
-returns-clause-told g c = rw (← c.self.view_is) c.ask_into.ensures.told
+returns-clause-told g c = rw (← c.self.view_is) c.ask_into-answer.ensures.told

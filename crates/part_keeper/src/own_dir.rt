@@ -22,7 +22,7 @@ const LOOKED_AT: u32 = 16;
 /// A run makes its directory, then the file `lock` in it, and holds that until its end. So whoever can hold the lock of a directory
 /// knows that its run has ended, and may remove it.
 #[derive(Drop)]
-pub(crate) struct OwnDir<F> {
+pub struct OwnDir<F> {
     path: String,
     // The file that is held. On a disk without locks there is none, and no other run removes the directory.
     lock: Option<F>,
@@ -156,11 +156,7 @@ where
 
 /// Makes a directory for this run below a folder, which is there, and removes those that ended runs left, as long as no more than 16
 /// runs used the folder at a time. The error is the system's, `AlreadyExists` if 1,024 runs use the folder.
-pub(crate) fn make_own_dir<R: Files>(
-    rt: &R,
-    alloc: Global,
-    folder: &str,
-) -> io::Result<OwnDir<R::File>>
+pub fn make_own_dir<R: Files>(rt: &R, alloc: Global, folder: &str) -> io::Result<OwnDir<R::File>>
 where
     R::File: Lock,
 {
@@ -180,12 +176,12 @@ where
 
 impl<F: Drop> OwnDir<F> {
     /// Where it is.
-    pub(crate) fn path(&self) -> &str {
+    pub fn path(&self) -> &str {
         self.path.as_str()
     }
 
     /// Removes it, with all that is in it.
-    pub(crate) fn remove<R: Files>(self, rt: &R, alloc: Global) {
+    pub fn remove<R: Files>(self, rt: &R, alloc: Global) {
         let OwnDir { path, lock } = self;
         let _ = rt.remove_dir_all(alloc, path.as_str());
         drop(lock);
