@@ -3,7 +3,8 @@ use crate::part_threads::PartThreads;
 use crate::shared_failures::SharedFailures;
 use harvest::Harvest;
 use kept_bodies::Body;
-use local_tree::{DiskFolder, Folder, FolderFault, WriteFault};
+use local_tree::{DiskFolder, Folder, FolderFault, Shelf, WriteFault, put_parts};
+use part_keeper::{Part, PartsDir, Standing};
 use record_journal::SavedFile;
 use std::fs::Files;
 use std::io;
@@ -14,13 +15,14 @@ use std::thread::Threads;
 use streams::{Close, Lock};
 use tcp_connect::Kept;
 
-/// The folder of a run's pages. Before one is put the connections that wait are ended, since a file needs a descriptor too. Those
-/// of a site are made ready in threads.
+/// The folder of a run's pages. Before one is put the connections that wait are ended, since a file needs a descriptor too. Bodies
+/// in memory are made ready in threads; those in parts are renamed.
 pub struct Disk<'a, R: Net + Files + Wait> {
     pub(crate) inner: DiskFolder<'a, R>,
     pub(crate) rt: &'a R,
     pub(crate) kept: &'a Kept<R::Stream>,
     pub(crate) crew: &'a PartThreads<'a, R>,
+    pub(crate) parts: &'a PartsDir<R::File>,
     pub(crate) failures: &'a SharedFailures,
 }
 
@@ -32,6 +34,7 @@ impl<'a, R: Net + Files + Wait> Drop for Disk<'a, R> {
             rt: _rt,
             kept: _kept,
             crew: _crew,
+            parts: _parts,
             failures: _failures,
         } = self;
     }
@@ -41,10 +44,35 @@ impl<'a, R: Net + Files + Wait> Disk<'a, R>
 where
     R::File: Close + Lock,
 {
+    ghost use Rattle.std.specs.Prelude.{◌≡◌};
+
     // Keeps why the file of this name couldn't be put.
     fn note(&self, name: &str) {
         if let Some(error) = self.inner.error() {
             self.failures.fail(self.rt, name, error);
+        }
+    }
+
+    // Has all parts ready to get their names. No connection is in use any more.
+    fn take_parts(&mut self)
+        ensures { self.new.inner ≡ self.old.inner }
+    {
+        self.kept.end_waiting(self.rt);
+        self.parts.write_late(self.rt);
+        if let Ok(path) = self.parts.path(self.rt) {
+            self.inner.take_from(path);
+        }
+    }
+
+    // Keeps why the file of this name couldn't be put, whose bytes were to be this part: it was lost, or it got no name.
+    fn note_part(&self, name: &str, part: &Part) {
+        match part.standing {
+            Standing::Lost => {
+                if let Some(error) = self.parts.reason(self.rt, part) {
+                    self.failures.fail(self.rt, name, &error);
+                }
+            }
+            Standing::Whole | Standing::Absent => self.note(name),
         }
     }
 }
@@ -81,6 +109,29 @@ where
 
     fn failures(&self) -> u64 {
         self.inner.failures()
+    }
+}
+
+impl<'a, R: Net + Files + Wait + Threads> Shelf<Part> for Disk<'a, R>
+where
+    R::File: Close + Lock,
+{
+    ghost use Rattle.std.specs.Prelude.{⊤};
+
+    // Of what stands on the disk nothing is known.
+    ghost holds = { λ part body. ⊤ };
+
+    fn put_kept(&mut self, name: &str, kept: &Part) -> Result<(), FolderFault> {
+        let put = self.inner.put_kept(name, kept);
+        if put.is_err() {
+            self.note_part(name, kept);
+        }
+        put
+    }
+
+    fn put_harvest(&mut self, names: &[String], harvest: &Harvest<Part>) -> Result<(), WriteFault> {
+        self.take_parts();
+        put_parts(self, names, harvest)
     }
 }
 

@@ -2,10 +2,11 @@
 use crate::asking::Asking;
 use crate::disk::{Disk, Saved};
 use crate::part_threads::PartThreads;
+use crate::parts_asking::PartsAsking;
 use crate::shared_failures::SharedFailures;
-use kept_bodies::Body;
 use live_system::{FetcherSettings, HoldFault, System};
 use local_tree::DiskFolder;
+use part_keeper::{Part, PartsDir};
 use progress::Progress;
 use record_journal::{HoldFault as Held, Journaled, Pen, SavedFile, Saving};
 use requests::Jar;
@@ -18,7 +19,7 @@ use std::thread::Threads;
 use std::time::Clock;
 use streams::{Close, Lock, ReadFault};
 use tcp_connect::{Hosts, Kept};
-use tcp_fetcher::OverTcp;
+use tcp_fetcher::{OverTcp, PartsOverTcp};
 
 /// The network and the disk, by the program's handle.
 #[derive(Drop)]
@@ -30,6 +31,7 @@ pub struct Network<'a, R: Net + Wait + Files + Clock + Eprint> {
     progress: &'a Progress<'a, R>,
     saving: &'a Saving<R>,
     crew: &'a PartThreads<'a, R>,
+    parts: &'a PartsDir<R::File>,
     failures: &'a SharedFailures,
     jar: Option<Jar>,
 }
@@ -38,7 +40,8 @@ impl<'a, R: Net + Wait + Files + Clock + Eprint> Network<'a, R> {
     ghost use Rattle.std.specs.Prelude.{◌≡◌, IfOk, Some, is_some};
 
     /// By this handle, with what the run knows of hosts and keeps of connections, the line that counts them, where it saves, what
-    /// writes parts of files and what keeps why something failed, and cookies of a file. Takes no memory.
+    /// writes bodies that are in memory, the directory of the others, what keeps why something failed, and cookies of a file. Takes
+    /// no memory.
     pub fn new(
         rt: &'a R,
         alloc: Global,
@@ -47,6 +50,7 @@ impl<'a, R: Net + Wait + Files + Clock + Eprint> Network<'a, R> {
         progress: &'a Progress<'a, R>,
         saving: &'a Saving<R>,
         crew: &'a PartThreads<'a, R>,
+        parts: &'a PartsDir<R::File>,
         failures: &'a SharedFailures,
         jar: Option<Jar>,
     ) -> Network<'a, R> {
@@ -58,6 +62,7 @@ impl<'a, R: Net + Wait + Files + Clock + Eprint> Network<'a, R> {
             progress,
             saving,
             crew,
+            parts,
             failures,
             jar,
         }
@@ -73,21 +78,21 @@ impl<'a, R: Net + Wait + Files + Clock + Eprint> Network<'a, R> {
         }
     }
 
-    // What asks for one worker, with these settings, and with the cookies of the run.
-    fn asking(&self, settings: FetcherSettings) -> Result<Asking<'a, R>, AllocError>
-        ensures { IfOk result (λ asking. (asking.inner.inner.robots ≡ settings.robots) × (asking.inner.inner.keeps ≡ is_some settings.kept) × (asking.inner.inner.most ≡ settings.kept) × (asking.inner.inner.sends ≡ Some (record settings.sends { jar = self.now.jar })) × (asking.inner.inner.retries ≡ settings.retries) × (asking.inner.is_recording ≡ settings.is_recording)) }
+    // What asks over TCP for one worker, with these settings, and with the cookies of the run.
+    fn over_tcp(&self, settings: FetcherSettings) -> Result<OverTcp<'a, R>, AllocError>
+        ensures { IfOk result (λ fetcher. (fetcher.robots ≡ settings.robots) × (fetcher.keeps ≡ is_some settings.kept) × (fetcher.most ≡ settings.kept) × (fetcher.sends ≡ Some (record settings.sends { jar = self.now.jar })) × (fetcher.retries ≡ settings.retries)) }
     {
         let jar = self.jar()?;
         let FetcherSettings {
             robots,
-            is_recording,
+            is_recording: _is_recording,
             kept,
             proxies,
             sends,
             manner,
             retries,
         } = settings;
-        let fetcher = OverTcp::new(
+        Ok(OverTcp::new(
             self.rt,
             self.alloc,
             self.hosts,
@@ -99,12 +104,39 @@ impl<'a, R: Net + Wait + Files + Clock + Eprint> Network<'a, R> {
             sends.with_jar(jar),
             manner,
             retries,
-        );
+        ))
+    }
+
+    // What asks for one worker and may note what it is told.
+    fn asking(&self, settings: FetcherSettings) -> Result<Asking<'a, R>, AllocError>
+        ensures { IfOk result (λ asking. (asking.inner.inner.robots ≡ settings.robots) × (asking.inner.inner.keeps ≡ is_some settings.kept) × (asking.inner.inner.most ≡ settings.kept) × (asking.inner.inner.sends ≡ Some (record settings.sends { jar = self.now.jar })) × (asking.inner.inner.retries ≡ settings.retries) × (asking.inner.is_recording ≡ settings.is_recording)) }
+    {
+        let is_recording = settings.is_recording;
+        let fetcher = self.over_tcp(settings)?;
         let pen = Pen::new(self.rt, self.saving);
         Ok(Asking {
             inner: Journaled::new(self.alloc, fetcher, pen, is_recording),
             rt: self.rt,
             progress: self.progress,
+            failures: self.failures,
+        })
+    }
+}
+
+impl<'a, R: Net + Wait + Files + Clock + Eprint> Network<'a, R>
+where
+    R::File: Close + Lock,
+{
+    ghost use Rattle.std.specs.Prelude.{◌≡◌, IfOk, Some, is_some};
+
+    // What asks for one worker and has bodies kept in parts.
+    fn parts_asking(&self, settings: FetcherSettings) -> Result<PartsAsking<'a, R>, AllocError>
+        ensures { IfOk result (λ asking. (asking.inner.robots ≡ settings.robots) × (asking.inner.keeps ≡ is_some settings.kept) × (asking.inner.most ≡ settings.kept) × (asking.inner.sends ≡ Some (record settings.sends { jar = self.now.jar })) × (asking.inner.retries ≡ settings.retries)) }
+    {
+        let fetcher = self.over_tcp(settings)?;
+        Ok(PartsAsking {
+            inner: PartsOverTcp::new(self.rt, self.alloc, fetcher, self.kept, self.parts),
+            rt: self.rt,
             failures: self.failures,
         })
     }
@@ -118,9 +150,9 @@ where
     ghost use Rattle.std.specs.Prelude.{◌≡◌, ⊤, Some, is_some};
     ghost use Rattle.local_tree.specs.Folders.{opened_at};
 
-    type Body = Body;
+    type Body = Part;
 
-    type Fetcher = Asking<'a, R>;
+    type Fetcher = PartsAsking<'a, R>;
 
     type Recorder = Asking<'a, R>;
 
@@ -128,7 +160,7 @@ where
 
     type Record = Saved<'a, R>;
 
-    ghost makes = { λ network settings fetcher. (fetcher.inner.inner.robots ≡ settings.robots) × (fetcher.inner.inner.keeps ≡ is_some settings.kept) × (fetcher.inner.inner.most ≡ settings.kept) × (fetcher.inner.inner.sends ≡ Some (record settings.sends { jar = network.jar })) × (fetcher.inner.inner.retries ≡ settings.retries) × (fetcher.inner.is_recording ≡ settings.is_recording) };
+    ghost makes = { λ network settings fetcher. (fetcher.inner.robots ≡ settings.robots) × (fetcher.inner.keeps ≡ is_some settings.kept) × (fetcher.inner.most ≡ settings.kept) × (fetcher.inner.sends ≡ Some (record settings.sends { jar = network.jar })) × (fetcher.inner.retries ≡ settings.retries) };
 
     ghost makes_recorder = { λ network settings fetcher. (fetcher.inner.inner.robots ≡ settings.robots) × (fetcher.inner.inner.keeps ≡ is_some settings.kept) × (fetcher.inner.inner.most ≡ settings.kept) × (fetcher.inner.inner.sends ≡ Some (record settings.sends { jar = network.jar })) × (fetcher.inner.inner.retries ≡ settings.retries) × (fetcher.inner.is_recording ≡ settings.is_recording) };
 
@@ -138,8 +170,8 @@ where
 
     ghost names = { λ network path saved. ⊤ };
 
-    fn fetcher(&self, settings: FetcherSettings) -> Result<Asking<'a, R>, AllocError> {
-        self.asking(settings)
+    fn fetcher(&self, settings: FetcherSettings) -> Result<PartsAsking<'a, R>, AllocError> {
+        self.parts_asking(settings)
     }
 
     fn recorder(&self, settings: FetcherSettings) -> Result<Asking<'a, R>, AllocError> {
@@ -155,12 +187,14 @@ where
     }
 
     fn folder(&self, path: &str) -> Result<Disk<'a, R>, AllocError> {
+        self.parts.set_folder(self.rt, path)?;
         match DiskFolder::new(self.rt, self.alloc, path) {
             Ok(inner) => Ok(Disk {
                 inner,
                 rt: self.rt,
                 kept: self.kept,
                 crew: self.crew,
+                parts: self.parts,
                 failures: self.failures,
             }),
             Err(_) => Err(AllocError),

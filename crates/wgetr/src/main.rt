@@ -2,7 +2,9 @@
 //! its arguments and its streams is stated at `retriever::run_program`; `main` only names them, and what the system gives.
 #![tactic(auto)]
 
-use host_system::{Network, Output, PartThreads, SharedFailures, StandIns, jar_of, starts_of};
+use host_system::{
+    Network, Output, PartThreads, PartsDir, SharedFailures, StandIns, jar_of, starts_of,
+};
 use progress::{BehindLine, Progress};
 use record_journal::Saving;
 use retriever::{arguments, refuse_cookies, refuse_starts, run_program, telling_of, with_starts};
@@ -78,6 +80,7 @@ fn main(rt: HostRuntime) -> ExitCode {
     let progress = Progress::new(&rt, is_shown);
     let saving = Saving::new();
     let crew = PartThreads::new(&rt, &rt);
+    let parts = PartsDir::new(rt.alloc());
     let network = Network::new(
         &rt,
         rt.alloc(),
@@ -86,6 +89,7 @@ fn main(rt: HostRuntime) -> ExitCode {
         &progress,
         &saving,
         &crew,
+        &parts,
         &failures,
         jar,
     );
@@ -100,6 +104,7 @@ fn main(rt: HostRuntime) -> ExitCode {
         &mut rt.stderr(),
     );
     saving.end(&rt, &rt);
+    parts.remove(&rt);
     failures.say_unasked(&rt, &kept);
     if takes_failures {
         failures.tell(&rt, &mut writer);
