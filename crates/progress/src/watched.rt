@@ -181,4 +181,8 @@ impl<W: Wire + Drop> Wire for WatchedWire<W> {
     fn has_timed_out(&self) -> bool {
         self.wire.has_timed_out()
     }
+
+    fn note_unasked(&mut self) {
+        self.wire.note_unasked();
+    }
 }

@@ -18,6 +18,7 @@ pub struct TcpWire<S: Read + Write + Drop> {
     failed: u64,
     lost: bool,
     timed_out: bool,
+    unasked: bool,
 }
 
 // Contracts see how many calls answered an error, whether one lost the connection, and whether a time limit ran out.
@@ -91,7 +92,13 @@ impl<S: Read + Write + Drop> TcpWire<S> {
             failed: 0,
             lost: false,
             timed_out: false,
+            unasked: false,
         }
+    }
+
+    /// Whether bytes that nobody had requested came with a response after which the connection would have served again.
+    pub fn has_unasked(&self) -> bool {
+        self.unasked
     }
 
     /// The stream again, as for its own calls at the end.
@@ -101,6 +108,7 @@ impl<S: Read + Write + Drop> TcpWire<S> {
             failed: _,
             lost: _,
             timed_out: _,
+            unasked: _,
         } = self;
         stream
     }
@@ -156,5 +164,9 @@ impl<S: Read + Write + Drop> Wire for TcpWire<S> {
 
     fn has_timed_out(&self) -> bool {
         self.timed_out
+    }
+
+    fn note_unasked(&mut self) {
+        self.unasked = true;
     }
 }

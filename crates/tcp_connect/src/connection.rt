@@ -1,14 +1,15 @@
 //! Connections that remember whether they failed, and end when an answer takes too long.
 ghost use Rattle.std.specs.Io.{ReadsAtMost};
 
+use crate::kept::Taken;
+use address::Origin;
 use std::io;
 use std::io::{Error, ErrorKind, Read, Write};
 use std::net::{Net, OpenStream};
 use std::time::{Clock, Duration, Instant};
 
-/// A connection of the system's, until when it may be read, whether a read or a write of it failed, and the number of its place
+/// A connection of the system's to an origin, until when it may be read, whether a read or a write of it failed, and its place
 /// among those that are kept, where it has one.
-#[derive(Drop)]
 pub struct Connection<'a, R: Net + Clock> {
     rt: &'a R,
     stream: R::Stream,
@@ -17,7 +18,28 @@ pub struct Connection<'a, R: Net + Clock> {
     // How long a read may wait, where there is a limit.
     read_limit: Option<Duration>,
     failed: bool,
-    place: Option<u64>,
+    // None without memory for it.
+    of: Option<Origin>,
+    place: Option<Taken<'a, R::Stream>>,
+}
+
+// By hand: a place can't be dropped.
+impl<'a, R: Net + Clock> Drop for Connection<'a, R> {
+    fn drop(self) {
+        let Connection {
+            rt: _rt,
+            stream: _stream,
+            until: _until,
+            read_limit: _read_limit,
+            failed: _failed,
+            of: _of,
+            place,
+        } = self;
+        match place {
+            Some(place) => place.forget(),
+            None => {}
+        }
+    }
 }
 
 // How long a read may wait at most: none where the limit is to be left as it is set, and a fault where no time is left.
@@ -44,7 +66,8 @@ impl<'a, R: Net + Clock> Connection<'a, R> {
     pub(crate) fn new(
         rt: &'a R,
         stream: R::Stream,
-        place: Option<u64>,
+        of: Option<Origin>,
+        place: Option<Taken<'a, R::Stream>>,
         read_limit: Option<Duration>,
         answer_limit: Option<Duration>,
     ) -> Connection<'a, R> {
@@ -54,19 +77,29 @@ impl<'a, R: Net + Clock> Connection<'a, R> {
             until: end_of(rt, answer_limit),
             read_limit,
             failed: false,
+            of,
             place,
         }
     }
 
-    // The number of its place.
-    pub(crate) fn place(&self) -> Option<u64> {
-        self.place
+    // The origin that it was made for.
+    pub(crate) fn of(&self) -> Option<&Origin> {
+        self.of.as_ref()
     }
 
-    // The connection again, where none of its calls failed.
-    pub(crate) fn sound(self) -> Option<R::Stream> {
-        let Connection { stream, failed, .. } = self;
-        if failed { None } else { Some(stream) }
+    // The connection again, where none of its calls failed, and its place.
+    pub(crate) fn into_parts(self) -> (Option<R::Stream>, Option<Taken<'a, R::Stream>>) {
+        let Connection {
+            rt: _rt,
+            stream,
+            until: _until,
+            read_limit: _read_limit,
+            failed,
+            of: _of,
+            place,
+        } = self;
+        let sound = if failed { None } else { Some(stream) };
+        (sound, place)
     }
 
     // Reads, no longer than there is time for it.

@@ -4,8 +4,8 @@ ghost use Rattle.std.specs.List.{flat_map};
 ghost use Rattle.run_failures.specs.Unasked.{unasked_line, with_origin};
 ghost use Rattle.tcp_connect.specs.Standing.{waits, EndsFirst, Leaves, TakesKept, EntersKept, PutsKept};
 
-use crate::standing::Standing;
-pub(crate) use crate::standing::{Entered, MOST};
+pub(crate) use crate::standing::MOST;
+use crate::standing::{Entered, Standing};
 use address::Origin;
 use run_failures::Unasked;
 use std::alloc::{AllocError, Global};
@@ -129,6 +129,49 @@ impl<S: Drop> Drop for Kept<S> {
     }
 }
 
+// The place of a connection that is in use. It can't be dropped: whoever ends the connection leaves it, or keeps the connection
+// there.
+pub(crate) struct Taken<'k, S: Drop> {
+    kept: &'k Kept<S>,
+    number: u64,
+}
+
+impl<'k, S: Drop> Taken<'k, S> {
+    // Those that it is among.
+    pub(crate) fn kept(&self) -> &'k Kept<S> {
+        self.kept
+    }
+
+    // The connection stands no longer.
+    pub(crate) fn leave<R: Wait>(self, rt: &R) {
+        let Taken { kept, number } = self;
+        kept.pooled.lock(rt).leave(number);
+    }
+
+    // Puts the connection, which is to this origin, down to wait. Both come back if it isn't kept.
+    pub(crate) fn put<R: Wait>(
+        self,
+        rt: &R,
+        of: &Origin,
+        waiting: Waiting<S>,
+    ) -> Option<(Taken<'k, S>, Waiting<S>)> {
+        let Taken { kept, number } = self;
+        let back = kept.pooled.lock(rt).put(of, number, waiting);
+        match back {
+            Some(waiting) => Some((Taken { kept, number }, waiting)),
+            None => None,
+        }
+    }
+
+    // For a connection that is dropped and not ended, as no fetcher does.
+    pub(crate) fn forget(self) {
+        let Taken {
+            kept: _kept,
+            number: _number,
+        } = self;
+    }
+}
+
 impl<S: Drop> Kept<S> {
     /// None stands. Takes no memory.
     pub fn new(alloc: Global) -> Kept<S> {
@@ -144,34 +187,36 @@ impl<S: Drop> Kept<S> {
     }
 
     // The one to this origin that was put down last, which is in use from now on.
-    pub(crate) fn take<R: Wait>(&self, rt: &R, of: &Origin) -> Option<(u64, Waiting<S>)> {
-        self.pooled.lock(rt).take(of)
+    pub(crate) fn take<'k, R: Wait>(
+        &'k self,
+        rt: &R,
+        of: &Origin,
+    ) -> Option<(Taken<'k, S>, Waiting<S>)> {
+        let taken = self.pooled.lock(rt).take(of);
+        match taken {
+            Some((number, waiting)) => Some((Taken { kept: self, number }, waiting)),
+            None => None,
+        }
     }
 
-    // A place for a new connection to an origin, of which so many may stand.
-    pub(crate) fn enter<R: Wait>(
-        &self,
+    // A place for a new connection to an origin, of which so many may stand, and one that has to go for it.
+    pub(crate) fn enter<'k, R: Wait>(
+        &'k self,
         rt: &R,
         of: &Origin,
         most: usize,
-    ) -> Result<Entered<Waiting<S>>, AllocError> {
-        self.pooled.lock(rt).enter(self.alloc, of, most)
+    ) -> Result<(Option<Taken<'k, S>>, Option<Waiting<S>>), AllocError> {
+        let entered = self.pooled.lock(rt).enter(self.alloc, of, most);
+        let Entered { place, ended } = entered?;
+        match place {
+            Some(number) => Ok((Some(Taken { kept: self, number }), ended)),
+            None => Ok((None, ended)),
+        }
     }
 
-    // The connection of this number stands no longer.
-    pub(crate) fn leave<R: Wait>(&self, rt: &R, number: u64) {
-        self.pooled.lock(rt).leave(number);
-    }
-
-    // Puts one to an origin down to wait. It comes back if there is no place for it.
-    pub(crate) fn put<R: Wait>(
-        &self,
-        rt: &R,
-        of: &Origin,
-        number: u64,
-        waiting: Waiting<S>,
-    ) -> Option<Waiting<S>> {
-        self.pooled.lock(rt).put(of, number, waiting)
+    // No connection to an origin is kept from now on: its server sent bytes that nobody had requested.
+    pub(crate) fn refuse<R: Wait>(&self, rt: &R, of: &Origin) {
+        self.pooled.lock(rt).refuse(of);
     }
 
     // The one that waits longest, if it waits too long.
@@ -208,7 +253,7 @@ impl<S: OpenStream + Drop> Kept<S> {
     pub(crate) fn is_quiet<R: Wait>(&self, rt: &R, of: &Origin, stream: &S) -> bool {
         let idle = look_at(stream);
         if idle == Idle::Unasked {
-            self.pooled.lock(rt).refuse(of);
+            self.refuse(rt, of);
         }
         idle == Idle::Quiet
     }

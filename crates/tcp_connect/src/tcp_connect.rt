@@ -8,7 +8,7 @@ ghost use Rattle.connect.specs.Connects.{CountsRefusal, refused_by};
 
 use crate::connection::Connection;
 use crate::hosts::{Host, Hosts, Known, has};
-use crate::kept::{Entered, Kept, MOST, Waiting, is_fresh};
+use crate::kept::{Kept, MOST, Taken, Waiting, is_fresh};
 use crate::lacks::{Lack, OpenFault, Patience, lack_of, loss_of};
 use crate::turn::{hold_turn, wait_turn};
 use address::{Origin, Scheme};
@@ -317,11 +317,11 @@ impl<'a, R: Net + Wait + Clock> TcpConnect<'a, R> {
     }
 
     // A place for a new connection to an origin, where connections are kept. One that waited may have to go for it.
-    fn enter(&self, of: &Origin) -> Result<Option<u64>, AllocError> {
+    fn enter(&self, of: &Origin) -> Result<Option<Taken<'a, R::Stream>>, AllocError> {
         let Some(Keeping { kept, most }) = &self.keeping else {
             return Ok(None);
         };
-        let Entered { place, ended } = kept.enter(self.rt, of, *most)?;
+        let (place, ended) = kept.enter(self.rt, of, *most)?;
         if let Some(ended) = ended {
             kept.end(self.rt, ended);
             self.hosts.note_end();
@@ -330,21 +330,22 @@ impl<'a, R: Net + Wait + Clock> TcpConnect<'a, R> {
     }
 
     // The connection of this place stands no longer.
-    fn leave(&self, place: Option<u64>) {
-        if let (Some(kept), Some(number)) = (self.kept(), place) {
-            kept.leave(self.rt, number);
+    fn leave(&self, place: Option<Taken<'a, R::Stream>>) {
+        match place {
+            Some(place) => place.leave(self.rt),
+            None => {}
         }
     }
 
     // A connection to an origin that waits, not too long, and from which nothing can be read. Others are ended.
-    fn next_kept(&self, kept: &Kept<R::Stream>, of: &Origin) -> Option<Connection<'a, R>> {
+    fn next_kept(&self, kept: &'a Kept<R::Stream>, of: &Origin) -> Option<Connection<'a, R>> {
         for _ in 0..MOST {
-            let (number, Waiting { since, stream, .. }) = kept.take(self.rt, of)?;
+            let (place, Waiting { since, stream, .. }) = kept.take(self.rt, of)?;
             if kept.is_quiet(self.rt, of, &stream) && is_fresh(self.rt, &since) {
-                return Some(self.connection(stream, Some(number)));
+                return Some(self.connection(stream, of, Some(place)));
             }
             drop(stream);
-            kept.leave(self.rt, number);
+            place.leave(self.rt);
             self.hosts.note_end();
         }
         None
@@ -376,55 +377,57 @@ impl<'a, R: Net + Wait + Clock> TcpConnect<'a, R> {
         }
     }
 
-    // Keeps a connection to an origin from now on, and says whether it is kept; else it is ended.
-    fn keep(&self, kept: &Kept<R::Stream>, of: &Origin, number: u64, stream: R::Stream) -> bool {
-        if !kept.is_quiet(self.rt, of, &stream) {
-            return false;
+    // Keeps a connection to an origin from now on. If it isn't kept it is ended, and its place comes back.
+    fn keep(
+        &self,
+        of: &Origin,
+        place: Taken<'a, R::Stream>,
+        stream: R::Stream,
+    ) -> Option<Taken<'a, R::Stream>> {
+        if !place.kept().is_quiet(self.rt, of, &stream) {
+            return Some(place);
         }
         let (Ok(since), Ok(copy)) = (Instant::now(self.rt), of.try_clone()) else {
-            return false;
+            return Some(place);
         };
         let waiting = Waiting {
             of: copy,
             since,
             stream,
         };
-        kept.put(self.rt, of, number, waiting).is_none()
+        match place.put(self.rt, of, waiting) {
+            Some((place, _ended)) => Some(place),
+            None => None,
+        }
     }
 
-    // What is read and written of a stream, in its place.
-    fn connection(&self, stream: R::Stream, place: Option<u64>) -> Connection<'a, R> {
+    // What is read and written of a stream to an origin, in its place.
+    fn connection(
+        &self,
+        stream: R::Stream,
+        of: &Origin,
+        place: Option<Taken<'a, R::Stream>>,
+    ) -> Connection<'a, R> {
         let Manner {
             read_limit,
             answer_limit,
             ..
         } = self.manner;
-        Connection::new(self.rt, stream, place, read_limit, answer_limit)
-    }
-
-    // The wire of a connection that is set so.
-    fn wire_of(
-        &self,
-        stream: R::Stream,
-        place: Option<u64>,
-    ) -> Result<TcpWire<Connection<'a, R>>, OpenFault> {
-        match prepare(&stream, &self.manner) {
-            Ok(()) => Ok(TcpWire::new(self.connection(stream, place))),
-            Err(e) => Err(OpenFault::Failed(loss_of(&e))),
-        }
+        let of = of.try_clone().ok();
+        Connection::new(self.rt, stream, of, place, read_limit, answer_limit)
     }
 
     // A connection to an origin, as it can be had now.
-    fn open(
-        &self,
-        of: &Origin,
-        place: Option<u64>,
-    ) -> Result<TcpWire<Connection<'a, R>>, OpenFault> {
+    fn open(&self, of: &Origin) -> Result<R::Stream, OpenFault> {
         let Some(server) = server_of(&self.proxies, of) else {
             return Err(OpenFault::Failed(LossKind::Unknown));
         };
         let host = self.hosts.host(self.rt, server.host())?;
-        self.wire_of(self.stream(&host, server)?, place)
+        let stream = self.stream(&host, server)?;
+        match prepare(&stream, &self.manner) {
+            Ok(()) => Ok(stream),
+            Err(e) => Err(OpenFault::Failed(loss_of(&e))),
+        }
     }
 
     // A connection to the host of an origin. The host knows from then on which address took it.
@@ -438,15 +441,11 @@ impl<'a, R: Net + Wait + Clock> TcpConnect<'a, R> {
     }
 
     // A connection to an origin. What the system lacks is waited for.
-    fn wait_for(
-        &self,
-        of: &Origin,
-        place: Option<u64>,
-    ) -> Result<TcpWire<Connection<'a, R>>, OpenFault> {
+    fn wait_for(&self, of: &Origin) -> Result<R::Stream, OpenFault> {
         let mut patience = Patience::new();
         for _ in self.rt.forever() {
-            match self.open(of, place) {
-                Ok(wire) => return Ok(wire),
+            match self.open(of) {
+                Ok(stream) => return Ok(stream),
                 Err(OpenFault::Lacking(_)) if self.end_oldest() => {}
                 Err(OpenFault::Lacking(lack)) => {
                     if !patience.pause(self.rt, lack, self.hosts.ended()) {
@@ -465,25 +464,60 @@ impl<'a, R: Net + Wait + Clock> TcpConnect<'a, R> {
     {
         self.begin(of)?;
         let place = self.enter(of)?;
-        let made = self.wait_for(of, place);
-        if made.is_err() {
-            self.leave(place);
+        match self.wait_for(of) {
+            Ok(stream) => Ok(TcpWire::new(self.connection(stream, of, place))),
+            Err(fault) => {
+                self.leave(place);
+                Err(fault)
+            }
         }
-        made
     }
 
-    // Ends a connection. One that failed tells nothing of how the server ends it: it is ended at once.
-    fn end_wire(&mut self, wire: TcpWire<Connection<'a, R>>)
+    // If bytes that nobody had requested came with a response, no connection to its origin is kept from now on.
+    fn judge(&self, connection: &Connection<'a, R>, has_unasked: bool) {
+        if let (true, Some(kept), Some(of)) = (has_unasked, self.kept(), connection.of()) {
+            kept.refuse(self.rt, of);
+        }
+    }
+
+    // Ends a connection, and leaves its place. One that failed tells nothing of how the server ends it: it is ended at once.
+    fn end_parts(&mut self, stream: Option<R::Stream>, place: Option<Taken<'a, R::Stream>>)
         ensures { self.new ≡ self.old }
     {
-        let connection = wire.into_stream();
-        let place = connection.place();
-        match connection.sound() {
+        match stream {
             Some(stream) => end(self.rt, self.hosts, &mut self.late, stream),
             None => self.loss = Some(LossKind::Broken),
         }
         self.leave(place);
         self.hosts.note_end();
+    }
+
+    // Keeps a connection to an origin in its place, or ends it: one that failed isn't kept.
+    fn put_down(&mut self, of: &Origin, stream: Option<R::Stream>, place: Taken<'a, R::Stream>)
+        ensures { self.new ≡ self.old }
+    {
+        self.end_stale(place.kept());
+        match stream {
+            Some(stream) => match self.keep(of, place, stream) {
+                Some(place) => {
+                    place.leave(self.rt);
+                    self.hosts.note_end();
+                }
+                None => {}
+            },
+            None => self.end_parts(None, Some(place)),
+        }
+    }
+
+    // Ends a connection.
+    fn end_wire(&mut self, wire: TcpWire<Connection<'a, R>>)
+        ensures { self.new ≡ self.old }
+    {
+        let has_unasked = wire.has_unasked();
+        let connection = wire.into_stream();
+        self.judge(&connection, has_unasked);
+        let (stream, place) = connection.into_parts();
+        self.end_parts(stream, place);
     }
 
     // Counts a fault.
@@ -544,21 +578,10 @@ impl<'a, R: Net + Wait + Clock> Connect for TcpConnect<'a, R> {
 
     // One that failed, or that has no place, isn't kept.
     fn give_back(&mut self, of: &Origin, wire: TcpWire<Connection<'a, R>>) {
-        let connection = wire.into_stream();
-        let (Some(kept), Some(number)) = (self.kept(), connection.place()) else {
-            return self.end_wire(TcpWire::new(connection));
-        };
-        self.end_stale(kept);
-        let is_kept = match connection.sound() {
-            Some(stream) => self.keep(kept, of, number, stream),
-            None => {
-                self.loss = Some(LossKind::Broken);
-                false
-            }
-        };
-        if !is_kept {
-            self.leave(Some(number));
-            self.hosts.note_end();
+        let (stream, place) = wire.into_stream().into_parts();
+        match place {
+            Some(place) => self.put_down(of, stream, place),
+            None => self.end_parts(stream, None),
         }
     }
 

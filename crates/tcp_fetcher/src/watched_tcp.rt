@@ -188,4 +188,8 @@ impl<'a, R: Net + Clock> Wire for WatchedTcpWire<'a, R> {
     fn has_timed_out(&self) -> bool {
         self.inner.has_timed_out()
     }
+
+    fn note_unasked(&mut self) {
+        self.inner.note_unasked();
+    }
 }
