@@ -5,6 +5,7 @@ use Rattle.kept_bodies.specs.Bodies.{BodyValue}
 use Rattle.address.specs.Address.{AddressText}
 use Rattle.robots_rules.specs.Access.{RuleSetValue}
 use Rattle.response_reader.specs.Wire.{counted}
+use Rattle.response_reader.specs.Limits.{Limited}
 use Rattle.response_reader.specs.declared.wire.Wire.{Ghosts as Wires}
 use Rattle.fetcher.specs.declared.answer.Answer.{Answer}
 use Rattle.fetcher.specs.declared.outcome.Outcome.{Outcome}
@@ -16,10 +17,10 @@ use Rattle.http_fetcher.specs.Chains.{IsChain, SaysHop}
 use Rattle.http_fetcher.specs.Fetching.{Fetching, IsGiven, IsToldByTries}
 
 -- what was told over a connection is given, by a fetcher with the settings of another
-pub given_by : {C W : Type 0} (connects : Connects C W) (wires : Wires W) (first old new : Fetching C) (at : AddressText) (answer : Answer BodyValue)
-    → old.robots ≡ first.robots → old.keeps ≡ first.keeps → old.sends ≡ first.sends → IsToldByTries connects wires old new at answer
-    → IsGiven connects wires first at answer.outcome answer.body
-given_by connects wires first old new at answer robots keeps sends told =
+pub given_by : {C W : Type 0} (connects : Connects C W) (wires : Wires W) (limits : Limited) (first old new : Fetching C) (at : AddressText) (answer : Answer BodyValue)
+    → old.robots ≡ first.robots → old.keeps ≡ first.keeps → old.sends ≡ first.sends → IsToldByTries connects wires limits old new at answer
+    → IsGiven connects wires limits first at answer.outcome answer.body
+given_by connects wires limits first old new at answer robots keeps sends told =
     (old.connect, new.connect, rw (sym robots, sym keeps, sym sends) told)
 
 -- what an answer says of the hop that it was read as

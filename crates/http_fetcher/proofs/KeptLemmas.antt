@@ -3,6 +3,7 @@ use Rattle.std.proofs.Common.{◌≡◌, ◌⊎◌, ◌∙◌, ℕ, List, Bool, 
 use Rattle.std.specs.Prelude.{IfOk, IfSome, IsTrue, OnOk}
 use Rattle.kept_bodies.specs.Bodies.{BodyValue}
 use Rattle.response_reader.specs.Wire.{counted}
+use Rattle.response_reader.specs.Limits.{Limited}
 use Rattle.response_reader.specs.declared.wire.Wire.{Ghosts as Wires}
 use Rattle.address.specs.Address.{AddressText, OriginText, origin_of}
 use Rattle.fetcher.specs.declared.answer.Answer.{Answer}
@@ -20,56 +21,56 @@ if_ok_on (Ok a) X P Q x p step = step x a p
 if_ok_on (Err e) X P Q x p step = tt
 
 -- a fetcher with the same settings asks the same question
-same_question : {C : Type 0} (old mid : Fetching C) (at : AddressText) → mid.robots ≡ old.robots → mid.keeps ≡ old.keeps → mid.sends ≡ old.sends → question_of mid at ≡ question_of old at
-same_question old mid at robots keeps sends i = record { at = at; robots = robots i; keeps = keeps i; sends = sends i }
+same_question : {C : Type 0} (limits : Limited) (old mid : Fetching C) (at : AddressText) → mid.robots ≡ old.robots → mid.keeps ≡ old.keeps → mid.sends ≡ old.sends → question_of limits mid at ≡ question_of limits old at
+same_question limits old mid at robots keeps sends i = record { at = at; robots = robots i; keeps = keeps i; sends = sends i; limits = limits }
 
-module _ {C W : Type 0} (connects : Connects C W) (wires : Wires W) where
+module _ {C W : Type 0} (connects : Connects C W) (wires : Wires W) (limits : Limited) where
   -- a wire that stands behind a question stood before, or was left by it
   pub stands_by : (old mid new : OriginText → W → Type 0) (question : Question) (of : OriginText) (serves : Bool) (given left : W)
       → of ≡ origin_of question.at → Stays old mid
       → ((o : OriginText) (w : W) → new o w → mid o w ⊎ ((o ≡ of) × (question.keeps ≡ true) × (serves ≡ true) × connects.again left w))
       → (IsTrue serves → LeavesUsable wires question given left)
-      → (o : OriginText) (w : W) → new o w → old o w ⊎ IsKeptAfter connects wires question o w
+      → (o : OriginText) (w : W) → new o w → old o w ⊎ IsKeptAfter connects wires limits question o w
   stands_by old mid new question of serves given left is stays put leaves o w now = by (put o w now)
     where
-      by : mid o w ⊎ ((o ≡ of) × (question.keeps ≡ true) × (serves ≡ true) × connects.again left w) → old o w ⊎ IsKeptAfter connects wires question o w
+      by : mid o w ⊎ ((o ≡ of) × (question.keeps ≡ true) × (serves ≡ true) × connects.again left w) → old o w ⊎ IsKeptAfter connects wires limits question o w
       by (inl was) = inl (stays o w was)
       by (inr x) = inr (x.0 ∙ is, x.1, given, left, leaves x.2, x.3)
 
   -- an answer over a new connection, where before it none was taken, or one over which no byte came
   pub told_second : (old mid new : Fetching C) (at : AddressText) (answer : Answer BodyValue) → connects.made mid.connect ≡ connects.made old.connect
       → connects.refused mid.connect ≡ connects.refused old.connect → mid.robots ≡ old.robots → mid.keeps ≡ old.keeps → mid.sends ≡ old.sends
-      → Stays (connects.gives old.connect) (connects.gives mid.connect) → IsUntold connects wires old mid at
+      → Stays (connects.gives old.connect) (connects.gives mid.connect) → IsUntold connects wires limits old mid at
       → connects.taken new.connect ≡ connects.taken mid.connect → connects.made new.connect ≡ counted (connects.made mid.connect) 1
-      → IsToldAnew connects wires mid new at answer → IsToldByTries connects wires old new at answer
+      → IsToldAnew connects wires limits mid new at answer → IsToldByTries connects wires limits old new at answer
   told_second old mid new at answer made-is refused-is robots-is keeps-is sends-is stays silent taken-is one told =
       inr (subst (λ n. connects.made new.connect ≡ counted n 1) made-is one, before silent, by told)
     where
-      before : IsUntold connects wires old mid at → IsUntold connects wires old new at
+      before : IsUntold connects wires limits old mid at → IsUntold connects wires limits old new at
       before (inl none) = inl (taken-is ∙ none)
       before (inr s) = inr (taken-is ∙ s.0, s.1, s.2)
 
-      by : IsToldAnew connects wires mid new at answer → IsToldAnew connects wires old new at answer
+      by : IsToldAnew connects wires limits mid new at answer → IsToldAnew connects wires limits old new at answer
       by (inl unmade) = inl (subst (λ n. IsUnmade n (connects.refused new.connect) answer) refused-is unmade)
       by (inr t) =
-          inr (t.0, stays (origin_of at) t.0 t.1, subst (λ q. ComesOver wires q t.0 answer) (same_question old mid at robots-is keeps-is sends-is) t.2)
+          inr (t.0, stays (origin_of at) t.0 t.1, subst (λ q. ComesOver wires q t.0 answer) (same_question limits old mid at robots-is keeps-is sends-is) t.2)
 
   -- what stands behind one question more
   pub stands_more : (old mid new : Fetching C) (at : AddressText) → mid.robots ≡ old.robots → mid.keeps ≡ old.keeps → mid.sends ≡ old.sends
-      → StandsBehind connects wires old mid → StandsBy connects wires mid new at → StandsBehind connects wires old new
+      → StandsBehind connects wires limits old mid → StandsBy connects wires limits mid new at → StandsBehind connects wires limits old new
   stands_more old mid new at robots keeps sends before by of wire stands = go (by of wire stands)
     where
-      go : connects.stands mid.connect of wire ⊎ IsKeptAfter connects wires (question_of mid at) of wire
-          → connects.stands old.connect of wire ⊎ ((at : AddressText) × IsKeptAfter connects wires (question_of old at) of wire)
+      go : connects.stands mid.connect of wire ⊎ IsKeptAfter connects wires limits (question_of limits mid at) of wire
+          → connects.stands old.connect of wire ⊎ ((at : AddressText) × IsKeptAfter connects wires limits (question_of limits old at) of wire)
       go (inl stood) = before of wire stood
-      go (inr kept) = inr (at, subst (λ q. IsKeptAfter connects wires q of wire) (same_question old mid at robots keeps sends) kept)
+      go (inr kept) = inr (at, subst (λ q. IsKeptAfter connects wires limits q of wire) (same_question limits old mid at robots keeps sends) kept)
 
   -- what stands behind the same question put twice
   pub stands_twice : (old mid new : Fetching C) (at : AddressText) → mid.robots ≡ old.robots → mid.keeps ≡ old.keeps → mid.sends ≡ old.sends
-      → StandsBy connects wires old mid at → StandsBy connects wires mid new at → StandsBy connects wires old new at
+      → StandsBy connects wires limits old mid at → StandsBy connects wires limits mid new at → StandsBy connects wires limits old new at
   stands_twice old mid new at robots keeps sends before by of wire stands = go (by of wire stands)
     where
-      go : connects.stands mid.connect of wire ⊎ IsKeptAfter connects wires (question_of mid at) of wire
-          → connects.stands old.connect of wire ⊎ IsKeptAfter connects wires (question_of old at) of wire
+      go : connects.stands mid.connect of wire ⊎ IsKeptAfter connects wires limits (question_of limits mid at) of wire
+          → connects.stands old.connect of wire ⊎ IsKeptAfter connects wires limits (question_of limits old at) of wire
       go (inl stood) = before of wire stood
-      go (inr kept) = inr (subst (λ q. IsKeptAfter connects wires q of wire) (same_question old mid at robots keeps sends) kept)
+      go (inr kept) = inr (subst (λ q. IsKeptAfter connects wires limits q of wire) (same_question limits old mid at robots keeps sends) kept)

@@ -6,6 +6,7 @@ use Rattle.address.specs.Address.{AddressText}
 use Rattle.robots_rules.specs.Access.{RuleSetValue}
 use Rattle.response_reader.specs.Response.{ResponseParts}
 use Rattle.response_reader.specs.Fields.{HeadParts}
+use Rattle.response_reader.specs.Limits.{Limited}
 use Rattle.response_reader.specs.declared.wire.Wire.{Ghosts as Wires}
 use Rattle.fetcher.specs.declared.answer.Answer.{Answer}
 use Rattle.fetcher.specs.Statuses.{is_redirect, is_successful}
@@ -102,8 +103,8 @@ pub tells_of : (at : AddressText) (told : Told) (left : ℕ) (hop read : Hop) �
 tells_of at told left hop read is tells = subst (λ h. IsHopTold at told left h) is tells
 
 -- an answer that says what was told over a connection was told over it
-pub told_by_answer : {C W : Type 0} (connects : Connects C W) (wires : Wires W) (old now new : Fetching C) (at : AddressText) (told : Told) (answer : Answer BodyValue)
+pub told_by_answer : {C W : Type 0} (connects : Connects C W) (wires : Wires W) (limits : Limited) (old now new : Fetching C) (at : AddressText) (told : Told) (answer : Answer BodyValue)
     → now ≡ new → new.robots ≡ old.robots → answer.outcome ≡ outcome_told now.robots at told → answer.body ≡ body_told told
-    → IsToldByTries connects wires old new at (answer_told old.robots at told) → IsToldByTries connects wires old now at answer
-told_by_answer connects wires old now new at told answer same is outcome_is body_is h =
+    → IsToldByTries connects wires limits old new at (answer_told old.robots at told) → IsToldByTries connects wires limits old now at answer
+told_by_answer connects wires limits old now new at told answer same is outcome_is body_is h =
     rw (outcome_is, body_is, same, is) h

@@ -6,7 +6,8 @@ use Rattle.response_reader.specs.Wire.{HasRisen, IsLostInTime, OfBytes, counted}
 use Rattle.response_reader.specs.Request.{request_text, kept_request_text}
 use Rattle.requests.specs.Requests.{Sending, request_of}
 use Rattle.response_reader.specs.Reusable.{Reusable}
-use Rattle.response_reader.specs.Response.{ResponseParts, BeginsWithResponse}
+use Rattle.response_reader.specs.Limits.{Limited}
+use Rattle.response_reader.specs.Response.{ResponseParts, BeginsWithin}
 use Rattle.response_reader.specs.ReadFaults.{IsReadFault}
 use Rattle.response_reader.specs.declared.fault.ReadFault.{ReadFault}
 use Rattle.response_reader.specs.declared.fault.ReadFault.TheVariants as read
@@ -36,16 +37,18 @@ pub record Fetching (C : Type 0) : Type 0 where
   pub is_recording : Bool
   pub notes : List Noted
 
--- an address that is asked for, whether robots rules are honoured, whether the connection is to be kept, and what is sent
+-- an address that is asked for, whether robots rules are honoured, whether the connection is to be kept, what is sent, and how long the
+-- response may be
 pub record Question : Type 0 where
   pub at : AddressText
   pub robots : Bool
   pub keeps : Bool
   pub sends : Option Sending
+  pub limits : Limited
 
--- the question by which such a fetcher asks for an address
-abbrev pub question_of : {C : Type 0} → Fetching C → AddressText → Question
-question_of fetcher at = record { at = at; robots = fetcher.robots; keeps = fetcher.keeps; sends = fetcher.sends }
+-- the question by which such a fetcher asks for an address, within these limits
+abbrev pub question_of : {C : Type 0} → Limited → Fetching C → AddressText → Question
+question_of limits fetcher at = record { at = at; robots = fetcher.robots; keeps = fetcher.keeps; sends = fetcher.sends; limits = limits }
 
 -- what was told of an address, as an answer
 abbrev pub answer_told : Bool → AddressText → Told → Answer BodyValue
@@ -59,21 +62,21 @@ IsKeptAs holds kept real = (kept.outcome ≡ real.outcome) × holds kept.body re
 abbrev pub StandsForOne : {B : Type 0} → (B → BodyValue → Type 0) → Answer B → (Answer BodyValue → Type 0) → Type 0
 StandsForOne holds kept P = (real : Answer BodyValue) × IsKeptAs holds kept real × P real
 
--- the answer is the digest of the response that begins the bytes
-abbrev pub IsDigestOf : Bool → AddressText → Outcome → BodyValue → List ℕ → Type 0
-IsDigestOf robots at x body bytes =
-    (r : ResponseParts) × BeginsWithResponse r bytes × (x ≡ digest_of robots at r) × (body ≡ body_of r.head r.body)
+-- the answer is the digest of the response that begins the bytes, within these limits
+abbrev pub IsDigestOf : Limited → Bool → AddressText → Outcome → BodyValue → List ℕ → Type 0
+IsDigestOf limits robots at x body bytes =
+    (r : ResponseParts) × BeginsWithin limits r bytes × (x ≡ digest_of robots at r) × (body ≡ body_of r.head r.body)
 
 -- the answer is a fault of the bytes, in which no response was read; a lost connection is one only where the count of failed calls rose
-abbrev pub IsFaultOfBytes : ℕ → ℕ → Answer BodyValue → List ℕ → Type 0
-IsFaultOfBytes before after answer bytes =
-    (fault : ReadFault) × (kind : FaultKind) × (kind_of_fault fault ≡ Some kind) × IsReadFault fault bytes
+abbrev pub IsFaultOfBytes : Limited → ℕ → ℕ → Answer BodyValue → List ℕ → Type 0
+IsFaultOfBytes limits before after answer bytes =
+    (fault : ReadFault) × (kind : FaultKind) × (kind_of_fault fault ≡ Some kind) × IsReadFault limits fault bytes
     × (fault ≡ read.Device → HasRisen before after) × (answer.outcome ≡ Fault kind) × (answer.body ≡ no_body)
 
 -- the answer is what the bytes say
 abbrev pub AnswersBytes : Question → ℕ → ℕ → Answer BodyValue → List ℕ → Type 0
 AnswersBytes question before after answer bytes =
-    IsDigestOf question.robots question.at answer.outcome answer.body bytes ⊎ IsFaultOfBytes before after answer bytes
+    IsDigestOf question.limits question.robots question.at answer.outcome answer.body bytes ⊎ IsFaultOfBytes question.limits before after answer bytes
 
 -- no connection was made
 abbrev pub IsUnmade : ℕ → ℕ → Answer BodyValue → Type 0
@@ -143,9 +146,10 @@ module _ {W : Type 0} (wires : Wires W) where
   -- over a wire the request was written and nothing behind it, and its response was read to its last byte, with none behind it, and leaves the connection usable
   abbrev pub LeavesUsable : Question → W → W → Type 0
   LeavesUsable question given left =
-      (asked : W) × IsAsked question given asked × Keeps (wires.outgoing asked) (wires.outgoing left) × Reusable (wires.incoming asked) (wires.incoming left) true
+      (asked : W) × IsAsked question given asked × Keeps (wires.outgoing asked) (wires.outgoing left) × Reusable question.limits (wires.incoming asked) (wires.incoming left) true
 
-module _ {C W : Type 0} (connects : Connects C W) (wires : Wires W) where
+-- the same with what makes the connections, where these are the limits of a response
+module _ {C W : Type 0} (connects : Connects C W) (wires : Wires W) (limits : Limited) where
   -- a wire is a connection to this origin that a question left usable, kept since
   abbrev pub IsKeptAfter : Question → OriginText → W → Type 0
   IsKeptAfter question of wire =
@@ -156,13 +160,13 @@ module _ {C W : Type 0} (connects : Connects C W) (wires : Wires W) where
   abbrev pub StandsBy : Fetching C → Fetching C → AddressText → Type 0
   StandsBy old new at =
       (of : OriginText) (wire : W) → connects.stands new.connect of wire
-      → connects.stands old.connect of wire ⊎ IsKeptAfter (question_of old at) of wire
+      → connects.stands old.connect of wire ⊎ IsKeptAfter (question_of limits old at) of wire
 
   -- the same of some questions
   abbrev pub StandsBehind : Fetching C → Fetching C → Type 0
   StandsBehind old new =
       (of : OriginText) (wire : W) → connects.stands new.connect of wire
-      → connects.stands old.connect of wire ⊎ ((at : AddressText) × IsKeptAfter (question_of old at) of wire)
+      → connects.stands old.connect of wire ⊎ ((at : AddressText) × IsKeptAfter (question_of limits old at) of wire)
 
   -- an answer comes over a connection that was kept, and no other is asked for: it isn't that of a server that had given up waiting
   abbrev pub IsToldAgain : Fetching C → Fetching C → AddressText → Answer BodyValue → Type 0
@@ -170,20 +174,20 @@ module _ {C W : Type 0} (connects : Connects C W) (wires : Wires W) where
       (connects.made new.connect ≡ connects.made old.connect)
       × (connects.taken new.connect ≡ counted (connects.taken old.connect) 1) × (old.keeps ≡ true)
       × (is_given_up answer.outcome ≡ false)
-      × IsToldByWire wires (connects.stands old.connect) (question_of old at) answer
+      × IsToldByWire wires (connects.stands old.connect) (question_of limits old at) answer
 
   -- no connection was taken that was kept, or one over which no byte came, or the answer of a server that had given up waiting
   abbrev pub IsUntold : Fetching C → Fetching C → AddressText → Type 0
   IsUntold old new at =
       (connects.taken new.connect ≡ connects.taken old.connect)
       ⊎ ((connects.taken new.connect ≡ counted (connects.taken old.connect) 1) × (old.keeps ≡ true)
-      × IsSilent wires (connects.stands old.connect) (question_of old at))
+      × IsSilent wires (connects.stands old.connect) (question_of limits old at))
 
   -- no connection was made, or an answer comes over one that was
   abbrev pub IsToldAnew : Fetching C → Fetching C → AddressText → Answer BodyValue → Type 0
   IsToldAnew old new at answer =
       IsUnmade (connects.refused old.connect) (connects.refused new.connect) answer
-      ⊎ IsToldByWire wires (connects.gives old.connect) (question_of old at) answer
+      ⊎ IsToldByWire wires (connects.gives old.connect) (question_of limits old at) answer
 
   -- an answer comes over a connection that was kept, and no other is asked for; or one more is asked for, once, and before it
   -- none was taken, or one over which no byte came, or the answer of a server that had given up waiting

@@ -2,6 +2,7 @@
 use Rattle.std.specs.Prelude.{◌≡◌, ◌⊎◌, ℕ, Bool, List, [], ◌++◌, Some, codes}
 use Rattle.address.specs.Address.{AddressText, OriginText}
 use Rattle.robots_rules.specs.Access.{RuleSetValue}
+use Rattle.response_reader.specs.Limits.{Limited, standard}
 use Rattle.response_reader.specs.ReadFaults.{IsReadFault}
 use Rattle.response_reader.specs.declared.fault.ReadFault.{ReadFault}
 use Rattle.kept_bodies.specs.Bodies.{BodyValue, no_body}
@@ -18,19 +19,23 @@ use Rattle.http_fetcher.specs.Fetching.{IsDigestOf}
 abbrev pub IsNoResponse : FaultKind → Outcome → BodyValue → Type 0
 IsNoResponse kind x body = (x ≡ Fault kind) × (body ≡ no_body)
 
--- the answer is the fault for which no response was read of these bytes
-abbrev pub IsUnread : Outcome → BodyValue → List ℕ → Type 0
-IsUnread x body bytes =
-    (fault : ReadFault) × (kind : FaultKind) × (kind_of_fault fault ≡ Some kind) × IsReadFault fault bytes × IsNoResponse kind x body
+-- the answer is the fault for which no response within these limits was read of these bytes
+abbrev pub IsUnread : Limited → Outcome → BodyValue → List ℕ → Type 0
+IsUnread limits x body bytes =
+    (fault : ReadFault) × (kind : FaultKind) × (kind_of_fault fault ≡ Some kind) × IsReadFault limits fault bytes × IsNoResponse kind x body
 
--- what a site may answer for an address, where robots rules are honoured or not: what the response that begins some bytes answers,
+-- what a site may answer for an address within these limits, where robots rules are honoured or not: what the response that begins some bytes answers,
 -- or the fault of such bytes; or no connection was made, or the request wasn't written
-abbrev pub MayAnswer : Bool → AddressText → Outcome → BodyValue → Type 0
-MayAnswer robots at x body =
-    ((bytes : List ℕ) × IsDigestOf robots at x body bytes)
-    ⊎ ((bytes : List ℕ) × IsUnread x body bytes)
+abbrev pub MayAnswerWithin : Limited → Bool → AddressText → Outcome → BodyValue → Type 0
+MayAnswerWithin limits robots at x body =
+    ((bytes : List ℕ) × IsDigestOf limits robots at x body bytes)
+    ⊎ ((bytes : List ℕ) × IsUnread limits x body bytes)
     ⊎ IsNoResponse kind.Connect x body
     ⊎ IsNoResponse kind.Device x body
+
+-- the same within the usual limits
+abbrev pub MayAnswer : Bool → AddressText → Outcome → BodyValue → Type 0
+MayAnswer robots at x body = MayAnswerWithin standard robots at x body
 
 -- which rules an origin may have: those at the end of a chain of such answers, which begins at its robots file (RFC 9309, section 2.3.1)
 abbrev pub MayRule : Bool → OriginText → RuleSetValue → Type 0

@@ -2,6 +2,7 @@
 ghost use Rattle.std.specs.Prelude.{◌≡◌, ◌⊎◌, ◌≤◌, ◌+◌, ℕ, Bool, List, [], ◌∷◌, ◌++◌, true, false, length, IsTrue, Err, None, Some, IfOk, IfSome, IfNone, OnOk, OnErr, MatchBool, codes};
 ghost use Rattle.std.specs.Io.KnownBytes.{Appends, IsAtEnd, Keeps};
 ghost use Rattle.response_reader.specs.Wire.{counted, HasRisen, OfBytes, IsLostInTime};
+ghost use Rattle.response_reader.specs.Limits.{limited, standard};
 ghost use Rattle.response_reader.specs.Reusable.{Reusable};
 ghost use Rattle.address.specs.Address.{AddressText, origin_of};
 ghost use Rattle.response_answer.specs.KindsOfFaults.{kind_of_fault};
@@ -19,7 +20,7 @@ ghost use Rattle.http_fetcher.specs.Chains.{CountsHops, IsChain};
 ghost use Rattle.connect.specs.Connects.{Stays};
 ghost use Rattle.http_fetcher.specs.Fetching.{AnswersBytes, ComesOver, IsGiven, IsToldAgain, IsToldAnew, IsToldByTries, IsUnansweredOn, IsUntold, LeavesUsable, StandsBehind, StandsBy, StandsForOne, answer_told, is_given_up, question_of, request_by, usual_request};
 ghost use Rattle.http_fetcher.specs.Notes.{NotesPage, NotesChain};
-ghost use Rattle.http_fetcher.specs.Meanings.{MayAnswer, MayRule};
+ghost use Rattle.http_fetcher.specs.Meanings.{MayAnswer, MayAnswerWithin, MayRule};
 
 use crate::chain::{Hop, read_hop};
 use address::{Address, Origin};
@@ -30,7 +31,7 @@ use kept_bodies::Keeper;
 use requests::{SendFault, Sending};
 use response_answer::{PageSink, kind_of_fault};
 use response_reader::{
-    ReadFault, Reply, RequestFault, Room, Wire, read_if_any, read_into, read_reply,
+    Limits, ReadFault, Reply, RequestFault, Room, Wire, read_if_any, read_into, read_reply,
     read_reply_if_any, write_kept_request, write_request,
 };
 use robots_rules::RuleSet;
@@ -256,8 +257,8 @@ impl<C: Connect> HttpFetcher<C> {
     fn read_told(&mut self, wire: &mut C::Wire) -> Result<Heard, AllocError>
         ensures same { self.new ≡ self.old }
         ensures told { (at : AddressText) → IfOk result (λ h. OfBytes (C.Wire.incoming wire.old)
-            (AnswersBytes (question_of self.old at) (C.Wire.failed wire.old) (C.Wire.failed wire.new) (answer_told self.old.robots at h.told))) }
-        ensures serves { IfOk result (λ h. IsTrue h.serves → Reusable (C.Wire.incoming wire.old) (C.Wire.incoming wire.new) true) }
+            (AnswersBytes (question_of standard self.old at) (C.Wire.failed wire.old) (C.Wire.failed wire.new) (answer_told self.old.robots at h.told))) }
+        ensures serves { IfOk result (λ h. IsTrue h.serves → Reusable standard (C.Wire.incoming wire.old) (C.Wire.incoming wire.new) true) }
         ensures written { Keeps (C.Wire.outgoing wire.old) (C.Wire.outgoing wire.new) }
     {
         match read_reply(&mut self.room, self.alloc, wire) {
@@ -289,8 +290,8 @@ impl<C: Connect> HttpFetcher<C> {
         ensures silent { IfOk result (λ o. IfNone o (Keeps (C.Wire.incoming wire.old) (C.Wire.incoming wire.new)
             × (IsAtEnd (C.Wire.incoming wire.old) ⊎ IsLostInTime (C.Wire.failed wire.old) (C.Wire.failed wire.new) (C.Wire.timed_out wire.new)))) }
         ensures told { (at : AddressText) → IfOk result (λ o. IfSome o (λ h. OfBytes (C.Wire.incoming wire.old)
-            (AnswersBytes (question_of self.old at) (C.Wire.failed wire.old) (C.Wire.failed wire.new) (answer_told self.old.robots at h.told)))) }
-        ensures serves { IfOk result (λ o. IfSome o (λ h. IsTrue h.serves → Reusable (C.Wire.incoming wire.old) (C.Wire.incoming wire.new) true)) }
+            (AnswersBytes (question_of standard self.old at) (C.Wire.failed wire.old) (C.Wire.failed wire.new) (answer_told self.old.robots at h.told)))) }
+        ensures serves { IfOk result (λ o. IfSome o (λ h. IsTrue h.serves → Reusable standard (C.Wire.incoming wire.old) (C.Wire.incoming wire.new) true)) }
         ensures written { Keeps (C.Wire.outgoing wire.old) (C.Wire.outgoing wire.new) }
     {
         match read_reply_if_any(&mut self.room, self.alloc, wire) {
@@ -338,8 +339,8 @@ impl<C: Connect> HttpFetcher<C> {
     // What is told over a new wire. The error is want of memory.
     fn told_over(&mut self, wire: &mut C::Wire, at: &Address) -> Result<Heard, AllocError>
         ensures same { self.new ≡ self.old }
-        ensures told { IfOk result (λ h. ComesOver C.Wire.Wire (question_of self.old at.now) wire.old (answer_told self.old.robots at.now h.told)) }
-        ensures serves { IfOk result (λ h. IsTrue h.serves → LeavesUsable C.Wire.Wire (question_of self.old at.now) wire.old wire.new) }
+        ensures told { IfOk result (λ h. ComesOver C.Wire.Wire (question_of standard self.old at.now) wire.old (answer_told self.old.robots at.now h.told)) }
+        ensures serves { IfOk result (λ h. IsTrue h.serves → LeavesUsable C.Wire.Wire (question_of standard self.old at.now) wire.old wire.new) }
         // Nothing is written behind the request, and nothing at all if memory runs out for it.
         ensures sent { OnOk result (Appends (C.Wire.outgoing wire.old) (C.Wire.outgoing wire.new) (request_by self.old.sends self.old.keeps at.now)
             ⊎ HasRisen (C.Wire.failed wire.old) (C.Wire.failed wire.new)) }
@@ -356,9 +357,9 @@ impl<C: Connect> HttpFetcher<C> {
     // What is told over a wire that served before: none where no byte came. The error is want of memory.
     fn told_again(&mut self, wire: &mut C::Wire, at: &Address) -> Result<Option<Heard>, AllocError>
         ensures same { self.new ≡ self.old }
-        ensures silent { IfOk result (λ o. IfNone o (IsUnansweredOn C.Wire.Wire (question_of self.old at.now) wire.old)) }
-        ensures told { IfOk result (λ o. IfSome o (λ h. ComesOver C.Wire.Wire (question_of self.old at.now) wire.old (answer_told self.old.robots at.now h.told))) }
-        ensures serves { IfOk result (λ o. IfSome o (λ h. IsTrue h.serves → LeavesUsable C.Wire.Wire (question_of self.old at.now) wire.old wire.new)) }
+        ensures silent { IfOk result (λ o. IfNone o (IsUnansweredOn C.Wire.Wire (question_of standard self.old at.now) wire.old)) }
+        ensures told { IfOk result (λ o. IfSome o (λ h. ComesOver C.Wire.Wire (question_of standard self.old at.now) wire.old (answer_told self.old.robots at.now h.told))) }
+        ensures serves { IfOk result (λ o. IfSome o (λ h. IsTrue h.serves → LeavesUsable C.Wire.Wire (question_of standard self.old at.now) wire.old wire.new)) }
     {
         match self.write(wire, at) {
             Ok(()) => self.read_again(wire),
@@ -405,8 +406,8 @@ impl<C: Connect> HttpFetcher<C> {
         ensures one { OnOk result (C.made self.new.connect ≡ counted (C.made self.old.connect) 1) }
         ensures most { C.made self.new.connect ≤ C.made self.old.connect + 1 }
         ensures taken { C.taken self.new.connect ≡ C.taken self.old.connect }
-        ensures told { IfOk result (λ t. IsToldAnew C.Connect C.Wire.Wire self.old self.new at.now (answer_told self.old.robots at.now t)) }
-        ensures stands { StandsBy C.Connect C.Wire.Wire self.old self.new at.now }
+        ensures told { IfOk result (λ t. IsToldAnew C.Connect C.Wire.Wire standard self.old self.new at.now (answer_told self.old.robots at.now t)) }
+        ensures stands { StandsBy C.Connect C.Wire.Wire standard self.old self.new at.now }
     {
         match self.connect.connect(origin) {
             Ok(mut wire) => match self.told_over(&mut wire, at) {
@@ -437,9 +438,9 @@ impl<C: Connect> HttpFetcher<C> {
         ensures made { C.made self.new.connect ≡ C.made self.old.connect }
         ensures refused { C.refused self.new.connect ≡ C.refused self.old.connect }
         ensures gives { IfOk result (λ o. IfNone o (Stays (C.gives self.old.connect) (C.gives self.new.connect))) }
-        ensures silent { IfOk result (λ o. IfNone o (IsUntold C.Connect C.Wire.Wire self.old self.new at.now)) }
-        ensures told { IfOk result (λ o. IfSome o (λ t. IsToldAgain C.Connect C.Wire.Wire self.old self.new at.now (answer_told self.old.robots at.now t))) }
-        ensures stands { StandsBy C.Connect C.Wire.Wire self.old self.new at.now }
+        ensures silent { IfOk result (λ o. IfNone o (IsUntold C.Connect C.Wire.Wire standard self.old self.new at.now)) }
+        ensures told { IfOk result (λ o. IfSome o (λ t. IsToldAgain C.Connect C.Wire.Wire standard self.old self.new at.now (answer_told self.old.robots at.now t))) }
+        ensures stands { StandsBy C.Connect C.Wire.Wire standard self.old self.new at.now }
     {
         if !self.keeps {
             return Ok(None);
@@ -477,8 +478,8 @@ impl<C: Connect> HttpFetcher<C> {
         ensures notes { self.new.notes ≡ self.old.notes }
         ensures one { self.old.keeps ≡ false → OnOk result (C.made self.new.connect ≡ counted (C.made self.old.connect) 1) }
         ensures most { C.made self.new.connect ≤ C.made self.old.connect + 1 }
-        ensures told { IfOk result (λ t. IsToldByTries C.Connect C.Wire.Wire self.old self.new at.now (answer_told self.old.robots at.now t)) }
-        ensures stands { StandsBy C.Connect C.Wire.Wire self.old self.new at.now }
+        ensures told { IfOk result (λ t. IsToldByTries C.Connect C.Wire.Wire standard self.old self.new at.now (answer_told self.old.robots at.now t)) }
+        ensures stands { StandsBy C.Connect C.Wire.Wire standard self.old self.new at.now }
     {
         let origin = Origin::of(at)?;
         match self.ask_again(&origin, at)? {
@@ -497,8 +498,8 @@ impl<C: Connect> HttpFetcher<C> {
         ensures notes { self.new.notes ≡ self.old.notes }
         ensures one { self.old.keeps ≡ false → OnOk result (C.made self.new.connect ≡ counted (C.made self.old.connect) 1) }
         ensures most { C.made self.new.connect ≤ C.made self.old.connect + 1 }
-        ensures told { IfOk result (IsToldByTries C.Connect C.Wire.Wire self.old self.new at.now) }
-        ensures stands { StandsBy C.Connect C.Wire.Wire self.old self.new at.now }
+        ensures told { IfOk result (IsToldByTries C.Connect C.Wire.Wire standard self.old self.new at.now) }
+        ensures stands { StandsBy C.Connect C.Wire.Wire standard self.old self.new at.now }
     {
         let told = self.exchange(at)?;
         let answer = told.into_answer(self.alloc, at, self.robots)?;
@@ -514,8 +515,8 @@ impl<C: Connect> HttpFetcher<C> {
         ensures is_recording { self.new.is_recording ≡ self.old.is_recording }
         ensures one { self.old.keeps ≡ false → OnOk result (C.made self.new.connect ≡ counted (C.made self.old.connect) 1) }
         ensures most { C.made self.new.connect ≤ C.made self.old.connect + 1 }
-        ensures told { IfOk result (IsToldByTries C.Connect C.Wire.Wire self.old self.new at.now) }
-        ensures stands { StandsBy C.Connect C.Wire.Wire self.old self.new at.now }
+        ensures told { IfOk result (IsToldByTries C.Connect C.Wire.Wire standard self.old self.new at.now) }
+        ensures stands { StandsBy C.Connect C.Wire.Wire standard self.old self.new at.now }
         ensures noted { IfOk result (λ a. NotesPage self.old.robots at.now a self.old.notes self.new.notes) }
         ensures unnoted { OnErr result (self.new.notes ≡ self.old.notes) }
     {
@@ -536,12 +537,12 @@ impl<C: Connect> HttpFetcher<C> {
         ensures is_recording { self.new.is_recording ≡ self.old.is_recording }
         ensures notes { self.new.notes ≡ self.old.notes }
         ensures few { C.made self.new.connect ≤ C.made self.old.connect + (max_redirects + 1) }
-        ensures stands { StandsBehind C.Connect C.Wire.Wire self.old self.new }
+        ensures stands { StandsBehind C.Connect C.Wire.Wire standard self.old self.new }
         ensures count { self.old.keeps ≡ false → IfOk result (λ found. CountsHops (C.made self.old.connect) (C.made self.new.connect) of.now found.1) }
         ensures hops { self.old.keeps ≡ false → IfOk result (λ found. C.made self.new.connect ≡ counted (C.made self.old.connect) (length found.0.hops)) }
         ensures of { IfOk result (λ found. found.0.of ≡ of.now) }
         ensures rules { IfOk result (λ found. found.1 ≡ rules_of_hops found.0.hops) }
-        ensures chain { IfOk result (λ found. IsChain (IsGiven C.Connect C.Wire.Wire self.old) max_redirects (of.now ++ codes "/robots.txt") found.1) }
+        ensures chain { IfOk result (λ found. IsChain (IsGiven C.Connect C.Wire.Wire standard self.old) max_redirects (of.now ++ codes "/robots.txt") found.1) }
     {
         let alloc = self.alloc;
         let origin = of.try_clone()?;
@@ -572,9 +573,9 @@ impl<C: Connect> HttpFetcher<C> {
         ensures sends { self.new.sends ≡ self.old.sends }
         ensures is_recording { self.new.is_recording ≡ self.old.is_recording }
         ensures few { C.made self.new.connect ≤ C.made self.old.connect + (max_redirects + 1) }
-        ensures stands { StandsBehind C.Connect C.Wire.Wire self.old self.new }
+        ensures stands { StandsBehind C.Connect C.Wire.Wire standard self.old self.new }
         ensures count { self.old.keeps ≡ false → IfOk result (CountsHops (C.made self.old.connect) (C.made self.new.connect) of.now) }
-        ensures chain { IfOk result (IsChain (IsGiven C.Connect C.Wire.Wire self.old) max_redirects (of.now ++ codes "/robots.txt")) }
+        ensures chain { IfOk result (IsChain (IsGiven C.Connect C.Wire.Wire standard self.old) max_redirects (of.now ++ codes "/robots.txt")) }
         ensures noted { IfOk result (λ r. MatchBool self.old.is_recording (NotesChain of.now r self.old.notes self.new.notes) (self.new.notes ≡ self.old.notes)) }
         ensures unnoted { OnErr result (self.new.notes ≡ self.old.notes) }
     {
@@ -619,15 +620,16 @@ impl<C: Connect> HttpFetcher<C> {
         wire: &mut C::Wire,
         at: &Address,
         sink: &mut PageSink<K>,
+        limits: Limits,
     ) -> Result<HeardPage<K::Kept>, AllocError>
         ensures same { self.new ≡ self.old }
         ensures told { IfOk result (λ h. StandsForOne K.holds h.answer (λ real. OfBytes (C.Wire.incoming wire.old)
-            (AnswersBytes (question_of self.old at.now) (C.Wire.failed wire.old) (C.Wire.failed wire.new) real))) }
-        ensures serves { IfOk result (λ h. IsTrue h.serves → Reusable (C.Wire.incoming wire.old) (C.Wire.incoming wire.new) true) }
+            (AnswersBytes (question_of (limited limits) self.old at.now) (C.Wire.failed wire.old) (C.Wire.failed wire.new) real))) }
+        ensures serves { IfOk result (λ h. IsTrue h.serves → Reusable (limited limits) (C.Wire.incoming wire.old) (C.Wire.incoming wire.new) true) }
         ensures written { Keeps (C.Wire.outgoing wire.old) (C.Wire.outgoing wire.new) }
     {
         sink.begin();
-        match read_into(self.alloc, wire, sink) {
+        match read_into(self.alloc, wire, sink, limits) {
             Ok(serves) => {
                 let answer = sink.finish(at, self.robots)?;
                 Ok(HeardPage { answer, serves })
@@ -642,17 +644,18 @@ impl<C: Connect> HttpFetcher<C> {
         wire: &mut C::Wire,
         at: &Address,
         sink: &mut PageSink<K>,
+        limits: Limits,
     ) -> Result<Option<HeardPage<K::Kept>>, AllocError>
         ensures same { self.new ≡ self.old }
         ensures silent { IfOk result (λ o. IfNone o (Keeps (C.Wire.incoming wire.old) (C.Wire.incoming wire.new)
             × (IsAtEnd (C.Wire.incoming wire.old) ⊎ IsLostInTime (C.Wire.failed wire.old) (C.Wire.failed wire.new) (C.Wire.timed_out wire.new)))) }
         ensures told { IfOk result (λ o. IfSome o (λ h. StandsForOne K.holds h.answer (λ real. OfBytes (C.Wire.incoming wire.old)
-            (AnswersBytes (question_of self.old at.now) (C.Wire.failed wire.old) (C.Wire.failed wire.new) real)))) }
-        ensures serves { IfOk result (λ o. IfSome o (λ h. IsTrue h.serves → Reusable (C.Wire.incoming wire.old) (C.Wire.incoming wire.new) true)) }
+            (AnswersBytes (question_of (limited limits) self.old at.now) (C.Wire.failed wire.old) (C.Wire.failed wire.new) real)))) }
+        ensures serves { IfOk result (λ o. IfSome o (λ h. IsTrue h.serves → Reusable (limited limits) (C.Wire.incoming wire.old) (C.Wire.incoming wire.new) true)) }
         ensures written { Keeps (C.Wire.outgoing wire.old) (C.Wire.outgoing wire.new) }
     {
         sink.begin();
-        match read_if_any(&mut self.room, self.alloc, wire, sink) {
+        match read_if_any(&mut self.room, self.alloc, wire, sink, limits) {
             Ok(Some(serves)) => {
                 let answer = sink.finish(at, self.robots)?;
                 Ok(Some(HeardPage { answer, serves }))
@@ -671,14 +674,15 @@ impl<C: Connect> HttpFetcher<C> {
         wire: &mut C::Wire,
         at: &Address,
         sink: &mut PageSink<K>,
+        limits: Limits,
     ) -> Result<Option<HeardPage<K::Kept>>, AllocError>
         ensures same { self.new ≡ self.old }
-        ensures silent { IfOk result (λ o. IfNone o (IsUnansweredOn C.Wire.Wire (question_of self.old at.now) wire.old)) }
-        ensures told { IfOk result (λ o. IfSome o (λ h. StandsForOne K.holds h.answer (ComesOver C.Wire.Wire (question_of self.old at.now) wire.old))) }
-        ensures serves { IfOk result (λ o. IfSome o (λ h. IsTrue h.serves → LeavesUsable C.Wire.Wire (question_of self.old at.now) wire.old wire.new)) }
+        ensures silent { IfOk result (λ o. IfNone o (IsUnansweredOn C.Wire.Wire (question_of (limited limits) self.old at.now) wire.old)) }
+        ensures told { IfOk result (λ o. IfSome o (λ h. StandsForOne K.holds h.answer (ComesOver C.Wire.Wire (question_of (limited limits) self.old at.now) wire.old))) }
+        ensures serves { IfOk result (λ o. IfSome o (λ h. IsTrue h.serves → LeavesUsable C.Wire.Wire (question_of (limited limits) self.old at.now) wire.old wire.new)) }
     {
         match self.write(wire, at) {
-            Ok(()) => self.read_page_again(wire, at, sink),
+            Ok(()) => self.read_page_again(wire, at, sink, limits),
             Err(SendFault::Memory) => Err(AllocError),
             Err(SendFault::Device) => {
                 if wire.has_timed_out() {
@@ -699,13 +703,14 @@ impl<C: Connect> HttpFetcher<C> {
         wire: &mut C::Wire,
         at: &Address,
         sink: &mut PageSink<K>,
+        limits: Limits,
     ) -> Result<HeardPage<K::Kept>, AllocError>
         ensures same { self.new ≡ self.old }
-        ensures told { IfOk result (λ h. StandsForOne K.holds h.answer (ComesOver C.Wire.Wire (question_of self.old at.now) wire.old)) }
-        ensures serves { IfOk result (λ h. IsTrue h.serves → LeavesUsable C.Wire.Wire (question_of self.old at.now) wire.old wire.new) }
+        ensures told { IfOk result (λ h. StandsForOne K.holds h.answer (ComesOver C.Wire.Wire (question_of (limited limits) self.old at.now) wire.old)) }
+        ensures serves { IfOk result (λ h. IsTrue h.serves → LeavesUsable C.Wire.Wire (question_of (limited limits) self.old at.now) wire.old wire.new) }
     {
         match self.write(wire, at) {
-            Ok(()) => self.read_page(wire, at, sink),
+            Ok(()) => self.read_page(wire, at, sink, limits),
             Err(SendFault::Memory) => Err(AllocError),
             Err(SendFault::Device) => Ok(HeardPage {
                 answer: sink.fault(FaultKind::Device)?,
@@ -720,6 +725,7 @@ impl<C: Connect> HttpFetcher<C> {
         origin: &Origin,
         at: &Address,
         sink: &mut PageSink<K>,
+        limits: Limits,
     ) -> Result<Answer<K::Kept>, AllocError>
         requires { origin.now ≡ origin_of at.now }
         ensures asks { self.new.asks ≡ self.old.asks }
@@ -731,11 +737,11 @@ impl<C: Connect> HttpFetcher<C> {
         ensures one { OnOk result (C.made self.new.connect ≡ counted (C.made self.old.connect) 1) }
         ensures most { C.made self.new.connect ≤ C.made self.old.connect + 1 }
         ensures taken { C.taken self.new.connect ≡ C.taken self.old.connect }
-        ensures told { IfOk result (λ a. StandsForOne K.holds a (IsToldAnew C.Connect C.Wire.Wire self.old self.new at.now)) }
-        ensures stands { StandsBy C.Connect C.Wire.Wire self.old self.new at.now }
+        ensures told { IfOk result (λ a. StandsForOne K.holds a (IsToldAnew C.Connect C.Wire.Wire (limited limits) self.old self.new at.now)) }
+        ensures stands { StandsBy C.Connect C.Wire.Wire (limited limits) self.old self.new at.now }
     {
         match self.connect.connect(origin) {
-            Ok(mut wire) => match self.page_over(&mut wire, at, sink) {
+            Ok(mut wire) => match self.page_over(&mut wire, at, sink, limits) {
                 Ok(heard) => {
                     self.put_away(origin, wire, heard.serves);
                     Ok(heard.answer)
@@ -757,6 +763,7 @@ impl<C: Connect> HttpFetcher<C> {
         origin: &Origin,
         at: &Address,
         sink: &mut PageSink<K>,
+        limits: Limits,
     ) -> Result<Option<Answer<K::Kept>>, AllocError>
         requires { origin.now ≡ origin_of at.now }
         ensures asks { self.new.asks ≡ self.old.asks }
@@ -768,9 +775,9 @@ impl<C: Connect> HttpFetcher<C> {
         ensures made { C.made self.new.connect ≡ C.made self.old.connect }
         ensures refused { C.refused self.new.connect ≡ C.refused self.old.connect }
         ensures gives { IfOk result (λ o. IfNone o (Stays (C.gives self.old.connect) (C.gives self.new.connect))) }
-        ensures silent { IfOk result (λ o. IfNone o (IsUntold C.Connect C.Wire.Wire self.old self.new at.now)) }
-        ensures told { IfOk result (λ o. IfSome o (λ a. StandsForOne K.holds a (IsToldAgain C.Connect C.Wire.Wire self.old self.new at.now))) }
-        ensures stands { StandsBy C.Connect C.Wire.Wire self.old self.new at.now }
+        ensures silent { IfOk result (λ o. IfNone o (IsUntold C.Connect C.Wire.Wire (limited limits) self.old self.new at.now)) }
+        ensures told { IfOk result (λ o. IfSome o (λ a. StandsForOne K.holds a (IsToldAgain C.Connect C.Wire.Wire (limited limits) self.old self.new at.now))) }
+        ensures stands { StandsBy C.Connect C.Wire.Wire (limited limits) self.old self.new at.now }
     {
         if !self.keeps {
             return Ok(None);
@@ -778,7 +785,7 @@ impl<C: Connect> HttpFetcher<C> {
         let Some(mut wire) = self.connect.take(origin) else {
             return Ok(None);
         };
-        match self.page_again(&mut wire, at, sink) {
+        match self.page_again(&mut wire, at, sink, limits) {
             Ok(Some(heard)) => {
                 if says_given_up(&heard.answer.outcome) {
                     self.connect.close(wire);
@@ -804,6 +811,7 @@ impl<C: Connect> HttpFetcher<C> {
         &mut self,
         at: &Address,
         sink: &mut PageSink<K>,
+        limits: Limits,
     ) -> Result<Answer<K::Kept>, AllocError>
         ensures asks { self.new.asks ≡ self.old.asks }
         ensures robots { self.new.robots ≡ self.old.robots }
@@ -813,23 +821,24 @@ impl<C: Connect> HttpFetcher<C> {
         ensures notes { self.new.notes ≡ self.old.notes }
         ensures one { self.old.keeps ≡ false → OnOk result (C.made self.new.connect ≡ counted (C.made self.old.connect) 1) }
         ensures most { C.made self.new.connect ≤ C.made self.old.connect + 1 }
-        ensures told { IfOk result (λ a. StandsForOne K.holds a (IsToldByTries C.Connect C.Wire.Wire self.old self.new at.now)) }
-        ensures stands { StandsBy C.Connect C.Wire.Wire self.old self.new at.now }
-        ensures may { IfOk result (λ a. StandsForOne K.holds a (λ real. MayAnswer self.old.robots at.now real.outcome real.body)) }
+        ensures told { IfOk result (λ a. StandsForOne K.holds a (IsToldByTries C.Connect C.Wire.Wire (limited limits) self.old self.new at.now)) }
+        ensures stands { StandsBy C.Connect C.Wire.Wire (limited limits) self.old self.new at.now }
+        ensures may { IfOk result (λ a. StandsForOne K.holds a (λ real. MayAnswerWithin (limited limits) self.old.robots at.now real.outcome real.body)) }
     {
         let origin = Origin::of(at)?;
-        match self.ask_page_again(&origin, at, sink)? {
+        match self.ask_page_again(&origin, at, sink, limits)? {
             Some(answer) => Ok(answer),
-            None => self.ask_page_anew(&origin, at, sink),
+            None => self.ask_page_anew(&origin, at, sink, limits),
         }
     }
 
     /// Asks for a page as [`Fetcher::ask`] does, but that its body goes to the sink's keeper as it comes, so that it stands nowhere
-    /// else whole. What is answered stands for what the site may answer. Nothing is noted.
+    /// else whole, and within these limits. What is answered stands for what the site may answer. Nothing is noted.
     pub fn ask_into<K: Keeper>(
         &mut self,
         at: &Address,
         sink: &mut PageSink<K>,
+        limits: Limits,
     ) -> Result<Answer<K::Kept>, AllocError>
         ensures asked { OnOk result (self.new.asks ≡ self.old.asks ++ ask.Page at.now ∷ []) }
         ensures refused { OnErr result (GainedAtMost self.old.asks self.new.asks (ask.Page at.now)) }
@@ -841,15 +850,15 @@ impl<C: Connect> HttpFetcher<C> {
         // The answer is what came over one connection behind its own request. Where none are kept, one is asked for.
         ensures one { self.old.keeps ≡ false → OnOk result (C.made self.new.connect ≡ counted (C.made self.old.connect) 1) }
         ensures most { C.made self.new.connect ≤ C.made self.old.connect + 1 }
-        ensures told { IfOk result (λ a. StandsForOne K.holds a (IsToldByTries C.Connect C.Wire.Wire self.old self.new at.now)) }
-        ensures stands { StandsBy C.Connect C.Wire.Wire self.old self.new at.now }
-        ensures may { IfOk result (λ a. StandsForOne K.holds a (λ real. MayAnswer self.old.robots at.now real.outcome real.body)) }
+        ensures told { IfOk result (λ a. StandsForOne K.holds a (IsToldByTries C.Connect C.Wire.Wire (limited limits) self.old self.new at.now)) }
+        ensures stands { StandsBy C.Connect C.Wire.Wire (limited limits) self.old self.new at.now }
+        ensures may { IfOk result (λ a. StandsForOne K.holds a (λ real. MayAnswerWithin (limited limits) self.old.robots at.now real.outcome real.body)) }
         ensures is_recording { self.new.is_recording ≡ self.old.is_recording }
         ensures notes { self.new.notes ≡ self.old.notes }
     {
         let page = Ask::Page(at.try_clone()?);
         self.asks.push(page)?;
-        self.exchange_page(at, sink)
+        self.exchange_page(at, sink, limits)
     }
 }
 
@@ -880,8 +889,8 @@ impl<C: Connect> Fetcher for HttpFetcher<C> {
         // The answer is what came over one connection behind its own request. Where none are kept, one is asked for.
         ensures one { self.old.keeps ≡ false → OnOk result (C.made self.new.connect ≡ counted (C.made self.old.connect) 1) }
         ensures most { C.made self.new.connect ≤ C.made self.old.connect + 1 }
-        ensures told { IfOk result (IsToldByTries C.Connect C.Wire.Wire self.old self.new at.now) }
-        ensures stands { StandsBy C.Connect C.Wire.Wire self.old self.new at.now }
+        ensures told { IfOk result (IsToldByTries C.Connect C.Wire.Wire standard self.old self.new at.now) }
+        ensures stands { StandsBy C.Connect C.Wire.Wire standard self.old self.new at.now }
         ensures may { IfOk result (λ a. MayAnswer self.old.robots at.now a.outcome a.body) }
         // A recording fetcher adds one note, which says the answer given.
         ensures is_recording { self.new.is_recording ≡ self.old.is_recording }
@@ -906,9 +915,9 @@ impl<C: Connect> Fetcher for HttpFetcher<C> {
         // The rules are those at the end of the chain of redirects that begins at the origin's file, with a connection for each
         // of its answers.
         ensures few { C.made self.new.connect ≤ C.made self.old.connect + (max_redirects + 1) }
-        ensures stands { StandsBehind C.Connect C.Wire.Wire self.old self.new }
+        ensures stands { StandsBehind C.Connect C.Wire.Wire standard self.old self.new }
         ensures count { self.old.keeps ≡ false → IfOk result (CountsHops (C.made self.old.connect) (C.made self.new.connect) of.now) }
-        ensures chain { IfOk result (IsChain (IsGiven C.Connect C.Wire.Wire self.old) max_redirects (of.now ++ codes "/robots.txt")) }
+        ensures chain { IfOk result (IsChain (IsGiven C.Connect C.Wire.Wire standard self.old) max_redirects (of.now ++ codes "/robots.txt")) }
         ensures may { IfOk result (MayRule self.old.robots of.now) }
         // A recording fetcher adds one note, which says the rules given.
         ensures is_recording { self.new.is_recording ≡ self.old.is_recording }
@@ -942,8 +951,8 @@ impl<C: Connect> Telling for HttpFetcher<C> {
         // What is told came over one connection behind its own request. Where none are kept, one is asked for. Nothing is noted.
         ensures one { self.old.keeps ≡ false → OnOk result (C.made self.new.connect ≡ counted (C.made self.old.connect) 1) }
         ensures most { C.made self.new.connect ≤ C.made self.old.connect + 1 }
-        ensures told { IfOk result (λ t. IsToldByTries C.Connect C.Wire.Wire self.old self.new at.now (answer_told self.old.robots at.now t)) }
-        ensures stands { StandsBy C.Connect C.Wire.Wire self.old self.new at.now }
+        ensures told { IfOk result (λ t. IsToldByTries C.Connect C.Wire.Wire standard self.old self.new at.now (answer_told self.old.robots at.now t)) }
+        ensures stands { StandsBy C.Connect C.Wire.Wire standard self.old self.new at.now }
         ensures may { IfOk result (λ t. MayAnswer self.old.robots at.now (outcome_told self.old.robots at.now t) (body_told t)) }
         ensures is_recording { self.new.is_recording ≡ self.old.is_recording }
         ensures notes { self.new.notes ≡ self.old.notes }
@@ -964,9 +973,9 @@ impl<C: Connect> Telling for HttpFetcher<C> {
         // The rules are those at the end of the chain of redirects that begins at the origin's file. Nothing is noted.
         ensures of { IfOk result (λ found. found.of ≡ of.now) }
         ensures few { C.made self.new.connect ≤ C.made self.old.connect + (max_redirects + 1) }
-        ensures stands { StandsBehind C.Connect C.Wire.Wire self.old self.new }
+        ensures stands { StandsBehind C.Connect C.Wire.Wire standard self.old self.new }
         ensures count { self.old.keeps ≡ false → IfOk result (λ found. C.made self.new.connect ≡ counted (C.made self.old.connect) (length found.hops)) }
-        ensures chain { IfOk result (λ found. IsChain (IsGiven C.Connect C.Wire.Wire self.old) max_redirects (of.now ++ codes "/robots.txt") (rules_of_hops found.hops)) }
+        ensures chain { IfOk result (λ found. IsChain (IsGiven C.Connect C.Wire.Wire standard self.old) max_redirects (of.now ++ codes "/robots.txt") (rules_of_hops found.hops)) }
         ensures may { IfOk result (λ found. MayRule self.old.robots of.now (rules_of_hops found.hops)) }
         ensures is_recording { self.new.is_recording ≡ self.old.is_recording }
         ensures notes { self.new.notes ≡ self.old.notes }

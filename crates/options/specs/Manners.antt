@@ -3,6 +3,7 @@ use Rattle.std.specs.Prelude.{◌*◌, ◌==◌, ◌&&◌, ℕ, Option, Some, No
 use Rattle.std.specs.Option.{option_map_or}
 use Rattle.clap.specs.Walk.{Row, Text, first_of}
 use Rattle.pacing.specs.Manners.{Mannered}
+use Rattle.pacing.specs.Sizes.{size_in}
 use Rattle.pacing.specs.Spans.{span_in}
 use Rattle.pacing.specs.declared.manner.Family.{Family}
 use Rattle.pacing.specs.declared.manner.Family.TheVariants.{Any, V4, V6}
@@ -29,6 +30,10 @@ unfoldable pub limit_of : Text → Option ℕ → List Row → Option (Option �
 limit_of id usual found =
     option_and_then (λ all. limit_by all (first_of id found)) (limit_by usual (first_of (codes "timeout") found))
 
+-- the most bytes of a body that a value gives, or so many if the option isn't given
+abbrev pub body_by : ℕ → Option Text → Option ℕ
+body_by usual value = option_map_or size_in value (Some usual)
+
 -- which addresses of hosts are connected to; both alone can't be
 unfoldable pub family_of : List Row → Option Family
 family_of found =
@@ -40,15 +45,17 @@ family_of found =
 -- what the options say of how servers are treated; nothing if a value can't be
 unfoldable pub manner_of : List Row → Option Mannered
 manner_of found =
-    option_and_then (λ wait. option_and_then (λ connect. option_and_then (λ read. option_and_then (λ answer. option_map (λ family. record {
+    option_and_then (λ wait. option_and_then (λ connect. option_and_then (λ read. option_and_then (λ answer. option_and_then (λ body. option_map (λ family. record {
       wait = wait;
       is_random = is_set (codes "random-wait") found;
       connect_limit = connect;
       read_limit = read;
       answer_limit = answer;
+      body_limit = body;
       family = family;
     })
     (family_of found))
+    (body_by 1_099_511_627_776 (first_of (codes "max-body") found)))
     (limit_by None (first_of (codes "answer-timeout") found)))
     (limit_of (codes "read-timeout") (Some (900 * 1_000_000_000)) found))
     (limit_of (codes "connect-timeout") None found))

@@ -3,11 +3,11 @@ ghost use Rattle.std.specs.Prelude.{◌≡◌, None, codes, option_map};
 ghost use Rattle.std.specs.Duration.{as_nanos};
 ghost use Rattle.clap.specs.Words.{first_of, found_of, rows_of};
 ghost use Rattle.pacing.specs.Manners.{mannered};
-ghost use Rattle.options.specs.Manners.{family_of, limit_by, limit_of, manner_of, read_limit, unless_zero, wait_by};
+ghost use Rattle.options.specs.Manners.{body_by, family_of, limit_by, limit_of, manner_of, read_limit, unless_zero, wait_by};
 
 use crate::given::{given, is_set};
 use clap::ArgMatches;
-use pacing::{Family, Manner, read_span};
+use pacing::{Family, Manner, read_size, read_span};
 use std::time::Duration;
 
 // The pause between the beginnings of two requests to a server.
@@ -63,6 +63,16 @@ fn limit_of(matches: &ArgMatches, id: &str, usual: Option<Duration>) -> Option<O
     }
 }
 
+// The most bytes of a body, or so many if the option isn't given.
+fn body_limit(matches: &ArgMatches, usual: u64) -> Option<u64>
+    ensures { result ≡ body_by usual (first_of (codes "max-body") (rows_of (found_of matches.now))) }
+{
+    match given(matches, "max-body") {
+        Some(text) => read_size(text),
+        None => Some(usual),
+    }
+}
+
 // Which addresses of hosts are connected to.
 #[tactic(auto, unfolding(crate::specs::Manners::family_of))]
 fn family(matches: &ArgMatches) -> Option<Family>
@@ -86,6 +96,7 @@ pub(crate) fn manner(matches: &ArgMatches) -> Option<Manner>
     let connect_limit = limit_of(matches, "connect-timeout", usual.connect_limit)?;
     let read_limit = limit_of(matches, "read-timeout", usual.read_limit)?;
     let answer_limit = limit_by(given(matches, "answer-timeout"), usual.answer_limit)?;
+    let body_limit = body_limit(matches, usual.body_limit)?;
     let family = family(matches)?;
     Some(Manner {
         wait,
@@ -93,6 +104,7 @@ pub(crate) fn manner(matches: &ArgMatches) -> Option<Manner>
         connect_limit,
         read_limit,
         answer_limit,
+        body_limit,
         family,
     })
 }

@@ -42,7 +42,7 @@ pub(crate) struct Row<T> {
 }
 
 /// The options.
-const TABLE: [Row<&str>; 82] = [
+const TABLE: [Row<&str>; 83] = [
     Row {
         short: "r",
         name: "recursive",
@@ -322,6 +322,13 @@ const TABLE: [Row<&str>; 82] = [
         kind: Kind::Value("S"),
         heading: "",
         says: "S for a whole answer",
+    },
+    Row {
+        short: "",
+        name: "max-body",
+        kind: Kind::Usual("BYTES", "1024g"),
+        heading: "",
+        says: "at most BYTES of a page; 5k, 5m, 5g",
     },
     Row {
         short: "4",
@@ -1224,11 +1231,12 @@ pub(crate) fn insteads() -> &'static [Instead<&'static str>]
 }
 
 /// The long forms of options that Wget doesn't have, and of their opposites.
-const OWN: [&str; 21] = [
+const OWN: [&str; 22] = [
     "--answer-timeout",
     "--http-proxy",
     "--https-proxy",
     "--map",
+    "--max-body",
     "--max-urls",
     "--no-map",
     "--no-record",

@@ -1,4 +1,5 @@
 pub mod Manners
 pub mod Retries
+pub mod Sizes
 pub mod Spans
 pub mod Turns

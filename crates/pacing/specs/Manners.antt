@@ -7,13 +7,15 @@ use Rattle.pacing.specs.declared.manner.Manner.{Manner}
 use Rattle.pacing.specs.declared.span.TheConstants.{MAX_SPAN}
 
 -- the pause between the beginnings of two requests to an origin, whether it varies, the limits of a connection's making, of a read
--- or a write and of a whole answer, all in nanoseconds, and which addresses of a host are connected to
+-- or a write and of a whole answer, all in nanoseconds, the most bytes of a body that goes to a file, and which addresses of a host are
+-- connected to
 pub record Mannered : Type 0 where
   pub wait : ℕ
   pub is_random : Bool
   pub connect_limit : Option ℕ
   pub read_limit : Option ℕ
   pub answer_limit : Option ℕ
+  pub body_limit : ℕ
   pub family : Family
 
 -- what is said of how a run treats servers
@@ -24,10 +26,12 @@ mannered manner = record {
   connect_limit = option_map as_nanos manner.connect_limit;
   read_limit = option_map as_nanos manner.read_limit;
   answer_limit = option_map as_nanos manner.answer_limit;
+  body_limit = manner.body_limit;
   family = manner.family;
 }
 
--- nothing is waited for, and reads and writes have a limit of 900 seconds (GNU Wget manual, option `--read-timeout`)
+-- nothing is waited for, reads and writes have a limit of 900 seconds (GNU Wget manual, option `--read-timeout`), and bodies that go to
+-- files one of 2^40 bytes
 abbrev pub usual : Mannered
 usual = record {
   wait = 0;
@@ -35,6 +39,7 @@ usual = record {
   connect_limit = None;
   read_limit = Some (900 * 1_000_000_000);
   answer_limit = None;
+  body_limit = 1_099_511_627_776;
   family = Any;
 }
 

@@ -1,16 +1,18 @@
-//! How a run paces itself: when an origin's next request may begin, which limits its waits have, and how lengths of time are
-//! written. Its one idea: time is a number. Whoever has a clock and can sleep does so through [`Timer`], so that a test has a time
-//! of its own, and no clause rests on a clock. What is meant stands in `specs/`. Its tests are in `site_tests`.
+//! How a run paces itself: when an origin's next request may begin, which limits its waits and bodies have, and how lengths of time
+//! and numbers of bytes are written. Its one idea: time is a number. Whoever has a clock and can sleep does so through [`Timer`], so that a test has a time
+//! of its own, and no clause rests on a clock. What is meant is in `specs/`. Its tests are in `site_tests`.
 #![tactic(auto)]
 
 mod manner;
 mod retries;
+mod size;
 mod span;
 mod timer;
 mod turns;
 
 pub use crate::manner::{Family, Manner};
 pub use crate::retries::Retries;
+pub use crate::size::{MAX_SIZE, read_size};
 pub use crate::span::{MAX_SPAN, read_span};
 pub use crate::timer::{Timer, wait_until};
 pub use crate::turns::Turns;

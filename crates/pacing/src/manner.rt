@@ -1,4 +1,4 @@
-//! How a run treats servers: pauses, and limits of waits.
+//! How a run treats servers: pauses, and limits of waits and of bodies.
 ghost use Rattle.std.specs.Prelude.{◌≡◌, ◌≤◌, ◌+◌, ◌/◌, ◌%◌, min};
 ghost use Rattle.std.specs.Duration.{as_nanos};
 ghost use Rattle.pacing.specs.Manners.{mannered, pause_by, usual};
@@ -9,6 +9,9 @@ use std::time::Duration;
 
 /// The seconds that a read or a write may wait if no limit is said (GNU Wget manual, option `--read-timeout`).
 const USUAL_READ_LIMIT: u64 = 900;
+
+/// The most bytes of a body that goes to a file, if no limit is said: 2^40.
+const USUAL_BODY_LIMIT: u64 = 1_099_511_627_776;
 
 /// Which addresses of a host are connected to.
 #[derive(Clone, Copy, PartialEq, Eq, Debug)]
@@ -34,6 +37,8 @@ pub struct Manner {
     pub read_limit: Option<Duration>,
     /// How long a whole answer may take, if there is a limit.
     pub answer_limit: Option<Duration>,
+    /// How many bytes a body may have that goes to a file.
+    pub body_limit: u64,
     /// Which addresses of a host are connected to.
     pub family: Family,
 }
@@ -63,7 +68,7 @@ impl Manner {
     ghost use Rattle.std.specs.Prelude.{◌≡◌};
     ghost use Rattle.pacing.specs.Manners.{mannered, pause_by, usual};
 
-    /// Nothing is waited for, and reads and writes have a limit of 900 seconds.
+    /// Nothing is waited for, reads and writes have a limit of 900 seconds, and bodies that go to files one of 2^40 bytes.
     pub fn usual() -> Manner
         ensures { mannered result ≡ usual }
     {
@@ -73,6 +78,7 @@ impl Manner {
             connect_limit: None,
             read_limit: Some(Duration::from_secs(USUAL_READ_LIMIT)),
             answer_limit: None,
+            body_limit: USUAL_BODY_LIMIT,
             family: Family::Any,
         }
     }

@@ -21,7 +21,7 @@ fn has_digits(text: &[u8]) -> bool
 }
 
 // The number that digits write, 0 if there are none.
-fn digits_in(text: &str) -> Option<u64>
+pub(crate) fn digits_in(text: &str) -> Option<u64>
     ensures { result ≡ digits_in text.now }
 {
     if text.is_empty() {
@@ -64,7 +64,7 @@ fn within(seconds: u64, parts: u64, place: u64, unit: u64) -> Option<u64>
 }
 
 // What stands before a unit, if the text ends with it.
-fn cut(text: &str, unit: char) -> Option<&str>
+pub(crate) fn cut(text: &str, unit: char) -> Option<&str>
     requires ascii { unit < 128 }
     requires some { 0 < unit }
     ensures { option_map (λ number. number.now) result ≡ cut_by unit text.entry.now }

@@ -1,12 +1,13 @@
 -- What a sink that digests a response has come to.
-use Rattle.std.specs.Prelude.{◌≡◌, ℕ, Bool, true, false, List, [], Option, Some, None}
+use Rattle.std.specs.Prelude.{◌≡◌, ℕ, ◌-◌, length, Bool, true, false, List, [], Option, Some, None}
 use Rattle.address.specs.Address.{AddressText}
 use Rattle.html_links.specs.Scanning.{StandsFor}
 use Rattle.css_links.specs.Scanning.{StandsFor as StandsForSheet}
 use Rattle.response_reader.specs.Fields.{HeadParts}
 use Rattle.response_answer.specs.declared.stage.Stage.{Stage}
 use Rattle.response_answer.specs.declared.stage.Stage.TheVariants.{Fresh, Redirect, Page, Sheet, Leaf}
-use Rattle.response_answer.specs.Digests.{target_of, named_from, syntax_of, is_document, is_sheet, kept_body, kind_of}
+use Rattle.response_answer.specs.declared.stage.TheConstants.{MAX_SCANNED}
+use Rattle.response_answer.specs.Digests.{scanned_front, target_of, named_from, syntax_of, is_document, is_sheet, kept_body, kind_of}
 use Rattle.kept_bodies.specs.declared.body_kind.BodyKind.{BodyKind}
 use Rattle.fetcher.specs.Statuses.{is_successful}
 
@@ -39,11 +40,12 @@ IsStageOf head front Fresh = ⊥
 IsStageOf head front (Redirect status location) =
     (status ≡ head.status) × (is_successful head.status ≡ false) × (is_document head ≡ false) × (is_sheet head ≡ false)
     × ((at : AddressText) → target_of at head ≡ named_from at location.items)
-IsStageOf head front (Page status scanner) =
-    (status ≡ head.status) × (is_successful head.status ≡ true) × (is_document head ≡ true) × RedirectsNowhere head × StandsFor (syntax_of head) scanner front
-IsStageOf head front (Sheet status scanner) =
+IsStageOf head front (Page status scanner left) =
+    (status ≡ head.status) × (is_successful head.status ≡ true) × (is_document head ≡ true) × RedirectsNowhere head
+    × StandsFor (syntax_of head) scanner (scanned_front front) × (left ≡ MAX_SCANNED - length front)
+IsStageOf head front (Sheet status scanner left) =
     (status ≡ head.status) × (is_successful head.status ≡ true) × (is_document head ≡ false) × (is_sheet head ≡ true) × RedirectsNowhere head
-    × StandsForSheet scanner front
+    × StandsForSheet scanner (scanned_front front) × (left ≡ MAX_SCANNED - length front)
 IsStageOf head front (Leaf status) = (status ≡ head.status) × (is_document head ≡ false) × (is_sheet head ≡ false) × RedirectsNowhere head
 
 -- it works, and has taken this head, if any, and these bytes

@@ -1,5 +1,5 @@
 -- What a response answers: a page with its links, a redirect, or neither (RFC 9110, section 15.4; HTML Standard, section 2.4.3).
-use Rattle.std.specs.Prelude.{◌≡◌, ℕ, ◌&&◌, ◌||◌, ◌==◌, not, Bool, true, false, List, [], ◌∷◌, ◌++◌, map, Option, Some, None, Result, Ok, Err, if◌then◌else◌, codes}
+use Rattle.std.specs.Prelude.{◌≡◌, ℕ, ◌&&◌, ◌||◌, ◌==◌, not, Bool, true, false, List, [], ◌∷◌, ◌++◌, map, take, Option, Some, None, Result, Ok, Err, if◌then◌else◌, codes}
 use Rattle.std.specs.List.{before_first}
 use Rattle.std.specs.Str.{is_utf8, str_eq_ignore_ascii_case}
 use Rattle.httparse.specs.Grammar.{trim_ows}
@@ -16,6 +16,7 @@ use Rattle.response_reader.specs.Response.{ResponseParts}
 use Rattle.kept_bodies.specs.Bodies.{BodyValue}
 use Rattle.kept_bodies.specs.declared.body_kind.BodyKind.{BodyKind}
 use Rattle.kept_bodies.specs.declared.body_kind.BodyKind.TheVariants.{Html, Sheet, Other}
+use Rattle.response_answer.specs.declared.stage.TheConstants.{MAX_SCANNED}
 use Rattle.fetcher.specs.Statuses.{is_redirect, is_successful}
 use Rattle.fetcher.specs.declared.edge.Edge.{Edge}
 use Rattle.fetcher.specs.declared.edge.EdgeKind.{EdgeKind}
@@ -120,6 +121,10 @@ page_edges robots at found =
 abbrev pub shown : List ℕ → Link
 shown text = record { text = text; kind = link.Inline }
 
+-- the bytes of a body that are looked through for links
+abbrev pub scanned_front : List ℕ → List ℕ
+scanned_front body = take MAX_SCANNED body
+
 -- the edges of a style sheet: its references, joined to its own address (CSS Values and Units Level 3, section 3.4)
 abbrev pub sheet_edges : AddressText → List (List ℕ) → List Edge
 sheet_edges at found = edges_from at (map shown found)
@@ -127,12 +132,12 @@ sheet_edges at found = edges_from at (map shown found)
 -- what a body that is no page of HTML answers: a style sheet is a page that shows what its references lead to
 abbrev pub sheet_or_leaf : AddressText → ResponseParts → Outcome
 sheet_or_leaf at r =
-    if is_sheet r.head then Page r.head.status (sheet_edges at (references r.body)) else Leaf r.head.status
+    if is_sheet r.head then Page r.head.status (sheet_edges at (references (scanned_front r.body))) else Leaf r.head.status
 
 -- what a body that isn't a redirect's answers
 abbrev pub page_or_leaf : Bool → AddressText → ResponseParts → Outcome
 page_or_leaf robots at r =
-    if is_document r.head then Page r.head.status (page_edges robots at (links_of_body (syntax_of r.head) r.body)) else sheet_or_leaf at r
+    if is_document r.head then Page r.head.status (page_edges robots at (links_of_body (syntax_of r.head) (scanned_front r.body))) else sheet_or_leaf at r
 
 abbrev pub outcome_by : Bool → AddressText → ResponseParts → Option AddressText → Outcome
 outcome_by robots at r None = page_or_leaf robots at r

@@ -1,5 +1,5 @@
 //! How far a response is digested: what its head says, and what was found in its body so far.
-ghost use Rattle.std.specs.Prelude.{◌≡◌, ℕ, List, [], ◌++◌, ◌||◌, true, IfOk, OnOk};
+ghost use Rattle.std.specs.Prelude.{◌≡◌, ℕ, List, [], ◌++◌, ◌||◌, true, take, IfOk, OnOk};
 ghost use Rattle.response_reader.specs.Fields.{HeadParts};
 ghost use Rattle.response_answer.specs.Digests.{digest_of};
 ghost use Rattle.fetcher.specs.Statuses.{is_successful};
@@ -14,6 +14,9 @@ use fetcher::{Outcome, is_redirect, is_successful};
 use html_links::Scanner;
 use std::alloc::{AllocError, Global};
 
+/// How many bytes of a page of HTML, or of a style sheet, are looked through for links: a page without end has no end of links either.
+pub const MAX_SCANNED: usize = 16_777_216;
+
 /// What the head of a response says of its body.
 #[derive(Drop)]
 pub(crate) enum Stage {
@@ -21,12 +24,23 @@ pub(crate) enum Stage {
     Fresh,
     /// A redirect, with its status and its Location.
     Redirect(u16, Vec<u8>),
-    /// A page of HTML, with its status and what was found in it so far.
-    Page(u16, Scanner),
-    /// A style sheet, with its status and what was found in it so far.
-    Sheet(u16, SheetScanner),
+    /// A page of HTML, with its status, what was found in it so far, and how many bytes more are looked through.
+    Page(u16, Scanner, usize),
+    /// A style sheet, with its status, what was found in it so far, and how many bytes more are looked through.
+    Sheet(u16, SheetScanner, usize),
     /// Neither, with its status.
     Leaf(u16),
+}
+
+// The first bytes of a piece, at most so many.
+fn front_of(bytes: &[u8], most: usize) -> &[u8]
+    ensures { result.now ≡ take most bytes.now }
+{
+    if most < bytes.len() {
+        &bytes[..most]
+    } else {
+        bytes
+    }
 }
 
 impl Stage {
@@ -44,10 +58,12 @@ impl Stage {
             };
         }
         if is_document(head) {
-            return Ok(Stage::Page(head.status, Scanner::with_syntax(alloc, page_syntax(head))));
+            let scanner = Scanner::with_syntax(alloc, page_syntax(head));
+            return Ok(Stage::Page(head.status, scanner, MAX_SCANNED));
         }
         if is_sheet(head) {
-            return Ok(Stage::Sheet(head.status, SheetScanner::new(alloc)));
+            let scanner = SheetScanner::new(alloc);
+            return Ok(Stage::Sheet(head.status, scanner, MAX_SCANNED));
         }
         Ok(Stage::Leaf(head.status))
     }
@@ -57,12 +73,18 @@ impl Stage {
         ensures { OnOk result ((h : HeadParts) (front : List ℕ) → IsStageOf h front self.old → IsStageOf h (front ++ bytes.now) self.new) }
     {
         match self {
-            Stage::Page(_, scanner) => match scanner.feed(bytes) {
-                Ok(()) => Ok(()),
+            Stage::Page(_, scanner, left) => match scanner.feed(front_of(bytes, *left)) {
+                Ok(()) => {
+                    *left = left.saturating_sub(bytes.len());
+                    Ok(())
+                }
                 Err(_) => Err(AllocError),
             },
-            Stage::Sheet(_, scanner) => match scanner.feed(bytes) {
-                Ok(()) => Ok(()),
+            Stage::Sheet(_, scanner, left) => match scanner.feed(front_of(bytes, *left)) {
+                Ok(()) => {
+                    *left = left.saturating_sub(bytes.len());
+                    Ok(())
+                }
                 Err(_) => Err(AllocError),
             },
             Stage::Fresh | Stage::Redirect(_, _) | Stage::Leaf(_) => Ok(()),
@@ -75,7 +97,7 @@ impl Stage {
     {
         match self {
             Stage::Fresh | Stage::Redirect(_, _) => false,
-            Stage::Page(_, _) | Stage::Sheet(_, _) => true,
+            Stage::Page(_, _, _) | Stage::Sheet(_, _, _) => true,
             Stage::Leaf(status) => is_successful(*status),
         }
     }
@@ -97,13 +119,13 @@ impl Stage {
                 Some(target) => Ok(Outcome::Moved(status, target)),
                 None => Ok(Outcome::Leaf(status)),
             },
-            Stage::Page(status, scanner) => {
+            Stage::Page(status, scanner, _) => {
                 let Ok(scan) = scanner.finish() else {
                     return Err(AllocError);
                 };
                 Ok(Outcome::Page(status, page_edges(alloc, at, robots, &scan)?))
             }
-            Stage::Sheet(status, scanner) => {
+            Stage::Sheet(status, scanner, _) => {
                 let Ok(found) = scanner.finish() else {
                     return Err(AllocError);
                 };

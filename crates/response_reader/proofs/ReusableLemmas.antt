@@ -5,7 +5,7 @@ use Rattle.std.specs.Io.KnownBytes.{Consumes, IsAtEnd, prepend_known}
 use Rattle.response_reader.specs.declared.fields.Framing.{Framing}
 use Rattle.response_reader.specs.declared.fields.Framing.TheVariants.{NoBody, Sized, Chunked, UntilClose}
 use Rattle.response_reader.specs.Fields.{HeadParts}
-use Rattle.response_reader.specs.declared.limits.TheConstants.{MAX_BODY, MAX_HEADS, MAX_RESPONSE}
+use Rattle.response_reader.specs.Limits.{Limited}
 use Rattle.response_reader.specs.Heads.{fields_of}
 use Rattle.response_reader.specs.Bodies.{ReadsSize, joined}
 use Rattle.response_reader.specs.inner.ChunkStage.{TookLine, TookTrailers, PassedChunks}
@@ -21,13 +21,13 @@ use Rattle.response_reader.specs.inner.Wire.{Tally, GivesUp}
 use Rattle.response_reader.proofs.ReadLemmas.{nothing_unread}
 use Rattle.response_reader.proofs.WireLemmas.{consumes_trans, consumes_same, fills_ahead, told_before}
 
-pub took_none : (a : Option (List ℕ)) (used : ℕ) → used ≤ MAX_HEADS → TookBody a a used NoBody
-took_none a used short =
+pub took_none : (limits : Limited) (a : Option (List ℕ)) (used : ℕ) → used + limits.body ≤ limits.response → TookBody limits a a used NoBody
+took_none limits a used short =
     record { body = []; text = []; bytes = consumes_same a; reads = λ tail end. (refl, refl); few = omega arith; len = omega arith }
 
-pub took_sized : (a b : Option (List ℕ)) (used : ℕ) (P : List ℕ → Type 0) (n : ℕ) → used ≤ MAX_HEADS → n ≤ MAX_BODY → Passed a b P n
-    → TookBody a b used (Sized n)
-took_sized a b used P n short few x = record {
+pub took_sized : (limits : Limited) (a b : Option (List ℕ)) (used : ℕ) (P : List ℕ → Type 0) (n : ℕ) → used + limits.body ≤ limits.response → n ≤ limits.body → Passed a b P n
+    → TookBody limits a b used (Sized n)
+took_sized limits a b used P n short few x = record {
   body = x.piece;
   text = x.piece;
   bytes = x.bytes;
@@ -36,8 +36,8 @@ took_sized a b used P n short few x = record {
   len = omega (arith, x.count_is);
 }
 
-pub took_open : (a b : Option (List ℕ)) (used : ℕ) (P : List ℕ → Type 0) → used ≤ MAX_HEADS → PassedAll a b P MAX_BODY → TookBody a b used UntilClose
-took_open a b used P short x = record {
+pub took_open : (limits : Limited) (a b : Option (List ℕ)) (used : ℕ) (P : List ℕ → Type 0) → used + limits.body ≤ limits.response → PassedAll a b P limits.body → TookBody limits a b used UntilClose
+took_open limits a b used P short x = record {
   body = x.passed.piece;
   text = x.passed.piece;
   bytes = x.passed.bytes;
@@ -46,10 +46,10 @@ took_open a b used P short x = record {
   len = omega (arith, x.passed.count_is, x.few);
 }
 
-pub took_chunked : (a b c d : Option (List ℕ)) (P : List ℕ → Type 0) (used room response body len size : ℕ) → room + used ≡ MAX_RESPONSE
-    → PassedChunks a b P (room, MAX_BODY) (response, body) → TookLine b c len size → size ≡ 0 → len ≤ response → TookTrailers c d (response - len)
-    → TookBody a d used Chunked
-took_chunked a b c d P used room response body len size whole p l none fits t =
+pub took_chunked : (limits : Limited) (a b c d : Option (List ℕ)) (P : List ℕ → Type 0) (used room response body len size : ℕ) → room + used ≡ limits.response
+    → PassedChunks a b P (room, limits.body) (response, body) → TookLine b c len size → size ≡ 0 → len ≤ response → TookTrailers c d (response - len)
+    → TookBody limits a d used Chunked
+took_chunked limits a b c d P used room response body len size whole p l none fits t =
     let taken = p.taken in
     let is = p.used in
     let line = l.len_is in
@@ -79,10 +79,10 @@ over_read None known unread text c = tt
 over_read (Some x) None unread text c = absurd c
 over_read (Some x) (Some y) unread text c = c ∙ sym (append_assoc text unread y)
 
-pub reusable_by : (a b known : Option (List ℕ)) (unread : List ℕ) (head : HeadParts) (framing : Framing) (used : ℕ) (lasts : Bool) (r : Bool)
-    → FramesAhead a b head framing used lasts → TookBody b (prepend_known unread known) used framing
-    → r ≡ (lasts && (not (is_open framing) && (length unread == 0))) → Reusable a known r
-reusable_by a b known unread head framing used lasts r heads took is =
+pub reusable_by : (limits : Limited) (a b known : Option (List ℕ)) (unread : List ℕ) (head : HeadParts) (framing : Framing) (used : ℕ) (lasts : Bool) (r : Bool)
+    → FramesAhead a b head framing used lasts → TookBody limits b (prepend_known unread known) used framing
+    → r ≡ (lasts && (not (is_open framing) && (length unread == 0))) → Reusable limits a known r
+reusable_by limits a b known unread head framing used lasts r heads took is =
     let text = heads.len in
     let len = took.len in
     record {
@@ -121,8 +121,8 @@ ahead_first old new known left most more none f =
     subst (λ (o : Option (List ℕ)). Consumes o (prepend_known new left) []) (nothing_unread old known none) (fills_ahead old new known left most more f)
 
 -- and so it is what was read of them
-pub reusable_first : (a b c : Option (List ℕ)) (r : Bool) → Consumes a b [] → Reusable b c r → Reusable a c r
-reusable_first a b c r same x = record {
+pub reusable_first : (limits : Limited) (a b c : Option (List ℕ)) (r : Bool) → Consumes a b [] → Reusable limits b c r → Reusable limits a c r
+reusable_first limits a b c r same x = record {
   last = x.last;
   framing = x.framing;
   parts = x.parts;

@@ -6,22 +6,23 @@ use Rattle.kept_bodies.specs.Bodies.{BodyValue}
 use Rattle.fetcher.specs.declared.answer.Answer.{Answer}
 use Rattle.fetcher.specs.declared.fetcher.Ask.{Ask}
 use Rattle.http_fetcher.specs.Fetching.{Fetching, StandsForOne}
-use Rattle.http_fetcher.specs.Meanings.{MayAnswer}
+use Rattle.http_fetcher.specs.Meanings.{MayAnswerWithin}
 use Rattle.pacing.specs.Retries.{Retried}
+use Rattle.response_reader.specs.Limits.{Limited}
 use Rattle.retries.specs.Worth.{is_worth_outcome}
 
 -- what was requested of a fetcher
 abbrev pub asks_of : {C : Type 0} → Fetching C → List Ask
 asks_of fetcher = fetcher.asks
 
--- the answer, whose body is kept somewhere, stands for one that a site may give for the address, where robots rules are honoured or not
-abbrev pub StandsForAnswer : {B : Type 0} → (B → BodyValue → Type 0) → Bool → AddressText → Answer B → Type 0
-StandsForAnswer holds robots at answer = StandsForOne holds answer (λ real. MayAnswer robots at real.outcome real.body)
+-- the answer, whose body is kept somewhere, is one that a site may give for the address within these limits, if robots rules are honoured or not
+abbrev pub StandsForAnswer : {B : Type 0} → (B → BodyValue → Type 0) → Limited → Bool → AddressText → Answer B → Type 0
+StandsForAnswer holds limits robots at answer = StandsForOne holds answer (λ real. MayAnswerWithin limits robots at real.outcome real.body)
 
--- it stands for one that may be given to this fetcher
-abbrev pub MayKeep : {C B : Type 0} → (B → BodyValue → Type 0) → AddressText → Fetching C → Answer B → Type 0
-MayKeep holds at fetcher answer = StandsForAnswer holds fetcher.robots at answer
+-- it is one that may be given to this fetcher
+abbrev pub MayKeep : {C B : Type 0} → (B → BodyValue → Type 0) → Limited → AddressText → Fetching C → Answer B → Type 0
+MayKeep holds limits at fetcher answer = StandsForAnswer holds limits fetcher.robots at answer
 
--- the answer is worth another try, where this was the connection's loss
+-- the answer is worth another try, if this was the connection's loss
 abbrev pub is_worth_answer : {B : Type 0} → Retried → Answer B → Option LossKind → Bool
 is_worth_answer retries answer lost = is_worth_outcome retries answer.outcome lost

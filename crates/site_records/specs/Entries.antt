@@ -8,6 +8,7 @@ use Rattle.address.specs.Address.{AddressText, OriginText, origin_of, path_query
 use Rattle.robots_rules.specs.Access.{RuleSetValue}
 use Rattle.robots_rules.specs.Groups.{rules_in}
 use Rattle.response_reader.specs.Response.{ResponseParts, BeginsWithResponse}
+use Rattle.response_reader.specs.Limits.{standard}
 use Rattle.response_reader.specs.ReadFaults.{IsReadFault, IsTextFault}
 use Rattle.response_reader.specs.declared.fault.ReadFault.{ReadFault}
 use Rattle.fetcher.specs.declared.answer.Answer.{Answer}
@@ -57,7 +58,7 @@ pub record IsRefusal (bytes : List ℕ) (a : Answer BodyValue) : Type 0 where
   pub fault : ReadFault
   pub kind : FaultKind
   pub text : IsTextFault fault
-  pub of_bytes : IsReadFault fault bytes
+  pub of_bytes : IsReadFault standard fault bytes
   pub kind_is : kind_of_fault fault ≡ Some kind
   pub answer : a ≡ no_response kind
 
@@ -85,7 +86,7 @@ pub record HasBytes (text : List ℕ) (n : ℕ) (bytes after : List ℕ) : Type 
 -- what bytes tell as the response for a hop: a response that they begin with, or the fault for which none is read of them
 abbrev pub IsToldIn : List ℕ → Told → Type 0
 IsToldIn bytes (told.Whole response) = BeginsWithResponse response bytes
-IsToldIn bytes (told.Fault kind) = (f : ReadFault) × IsTextFault f × IsReadFault f bytes × (kind_of_fault f ≡ Some kind)
+IsToldIn bytes (told.Fault kind) = (f : ReadFault) × IsTextFault f × IsReadFault standard f bytes × (kind_of_fault f ≡ Some kind)
 
 -- a line that says this of a hop and what is behind it tell this, and after follows
 abbrev pub TellsHop : HopStatement → List ℕ → Told → List ℕ → Type 0

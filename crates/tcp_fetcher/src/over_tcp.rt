@@ -20,6 +20,7 @@ use pacing::{Manner, Retries};
 use progress::Progress;
 use requests::{Proxies, Sending};
 use response_answer::PageSink;
+use response_reader::Limits;
 use retries::Calling;
 use robots_rules::RuleSet;
 use run_failures::LossKind;
@@ -36,6 +37,8 @@ pub struct OverTcp<'a, R: Net + Wait + Clock + Eprint> {
     // Asks once.
     inner: HttpFetcher<WatchedTcp<'a, R>>,
     retries: Retries,
+    // How long an answer may be whose body goes to a keeper.
+    limits: Limits,
     asks: Vec<Ask>,
 }
 
@@ -46,6 +49,7 @@ impl<'a, R: Net + Wait + Clock + Eprint> Drop for OverTcp<'a, R> {
             alloc: _alloc,
             inner: _inner,
             retries: _retries,
+            limits: _limits,
             asks: _asks,
         } = self;
     }
@@ -53,16 +57,18 @@ impl<'a, R: Net + Wait + Clock + Eprint> Drop for OverTcp<'a, R> {
 
 impl<'a, R: Net + Wait + Clock + Eprint> Model for OverTcp<'a, R> {
     ghost use Rattle.pacing.specs.Retries.{retries_by};
+    ghost use Rattle.response_reader.specs.Limits.{limited};
     ghost use Rattle.tcp_fetcher.specs.TcpFetching.{TcpFetching};
 
     ghost Value = { TcpFetching };
 
-    ghost view = { λ f. record { robots = f.inner.robots; keeps = f.inner.keeps; most = f.inner.connect.most; sends = f.inner.sends; retries = retries_by f.retries; asks = f.asks.items; single = f.inner } };
+    ghost view = { λ f. record { robots = f.inner.robots; keeps = f.inner.keeps; most = f.inner.connect.most; sends = f.inner.sends; retries = retries_by f.retries; limits = limited f.limits; asks = f.asks.items; single = f.inner } };
 }
 
 impl<'a, R: Net + Wait + Clock + Eprint> OverTcp<'a, R> {
     ghost use Rattle.std.specs.Prelude.{◌≡◌, Some, is_some, []};
     ghost use Rattle.pacing.specs.Retries.{retries_by};
+    ghost use Rattle.response_reader.specs.Limits.{limits_of};
 
     /// By this handle, with what the run knows of hosts and keeps of connections, and the line that counts what comes. Where robots
     /// rules are honoured, a page that asks that its links aren't followed has none. Connections are kept among those of the run
@@ -86,8 +92,10 @@ impl<'a, R: Net + Wait + Clock + Eprint> OverTcp<'a, R> {
         ensures most { result.most ≡ most }
         ensures sends { result.sends ≡ Some sends }
         ensures retries { result.retries ≡ retries_by retries }
+        ensures limits { result.limits ≡ limits_of manner.body_limit }
         ensures asks { result.asks ≡ [] }
     {
+        let limits = Limits::of_body(manner.body_limit);
         let connect = WatchedTcp::new(rt, alloc, hosts, kept, progress, most, proxies, manner);
         let fetcher = HttpFetcher::new(alloc, connect, robots).sending(sends);
         OverTcp {
@@ -97,6 +105,7 @@ impl<'a, R: Net + Wait + Clock + Eprint> OverTcp<'a, R> {
                 None => fetcher,
             },
             retries,
+            limits,
             asks: Vec::new(alloc),
         }
     }
@@ -113,14 +122,15 @@ impl<'a, R: Net + Wait + Clock + Eprint> OverTcp<'a, R> {
         at: &Address,
     ) -> Result<Answer<K::Kept>, AllocError>
         ensures site { self.new.robots ≡ self.old.robots }
-        ensures told { IfOk result (StandsForAnswer K.holds self.old.robots at.now) }
+        ensures told { IfOk result (StandsForAnswer K.holds self.old.limits self.old.robots at.now) }
         ensures asked { OnOk result (self.new.asks ≡ self.old.asks ++ ask.Page at.now ∷ []) }
         ensures refused { OnErr result (GainedAtMost self.old.asks self.new.asks (ask.Page at.now)) }
-        ensures tries { IfOk result (IsLastOf asks_of (MayKeep K.holds at.now) (is_worth_answer self.old.retries) (ask.Page at.now) self.old.retries.most self.old.single self.new.single) }
+        ensures tries { IfOk result (IsLastOf asks_of (MayKeep K.holds self.old.limits at.now) (is_worth_answer self.old.retries) (ask.Page at.now) self.old.retries.most self.old.single self.new.single) }
         ensures retries { self.new.retries ≡ self.old.retries }
+        ensures limits { self.new.limits ≡ self.old.limits }
     {
         self.asks.push(Ask::Page(at.try_clone()?))?;
-        retries::ask_into(&mut self.inner, sink, &self.retries, at)
+        retries::ask_into(&mut self.inner, sink, &self.retries, at, self.limits)
     }
 }
 
@@ -149,6 +159,7 @@ impl<'a, R: Net + Wait + Clock + Eprint> Fetcher for OverTcp<'a, R> {
         ensures tries { 0 < self.old.retries.most → IfOk result (λ a. (t : Told) × (a.outcome ≡ outcome_told self.old.robots at.now t) × (a.body ≡ body_told t)
             × IsLastOf (λ f. f.asks) (λ f t. MayAnswer f.robots at.now (outcome_told f.robots at.now t) (body_told t)) (is_worth self.old.retries) (ask.Page at.now) self.old.retries.most self.old.single self.new.single t) }
         ensures retries { self.new.retries ≡ self.old.retries }
+        ensures limits { self.new.limits ≡ self.old.limits }
     {
         self.asks.push(Ask::Page(at.try_clone()?))?;
         retries::ask(self.alloc, &mut self.inner, &self.retries, at)
@@ -163,6 +174,7 @@ impl<'a, R: Net + Wait + Clock + Eprint> Fetcher for OverTcp<'a, R> {
         ensures tries { 0 < self.old.retries.most → IfOk result (λ r. (found : ChainValue) × (r ≡ rules_of_hops found.hops)
             × IsLastOf (λ f. f.asks) (λ f found. MayRule f.robots of.now (rules_of_hops found.hops)) (λ found. is_worth_hops self.old.retries found.hops) (ask.Rules of.now) self.old.retries.most self.old.single self.new.single found) }
         ensures retries { self.new.retries ≡ self.old.retries }
+        ensures limits { self.new.limits ≡ self.old.limits }
     {
         self.asks.push(Ask::Rules(of.try_clone()?))?;
         retries::ask_robots(self.alloc, &mut self.inner, &self.retries, of)
@@ -189,6 +201,7 @@ impl<'a, R: Net + Wait + Clock + Eprint> Telling for OverTcp<'a, R> {
         ensures tries { IfOk result (λ t. IsLastOf (λ f. f.asks) (λ f t. MayAnswer f.robots at.now (outcome_told f.robots at.now t) (body_told t))
             (is_worth self.old.retries) (ask.Page at.now) self.old.retries.most self.old.single self.new.single t) }
         ensures retries { self.new.retries ≡ self.old.retries }
+        ensures limits { self.new.limits ≡ self.old.limits }
     {
         self.asks.push(Ask::Page(at.try_clone()?))?;
         retries::tell(&mut self.inner, &self.retries, at)
@@ -204,6 +217,7 @@ impl<'a, R: Net + Wait + Clock + Eprint> Telling for OverTcp<'a, R> {
         ensures tries { IfOk result (λ found. IsLastOf (λ f. f.asks) (λ f found. MayRule f.robots of.now (rules_of_hops found.hops))
             (λ found. is_worth_hops self.old.retries found.hops) (ask.Rules of.now) self.old.retries.most self.old.single self.new.single found) }
         ensures retries { self.new.retries ≡ self.old.retries }
+        ensures limits { self.new.limits ≡ self.old.limits }
     {
         self.asks.push(Ask::Rules(of.try_clone()?))?;
         retries::tell_hops(&mut self.inner, &self.retries, of)

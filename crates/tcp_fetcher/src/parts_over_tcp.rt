@@ -2,11 +2,10 @@
 ghost use Rattle.std.specs.Prelude.{◌≡◌, ◌++◌, ◌∷◌, [], IfOk, OnErr, OnOk};
 ghost use Rattle.fetcher.specs.Logs.{GainedAtMost};
 ghost use Rattle.fetcher.specs.declared.fetcher.Ask.TheVariants as ask;
-ghost use Rattle.http_fetcher.specs.Meanings.{MayRule};
 ghost use Rattle.part_keeper.specs.Parts.{holds_part};
 ghost use Rattle.retries.specs.Keeping.{MayKeep, asks_of, is_worth_answer};
 ghost use Rattle.retries.specs.Tries.{IsLastOf};
-ghost use Rattle.tcp_fetcher.specs.PartsFetching.{MayAnswerIn};
+ghost use Rattle.tcp_fetcher.specs.PartsFetching.{MayAnswerIn, MayRuleIn, PartsSite};
 
 use crate::over_tcp::OverTcp;
 use address::{Address, Origin};
@@ -109,27 +108,25 @@ impl<'a, R: Net + Wait + Clock + Eprint + Files> Fetcher for PartsOverTcp<'a, R>
 where
     R::File: Close + Lock,
 {
-    ghost use Rattle.std.specs.Prelude.{Bool};
-
     type Body = Part;
 
-    ghost Site = { Bool };
+    ghost Site = { PartsSite };
 
-    ghost site = { λ f. f.robots };
+    ghost site = { λ f. (f.robots, f.limits) };
 
     ghost says = { MayAnswerIn };
 
-    ghost rules = { MayRule };
+    ghost rules = { MayRuleIn };
 
     ghost log = { λ f. f.asks };
 
     fn ask(&mut self, at: &Address) -> Result<Answer<Part>, AllocError>
-        ensures site { self.new.robots ≡ self.old.robots }
-        ensures told { IfOk result (λ a. MayAnswerIn self.old.robots at.now a.outcome a.body) }
+        ensures site { (self.new.robots, self.new.limits) ≡ (self.old.robots, self.old.limits) }
+        ensures told { IfOk result (λ a. MayAnswerIn (self.old.robots, self.old.limits) at.now a.outcome a.body) }
         ensures asked { OnOk result (self.new.asks ≡ self.old.asks ++ ask.Page at.now ∷ []) }
         ensures refused { OnErr result (GainedAtMost self.old.asks self.new.asks (ask.Page at.now)) }
         // The network is asked once, or again if that is worth it; what is told last is the answer.
-        ensures tries { IfOk result (IsLastOf asks_of (MayKeep holds_part at.now) (is_worth_answer self.old.retries) (ask.Page at.now) self.old.retries.most self.old.single self.new.single) }
+        ensures tries { IfOk result (IsLastOf asks_of (MayKeep holds_part self.old.limits at.now) (is_worth_answer self.old.retries) (ask.Page at.now) self.old.retries.most self.old.single self.new.single) }
         ensures retries { self.new.retries ≡ self.old.retries }
     {
         let answer = self.inner.ask_into(&mut self.sink, at);

@@ -5,7 +5,7 @@ use Rattle.response_reader.specs.declared.fault.ReadFault.{ReadFault}
 use Rattle.response_reader.specs.declared.fault.ReadFault.TheVariants.{Device, Memory, Ended, BodyLong}
 use Rattle.response_reader.specs.declared.fields.Framing.{Framing}
 use Rattle.response_reader.specs.declared.fields.Framing.TheVariants.{UntilClose}
-use Rattle.response_reader.specs.declared.limits.TheConstants.{MAX_BODY, MAX_RESPONSE}
+use Rattle.response_reader.specs.Limits.{Limited}
 use Rattle.response_reader.specs.Bodies.{ReadsBody}
 use Rattle.response_reader.specs.Response.{ReadsFront}
 
@@ -45,23 +45,23 @@ abbrev pub IsOpenBodyStop : ReadFault → Type 0
 IsOpenBodyStop f = (f ≡ Device) ⊎ (f ≡ Memory) ⊎ (f ≡ BodyLong)
 
 -- after heads of used bytes the bytes begin with a body that is framed so, and it was handed on
-pub record TakesBody (used : ℕ) (framing : Framing) (P : List ℕ → Type 0) (bytes : List ℕ) : Type 0 where
+pub record TakesBody (limits : Limited) (used : ℕ) (framing : Framing) (P : List ℕ → Type 0) (bytes : List ℕ) : Type 0 where
   pub body : List ℕ
   pub rest : List ℕ
   pub reads : ReadsBody framing bytes body rest
-  pub few : length body ≤ MAX_BODY
-  pub len : used + length bytes ≤ length rest + MAX_RESPONSE
+  pub few : length body ≤ limits.body
+  pub len : used + length bytes ≤ length rest + limits.response
   pub adds : P body
 
 -- after heads of used bytes a body that is framed so was used, all its bytes and none behind it. What follows is free,
 -- but for a body that ends with the input
-pub record TookBody (before after : Option (List ℕ)) (used : ℕ) (framing : Framing) : Type 0 where
+pub record TookBody (limits : Limited) (before after : Option (List ℕ)) (used : ℕ) (framing : Framing) : Type 0 where
   pub body : List ℕ
   pub text : List ℕ
   pub bytes : Consumes before after text
   pub reads : (tail : List ℕ) → (framing ≡ UntilClose → tail ≡ []) → ReadsBody framing (text ++ tail) body tail
-  pub few : length body ≤ MAX_BODY
-  pub len : used + length text ≤ MAX_RESPONSE
+  pub few : length body ≤ limits.body
+  pub len : used + length text ≤ limits.response
 
 -- the bytes begin with a front of a body that is framed so, and it was handed on
 abbrev pub TakesFront : Framing → (List ℕ → Type 0) → List ℕ → Type 0

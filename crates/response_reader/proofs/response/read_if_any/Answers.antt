@@ -1,5 +1,6 @@
 use Rattle.std.proofs.Common.{[], Some, None, refl, inl, inr, subst, sym, ◌∙◌}
 use Rattle.std.specs.Io.KnownBytes.{prepend_known}
+use Rattle.response_reader.specs.Limits.{limited}
 use Rattle.response_reader.specs.inner.Wire.{tally}
 use Rattle.response_reader.specs.ReadFaults.{IsReadFault}
 use Rattle.response_reader.specs.Wire.{OfBytes}
@@ -20,7 +21,7 @@ returns-in_err-incoming g c =
       untouched = tt;
       response = tt;
       reusable = tt;
-      fault = told_memory (g.W.Wire.incoming c.args.wire.now);
+      fault = told_memory (limited c.args.limits) (g.W.Wire.incoming c.args.wire.now);
       device = λ is. absurd (memory_is_not_device is);
       purpose = refl;
       written = keeps_same (g.W.Wire.outgoing c.args.wire.now);
@@ -40,7 +41,7 @@ returns-in_err-reusable-in-Ok-true g c =
       untouched = tt;
       response = tt;
       reusable = tt;
-      fault = told_first (g.W.Wire.incoming c.args.wire.now) (prepend_known c.fill.new.self.unread (g.W.Wire.incoming c.fill.new.wire)) (IsReadFault f)
+      fault = told_first (g.W.Wire.incoming c.args.wire.now) (prepend_known c.fill.new.self.unread (g.W.Wire.incoming c.fill.new.wire)) (IsReadFault (limited c.args.limits) f)
           (ahead_first c.in_ok-incoming.incoming.unread c.fill.new.self.unread (g.W.Wire.incoming c.args.wire.now) (g.W.Wire.incoming c.fill.new.wire) _ _ c.in_ok-incoming.ensures.none first.fills) e.fault;
       device = λ is. risen_of (g.W.Wire.failed c.args.wire.now) old new f (none_counted _ _ c.in_ok-incoming.ensures.uninterrupted) counts (fault_is is);
       purpose = e.purpose;
@@ -58,8 +59,8 @@ returns-in_ok-reusable-in-Ok-true g c =
       silent = tt;
       ends = tt;
       untouched = tt;
-      response = told_first known ahead (HandsOn (λ r. g.S.Sink.took c.args.sink.now None [] → g.S.Sink.took c.read_through.new.sink (Some r.head) r.body)) same e.response;
-      reusable = reusable_first known ahead (g.W.Wire.incoming c.read_through.new.wire) c.in_ok-reusable-in-Ok-true.reusable same e.reusable;
+      response = told_first known ahead (HandsOn (limited c.args.limits) (λ r. g.S.Sink.took c.args.sink.now None [] → g.S.Sink.took c.read_through.new.sink (Some r.head) r.body)) same e.response;
+      reusable = reusable_first (limited c.args.limits) known ahead (g.W.Wire.incoming c.read_through.new.wire) c.in_ok-reusable-in-Ok-true.reusable same e.reusable;
       fault = tt;
       device = λ is. absurd (ok_is_no_fault is);
       purpose = e.purpose;
@@ -92,7 +93,7 @@ returns-then-has_timed_out g c =
       untouched = tt;
       response = tt;
       reusable = tt;
-      fault = subst (λ (f : ReadFault). OfBytes (g.W.Wire.incoming c.args.wire.now) (IsReadFault f)) (sym e.device) (told_device (g.W.Wire.incoming c.args.wire.now));
+      fault = subst (λ (f : ReadFault). OfBytes (g.W.Wire.incoming c.args.wire.now) (IsReadFault (limited c.args.limits) f)) (sym e.device) (told_device (limited c.args.limits) (g.W.Wire.incoming c.args.wire.now));
       device = λ _. risen_of (g.W.Wire.failed c.args.wire.now) old new c.in-Err.fault (none_counted _ _ c.in_ok-incoming.ensures.uninterrupted) e.counts e.device;
       purpose = refl;
       written = kept_by_fault c.in-Err.fault old new e.counts;

@@ -1,4 +1,6 @@
 use Rattle.std.proofs.Common.{◌≡◌, Bool, List, ℕ, Option, Some, None, [], Ok, Err, refl, subst, sym, ap}
+use Rattle.response_reader.specs.Limits.{Limited, standard}
+use Rattle.std.specs.Io.KnownBytes.{prepend_known}
 use Rattle.response_reader.specs.declared.fault.ReadFault.{ReadFault}
 use Rattle.response_reader.specs.declared.fault.ReadFault.TheVariants.{Device, Memory}
 use Rattle.response_reader.specs.inner.Wire.{tally}
@@ -19,7 +21,7 @@ returns-in_err-incoming g c =
       response = tt;
       given = tt;
       reusable = tt;
-      fault = told_memory (g.W.Wire.incoming c.args.wire.now);
+      fault = told_memory standard (g.W.Wire.incoming c.args.wire.now);
       device = λ is. absurd (memory_is_not_device is);
       interrupted = λ is. absurd (memory_is_not_device is);
       few = λ ne. none_failed (g.W.Wire.failed c.args.wire.now);
@@ -36,12 +38,13 @@ returns-in_err-reusable g c =
     let old = tally before (g.W.Wire.reads_never_fail c.args.wire.now) (g.W.Wire.never_errs c.args.wire.now) (g.W.Wire.outgoing c.args.wire.now) (g.W.Wire.lost c.args.wire.now) c.in_ok-incoming.incoming.interrupted in
     let new = tally (g.W.Wire.failed c.read_through.new.wire) (g.W.Wire.reads_never_fail c.read_through.new.wire) (g.W.Wire.never_errs c.read_through.new.wire) (g.W.Wire.outgoing c.read_through.new.wire) (g.W.Wire.lost c.read_through.new.wire) c.read_through.new.incoming.interrupted in
     let same = nothing_unread c.in_ok-incoming.incoming.unread (g.W.Wire.incoming c.args.wire.now) c.in_ok-incoming.ensures.none in
+    let ahead = prepend_known c.in_ok-incoming.incoming.unread (g.W.Wire.incoming c.args.wire.now) in
     let none = none_counted before _ c.in_ok-incoming.ensures.uninterrupted in
     rw (exit_is f c.from_residual-in_err-reusable.result c.from_residual-in_err-reusable.ensures.1) record {
       response = tt;
       given = tt;
       reusable = tt;
-      fault = subst (λ (o : Option (List ℕ)). OfBytes o (IsReadFault f)) same e.fault;
+      fault = subst (λ (o : Option (List ℕ)). OfBytes o (IsReadFault standard f)) same (subst (λ (limits : Limited). OfBytes ahead (IsReadFault limits f)) c.standard.ensures e.fault);
       device = λ is.
           let gave = gave_up f old new (fault_is is) e.counts in
           gave.risen before none;
@@ -67,15 +70,18 @@ returns g c =
     let new = tally (g.W.Wire.failed c.read_through.new.wire) (g.W.Wire.reads_never_fail c.read_through.new.wire) (g.W.Wire.never_errs c.read_through.new.wire) (g.W.Wire.outgoing c.read_through.new.wire) (g.W.Wire.lost c.read_through.new.wire) c.read_through.new.incoming.interrupted in
     let same = nothing_unread c.in_ok-incoming.incoming.unread (g.W.Wire.incoming c.args.wire.now) c.in_ok-incoming.ensures.none in
     let none = none_counted before _ c.in_ok-incoming.ensures.uninterrupted in
+    let ahead = prepend_known c.in_ok-incoming.incoming.unread (g.W.Wire.incoming c.args.wire.now) in
     let told = subst (λ (o : Option (List ℕ)). OfBytes o
-    (HandsOn (λ r. HasGathered c.new-gather.result None [] → HasGathered c.read_through.new.sink (Some r.head) r.body))) same e.response in
+    (HandsOn standard (λ r. HasGathered c.new-gather.result None [] → HasGathered c.read_through.new.sink (Some r.head) r.body))) same
+    (subst (λ (limits : Limited). OfBytes ahead (HandsOn limits (λ r. HasGathered c.new-gather.result None [] → HasGathered c.read_through.new.sink (Some r.head) r.body))) c.standard.ensures e.response) in
     let r = told.2.0 in
     let parts = c.response_of.ensures r.head r.body (told.2.3 c.new-gather.ensures) in
-    let is = subst (λ (p : ResponseParts). IsResponse told.0 p told.2.1) (sym parts) told.2.2 in
+    let is = subst (λ (p : ResponseParts). IsResponse standard told.0 p told.2.1) (sym parts) told.2.2 in
     record {
       response = (told.0, told.1, (told.2.1, is));
       given = (told.0, (told.2.1, is));
-      reusable = subst (λ (o : Option (List ℕ)). Reusable o (g.W.Wire.incoming c.read_through.new.wire) reusable) same e.reusable;
+      reusable = subst (λ (o : Option (List ℕ)). Reusable standard o (g.W.Wire.incoming c.read_through.new.wire) reusable) same
+          (subst (λ (limits : Limited). Reusable limits ahead (g.W.Wire.incoming c.read_through.new.wire) reusable) c.standard.ensures e.reusable);
       fault = tt;
       device = λ is. absurd (ok_is_no_fault is);
       interrupted = λ is. absurd (ok_is_no_fault is);

@@ -2,6 +2,7 @@
 use Rattle.std.proofs.Common.{◌≡◌}
 use Rattle.fetcher.specs.declared.fetcher.Ask.TheVariants as ask
 use Rattle.pacing.specs.Retries.{retries_by}
+use Rattle.response_reader.specs.Limits.{limited}
 use Rattle.retries.specs.Keeping.{MayKeep, asks_of, is_worth_answer}
 use Rattle.retries.specs.Tries.{TriesSoFar}
 use Rattle.retries.proofs.keeping.ask_into.Given as goal
@@ -9,6 +10,6 @@ use Rattle.retries.proofs.keeping.ask_into.Given as goal
 abbrev pub invariant-loop-made : goal.invariant-loop-made
 invariant-loop-made g l = record {
   robots : l.inner.robots ≡ l.fn.inner.robots;
-  told : MayKeep g.K.Keeper.holds l.at l.fn.inner l.answer;
-  tries : TriesSoFar asks_of (MayKeep g.K.Keeper.holds l.at) (is_worth_answer (retries_by l.retries)) (ask.Page l.at) l.made l.fn.inner l.inner l.answer;
+  told : MayKeep g.K.Keeper.holds (limited l.limits) l.at l.fn.inner l.answer;
+  tries : TriesSoFar asks_of (MayKeep g.K.Keeper.holds (limited l.limits) l.at) (is_worth_answer (retries_by l.retries)) (ask.Page l.at) l.made l.fn.inner l.inner l.answer;
 }

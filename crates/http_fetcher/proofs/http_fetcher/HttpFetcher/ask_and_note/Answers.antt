@@ -5,6 +5,7 @@ use Rattle.response_reader.specs.Wire.{counted}
 use Rattle.address.specs.Address.{AddressText}
 use Rattle.answer_notes.specs.Tellings.{outcome_told}
 use Rattle.answer_notes.specs.declared.noted.Noted.TheVariants.{Page}
+use Rattle.response_reader.specs.Limits.{standard}
 use Rattle.http_fetcher.specs.Fetching.{Fetching, StandsBy}
 use Rattle.http_fetcher.proofs.TellingLemmas.{told_by_answer}
 use Rattle.http_fetcher.proofs.http_fetcher.HttpFetcher.ask_and_note.Goals as goal
@@ -75,7 +76,7 @@ returns-in_err-push g c =
       one = λ none. tt;
       most = subst (λ (f : Fetching _). g.C.Connect.made f.connect ≤ g.C.Connect.made c.args.self.now.connect + 1) (sym c.self.view_is) after.most;
       told = tt;
-      stands = subst (λ (f : Fetching _). StandsBy g.C.Connect g.C.Wire.Wire c.args.self.now f c.args.at.now) (sym c.self.view_is) after.stands;
+      stands = subst (λ (f : Fetching _). StandsBy g.C.Connect g.C.Wire.Wire standard c.args.self.now f c.args.at.now) (sym c.self.view_is) after.stands;
       noted = tt;
       unnoted = c.in_err-push.ensures.items ∙ ap (λ (f : Fetching _). f.notes) c.self.view_is ∙ after.notes;
     })
@@ -93,9 +94,9 @@ returns g c =
       is_recording = ap (λ (f : Fetching _). f.is_recording) c.self.view_is ∙ after.is_recording;
       one = λ none. subst (λ (f : Fetching _). g.C.Connect.made f.connect ≡ counted (g.C.Connect.made c.args.self.now.connect) 1) (sym c.self.view_is) (after.one none);
       most = subst (λ (f : Fetching _). g.C.Connect.made f.connect ≤ g.C.Connect.made c.args.self.now.connect + 1) (sym c.self.view_is) after.most;
-      told = told_by_answer g.C.Connect g.C.Wire.Wire c.args.self.now _ _ c.args.at.now told c.in_ok-answer.answer c.self.view_is after.robots
+      told = told_by_answer g.C.Connect g.C.Wire.Wire standard c.args.self.now _ _ c.args.at.now told c.in_ok-answer.answer c.self.view_is after.robots
           c.in_ok-answer.ensures.outcome c.in_ok-answer.ensures.body after.told;
-      stands = subst (λ (f : Fetching _). StandsBy g.C.Connect g.C.Wire.Wire c.args.self.now f c.args.at.now) (sym c.self.view_is) after.stands;
+      stands = subst (λ (f : Fetching _). StandsBy g.C.Connect g.C.Wire.Wire standard c.args.self.now f c.args.at.now) (sym c.self.view_is) after.stands;
       noted = (
         told,
         c.in_ok-push.ensures.items ∙ ap (λ (at : AddressText). c.self.inside.notes.items ++ Page at told ∷ []) c.in_ok-name.ensures

@@ -2,6 +2,7 @@
 use Rattle.std.proofs.Common.{◌≡◌, refl, subst}
 use Rattle.std.proofs.lemmas.Result.{err_from_is_err_and}
 use Rattle.answer_notes.specs.Tellings.{outcome_told}
+use Rattle.response_reader.specs.Limits.{standard}
 use Rattle.http_fetcher.specs.Fetching.{Fetching}
 use Rattle.http_fetcher.proofs.TellingLemmas.{told_by_answer}
 use Rattle.http_fetcher.proofs.http_fetcher.HttpFetcher.ask_page.Goals as goal
@@ -52,7 +53,7 @@ returns g c =
       notes = after.notes;
       one = after.one;
       most = after.most;
-      told = told_by_answer g.C.Connect g.C.Wire.Wire c.args.self.now c.exchange.new.self c.exchange.new.self c.args.at.now c.in_ok-told.told c.in_ok-answer.answer
+      told = told_by_answer g.C.Connect g.C.Wire.Wire standard c.args.self.now c.exchange.new.self c.exchange.new.self c.args.at.now c.in_ok-told.told c.in_ok-answer.answer
           refl after.robots
           (subst (λ (f : Fetching _). c.in_ok-answer.answer.outcome ≡ outcome_told f.robots c.args.at.now c.in_ok-told.told) c.self.view_is c.in_ok-answer.ensures.outcome)
           c.in_ok-answer.ensures.body after.told;

@@ -3,6 +3,7 @@ use Rattle.std.proofs.Common.{◌∙◌, inl, refl, sym, subst, le-add_right, tr
 use Rattle.std.proofs.lemmas.Result.{err_from_is_err_and}
 use Rattle.std.specs.Prelude.{◌≡◌, ◌≤◌, ◌+◌, OnOk}
 use Rattle.response_reader.specs.Wire.{counted}
+use Rattle.response_reader.specs.Limits.{standard}
 use Rattle.http_fetcher.specs.Fetching.{IsToldByTries, answer_told}
 use Rattle.http_fetcher.proofs.ExitLemmas.{none_made}
 use Rattle.http_fetcher.proofs.KeptLemmas.{if_ok_on, stands_twice, told_second}
@@ -75,8 +76,8 @@ returns g c =
       one = λ none. subst (λ n. OnOk c.ask_anew.result (g.C.Connect.made new.connect ≡ counted n 1)) before.made after.one;
       most = subst (λ n. g.C.Connect.made new.connect ≤ n + 1) before.made after.most;
       told = if_ok_on c.ask_anew.result _ _ _ after.one after.told
-          (λ one t told. subst (λ b. IsToldByTries g.C.Connect g.C.Wire.Wire old new c.args.at.now (answer_told b c.args.at.now t)) before.robots
-          (told_second g.C.Connect g.C.Wire.Wire old mid new c.args.at.now (answer_told mid.robots c.args.at.now t) before.made before.refused before.robots before.keeps before.sends
+          (λ one t told. subst (λ b. IsToldByTries g.C.Connect g.C.Wire.Wire standard old new c.args.at.now (answer_told b c.args.at.now t)) before.robots
+          (told_second g.C.Connect g.C.Wire.Wire standard old mid new c.args.at.now (answer_told mid.robots c.args.at.now t) before.made before.refused before.robots before.keeps before.sends
           (rw c.in-None.is at before.gives) (rw c.in-None.is at before.silent) after.taken one told));
-      stands = stands_twice g.C.Connect g.C.Wire.Wire old mid new c.args.at.now before.robots before.keeps before.sends before.stands after.stands;
+      stands = stands_twice g.C.Connect g.C.Wire.Wire standard old mid new c.args.at.now before.robots before.keeps before.sends before.stands after.stands;
     }

@@ -4,7 +4,8 @@ use Rattle.std.proofs.lemmas.Result.{err_from_is_err_and}
 use Rattle.std.specs.Prelude.{◌≡◌, ◌≤◌, ◌+◌, OnOk}
 use Rattle.response_reader.specs.Wire.{counted}
 use Rattle.response_answer.proofs.DigestLemmas.{if_ok_map}
-use Rattle.http_fetcher.specs.Meanings.{MayAnswer}
+use Rattle.response_reader.specs.Limits.{limited}
+use Rattle.http_fetcher.specs.Meanings.{MayAnswerWithin}
 use Rattle.http_fetcher.proofs.ExitLemmas.{none_made}
 use Rattle.http_fetcher.proofs.KeptLemmas.{if_ok_on, stands_twice, told_second}
 use Rattle.http_fetcher.proofs.MeaningLaws.{may_answer, may_answer_anew}
@@ -42,7 +43,7 @@ returns-in-Some g c =
       most = none_made _ _ after.made;
       told = (told.0, told.1, inl told.2);
       stands = after.stands;
-      may = (told.0, told.1, may_answer g.C.Connect g.C.Wire.Wire c.args.self.now c.ask_page_again.new.self c.args.at.now told.0 (inl told.2));
+      may = (told.0, told.1, may_answer g.C.Connect g.C.Wire.Wire (limited c.args.limits) c.args.self.now c.ask_page_again.new.self c.args.at.now told.0 (inl told.2));
     }
 
 pub returns : goal.returns
@@ -64,10 +65,10 @@ returns g c =
       told = if_ok_on c.ask_page_anew.result _ _ _ after.one after.told (λ one a told. (
         told.0,
         told.1,
-        told_second g.C.Connect g.C.Wire.Wire old mid new c.args.at.now told.0 before.made before.refused before.robots before.keeps before.sends
+        told_second g.C.Connect g.C.Wire.Wire (limited c.args.limits) old mid new c.args.at.now told.0 before.made before.refused before.robots before.keeps before.sends
             (rw c.in-None.is at before.gives) (rw c.in-None.is at before.silent) after.taken one told.2,
       ));
-      stands = stands_twice g.C.Connect g.C.Wire.Wire old mid new c.args.at.now before.robots before.keeps before.sends before.stands after.stands;
+      stands = stands_twice g.C.Connect g.C.Wire.Wire (limited c.args.limits) old mid new c.args.at.now before.robots before.keeps before.sends before.stands after.stands;
       may = if_ok_map c.ask_page_anew.result _ _ after.told (λ a told.
-          (told.0, told.1, subst (λ b. MayAnswer b c.args.at.now told.0.outcome told.0.body) before.robots (may_answer_anew g.C.Connect g.C.Wire.Wire mid new c.args.at.now told.0 told.2)));
+          (told.0, told.1, subst (λ b. MayAnswerWithin (limited c.args.limits) b c.args.at.now told.0.outcome told.0.body) before.robots (may_answer_anew g.C.Connect g.C.Wire.Wire (limited c.args.limits) mid new c.args.at.now told.0 told.2)));
     }

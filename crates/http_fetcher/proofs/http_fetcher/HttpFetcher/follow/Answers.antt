@@ -2,6 +2,7 @@
 use Rattle.std.proofs.Common.{◌∙◌, ◌<◌, ◌-◌, ◌++◌, [], ◌∷◌, inl, arith, refl, sym, ap, subst, append_assoc, le-add_right}
 use Rattle.std.proofs.lemmas.Result.{err_from_is_err_and}
 use Rattle.answer_notes.specs.HopChains.{IsAdmitted, rules_of_hops}
+use Rattle.response_reader.specs.Limits.{standard}
 use Rattle.http_fetcher.specs.inner.Chains.{IsHopTold}
 use Rattle.http_fetcher.specs.declared.chain.Hop.TheVariants.{Next, Last}
 use Rattle.http_fetcher.specs.Fetching.{answer_told}
@@ -26,9 +27,9 @@ hops-preserved g c =
       left = let was = c.hops.invariant.left in omega arith;
       count = λ none. one_more _ _ _ c.hops.hops.items _ (c.hops.at, c.in_ok-told.told) (c.hops.invariant.count none) (c.in_ok-told.ensures.one (c.hops.invariant.keeps ∙ none)) c.in_ok-push-in-Next.ensures.items;
       few = let was = c.hops.invariant.few in let most = c.in_ok-told.ensures.most in omega arith;
-      stands = stands_more g.C.Connect g.C.Wire.Wire c.args.self.now c.hops.self c.exchange.new.self c.hops.at c.hops.invariant.robots c.hops.invariant.keeps c.hops.invariant.sends c.hops.invariant.stands c.in_ok-told.ensures.stands;
+      stands = stands_more g.C.Connect g.C.Wire.Wire standard c.args.self.now c.hops.self c.exchange.new.self c.hops.at c.hops.invariant.robots c.hops.invariant.keeps c.hops.invariant.sends c.hops.invariant.stands c.in_ok-told.ensures.stands;
       chain = λ r chain. c.hops.invariant.chain r (chain_goes_on _ c.hops.left (c.hops.left - 1) _ _ r _ _
-          (given_by g.C.Connect g.C.Wire.Wire c.args.self.now c.hops.self c.exchange.new.self c.hops.at (answer_told c.hops.self.robots c.hops.at c.in_ok-told.told) c.hops.invariant.robots c.hops.invariant.keeps c.hops.invariant.sends c.in_ok-told.ensures.told)
+          (given_by g.C.Connect g.C.Wire.Wire standard c.args.self.now c.hops.self c.exchange.new.self c.hops.at (answer_told c.hops.self.robots c.hops.at c.in_ok-told.told) c.hops.invariant.robots c.hops.invariant.keeps c.hops.invariant.sends c.in_ok-told.ensures.told)
           (tells_says c.hops.self.robots c.hops.at c.in_ok-told.told c.hops.left (Next c.in-Next.next) tells) (omega arith) chain);
       admitted = λ tail are. subst (λ l. IsAdmitted c.args.of.now l)
           (sym (ap (λ l. l ++ tail) c.in_ok-push-in-Next.ensures.items ∙ append_assoc c.hops.hops.items ((c.hops.at, c.in_ok-told.told) ∷ []) tail))
@@ -55,7 +56,7 @@ returns-in-Last g c =
       is_recording = after.is_recording ∙ was.is_recording;
       notes = after.notes ∙ was.notes;
       few = few_more _ _ _ _ _ was.few after.most;
-      stands = stands_more g.C.Connect g.C.Wire.Wire c.args.self.now c.hops.self c.exchange.new.self c.hops.at was.robots was.keeps was.sends was.stands after.stands;
+      stands = stands_more g.C.Connect g.C.Wire.Wire standard c.args.self.now c.hops.self c.exchange.new.self c.hops.at was.robots was.keeps was.sends was.stands after.stands;
       count = λ none. (
         c.hops.hops.items ++ (c.hops.at, c.in_ok-told.told) ∷ [],
         was.admitted ((c.hops.at, c.in_ok-told.told) ∷ []) (hop_ends c.hops.left c.hops.at c.in_ok-told.told tells.0),
@@ -66,7 +67,7 @@ returns-in-Last g c =
       of = c.new.ensures.of ∙ was.origin;
       rules = tells.1 ∙ sym (ap rules_of_hops (c.new.ensures.hops ∙ c.in_ok-push-in-Last.ensures.items) ∙ rules_behind c.hops.hops.items (c.hops.at, c.in_ok-told.told) []);
       chain = was.chain _ (chain_ends _ c.hops.left _ _ _ _
-          (given_by g.C.Connect g.C.Wire.Wire c.args.self.now c.hops.self c.exchange.new.self c.hops.at (answer_told c.hops.self.robots c.hops.at c.in_ok-told.told) was.robots was.keeps was.sends after.told)
+          (given_by g.C.Connect g.C.Wire.Wire standard c.args.self.now c.hops.self c.exchange.new.self c.hops.at (answer_told c.hops.self.robots c.hops.at c.in_ok-told.told) was.robots was.keeps was.sends after.told)
           (tells_says c.hops.self.robots c.hops.at c.in_ok-told.told c.hops.left (Last c.in-Last.rules) tells));
     }
 
@@ -121,7 +122,7 @@ returns-in_err-told g c =
       is_recording = after.is_recording ∙ was.is_recording;
       notes = after.notes ∙ was.notes;
       few = few_more _ _ _ _ _ was.few after.most;
-      stands = stands_more g.C.Connect g.C.Wire.Wire c.args.self.now c.hops.self c.exchange.new.self c.hops.at was.robots was.keeps was.sends was.stands after.stands;
+      stands = stands_more g.C.Connect g.C.Wire.Wire standard c.args.self.now c.hops.self c.exchange.new.self c.hops.at was.robots was.keeps was.sends was.stands after.stands;
       count = λ none. tt;
       hops = λ none. tt;
       of = tt;
@@ -142,7 +143,7 @@ returns-in_err-rules g c =
       is_recording = after.is_recording ∙ was.is_recording;
       notes = after.notes ∙ was.notes;
       few = few_more _ _ _ _ _ was.few after.most;
-      stands = stands_more g.C.Connect g.C.Wire.Wire c.args.self.now c.hops.self c.exchange.new.self c.hops.at was.robots was.keeps was.sends was.stands after.stands;
+      stands = stands_more g.C.Connect g.C.Wire.Wire standard c.args.self.now c.hops.self c.exchange.new.self c.hops.at was.robots was.keeps was.sends was.stands after.stands;
       count = λ none. tt;
       hops = λ none. tt;
       of = tt;
@@ -163,7 +164,7 @@ returns-in_err-push-in-Last g c =
       is_recording = after.is_recording ∙ was.is_recording;
       notes = after.notes ∙ was.notes;
       few = few_more _ _ _ _ _ was.few after.most;
-      stands = stands_more g.C.Connect g.C.Wire.Wire c.args.self.now c.hops.self c.exchange.new.self c.hops.at was.robots was.keeps was.sends was.stands after.stands;
+      stands = stands_more g.C.Connect g.C.Wire.Wire standard c.args.self.now c.hops.self c.exchange.new.self c.hops.at was.robots was.keeps was.sends was.stands after.stands;
       count = λ none. tt;
       hops = λ none. tt;
       of = tt;
@@ -184,7 +185,7 @@ returns-in_err-push-in-Next g c =
       is_recording = after.is_recording ∙ was.is_recording;
       notes = after.notes ∙ was.notes;
       few = few_more _ _ _ _ _ was.few after.most;
-      stands = stands_more g.C.Connect g.C.Wire.Wire c.args.self.now c.hops.self c.exchange.new.self c.hops.at was.robots was.keeps was.sends was.stands after.stands;
+      stands = stands_more g.C.Connect g.C.Wire.Wire standard c.args.self.now c.hops.self c.exchange.new.self c.hops.at was.robots was.keeps was.sends was.stands after.stands;
       count = λ none. tt;
       hops = λ none. tt;
       of = tt;

@@ -2,6 +2,7 @@ use Rattle.std.proofs.Common.{◌≡◌, ◌≤◌, ◌+◌, ◌++◌, List, cod
 use Rattle.robots_rules.specs.Access.{RuleSetValue}
 use Rattle.response_reader.specs.Wire.{counted}
 use Rattle.answer_notes.specs.RobotsAnswers.{max_redirects}
+use Rattle.response_reader.specs.Limits.{standard}
 use Rattle.http_fetcher.specs.Chains.{IsChain}
 use Rattle.http_fetcher.specs.Fetching.{IsGiven, StandsBehind}
 use Rattle.answer_notes.specs.HopChains.{HopValue, AreHops, IsAdmitted}
@@ -9,7 +10,7 @@ use Rattle.http_fetcher.proofs.http_fetcher.HttpFetcher.follow.Given as goal
 
 abbrev pub invariant-hops : goal.invariant-hops
 invariant-hops g l =
-    let Told = IsGiven g.C.Connect g.C.Wire.Wire l.fn.self in record {
+    let Told = IsGiven g.C.Connect g.C.Wire.Wire standard l.fn.self in record {
       asks : l.self.asks ≡ l.fn.self.asks;
       robots : l.self.robots ≡ l.fn.self.robots;
       keeps : l.self.keeps ≡ l.fn.self.keeps;
@@ -20,7 +21,7 @@ invariant-hops g l =
       left : l.left ≤ max_redirects;
       count : l.fn.self.keeps ≡ false → g.C.Connect.made l.self.connect ≡ counted (g.C.Connect.made l.fn.self.connect) (length l.hops.items);
       few : g.C.Connect.made l.self.connect + l.left ≤ g.C.Connect.made l.fn.self.connect + max_redirects;
-      stands : StandsBehind g.C.Connect g.C.Wire.Wire l.fn.self l.self;
+      stands : StandsBehind g.C.Connect g.C.Wire.Wire standard l.fn.self l.self;
       chain : (r : RuleSetValue) → IsChain Told l.left l.at r → IsChain Told max_redirects (l.fn.of ++ codes "/robots.txt") r;
       admitted : (tail : List HopValue) → AreHops l.left l.at tail → IsAdmitted l.fn.of (l.hops.items ++ tail);
     }

@@ -4,6 +4,7 @@ use Rattle.std.proofs.lemmas.Result.{err_from_is_err_and}
 use Rattle.address.specs.Address.{OriginText}
 use Rattle.answer_notes.specs.RobotsAnswers.{max_redirects}
 use Rattle.answer_notes.specs.declared.noted.Noted.TheVariants.{Chain}
+use Rattle.response_reader.specs.Limits.{standard}
 use Rattle.http_fetcher.specs.Chains.{CountsHops}
 use Rattle.http_fetcher.specs.Fetching.{Fetching, StandsBehind}
 use Rattle.http_fetcher.proofs.http_fetcher.HttpFetcher.rules_of.Goals.{then-self+in_ok-push, else-self}
@@ -38,7 +39,7 @@ returns-in_err-push g c =
       sends = ap (λ (f : Fetching _). f.sends) c.self.view_is ∙ after.sends;
       is_recording = ap (λ (f : Fetching _). f.is_recording) c.self.view_is ∙ after.is_recording;
       few = subst (λ (f : Fetching _). g.C.Connect.made f.connect ≤ g.C.Connect.made c.args.self.now.connect + (max_redirects + 1)) (sym c.self.view_is) after.few;
-      stands = subst (λ (f : Fetching _). StandsBehind g.C.Connect g.C.Wire.Wire c.args.self.now f) (sym c.self.view_is) after.stands;
+      stands = subst (λ (f : Fetching _). StandsBehind g.C.Connect g.C.Wire.Wire standard c.args.self.now f) (sym c.self.view_is) after.stands;
       count = λ none. tt;
       chain = tt;
       noted = tt;
@@ -57,7 +58,7 @@ returns g c =
         sends = ap (λ (f : Fetching _). f.sends) c.self.view_is ∙ after.sends;
         is_recording = recording;
         few = subst (λ (f : Fetching _). g.C.Connect.made f.connect ≤ g.C.Connect.made c.args.self.now.connect + (max_redirects + 1)) (sym c.self.view_is) after.few;
-        stands = subst (λ (f : Fetching _). StandsBehind g.C.Connect g.C.Wire.Wire c.args.self.now f) (sym c.self.view_is) after.stands;
+        stands = subst (λ (f : Fetching _). StandsBehind g.C.Connect g.C.Wire.Wire standard c.args.self.now f) (sym c.self.view_is) after.stands;
         count = λ none. subst (λ (f : Fetching _). CountsHops (g.C.Connect.made c.args.self.now.connect) (g.C.Connect.made f.connect) c.args.of.now c.in_ok-hops.rules) (sym c.self.view_is) (after.count none);
         chain = after.chain;
         noted = rw (sym recording ∙ w.if-self.true) (
