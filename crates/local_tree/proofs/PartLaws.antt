@@ -1,52 +1,85 @@
 -- Parts that are put one after another, of which some were lost.
-use Rattle.std.proofs.Common.{◌≡◌, ◌⊎◌, ℕ, ◌+◌, ◌≤◌, ◌<◌, ◌-◌, ◌^◌, min, Bool, false, inl, inr, sym, ◌∙◌, subst, arith}
-use Rattle.std.proofs.lemmas.Bool.{false≢true}
-use Rattle.local_tree.specs.Folders.{HasMoreRefused, one_more_refused}
-use Rattle.local_tree.specs.Shelves.{MakesOnePut}
-use Rattle.local_tree.proofs.SiteFilesLaws.{risen}
+use Rattle.std.proofs.Common.{◌≡◌, ◌⊎◌, ℕ, ◌+◌, ◌≤◌, ◌<◌, ◌-◌, ◌^◌, max, min, Bool, false, inl, inr, sym, ◌∙◌, ap, subst, arith}
+use Rattle.std.proofs.lemmas.Bool.{cases_lt, false≢true}
+use Rattle.local_tree.specs.Folders.{HasMoreRefused, more_refused, one_more_refused}
+use Rattle.local_tree.specs.Shelves.{AreNamed, MakesOnePut}
 
--- none of the first so many is lost and no put failed, or some are and one did
+-- some of the first so many are lost, and for each of these a put failed
 abbrev pub AreLost : ℕ → ℕ → ℕ → ℕ → Type 0
-AreLost lost i old now = (lost ≤ i) × (((lost ≡ 0) × (now ≡ old)) ⊎ ((0 < lost) × HasMoreRefused old now))
+AreLost lost i old now = (lost ≤ i) × (now ≡ more_refused old lost)
 
--- what rises again has risen
-risen_from : (old mid new : ℕ) → HasMoreRefused old mid → HasMoreRefused mid new → HasMoreRefused old new
-risen_from old mid new = go (2 ^ 64 - 1)
+-- one more failed, and the count of those that did may have been as great as it can be
+one_more : (old n mid new : ℕ) → mid ≡ more_refused old n → new ≡ one_more_refused mid → new ≡ more_refused old (n + 1)
+one_more old n mid new was is = go (2 ^ 64 - 1) was is
   where
-    go : (most : ℕ) → (old < mid) ⊎ (most ≤ mid) → (mid < new) ⊎ (most ≤ new) → (old < new) ⊎ (most ≤ new)
-    go most (inl a) (inl b) = inl (omega (arith, a, b))
-    go most (inl a) (inr b) = inr b
-    go most (inr a) (inl b) = inr (omega (arith, a, b))
-    go most (inr a) (inr b) = inr b
+    go : (most : ℕ) → mid ≡ max old (min (old + n) most) → new ≡ max mid (min (mid + 1) most) → new ≡ max old (min (old + (n + 1)) most)
+    go most was is = omega (arith, was, is)
 
--- a put that failed, whatever was before it
-torn : (lost old mid new : ℕ) → ((lost ≡ 0) × (mid ≡ old)) ⊎ ((0 < lost) × HasMoreRefused old mid) → new ≡ one_more_refused mid → HasMoreRefused old new
-torn lost old mid new (inl (none, same)) more = subst (λ (n : ℕ). HasMoreRefused n new) same (risen mid new more)
-torn lost old mid new (inr (some, rose)) more = risen_from old mid new rose (risen mid new more)
+-- how many are lost is counted up to the greatest number, as are the puts that failed
+none_counted : (old n counted new : ℕ) → counted ≡ min (n + 1) (2 ^ 64 - 1) → new ≡ more_refused old (n + 1) → new ≡ more_refused old counted
+none_counted old n counted new so is = go (2 ^ 64 - 1) so is
+  where
+    go : (most : ℕ) → counted ≡ min (n + 1) most → new ≡ max old (min (old + (n + 1)) most) → new ≡ max old (min (old + counted) most)
+    go most so is = omega (arith, so, is)
 
--- one more
-counted : (lost now i most : ℕ) → 0 < most → lost ≤ i → now ≡ min (lost + 1) most → (now ≤ i + 1) × (0 < now)
-counted lost now i most some few is = (omega (arith, some, few, is), omega (arith, some, few, is))
+-- where one is lost the count has risen
+has_risen : (old n new : ℕ) → 0 < n → new ≡ more_refused old n → HasMoreRefused old new
+has_risen old n new some is = go (2 ^ 64 - 1) is
+  where
+    go : (most : ℕ) → new ≡ max old (min (old + n) most) → (old < new) ⊎ (most ≤ new)
+    go most is = elim (cases_lt old most) [ inl few ↦ inl (omega (arith, is, few, some)) | inr many ↦ inr (omega (arith, is, many)) ]
+
+pub at_first : (old : ℕ) → AreLost 0 0 old old
+at_first old = (omega arith, go (2 ^ 64 - 1))
+  where
+    go : (most : ℕ) → old ≡ max old (min (old + 0) most)
+    go most = omega arith
 
 pub one_put : (lost i old mid new : ℕ) (made : ℕ × Bool) → AreLost lost i old mid → MakesOnePut lost mid new made → AreLost made.0 (i + 1) old new
 one_put lost i old mid new made (few, so) (inl (is, kept, on)) =
-    (omega (arith, few, is), subst (λ (n : ℕ). ((n ≡ 0) × (new ≡ old)) ⊎ ((0 < n) × HasMoreRefused old new)) (sym is) (same so))
-  where
-    same : ((lost ≡ 0) × (mid ≡ old)) ⊎ ((0 < lost) × HasMoreRefused old mid) → ((lost ≡ 0) × (new ≡ old)) ⊎ ((0 < lost) × HasMoreRefused old new)
-    same (inl (none, at)) = inl (none, kept ∙ at)
-    same (inr (some, rose)) = inr (some, subst (HasMoreRefused old) (sym kept) rose)
+    (omega (arith, few, is), subst (λ (n : ℕ). new ≡ more_refused old n) (sym is) (kept ∙ so))
 one_put lost i old mid new made (few, so) (inr (is, more)) =
-    let (below, some) = counted lost made.0 i (2 ^ 64 - 1) (omega arith) few is in (below, inr (some, torn lost old mid new so more))
+    (at_most (2 ^ 64 - 1) is, none_counted old lost made.0 new is (one_more old lost mid new so more))
+  where
+    at_most : (most : ℕ) → made.0 ≡ min (lost + 1) most → made.0 ≤ i + 1
+    at_most most is = omega (arith, few, is)
+
+-- a put that ends it has failed
+refused : (lost mid new : ℕ) (made : ℕ × Bool) → made.1 ≡ false → MakesOnePut lost mid new made → new ≡ one_more_refused mid
+refused lost mid new made off (inl (is, kept, on)) = absurd (false≢true (sym off ∙ on))
+refused lost mid new made off (inr (is, more)) = more
 
 pub stopped : (lost i old mid new : ℕ) (made : ℕ × Bool) → made.1 ≡ false → AreLost lost i old mid → MakesOnePut lost mid new made → HasMoreRefused old new
-stopped lost i old mid new made off (few, so) (inl (is, kept, on)) = absurd (false≢true (sym off ∙ on))
-stopped lost i old mid new made off (few, so) (inr (is, more)) = torn lost old mid new so more
+stopped lost i old mid new made off (few, so) put = has_risen old (lost + 1) new (omega arith) (one_more old lost mid new so (refused lost mid new made off put))
+
+pub stopped_named : (names lost i old mid new : ℕ) (made : ℕ × Bool) → made.1 ≡ false → i < names → AreLost lost i old mid → MakesOnePut lost mid new made → AreNamed names old new (i - lost)
+stopped_named names lost i old mid new made off below (few, so) put = record {
+  made = i + 1;
+  few = omega (arith, below);
+  named = omega arith;
+  failed = subst (λ (n : ℕ). new ≡ more_refused old n) (go i lost few) (one_more old lost mid new so (refused lost mid new made off put));
+}
+  where
+    go : (i lost : ℕ) → lost ≤ i → lost + 1 ≡ i + 1 - (i - lost)
+    go i lost few = omega (arith, few)
 
 -- at the end
 pub all_put : (lost i old now : ℕ) → lost ≤ 0 → AreLost lost i old now → now ≡ old
-all_put lost i old now none (few, inl (zero, same)) = same
-all_put lost i old now none (few, inr (some, rose)) = absurd (omega (arith, none, some))
+all_put lost i old now none (few, so) = go (2 ^ 64 - 1) so
+  where
+    go : (most : ℕ) → now ≡ max old (min (old + lost) most) → now ≡ old
+    go most so = omega (arith, so, none)
 
 pub some_lost : (lost i old now : ℕ) → 0 < lost → AreLost lost i old now → HasMoreRefused old now
-some_lost lost i old now some (few, inl (zero, same)) = absurd (omega (arith, zero, some))
-some_lost lost i old now some (few, inr (more, rose)) = rose
+some_lost lost i old now some (few, so) = has_risen old lost now some so
+
+pub some_named : (names lost old now : ℕ) → AreLost lost names old now → AreNamed names old now (names - lost)
+some_named names lost old now (few, so) = record {
+  made = names;
+  few = omega arith;
+  named = omega arith;
+  failed = subst (λ (n : ℕ). now ≡ more_refused old n) (go names lost few) so;
+}
+  where
+    go : (names lost : ℕ) → lost ≤ names → lost ≡ names - (names - lost)
+    go names lost few = omega (arith, few)

@@ -25,6 +25,10 @@ KeepsOthers _ _ name = ⊥
 abbrev pub one_more_refused : ℕ → ℕ
 one_more_refused failures = max failures (min (failures + 1) (2 ^ 64 - 1))
 
+-- the count after so many more failed calls
+abbrev pub more_refused : ℕ → ℕ → ℕ
+more_refused failures n = max failures (min (failures + n) (2 ^ 64 - 1))
+
 -- a call that answered an error is one_more_refused
 abbrev pub CountsRefusedPut : {A E : Type 0} → ℕ → ℕ → Result A E → Type 0
 CountsRefusedPut old new (Ok a) = new ≡ old

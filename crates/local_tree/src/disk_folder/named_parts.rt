@@ -1,7 +1,7 @@
 //! Bodies that a keeper has put on the disk, and that a folder gives their names.
 ghost use Rattle.std.specs.Prelude.{◌≡◌, IfErr, OnOk, length, map, string_bytes};
 ghost use Rattle.local_tree.specs.Folders.{untold};
-ghost use Rattle.local_tree.specs.Shelves.{IsHalfShelvedBy, MakesOnePut};
+ghost use Rattle.local_tree.specs.Shelves.{AreNamedBy, IsHalfShelvedBy, MakesOnePut};
 
 use super::{DiskFolder, find_place};
 use crate::folder::FolderFault;
@@ -96,6 +96,7 @@ pub fn put_parts<D: Shelf<Part>>(
     requires { length names.now ≡ length harvest.now.kept }
     // As of a folder that tells no files.
     ensures torn { IfErr result (IsHalfShelvedBy D.holds (map string_bytes names.now) harvest.now.bodies (untold (D.failed folder.old)) (untold (D.failed folder.new))) }
+    ensures named { IfErr result (AreNamedBy (length names.now) (D.failed folder.old) (D.failed folder.new)) }
     ensures quiet { OnOk result (D.failed folder.new ≡ D.failed folder.old) }
 {
     let mut lost = 0usize;
