@@ -5,7 +5,7 @@ ghost use Rattle.fetcher.specs.declared.fetcher.Ask.TheVariants as ask;
 ghost use Rattle.part_keeper.specs.Parts.{holds_part};
 ghost use Rattle.retries.specs.Keeping.{MayKeep, asks_of, is_worth_answer};
 ghost use Rattle.retries.specs.Tries.{IsLastOf};
-ghost use Rattle.tcp_fetcher.specs.PartsFetching.{MayAnswerIn, MayRuleIn, PartsSite};
+ghost use Rattle.tcp_fetcher.specs.PartsFetching.{MayAnswerIn, MayRuleIn, PartsSite, parts_site};
 
 use crate::over_tcp::OverTcp;
 use address::{Address, Origin};
@@ -112,7 +112,7 @@ where
 
     ghost Site = { PartsSite };
 
-    ghost site = { λ f. (f.robots, f.limits) };
+    ghost site = { parts_site };
 
     ghost says = { MayAnswerIn };
 
@@ -121,8 +121,8 @@ where
     ghost log = { λ f. f.asks };
 
     fn ask(&mut self, at: &Address) -> Result<Answer<Part>, AllocError>
-        ensures site { (self.new.robots, self.new.limits) ≡ (self.old.robots, self.old.limits) }
-        ensures told { IfOk result (λ a. MayAnswerIn (self.old.robots, self.old.limits) at.now a.outcome a.body) }
+        ensures site { parts_site self.new ≡ parts_site self.old }
+        ensures told { IfOk result (λ a. MayAnswerIn (parts_site self.old) at.now a.outcome a.body) }
         ensures asked { OnOk result (self.new.asks ≡ self.old.asks ++ ask.Page at.now ∷ []) }
         ensures refused { OnErr result (GainedAtMost self.old.asks self.new.asks (ask.Page at.now)) }
         // The network is asked once, or again if that is worth it; what is told last is the answer.
