@@ -3,6 +3,7 @@ use Rattle.std.proofs.Common.{◌≡◌, ◌∙◌, ℕ, zero, suc, ◌+◌, ◌
 use Rattle.std.specs.Prelude.{get_or}
 use Rattle.address.specs.Address.{AddressText}
 use Rattle.answer_notes.specs.Tellings.{target_told, rules_told}
+use Rattle.answer_notes.specs.CrawlDelays.{delay_of_hops, delay_told}
 use Rattle.answer_notes.specs.HopChains.{HopValue, AreHops, EndsChain, rules_of_hops}
 use Rattle.answer_notes.specs.declared.told.Told.{Told}
 
@@ -43,3 +44,16 @@ rules_at_last (hop ∷ next ∷ more) d some =
 
 pub last_rules : (hops slice : List HopValue) (d : HopValue) → slice ≡ hops → 0 < length slice → rules_told (get_or slice (length slice - 1) d).1 ≡ rules_of_hops hops
 last_rules hops slice d same some = sym (rules_at_last slice d some) ∙ ap rules_of_hops same
+
+-- the delay is that of the last hop
+delay_at_last : (hops : List HopValue) (d : HopValue) → 0 < length hops → delay_of_hops hops ≡ delay_told (get_or hops (length hops - 1) d).1
+delay_at_last [] d some = absurd (omega (arith, some))
+delay_at_last (hop ∷ []) d some =
+    let first : 0 ≡ length (hop ∷ []) - 1 = omega arith in
+    ap (λ k. delay_told (get_or (hop ∷ []) k d).1) first
+delay_at_last (hop ∷ next ∷ more) d some =
+    let on : suc (length (next ∷ more) - 1) ≡ length (hop ∷ next ∷ more) - 1 = omega arith in
+    delay_at_last (next ∷ more) d (omega arith) ∙ ap (λ k. delay_told (get_or (hop ∷ next ∷ more) k d).1) on
+
+pub last_delay : (hops slice : List HopValue) (d : HopValue) → slice ≡ hops → 0 < length slice → delay_told (get_or slice (length slice - 1) d).1 ≡ delay_of_hops hops
+last_delay hops slice d same some = sym (delay_at_last slice d some) ∙ ap delay_of_hops same

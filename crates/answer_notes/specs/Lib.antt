@@ -1,3 +1,4 @@
 pub mod RobotsAnswers
 pub mod Tellings
 pub mod HopChains
+pub mod CrawlDelays

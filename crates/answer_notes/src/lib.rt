@@ -4,6 +4,7 @@
 //! tests stand in `site_tests`.
 #![tactic(auto)]
 
+mod crawl_delay;
 mod given;
 mod hops;
 mod noted;

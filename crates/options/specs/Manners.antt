@@ -3,6 +3,7 @@ use Rattle.std.specs.Prelude.{◌*◌, ◌==◌, ◌&&◌, ℕ, Option, Some, No
 use Rattle.std.specs.Option.{option_map_or}
 use Rattle.clap.specs.Walk.{Row, Text, first_of}
 use Rattle.pacing.specs.Manners.{Mannered}
+use Rattle.pacing.specs.Rates.{rate_in}
 use Rattle.pacing.specs.Sizes.{size_in}
 use Rattle.pacing.specs.Spans.{span_in}
 use Rattle.pacing.specs.declared.manner.Family.{Family}
@@ -34,6 +35,18 @@ limit_of id usual found =
 abbrev pub body_by : ℕ → Option Text → Option ℕ
 body_by usual value = option_map_or size_in value (Some usual)
 
+-- 0 is no limit of speed
+abbrev pub rate_unless_zero : ℕ → Option ℕ
+rate_unless_zero rate = if rate == 0 then None else Some rate
+
+-- a limit of speed as it is written: `inf`, or bytes a second
+unfoldable pub rate_limit : Text → Option (Option ℕ)
+rate_limit text = if bytes_eq text (codes "inf") then Some None else option_map rate_unless_zero (rate_in text)
+
+-- the limit of speed that a value gives, none if the option isn't given
+abbrev pub rate_by : Option Text → Option (Option ℕ)
+rate_by value = option_map_or rate_limit value (Some None)
+
 -- which addresses of hosts are connected to; both alone can't be
 unfoldable pub family_of : List Row → Option Family
 family_of found =
@@ -45,16 +58,19 @@ family_of found =
 -- what the options say of how servers are treated; nothing if a value can't be
 unfoldable pub manner_of : List Row → Option Mannered
 manner_of found =
-    option_and_then (λ wait. option_and_then (λ connect. option_and_then (λ read. option_and_then (λ answer. option_and_then (λ body. option_map (λ family. record {
+    option_and_then (λ wait. option_and_then (λ connect. option_and_then (λ read. option_and_then (λ answer. option_and_then (λ body. option_and_then (λ rate. option_map (λ family. record {
       wait = wait;
       is_random = is_set (codes "random-wait") found;
       connect_limit = connect;
       read_limit = read;
       answer_limit = answer;
       body_limit = body;
+      rate = rate;
+      crawl_delay = is_set (codes "crawl-delay") found;
       family = family;
     })
     (family_of found))
+    (rate_by (first_of (codes "limit-rate") found)))
     (body_by 1_099_511_627_776 (first_of (codes "max-body") found)))
     (limit_by None (first_of (codes "answer-timeout") found)))
     (limit_of (codes "read-timeout") (Some (900 * 1_000_000_000)) found))

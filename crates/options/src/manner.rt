@@ -3,11 +3,11 @@ ghost use Rattle.std.specs.Prelude.{◌≡◌, None, codes, option_map};
 ghost use Rattle.std.specs.Duration.{as_nanos};
 ghost use Rattle.clap.specs.Words.{first_of, found_of, rows_of};
 ghost use Rattle.pacing.specs.Manners.{mannered};
-ghost use Rattle.options.specs.Manners.{body_by, family_of, limit_by, limit_of, manner_of, read_limit, unless_zero, wait_by};
+ghost use Rattle.options.specs.Manners.{body_by, family_of, limit_by, limit_of, manner_of, rate_by, rate_limit, rate_unless_zero, read_limit, unless_zero, wait_by};
 
 use crate::given::{given, is_set};
 use clap::ArgMatches;
-use pacing::{Family, Manner, read_size, read_span};
+use pacing::{Family, Manner, read_rate, read_size, read_span};
 use std::time::Duration;
 
 // The pause between the beginnings of two requests to a server.
@@ -73,6 +73,37 @@ fn body_limit(matches: &ArgMatches, usual: u64) -> Option<u64>
     }
 }
 
+// No limit is written as 0.
+fn rate_unless_zero(rate: u64) -> Option<u64>
+    ensures { result ≡ rate_unless_zero rate }
+{
+    if rate == 0 { None } else { Some(rate) }
+}
+
+// A limit of speed as it is written; nothing if it is none.
+#[tactic(auto, unfolding(crate::specs::Manners::rate_limit))]
+fn rate_limit(text: &str) -> Option<Option<u64>>
+    ensures { result ≡ rate_limit text.now }
+{
+    if text == "inf" {
+        return Some(None);
+    }
+    match read_rate(text) {
+        Some(rate) => Some(rate_unless_zero(rate)),
+        None => None,
+    }
+}
+
+// How many bytes a second may be read, if there is a limit.
+fn rate(matches: &ArgMatches) -> Option<Option<u64>>
+    ensures { result ≡ rate_by (first_of (codes "limit-rate") (rows_of (found_of matches.now))) }
+{
+    match given(matches, "limit-rate") {
+        Some(text) => rate_limit(text),
+        None => Some(None),
+    }
+}
+
 // Which addresses of hosts are connected to.
 #[tactic(auto, unfolding(crate::specs::Manners::family_of))]
 fn family(matches: &ArgMatches) -> Option<Family>
@@ -97,6 +128,7 @@ pub(crate) fn manner(matches: &ArgMatches) -> Option<Manner>
     let read_limit = limit_of(matches, "read-timeout", usual.read_limit)?;
     let answer_limit = limit_by(given(matches, "answer-timeout"), usual.answer_limit)?;
     let body_limit = body_limit(matches, usual.body_limit)?;
+    let rate = rate(matches)?;
     let family = family(matches)?;
     Some(Manner {
         wait,
@@ -105,6 +137,8 @@ pub(crate) fn manner(matches: &ArgMatches) -> Option<Manner>
         read_limit,
         answer_limit,
         body_limit,
+        rate,
+        crawl_delay: is_set(matches, "crawl-delay"),
         family,
     })
 }

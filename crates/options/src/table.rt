@@ -42,7 +42,7 @@ pub(crate) struct Row<T> {
 }
 
 /// The options.
-const TABLE: [Row<&str>; 83] = [
+const TABLE: [Row<&str>; 85] = [
     Row {
         short: "r",
         name: "recursive",
@@ -261,6 +261,13 @@ const TABLE: [Row<&str>; 83] = [
         says: "that pause varies, from S/2 to 3S/2",
     },
     Row {
+        short: "",
+        name: "crawl-delay",
+        kind: Kind::Flag,
+        heading: "",
+        says: "pause as robots files ask, 60 s at most",
+    },
+    Row {
         short: "t",
         name: "tries",
         kind: Kind::Usual("N", "1"),
@@ -329,6 +336,13 @@ const TABLE: [Row<&str>; 83] = [
         kind: Kind::Usual("BYTES", "1024g"),
         heading: "",
         says: "at most BYTES of a page; 5k, 5m, 5g",
+    },
+    Row {
+        short: "",
+        name: "limit-rate",
+        kind: Kind::Value("R"),
+        heading: "",
+        says: "read R bytes a second at most; 20k, 1.5m",
     },
     Row {
         short: "4",
@@ -914,7 +928,7 @@ pub(crate) struct Instead<T> {
 }
 
 /// What to do in place of Wget's options, if there is something. None of these forms is read.
-const INSTEAD: [Instead<&str>; 76] = [
+const INSTEAD: [Instead<&str>; 75] = [
     Instead {
         form: "--background",
         advice: "& of the shell, or nohup",
@@ -1014,10 +1028,6 @@ const INSTEAD: [Instead<&str>; 76] = [
     Instead {
         form: "--prefer-family",
         advice: "-4 or -6 connects to addresses of one family alone",
-    },
-    Instead {
-        form: "--limit-rate",
-        advice: "--workers 1 makes one request at a time",
     },
     Instead {
         form: "--max-redirect",
@@ -1231,13 +1241,15 @@ pub(crate) fn insteads() -> &'static [Instead<&'static str>]
 }
 
 /// The long forms of options that Wget doesn't have, and of their opposites.
-const OWN: [&str; 22] = [
+const OWN: [&str; 24] = [
     "--answer-timeout",
+    "--crawl-delay",
     "--http-proxy",
     "--https-proxy",
     "--map",
     "--max-body",
     "--max-urls",
+    "--no-crawl-delay",
     "--no-map",
     "--no-record",
     "--no-robots",
@@ -1274,7 +1286,7 @@ pub(crate) struct Command<T> {
 }
 
 /// The commands of wgetrc whose options are here.
-const COMMANDS: [Command<&str>; 67] = [
+const COMMANDS: [Command<&str>; 68] = [
     Command {
         name: "accept",
         option: "accept",
@@ -1398,6 +1410,10 @@ const COMMANDS: [Command<&str>; 67] = [
     Command {
         name: "input",
         option: "input-file",
+    },
+    Command {
+        name: "limitrate",
+        option: "limit-rate",
     },
     Command {
         name: "loadcookies",

@@ -1,3 +1,4 @@
+pub mod FlowLaws
 mod SpanLemmas
 mod StandardFacts
 pub mod TurnLaws

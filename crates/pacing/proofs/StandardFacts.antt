@@ -4,6 +4,7 @@ use Rattle.std.specs.Prelude.{codes}
 use Rattle.pacing.specs.declared.size.TheConstants.{MAX_SIZE}
 use Rattle.pacing.specs.declared.span.TheConstants.{MAX_SPAN}
 use Rattle.pacing.specs.Sizes.{size_in}
+use Rattle.pacing.specs.Rates.{rate_in}
 
 -- 365 days in nanoseconds, and 2^60 bytes
 limits : (MAX_SPAN ≡ 365 * 24 * 60 * 60 * 1000000000) × (MAX_SIZE ≡ 1024 * 1024 * 1024 * 1024 * 1024 * 1024)
@@ -23,3 +24,12 @@ refused : (size_in (codes "0") ≡ None) × (size_in (codes "0g") ≡ None) × (
     × (size_in (codes "1.5m") ≡ None) × (size_in (codes "-1") ≡ None) × (size_in (codes "1t") ≡ None) × (size_in (codes "1kk") ≡ None) × (size_in [] ≡ None)
 unfolding size_in
 refused = (refl, refl, refl, refl, refl, refl, refl, refl, refl)
+
+-- bytes a second: none, whole and broken numbers, each unit, and what isn't a whole byte
+rates : (rate_in (codes "0") ≡ Some 0) × (rate_in (codes "20k") ≡ Some 20480) × (rate_in (codes "1.5m") ≡ Some 1572864) × (rate_in (codes ".5g") ≡ Some 536870912) × (rate_in (codes "0.1") ≡ Some 1)
+unfolding rate_in
+rates = (refl, refl, refl, refl, refl)
+
+no_rates : (rate_in [] ≡ None) × (rate_in (codes "k") ≡ None) × (rate_in (codes "-1") ≡ None) × (rate_in (codes "1t") ≡ None) × (rate_in (codes "1.2.3") ≡ None) × (rate_in (codes "1152921504606846977") ≡ None)
+unfolding rate_in
+no_rates = (refl, refl, refl, refl, refl, refl)

@@ -1,4 +1,6 @@
+pub mod Flows
 pub mod Manners
+pub mod Rates
 pub mod Retries
 pub mod Sizes
 pub mod Spans

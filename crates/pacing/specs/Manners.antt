@@ -7,8 +7,8 @@ use Rattle.pacing.specs.declared.manner.Manner.{Manner}
 use Rattle.pacing.specs.declared.span.TheConstants.{MAX_SPAN}
 
 -- the pause between the beginnings of two requests to an origin, whether it varies, the limits of a connection's making, of a read
--- or a write and of a whole answer, all in nanoseconds, the most bytes of a body that goes to a file, and which addresses of a host are
--- connected to
+-- or a write and of a whole answer, all in nanoseconds, the most bytes of a body that goes to a file, how many bytes a second may be read, whether an origin's robots file
+-- may lengthen the pause, and which addresses of a host are connected to
 pub record Mannered : Type 0 where
   pub wait : ℕ
   pub is_random : Bool
@@ -16,6 +16,8 @@ pub record Mannered : Type 0 where
   pub read_limit : Option ℕ
   pub answer_limit : Option ℕ
   pub body_limit : ℕ
+  pub rate : Option ℕ
+  pub crawl_delay : Bool
   pub family : Family
 
 -- what is said of how a run treats servers
@@ -27,10 +29,12 @@ mannered manner = record {
   read_limit = option_map as_nanos manner.read_limit;
   answer_limit = option_map as_nanos manner.answer_limit;
   body_limit = manner.body_limit;
+  rate = manner.rate;
+  crawl_delay = manner.crawl_delay;
   family = manner.family;
 }
 
--- nothing is waited for, reads and writes have a limit of 900 seconds (GNU Wget manual, option `--read-timeout`), and bodies that go to
+-- nothing is waited for, bytes are read as fast as they come, reads and writes have a limit of 900 seconds (GNU Wget manual, option `--read-timeout`), and bodies that go to
 -- files one of 2^40 bytes
 abbrev pub usual : Mannered
 usual = record {
@@ -40,6 +44,8 @@ usual = record {
   read_limit = Some (900 * 1_000_000_000);
   answer_limit = None;
   body_limit = 1_099_511_627_776;
+  rate = None;
+  crawl_delay = false;
   family = Any;
 }
 

@@ -3,14 +3,18 @@
 //! of its own, and no clause rests on a clock. What is meant is in `specs/`. Its tests are in `site_tests`.
 #![tactic(auto)]
 
+mod flow;
 mod manner;
+mod rate;
 mod retries;
 mod size;
 mod span;
 mod timer;
 mod turns;
 
+pub use crate::flow::Flow;
 pub use crate::manner::{Family, Manner};
+pub use crate::rate::read_rate;
 pub use crate::retries::Retries;
 pub use crate::size::{MAX_SIZE, read_size};
 pub use crate::span::{MAX_SPAN, read_span};

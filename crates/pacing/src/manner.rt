@@ -39,6 +39,10 @@ pub struct Manner {
     pub answer_limit: Option<Duration>,
     /// How many bytes a body may have that goes to a file.
     pub body_limit: u64,
+    /// How many bytes a second may be read, if there is a limit.
+    pub rate: Option<u64>,
+    /// Whether an origin's robots file may lengthen the pause.
+    pub crawl_delay: bool,
     /// Which addresses of a host are connected to.
     pub family: Family,
 }
@@ -68,7 +72,7 @@ impl Manner {
     ghost use Rattle.std.specs.Prelude.{◌≡◌};
     ghost use Rattle.pacing.specs.Manners.{mannered, pause_by, usual};
 
-    /// Nothing is waited for, reads and writes have a limit of 900 seconds, and bodies that go to files one of 2^40 bytes.
+    /// Nothing is waited for, bytes are read as fast as they come, reads and writes have a limit of 900 seconds, and bodies that go to files one of 2^40 bytes.
     pub fn usual() -> Manner
         ensures { mannered result ≡ usual }
     {
@@ -79,6 +83,8 @@ impl Manner {
             read_limit: Some(Duration::from_secs(USUAL_READ_LIMIT)),
             answer_limit: None,
             body_limit: USUAL_BODY_LIMIT,
+            rate: None,
+            crawl_delay: false,
             family: Family::Any,
         }
     }

@@ -9,8 +9,9 @@ use crate::span::{cut, digits_in};
 pub const MAX_SIZE: u64 = 1_152_921_504_606_846_976;
 
 // A number, and how many bytes its unit has.
-fn split_size(text: &str) -> (&str, u64)
-    ensures { (result.0.now, result.1) ≡ split_size text.entry.now }
+pub(crate) fn split_size(text: &str) -> (&str, u64)
+    ensures value { (result.0.now, result.1) ≡ split_size text.entry.now }
+    ensures most { result.1 ≤ 1_073_741_824 }
 {
     if let Some(number) = cut(text, 'k') {
         return (number, 1_024);

@@ -34,8 +34,9 @@ pub(crate) fn digits_in(text: &str) -> Option<u64>
 }
 
 // The nanoseconds of the last of so many decimal places of a second. There are nine at most.
-fn place_value(places: usize) -> Option<u64>
-    ensures { result ≡ place_value places }
+pub(crate) fn place_value(places: usize) -> Option<u64>
+    ensures value { result ≡ place_value places }
+    ensures most { IfSome result (λ place. place ≤ 1_000_000_000) }
 {
     match places {
         0 => Some(1_000_000_000),
@@ -93,7 +94,7 @@ fn split_unit(text: &str) -> (&str, u64)
 }
 
 // What stands before the point, and after it.
-fn split_point(number: &str) -> (&str, &str)
+pub(crate) fn split_point(number: &str) -> (&str, &str)
     ensures whole { result.0.now ≡ before_first (λ byte. byte == 46) number.entry.now }
     ensures fraction { result.1.now ≡ after_first (λ byte. byte == 46) number.entry.now }
 {

@@ -5,3 +5,4 @@ pub mod Lines
 pub mod Groups
 pub mod RuleSetView
 pub mod inner
+pub mod Delays

@@ -4,3 +4,4 @@ pub mod RuleView
 pub mod LineView
 pub mod AudienceView
 pub mod NormalTextView
+pub mod DelayTally

@@ -4,7 +4,7 @@ ghost use Rattle.std.specs.List.{before_first, list_any};
 ghost use Rattle.robots_rules.specs.Lines.{is_blank};
 ghost use Rattle.robots_rules.specs.Groups.{groups_of, is_in_token, names_all, names_us, rule_of, rules_for_us, rules_naming, token_of};
 ghost use Rattle.robots_rules.specs.inner.LineView.{line_value};
-ghost use Rattle.robots_rules.specs.inner.AudienceView.{names_one};
+ghost use Rattle.robots_rules.specs.inner.AudienceView.{audience_by, names_one};
 
 use crate::lines::{Line, is_blank, is_word};
 use crate::rule::Rule;
@@ -12,7 +12,7 @@ use std::alloc::{AllocError, Global};
 
 /// Whose groups count: those that name this agent, or those that name every agent.
 #[derive(Clone, Copy)]
-enum Audience {
+pub(crate) enum Audience {
     ThisAgent,
     EveryAgent,
 }
@@ -22,12 +22,18 @@ pub(crate) fn rules_for_us(alloc: Global, lines: &[Line<'_>]) -> Result<Vec<Rule
     ensures { IfOk result (λ rules.
         rules.items ≡ map rule_of (rules_for_us (groups_of (map line_value lines.now)).groups)) }
 {
-    let audience = if names_this_agent(lines) {
+    rules_naming(alloc, lines, audience_of(lines))
+}
+
+/// This agent, if a group names it, or every agent.
+pub(crate) fn audience_of(lines: &[Line<'_>]) -> Audience
+    ensures { result ≡ audience_by (groups_of (map line_value lines.now)).groups }
+{
+    if names_this_agent(lines) {
         Audience::ThisAgent
     } else {
         Audience::EveryAgent
-    };
-    rules_naming(alloc, lines, audience)
+    }
 }
 
 /// Whether a group names this agent.
@@ -89,7 +95,7 @@ fn push_rule(
     Ok(())
 }
 
-fn names_one(audience: Audience, value: &[u8]) -> bool
+pub(crate) fn names_one(audience: Audience, value: &[u8]) -> bool
     ensures { result ≡ names_one audience value.now }
 {
     match audience {

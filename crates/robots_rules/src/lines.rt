@@ -32,7 +32,7 @@ pub(crate) fn lines_in(alloc: Global, file: &[u8]) -> Result<Vec<Line<'_>>, Allo
 }
 
 /// The part of the file that is used: of a longer one what stands before the last line end there.
-fn used(file: &[u8]) -> &[u8]
+pub(crate) fn used(file: &[u8]) -> &[u8]
     ensures { result.now ≡ used file.now }
 {
     if file.len() <= MAX_BYTES {
@@ -64,7 +64,7 @@ fn without_mark(text: &[u8]) -> &[u8]
     }
 }
 
-fn is_line_end(octet: u8) -> bool
+pub(crate) fn is_line_end(octet: u8) -> bool
     ensures { result ≡ is_line_end octet }
 {
     octet == b'\r' || octet == b'\n'
@@ -72,7 +72,7 @@ fn is_line_end(octet: u8) -> bool
 
 /// What the line says, or `None` where it says nothing.
 #[tactic(auto, unfolding(crate::specs::Lines::line_of))]
-fn line_of(text: &[u8]) -> Option<Line<'_>>
+pub(crate) fn line_of(text: &[u8]) -> Option<Line<'_>>
     ensures { option_map line_value result ≡ line_of text.now }
 {
     let text = uncommented(text);
@@ -82,7 +82,7 @@ fn line_of(text: &[u8]) -> Option<Line<'_>>
     }
 }
 
-fn uncommented(text: &[u8]) -> &[u8]
+pub(crate) fn uncommented(text: &[u8]) -> &[u8]
     ensures { result.now ≡ uncommented text.now }
 {
     match first_hash(text) {
@@ -97,7 +97,7 @@ fn first_hash(text: &[u8]) -> Option<usize>
     text.iter().position(|octet| *octet == b'#')
 }
 
-fn first_colon(text: &[u8]) -> Option<usize>
+pub(crate) fn first_colon(text: &[u8]) -> Option<usize>
     ensures { result ≡ position (λ octet. octet == 58) text.now }
 {
     text.iter().position(|octet| *octet == b':')
@@ -133,7 +133,7 @@ pub(crate) fn is_word(word: &[u8], text: &[u8]) -> bool
 }
 
 /// The text without the blanks at both ends.
-fn trimmed(text: &[u8]) -> &[u8]
+pub(crate) fn trimmed(text: &[u8]) -> &[u8]
     ensures { result.now ≡ without_blanks text.now }
 {
     trim_end(trim_start(text))

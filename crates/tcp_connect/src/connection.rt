@@ -1,22 +1,30 @@
-//! Connections that remember whether they failed, and end when an answer takes too long.
+//! Connections that remember whether they failed, end when an answer takes too long, and are read no faster than a rate.
+ghost use Rattle.std.specs.Prelude.{◌<◌};
 ghost use Rattle.std.specs.Io.{ReadsAtMost};
 
+use crate::flow::wait_flow;
+use crate::hosts::Hosts;
 use crate::kept::Taken;
 use address::Origin;
+use pacing::Manner;
 use std::io;
 use std::io::{Error, ErrorKind, Read, Write};
 use std::net::{Net, OpenStream};
+use std::sync::Wait;
 use std::time::{Clock, Duration, Instant};
 
 /// A connection of the system's to an origin, until when it may be read, whether a read or a write of it failed, and its place
 /// among those that are kept, where it has one.
-pub struct Connection<'a, R: Net + Clock> {
+pub struct Connection<'a, R: Net + Wait + Clock> {
     rt: &'a R,
+    hosts: &'a Hosts,
     stream: R::Stream,
     // When the answer has to have come, where there is a limit.
     until: Option<Instant>,
     // How long a read may wait, where there is a limit.
     read_limit: Option<Duration>,
+    // How many bytes a second may be read by all workers, where there is a limit.
+    rate: Option<u64>,
     failed: bool,
     // None without memory for it.
     of: Option<Origin>,
@@ -24,13 +32,15 @@ pub struct Connection<'a, R: Net + Clock> {
 }
 
 // By hand: a place can't be dropped.
-impl<'a, R: Net + Clock> Drop for Connection<'a, R> {
+impl<'a, R: Net + Wait + Clock> Drop for Connection<'a, R> {
     fn drop(self) {
         let Connection {
             rt: _rt,
+            hosts: _hosts,
             stream: _stream,
             until: _until,
             read_limit: _read_limit,
+            rate: _rate,
             failed: _failed,
             of: _of,
             place,
@@ -61,21 +71,23 @@ fn read_time<R: Clock>(
     }
 }
 
-impl<'a, R: Net + Clock> Connection<'a, R> {
+impl<'a, R: Net + Wait + Clock> Connection<'a, R> {
     // None of its calls has failed yet. Where there is a limit for the whole answer it begins now; without a clock there is none.
     pub(crate) fn new(
         rt: &'a R,
+        hosts: &'a Hosts,
         stream: R::Stream,
         of: Option<Origin>,
         place: Option<Taken<'a, R::Stream>>,
-        read_limit: Option<Duration>,
-        answer_limit: Option<Duration>,
+        manner: &Manner,
     ) -> Connection<'a, R> {
         Connection {
             rt,
+            hosts,
             stream,
-            until: end_of(rt, answer_limit),
-            read_limit,
+            until: end_of(rt, manner.answer_limit),
+            read_limit: manner.read_limit,
+            rate: manner.rate,
             failed: false,
             of,
             place,
@@ -91,9 +103,11 @@ impl<'a, R: Net + Clock> Connection<'a, R> {
     pub(crate) fn into_parts(self) -> (Option<R::Stream>, Option<Taken<'a, R::Stream>>) {
         let Connection {
             rt: _rt,
+            hosts: _hosts,
             stream,
             until: _until,
             read_limit: _read_limit,
+            rate: _rate,
             failed,
             of: _of,
             place,
@@ -112,6 +126,26 @@ impl<'a, R: Net + Clock> Connection<'a, R> {
         }
         self.stream.read(buf)
     }
+
+    // Reads what may be read in a second at most, and waits until the next read may begin. That doesn't count as time of the answer.
+    fn read_paced(&mut self, rate: u64, buf: &mut [u8]) -> io::Result<usize>
+        requires { 0 < rate }
+        ensures { ReadsAtMost result buf.new }
+    {
+        let most = usize::try_from(rate).unwrap_or(usize::MAX).min(buf.len());
+        let answer = self.read_in_time(&mut buf[..most]);
+        if let Ok(read) = answer {
+            let waited = wait_flow(self.rt, self.hosts, rate, read);
+            self.until = later(self.until, waited);
+        }
+        answer
+    }
+}
+
+// A time that is later by so much, where there is one.
+fn later(until: Option<Instant>, waited: Duration) -> Option<Instant> {
+    let until = until?;
+    until.checked_add(waited).or(Some(until))
 }
 
 // When an answer has to have come that takes so long at most from now on.
@@ -127,15 +161,18 @@ fn is_fault(answer: &io::Result<usize>) -> bool {
     }
 }
 
-impl<'a, R: Net + Clock> Read for Connection<'a, R> {
+impl<'a, R: Net + Wait + Clock> Read for Connection<'a, R> {
     fn read(&mut self, buf: &mut [u8]) -> io::Result<usize> {
-        let answer = self.read_in_time(buf);
+        let answer = match self.rate {
+            Some(rate) if 0 < rate => self.read_paced(rate, buf),
+            _ => self.read_in_time(buf),
+        };
         self.failed |= is_fault(&answer);
         answer
     }
 }
 
-impl<'a, R: Net + Clock> Write for Connection<'a, R> {
+impl<'a, R: Net + Wait + Clock> Write for Connection<'a, R> {
     fn write(&mut self, buf: &[u8]) -> io::Result<usize> {
         let answer = self.stream.write(buf);
         self.failed |= is_fault(&answer);

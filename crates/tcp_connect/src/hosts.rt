@@ -1,8 +1,10 @@
 //! What the connections of a run know of hosts.
+ghost use Rattle.std.specs.Prelude.{◌<◌};
+
 use crate::lacks::{Lack, OpenFault, is_again, lack_of, lacks_descriptor};
 use address::Origin;
 use indexmap::IndexMap;
-use pacing::Turns;
+use pacing::{Flow, Turns};
 use std::alloc::{AllocError, Global};
 use std::io::{Error, ErrorKind};
 use std::net::{Net, SocketAddr, ToSocketAddrs};
@@ -10,7 +12,7 @@ use std::sync::atomic::{AtomicBool, AtomicU64, Ordering};
 use std::sync::{Arc, Mutex, Wait};
 
 /// What the connections of a run know of hosts, shared by all workers: each host's addresses, which servers keep their
-/// connections open, which don't answer, and when an origin's next request may begin.
+/// connections open, which don't answer, when an origin's next request may begin, and when the next read of all may.
 pub struct Hosts {
     // By the host of a URL, with its brackets.
     by_name: Mutex<IndexMap<String, Arc<Host>>>,
@@ -19,6 +21,7 @@ pub struct Hosts {
     // How many connections have ended.
     ended: AtomicU64,
     turns: Mutex<Turns>,
+    flow: Mutex<Flow>,
     // Whether an origin was to be left alone at some time.
     has_holds: AtomicBool,
     alloc: Global,
@@ -33,6 +36,7 @@ impl Drop for Hosts {
             silent: _silent,
             ended: _ended,
             turns: _turns,
+            flow: _flow,
             has_holds: _has_holds,
             alloc: _alloc,
         } = self;
@@ -64,6 +68,7 @@ impl Hosts {
             silent: Mutex::new(Vec::new(alloc)),
             ended: AtomicU64::new(0),
             turns: Mutex::new(Turns::new(alloc)),
+            flow: Mutex::new(Flow::new()),
             has_holds: AtomicBool::new(false),
             alloc,
         }
@@ -111,6 +116,19 @@ impl Hosts {
     pub(crate) fn hold<R: Wait>(&self, rt: &R, of: &Origin, until: u64) {
         self.has_holds.store(true, Ordering::SeqCst);
         hold_among(&mut self.turns.lock(rt), of, until);
+    }
+
+    // From the last request to an origin on, so many nanoseconds at least are to pass between the beginnings of two requests to it. Where
+    // there is no memory for it, fewer may.
+    pub(crate) fn space<R: Wait>(&self, rt: &R, of: &Origin, delay: u64) {
+        space_among(&mut self.turns.lock(rt), of, delay);
+    }
+
+    // When the next read may begin after so many bytes were read by now, at a rate. It is waited for after the lock was released.
+    pub(crate) fn book_read<R: Wait>(&self, rt: &R, rate: u64, bytes: u64, now: u64) -> u64
+        requires { 0 < rate }
+    {
+        book_read_among(&mut self.flow.lock(rt), rate, bytes, now)
     }
 
     // Whether an origin was to be left alone at some time.
@@ -172,6 +190,18 @@ fn book_among(turns: &mut Turns, of: &Origin, now: u64, pause: u64) -> Result<u6
 // An origin is left alone until this time.
 fn hold_among(turns: &mut Turns, of: &Origin, until: u64) {
     let _ = turns.hold(of, until);
+}
+
+// An origin has this least pause from now on.
+fn space_among(turns: &mut Turns, of: &Origin, delay: u64) {
+    let _ = turns.space(of, delay);
+}
+
+// When the next read may begin, by all reads of the run.
+fn book_read_among(flow: &mut Flow, rate: u64, bytes: u64, now: u64) -> u64
+    requires { 0 < rate }
+{
+    flow.book(rate, bytes, now)
 }
 
 // The host of this name, if it is known.

@@ -4,6 +4,7 @@
 #![tactic(auto)]
 
 mod connection;
+mod flow;
 mod hosts;
 mod kept;
 mod lacks;

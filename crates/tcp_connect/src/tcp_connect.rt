@@ -10,7 +10,7 @@ use crate::connection::Connection;
 use crate::hosts::{Host, Hosts, Known, has};
 use crate::kept::{Kept, MOST, Taken, Waiting, is_fresh};
 use crate::lacks::{Lack, OpenFault, Patience, lack_of, loss_of};
-use crate::turn::{hold_turn, wait_turn};
+use crate::turn::{hold_turn, space_turns, wait_turn};
 use address::{Origin, Scheme};
 use connect::{Connect, ConnectFault};
 use pacing::{Family, Manner};
@@ -295,13 +295,18 @@ impl<'a, R: Net + Wait + Clock> TcpConnect<'a, R> {
         hold_turn(self.rt, self.hosts, of, pause);
     }
 
+    /// Has so much time at least pass between the beginnings of two requests to an origin, whichever workers', from the last one on.
+    pub fn space_out(&self, of: &Origin, delay: Duration) {
+        space_turns(self.rt, self.hosts, of, delay);
+    }
+
     // Waits until a request to an origin may begin, unless that was done, and no request was begun since. The error is that memory
     // ran out.
     fn begin(&mut self, of: &Origin) -> Result<(), AllocError>
         ensures { self.new ≡ self.old }
     {
         let turn = self.turn.take();
-        if self.manner.wait.is_zero() && !self.hosts.has_holds() {
+        if self.manner.wait.is_zero() && !self.manner.crawl_delay && !self.hosts.has_holds() {
             return Ok(());
         }
         match turn {
@@ -408,13 +413,8 @@ impl<'a, R: Net + Wait + Clock> TcpConnect<'a, R> {
         of: &Origin,
         place: Option<Taken<'a, R::Stream>>,
     ) -> Connection<'a, R> {
-        let Manner {
-            read_limit,
-            answer_limit,
-            ..
-        } = self.manner;
         let of = of.try_clone().ok();
-        Connection::new(self.rt, stream, of, place, read_limit, answer_limit)
+        Connection::new(self.rt, self.hosts, stream, of, place, &self.manner)
     }
 
     // A connection to an origin, as it can be had now.

@@ -11,10 +11,21 @@ use std::time::{Clock, Duration};
 
 // The system's clock. Its beginning is the same for all workers.
 #[derive(Drop)]
-struct SystemTimer<'a, R: Clock> {
+pub(crate) struct SystemTimer<'a, R: Clock> {
     rt: &'a R,
     // What it showed last.
     shown: u64,
+}
+
+impl<'a, R: Clock> SystemTimer<'a, R> {
+    pub(crate) fn new(rt: &'a R) -> SystemTimer<'a, R> {
+        SystemTimer { rt, shown: 0 }
+    }
+
+    // What it showed last.
+    pub(crate) fn shown(&self) -> u64 {
+        self.shown
+    }
 }
 
 impl<'a, R: Clock> Timer for SystemTimer<'a, R> {
@@ -39,7 +50,7 @@ pub(crate) fn wait_turn<R: Wait + Clock>(
     manner: &Manner,
     of: &Origin,
 ) -> Result<(), AllocError> {
-    let mut timer = SystemTimer { rt, shown: 0 };
+    let mut timer = SystemTimer::new(rt);
     let Some(now) = timer.now() else {
         return Ok(());
     };
@@ -51,9 +62,14 @@ pub(crate) fn wait_turn<R: Wait + Clock>(
 
 // Has no request to an origin begin before this time is over. Without a clock it may.
 pub(crate) fn hold_turn<R: Wait + Clock>(rt: &R, hosts: &Hosts, of: &Origin, pause: Duration) {
-    let mut timer = SystemTimer { rt, shown: 0 };
+    let mut timer = SystemTimer::new(rt);
     if let Some(now) = timer.now() {
         let nanos = u64::try_from(pause.as_nanos()).unwrap_or(u64::MAX);
         hosts.hold(rt, of, now.saturating_add(nanos));
     }
+}
+
+// Has so much time at least pass between the beginnings of two requests to an origin.
+pub(crate) fn space_turns<R: Wait>(rt: &R, hosts: &Hosts, of: &Origin, delay: Duration) {
+    hosts.space(rt, of, u64::try_from(delay.as_nanos()).unwrap_or(u64::MAX));
 }

@@ -39,6 +39,8 @@ pub struct OverTcp<'a, R: Net + Wait + Clock + Eprint> {
     retries: Retries,
     // How long an answer may be whose body goes to a keeper.
     limits: Limits,
+    // Whether robots files may lengthen the pauses between requests.
+    crawl_delay: bool,
     asks: Vec<Ask>,
 }
 
@@ -50,6 +52,7 @@ impl<'a, R: Net + Wait + Clock + Eprint> Drop for OverTcp<'a, R> {
             inner: _inner,
             retries: _retries,
             limits: _limits,
+            crawl_delay: _crawl_delay,
             asks: _asks,
         } = self;
     }
@@ -96,6 +99,7 @@ impl<'a, R: Net + Wait + Clock + Eprint> OverTcp<'a, R> {
         ensures asks { result.asks ≡ [] }
     {
         let limits = Limits::of_body(manner.body_limit);
+        let crawl_delay = manner.crawl_delay;
         let connect = WatchedTcp::new(rt, alloc, hosts, kept, progress, most, proxies, manner);
         let fetcher = HttpFetcher::new(alloc, connect, robots).sending(sends);
         OverTcp {
@@ -106,6 +110,7 @@ impl<'a, R: Net + Wait + Clock + Eprint> OverTcp<'a, R> {
             },
             retries,
             limits,
+            crawl_delay,
             asks: Vec::new(alloc),
         }
     }
@@ -113,6 +118,46 @@ impl<'a, R: Net + Wait + Clock + Eprint> OverTcp<'a, R> {
     /// Why the last connection was lost, if it was.
     pub fn loss(&self) -> Option<LossKind> {
         self.inner.loss()
+    }
+
+    // Has requests to the origin of a robots file begin as far apart as it says, if that is honoured. The error is that memory ran out.
+    fn space_out(&self, hops: &Hops) -> Result<(), AllocError> {
+        if self.crawl_delay {
+            let delay = hops.crawl_delay(self.alloc)?;
+            self.inner.connect().space_out(hops.of(), delay);
+        }
+        Ok(())
+    }
+
+    // What is told last of an origin's robots file, whose delay holds from then on if that is honoured.
+    fn spaced_hops(&mut self, of: &Origin) -> Result<Hops, AllocError>
+        ensures site { self.new.robots ≡ self.old.robots }
+        ensures of { IfOk result (λ found. found.of ≡ of.now) }
+        ensures told { IfOk result (λ found. MayRule self.old.robots of.now (rules_of_hops found.hops)) }
+        ensures asks { self.new.asks ≡ self.old.asks }
+        ensures tries { IfOk result (λ found. IsLastOf (λ f. f.asks) (λ f found. MayRule f.robots of.now (rules_of_hops found.hops))
+            (λ found. is_worth_hops self.old.retries found.hops) (ask.Rules of.now) self.old.retries.most self.old.single self.new.single found) }
+        ensures retries { self.new.retries ≡ self.old.retries }
+        ensures limits { self.new.limits ≡ self.old.limits }
+    {
+        let hops = retries::tell_hops(&mut self.inner, &self.retries, of)?;
+        self.space_out(&hops)?;
+        Ok(hops)
+    }
+
+    // The rules by what is told last of an origin's robots file, whose delay holds from then on.
+    fn spaced_rules(&mut self, of: &Origin) -> Result<RuleSet, AllocError>
+        ensures site { self.new.robots ≡ self.old.robots }
+        ensures told { IfOk result (λ r. MayRule self.old.robots of.now r) }
+        ensures asks { self.new.asks ≡ self.old.asks }
+        ensures once { self.old.retries.most ≡ 0 → OnOk result (self.new.single.asks ≡ self.old.single.asks ++ ask.Rules of.now ∷ []) }
+        ensures tries { IfOk result (λ r. (found : ChainValue) × (r ≡ rules_of_hops found.hops)
+            × IsLastOf (λ f. f.asks) (λ f found. MayRule f.robots of.now (rules_of_hops found.hops)) (λ found. is_worth_hops self.old.retries found.hops) (ask.Rules of.now) self.old.retries.most self.old.single self.new.single found) }
+        ensures retries { self.new.retries ≡ self.old.retries }
+        ensures limits { self.new.limits ≡ self.old.limits }
+    {
+        let hops = self.spaced_hops(of)?;
+        hops.rules(self.alloc)
     }
 
     // Asks for a page, whose body goes to the sink's keeper while it arrives.
@@ -177,6 +222,9 @@ impl<'a, R: Net + Wait + Clock + Eprint> Fetcher for OverTcp<'a, R> {
         ensures limits { self.new.limits ≡ self.old.limits }
     {
         self.asks.push(Ask::Rules(of.try_clone()?))?;
+        if self.crawl_delay {
+            return self.spaced_rules(of);
+        }
         retries::ask_robots(self.alloc, &mut self.inner, &self.retries, of)
     }
 
@@ -220,6 +268,6 @@ impl<'a, R: Net + Wait + Clock + Eprint> Telling for OverTcp<'a, R> {
         ensures limits { self.new.limits ≡ self.old.limits }
     {
         self.asks.push(Ask::Rules(of.try_clone()?))?;
-        retries::tell_hops(&mut self.inner, &self.retries, of)
+        self.spaced_hops(of)
     }
 }

@@ -25,12 +25,12 @@ pub(crate) struct WatchedTcp<'a, R: Net + Wait + Clock + Eprint> {
 }
 
 // One of them.
-pub(crate) struct WatchedTcpWire<'a, R: Net + Clock> {
+pub(crate) struct WatchedTcpWire<'a, R: Net + Wait + Clock> {
     inner: WatchedWire<TcpWire<Connection<'a, R>>>,
 }
 
 // By hand: who drops one proves a call, and nothing of what it holds.
-impl<'a, R: Net + Clock> Drop for WatchedTcpWire<'a, R> {
+impl<'a, R: Net + Wait + Clock> Drop for WatchedTcpWire<'a, R> {
     fn drop(self) {
         let WatchedTcpWire { inner: _inner } = self;
     }
@@ -45,7 +45,7 @@ impl<'a, R: Net + Wait + Clock + Eprint> Model for WatchedTcp<'a, R> {
 }
 
 // Contracts see how many calls answered an error, and whether one lost the connection.
-impl<'a, R: Net + Clock> Model for WatchedTcpWire<'a, R> {
+impl<'a, R: Net + Wait + Clock> Model for WatchedTcpWire<'a, R> {
     ghost use Rattle.std.specs.Prelude.{ℕ, Bool};
 
     ghost Value = { ℕ × Bool × Bool };
@@ -81,9 +81,14 @@ impl<'a, R: Net + Wait + Clock + Eprint> WatchedTcp<'a, R> {
             },
         }
     }
+
+    // Has requests to an origin begin as far apart as this, whichever workers'.
+    pub(crate) fn space_out(&self, of: &Origin, delay: Duration) {
+        self.inner.inner().space_out(of, delay);
+    }
 }
 
-impl<'a, R: Net + Clock> WatchedTcpWire<'a, R> {
+impl<'a, R: Net + Wait + Clock> WatchedTcpWire<'a, R> {
     ghost use Rattle.std.specs.Prelude.{◌≡◌};
 
     fn into_inner(self) -> WatchedWire<TcpWire<Connection<'a, R>>>
@@ -154,7 +159,7 @@ impl<'a, R: Net + Wait + Clock + Eprint> CallingConnect for WatchedTcp<'a, R> {
     }
 }
 
-impl<'a, R: Net + Clock> Wire for WatchedTcpWire<'a, R> {
+impl<'a, R: Net + Wait + Clock> Wire for WatchedTcpWire<'a, R> {
     ghost use Rattle.std.specs.Prelude.{None, false};
 
     ghost incoming = { λ _. None };
