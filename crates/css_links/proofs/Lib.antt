@@ -1,5 +1,6 @@
 pub mod Feeding
 pub mod Searching
+pub mod Vectors
 pub mod Passing
 pub mod Writing
 pub mod Moving

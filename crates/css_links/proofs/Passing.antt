@@ -353,3 +353,12 @@ no_escape raw n = plain_says [] raw n
 pub not_found : (place : Option ℕ) (raw : List ℕ) → IsFirstByte (is_byte 92) raw place → is_some place ≡ false → unescaped raw ≡ raw
 not_found None raw first none = no_escape raw first
 not_found (Some k) raw first none = absurd (true≢false none)
+
+-- bytes outside of escapes are put down as they are
+pub run_says : (t raw : List ℕ) → says (read (t ++ until (is 92) raw) Plain) (from (is 92) raw) ≡ says (read t Plain) raw
+run_says t [] = rw (append-nil t) refl
+run_says t (b ∷ bs) = go (b == 92) refl (run_says (t ++ b ∷ []) bs) where
+  go : (e : Bool) → (b == 92) ≡ e → says (read ((t ++ b ∷ []) ++ until (is 92) bs) Plain) (from (is 92) bs) ≡ says (read (t ++ b ∷ []) Plain) bs
+      → says (read (t ++ (if e then [] else b ∷ until (is 92) bs)) Plain) (if e then b ∷ bs else from (is 92) bs) ≡ says (read t Plain) (b ∷ bs)
+  go true e h = rw (append-nil t) refl
+  go false e h = rw e (rw (append_assoc t (b ∷ []) (until (is 92) bs)) at h)

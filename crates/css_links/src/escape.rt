@@ -1,8 +1,9 @@
 //! Escapes (CSS Syntax Level 3, sections 4.3.5, 4.3.7 and 4.3.11).
-ghost use Rattle.std.specs.Prelude.{◌≡◌, false, ◌<◌, ◌++◌, [], ◌∷◌, IfOk, OnOk, OnErr, string_bytes};
+ghost use Rattle.std.specs.Prelude.{◌≡◌, false, ◌<◌, ◌≤◌, ◌++◌, [], ◌∷◌, length, IfOk, OnOk, OnErr, string_bytes};
 ghost use Rattle.std.specs.Str.Lossy.{utf8_lossy};
 ghost use Rattle.std.specs.Char.{IsAsciiHexdigit};
 ghost use Rattle.css_links.specs.Escapes.{unescaped, digit, with_digit, character, plainly, begun, ended, numbered, returned, read_in, whole_in, says, read};
+ghost use Rattle.css_links.specs.inner.Spans.{until, from, is};
 
 use crate::bytes::{is_newline, is_white};
 use bstr::ByteVec;
@@ -33,12 +34,12 @@ pub(crate) fn has_escape(raw: &[u8]) -> bool
 pub(crate) fn unescaped(alloc: Global, raw: &[u8]) -> Result<Vec<u8>, AllocError>
     ensures { IfOk result (λ text. text.items ≡ unescaped raw.now) }
 {
-    let mut text = Vec::new(alloc);
+    let mut text = Vec::with_capacity(alloc, raw.len())?;
     let mut reading = Reading::Plain;
     let mut left = raw;
     while let [byte, others @ ..] = left {
         reading = read_in(&mut text, reading, *byte)?;
-        left = others;
+        left = read_run(&mut text, reading, others)?;
     }
     end(&mut text, reading)?;
     Ok(text)
@@ -51,8 +52,41 @@ pub(crate) fn decoded(alloc: Global, raw: &[u8]) -> Result<String, AllocError>
     if !has_escape(raw) {
         return String::from_utf8_lossy(alloc, raw);
     }
-    let text = unescaped(alloc, raw)?;
-    String::from_utf8_lossy(alloc, &text)
+    match String::from_utf8(unescaped(alloc, raw)?) {
+        Ok(text) => Ok(text),
+        Err(fault) => String::from_utf8_lossy(alloc, fault.as_bytes()),
+    }
+}
+
+// Outside of escapes, puts down what is before the next one. Gives what is left.
+fn read_run<'a>(
+    text: &mut Vec<u8>,
+    reading: Reading,
+    left: &'a [u8],
+) -> Result<&'a [u8], AllocError>
+    ensures says { IfOk result (λ rest. says (read text.new.items reading) rest.now ≡ says (read text.old.items reading) left.now) }
+    ensures shorter { IfOk result (λ rest. length rest.now ≤ length left.now) }
+{
+    match reading {
+        Reading::Plain => {
+            let (run, rest) = before_backslash(left);
+            text.extend_from_slice(run)?;
+            Ok(rest)
+        },
+        _ => Ok(left),
+    }
+}
+
+// A text cut before its first backslash; whole, if there is none.
+fn before_backslash(text: &[u8]) -> (&[u8], &[u8])
+    ensures front { result.0.now ≡ until (is 92) text.now }
+    ensures left { result.1.now ≡ from (is 92) text.now }
+    ensures shorter { length result.1.now ≤ length text.now }
+{
+    match memchr(b'\\', text) {
+        Some(at) => text.split_at(at),
+        None => (text, &[]),
+    }
 }
 
 // Puts down what one more byte says, and gives the next place.

@@ -14,6 +14,7 @@ mod bytes;
 mod change;
 mod escape;
 mod found;
+mod lanes;
 mod machine;
 mod memory;
 mod place;

@@ -1,29 +1,22 @@
-use Rattle.std.proofs.Common.{refl, sym, ◌∙◌, add-one}
+use Rattle.std.proofs.Common.{◌≡◌, ◌+◌, ◌-◌, ◌≤◌, length, refl, ◌∙◌, arith}
 use Rattle.css_links.specs.inner.Spans.{ends_span}
-use Rattle.css_links.proofs.Searching.{stopped_until, stopped_from, passed_until, passed_from, ended_until, ended_from}
+use Rattle.css_links.proofs.Vectors.{cut_after, run_fits}
 use Rattle.css_links.proofs.span.Span.split.Goals as goal
 
-pub loop-i-init : goal.loop-i-init
-loop-i-init c = record { front = refl; left = refl }
-
-pub returns-then-ends_at-clause-front : goal.returns-then-ends_at-clause-front
-returns-then-ends_at-clause-front c =
-    c.split_at.ensures.front ∙ sym (stopped_until (ends_span c.args.self) c.args.text.now c.loop-i.i c.loop-i-test.true (sym c.ends_at.ensures ∙ c.if-ends_at.true) c.loop-i.invariant.front)
-
-pub returns-then-ends_at-clause-left : goal.returns-then-ends_at-clause-left
-returns-then-ends_at-clause-left c =
-    c.split_at.ensures.back ∙ sym (stopped_from (ends_span c.args.self) c.args.text.now c.loop-i.i c.loop-i-test.true (sym c.ends_at.ensures ∙ c.if-ends_at.true) c.loop-i.invariant.left)
-
-pub loop-i-preserved : goal.loop-i-preserved
-loop-i-preserved c =
-    let goes = sym c.ends_at.ensures ∙ c.if-ends_at.false in
-    rw add-one record {
-      front = passed_until (ends_span c.args.self) c.args.text.now c.loop-i.i c.loop-i-test.true goes c.loop-i.invariant.front;
-      left = passed_from (ends_span c.args.self) c.args.text.now c.loop-i.i c.loop-i-test.true goes c.loop-i.invariant.left;
-    }
+pub split_at-requires-2 : goal.split_at-requires-2
+split_at-requires-2 c =
+    omega (arith, c.calm-calm.ensures.within, c.split_at.ensures.back_len, run_fits (ends_span c.args.self) c.split_at.result.1.now c.split_by_bytes.result.0.now c.split_by_bytes.ensures.front)
 
 pub returns-clause-front : goal.returns-clause-front
-returns-clause-front c = ended_until (ends_span c.args.self) c.args.text.now c.loop-i.i c.loop-i-test.false c.loop-i.invariant.front
+returns-clause-front c =
+    let parts =
+    cut_after (ends_span c.args.self) c.args.text.now c.calm-calm.result c.calm-calm.ensures.within c.calm-calm.ensures.calm c.split_by_bytes.result.0.now c.split_at.result.1.now
+    (c.calm-calm.result + length c.split_by_bytes.result.0.now) c.split_at.ensures.back c.split_by_bytes.ensures.front refl in
+    c.split_at-2.ensures.front ∙ parts.0
 
 pub returns-clause-left : goal.returns-clause-left
-returns-clause-left c = ended_from (ends_span c.args.self) c.args.text.now c.loop-i.i c.loop-i-test.false c.loop-i.invariant.left
+returns-clause-left c =
+    let parts =
+    cut_after (ends_span c.args.self) c.args.text.now c.calm-calm.result c.calm-calm.ensures.within c.calm-calm.ensures.calm c.split_by_bytes.result.0.now c.split_at.result.1.now
+    (c.calm-calm.result + length c.split_by_bytes.result.0.now) c.split_at.ensures.back c.split_by_bytes.ensures.front refl in
+    c.split_at-2.ensures.back ∙ parts.1

@@ -1,7 +1,7 @@
 -- The part goes on as far as the search has come.
 use Rattle.std.proofs.Common.{◌≡◌, ◌++◌, take, drop}
 use Rattle.css_links.specs.inner.Spans.{until, from, ends_span}
-use Rattle.css_links.proofs.span.Span.split.Given as goal
+use Rattle.css_links.proofs.span.Span.split_by_bytes.Given as goal
 
 abbrev pub invariant-loop-i : goal.invariant-loop-i
 invariant-loop-i l = record {
