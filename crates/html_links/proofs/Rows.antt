@@ -1,9 +1,10 @@
 -- Rows of elements, and attributes, whose names begin with another byte say nothing of a name.
-use Rattle.std.proofs.Common.{◌≡◌, ℕ, Bool, true, false, ◌||◌, ◌≤◌, ◌<◌, List, [], ◌∷◌, ◌++◌, if◌then◌else◌, length, get_or, refl, arith}
+use Rattle.std.proofs.Common.{◌≡◌, ℕ, Bool, true, false, ◌||◌, ◌≤◌, ◌<◌, List, [], ◌∷◌, ◌++◌, None, if◌then◌else◌, length, get_or, refl, arith}
 use Rattle.std.specs.Str.{bytes_eq}
 use Rattle.std.specs.List.{flat_map, list_any}
 use Rattle.html_links.specs.Pieces.{Attribute}
 use Rattle.html_links.specs.Links.{Row, link_by, row_links, link_table, table_links}
+use Rattle.html_links.specs.Awaiting.{row_of}
 use Rattle.html_links.specs.Asked.{asked_name, asked_names, is_asked_attribute}
 use Rattle.html_links.specs.declared.asked.AskedName.{AskedName}
 use Rattle.html_links.specs.inner.Rows.{begins_with, rows_with, names_with}
@@ -57,6 +58,27 @@ pub no_links : (name : List ℕ) (attributes : List Attribute) → length name <
 unfolding table_links link_table
 no_links [] attributes h = refl
 no_links (first ∷ name) attributes h = absurd (omega arith)
+
+-- ---- the row of an attribute
+
+row_among : (first : ℕ) (name attribute : List ℕ) (rows : List Row) → row_of (first ∷ name) attribute (rows_with first rows) ≡ row_of (first ∷ name) attribute rows
+row_among first name attribute [] = refl
+row_among first name attribute (r ∷ others) = go (begins_with first r.element) refl (row_among first name attribute others) where
+  go : (t : Bool) → begins_with first r.element ≡ t
+      → row_of (first ∷ name) attribute (rows_with first others) ≡ row_of (first ∷ name) attribute others
+      → row_of (first ∷ name) attribute (if t then r ∷ rows_with first others else rows_with first others) ≡ row_of (first ∷ name) attribute (r ∷ others)
+  go true e g = rw g refl
+  go false e g = rw (differs first name r.element e) g
+
+pub row_by : (name attribute : List ℕ) (rows found : List Row) (other : ℕ) → 1 ≤ length name → found ≡ rows_with (get_or name 0 other) rows
+    → row_of name attribute found ≡ row_of name attribute rows
+row_by [] attribute rows found other h e = absurd (omega arith)
+row_by (first ∷ name) attribute rows found other h e = rw e (row_among first name attribute rows)
+
+pub no_row : (name attribute : List ℕ) → length name < 1 → None ≡ row_of name attribute link_table
+unfolding link_table
+no_row [] attribute h = refl
+no_row (first ∷ name) attribute h = absurd (omega arith)
 
 -- ---- attributes
 

@@ -4,6 +4,7 @@ ghost use Rattle.std.specs.Prelude.{◌≡◌, ℕ, List, map};
 ghost use Rattle.html_links.specs.Asked.{asked_name};
 ghost use Rattle.html_links.specs.Links.{link_table, row_links, table_links};
 ghost use Rattle.html_links.specs.Pieces.{Attribute as NameAndValue};
+ghost use Rattle.html_links.specs.Awaiting.{row_of};
 ghost use Rattle.html_links.specs.inner.Rows.{named, rows_with};
 ghost use Rattle.std.specs.List.{list_any, flat_map};
 ghost use Rattle.std.specs.Str.{bytes_eq};
@@ -124,6 +125,7 @@ fn rows_with(first: u8) -> &'static [Row]
 /// Rows among which all of elements of that name are, in the table's order.
 pub(crate) fn rows_for(name: &[u8]) -> &'static [Row]
     ensures asked { list_any (λ row. bytes_eq name.now row.element) (map named result.now) ≡ list_any (λ row. bytes_eq name.now row.element) link_table }
+    ensures row { (attribute : List ℕ) → row_of name.now attribute (map named result.now) ≡ row_of name.now attribute link_table }
     ensures links { (attributes : List NameAndValue) → flat_map (row_links (record { name = name.now; attributes = attributes })) (map named result.now) ≡ table_links (record { name = name.now; attributes = attributes }) }
 {
     match name {
@@ -138,6 +140,13 @@ impl Row {
         ensures { result ≡ bytes_eq name.now (named self.now).element }
     {
         is_name(name, self.0)
+    }
+
+    /// Whether it is of that attribute.
+    pub(crate) fn is_named(&self, attribute: AskedName) -> bool
+        ensures { result ≡ bytes_eq (asked_name attribute) (named self.now).attribute }
+    {
+        attribute.name() == self.1.name()
     }
 
     pub(crate) fn attribute(&self) -> AskedName
