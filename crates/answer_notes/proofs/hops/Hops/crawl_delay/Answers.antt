@@ -1,7 +1,7 @@
 use Rattle.std.proofs.Common.{◌∙◌, ap, arith}
 use Rattle.response_answer.proofs.DigestLemmas.{if_ok_map}
 use Rattle.answer_notes.proofs.HopLemmas.{last_delay}
-use Rattle.answer_notes.proofs.crawl_delay.Hops.crawl_delay.Goals as goal
+use Rattle.answer_notes.proofs.hops.Hops.crawl_delay.Goals as goal
 
 pub returns-in-len1-up : goal.returns-in-len1-up
 returns-in-len1-up c =
