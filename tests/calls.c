@@ -12,6 +12,7 @@
 //   gone           before the first such call the file is removed, and its directory with it
 //   moved          before the first such call the file gets another name, with `.moved` at its end
 //   A+B..          getaddrinfo answers these addresses, in this order
+//   long           fstat says that the file is 2^31 bytes longer
 #define _GNU_SOURCE
 #include <arpa/inet.h>
 #include <dlfcn.h>
@@ -81,6 +82,8 @@ static int is_failed(const char *call, const char *path)
         errno = strcmp(plan, "ENOSPC") ? EIO : ENOSPC;
         return 1;
     }
+    if (!strcmp(plan, "long"))
+        return 0;
     // What is left is done once.
     if (__atomic_exchange_n(&is_done, 1, __ATOMIC_SEQ_CST))
         return 0;
@@ -143,7 +146,13 @@ int statx(int dir, const char *path, int flags, unsigned mask, struct statx *fou
 {
     if (!*path && is_file_failed("fstat", dir))
         return -1;
-    return NEXT(statx)(dir, path, flags, mask, found);
+    int failed = NEXT(statx)(dir, path, flags, mask, found);
+    char at[4096], *plan;
+    path_of(dir, at);
+    plan = *path ? NULL : plan_of("fstat", last_of(at));
+    if (!failed && plan && !strcmp(plan, "long"))
+        found->stx_size += 1u << 31;
+    return failed;
 }
 
 int rename(const char *from, const char *to)
