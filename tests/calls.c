@@ -5,7 +5,7 @@
 // file's name, the host or the address.
 //
 // CALLS_PLAN has plans with a comma between two, each `CALL NAME WHAT`, for the calls fsync, fdatasync, close, flock, fstat (a statx of
-// an open file), rename, recv, send, read, write and getaddrinfo. NAME is the last part of the name of the file (of rename that which it had),
+// an open file), rename, recv, send, read, write, connect and getaddrinfo. NAME is the last part of the name of the file (of rename that which it had),
 // or the host; * is any. WHAT is
 //   E..            the call fails with this error: EIO, or ENOSPC; a close closes all the same
 //   EINTR          the first such call is interrupted
@@ -13,6 +13,7 @@
 //   moved          before the first such call the file gets another name, with `.moved` at its end
 //   A+B..          getaddrinfo answers these addresses, in this order
 //   long           fstat says that the file is 2^31 bytes longer
+//   small          a connection has as little room as can be for what is sent
 #define _GNU_SOURCE
 #include <arpa/inet.h>
 #include <dlfcn.h>
@@ -187,6 +188,10 @@ int connect(int file, const struct sockaddr *to, socklen_t size)
         inet_ntop(AF_INET, &((const struct sockaddr_in *)to)->sin_addr, name, sizeof name);
         note("connect", name);
     }
+    char *plan = plan_of("connect", name);
+    int least = 1;
+    if (plan && !strcmp(plan, "small"))
+        setsockopt(file, SOL_SOCKET, SO_SNDBUF, &least, sizeof least);
     return NEXT(connect)(file, to, size);
 }
 
