@@ -39,6 +39,7 @@ complete -c wgetr -s T -l timeout -x -d 'S to connect and for each read; 0 is no
 complete -c wgetr -l connect-timeout -x -d 'S to connect'
 complete -c wgetr -l read-timeout -x -d 'S until a server sends more (900)'
 complete -c wgetr -l answer-timeout -x -d 'S for a whole answer'
+complete -c wgetr -l max-body -x -d 'at most BYTES of a page; 5k, 5m, 5g (1024g)'
 complete -c wgetr -s 4 -l inet4-only -d 'only IPv4 addresses of hosts'
 complete -c wgetr -s 6 -l inet6-only -d 'only IPv6 addresses of hosts'
 complete -c wgetr -l https-proxy -x -d 'https by a proxy, as http://127.0.0.1:3128/'

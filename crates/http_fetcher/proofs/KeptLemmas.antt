@@ -1,5 +1,5 @@
 -- What came over connections that were kept.
-use Rattle.std.proofs.Common.{◌≡◌, ◌⊎◌, ◌∙◌, ℕ, List, Bool, true, Option, Result, Ok, Err, Some, None, inl, inr, subst}
+use Rattle.std.proofs.Common.{◌≡◌, ◌⊎◌, ◌∙◌, Bool, true, Option, Result, Ok, Err, Some, None, inl, inr, subst}
 use Rattle.std.specs.Prelude.{IfOk, IfSome, IsTrue, OnOk}
 use Rattle.kept_bodies.specs.Bodies.{BodyValue}
 use Rattle.response_reader.specs.Wire.{counted}

@@ -1,5 +1,5 @@
 -- What contracts see of a fetcher that asks over connections, and how its answers come.
-use Rattle.std.specs.Prelude.{◌≡◌, ◌⊎◌, ◌==◌, ℕ, Bool, true, false, List, [], Option, Some, None}
+use Rattle.std.specs.Prelude.{◌≡◌, ◌⊎◌, ◌==◌, ℕ, Bool, true, false, List, Option, Some, None}
 use Rattle.std.specs.Io.KnownBytes.{Appends, IsAtEnd, Keeps}
 use Rattle.address.specs.Address.{AddressText, OriginText, origin_of}
 use Rattle.response_reader.specs.Wire.{HasRisen, IsLostInTime, OfBytes, counted}

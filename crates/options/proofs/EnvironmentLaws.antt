@@ -1,7 +1,6 @@
 -- What the environment sets is said before what is typed, as the option of its name says it.
-use Rattle.std.proofs.Common.{◌≡◌, ◌∷◌, [], List, None, Some, codes, refl}
+use Rattle.std.proofs.Common.{◌≡◌, ◌∷◌, List, None, Some, codes, refl}
 use Rattle.clap.specs.Walk.{Text}
-use Rattle.options.specs.declared.said.Saying.{Saying}
 use Rattle.options.specs.declared.said.Saying.TheVariants as saying
 use Rattle.options.specs.Environment.{with_environment}
 use Rattle.options.specs.Said.{command_meaning, heard, sayings, trimmed, value_meaning}

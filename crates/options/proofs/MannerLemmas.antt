@@ -2,7 +2,6 @@
 use Rattle.std.proofs.Common.{◌≡◌, ◌*◌, ℕ, Bool, List, Option, Some, None, refl}
 use Rattle.std.specs.Prelude.{codes}
 use Rattle.clap.specs.Walk.{Row, first_of}
-use Rattle.pacing.specs.Manners.{Mannered}
 use Rattle.pacing.specs.declared.manner.Family.{Family}
 use Rattle.options.specs.Given.{is_set}
 use Rattle.options.specs.Manners.{body_by, family_of, limit_by, limit_of, manner_of, wait_by}

@@ -37,7 +37,7 @@ use Rattle.requests.specs.Proxies.{Proxies, Proxy, proxies_of as proxies_with}
 use Rattle.requests.specs.Requests.{Home, Sending, home_of}
 use Rattle.options.specs.declared.said.Saying.{Saying}
 use Rattle.options.specs.Said.{sayings}
-use Rattle.options.specs.Start.{has_colon, typed, typed_login, with_scheme}
+use Rattle.options.specs.Start.{has_colon, typed, typed_login}
 use Rattle.options.specs.Written.{SayTheSame, first_unread, others_in, starts_in, written}
 
 -- ---- words that `clap` takes and that are refused all the same

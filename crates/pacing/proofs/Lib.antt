@@ -1,2 +1,3 @@
 mod SpanLemmas
+mod StandardFacts
 pub mod TurnLaws

@@ -1,9 +1,9 @@
 -- Digits, as `parse` reads them, and what is before the last byte of a text.
-use Rattle.std.proofs.Common.{◌≡◌, ◌≢◌, ◌∙◌, ℕ, suc, ◌+◌, ◌-◌, ◌<◌, ◌≤◌, ◌^◌, Bool, true, false, refl, sym, ap, subst, List, [], ◌∷◌, ◌++◌, length, length-append, get_or, take, Option, Some, None, Ok, Err, nat_lt, ltb-true, lt-ltb, leb-true, leb, arith, eq-eqb, ne_eqb}
-use Rattle.std.specs.Prelude.{Result, MatchOption, option_map, slice_index}
+use Rattle.std.proofs.Common.{◌≡◌, ◌≢◌, ◌∙◌, ℕ, suc, ◌-◌, ◌<◌, ◌≤◌, ◌^◌, Bool, true, false, refl, sym, ap, subst, List, [], ◌∷◌, ◌++◌, length, length-append, get_or, take, Some, None, Ok, Err, nat_lt, ltb-true, lt-ltb, leb-true, leb, arith, eq-eqb, ne_eqb}
+use Rattle.std.specs.Prelude.{Result}
 use Rattle.std.specs.Result.{result_ok}
 use Rattle.std.specs.List.{list_all}
-use Rattle.std.specs.Char.{digit_value, is_ascii_digit}
+use Rattle.std.specs.Char.{is_ascii_digit}
 use Rattle.std.specs.Str.Parse.{AllDigits, ParsesUnsigned, digits_value, without_leading_plus}
 use Rattle.std.proofs.lemmas.Bool.{and_parts}
 use Rattle.std.proofs.lemmas.List.{take-append-drop}

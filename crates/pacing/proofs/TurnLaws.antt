@@ -1,8 +1,8 @@
 -- Two requests to one origin begin apart by the first one's pause, whatever is booked between them.
-use Rattle.std.proofs.Common.{◌≡◌, ◌⊎◌, ◌∙◌, ◌≤◌, ◌+◌, ◌-◌, ◌^◌, ℕ, Bool, true, false, List, [], ◌∷◌, max, min, bytes_eq, arith, sym, ap, refl, subst, inl, inr, ⊎_elim}
+use Rattle.std.proofs.Common.{◌≡◌, ◌≤◌, ◌+◌, ◌-◌, ◌^◌, ℕ, Bool, true, false, List, [], ◌∷◌, min, bytes_eq, arith, ap, refl, subst, ⊎_elim}
 use Rattle.std.proofs.lemmas.Slice.Eq.{bytes_eq-Decides}
 use Rattle.address.specs.Address.{OriginText}
-use Rattle.pacing.specs.Turns.{AreCalled, AreCalledAlong, Books, Holds, SparesOthers, turn_of}
+use Rattle.pacing.specs.Turns.{AreCalled, AreCalledAlong, Books, SparesOthers, turn_of}
 
 -- the time of an origin doesn't fall, if it doesn't fall for the one that was called for
 spared : (of other : OriginText) (old new : List (OriginText × ℕ)) → SparesOthers of old new → min (turn_of old of) (2 ^ 64 - 1) ≤ turn_of new of → min (turn_of old other) (2 ^ 64 - 1) ≤ turn_of new other

@@ -1,5 +1,5 @@
 -- When the next request to an origin may begin.
-use Rattle.std.specs.Prelude.{◌≡◌, ◌⊎◌, ◌+◌, ◌-◌, ◌^◌, ℕ, Bool, false, List, [], ◌∷◌, bytes_eq, max, min, unwrap_or}
+use Rattle.std.specs.Prelude.{◌≡◌, ◌⊎◌, ◌+◌, ◌-◌, ◌^◌, ℕ, false, List, [], ◌∷◌, bytes_eq, max, min, unwrap_or}
 use Rattle.std.specs.Map.{lookup}
 use Rattle.address.specs.Address.{OriginText}
 

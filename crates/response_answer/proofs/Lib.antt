@@ -1,3 +1,4 @@
 pub mod DigestLemmas
 pub mod LinkLemmas
 pub mod KindLaws
+mod StandardFacts

@@ -1,2 +1,3 @@
 mod HopLemmas
+mod StandardFacts
 pub mod TryLaws

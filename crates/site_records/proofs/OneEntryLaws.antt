@@ -3,6 +3,7 @@ use Rattle.std.proofs.Common.{◌≡◌, ℕ, ◌∙◌, Bool, List, [], ◌∷�
 use Rattle.kept_bodies.specs.Bodies.{BodyValue}
 use Rattle.address.specs.Address.{AddressText}
 use Rattle.fetcher.specs.declared.answer.Answer.{Answer}
+use Rattle.response_reader.specs.Limits.{standard}
 use Rattle.response_reader.specs.Response.{ResponseParts, BeginsWithResponse}
 use Rattle.response_reader.proofs.OneResponse.{one_response, faulty_has_none}
 use Rattle.response_answer.specs.Digests.{digest_of, body_of}
@@ -27,15 +28,15 @@ answer_same a b outcome body = λ i. record { outcome = outcome i; body = body i
 one_answer : (robots : Bool) (at : AddressText) (bytes : List ℕ) (r : ResponseParts) (a : Answer BodyValue) → BeginsWithResponse r bytes → IsReadAs robots at bytes a
     → a ≡ record { outcome = digest_of robots at r; body = body_of r.head r.body }
 one_answer robots at bytes r a begins (inl d) =
-    let same : d.response ≡ r = (one_response bytes d.response r d.begins.0 begins.0 d.begins.1 begins.1).0 in
+    let same : d.response ≡ r = (one_response standard bytes d.response r d.begins.0 begins.0 d.begins.1 begins.1).0 in
     answer_same a (record { outcome = digest_of robots at r; body = body_of r.head r.body })
     (d.outcome ∙ ap (λ q. digest_of robots at q) same) (d.body ∙ ap (λ (q : ResponseParts). body_of q.head q.body) same)
-one_answer robots at bytes r a begins (inr f) = absurd (faulty_has_none f.fault bytes f.text f.of_bytes r begins.0 begins.1)
+one_answer robots at bytes r a begins (inr f) = absurd (faulty_has_none standard f.fault bytes f.text f.of_bytes r begins.0 begins.1)
 
 -- and tell it alone
 one_told : (bytes : List ℕ) (r : ResponseParts) (said : Told) → BeginsWithResponse r bytes → IsToldIn bytes said → said ≡ told.Whole r
-one_told bytes r (told.Whole q) begins is = ap told.Whole (one_response bytes q r is.0 begins.0 is.1 begins.1).0
-one_told bytes r (told.Fault kind) begins (fault, text, of, _) = absurd (faulty_has_none fault bytes text of r begins.0 begins.1)
+one_told bytes r (told.Whole q) begins is = ap told.Whole (one_response standard bytes q r is.0 begins.0 is.1 begins.1).0
+one_told bytes r (told.Fault kind) begins (fault, text, of, _) = absurd (faulty_has_none standard fault bytes text of r begins.0 begins.1)
 
 -- so does what stands behind the line of a page, and of a hop
 pub one_page : (robots : Bool) (at : AddressText) (behind : List ℕ) (n : ℕ) (bytes after other rest : List ℕ) (r : ResponseParts) (a : Answer BodyValue)

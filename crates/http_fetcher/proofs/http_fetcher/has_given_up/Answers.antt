@@ -1,4 +1,4 @@
-use Rattle.std.proofs.Common.{◌∙◌, ap, refl, sym}
+use Rattle.std.proofs.Common.{◌∙◌, ap, sym}
 use Rattle.std.specs.Prelude.{◌==◌}
 use Rattle.response_reader.specs.Response.{ResponseParts}
 use Rattle.http_fetcher.proofs.GivenUpLemmas.{given_up_by_status}

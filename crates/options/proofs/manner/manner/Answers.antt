@@ -1,5 +1,5 @@
 -- Each value is what the options say of it.
-use Rattle.std.proofs.Common.{◌≡◌, ◌∙◌, Some, None, ap, sym}
+use Rattle.std.proofs.Common.{◌∙◌, ap, sym}
 use Rattle.std.specs.Prelude.{codes}
 use Rattle.clap.specs.Words.{first_of, found_of, rows_of}
 use Rattle.options.specs.Manners.{body_by, limit_by, limit_of}

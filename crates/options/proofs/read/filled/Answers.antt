@@ -1,5 +1,5 @@
 -- Each field is what the option says, or what was read of it.
-use Rattle.std.proofs.Common.{◌≡◌, refl}
+use Rattle.std.proofs.Common.{refl}
 use Rattle.options.proofs.read.filled.Goals as goal
 
 pub returns : goal.returns

@@ -1,5 +1,5 @@
 -- What was wrong before is wrong with the credentials.
-use Rattle.std.proofs.Common.{ap, drop, inl, inr, map, subst, sym, ◌∙◌, ⊎_elim}
+use Rattle.std.proofs.Common.{ap, inl, inr, map, subst, sym, ◌∙◌, ⊎_elim}
 use Rattle.std.specs.Prelude.{Ok, Result}
 use Rattle.options.specs.Order.{AnswersOrder, Ordered, guarded, logged, ordered_by, with_others}
 use Rattle.options.specs.declared.fault.LineFault.{LineFault}

@@ -1,4 +1,4 @@
-use Rattle.std.proofs.Common.{◌≡◌, ◌∙◌, ◌+◌, ◌++◌, List, length, drop, sym, ap, append_assoc, append-nil, arith}
+use Rattle.std.proofs.Common.{◌∙◌, ◌+◌, ◌++◌, List, drop, sym, ap, append_assoc, append-nil, arith}
 use Rattle.std.proofs.lemmas.List.{drop_all}
 use Rattle.fetcher.specs.declared.edge.Edge.{Edge}
 use Rattle.response_answer.specs.Digests.{edges_from, sheet_edges}

@@ -1,5 +1,5 @@
 -- What is asked over a kept connection changes nothing but what makes the connections.
-use Rattle.std.proofs.Common.{◌≡◌, ◌∙◌, true, false, inl, inr, refl, sym, ap, subst}
+use Rattle.std.proofs.Common.{◌≡◌, ◌∙◌, true, inl, inr, refl, sym, ap, subst}
 use Rattle.response_reader.specs.Limits.{standard}
 use Rattle.http_fetcher.specs.Fetching.{Fetching, answer_told}
 use Rattle.http_fetcher.proofs.KeptLemmas.{stands_by}
@@ -94,7 +94,7 @@ returns-else-has_given_up g c =
         sym (c.has_given_up.ensures c.self.inside.robots c.args.at.now) ∙ c.if-has_given_up.false,
         (c.in-Some.wire, c.in-Some.ensures.given, rw c.in-Ok-Some.field-0-is at c.in-Ok-Some.ensures.told),
       );
-      stands = stands_by g.C.Connect g.C.Wire.Wire standard _ _ _ (record { at = c.args.at.now; robots = c.self.inside.robots; keeps = c.self.inside.keeps; sends = c.self.inside.sends })
+      stands = stands_by g.C.Connect g.C.Wire.Wire standard _ _ _ (record { at = c.args.at.now; robots = c.self.inside.robots; keeps = c.self.inside.keeps; sends = c.self.inside.sends; limits = standard })
           _ c.in-Ok-Some.heard.serves c.in-Some.wire c.told_again.new.wire c.requires c.take.ensures.stands
           (rw same at put.stands) (rw c.in-Ok-Some.field-0-is at c.in-Ok-Some.ensures.serves);
     })

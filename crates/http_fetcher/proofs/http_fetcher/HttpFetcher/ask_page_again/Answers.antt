@@ -100,7 +100,7 @@ returns-else-says_given_up g c =
           (c.in-Some.wire, c.in-Some.ensures.given, said.2),
         ),
       );
-      stands = stands_by g.C.Connect g.C.Wire.Wire (limited c.args.limits) _ _ _ (record { at = c.args.at.now; robots = c.self.inside.robots; keeps = c.self.inside.keeps; sends = c.self.inside.sends })
+      stands = stands_by g.C.Connect g.C.Wire.Wire (limited c.args.limits) _ _ _ (record { at = c.args.at.now; robots = c.self.inside.robots; keeps = c.self.inside.keeps; sends = c.self.inside.sends; limits = limited c.args.limits })
           _ c.in-Ok-Some.heard.serves c.in-Some.wire c.page_again.new.wire c.requires c.take.ensures.stands
           (rw same at put.stands) (rw c.in-Ok-Some.field-0-is at c.in-Ok-Some.ensures.serves);
     })

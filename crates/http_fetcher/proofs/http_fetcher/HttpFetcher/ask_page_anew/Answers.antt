@@ -1,5 +1,5 @@
 -- What is asked over a new connection changes nothing but what makes the connections.
-use Rattle.std.proofs.Common.{◌≡◌, ◌∙◌, [], inl, inr, refl, sym, ap, subst}
+use Rattle.std.proofs.Common.{◌≡◌, ◌∙◌, inl, inr, refl, sym, ap, subst}
 use Rattle.kept_bodies.specs.Bodies.{no_body}
 use Rattle.response_reader.specs.Wire.{counted}
 use Rattle.fetcher.specs.declared.fault_kind.FaultKind.TheVariants.{Connect}
@@ -28,7 +28,7 @@ returns-in-Ok-page_over g c =
       most = one_made _ _ one;
       taken = put.taken ∙ ap (λ (f : Fetching _). g.C.Connect.taken f.connect) same ∙ c.connect.ensures.taken;
       told = (said.0, said.1, rw (sym c.requires) (inr (c.in-Ok.wire, c.in-Ok.ensures.given, said.2)));
-      stands = stands_by g.C.Connect g.C.Wire.Wire (limited c.args.limits) _ _ _ (record { at = c.args.at.now; robots = c.self.inside.robots; keeps = c.self.inside.keeps; sends = c.self.inside.sends })
+      stands = stands_by g.C.Connect g.C.Wire.Wire (limited c.args.limits) _ _ _ (record { at = c.args.at.now; robots = c.self.inside.robots; keeps = c.self.inside.keeps; sends = c.self.inside.sends; limits = limited c.args.limits })
           _ c.in-Ok-page_over.heard.serves c.in-Ok.wire c.page_over.new.wire c.requires c.in-Ok.ensures.stands
           (rw same at put.stands) c.in-Ok-page_over.ensures.serves;
     })

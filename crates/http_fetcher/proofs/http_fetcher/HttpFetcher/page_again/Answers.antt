@@ -1,4 +1,4 @@
-use Rattle.std.proofs.Common.{[], Err, ap, inl, inr, refl}
+use Rattle.std.proofs.Common.{Err, ap, inl, inr, refl}
 use Rattle.kept_bodies.specs.Bodies.{no_body}
 use Rattle.fetcher.specs.declared.fault_kind.FaultKind.TheVariants.{Device}
 use Rattle.fetcher.specs.declared.outcome.Outcome.TheVariants.{Fault}

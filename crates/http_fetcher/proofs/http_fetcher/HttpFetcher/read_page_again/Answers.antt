@@ -1,5 +1,5 @@
 -- The answer stands for that of the response which the sink took, or for the fault of the bytes.
-use Rattle.std.proofs.Common.{◌≡◌, [], Err, ap, inl, inr, refl, subst}
+use Rattle.std.proofs.Common.{◌≡◌, Err, ap, inl, inr, refl, subst}
 use Rattle.kept_bodies.specs.Bodies.{no_body}
 use Rattle.fetcher.specs.declared.outcome.Outcome.TheVariants.{Fault}
 use Rattle.response_answer.specs.Digests.{digest_of, body_of}

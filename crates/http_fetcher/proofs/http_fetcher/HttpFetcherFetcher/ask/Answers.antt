@@ -4,6 +4,7 @@ use Rattle.std.proofs.lemmas.Result.{err_from_is_err_and}
 use Rattle.response_answer.proofs.DigestLemmas.{if_ok_map}
 use Rattle.address.specs.Address.{AddressText}
 use Rattle.fetcher.specs.declared.fetcher.Ask.TheVariants.{Page}
+use Rattle.response_reader.specs.Limits.{standard}
 use Rattle.http_fetcher.specs.Fetching.{Fetching}
 use Rattle.http_fetcher.proofs.ExitLemmas.{on_ok, on_err}
 use Rattle.http_fetcher.proofs.MeaningLaws.{may_answer}
@@ -72,7 +73,7 @@ returns-then-self g c =
       told = rw (sym c.self.view_is) after.told;
       stands = rw (sym c.self.view_is) after.stands;
       may = if_ok_map c.ask_and_note.result _ _ after.told
-          (λ a told. may_answer g.C.Connect g.C.Wire.Wire c.args.self.now c.ask_and_note.new.self c.args.at.now a (rw (sym c.self.view_is) told));
+          (λ a told. may_answer g.C.Connect g.C.Wire.Wire standard c.args.self.now c.ask_and_note.new.self c.args.at.now a (rw (sym c.self.view_is) told));
       is_recording = after.is_recording ∙ ap (λ (f : Fetching _). f.is_recording) c.self.view_is;
       noted = rw (sym c.self.view_is, c.if-self.true) after.noted;
       unnoted = rw (sym c.self.view_is) after.unnoted;
@@ -94,7 +95,7 @@ returns g c =
       told = rw (sym c.self.view_is) after.told;
       stands = rw (sym c.self.view_is) after.stands;
       may = if_ok_map c.ask_page.result _ _ after.told
-          (λ a told. may_answer g.C.Connect g.C.Wire.Wire c.args.self.now c.ask_page.new.self c.args.at.now a (rw (sym c.self.view_is) told));
+          (λ a told. may_answer g.C.Connect g.C.Wire.Wire standard c.args.self.now c.ask_page.new.self c.args.at.now a (rw (sym c.self.view_is) told));
       is_recording = after.is_recording ∙ ap (λ (f : Fetching _). f.is_recording) c.self.view_is;
       noted = rw (sym c.self.view_is, c.if-self.false) (on_ok _ after.notes);
       unnoted = rw (sym c.self.view_is) (on_err _ after.notes);

@@ -5,6 +5,7 @@ use Rattle.address.specs.Address.{OriginText}
 use Rattle.answer_notes.specs.RobotsAnswers.{max_redirects}
 use Rattle.response_answer.proofs.DigestLemmas.{if_ok_map}
 use Rattle.fetcher.specs.declared.fetcher.Ask.TheVariants.{Rules}
+use Rattle.response_reader.specs.Limits.{standard}
 use Rattle.http_fetcher.specs.Fetching.{Fetching}
 use Rattle.http_fetcher.proofs.ExitLemmas.{on_ok, on_err}
 use Rattle.http_fetcher.proofs.MeaningLaws.{may_rule}
@@ -68,7 +69,7 @@ returns g c =
       count = rw (sym c.self.view_is) after.count;
       chain = rw (sym c.self.view_is) after.chain;
       may = if_ok_map c.rules_of.result _ _ after.chain
-          (λ r chain. may_rule g.C.Connect g.C.Wire.Wire c.args.self.now max_redirects (c.args.of.now ++ codes "/robots.txt") r (rw (sym c.self.view_is) chain));
+          (λ r chain. may_rule g.C.Connect g.C.Wire.Wire standard c.args.self.now max_redirects (c.args.of.now ++ codes "/robots.txt") r (rw (sym c.self.view_is) chain));
       is_recording = after.is_recording ∙ ap (λ (f : Fetching _). f.is_recording) c.self.view_is;
       noted = rw (sym c.self.view_is) after.noted;
       unnoted = rw (sym c.self.view_is) after.unnoted;

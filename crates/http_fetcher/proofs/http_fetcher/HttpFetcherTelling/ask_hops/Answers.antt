@@ -3,6 +3,7 @@ use Rattle.std.proofs.Common.{◌≡◌, ◌∙◌, ◌++◌, [], ◌∷◌, fal
 use Rattle.std.proofs.lemmas.Result.{err_from_is_err_and}
 use Rattle.address.specs.Address.{OriginText}
 use Rattle.fetcher.specs.declared.fetcher.Ask.TheVariants.{Rules}
+use Rattle.response_reader.specs.Limits.{standard}
 use Rattle.http_fetcher.specs.Fetching.{Fetching}
 use Rattle.http_fetcher.proofs.MeaningLaws.{may_rule}
 use Rattle.http_fetcher.proofs.http_fetcher.HttpFetcherTelling.ask_hops.Goals as goal
@@ -92,7 +93,7 @@ returns g c =
       stands = rw (sym c.self.view_is) after.stands;
       count = rw (sym c.self.view_is) after.hops;
       chain = rw (sym c.self.view_is, sym after.rules) after.chain;
-      may = rw (sym c.self.view_is, sym after.rules) (may_rule g.C.Connect g.C.Wire.Wire (record { connect = c.self.inside.connect; robots = c.self.inside.robots; keeps = c.self.inside.keeps; sends = c.self.inside.sends; asks = []; is_recording = false; notes = [] }) _ _ _ after.chain);
+      may = rw (sym c.self.view_is, sym after.rules) (may_rule g.C.Connect g.C.Wire.Wire standard (record { connect = c.self.inside.connect; robots = c.self.inside.robots; keeps = c.self.inside.keeps; sends = c.self.inside.sends; asks = []; is_recording = false; notes = [] }) _ _ _ after.chain);
       is_recording = after.is_recording ∙ ap (λ (f : Fetching _). f.is_recording) c.self.view_is;
       notes = after.notes ∙ ap (λ (f : Fetching _). f.notes) c.self.view_is;
     }

@@ -1,5 +1,5 @@
 -- What the keeper has grows by the piece where the status is one of success.
-use Rattle.std.proofs.Common.{◌≡◌, ◌∙◌, ◌++◌, ℕ, List, Some, true, false, sym, ap, subst}
+use Rattle.std.proofs.Common.{◌≡◌, ◌∙◌, ◌++◌, ℕ, List, Some, true, false, sym, subst}
 use Rattle.fetcher.specs.Statuses.{is_successful}
 use Rattle.response_answer.specs.Sinking.{Sinking, HasSunk}
 use Rattle.response_answer.proofs.DigestLemmas.{kept_more, kept_none}
