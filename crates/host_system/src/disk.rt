@@ -3,7 +3,7 @@ use crate::part_threads::PartThreads;
 use crate::shared_failures::SharedFailures;
 use harvest::Harvest;
 use kept_bodies::Body;
-use local_tree::{DiskFolder, Folder, FolderFault, Shelf, WriteFault, put_parts};
+use local_tree::{DiskFolder, Folder, FolderFault, NamesParts, Shelf, WriteFault, put_parts};
 use part_keeper::{Part, PartsDir, Standing};
 use record_journal::SavedFile;
 use std::fs::Files;
@@ -112,6 +112,21 @@ where
     }
 }
 
+impl<'a, R: Net + Files + Wait> NamesParts for Disk<'a, R>
+where
+    R::File: Close + Lock,
+{
+    ghost failed = { λ d. d.inner.failed };
+
+    fn put_part(&mut self, name: &str, part: &Part) -> Result<(), FolderFault> {
+        let put = self.inner.put_kept(name, part);
+        if put.is_err() {
+            self.note_part(name, part);
+        }
+        put
+    }
+}
+
 impl<'a, R: Net + Files + Wait + Threads> Shelf<Part> for Disk<'a, R>
 where
     R::File: Close + Lock,
@@ -122,11 +137,7 @@ where
     ghost holds = { λ part body. ⊤ };
 
     fn put_kept(&mut self, name: &str, kept: &Part) -> Result<(), FolderFault> {
-        let put = self.inner.put_kept(name, kept);
-        if put.is_err() {
-            self.note_part(name, kept);
-        }
-        put
+        self.put_part(name, kept)
     }
 
     fn put_harvest(&mut self, names: &[String], harvest: &Harvest<Part>) -> Result<(), WriteFault> {

@@ -59,19 +59,17 @@ impl<'a, R: Net + Wait + Files + Clock + Eprint> Fetcher for PartsAsking<'a, R>
 where
     R::File: Close + Lock,
 {
-    ghost use Rattle.std.specs.Prelude.{Bool};
-    ghost use Rattle.http_fetcher.specs.Meanings.{MayRule};
-    ghost use Rattle.tcp_fetcher.specs.PartsFetching.{MayAnswerIn};
+    ghost use Rattle.tcp_fetcher.specs.PartsFetching.{MayAnswerIn, MayRuleIn, PartsSite, parts_site};
 
     type Body = Part;
 
-    ghost Site = { Bool };
+    ghost Site = { PartsSite };
 
-    ghost site = { λ f. f.inner.robots };
+    ghost site = { λ f. parts_site f.inner };
 
     ghost says = { MayAnswerIn };
 
-    ghost rules = { MayRule };
+    ghost rules = { MayRuleIn };
 
     ghost log = { λ f. f.inner.asks };
 

@@ -4,7 +4,7 @@
 //! Its tests are in `retrieval_tests`.
 #![tactic(auto)]
 
-pub use crate::disk_folder::{DiskFolder, put_parts};
+pub use crate::disk_folder::{DiskFolder, NamesParts, put_parts};
 pub use crate::folder::{Folder, FolderFault};
 pub use crate::memory_folder::MemoryFolder;
 pub use crate::parts::{Naming, Part, PartCrew};

@@ -1,6 +1,6 @@
 //! Bodies that a keeper has put on the disk, and that a folder gives their names.
-ghost use Rattle.std.specs.Prelude.{◌≡◌, IfErr, OnOk, length, map, string_bytes};
-ghost use Rattle.local_tree.specs.Folders.{untold};
+ghost use Rattle.std.specs.Prelude.{◌≡◌, ℕ, IfErr, OnOk, ⊤, length, map, string_bytes};
+ghost use Rattle.local_tree.specs.Folders.{CountsRefusedPut, untold};
 ghost use Rattle.local_tree.specs.Shelves.{AreNamedBy, IsHalfShelvedBy, MakesOnePut};
 
 use super::{DiskFolder, find_place};
@@ -76,11 +76,21 @@ where
     }
 }
 
+/// What gives parts their names, one at a time.
+pub trait NamesParts {
+    // How many puts answered an error.
+    ghost failed: { Self → ℕ };
+
+    /// Gives this name to the file of a part.
+    fn put_part(&mut self, name: &str, part: &Part) -> Result<(), FolderFault>
+        ensures { CountsRefusedPut (failed self.old) (failed self.new) result };
+}
+
 // Puts a part. Gives how many are lost then, of which there were so many, and whether more are to be put.
-fn put_one<D: Shelf<Part>>(folder: &mut D, name: &str, part: &Part, lost: usize) -> (usize, bool)
+fn put_one<D: NamesParts>(folder: &mut D, name: &str, part: &Part, lost: usize) -> (usize, bool)
     ensures { MakesOnePut lost (D.failed folder.old) (D.failed folder.new) result }
 {
-    match folder.put_kept(name, part) {
+    match folder.put_part(name, part) {
         Ok(()) => (lost, true),
         Err(_) => (lost.saturating_add(1), part.standing == Standing::Lost),
     }
@@ -88,14 +98,14 @@ fn put_one<D: Shelf<Part>>(folder: &mut D, name: &str, part: &Part, lost: usize)
 
 /// Puts the kept pages of a harvest whose bodies are in parts, in their order, each under its name. Of a part that was lost nothing is
 /// put. If another put fails no more is made. The fault counts the files that are whole.
-pub fn put_parts<D: Shelf<Part>>(
+pub fn put_parts<D: NamesParts>(
     folder: &mut D,
     names: &[String],
     harvest: &Harvest<Part>,
 ) -> Result<(), WriteFault>
     requires { length names.now ≡ length harvest.now.kept }
     // As of a folder that tells no files.
-    ensures torn { IfErr result (IsHalfShelvedBy D.holds (map string_bytes names.now) harvest.now.bodies (untold (D.failed folder.old)) (untold (D.failed folder.new))) }
+    ensures torn { IfErr result (IsHalfShelvedBy (λ part body. ⊤) (map string_bytes names.now) harvest.now.bodies (untold (D.failed folder.old)) (untold (D.failed folder.new))) }
     ensures named { IfErr result (AreNamedBy (length names.now) (D.failed folder.old) (D.failed folder.new)) }
     ensures quiet { OnOk result (D.failed folder.new ≡ D.failed folder.old) }
 {

@@ -3,4 +3,4 @@ use Rattle.local_tree.proofs.PartLaws.{AreLost}
 use Rattle.local_tree.proofs.disk_folder.named_parts.put_parts.Given as goal
 
 abbrev pub invariant-loop-i : goal.invariant-loop-i
-invariant-loop-i g l = AreLost l.lost l.i (g.D.Folder.failed l.initial.folder) (g.D.Folder.failed l.folder)
+invariant-loop-i g l = AreLost l.lost l.i (g.D.NamesParts.failed l.initial.folder) (g.D.NamesParts.failed l.folder)
