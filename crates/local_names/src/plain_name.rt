@@ -237,11 +237,7 @@ fn name_within(
 }
 
 /// The name that a page has if nothing stands in its way.
-pub(crate) fn plain_name_of(
-    alloc: Global,
-    rules: &NameRules,
-    page: &Address,
-) -> Result<String, AllocError>
+pub fn plain_name_of(alloc: Global, rules: &NameRules, page: &Address) -> Result<String, AllocError>
     ensures name { IfOk result (λ name. string_bytes name ≡ plain_name_of rules.now page.now) }
     ensures address { IfOk result (λ _. IsAddress page.now) }
 {
@@ -264,7 +260,7 @@ fn name_with_ending(
 }
 
 /// The name that a page whose body is of this kind has if nothing stands in its way, and names have endings.
-pub(crate) fn ended_name(
+pub fn ended_name(
     alloc: Global,
     rules: &NameRules,
     kind: BodyKind,
