@@ -1,1 +1,2 @@
 pub mod RelativeLaws
+pub mod Going

@@ -1,1 +1,2 @@
 pub mod Relative
+pub mod inner

@@ -1,5 +1,5 @@
 -- References between files: what is written for one, and where it leads (RFC 3986, sections 2.1, 4.2 and 5.2.4).
-use Rattle.std.specs.Prelude.{ℕ, ◌||◌, ◌==◌, Bool, List, [], ◌∷◌, ◌++◌, map, drop, codes, if◌then◌else◌}
+use Rattle.std.specs.Prelude.{◌≡◌, ◌≢◌, ℕ, ◌||◌, ◌==◌, Bool, true, List, [], ◌∷◌, ◌++◌, map, drop, codes, if◌then◌else◌, All}
 use Rattle.std.specs.List.{slice_split, flat_map, join_with_byte}
 use Rattle.std.specs.Str.{bytes_eq}
 use Rattle.std.specs.Char.{is_ascii_alphanumeric}
@@ -70,3 +70,18 @@ between (f ∷ g ∷ fs) (t ∷ u ∷ us) =
 -- the reference that leads from the file of one name to that of another
 unfoldable pub relative : List ℕ → List ℕ → List ℕ
 relative from to = join_with_byte 47 (between (slice_split is_slash from) (slice_split is_slash to))
+
+-- ---- what holds of both
+
+-- a segment that names something in its directory
+pub record LeadsDown (segment : Segment) : Type 0 where
+  pub not_here : segment ≢ codes "."
+  pub not_above : segment ≢ codes ".."
+
+-- each segment of the name is one
+abbrev pub IsLocal : List ℕ → Type 0
+IsLocal name = All LeadsDown (slice_split is_slash name)
+
+-- a byte that stands for itself in each language: an unreserved one, `%` or `/`
+abbrev pub IsLinkByte : ℕ → Type 0
+IsLinkByte b = (is_unreserved b || b == 37 || b == 47) ≡ true

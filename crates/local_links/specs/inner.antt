@@ -1,0 +1,2 @@
+-- What the code says of its parts.
+pub mod Climbs
