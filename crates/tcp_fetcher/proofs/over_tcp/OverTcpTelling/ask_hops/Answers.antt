@@ -2,4 +2,4 @@
 use Rattle.tcp_fetcher.proofs.over_tcp.OverTcpTelling.ask_hops.Goals as goal
 
 pub returns-clause-tries : goal.returns-clause-tries
-returns-clause-tries g c = rw (← c.self.view_is) c.tell_hops.ensures.tries
+returns-clause-tries g c = rw (← c.self.view_is) c.spaced_hops.ensures.tries

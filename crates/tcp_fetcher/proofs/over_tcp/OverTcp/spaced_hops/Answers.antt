@@ -1,0 +1,5 @@
+-- What is told is what the fetcher that asks once is told last.
+use Rattle.tcp_fetcher.proofs.over_tcp.OverTcp.spaced_hops.Goals as goal
+
+pub returns-clause-tries : goal.returns-clause-tries
+returns-clause-tries g c = rw (← c.self.view_is) c.in_ok-hops.ensures.tries

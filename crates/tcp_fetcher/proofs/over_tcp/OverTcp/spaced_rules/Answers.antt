@@ -1,0 +1,22 @@
+-- The rules are those of what the fetcher that asks once is told last; if it may not be asked again, it was asked once.
+use Rattle.std.proofs.Common.{◌≡◌, ◌≤◌, ℕ, Bool, List, [], ◌∷◌, ◌++◌, Option, Ok, Err, arith}
+use Rattle.std.specs.Prelude.{Result, OnOk}
+use Rattle.run_failures.specs.declared.loss_kind.LossKind.{LossKind}
+use Rattle.response_answer.proofs.DigestLemmas.{if_ok_map}
+use Rattle.fetcher.specs.declared.fetcher.Ask.{Ask}
+use Rattle.retries.specs.Tries.{IsLastOf}
+use Rattle.tcp_fetcher.proofs.over_tcp.OverTcp.spaced_rules.Goals as goal
+
+once_if_last : {F X : Type 0} (log : F → List Ask) (Says : F → X → Type 0) (worth : X → Option LossKind → Bool) (ask : Ask) (most : ℕ) (old new : F) (told : X) → most ≡ 0 → IsLastOf log Says worth ask most old new told → log new ≡ log old ++ ask ∷ []
+once_if_last log Says worth ask most old new told none ([], tries, few, ends) = tries.0
+once_if_last log Says worth ask most old new told none ((earlier ∷ more), tries, few, ends) = absurd (omega (arith, few, none))
+
+on_ok : {A E P : Type 0} (r : Result A E) → P → OnOk r P
+on_ok (Ok a) p = p
+on_ok (Err e) p = tt
+
+pub returns-clause-once : goal.returns-clause-once
+returns-clause-once g c = λ none. on_ok c.rules.result (once_if_last _ _ _ _ _ _ _ _ none c.in_ok-hops.ensures.tries)
+
+pub returns-clause-tries : goal.returns-clause-tries
+returns-clause-tries g c = if_ok_map c.rules.result _ _ c.rules.ensures (λ r e. (c.in_ok-hops.hops, e, c.in_ok-hops.ensures.tries))
