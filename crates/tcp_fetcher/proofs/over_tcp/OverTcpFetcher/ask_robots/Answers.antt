@@ -3,3 +3,6 @@ use Rattle.tcp_fetcher.proofs.over_tcp.OverTcpFetcher.ask_robots.Goals as goal
 
 pub returns-clause-tries : goal.returns-clause-tries
 returns-clause-tries g c = rw (← c.self.view_is) c.ask_robots.ensures.tries
+
+pub returns-then-self-clause-tries : goal.returns-then-self-clause-tries
+returns-then-self-clause-tries g c = λ _. rw (← c.self.view_is) c.spaced_rules.ensures.tries
