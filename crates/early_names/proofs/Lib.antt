@@ -1,1 +1,2 @@
 pub mod ClaimLaws
+pub mod RuleLaws

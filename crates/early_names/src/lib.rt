@@ -3,7 +3,9 @@
 #![tactic(auto)]
 
 pub use crate::claims::Claims;
+pub use crate::early_rules::EarlyRules;
 pub use crate::lone::{is_early, lone_name};
 
 mod claims;
+mod early_rules;
 mod lone;

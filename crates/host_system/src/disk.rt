@@ -1,11 +1,17 @@
 //! What is put on the disk: the pages' folder, and a record. What can't be put there is kept for a person.
+ghost use Rattle.std.specs.Prelude.{◌≡◌, length};
+
+use crate::early_run::EarlyRun;
 use crate::part_threads::PartThreads;
 use crate::shared_failures::SharedFailures;
+use address::Address;
+use early_names::EarlyRules;
 use harvest::Harvest;
 use kept_bodies::Body;
 use local_tree::{DiskFolder, Folder, FolderFault, NamesParts, Shelf, WriteFault, put_parts};
 use part_keeper::{Part, PartsDir, Standing};
 use record_journal::SavedFile;
+use std::alloc::Global;
 use std::fs::Files;
 use std::io;
 use std::io::{ErrorKind, Write};
@@ -23,6 +29,8 @@ pub struct Disk<'a, R: Net + Files + Wait> {
     pub(crate) kept: &'a Kept<R::Stream>,
     pub(crate) crew: &'a PartThreads<'a, R>,
     pub(crate) parts: &'a PartsDir<R::File>,
+    pub(crate) alloc: Global,
+    pub(crate) early: &'a EarlyRun,
     pub(crate) failures: &'a SharedFailures,
 }
 
@@ -35,8 +43,34 @@ impl<'a, R: Net + Files + Wait> Drop for Disk<'a, R> {
             kept: _kept,
             crew: _crew,
             parts: _parts,
+            alloc: _alloc,
+            early: _early,
             failures: _failures,
         } = self;
+    }
+}
+
+// Moves the part of a page back from the name that it was given early, unless that is its name. If there is no memory to know, it
+// isn't put.
+fn take_back_from<R: Files>(
+    alloc: Global,
+    rules: &EarlyRules,
+    folder: &mut DiskFolder<'_, R>,
+    name: &str,
+    page: &Address,
+    part: &Part,
+)
+where
+    R::File: Close + Lock,
+    ensures { folder.new ≡ folder.old }
+{
+    match rules.name_of(alloc, part.kind, page) {
+        Ok(early) => {
+            if early.as_str() != name {
+                folder.take_back(early.as_str(), part);
+            }
+        }
+        Err(_) => folder.give_up(part),
     }
 }
 
@@ -44,7 +78,7 @@ impl<'a, R: Net + Files + Wait> Disk<'a, R>
 where
     R::File: Close + Lock,
 {
-    ghost use Rattle.std.specs.Prelude.{◌≡◌};
+    ghost use Rattle.std.specs.Prelude.{◌≡◌, length};
 
     // Keeps why the file of this name couldn't be put.
     fn note(&self, name: &str) {
@@ -64,6 +98,30 @@ where
         }
     }
 
+    // Has those of these parts ready to get their names that were given others early.
+    fn take_back(&mut self, names: &[String], harvest: &Harvest<Part>)
+        requires { length names.now ≡ length harvest.now.kept }
+        ensures { self.new.inner ≡ self.old.inner }
+    {
+        let Some(rules) = self.early.rules(self.rt) else {
+            return;
+        };
+        for (i, name) in names.iter().enumerate() {
+            let part = harvest.kept_body(i);
+            if part.standing == Standing::Named {
+                let page = &harvest.kept()[i];
+                take_back_from(
+                    self.alloc,
+                    &rules,
+                    &mut self.inner,
+                    name.as_str(),
+                    page,
+                    part,
+                );
+            }
+        }
+    }
+
     // Keeps why the file of this name couldn't be put, whose bytes were to be this part: it was lost, or it got no name.
     fn note_part(&self, name: &str, part: &Part) {
         match part.standing {
@@ -72,7 +130,9 @@ where
                     self.failures.fail(self.rt, name, &error);
                 }
             }
-            Standing::Whole | Standing::Absent => self.note(name),
+            Standing::Whole | Standing::Named | Standing::Waiting | Standing::Absent => {
+                self.note(name)
+            }
         }
     }
 }
@@ -142,6 +202,7 @@ where
 
     fn put_harvest(&mut self, names: &[String], harvest: &Harvest<Part>) -> Result<(), WriteFault> {
         self.take_parts();
+        self.take_back(names, harvest);
         put_parts(self, names, harvest)
     }
 }

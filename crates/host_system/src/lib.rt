@@ -5,6 +5,7 @@
 mod asking;
 mod cookie_file;
 mod disk;
+mod early_run;
 mod network;
 mod output;
 mod part_threads;
@@ -16,6 +17,7 @@ mod start_file;
 pub use crate::asking::Asking;
 pub use crate::cookie_file::jar_of;
 pub use crate::disk::{Disk, Saved};
+pub use crate::early_run::EarlyRun;
 pub use crate::network::Network;
 pub use crate::output::Output;
 pub use crate::part_threads::PartThreads;

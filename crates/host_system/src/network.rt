@@ -1,9 +1,11 @@
 //! What a live run has of the system: fetchers over TCP, and folders and records on the disk.
 use crate::asking::Asking;
 use crate::disk::{Disk, Saved};
+use crate::early_run::EarlyRun;
 use crate::part_threads::PartThreads;
 use crate::parts_asking::PartsAsking;
 use crate::shared_failures::SharedFailures;
+use early_names::EarlyRules;
 use live_system::{FetcherSettings, HoldFault, System};
 use local_tree::DiskFolder;
 use part_keeper::{Part, PartsDir};
@@ -32,6 +34,7 @@ pub struct Network<'a, R: Net + Wait + Files + Clock + Eprint> {
     saving: &'a Saving<R>,
     crew: &'a PartThreads<'a, R>,
     parts: &'a PartsDir<R::File>,
+    early: &'a EarlyRun,
     failures: &'a SharedFailures,
     jar: Option<Jar>,
 }
@@ -41,7 +44,7 @@ impl<'a, R: Net + Wait + Files + Clock + Eprint> Network<'a, R> {
     ghost use Rattle.response_reader.specs.Limits.{limits_of};
 
     /// By this handle, with what the run knows of hosts and keeps of connections, the line that counts them, where it saves, what
-    /// writes bodies that are in memory, the directory of the others, what keeps why something failed, and cookies of a file. Takes
+    /// writes bodies that are in memory, the directory of the others and the names that they get early, what keeps why something failed, and cookies of a file. Takes
     /// no memory.
     pub fn new(
         rt: &'a R,
@@ -52,6 +55,7 @@ impl<'a, R: Net + Wait + Files + Clock + Eprint> Network<'a, R> {
         saving: &'a Saving<R>,
         crew: &'a PartThreads<'a, R>,
         parts: &'a PartsDir<R::File>,
+        early: &'a EarlyRun,
         failures: &'a SharedFailures,
         jar: Option<Jar>,
     ) -> Network<'a, R> {
@@ -64,6 +68,7 @@ impl<'a, R: Net + Wait + Files + Clock + Eprint> Network<'a, R> {
             saving,
             crew,
             parts,
+            early,
             failures,
             jar,
         }
@@ -136,10 +141,16 @@ where
         ensures { IfOk result (λ asking. (asking.inner.robots ≡ settings.robots) × (asking.inner.keeps ≡ is_some settings.kept) × (asking.inner.most ≡ settings.kept) × (asking.inner.sends ≡ Some (record settings.sends { jar = self.now.jar })) × (asking.inner.retries ≡ settings.retries) × (asking.inner.limits ≡ limits_of settings.manner.body_limit)) }
     {
         let fetcher = self.over_tcp(settings)?;
+        let kept = self.early.rules(self.rt);
         Ok(PartsAsking {
-            inner: PartsOverTcp::new(self.rt, self.alloc, fetcher, self.kept, self.parts),
+            inner: PartsOverTcp::new(self.rt, self.alloc, fetcher, self.kept, self.parts, kept),
             rt: self.rt,
+            alloc: self.alloc,
             failures: self.failures,
+            parts: self.parts,
+            early: self.early,
+            rules: self.early.rules(self.rt),
+            folder: None,
         })
     }
 }
@@ -173,6 +184,10 @@ where
 
     ghost names = { λ network path saved. ⊤ };
 
+    fn begin_naming(&self, rules: EarlyRules) -> Result<(), AllocError> {
+        self.early.begin(self.rt, rules)
+    }
+
     fn fetcher(&self, settings: FetcherSettings) -> Result<PartsAsking<'a, R>, AllocError> {
         self.parts_asking(settings)
     }
@@ -198,6 +213,8 @@ where
                 kept: self.kept,
                 crew: self.crew,
                 parts: self.parts,
+                alloc: self.alloc,
+                early: self.early,
                 failures: self.failures,
             }),
             Err(_) => Err(AllocError),

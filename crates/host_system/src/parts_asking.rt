@@ -1,25 +1,35 @@
 //! What asks the site for one worker and has bodies kept in parts while they arrive.
+use crate::early_run::EarlyRun;
 use crate::shared_failures::SharedFailures;
 use address::{Address, Origin};
+use early_names::{EarlyRules, is_early};
 use fetcher::{Answer, Ask, Fetcher};
-use part_keeper::Part;
+use local_tree::DiskFolder;
+use part_keeper::{Part, PartsDir, Standing};
 use robots_rules::RuleSet;
-use std::alloc::AllocError;
+use std::alloc::{AllocError, Global};
 use std::fs::Files;
 use std::net::Net;
-use std::sync::Wait;
+use std::sync::{Arc, Wait};
 use std::time::Clock;
 use streams::{Close, Lock};
 use tcp_fetcher::PartsOverTcp;
 
-/// Asks over TCP, has bodies kept in parts, shows on the terminal what comes of it, and keeps why a connection was lost.
+/// Asks over TCP, has bodies kept in parts, of which it names those that may be named early, shows on the terminal what comes of it,
+/// and keeps why a connection was lost.
 pub struct PartsAsking<'a, R: Net + Wait + Files + Clock + Eprint>
 where
     R::File: Close + Lock,
 {
     pub(crate) inner: PartsOverTcp<'a, R>,
     pub(crate) rt: &'a R,
+    pub(crate) alloc: Global,
     pub(crate) failures: &'a SharedFailures,
+    pub(crate) parts: &'a PartsDir<R::File>,
+    pub(crate) early: &'a EarlyRun,
+    pub(crate) rules: Option<Arc<EarlyRules>>,
+    // None before a page was named.
+    pub(crate) folder: Option<DiskFolder<'a, R>>,
 }
 
 // By hand: who drops one proves a call, and nothing of what it holds.
@@ -31,7 +41,12 @@ where
         let PartsAsking {
             inner: _inner,
             rt: _rt,
+            alloc: _alloc,
             failures: _failures,
+            parts: _parts,
+            early: _early,
+            rules: _rules,
+            folder: _folder,
         } = self;
     }
 }
@@ -40,6 +55,77 @@ impl<'a, R: Net + Wait + Files + Clock + Eprint> PartsAsking<'a, R>
 where
     R::File: Close + Lock,
 {
+    ghost use Rattle.std.specs.Prelude.{◌≡◌};
+
+    // The name that a part may have early, which no other page has: it is claimed.
+    fn claim(&self, at: &Address, part: &Part) -> Option<String> {
+        let Some(rules) = &self.rules else {
+            return None;
+        };
+        if part.standing != Standing::Whole || !rules.keeps(at) {
+            return None;
+        }
+        let Ok(name) = rules.name_of(self.alloc, part.kind, at) else {
+            return None;
+        };
+        if is_early(name.as_str()) && self.early.claim(self.rt, name.as_str()) {
+            Some(name)
+        } else {
+            None
+        }
+    }
+
+    // A folder of the worker's own. None if there is no memory for it.
+    fn new_folder(&self) -> Option<DiskFolder<'a, R>> {
+        let Ok(path) = self.parts.folder(self.rt) else {
+            return None;
+        };
+        DiskFolder::new(self.rt, self.alloc, path.as_str()).ok()
+    }
+
+    // The worker's own folder, which is made at first. None if there is no memory for it.
+    fn take_folder(&mut self) -> Option<DiskFolder<'a, R>>
+        ensures { self.new.inner ≡ self.old.inner }
+    {
+        match self.folder.take() {
+            Some(folder) => Some(folder),
+            None => self.new_folder(),
+        }
+    }
+
+    // Gives a part this name. Whether it has it then.
+    fn give_name(&mut self, name: &str, part: &Part) -> bool
+        ensures { self.new.inner ≡ self.old.inner }
+    {
+        let Ok(dir) = self.parts.path(self.rt) else {
+            return false;
+        };
+        let Some(mut folder) = self.take_folder() else {
+            return false;
+        };
+        let is_named = folder.name_early(dir.as_str(), name, part);
+        self.folder = Some(folder);
+        is_named
+    }
+
+    // A page's part, which has its name from then on if nothing stands in its way.
+    fn named(&mut self, at: &Address, part: Part) -> Part
+        ensures kind { result.kind ≡ part.kind }
+        ensures len { result.len ≡ part.len }
+        ensures inner { self.new.inner ≡ self.old.inner }
+    {
+        let Some(name) = self.claim(at, &part) else {
+            return part;
+        };
+        if !self.give_name(name.as_str(), &part) {
+            return part;
+        }
+        Part {
+            standing: Standing::Named,
+            ..part
+        }
+    }
+
     // Keeps that the last connection was lost, which was to ask for this address.
     fn note_page(&self, at: &Address) {
         if let Some(kind) = self.inner.loss() {
@@ -74,9 +160,10 @@ where
     ghost log = { λ f. f.inner.asks };
 
     fn ask(&mut self, at: &Address) -> Result<Answer<Part>, AllocError> {
-        let answer = self.inner.ask(at)?;
+        let Answer { outcome, body } = self.inner.ask(at)?;
         self.note_page(at);
-        Ok(answer)
+        let body = self.named(at, body);
+        Ok(Answer { outcome, body })
     }
 
     fn ask_robots(&mut self, of: &Origin) -> Result<RuleSet, AllocError> {

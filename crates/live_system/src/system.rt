@@ -3,6 +3,7 @@ ghost use Rattle.std.specs.Prelude.{◌≡◌, ℕ, List, IfOk, Err, ⊤};
 ghost use Rattle.live_system.specs.Settings.{Settings};
 
 use answer_notes::Recording;
+use early_names::EarlyRules;
 use fetcher::Fetcher;
 use local_tree::{HasKind, Shelf};
 use pacing::{Manner, Retries};
@@ -85,6 +86,11 @@ pub trait System {
 
     // The writers that may be given for a path.
     ghost names: { Self → List ℕ → Self.Record → Type 0 };
+
+    /// From now on the folder may name files while pages arrive, by these rules. The error is that memory ran out.
+    fn begin_naming(&self, _rules: EarlyRules) -> Result<(), AllocError> {
+        Ok(())
+    }
 
     /// A fetcher for one more worker, with these settings. The error is that memory ran out.
     fn fetcher(&self, settings: FetcherSettings) -> Result<Self::Fetcher, AllocError>

@@ -1,6 +1,6 @@
 -- Parts that are put one after another, of which some were lost.
-use Rattle.std.proofs.Common.{◌≡◌, ◌⊎◌, ℕ, ◌+◌, ◌≤◌, ◌<◌, ◌-◌, ◌^◌, max, min, Bool, false, inl, inr, sym, ◌∙◌, ap, subst, arith}
-use Rattle.std.proofs.lemmas.Bool.{cases_lt, false≢true}
+use Rattle.std.proofs.Common.{◌≡◌, ◌⊎◌, ℕ, ◌+◌, ◌≤◌, ◌<◌, ◌-◌, ◌^◌, max, min, inl, inr, sym, ◌∙◌, subst, arith}
+use Rattle.std.proofs.lemmas.Bool.{cases_lt}
 use Rattle.local_tree.specs.Folders.{HasMoreRefused, more_refused, one_more_refused}
 use Rattle.local_tree.specs.Shelves.{AreNamed, MakesOnePut}
 
@@ -35,33 +35,14 @@ at_first old = (omega arith, go (2 ^ 64 - 1))
     go : (most : ℕ) → old ≡ max old (min (old + 0) most)
     go most = omega arith
 
-pub one_put : (lost i old mid new : ℕ) (made : ℕ × Bool) → AreLost lost i old mid → MakesOnePut lost mid new made → AreLost made.0 (i + 1) old new
-one_put lost i old mid new made (few, so) (inl (is, kept, on)) =
+pub one_put : (lost i old mid new made : ℕ) → AreLost lost i old mid → MakesOnePut lost mid new made → AreLost made (i + 1) old new
+one_put lost i old mid new made (few, so) (inl (is, kept)) =
     (omega (arith, few, is), subst (λ (n : ℕ). new ≡ more_refused old n) (sym is) (kept ∙ so))
 one_put lost i old mid new made (few, so) (inr (is, more)) =
-    (at_most (2 ^ 64 - 1) is, none_counted old lost made.0 new is (one_more old lost mid new so more))
+    (at_most (2 ^ 64 - 1) is, none_counted old lost made new is (one_more old lost mid new so more))
   where
-    at_most : (most : ℕ) → made.0 ≡ min (lost + 1) most → made.0 ≤ i + 1
+    at_most : (most : ℕ) → made ≡ min (lost + 1) most → made ≤ i + 1
     at_most most is = omega (arith, few, is)
-
--- a put that ends it has failed
-refused : (lost mid new : ℕ) (made : ℕ × Bool) → made.1 ≡ false → MakesOnePut lost mid new made → new ≡ one_more_refused mid
-refused lost mid new made off (inl (is, kept, on)) = absurd (false≢true (sym off ∙ on))
-refused lost mid new made off (inr (is, more)) = more
-
-pub stopped : (lost i old mid new : ℕ) (made : ℕ × Bool) → made.1 ≡ false → AreLost lost i old mid → MakesOnePut lost mid new made → HasMoreRefused old new
-stopped lost i old mid new made off (few, so) put = has_risen old (lost + 1) new (omega arith) (one_more old lost mid new so (refused lost mid new made off put))
-
-pub stopped_named : (names lost i old mid new : ℕ) (made : ℕ × Bool) → made.1 ≡ false → i < names → AreLost lost i old mid → MakesOnePut lost mid new made → AreNamed names old new (i - lost)
-stopped_named names lost i old mid new made off below (few, so) put = record {
-  made = i + 1;
-  few = omega (arith, below);
-  named = omega arith;
-  failed = subst (λ (n : ℕ). new ≡ more_refused old n) (go i lost few) (one_more old lost mid new so (refused lost mid new made off put));
-}
-  where
-    go : (i lost : ℕ) → lost ≤ i → lost + 1 ≡ i + 1 - (i - lost)
-    go i lost few = omega (arith, few)
 
 -- at the end
 pub all_put : (lost i old now : ℕ) → lost ≤ 0 → AreLost lost i old now → now ≡ old

@@ -1,5 +1,5 @@
 -- What putting kept bodies leaves in a folder, whichever bodies they may be.
-use Rattle.std.specs.Prelude.{◌≡◌, ◌⊎◌, ◌^◌, ◌-◌, ℕ, ◌<◌, ◌≤◌, ◌+◌, Bool, true, List, Option, length, min}
+use Rattle.std.specs.Prelude.{◌≡◌, ◌⊎◌, ◌^◌, ◌-◌, ℕ, ◌<◌, ◌≤◌, ◌+◌, List, Option, length, min}
 use Rattle.std.specs.List.{AllZip}
 use Rattle.kept_bodies.specs.Bodies.{BodyValue, bytes_of}
 use Rattle.local_tree.specs.Folders.{Files, Holding, HasMoreRefused, more_refused, one_more_refused}
@@ -32,7 +32,7 @@ pub record AreNamed (names old new k : ℕ) : Type 0 where
 abbrev pub AreNamedBy : ℕ → ℕ → ℕ → WriteFault → Type 0
 AreNamedBy names old new (Device k) = AreNamed names old new k
 
--- no call failed and as many are lost, or a call failed and one more is, after which more may be put
-abbrev pub MakesOnePut : ℕ → ℕ → ℕ → ℕ × Bool → Type 0
+-- no call failed and as many are lost, or a call failed and one more is
+abbrev pub MakesOnePut : ℕ → ℕ → ℕ → ℕ → Type 0
 MakesOnePut lost old new made =
-    ((made.0 ≡ lost) × (new ≡ old) × (made.1 ≡ true)) ⊎ ((made.0 ≡ min (lost + 1) (2 ^ 64 - 1)) × (new ≡ one_more_refused old))
+    ((made ≡ lost) × (new ≡ old)) ⊎ ((made ≡ min (lost + 1) (2 ^ 64 - 1)) × (new ≡ one_more_refused old))

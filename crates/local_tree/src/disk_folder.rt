@@ -10,7 +10,7 @@ use crate::site_files::WriteFault;
 use harvest::Harvest;
 use kept_bodies::Body;
 use local_names::is_local_name;
-use part_keeper::{OwnDir, make_own_dir};
+use part_keeper::{OwnDir, Part as KeptPart, make_own_dir};
 use std::alloc::{AllocError, Global};
 use std::fs::Files;
 use std::io::{Error, ErrorKind};
@@ -72,6 +72,9 @@ pub struct DiskFolder<'a, R: Files> {
     prefix: String,
     // Below which directory the keepers of a run have their parts; empty if there is none.
     parts: String,
+    // Those that couldn't be moved back from the names that they were given early, and whether some aren't among them.
+    stuck: Vec<KeptPart>,
+    are_all_stuck: bool,
     // Where parts are made, while files are put.
     own: Option<OwnDir<R::File>>,
     known: Known,
@@ -339,6 +342,8 @@ where
             alloc,
             prefix,
             parts: String::new(alloc),
+            stuck: Vec::new(alloc),
+            are_all_stuck: false,
             own: None,
             known: Known::nothing(alloc),
             failed: 0,

@@ -6,7 +6,7 @@ ghost use Rattle.html_links.specs.declared.context.Syntax.{Syntax};
 ghost use Rattle.html_links.specs.declared.lexer.Mode.TheVariants.{InSheet};
 ghost use Rattle.page_links.specs.Rewriting.{IsAnew, IsAt};
 
-use crate::bytes::run_len;
+use crate::bytes::{is_white, run_len};
 use crate::cut::cut_value;
 use crate::sheet::{fits, split_sheet};
 use crate::value::{sheet_anew, value_anew};
@@ -99,6 +99,12 @@ impl Writer {
         ensures at { IfOk result (λ rest. (syntax : Syntax) (page : List ℕ) → IsAt (C.becomes change.now) syntax page self.old.scanner self.old.out.items left.now → IsAt (C.becomes change.now) syntax page self.new.scanner self.new.out.items rest.now) }
         ensures within { IfOk result (λ rest. length rest.now ≤ length left.now) }
     {
+        if let [first, ..] = left {
+            // (a value is awaited after white too)
+            if is_white(*first) {
+                return Ok(left);
+            }
+        }
         match self.scanner.awaited()? {
             Some(form) => self.write_value(change, form, left),
             None => {

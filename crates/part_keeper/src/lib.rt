@@ -4,10 +4,12 @@
 
 mod own_dir;
 mod part;
+mod part_counter;
 mod part_keeper;
 mod parts_dir;
 
 pub use own_dir::{OwnDir, make_own_dir};
 pub use part::{Part, Standing, part_path};
+pub use part_counter::PartCounter;
 pub use part_keeper::PartKeeper;
 pub use parts_dir::PartsDir;

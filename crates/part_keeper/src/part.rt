@@ -5,9 +5,13 @@ use std::alloc::{AllocError, Global};
 /// What is there of a body.
 #[derive(Clone, Copy, Debug, PartialEq, Eq)]
 pub enum Standing {
-    /// A file with all its bytes, or bytes that wait for a descriptor.
+    /// A file with all its bytes.
     Whole,
-    /// Nothing, since its file couldn't be written.
+    /// The same, with the name that its page has by itself.
+    Named,
+    /// All its bytes, which wait for a descriptor, and later a file with them.
+    Waiting,
+    /// Nothing, since its file couldn't be written, or wasn't to be kept.
     Lost,
     /// Nothing, since there is no body.
     Absent,

@@ -172,21 +172,25 @@ where
         }
     }
 
-    // Ends the body.
-    fn end(&mut self) -> Result<(), AllocError>
+    // Ends the body. What is there of it then.
+    fn end(&mut self) -> Result<Standing, AllocError>
         ensures { self.new.len ≡ self.old.len }
     {
         self.keep(&[])?;
         if self.error.is_some() {
-            return Ok(());
+            return Ok(Standing::Lost);
         }
         if self.file.is_none() {
-            return self.put_off();
+            self.put_off()?;
+            return Ok(Standing::Waiting);
         }
-        if let Err(error) = self.close() {
-            self.lose(error);
+        match self.close() {
+            Ok(()) => Ok(Standing::Whole),
+            Err(error) => {
+                self.lose(error);
+                Ok(Standing::Lost)
+            }
         }
-        Ok(())
     }
 }
 
@@ -223,17 +227,16 @@ where
     }
 
     fn finish(&mut self, kind: BodyKind) -> Result<Part, AllocError> {
-        self.end()?;
+        let standing = self.end()?;
         let mut part = Part {
             worker: self.worker,
             number: self.number,
             kind,
             len: self.len,
-            standing: Standing::Whole,
+            standing,
         };
         self.number = self.number.saturating_add(1);
         if let Some(error) = self.error.take() {
-            part.standing = Standing::Lost;
             part.number = self.reason(error);
         }
         Ok(part)

@@ -132,6 +132,11 @@ fn set_folder<F: Drop>(made: &mut Made<F>, folder: &str) -> Result<(), AllocErro
         .push_str(if folder.is_empty() { "." } else { folder })
 }
 
+// Below which folder it is to be.
+fn folder_of<F: Drop>(alloc: Global, made: &mut Made<F>) -> Result<String, AllocError> {
+    String::from_str(alloc, made.folder.as_str())
+}
+
 // Its path; empty if it wasn't made.
 fn path_of<F: Drop>(alloc: Global, made: &mut Made<F>) -> Result<String, AllocError> {
     match &made.own {
@@ -203,6 +208,11 @@ impl<F: Lock + Close + Drop> PartsDir<F> {
         set_folder(&mut self.made.lock(rt), folder)
     }
 
+    /// Below which folder it is to be.
+    pub fn folder<R: Wait>(&self, rt: &R) -> Result<String, AllocError> {
+        folder_of(self.alloc, &mut self.made.lock(rt))
+    }
+
     // A directory for one more worker. The first makes the run's, and removes those that ended runs left. The error is the system's.
     pub(crate) fn enter<R: Files<File = F> + Wait>(&self, rt: &R) -> io::Result<WorkerDir> {
         enter(rt, self.alloc, &mut self.made.lock(rt))
@@ -232,7 +242,7 @@ impl<F: Lock + Close + Drop> PartsDir<F> {
     pub fn reason<R: Wait>(&self, rt: &R, part: &Part) -> Option<io::Error> {
         match part.standing {
             Standing::Lost => take_reason(&mut self.made.lock(rt), part.number as usize),
-            Standing::Whole | Standing::Absent => None,
+            Standing::Whole | Standing::Named | Standing::Waiting | Standing::Absent => None,
         }
     }
 

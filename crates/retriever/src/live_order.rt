@@ -14,6 +14,7 @@ use crate::live_run::live_shown;
 use crate::moves::tell_moves;
 use crate::resume_fault::{ResumeFault, resume_status, resume_text};
 use crate::saved_run::{live_saved, resuming};
+use early_names::EarlyRules;
 use fetcher::Fetcher;
 use live_system::{FetcherSettings, HoldFault, System};
 use local_tree::{HasKind, Shelf};
@@ -117,6 +118,13 @@ where
     status
 }
 
+// Has the system name files early, as the order says what is kept and how it is named.
+fn begin_naming<S: System>(alloc: Global, system: &S, order: &Order) -> Result<(), AllocError> {
+    let names = &order.names;
+    let rules = EarlyRules::of(alloc, &order.plan, &names.rules, names.has_endings)?;
+    system.begin_naming(rules)
+}
+
 // Retrieves the live site that the order says, by fetchers of the system, into its folder.
 fn live_plainly<H: Threads + Wait + Sync, S: System, W: Write>(
     rt: &H,
@@ -128,6 +136,7 @@ fn live_plainly<H: Threads + Wait + Sync, S: System, W: Write>(
     ensures lives { IfOk result (LivesPlainly (means S.System system.now S.Fetcher.Fetcher S.Recorder.Fetcher S.Recorder.noted (kept_as S.Body.kind_of S.Folder.holds) S.Folder.Folder S.Record.Write) order.now (W.contents writer.old) (W.contents writer.new)) }
     ensures unwritten { OnErr result (writer.new ≡ writer.old) }
 {
+    begin_naming(alloc, system, order)?;
     let fetchers = fetchers_of(alloc, system, order)?;
     let mut folder = system.folder(order.prefix.as_str())?;
     Ok(live_into(rt, alloc, system, order, fetchers, &mut folder, writer))

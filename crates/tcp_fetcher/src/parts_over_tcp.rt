@@ -9,8 +9,9 @@ ghost use Rattle.tcp_fetcher.specs.PartsFetching.{MayAnswerIn, MayRuleIn, PartsS
 
 use crate::over_tcp::OverTcp;
 use address::{Address, Origin};
+use early_names::EarlyRules;
 use fetcher::{Answer, Ask, Fetcher};
-use part_keeper::{Part, PartKeeper, PartsDir};
+use part_keeper::{Part, PartCounter, PartKeeper, PartsDir};
 use response_answer::PageSink;
 use robots_rules::RuleSet;
 use run_failures::LossKind;
@@ -18,7 +19,7 @@ use std::alloc::{AllocError, Global};
 use std::fs::Files;
 use std::marker::Model;
 use std::net::Net;
-use std::sync::Wait;
+use std::sync::{Arc, Wait};
 use std::time::Clock;
 use streams::{Close, Lock};
 use tcp_connect::Kept;
@@ -30,6 +31,9 @@ where
 {
     inner: OverTcp<'a, R>,
     sink: PageSink<PartKeeper<'a, R>>,
+    // Takes pages that aren't kept.
+    passing: PageSink<PartCounter>,
+    rules: Option<Arc<EarlyRules>>,
     rt: &'a R,
     kept: &'a Kept<R::Stream>,
     parts: &'a PartsDir<R::File>,
@@ -44,6 +48,8 @@ where
         let PartsOverTcp {
             inner: _inner,
             sink: _sink,
+            passing: _passing,
+            rules: _rules,
             rt: _rt,
             kept: _kept,
             parts: _parts,
@@ -66,20 +72,23 @@ impl<'a, R: Net + Wait + Clock + Eprint + Files> PartsOverTcp<'a, R>
 where
     R::File: Close + Lock,
 {
-    /// Asks by this fetcher, and keeps the bodies below this directory. If a file needs a descriptor, connections that wait are ended.
-    /// Takes no memory.
+    /// Asks by this fetcher, and keeps the bodies below this directory, unless these rules don't keep their pages. If a file needs a
+    /// descriptor, connections that wait are ended. Takes no memory.
     pub fn new(
         rt: &'a R,
         alloc: Global,
         inner: OverTcp<'a, R>,
         kept: &'a Kept<R::Stream>,
         parts: &'a PartsDir<R::File>,
+        rules: Option<Arc<EarlyRules>>,
     ) -> PartsOverTcp<'a, R>
         ensures { result ≡ inner.entry }
     {
         PartsOverTcp {
             inner,
             sink: PageSink::new(alloc, PartKeeper::new(rt, alloc, parts)),
+            passing: PageSink::new(alloc, PartCounter::new()),
+            rules,
             rt,
             kept,
             parts,
@@ -89,6 +98,14 @@ where
     /// Why the last connection was lost, if it was.
     pub fn loss(&self) -> Option<LossKind> {
         self.inner.loss()
+    }
+}
+
+// Whether a page of this address is kept.
+fn keeps(rules: &Option<Arc<EarlyRules>>, page: &Address) -> bool {
+    match rules {
+        Some(rules) => rules.keeps(page),
+        None => true,
     }
 }
 
@@ -129,6 +146,9 @@ where
         ensures tries { IfOk result (IsLastOf asks_of (MayKeep holds_part self.old.limits at.now) (is_worth_answer self.old.retries) (ask.Page at.now) self.old.retries.most self.old.single self.new.single) }
         ensures retries { self.new.retries ≡ self.old.retries }
     {
+        if !keeps(&self.rules, at) {
+            return self.inner.ask_into(&mut self.passing, at);
+        }
         let answer = self.inner.ask_into(&mut self.sink, at);
         write_late(self.rt, self.kept, self.parts);
         answer

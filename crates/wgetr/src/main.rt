@@ -3,7 +3,7 @@
 #![tactic(auto)]
 
 use host_system::{
-    Network, Output, PartThreads, PartsDir, SharedFailures, StandIns, jar_of, starts_of,
+    EarlyRun, Network, Output, PartThreads, PartsDir, SharedFailures, StandIns, jar_of, starts_of,
 };
 use progress::{BehindLine, Progress};
 use record_journal::Saving;
@@ -81,6 +81,7 @@ fn main(rt: HostRuntime) -> ExitCode {
     let saving = Saving::new();
     let crew = PartThreads::new(&rt, &rt);
     let parts = PartsDir::new(rt.alloc());
+    let early = EarlyRun::new(rt.alloc());
     let network = Network::new(
         &rt,
         rt.alloc(),
@@ -90,6 +91,7 @@ fn main(rt: HostRuntime) -> ExitCode {
         &saving,
         &crew,
         &parts,
+        &early,
         &failures,
         jar,
     );

@@ -7,6 +7,9 @@ use crate::asked::{AskedName, Wanted};
 use crate::lexer::{Lexer, Mode};
 use crate::tag::written;
 
+/// How many attributes that are kept may come before one that is awaited, since it is compared with each.
+const MOST_BEFORE: usize = 64;
+
 impl Wanted {
     fn is_kept(self) -> bool
         ensures { result ≡ is_kept self }
@@ -20,7 +23,7 @@ impl Wanted {
 }
 
 impl Lexer {
-    /// The attribute whose value comes next, if it is kept and the first of its name in a start tag.
+    /// The attribute whose value comes next, if it is kept and the first of its name in a start tag, and not too many came before it.
     pub(crate) fn awaited(&self) -> Option<AskedName>
         ensures { MatchOption result (Unit {0}) (λ attribute. AwaitsValue self.now attribute) }
     {
@@ -36,6 +39,9 @@ impl Lexer {
         ensures { MatchOption result (Unit {0}) (λ attribute. AwaitsValue self.now attribute) }
     {
         let attribute = self.keeps?;
+        if self.attributes.len() >= MOST_BEFORE {
+            return None;
+        }
         if self.wanted.is_kept() && written(&self.attributes, attribute).is_none() {
             Some(attribute)
         } else {

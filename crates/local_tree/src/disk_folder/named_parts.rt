@@ -29,8 +29,8 @@ where
 {
     ghost use Rattle.std.specs.Prelude.{◌≡◌};
 
-    // Gives the file of a part this name.
-    fn name_part(&mut self, name: &str, part: &Part) -> io::Result<()>
+    // Gives the file of a part below this directory a name.
+    fn move_part(&mut self, dir: &str, name: &str, part: &Part) -> io::Result<()>
         ensures { self.new ≡ self.old }
     {
         let path = find_place(
@@ -40,8 +40,83 @@ where
             &mut self.known,
             name,
         )?;
-        let from = part_path(self.alloc, self.parts.as_str(), part.worker, part.number)?;
+        let from = part_path(self.alloc, dir, part.worker, part.number)?;
         self.rt.rename(from.as_str(), path.as_str())
+    }
+
+    // Gives the file of a part this name.
+    fn name_part(&mut self, name: &str, part: &Part) -> io::Result<()>
+        ensures { self.new ≡ self.old }
+    {
+        let dir = String::from_str(self.alloc, self.parts.as_str())?;
+        self.move_part(dir.as_str(), name, part)
+    }
+
+    /// Gives a whole part below this directory a name while a run goes on. Whether it has it from then on.
+    pub fn name_early(&mut self, dir: &str, name: &str, part: &Part) -> bool
+        ensures { self.new ≡ self.old }
+    {
+        if part.standing != Standing::Whole {
+            return false;
+        }
+        let is_named = self.move_part(dir, name, part).is_ok();
+        if !is_named {
+            self.known.forget();
+        }
+        is_named
+    }
+
+    /// Moves a part that was given this name early back, so that it gets another. If that fails, it is never put.
+    pub fn take_back(&mut self, name: &str, part: &Part)
+        ensures { self.new ≡ self.old }
+    {
+        if self.move_back(name, part).is_err() {
+            self.give_up(part);
+        }
+        self.known.forget();
+    }
+
+    /// Has a part that was given a name early never put.
+    pub fn give_up(&mut self, part: &Part)
+        ensures { self.new ≡ self.old }
+    {
+        if self.stuck.push(*part).is_err() {
+            self.are_all_stuck = true;
+        }
+    }
+
+    // Moves a part that has this name to its path.
+    fn move_back(&mut self, name: &str, part: &Part) -> io::Result<()>
+        ensures { self.new ≡ self.old }
+    {
+        let path = find_place(
+            self.rt,
+            self.alloc,
+            self.prefix.as_str(),
+            &mut self.known,
+            name,
+        )?;
+        let to = part_path(self.alloc, self.parts.as_str(), part.worker, part.number)?;
+        self.rt.rename(path.as_str(), to.as_str())
+    }
+
+    // Whether a part couldn't be moved back.
+    fn is_stuck(&self, part: &Part) -> bool {
+        self.are_all_stuck || self.stuck.as_slice().iter().any(|stuck| *stuck == *part)
+    }
+
+    // Puts a part that was given a name early: nothing is to be done, unless it was moved back.
+    fn put_named(&mut self, name: &str, part: &Part) -> io::Result<()>
+        ensures { self.new ≡ self.old }
+    {
+        if self.is_stuck(part) {
+            return Err(Error::from(ErrorKind::Other));
+        }
+        let path = part_path(self.alloc, self.parts.as_str(), part.worker, part.number)?;
+        match self.rt.symlink_metadata(path.as_str()) {
+            Err(error) if error.kind() == ErrorKind::NotFound => Ok(()),
+            _ => self.name_part(name, part),
+        }
     }
 
     // Puts a part. For one that was lost there is no file, since its keeper had an error.
@@ -49,7 +124,8 @@ where
         ensures { self.new ≡ self.old }
     {
         match part.standing {
-            Standing::Whole => self.name_part(name, part),
+            Standing::Whole | Standing::Waiting => self.name_part(name, part),
+            Standing::Named => self.put_named(name, part),
             Standing::Lost => Err(Error::from(ErrorKind::Other)),
             Standing::Absent => {
                 let put = self.write(name, &[]);
@@ -86,18 +162,18 @@ pub trait NamesParts {
         ensures { CountsRefusedPut (failed self.old) (failed self.new) result };
 }
 
-// Puts a part. Gives how many are lost then, of which there were so many, and whether more are to be put.
-fn put_one<D: NamesParts>(folder: &mut D, name: &str, part: &Part, lost: usize) -> (usize, bool)
+// Puts a part. Gives how many got no name then, of which there were so many.
+fn put_one<D: NamesParts>(folder: &mut D, name: &str, part: &Part, lost: usize) -> usize
     ensures { MakesOnePut lost (D.failed folder.old) (D.failed folder.new) result }
 {
     match folder.put_part(name, part) {
-        Ok(()) => (lost, true),
-        Err(_) => (lost.saturating_add(1), part.standing == Standing::Lost),
+        Ok(()) => lost,
+        Err(_) => lost.saturating_add(1),
     }
 }
 
 /// Puts the kept pages of a harvest whose bodies are in parts, in their order, each under its name. Of a part that was lost nothing is
-/// put. If another put fails no more is made. The fault counts the files that are whole.
+/// put. If a put fails the others are made. The fault counts the files that are whole.
 pub fn put_parts<D: NamesParts>(
     folder: &mut D,
     names: &[String],
@@ -111,11 +187,7 @@ pub fn put_parts<D: NamesParts>(
 {
     let mut lost = 0usize;
     for (i, name) in names.iter().enumerate() {
-        let (now, goes_on) = put_one(folder, name.as_str(), harvest.kept_body(i), lost);
-        if !goes_on {
-            return Err(WriteFault::Device(i.saturating_sub(lost)));
-        }
-        lost = now;
+        lost = put_one(folder, name.as_str(), harvest.kept_body(i), lost);
     }
     if lost > 0 {
         return Err(WriteFault::Device(names.len().saturating_sub(lost)));

@@ -22,9 +22,14 @@ returns g c =
       unwritten = tt;
     }
 
+pub returns-in_err-begin_naming : goal.returns-in_err-begin_naming
+returns-in_err-begin_naming g c =
+    let p = err_from_is_err_and c.from_residual.result c.from_residual.ensures.1 in
+    rw p.1 (record { lives = tt; unwritten = refl })
+
 pub returns-in_err-fetchers : goal.returns-in_err-fetchers
 returns-in_err-fetchers g c =
-    let p = err_from_is_err_and c.from_residual.result c.from_residual.ensures.1 in
+    let p = err_from_is_err_and c.from_residual-in_err-fetchers.result c.from_residual-in_err-fetchers.ensures.1 in
     rw p.1 (record { lives = tt; unwritten = refl })
 
 pub returns-in_err-folder : goal.returns-in_err-folder
