@@ -46,6 +46,8 @@ meets_alike plan page other kind address hosts rule.NotIncluded = refl
 meets_alike plan page other kind address hosts rule.Excluded = refl
 meets_alike plan page other kind address hosts rule.NotAccepted = refl
 meets_alike plan page other kind address hosts rule.Rejected = refl
+meets_alike plan page other kind address hosts rule.ExpressionMissing = refl
+meets_alike plan page other kind address hosts rule.ExpressionFound = refl
 
 -- if hosts are spanned and requisites aren't, each edge may lead where another does
 pub meets_anywhere : (plan : Plan) (page other : List ℕ) (kind another : EdgeKind) (address : List ℕ) → plan.span_hosts ≡ true → plan.span_requisites ≡ false → (r : Rule) → meets r plan page kind address ≡ meets r plan other another address
@@ -59,6 +61,8 @@ meets_anywhere plan page other kind another address spans alone rule.NotIncluded
 meets_anywhere plan page other kind another address spans alone rule.Excluded = refl
 meets_anywhere plan page other kind another address spans alone rule.NotAccepted = refl
 meets_anywhere plan page other kind another address spans alone rule.Rejected = refl
+meets_anywhere plan page other kind another address spans alone rule.ExpressionMissing = refl
+meets_anywhere plan page other kind another address spans alone rule.ExpressionFound = refl
 
 -- if requisites aren't spanned, the kind of an edge doesn't count
 pub meets_any_kind : (plan : Plan) (page : List ℕ) (kind another : EdgeKind) (address : List ℕ) → plan.span_requisites ≡ false → (r : Rule) → meets r plan page kind address ≡ meets r plan page another address
@@ -72,6 +76,8 @@ meets_any_kind plan page kind another address alone rule.NotIncluded = refl
 meets_any_kind plan page kind another address alone rule.Excluded = refl
 meets_any_kind plan page kind another address alone rule.NotAccepted = refl
 meets_any_kind plan page kind another address alone rule.Rejected = refl
+meets_any_kind plan page kind another address alone rule.ExpressionMissing = refl
+meets_any_kind plan page kind another address alone rule.ExpressionFound = refl
 
 -- a link of a page on the start's host is followed just if its target passes
 pub links_at_home : (plan : Plan) (page address : List ℕ) → host_of page ≡ host_of plan.start → follows_of plan page Link address ≡ passes_of plan address
@@ -160,6 +166,8 @@ pub record IsAlike (p q : Plan) : Type 0 where
   pub exclude_dirs : p.exclude_dirs ≡ q.exclude_dirs
   pub accept : p.accept ≡ q.accept
   pub reject : p.reject ≡ q.reject
+  pub accept_expressions : p.accept_expressions ≡ q.accept_expressions
+  pub reject_expressions : p.reject_expressions ≡ q.reject_expressions
   pub ignore_case : p.ignore_case ≡ q.ignore_case
 
 has_start_of_set : (p q : Plan) (address : List ℕ) → IsAlike p q → has_start_host p address ≡ has_start_host q address
@@ -182,6 +190,8 @@ meets_of_set p q page kind address like rule.NotIncluded = rw (like.include_dirs
 meets_of_set p q page kind address like rule.Excluded = rw (like.exclude_dirs, like.ignore_case) refl
 meets_of_set p q page kind address like rule.NotAccepted = rw (like.accept, like.ignore_case) refl
 meets_of_set p q page kind address like rule.Rejected = rw (like.reject, like.ignore_case) refl
+meets_of_set p q page kind address like rule.ExpressionMissing = rw like.accept_expressions refl
+meets_of_set p q page kind address like rule.ExpressionFound = rw like.reject_expressions refl
 
 -- which edges are followed depends on the set of starts alone
 pub follows_of_set : (p q : Plan) (page : List ℕ) (kind : EdgeKind) (address : List ℕ) → IsAlike p q → follows_of p page kind address ≡ follows_of q page kind address

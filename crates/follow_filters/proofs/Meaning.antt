@@ -24,6 +24,8 @@ use Rattle.follow_filters.specs.Directories.{IsInDirectory, is_in_directory, rea
 use Rattle.follow_filters.specs.Exempt.{IsExempt, is_exempt_file}
 use Rattle.follow_filters.specs.Patterns.{MatchesFile, is_file_match, matches_read, read_pattern, is_run, takes_in}
 use Rattle.follow_filters.proofs.DirectoryLemmas.{begins_with_read-Decides}
+use Rattle.expressions.specs.Expressions.{IsFoundIn, is_found}
+use Rattle.expressions.proofs.Compiling.{found_iff}
 use Rattle.follow_filters.specs.Rules.{rules, HasStartHost, has_start_host, IsShown, is_shown, LeadsAnywhere, leads_anywhere, Meets, Passes, is_absent, meets, first_unmet, passes_of, follows_of, Follows, IsFirstUnmetBy, edge_verdict, verdict_from, keeps_of, keeps_name, names_some, IsNamedBy, KeepsPage, kept_name, full_name}
 
 -- ---- fronts and backs of texts
@@ -139,6 +141,9 @@ meets-Decides rule.NotAccepted plan page kind address =
     unless_facts _ _ _ (is_exempt_file-Decides (file_of address)) (is_absent-Decides plan.accept) (any-Decides _ _ (λ p. is_file_match-Decides plan.ignore_case p (file_of address)) plan.accept)
 meets-Decides rule.Rejected plan page kind address =
     unless_fact _ _ (is_exempt_file-Decides (file_of address)) (Decides-not _ (any-Decides _ _ (λ p. is_file_match-Decides plan.ignore_case p (file_of address)) plan.reject))
+meets-Decides rule.ExpressionMissing plan page kind address =
+    unless_fact _ _ (is_absent-Decides plan.accept_expressions) (any-Decides _ _ (λ e. found_iff e address) plan.accept_expressions)
+meets-Decides rule.ExpressionFound plan page kind address = Decides-not _ (any-Decides _ _ (λ e. found_iff e address) plan.reject_expressions)
 
 -- ---- all rules
 
@@ -157,6 +162,8 @@ place rule.NotIncluded = 5
 place rule.Excluded = 6
 place rule.NotAccepted = 7
 place rule.Rejected = 8
+place rule.ExpressionMissing = 9
+place rule.ExpressionFound = 10
 
 -- every rule is among the rules
 listed : (r : Rule) → (place r < length rules) × (get_or rules (place r) rule.Rejected ≡ r)
@@ -170,13 +177,15 @@ listed rule.NotIncluded = (omega arith, refl)
 listed rule.Excluded = (omega arith, refl)
 listed rule.NotAccepted = (omega arith, refl)
 listed rule.Rejected = (omega arith, refl)
+listed rule.ExpressionMissing = (omega arith, refl)
+listed rule.ExpressionFound = (omega arith, refl)
 
 -- what each rule of a list says, its tests say together
 all_met : (plan : Plan) (page : List ℕ) (kind : EdgeKind) (address : List ℕ) (rs : List Rule) → ((r : Rule) → meets r plan page kind address ≡ true) → list_all (λ r. meets r plan page kind address) rs ≡ true
 all_met plan page kind address [] each = refl
 all_met plan page kind address (r ∷ rs) each = and_from _ _ (each r) (all_met plan page kind address rs each)
 
--- the test `follows_of` holds of a page and a text just where they meet each of the nine rules, for every plan: a law for definitions
+-- the test `follows_of` holds of a page and a text just where they meet each of the rules, for every plan: a law for definitions
 -- of other crates that take a test
 pub follows_of-is : (plan : Plan) (page : List ℕ) (kind : EdgeKind) (address : List ℕ) → IsTrue (follows_of plan page kind address) ↔ Follows plan page kind address
 unfolding follows_of

@@ -17,6 +17,8 @@ pub record IsUnfiltered (plan : Plan) : Type 0 where
   pub exclude_dirs : plan.exclude_dirs ≡ []
   pub accept : plan.accept ≡ []
   pub reject : plan.reject ≡ []
+  pub accept_expressions : plan.accept_expressions ≡ []
+  pub reject_expressions : plan.reject_expressions ≡ []
   pub ignore_case : plan.ignore_case ≡ false
   pub robots : plan.robots ≡ false
   pub page_requisites : plan.page_requisites ≡ false

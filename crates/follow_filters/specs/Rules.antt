@@ -13,12 +13,14 @@ use Rattle.follow_filters.specs.Domains.{IsInDomain, is_in_domain}
 use Rattle.follow_filters.specs.Directories.{IsInDirectory, is_in_directory}
 use Rattle.follow_filters.specs.Exempt.{IsExempt, is_exempt_file}
 use Rattle.follow_filters.specs.Patterns.{MatchesFile, is_file_match}
+use Rattle.expressions.specs.Expressions.{IsFoundIn, is_found}
 
 -- the rules, in the order in which they are asked
 abbrev pub rules : List Rule
 rules =
     rule.RobotsFile ∷ rule.Host ∷ rule.Parent ∷ rule.Domain ∷ rule.ExcludedDomain
-    ∷ rule.NotIncluded ∷ rule.Excluded ∷ rule.NotAccepted ∷ rule.Rejected ∷ []
+    ∷ rule.NotIncluded ∷ rule.Excluded ∷ rule.NotAccepted ∷ rule.Rejected
+    ∷ rule.ExpressionMissing ∷ rule.ExpressionFound ∷ []
 
 -- ---- what the rules mean
 
@@ -69,6 +71,9 @@ Meets rule.NotAccepted plan page kind address =
     ¬ IsExempt (file_of address) → plan.accept ≢ [] → Any (λ p. MatchesFile plan.ignore_case p (file_of address)) plan.accept
 Meets rule.Rejected plan page kind address =
     ¬ IsExempt (file_of address) → ¬ Any (λ p. MatchesFile plan.ignore_case p (file_of address)) plan.reject
+Meets rule.ExpressionMissing plan page kind address =
+    plan.accept_expressions ≢ [] → Any (λ expression. IsFoundIn expression address) plan.accept_expressions
+Meets rule.ExpressionFound plan page kind address = ¬ Any (λ expression. IsFoundIn expression address) plan.reject_expressions
 
 -- the page's edge of the kind that leads to the address is followed: it meets each rule
 abbrev pub Follows : Plan → List ℕ → EdgeKind → List ℕ → Type 0
@@ -118,6 +123,10 @@ is_in_some_directory ignores_case directories dir = list_any (λ d. is_in_direct
 abbrev pub matches_some : Bool → List (List ℕ) → List ℕ → Bool
 matches_some ignores_case patterns file = list_any (λ p. is_file_match ignores_case p file) patterns
 
+-- an expression of the list is found in the address's text
+abbrev pub finds_some : List (List ℕ) → List ℕ → Bool
+finds_some expressions address = list_any (λ expression. is_found expression address) expressions
+
 -- the list wasn't given
 abbrev pub is_absent : List (List ℕ) → Bool
 is_absent [] = true
@@ -154,6 +163,8 @@ meets rule.NotAccepted plan page kind address =
     is_exempt_file (file_of address) || is_absent plan.accept || matches_some plan.ignore_case plan.accept (file_of address)
 meets rule.Rejected plan page kind address =
     is_exempt_file (file_of address) || not (matches_some plan.ignore_case plan.reject (file_of address))
+meets rule.ExpressionMissing plan page kind address = is_absent plan.accept_expressions || finds_some plan.accept_expressions address
+meets rule.ExpressionFound plan page kind address = not (finds_some plan.reject_expressions address)
 
 -- the first rule that the edge doesn't meet
 unfoldable pub first_unmet : Plan → List ℕ → EdgeKind → List ℕ → Option Rule

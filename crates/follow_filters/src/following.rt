@@ -5,6 +5,7 @@ ghost use Rattle.follow_filters.specs.Domains.{is_in_domain};
 ghost use Rattle.follow_filters.specs.Directories.{is_in_directory};
 ghost use Rattle.follow_filters.specs.Patterns.{is_file_match};
 ghost use Rattle.follow_filters.specs.Exempt.{is_exempt_file};
+ghost use Rattle.expressions.specs.Expressions.{is_found};
 
 use crate::directory::Directory;
 use crate::domain::Domain;
@@ -15,6 +16,7 @@ use crate::plan::Plan;
 use crate::rule::{RULES, Rule};
 use crate::starts::{has_host_of, is_below};
 use address::Address;
+use expressions::Expression;
 use fetcher::EdgeKind;
 
 // Whether a file name meets the accept and reject lists in any case.
@@ -50,6 +52,17 @@ fn matches_some(patterns: &Elements<Pattern>, file: &str, ignores_case: bool) ->
         .as_slice()
         .iter()
         .any(|pattern| pattern.matches(file, ignores_case))
+}
+
+// Whether an expression of the list is found in the address.
+fn finds_some(expressions: &Elements<Expression>, address: &Address) -> bool
+    ensures { result ≡ list_any (λ expression. is_found expression address.now) expressions.now }
+{
+    let text = address.as_str();
+    expressions
+        .as_slice()
+        .iter()
+        .any(|expression| expression.is_found_in(text))
 }
 
 ghost use Rattle.follow_filters.specs.Rules.{has_host_of, names_some};
@@ -154,6 +167,13 @@ impl Plan {
         is_exempt(file) || !matches_some(&self.reject, file, self.ignore_case)
     }
 
+    #[tactic(auto, unfolding(crate::specs::Rules::meets))]
+    fn meets_expression(&self, address: &Address) -> bool
+        ensures { (page : List ℕ) (kind : EdgeKind) → result ≡ meets Rule.ExpressionMissing self.now page kind address.now }
+    {
+        self.accept_expressions.is_empty() || finds_some(&self.accept_expressions, address)
+    }
+
     // Whether the address, to which an edge of the page leads, meets the rule.
     #[tactic(auto, unfolding(crate::specs::Rules::meets))]
     fn meets(&self, rule: Rule, page: &Address, kind: EdgeKind, address: &Address) -> bool
@@ -174,6 +194,8 @@ impl Plan {
             }
             Rule::NotAccepted => self.meets_accept(address),
             Rule::Rejected => self.meets_reject(address),
+            Rule::ExpressionMissing => self.meets_expression(address),
+            Rule::ExpressionFound => !finds_some(&self.reject_expressions, address),
         }
     }
 

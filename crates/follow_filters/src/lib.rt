@@ -11,6 +11,7 @@ pub use crate::pattern::Pattern;
 pub use crate::plan::{MAX_PER_HOST, MAX_URLS, Plan};
 pub use crate::rule::Rule;
 pub use crate::starts::Starts;
+pub use expressions::{Expression, ExpressionFault};
 
 mod class;
 mod directory;

@@ -13,6 +13,7 @@ use crate::limit::Limit;
 use crate::pattern::Pattern;
 use crate::starts::Starts;
 use address::Address;
+use expressions::Expression;
 use std::alloc::{AllocError, Global};
 
 /// The most addresses that a retrieval may hold.
@@ -46,6 +47,10 @@ pub struct Plan {
     pub accept: Elements<Pattern>,
     /// The patterns of the file names that are neither followed nor kept.
     pub reject: Elements<Pattern>,
+    /// The expression that is found in what is followed. Of several, one has to be.
+    pub accept_expressions: Elements<Expression>,
+    /// The expression that isn't found in what is followed. Of several, none may be.
+    pub reject_expressions: Elements<Expression>,
     /// Whether the patterns of directories and file names match ASCII letters in either case.
     pub ignore_case: bool,
     /// Whether robots files are honoured.
@@ -96,6 +101,8 @@ impl Plan {
             exclude_dirs: Elements::none(alloc),
             accept: Elements::none(alloc),
             reject: Elements::none(alloc),
+            accept_expressions: Elements::none(alloc),
+            reject_expressions: Elements::none(alloc),
             ignore_case: false,
             robots: false,
             page_requisites: false,
@@ -121,6 +128,8 @@ impl Plan {
             exclude_dirs: self.exclude_dirs.clone()?,
             accept: self.accept.clone()?,
             reject: self.reject.clone()?,
+            accept_expressions: self.accept_expressions.clone()?,
+            reject_expressions: self.reject_expressions.clone()?,
             ignore_case: self.ignore_case,
             robots: self.robots,
             page_requisites: self.page_requisites,

@@ -22,10 +22,14 @@ pub enum Rule {
     NotAccepted,
     /// A pattern of the reject list matches the file name.
     Rejected,
+    /// The accept expression isn't found in the address.
+    ExpressionMissing,
+    /// The reject expression is found in the address.
+    ExpressionFound,
 }
 
 /// The rules, in the order in which they are asked.
-pub(crate) const RULES: [Rule; 9] = [
+pub(crate) const RULES: [Rule; 11] = [
     Rule::RobotsFile,
     Rule::Host,
     Rule::Parent,
@@ -35,4 +39,6 @@ pub(crate) const RULES: [Rule; 9] = [
     Rule::Excluded,
     Rule::NotAccepted,
     Rule::Rejected,
+    Rule::ExpressionMissing,
+    Rule::ExpressionFound,
 ];

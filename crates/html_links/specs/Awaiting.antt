@@ -1,10 +1,11 @@
 -- The value that comes next, if it has links by what came of its tag (HTML Standard, sections 13.1.2.3 and 13.2.5.35).
-use Rattle.std.specs.Prelude.{◌≡◌, ℕ, Bool, true, false, List, [], ◌∷◌, Option, Some, None, if◌then◌else◌}
+use Rattle.std.specs.Prelude.{◌≡◌, ℕ, ◌≤◌, Bool, true, false, ◌&&◌, List, [], ◌∷◌, ◌++◌, Option, Some, None, length, if◌then◌else◌, codes}
 use Rattle.std.specs.Str.{bytes_eq}
-use Rattle.html_links.specs.Pieces.{Attribute}
+use Rattle.html_links.specs.Pieces.{Attribute, from, is_not_white}
+use Rattle.html_links.specs.Markup.{Attributes, Value, attributes, value_at}
 use Rattle.html_links.specs.Values.{written}
 use Rattle.html_links.specs.Links.{Row, link_table, kind_in}
-use Rattle.html_links.specs.Asked.{asked_name, is_styling}
+use Rattle.html_links.specs.Asked.{asked_name, asked_attributes, is_styling}
 use Rattle.html_links.specs.Scanning.{ScanProgress}
 use Rattle.html_links.specs.declared.asked.AskedName.{AskedName}
 use Rattle.html_links.specs.declared.asked.Wanted.{Wanted}
@@ -15,7 +16,8 @@ use Rattle.html_links.specs.declared.table.Form.TheVariants as form
 use Rattle.html_links.specs.declared.lexer.Lexer.{Lexer}
 use Rattle.html_links.specs.declared.lexer.Mode.TheVariants.{BeforeValue}
 use Rattle.html_links.specs.declared.awaiting.ValueForm.{ValueForm}
-use Rattle.html_links.specs.declared.awaiting.ValueForm.TheVariants.{Address, Set, Refresh, Sheet}
+use Rattle.html_links.specs.declared.awaiting.ValueForm.TheVariants.{Address, Base, Set, Refresh, Sheet}
+use Rattle.html_links.specs.declared.lexer.awaiting.TheConstants.{MOST_BEFORE}
 
 -- how a value of that form of the link table is read
 abbrev pub read_as : Form → ValueForm
@@ -48,10 +50,19 @@ abbrev pub read_by : List Attribute → List ℕ → Option Row → Option Value
 read_by attributes attribute (Some r) = read_if r.form (kind_in attributes r.form)
 read_by attributes attribute None = styled_if (is_styling attribute)
 
--- How the value of an attribute of that name is read in a tag of that element, of whose attributes these came before it; nothing, if it
--- has no links.
+-- whether an attribute of that name is the base that an element of that name names (section 4.2.3)
+abbrev pub is_base : List ℕ → List ℕ → Bool
+is_base element attribute = bytes_eq element (codes "base") && bytes_eq attribute (codes "href")
+
+-- the base, or else that
+abbrev pub base_or : Bool → Option ValueForm → Option ValueForm
+base_or true other = Some Base
+base_or false other = other
+
+-- How the value of an attribute of that name is read in a tag of that element and these attributes; nothing, if it is neither the base
+-- nor has links.
 abbrev pub form_in : List ℕ → List Attribute → List ℕ → Option ValueForm
-form_in element before attribute = read_by before attribute (row_of element attribute link_table)
+form_in element attributes attribute = base_or (is_base element attribute) (read_by attributes attribute (row_of element attribute link_table))
 
 -- whether attributes of a tag are kept: of an end tag none is
 abbrev pub is_kept : Wanted → Bool
@@ -66,8 +77,30 @@ pub record AwaitsValue (l : Lexer) (attribute : AskedName) : Type 0 where
   pub kept : is_kept l.wanted ≡ true
   pub first : written (asked_name attribute) l.attributes.items ≡ None
 
--- The value that comes next is that of the first attribute of its name in a start tag, and is read so.
-pub record Awaits (s : ScanProgress) (f : ValueForm) : Type 0 where
+-- the attribute of that value, and of these after it those that are kept; none, if the end of the text cuts the tag
+abbrev pub later_of : Wanted → AskedName → List ℕ → Attributes → List Attribute
+later_of w attribute value None = []
+later_of w attribute value (Some found) = record { name = asked_name attribute; value = value } ∷ asked_attributes w found.0
+
+-- the attribute of the value that was found, and those in what follows it
+abbrev pub later_by : Wanted → AskedName → Value → List Attribute
+later_by w attribute found = later_of w attribute found.value (attributes found.rest)
+
+-- the attribute of the value at the front of a text, and those after it in its tag that are kept; none, if the end of the text cuts the tag
+abbrev pub later_at : Wanted → AskedName → List ℕ → List Attribute
+later_at w attribute text = later_by w attribute (value_at (from is_not_white text))
+
+-- The value that comes next, at the front of this text, is that of the first attribute of its name in a start tag, and is read so by all
+-- attributes of the tag.
+pub record Awaits (s : ScanProgress) (text : List ℕ) (f : ValueForm) : Type 0 where
   pub attribute : AskedName
   pub value : AwaitsValue s.lexer attribute
-  pub form : form_in s.lexer.name.items s.lexer.attributes.items (asked_name attribute) ≡ Some f
+  pub form : form_in s.lexer.name.items (s.lexer.attributes.items ++ later_at s.lexer.wanted attribute text) (asked_name attribute) ≡ Some f
+
+-- no value is awaited, or too many attributes of the tag came before it
+abbrev pub IsUnawaited : Lexer → Type 0
+IsUnawaited l = (attribute : AskedName) → AwaitsValue l attribute → MOST_BEFORE ≤ length l.attributes.items
+
+-- none that has links or is the base, or too many attributes of the tag came before it
+abbrev pub AwaitsNothing : ScanProgress → List ℕ → Type 0
+AwaitsNothing s text = (f : ValueForm) → Awaits s text f → MOST_BEFORE ≤ length s.lexer.attributes.items

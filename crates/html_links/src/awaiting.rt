@@ -1,20 +1,23 @@
 //! How the value that comes next is read, by the link table and what came of its tag.
-ghost use Rattle.std.specs.Prelude.{◌≡◌, IfOk, option_map};
+ghost use Rattle.std.specs.Prelude.{◌≡◌, ◌++◌, true, false, List, option_map};
 ghost use Rattle.html_links.specs.Asked.{asked_name};
-ghost use Rattle.html_links.specs.Links.{link_table};
-ghost use Rattle.html_links.specs.Awaiting.{form_in, read_as, row_of};
+ghost use Rattle.html_links.specs.Links.{link_table, kind_in};
+ghost use Rattle.html_links.specs.Pieces.{Attribute as NameAndValue};
+ghost use Rattle.html_links.specs.Values.{value_of};
+ghost use Rattle.html_links.specs.Awaiting.{is_base, read_as, row_of};
 
 use crate::asked::AskedName;
-use crate::links::kind_in;
+use crate::bytes::is_name;
 use crate::table::{Form, rows_for};
-use crate::tag::Attribute;
-use std::alloc::{AllocError, Global};
+use crate::tag::{Attribute, written};
 
 /// How links are found in a value.
 #[derive(Clone, Copy, Debug, PartialEq, Eq)]
 pub enum ValueForm {
     /// It is a link.
     Address,
+    /// It is the base to which links are joined.
+    Base,
     /// It is a source set.
     Set,
     /// It is the content of a refresh.
@@ -24,7 +27,7 @@ pub enum ValueForm {
 }
 
 impl Form {
-    fn read_as(self) -> ValueForm
+    pub(crate) fn read_as(self) -> ValueForm
         ensures { result ≡ read_as self }
     {
         match self {
@@ -39,7 +42,7 @@ impl Form {
 }
 
 /// The form of the table's row for that element and that attribute.
-fn row_form(element: &[u8], attribute: AskedName) -> Option<Form>
+pub(crate) fn row_form(element: &[u8], attribute: AskedName) -> Option<Form>
     ensures { result ≡ option_map (λ r. r.form) (row_of element.now (asked_name attribute) link_table) }
 {
     let rows = rows_for(element);
@@ -51,26 +54,36 @@ fn row_form(element: &[u8], attribute: AskedName) -> Option<Form>
     None
 }
 
-/// How the value of that attribute is read in a tag of that element, of whose attributes these came before it.
-pub(crate) fn form_in(
-    alloc: Global,
-    element: &[u8],
-    before: &[Attribute],
-    attribute: AskedName,
-) -> Result<Option<ValueForm>, AllocError>
-    ensures { IfOk result (λ form. form ≡ form_in element.now before.now (asked_name attribute)) }
+/// Whether that attribute of that element names the base.
+pub(crate) fn is_base(element: &[u8], attribute: AskedName) -> bool
+    ensures { result ≡ is_base element.now (asked_name attribute) }
 {
-    match row_form(element, attribute) {
-        Some(form) => match kind_in(alloc, before, form)? {
-            Some(_) => Ok(Some(form.read_as())),
-            None => Ok(None),
-        },
-        None => {
-            if attribute.is_styling() {
-                Ok(Some(ValueForm::Sheet))
-            } else {
-                Ok(None)
-            }
-        },
+    is_name(element, b"base") && is_name(attribute.name(), b"href")
+}
+
+/// Whether one of the attributes has that name, so that no later one counts.
+fn has(before: &[Attribute], name: AskedName) -> bool
+    ensures has { result ≡ true → (later : List NameAndValue) → value_of (asked_name name) (before.now ++ later) ≡ value_of (asked_name name) before.now }
+    ensures lacks { result ≡ false → (later : List NameAndValue) → value_of (asked_name name) (before.now ++ later) ≡ value_of (asked_name name) later }
+{
+    match written(before, name) {
+        Some(_) => true,
+        None => false,
+    }
+}
+
+/// Whether it is decided what a value of that form leads to in a tag of which these attributes came, whatever follows; otherwise
+/// what follows decides alone.
+pub(crate) fn is_decided(before: &[Attribute], form: Form) -> bool
+    ensures decided { result ≡ true → (later : List NameAndValue) → kind_in (before.now ++ later) form ≡ kind_in before.now form }
+    ensures open { result ≡ false → (later : List NameAndValue) → kind_in (before.now ++ later) form ≡ kind_in later form }
+{
+    match form {
+        Form::Link => true,
+        Form::Shown => true,
+        Form::Set => true,
+        Form::Related => has(before, AskedName::Rel),
+        Form::Button => has(before, AskedName::OfType),
+        Form::Refresh => has(before, AskedName::HttpEquiv),
     }
 }

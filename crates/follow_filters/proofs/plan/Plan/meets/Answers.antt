@@ -9,3 +9,6 @@ returns-in-NotAccepted c = rw c.in-NotAccepted.is (c.meets_accept.ensures c.args
 
 pub returns-in-Rejected : goal.returns-in-Rejected
 returns-in-Rejected c = rw c.in-Rejected.is (c.meets_reject.ensures c.args.page.now c.args.kind)
+
+pub returns-in-ExpressionMissing : goal.returns-in-ExpressionMissing
+returns-in-ExpressionMissing c = rw c.in-ExpressionMissing.is (c.meets_expression.ensures c.args.page.now c.args.kind)

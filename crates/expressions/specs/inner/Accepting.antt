@@ -1,0 +1,55 @@
+-- Which states of an automaton lead to a match, from a place of a text.
+use Rattle.std.specs.Prelude.{◌≡◌, ℕ, ◌+◌, ◌<◌, Bool, true, false, ◌||◌, ◌&&◌, List, length, vec_len, slice_get, slice_index, slice_index_or, is_some, None, if◌then◌else◌, All, IsSomeAnd, option_and_then}
+use Rattle.regex_hir.specs.Re.{Re, Rest, accept, attempt}
+use Rattle.regex_hir.specs.Find.{first_between}
+use Rattle.regex_hir.specs.Looks.{holds}
+use Rattle.regex_hir.specs.Text.{is_boundary, is_some_and}
+use Rattle.regex_nfa.specs.declared.nfa.Nfa.{Nfa}
+use Rattle.regex_nfa.specs.declared.state.State.{State}
+use Rattle.regex_nfa.specs.declared.state.State.TheVariants.{ByteRange, Sparse, Split, Save, Look, Match, Fail}
+use Rattle.regex_nfa.specs.States.{next_on}
+use Rattle.regex_nfa.specs.Run.{run}
+use Rattle.expressions.specs.Expressions.{expression_of}
+
+-- from that place of the text the state leads to a match
+unfoldable pub accepts : Nfa → List ℕ → ℕ → ℕ → Bool
+accepts nfa text at state = is_some (run nfa text (length text) state at)
+
+-- the state that reads a byte leads to a match from that place
+abbrev pub reads : Nfa → List ℕ → ℕ → State → Bool
+reads nfa text at state = is_some_and (option_and_then (next_on nfa.transitions.items state) (slice_get text at)) (accepts nfa text (at + 1))
+
+-- the same of a state of any kind, by those that it leads to
+abbrev pub leads : Nfa → List ℕ → ℕ → State → Bool
+leads nfa text at (ByteRange t) = reads nfa text at (ByteRange t)
+leads nfa text at (Sparse from to) = reads nfa text at (Sparse from to)
+leads nfa text at (Split first second) = accepts nfa text at first || accepts nfa text at second
+leads nfa text at (Save slot next) = accepts nfa text at next
+leads nfa text at (Look l next) = holds l text at && accepts nfa text at next
+leads nfa text at Match = true
+leads nfa text at Fail = false
+
+-- the flags say of each state whether it leads to a match from that place
+abbrev pub AreFlags : Nfa → List ℕ → ℕ → List Bool → Type 0
+AreFlags nfa text at flags = (q : ℕ) → q < vec_len nfa.states → slice_index_or flags q false ≡ accepts nfa text at q
+
+-- the same of the states whose rank is lower than that
+abbrev pub AreFlagsBelow : Nfa → List ℕ → ℕ → List Bool → ℕ → Type 0
+AreFlagsBelow nfa text at flags rank =
+    (q : ℕ) → q < vec_len nfa.states → slice_index nfa.ranks.items q < rank → slice_index_or flags q false ≡ accepts nfa text at q
+
+-- the match that begins at that place, if one may begin there
+abbrev pub begun : Nfa → List ℕ → Rest
+begun nfa text at = if is_boundary text at then run nfa text (length text) nfa.start at else None
+
+-- a match begins at that place or after it
+unfoldable pub begins_from : Nfa → List ℕ → ℕ → Bool
+begins_from nfa text at = is_some (first_between (begun nfa text) at (length text))
+
+-- the automaton finds a match where the pattern has one, in each text of bytes
+abbrev pub Finds : Nfa → Re → Type 0
+Finds nfa re = (text : List ℕ) → All (λ byte. byte < 256) text → (at : ℕ) → accepts nfa text at nfa.start ≡ is_some (attempt text re accept at)
+
+-- the automaton is that of the expression
+abbrev pub IsCompiled : List ℕ → Nfa → Type 0
+IsCompiled expression nfa = IsSomeAnd (expression_of expression) (Finds nfa)

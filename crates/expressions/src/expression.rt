@@ -1,0 +1,158 @@
+//! An expression, as it is read.
+ghost use Rattle.std.specs.Prelude.{◌≡◌, MatchResult, IfOk, IsCharBoundary, Some, bytes_eq};
+ghost use Rattle.std.specs.Cmp.{partial_equiv_from_equiv};
+ghost use Rattle.std.specs.Cmp.Lexicographic.{nat_list_eq_equiv};
+ghost use Rattle.regex_syntax.specs.Verdict.{default_config, Refuses};
+
+use crate::order::in_order;
+use crate::search::{MOST_STATES, finds};
+use regex_nfa::Nfa;
+use regex_syntax::{Config, ErrorKind, Parsed};
+use std::alloc::{AllocError, Global};
+use std::marker::Model;
+
+// The most bytes of an automaton's tables.
+const MOST_BYTES: usize = 1 << 20;
+
+/// Why a text is no expression that can be used.
+#[derive(Clone, Copy, PartialEq, Eq, Debug)]
+pub enum ExpressionFault {
+    /// The text breaks the grammar at this byte.
+    Bad(usize),
+    /// The expression would cost too much: more than 1,024 states, or groups that are nested too deep.
+    Large,
+    /// There was no memory to hold it.
+    Memory,
+}
+
+impl From<AllocError> for ExpressionFault {
+    ghost use Rattle.std.specs.Prelude.{◌≡◌};
+    ghost use Rattle.expressions.specs.declared.expression.ExpressionFault.TheVariants.{Memory};
+
+    ghost from_gives = { λ e fault. fault ≡ Memory };
+
+    fn from(_error: AllocError) -> ExpressionFault {
+        ExpressionFault::Memory
+    }
+}
+
+/// A regular expression.
+#[derive(Drop)]
+pub struct Expression {
+    text: String,
+    nfa: Nfa,
+    order: Vec<u32>,
+}
+
+// Contracts see an expression as its text.
+impl Model for Expression {
+    ghost use Rattle.std.specs.Prelude.{◌≤◌, List, ℕ, vec_len};
+    ghost use Rattle.std.specs.String.{string_bytes};
+    ghost use Rattle.expressions.specs.inner.Accepting.{IsCompiled};
+    ghost use Rattle.expressions.specs.inner.Order.{IsOrder};
+    ghost use Rattle.expressions.specs.declared.search.TheConstants.{MOST_STATES};
+
+    ghost Value = { List ℕ };
+
+    ghost view = { λ e. string_bytes e.text };
+
+    ghost invariant = { λ e. IsCompiled (string_bytes e.text) e.nfa × IsOrder e.nfa e.order.items × (vec_len e.nfa.states ≤ MOST_STATES) };
+}
+
+ghost use Rattle.expressions.specs.inner.Accepting.{IsCompiled};
+ghost use Rattle.expressions.specs.Expressions.{is_found, read_element, IsFoundIn, IsFaultOf};
+
+// The automaton of the text.
+fn compiled(alloc: Global, text: &str) -> Result<Nfa, ExpressionFault>
+    ensures { MatchResult result (IsCompiled text.now) (IsFaultOf text.now) }
+{
+    let Parsed { hir, names } = match regex_syntax::parse(alloc, text, &Config::default()) {
+        Ok(parsed) => parsed,
+        Err(error) => return Err(fault_of(text, &error)),
+    };
+    let Ok(groups) = u32::try_from(names.len()) else {
+        return Err(ExpressionFault::Large);
+    };
+    match regex_compile::compile(alloc, &hir, groups, MOST_BYTES) {
+        Ok(nfa) => Ok(nfa),
+        Err(regex_compile::Error::OutOfMemory) => Err(ExpressionFault::Memory),
+        Err(_) => Err(ExpressionFault::Large),
+    }
+}
+
+// What is wrong with a text that doesn't parse.
+fn fault_of(text: &str, error: &regex_syntax::Error) -> ExpressionFault
+    requires refused { Refuses default_config text.now error.now.kind }
+    requires place { IsCharBoundary text.now error.now.span.start }
+    ensures { IsFaultOf text.now result }
+{
+    // Named by the contract alone: what is refused is said of a text.
+    let _ = text;
+    match error.kind {
+        ErrorKind::OutOfMemory => ExpressionFault::Memory,
+        ErrorKind::NestLimitExceeded => ExpressionFault::Large,
+        _ => ExpressionFault::Bad(error.span.start),
+    }
+}
+
+impl Expression {
+    ghost use Rattle.std.specs.Prelude.{◌↔◌, IsTrue};
+
+    /// Reads an expression in the syntax of the kit's `regex`.
+    pub fn read(alloc: Global, text: &str) -> Result<Expression, ExpressionFault>
+        ensures { MatchResult result (λ expression. read_element text.now ≡ Some expression) (IsFaultOf text.now) }
+    {
+        let nfa = compiled(alloc, text)?;
+        if nfa.states.len() > MOST_STATES {
+            return Err(ExpressionFault::Large);
+        }
+        Ok(Expression {
+            text: String::from_str(alloc, text)?,
+            order: in_order(alloc, &nfa)?,
+            nfa,
+        })
+    }
+
+    /// Whether the expression is found in the text. Takes no memory; the time is linear in the text.
+    pub fn is_found_in(&self, text: &str) -> bool
+        ensures value { result ≡ is_found self.now text.now }
+        ensures means { IsTrue result ↔ IsFoundIn self.now text.now }
+    {
+        finds(&self.nfa, &self.order, text.as_bytes())
+    }
+
+    /// The expression as it was read. Takes no memory.
+    pub fn as_str(&self) -> &str
+        ensures { result.now ≡ self.now }
+    {
+        self.text.as_str()
+    }
+
+    // An equal expression, which is read anew.
+    fn try_clone(&self) -> Result<Expression, AllocError>
+        ensures { IfOk result (λ copy. copy ≡ self.now) }
+    {
+        match Expression::read(*self.text.allocator(), self.as_str()) {
+            Ok(copy) => Ok(copy),
+            Err(_) => Err(AllocError),
+        }
+    }
+}
+
+impl Clone for Expression {
+    ghost is_clone = { λ expression copy. copy ≡ expression };
+
+    fn clone(&self) -> Result<Expression, AllocError> {
+        self.try_clone()
+    }
+}
+
+impl PartialEq for Expression {
+    ghost eq = { bytes_eq };
+
+    ghost laws = { partial_equiv_from_equiv nat_list_eq_equiv };
+
+    fn eq(&self, other: &Expression) -> bool {
+        self.as_str() == other.as_str()
+    }
+}

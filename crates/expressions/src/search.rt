@@ -1,0 +1,107 @@
+//! How an automaton is run over a text from its end on, with no memory but a flag for each state.
+ghost use Rattle.std.specs.Prelude.{◌≡◌, ◌+◌, ◌<◌, ◌≤◌, length, vec_len, slice_index};
+ghost use Rattle.regex_hir.specs.Text.{is_boundary};
+ghost use Rattle.regex_nfa.specs.States.{IsReadable};
+ghost use Rattle.expressions.specs.inner.Order.{IsOrder};
+ghost use Rattle.expressions.specs.inner.Accepting.{accepts, reads, AreFlags, AreFlagsBelow, begins_from};
+
+use regex_nfa::{Nfa, State, StateId, holds};
+
+/// The most states of an expression's automaton.
+pub const MOST_STATES: usize = 1024;
+
+// Whether a state that reads a byte leads to a match from this place, by the flags of the next one.
+fn reads(nfa: &Nfa, state: State, text: &[u8], at: usize, next: &[bool]) -> bool
+    requires readable { IsReadable nfa.now.transitions.items (vec_len nfa.now.states) state }
+    requires flags { at < length text.now → AreFlags nfa.now text.now (at + 1) next.now }
+    requires room { vec_len nfa.now.states ≤ length next.now }
+    ensures { result ≡ reads nfa.now text.now at state }
+{
+    if at >= text.len() {
+        return false;
+    }
+    match nfa.next_on(state, text[at]) {
+        Some(to) => next[to as usize],
+        None => false,
+    }
+}
+
+// Whether the state leads to a match from this place, by the flags of the next one, and here by those of the states of lower ranks.
+fn leads(nfa: &Nfa, state: StateId, text: &[u8], at: usize, next: &[bool], here: &[bool]) -> bool
+    requires state { state < vec_len nfa.now.states }
+    requires flags { at < length text.now → AreFlags nfa.now text.now (at + 1) next.now }
+    requires below { AreFlagsBelow nfa.now text.now at here.now (slice_index nfa.now.ranks.items state) }
+    requires room { vec_len nfa.now.states ≤ length next.now }
+    requires room_here { vec_len nfa.now.states ≤ length here.now }
+    ensures { result ≡ accepts nfa.now text.now at state }
+{
+    match nfa.state(state) {
+        State::ByteRange(range) => reads(nfa, State::ByteRange(range), text, at, next),
+        State::Sparse { from, to } => reads(nfa, State::Sparse { from, to }, text, at, next),
+        State::Split { first, second } => here[first as usize] || here[second as usize],
+        State::Save { slot: _, next: to } => here[to as usize],
+        State::Look { look, next: to } => holds(look, text, at) && here[to as usize],
+        State::Match => true,
+        State::Fail => false,
+    }
+}
+
+// The flags of the states at this place, by those of the next one.
+fn mark(nfa: &Nfa, order: &[u32], text: &[u8], at: usize, next: &[bool], here: &mut [bool])
+    requires order { IsOrder nfa.now order.now }
+    requires flags { at < length text.now → AreFlags nfa.now text.now (at + 1) next.now }
+    requires room { vec_len nfa.now.states ≤ length next.now }
+    requires room_here { vec_len nfa.now.states ≤ length here.old }
+    ensures flags { AreFlags nfa.now text.now at here.new }
+    ensures room { length here.new ≡ length here.old }
+{
+    for state in order {
+        here[*state as usize] = leads(nfa, *state, text, at, next, here);
+    }
+}
+
+// Whether a character of a text begins at this place, or the text ends there.
+fn is_cut(text: &[u8], at: usize) -> bool
+    ensures { result ≡ is_boundary text.now at }
+{
+    if at >= text.len() {
+        return true;
+    }
+    (text[at] < 0x80) | (text[at] > 0xBF)
+}
+
+// Whether a match begins at this place, by its flags, or later.
+fn begins(nfa: &Nfa, text: &[u8], at: usize, here: &[bool], later: bool) -> bool
+    requires place { at ≤ length text.now }
+    requires flags { AreFlags nfa.now text.now at here.now }
+    requires room { vec_len nfa.now.states ≤ length here.now }
+    requires later { later ≡ begins_from nfa.now text.now (at + 1) }
+    ensures { result ≡ begins_from nfa.now text.now at }
+{
+    if later {
+        return true;
+    }
+    if is_cut(text, at) {
+        return here[nfa.start as usize];
+    }
+    false
+}
+
+/// Whether the automaton finds a match in the text. Takes no memory; the time is the text's length times the number of states.
+pub(crate) fn finds(nfa: &Nfa, order: &[u32], text: &[u8]) -> bool
+    requires order { IsOrder nfa.now order.now }
+    requires few { vec_len nfa.now.states ≤ MOST_STATES }
+    ensures { result ≡ begins_from nfa.now text.now 0 }
+{
+    let mut next = [false; MOST_STATES];
+    let mut here = [false; MOST_STATES];
+    let mut at = text.len() + 1;
+    let mut found = false;
+    while at > 0 {
+        at -= 1;
+        mark(nfa, order, text, at, &next, &mut here);
+        found = begins(nfa, text, at, &here, found);
+        next = here;
+    }
+    found
+}
