@@ -1,6 +1,5 @@
 -- Places of values, and pages anew.
-use Rattle.std.proofs.Common.{◌≡◌, inl, inr, ℕ, Bool, true, false, List, [], ◌∷◌, ◌++◌, Option, Some, None, if◌then◌else◌, refl, sym, ◌∙◌, ap, subst, append_assoc}
-use Rattle.css_links.specs.Rewriting.{Change}
+use Rattle.std.proofs.Common.{◌≡◌, inl, inr, ℕ, Bool, true, false, List, [], ◌∷◌, ◌++◌, Option, Some, None, if◌then◌else◌, refl, sym, ◌∙◌, ap, subst, append_assoc, append-nil}
 use Rattle.css_links.specs.Rewriting as sheets
 use Rattle.css_links.specs.References.{Front, step, fed, ended}
 use Rattle.html_links.specs.Pieces.{Attribute, Source, from, is_not_white}
@@ -12,7 +11,7 @@ use Rattle.html_links.specs.Asked.{asked_name, asked_attributes, asked_tags, giv
 use Rattle.html_links.specs.Lexing.{remaining, remaining_in, before_value, tags_with, tags_with_value, kept_if, behind_tag, sheet_from}
 use Rattle.html_links.specs.Lexing as lexing
 use Rattle.html_links.specs.Scanning.{ScanProgress, StandsFor}
-use Rattle.html_links.specs.Awaiting.{Awaits, AwaitsValue, is_kept}
+use Rattle.html_links.specs.Awaiting.{Awaits, AwaitsValue, form_in, is_kept, later_of, later_by, later_at}
 use Rattle.html_links.specs.declared.asked.AskedName.{AskedName}
 use Rattle.html_links.specs.declared.asked.Wanted.{Wanted}
 use Rattle.html_links.specs.declared.asked.Wanted.TheVariants as wanted
@@ -22,8 +21,9 @@ use Rattle.html_links.specs.declared.lexer.Lexer.{Lexer}
 use Rattle.html_links.specs.declared.lexer.Mode.TheVariants.{InSheet}
 use Rattle.html_links.specs.declared.raw_element.RawElement.{RawElement}
 use Rattle.html_links.specs.declared.awaiting.ValueForm.{ValueForm}
+use Rattle.html_links.specs.declared.awaiting.ValueForm.TheVariants.{Sheet}
 use Rattle.page_links.specs.Places.{IsValue, IsCut, IsPlace, IsSheetText, IsSheetPlace, tag_with}
-use Rattle.page_links.specs.Rewriting.{IsWritten, IsAnew, IsAt}
+use Rattle.page_links.specs.Rewriting.{Changes, IsWritten, IsAnew, IsAt, attributes_with}
 use Rattle.page_links.proofs.Closing.{close_behind}
 
 -- ---- places
@@ -94,26 +94,42 @@ sheet_placed syntax s front end stands mode = record {
 
 -- ---- pages
 
-pub anew_at : (change : Change) (syntax : Syntax) (page one other : List ℕ) → one ≡ other → IsAnew change syntax page one → IsAnew change syntax page other
-anew_at change syntax page one other e h = subst (λ (xs : List ℕ). IsAnew change syntax page xs) e h
+pub anew_at : (changes : Changes) (syntax : Syntax) (page one other : List ℕ) → one ≡ other → IsAnew changes syntax page one → IsAnew changes syntax page other
+anew_at changes syntax page one other e h = subst (λ (xs : List ℕ). IsAnew changes syntax page xs) e h
 
 -- at the front of a page
-pub begun : (change : Change) (syntax : Syntax) (page out : List ℕ) (s : ScanProgress) → out ≡ [] → StandsFor syntax s out → IsAt change syntax page s out page
-begun change syntax page out s e stands = record { stands = stands; anew = record { between = []; one_by_one = ap (λ (xs : List ℕ). xs ++ page) e } }
+pub begun : (changes : Changes) (syntax : Syntax) (page out : List ℕ) (s : ScanProgress) → out ≡ [] → StandsFor syntax s out → IsAt changes syntax page s out page
+begun changes syntax page out s e stands = record { stands = stands; anew = record { between = []; one_by_one = ap (λ (xs : List ℕ). xs ++ page) e } }
 
 -- bytes of the page as they are
-pub copied : (change : Change) (syntax : Syntax) (page : List ℕ) (s t : ScanProgress) (out new left run rest : List ℕ) → left ≡ run ++ rest → new ≡ out ++ run
-    → (StandsFor syntax s out → StandsFor syntax t new) → IsAt change syntax page s out left → IsAt change syntax page t new rest
-copied change syntax page s t out new left run rest cut is stands at = record {
+pub copied : (changes : Changes) (syntax : Syntax) (page : List ℕ) (s t : ScanProgress) (out new left run rest : List ℕ) → left ≡ run ++ rest → new ≡ out ++ run
+    → (StandsFor syntax s out → StandsFor syntax t new) → IsAt changes syntax page s out left → IsAt changes syntax page t new rest
+copied changes syntax page s t out new left run rest cut is stands at = record {
   stands = stands at.stands;
-  anew = anew_at change syntax page (out ++ left) (new ++ rest) (ap (λ (xs : List ℕ). out ++ xs) cut ∙ sym (append_assoc out run rest) ∙ ap (λ (xs : List ℕ). xs ++ rest) (sym is)) at.anew;
+  anew = anew_at changes syntax page (out ++ left) (new ++ rest) (ap (λ (xs : List ℕ). out ++ xs) cut ∙ sym (append_assoc out run rest) ∙ ap (λ (xs : List ℕ). xs ++ rest) (sym is)) at.anew;
 }
 
+-- the attributes of the tag of a value that is awaited
+with_later : (k : Context) (scope : Option Scope) (w : Wanted) (raw : Option RawElement) (styled : Bool) (before : List Attribute) (attribute : AskedName) (value : List ℕ) (found : Attributes)
+    → before ++ later_of w attribute value found ≡ attributes_with before (record { name = asked_name attribute; value = value }) (behind_of k scope w raw styled found)
+with_later k scope w raw styled before attribute value None = append-nil before
+with_later k scope w raw styled before attribute value (Some found) = refl
+
+-- it is read so in its tag
+in_tag : (l : Lexer) (attribute : AskedName) (left value rest : List ℕ) (form : ValueForm) → value_at (from is_not_white left) ≡ valued value rest
+    → form_in l.name.items (l.attributes.items ++ later_at l.wanted attribute left) (asked_name attribute) ≡ Some form
+    → form_in l.name.items (attributes_with l.attributes.items (record { name = asked_name attribute; value = value }) (behind_of l.context l.opens l.wanted l.raw l.styled (attributes rest))) (asked_name attribute) ≡ Some form
+in_tag l attribute left value rest form is e =
+    ap (λ (all : List Attribute). form_in l.name.items all (asked_name attribute))
+    (sym (with_later l.context l.opens l.wanted l.raw l.styled l.attributes.items attribute value (attributes rest)) ∙ ap (λ found. l.attributes.items ++ later_by l.wanted attribute found) (sym is))
+    ∙ e
+
 -- a value anew
-pub one_anew : (change : Change) (syntax : Syntax) (page : List ℕ) (s t : ScanProgress) (out new left quote value end other : List ℕ) (form : ValueForm)
-    → Awaits s form → IsCut left quote value end → IsWritten change form value other → new ≡ (out ++ quote) ++ other
-    → (StandsFor syntax s out → StandsFor syntax t new) → IsAt change syntax page s out left → IsAt change syntax page t new end
-one_anew change syntax page s t out new left quote value end other form awaits cut written is stands at = record {
+pub one_anew : (changes : Changes) (syntax : Syntax) (page : List ℕ) (s t : ScanProgress) (out new left quote value end other : List ℕ) (form : ValueForm)
+    → Awaits s left form → IsCut left quote value end → IsWritten changes form value other → new ≡ (out ++ quote) ++ other
+    → (StandsFor syntax s out → StandsFor syntax t new) → IsAt changes syntax page s out left → IsAt changes syntax page t new end
+unfolding placed
+one_anew changes syntax page s t out new left quote value end other form awaits cut written is stands at = record {
   stands = stands at.stands;
   anew = record {
     between = (out ++ left) ∷ at.anew.between;
@@ -134,19 +150,19 @@ one_anew change syntax page s t out new left quote value end other form awaits c
             ∙ ap (λ (xs : List ℕ). out ++ (quote ++ (xs ++ end))) written.anew;
         was = cut.is;
         is = subst (λ (xs : List ℕ). IsValue quote xs end cut.rest) written.anew (cut.others other written.stands);
-        has_links = awaits.form;
         first = awaits.value.first;
         place = placed syntax s out awaits.attribute quote end cut.rest at.stands awaits.value;
+        has_links = in_tag s.lexer awaits.attribute left value cut.rest form (ap (λ (xs : List ℕ). value_at (from is_not_white xs)) cut.bytes ∙ cut.is) awaits.form;
       }),
     );
   };
 }
 
 -- a style sheet anew
-pub sheet_anew : (change : Change) (syntax : Syntax) (page : List ℕ) (s t : ScanProgress) (out new left sheet end other : List ℕ) → s.lexer.mode ≡ InSheet
-    → left ≡ sheet ++ end → IsSheetText sheet end → other ≡ sheets.rewritten change sheet → IsSheetText other end → new ≡ out ++ other
-    → (StandsFor syntax s out → StandsFor syntax t new) → IsAt change syntax page s out left → IsAt change syntax page t new end
-sheet_anew change syntax page s t out new left sheet end other mode cut was anew fits is stands at = record {
+pub sheet_anew : (changes : Changes) (syntax : Syntax) (page : List ℕ) (s t : ScanProgress) (out new left sheet end other : List ℕ) → s.lexer.mode ≡ InSheet
+    → left ≡ sheet ++ end → IsSheetText sheet end → other ≡ sheets.rewritten (changes Sheet) sheet → IsSheetText other end → new ≡ out ++ other
+    → (StandsFor syntax s out → StandsFor syntax t new) → IsAt changes syntax page s out left → IsAt changes syntax page t new end
+sheet_anew changes syntax page s t out new left sheet end other mode cut was anew fits is stands at = record {
   stands = stands at.stands;
   anew = record {
     between = (out ++ left) ∷ at.anew.between;

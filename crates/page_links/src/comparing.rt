@@ -1,71 +1,138 @@
 //! Links that are those of another page, changed.
-ghost use Rattle.std.specs.Prelude.{◌≡◌, true, IfOk, map, option_map, string_bytes};
+ghost use Rattle.std.specs.Prelude.{◌≡◌, true, IfOk, option_map, string_bytes};
 ghost use Rattle.css_links.specs.Rewriting.{changed};
 ghost use Rattle.html_links.specs.Scanning.{scanned};
-ghost use Rattle.page_links.specs.Rewriting.{changed_link, changed_links};
+ghost use Rattle.html_links.specs.declared.awaiting.ValueForm.TheVariants.{Base};
+ghost use Rattle.page_links.specs.Rewriting.{may_be_in, IsLinkChanged, AreLinksChanged, AreChanged};
 
-use css_links::Change;
-use html_links::{Found, Scan};
+use crate::page_change::PageChange;
+use html_links::{Found, LinkKind, Scan, ValueForm};
 use std::alloc::AllocError;
 
-/// Whether a text is the other one, changed.
-fn is_changed<C: Change>(change: &C, old: &str, new: &str) -> Result<bool, AllocError>
-    ensures { IfOk result (λ is. is ≡ true → new.now ≡ changed (C.becomes change.now) old.now) }
+/// Whether a text is the other one, changed in that form.
+pub(crate) fn is_changed<P: PageChange>(
+    changes: &P,
+    form: ValueForm,
+    old: &str,
+    new: &str,
+) -> Result<bool, AllocError>
+    ensures text { IfOk result (λ is. is ≡ true → new.now ≡ changed (P.becomes changes.now form) old.now) }
+    ensures known { IfOk result (λ is. is ≡ true → P.known changes.now form old.now new.now) }
 {
-    match change.change(old)? {
+    match changes.change(form, old)? {
         Some(other) => Ok(other.as_str() == new),
         None => Ok(old == new),
     }
 }
 
+/// Whether a link is the other one, changed in that form.
+fn is_link_changed_in<P: PageChange>(
+    changes: &P,
+    form: ValueForm,
+    old: &Found,
+    new: &Found,
+) -> Result<bool, AllocError>
+    requires kind { new.now.kind ≡ old.now.kind }
+    requires written { may_be_in old.now.kind form ≡ true }
+    ensures { IfOk result (λ is. is ≡ true → IsLinkChanged (P.becomes changes.now) (P.known changes.now) old.now new.now) }
+{
+    is_changed(changes, form, old.text.as_str(), new.text.as_str())
+}
+
+/// Whether a link to another document is the other one, changed.
+fn is_outer_changed<P: PageChange>(
+    changes: &P,
+    old: &Found,
+    new: &Found,
+) -> Result<bool, AllocError>
+    requires kind { new.now.kind ≡ old.now.kind }
+    requires link { old.now.kind ≡ LinkKind.Link }
+    ensures { IfOk result (λ is. is ≡ true → IsLinkChanged (P.becomes changes.now) (P.known changes.now) old.now new.now) }
+{
+    if is_link_changed_in(changes, ValueForm::Address, old, new)? {
+        return Ok(true);
+    }
+    is_link_changed_in(changes, ValueForm::Refresh, old, new)
+}
+
+/// Whether a part of the page is the other one, changed.
+fn is_part_changed<P: PageChange>(changes: &P, old: &Found, new: &Found) -> Result<bool, AllocError>
+    requires kind { new.now.kind ≡ old.now.kind }
+    requires part { old.now.kind ≡ LinkKind.Inline }
+    ensures { IfOk result (λ is. is ≡ true → IsLinkChanged (P.becomes changes.now) (P.known changes.now) old.now new.now) }
+{
+    if is_link_changed_in(changes, ValueForm::Address, old, new)? {
+        return Ok(true);
+    }
+    if is_link_changed_in(changes, ValueForm::Sheet, old, new)? {
+        return Ok(true);
+    }
+    is_link_changed_in(changes, ValueForm::Set, old, new)
+}
+
 /// Whether a link is the other one, changed.
-fn is_link_changed<C: Change>(change: &C, old: &Found, new: &Found) -> Result<bool, AllocError>
-    ensures { IfOk result (λ is. is ≡ true → new.now ≡ changed_link (C.becomes change.now) old.now) }
+fn is_link_changed<P: PageChange>(changes: &P, old: &Found, new: &Found) -> Result<bool, AllocError>
+    ensures { IfOk result (λ is. is ≡ true → IsLinkChanged (P.becomes changes.now) (P.known changes.now) old.now new.now) }
 {
     if old.kind != new.kind {
         return Ok(false);
     }
-    is_changed(change, old.text.as_str(), new.text.as_str())
+    match old.kind {
+        LinkKind::Link => is_outer_changed(changes, old, new),
+        LinkKind::Inline => is_part_changed(changes, old, new),
+    }
 }
 
 /// Whether these links are the other ones, changed.
-fn are_links_changed<C: Change>(
-    change: &C,
+fn are_links_changed<P: PageChange>(
+    changes: &P,
     old: &[Found],
     new: &[Found],
 ) -> Result<bool, AllocError>
-    ensures { IfOk result (λ are. are ≡ true → new.now ≡ map (changed_link (C.becomes change.now)) old.now) }
+    ensures { IfOk result (λ are. are ≡ true → AreLinksChanged (P.becomes changes.now) (P.known changes.now) old.now new.now) }
 {
-    if old.len() != new.len() {
-        return Ok(false);
-    }
-    for (i, link) in old.iter().enumerate() {
-        if !is_link_changed(change, link, &new[i])? {
+    let mut left = old;
+    let mut others = new;
+    while let [link, behind @ ..] = left {
+        let [other, more @ ..] = others else {
+            return Ok(false);
+        };
+        if !is_link_changed(changes, link, other)? {
             return Ok(false);
         }
+        left = behind;
+        others = more;
     }
-    Ok(true)
+    Ok(others.is_empty())
 }
 
-/// Whether two bases are the same.
-fn is_same(old: &Option<String>, new: &Option<String>) -> bool
-    ensures { result ≡ true → option_map string_bytes new.now ≡ option_map string_bytes old.now }
+/// Whether a base is the other one, changed.
+fn is_base_changed<P: PageChange>(
+    changes: &P,
+    old: &Option<String>,
+    new: &Option<String>,
+) -> Result<bool, AllocError>
+    ensures { IfOk result (λ is. is ≡ true → option_map string_bytes new.now ≡ option_map (changed (P.becomes changes.now Base)) (option_map string_bytes old.now)) }
 {
     match old {
         Some(base) => match new {
-            Some(other) => other.as_str() == base.as_str(),
-            None => false,
+            Some(other) => is_changed(changes, ValueForm::Base, base.as_str(), other.as_str()),
+            None => Ok(false),
         },
-        None => new.is_none(),
+        None => Ok(new.is_none()),
     }
 }
 
-/// Whether what was found in a page is what was found in the other one, with each link changed.
-pub(crate) fn are_changed<C: Change>(change: &C, old: &Scan, new: &Scan) -> Result<bool, AllocError>
-    ensures { IfOk result (λ are. are ≡ true → scanned new.now ≡ changed_links (C.becomes change.now) (scanned old.now)) }
+/// Whether what was found in a page is what was found in the other one, with each link and the base changed.
+pub(crate) fn are_changed<P: PageChange>(
+    changes: &P,
+    old: &Scan,
+    new: &Scan,
+) -> Result<bool, AllocError>
+    ensures { IfOk result (λ are. are ≡ true → AreChanged (P.becomes changes.now) (P.known changes.now) (scanned old.now) (scanned new.now)) }
 {
-    if old.nofollow != new.nofollow || !is_same(&old.base, &new.base) {
+    if old.nofollow != new.nofollow || !is_base_changed(changes, &old.base, &new.base)? {
         return Ok(false);
     }
-    are_links_changed(change, &old.links, &new.links)
+    are_links_changed(changes, &old.links, &new.links)
 }

@@ -2,16 +2,19 @@
 ghost use Rattle.std.specs.Prelude.{◌≡◌, IfOk, MatchOption};
 ghost use Rattle.html_links.specs.Links.{links_of_body};
 ghost use Rattle.html_links.specs.Scanning.{scanned};
-ghost use Rattle.page_links.specs.Rewriting.{IsAnew, changed_links};
+ghost use Rattle.page_links.specs.Rewriting.{IsAnew, AreChanged};
 
 use crate::comparing::are_changed;
+use crate::page_change::PageChange;
 use crate::writer::Writer;
-use css_links::Change;
 use html_links::{Memory, Scan, Scanner, Syntax};
 use std::alloc::Global;
 
 /// What is found in a body of that syntax.
-fn scan(alloc: Global, syntax: Syntax, body: &[u8]) -> Result<Scan, Memory>
+///
+/// # Errors
+/// `Memory` where a growth is refused.
+pub fn scan(alloc: Global, syntax: Syntax, body: &[u8]) -> Result<Scan, Memory>
     ensures { IfOk result (λ scan. scanned scan ≡ links_of_body syntax body.now) }
 {
     let mut scanner = Scanner::with_syntax(alloc, syntax);
@@ -19,26 +22,28 @@ fn scan(alloc: Global, syntax: Syntax, body: &[u8]) -> Result<Scan, Memory>
     scanner.finish()
 }
 
-/// A page with its links changed: no byte is another except those of values that have links, and the links are those of the page, each
-/// changed. Nothing, if what was written reads otherwise: then the page is to stay as it is.
+/// A page with its links and its base changed: no byte is another except those of values that have links or are the base, and the links
+/// are those of the page, each changed. Nothing, if what was written reads otherwise: then the page is to stay as it is. `found` is what
+/// [`scan`] finds in the page.
 ///
 /// # Errors
 /// `Memory` where a growth is refused.
-pub fn rewrite<C: Change>(
+pub fn rewrite<P: PageChange>(
     alloc: Global,
-    change: &C,
+    changes: &P,
     syntax: Syntax,
     page: &[u8],
+    found: &Scan,
 ) -> Result<Option<Vec<u8>>, Memory>
-    ensures kept { IfOk result (λ other. MatchOption other (Unit {0}) (λ other. IsAnew (C.becomes change.now) syntax page.now other.items)) }
-    ensures links { IfOk result (λ other. MatchOption other (Unit {0}) (λ other. links_of_body syntax other.items ≡ changed_links (C.becomes change.now) (links_of_body syntax page.now))) }
+    requires { scanned found.now ≡ links_of_body syntax page.now }
+    ensures kept { IfOk result (λ other. MatchOption other (Unit {0}) (λ other. IsAnew (P.becomes changes.now) syntax page.now other.items)) }
+    ensures links { IfOk result (λ other. MatchOption other (Unit {0}) (λ other. AreChanged (P.becomes changes.now) (P.known changes.now) (links_of_body syntax page.now) (links_of_body syntax other.items))) }
 {
-    let old = scan(alloc, syntax, page)?;
     let mut writer = Writer::new(alloc, syntax);
-    writer.write(change, page)?;
+    writer.write(changes, page)?;
     let Writer { scanner, out, .. } = writer;
     let new = scanner.finish()?;
-    if are_changed(change, &old, &new)? {
+    if are_changed(changes, found, &new)? {
         Ok(Some(out))
     } else {
         Ok(None)

@@ -8,9 +8,9 @@ ghost use Rattle.page_links.specs.Rewriting.{IsAnew, IsAt};
 
 use crate::bytes::{is_white, run_len};
 use crate::cut::cut_value;
+use crate::page_change::PageChange;
 use crate::sheet::{fits, split_sheet};
 use crate::value::{sheet_anew, value_anew};
-use css_links::Change;
 use html_links::{Memory, Scanner, Syntax, ValueForm};
 use std::alloc::Global;
 
@@ -46,8 +46,8 @@ impl Writer {
     }
 
     /// Writes bytes of the page as they are, up to where a value may be awaited. Gives what is left.
-    fn copy<'a, C: Change>(&mut self, change: &C, left: &'a [u8]) -> Result<&'a [u8], Memory>
-        ensures at { IfOk result (λ rest. (syntax : Syntax) (page : List ℕ) → IsAt (C.becomes change.now) syntax page self.old.scanner self.old.out.items left.now → IsAt (C.becomes change.now) syntax page self.new.scanner self.new.out.items rest.now) }
+    fn copy<'a, P: PageChange>(&mut self, changes: &P, left: &'a [u8]) -> Result<&'a [u8], Memory>
+        ensures at { IfOk result (λ rest. (syntax : Syntax) (page : List ℕ) → IsAt (P.becomes changes.now) syntax page self.old.scanner self.old.out.items left.now → IsAt (P.becomes changes.now) syntax page self.new.scanner self.new.out.items rest.now) }
         ensures within { IfOk result (λ rest. length rest.now ≤ length left.now) }
         ensures shorter { IfOk result (λ rest. 1 ≤ length left.now → length rest.now < length left.now) }
     {
@@ -57,20 +57,20 @@ impl Writer {
     }
 
     /// Writes the value that comes next anew, if its links change. Gives what is left.
-    fn write_value<'a, C: Change>(
+    fn write_value<'a, P: PageChange>(
         &mut self,
-        change: &C,
+        changes: &P,
         form: ValueForm,
         left: &'a [u8],
     ) -> Result<&'a [u8], Memory>
-        requires { Awaits self.old.scanner form }
-        ensures at { IfOk result (λ rest. (syntax : Syntax) (page : List ℕ) → IsAt (C.becomes change.now) syntax page self.old.scanner self.old.out.items left.now → IsAt (C.becomes change.now) syntax page self.new.scanner self.new.out.items rest.now) }
+        requires { Awaits self.old.scanner left.now form }
+        ensures at { IfOk result (λ rest. (syntax : Syntax) (page : List ℕ) → IsAt (P.becomes changes.now) syntax page self.old.scanner self.old.out.items left.now → IsAt (P.becomes changes.now) syntax page self.new.scanner self.new.out.items rest.now) }
         ensures within { IfOk result (λ rest. length rest.now ≤ length left.now) }
     {
         let Some(cut) = cut_value(left) else {
             return Ok(left);
         };
-        let Some(value) = value_anew(self.alloc, change, form, cut.value)? else {
+        let Some(value) = value_anew(self.alloc, changes, form, cut.value)? else {
             return Ok(left);
         };
         self.put(cut.quote)?;
@@ -79,13 +79,17 @@ impl Writer {
     }
 
     /// Writes the text of a `style` element anew, or as it is if its end would be elsewhere. Gives what is left.
-    fn write_sheet<'a, C: Change>(&mut self, change: &C, left: &'a [u8]) -> Result<&'a [u8], Memory>
+    fn write_sheet<'a, P: PageChange>(
+        &mut self,
+        changes: &P,
+        left: &'a [u8],
+    ) -> Result<&'a [u8], Memory>
         requires { self.old.scanner.lexer.mode ≡ InSheet }
-        ensures at { IfOk result (λ rest. (syntax : Syntax) (page : List ℕ) → IsAt (C.becomes change.now) syntax page self.old.scanner self.old.out.items left.now → IsAt (C.becomes change.now) syntax page self.new.scanner self.new.out.items rest.now) }
+        ensures at { IfOk result (λ rest. (syntax : Syntax) (page : List ℕ) → IsAt (P.becomes changes.now) syntax page self.old.scanner self.old.out.items left.now → IsAt (P.becomes changes.now) syntax page self.new.scanner self.new.out.items rest.now) }
         ensures within { IfOk result (λ rest. length rest.now ≤ length left.now) }
     {
         let (sheet, end) = split_sheet(left);
-        let anew = sheet_anew(self.alloc, change, sheet)?;
+        let anew = sheet_anew(self.alloc, changes, sheet)?;
         if !fits(&anew, sheet, end) {
             self.put(sheet)?;
             return Ok(end);
@@ -95,8 +99,12 @@ impl Writer {
     }
 
     /// Writes what comes next: a value anew, the text of a `style` element, or nothing. Gives what is left.
-    fn write_next<'a, C: Change>(&mut self, change: &C, left: &'a [u8]) -> Result<&'a [u8], Memory>
-        ensures at { IfOk result (λ rest. (syntax : Syntax) (page : List ℕ) → IsAt (C.becomes change.now) syntax page self.old.scanner self.old.out.items left.now → IsAt (C.becomes change.now) syntax page self.new.scanner self.new.out.items rest.now) }
+    fn write_next<'a, P: PageChange>(
+        &mut self,
+        changes: &P,
+        left: &'a [u8],
+    ) -> Result<&'a [u8], Memory>
+        ensures at { IfOk result (λ rest. (syntax : Syntax) (page : List ℕ) → IsAt (P.becomes changes.now) syntax page self.old.scanner self.old.out.items left.now → IsAt (P.becomes changes.now) syntax page self.new.scanner self.new.out.items rest.now) }
         ensures within { IfOk result (λ rest. length rest.now ≤ length left.now) }
     {
         if let [first, ..] = left {
@@ -105,11 +113,11 @@ impl Writer {
                 return Ok(left);
             }
         }
-        match self.scanner.awaited()? {
-            Some(form) => self.write_value(change, form, left),
+        match self.scanner.awaited(left)? {
+            Some(form) => self.write_value(changes, form, left),
             None => {
                 if self.scanner.is_in_sheet() {
-                    self.write_sheet(change, left)
+                    self.write_sheet(changes, left)
                 } else {
                     Ok(left)
                 }
@@ -118,14 +126,14 @@ impl Writer {
     }
 
     /// Writes the page.
-    pub(crate) fn write<C: Change>(&mut self, change: &C, page: &[u8]) -> Result<(), Memory>
+    pub(crate) fn write<P: PageChange>(&mut self, changes: &P, page: &[u8]) -> Result<(), Memory>
         requires { self.old.out.items ≡ [] }
-        ensures { OnOk result ((syntax : Syntax) → StandsFor syntax self.old.scanner self.old.out.items → IsAt (C.becomes change.now) syntax page.now self.new.scanner self.new.out.items []) }
+        ensures { OnOk result ((syntax : Syntax) → StandsFor syntax self.old.scanner self.old.out.items → IsAt (P.becomes changes.now) syntax page.now self.new.scanner self.new.out.items []) }
     {
         let mut left = page;
         while !left.is_empty() {
-            let rest = self.write_next(change, left)?;
-            left = self.copy(change, rest)?;
+            let rest = self.write_next(changes, left)?;
+            left = self.copy(changes, rest)?;
         }
         Ok(())
     }

@@ -1,9 +1,9 @@
-//! What is written of pages whose links change, byte by byte: in each form of value, in quotes or without. Each link gets `m/` in front.
+//! What is written of pages whose links change, byte by byte: in each form of value, in quotes or without. Each link gets `m/` in front, and
+//! so does the base.
 ghost use Rattle.std.specs.Prelude.{◌++◌, List, ℕ, Option, Some, codes};
 
-use css_links::Change;
-use html_links::Syntax;
-use page_links::rewrite;
+use html_links::{Syntax, ValueForm};
+use page_links::{PageChange, rewrite, scan};
 use std::alloc::{AllocError, Global};
 use std::process::Abort;
 
@@ -13,10 +13,12 @@ struct Below {
     alloc: Global,
 }
 
-impl Change for Below {
-    ghost becomes = { λ s text. Some (codes "m/" ++ text) };
+impl PageChange for Below {
+    ghost becomes = { λ s form text. Some (codes "m/" ++ text) };
 
-    fn change(&self, text: &str) -> Result<Option<String>, AllocError> {
+    ghost known = { λ s form old new. Unit {0} };
+
+    fn change(&self, _form: ValueForm, text: &str) -> Result<Option<String>, AllocError> {
         let mut other = String::from_str(self.alloc, "m/")?;
         other.push_str(text)?;
         Ok(Some(other))
@@ -25,8 +27,10 @@ impl Change for Below {
 
 // The page is written so, or stays as it is if it is `-`.
 fn expect_anew(rt: &impl Abort, alloc: Global, page: &str, anew: &str) {
-    let change = Below { alloc };
-    match rewrite(alloc, &change, Syntax::Html, page.as_bytes()).expect(rt, "memory") {
+    let changes = Below { alloc };
+    let body = page.as_bytes();
+    let found = scan(alloc, Syntax::Html, body).expect(rt, "memory");
+    match rewrite(alloc, &changes, Syntax::Html, body, &found).expect(rt, "memory") {
         Some(other) => assert!(rt; other.as_slice() == anew.as_bytes()),
         None => assert!(rt; anew == "-"),
     }
@@ -95,12 +99,29 @@ fn what_is_no_link_stays(rt: HostRuntime) {
     expect_anew(
         &rt,
         alloc,
-        "<base href=b><a href=c",
-        "<base href=b><a href=c",
+        "<link href=b rel=preconnect><a href=c",
+        "<link href=b rel=preconnect><a href=c",
     );
 }
 
 #[test]
-fn a_page_whose_links_are_known_too_late_stays(rt: HostRuntime) {
-    expect_anew(&rt, rt.alloc(), "<input src=b type=image>", "-");
+fn the_base_and_what_later_attributes_decide_are_changed(rt: HostRuntime) {
+    let alloc = rt.alloc();
+    expect_anew(
+        &rt,
+        alloc,
+        "<base href=b><input src=c type=image>",
+        "<base href=m/b><input src=m/c type=image>",
+    );
+    expect_anew(
+        &rt,
+        alloc,
+        "<meta content='1;url=b' http-equiv=refresh>",
+        "<meta content='1;url=m/b' http-equiv=refresh>",
+    );
+}
+
+#[test]
+fn a_page_with_a_link_without_a_value_stays(rt: HostRuntime) {
+    expect_anew(&rt, rt.alloc(), "<a href=b><a href>", "-");
 }

@@ -1,7 +1,10 @@
--- The links so far are the other ones, changed.
-use Rattle.std.proofs.Common.{◌≡◌, map, take}
-use Rattle.page_links.specs.Rewriting.{changed_link}
+-- If what is left of both are the same links, changed, all are.
+use Rattle.std.proofs.Common.{length}
+use Rattle.page_links.specs.Rewriting.{AreLinksChanged}
 use Rattle.page_links.proofs.comparing.are_links_changed.Given as goal
 
-abbrev pub invariant-loop-i : goal.invariant-loop-i
-invariant-loop-i g l = take l.i l.new ≡ map (changed_link (g.C.Change.becomes l.change)) (take l.i l.old)
+abbrev pub invariant-loop-left : goal.invariant-loop-left
+invariant-loop-left g l = AreLinksChanged (g.P.PageChange.becomes l.changes) (g.P.PageChange.known l.changes) l.left l.others → AreLinksChanged (g.P.PageChange.becomes l.changes) (g.P.PageChange.known l.changes) l.old l.new
+
+abbrev pub decreases-loop-left : goal.decreases-loop-left
+decreases-loop-left g l = length l.left

@@ -1,15 +1,19 @@
-use Rattle.std.proofs.Common.{[], ◌++◌, ◌∙◌, sym, ap, append-nil}
-use Rattle.page_links.specs.Rewriting.{changed_links}
+use Rattle.std.proofs.Common.{[], ◌++◌, subst, append-nil}
+use Rattle.html_links.specs.Links.{Links, links_of_body}
+use Rattle.html_links.specs.Scanning.{scanned}
+use Rattle.page_links.specs.Rewriting.{AreChanged}
 use Rattle.page_links.proofs.Placing.{anew_at}
 use Rattle.page_links.proofs.rewriter.rewrite.Goals as goal
 
 pub returns-then-branch-clause-kept : goal.returns-then-branch-clause-kept
 returns-then-branch-clause-kept g c =
     let at = c.in_ok-write.ensures c.args.syntax c.new-writer.ensures.stands in
-    anew_at (g.C.Change.becomes c.args.change.now) c.args.syntax c.args.page.now (c.write.new.self.out.items ++ []) c.write.new.self.out.items (append-nil c.write.new.self.out.items) at.anew
+    anew_at (g.P.PageChange.becomes c.args.changes.now) c.args.syntax c.args.page.now (c.write.new.self.out.items ++ []) c.write.new.self.out.items (append-nil c.write.new.self.out.items) at.anew
 
 pub returns-then-branch-clause-links : goal.returns-then-branch-clause-links
 returns-then-branch-clause-links g c =
     let at = c.in_ok-write.ensures c.args.syntax c.new-writer.ensures.stands in
-    sym (c.in_ok-new.ensures.ok c.args.syntax c.write.new.self.out.items at.stands) ∙ c.in_ok-are_changed.ensures c.if-branch.true
-    ∙ ap (changed_links (g.C.Change.becomes c.args.change.now)) c.in_ok-old.ensures
+    let changes = g.P.PageChange.becomes c.args.changes.now in
+    let known = g.P.PageChange.known c.args.changes.now in
+    subst (λ (old : Links). AreChanged changes known old (links_of_body c.args.syntax c.write.new.self.out.items)) c.requires
+    (subst (λ (new : Links). AreChanged changes known (scanned c.args.found.now) new) (c.in_ok-new.ensures.ok c.args.syntax c.write.new.self.out.items at.stands) (c.in_ok-are_changed.ensures c.if-branch.true))

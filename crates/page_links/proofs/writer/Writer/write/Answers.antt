@@ -9,5 +9,5 @@ loop-left-preserved g c = λ syntax stands.
 
 pub returns : goal.returns
 returns g c = λ syntax stands.
-    subst (λ (left : List ℕ). IsAt (g.C.Change.becomes c.args.change.now) syntax c.args.page.now c.loop-left.self.scanner c.loop-left.self.out.items left)
+    subst (λ (left : List ℕ). IsAt (g.P.PageChange.becomes c.args.changes.now) syntax c.args.page.now c.loop-left.self.scanner c.loop-left.self.out.items left)
     (empty_is c.loop-left.left.now (sym c.is_empty.ensures ∙ c.loop-left-test.false)) (c.loop-left.invariant syntax stands)

@@ -6,7 +6,7 @@ use Rattle.page_links.specs.Rewriting.{IsAt}
 use Rattle.page_links.proofs.writer.Writer.write.Given as goal
 
 abbrev pub invariant-loop-left : goal.invariant-loop-left
-invariant-loop-left g l = (syntax : Syntax) → StandsFor syntax l.fn.self.scanner l.fn.self.out.items → IsAt (g.C.Change.becomes l.change) syntax l.page l.self.scanner l.self.out.items l.left
+invariant-loop-left g l = (syntax : Syntax) → StandsFor syntax l.fn.self.scanner l.fn.self.out.items → IsAt (g.P.PageChange.becomes l.changes) syntax l.page l.self.scanner l.self.out.items l.left
 
 abbrev pub decreases-loop-left : goal.decreases-loop-left
 decreases-loop-left g l = length l.left
