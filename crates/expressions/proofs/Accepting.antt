@@ -1,10 +1,10 @@
 -- A state leads to a match where one does to which it leads.
-use Rattle.std.proofs.Common.{◌≡◌, ℕ, ◌+◌, ◌<◌, ◌≤◌, Bool, true, false, cond, ◌||◌, ◌&&◌, List, length, slice_index, slice_index_or, slice_set, is_some, Option, Some, None, option_and_then, option_map, refl, sym, ap, ap₂, ◌∙◌, subst, ⊎_elim, arith, get_or-set_same, get_or-set_other}
+use Rattle.std.proofs.Common.{◌≡◌, ℕ, zero, suc, ◌+◌, ◌<◌, ◌≤◌, Bool, true, false, cond, ◌||◌, ◌&&◌, List, length, slice_index, slice_index_or, slice_set, is_some, Option, Some, None, option_and_then, option_map, refl, sym, ap, ◌∙◌, subst, ⊎_elim, arith, get_or-set_same, get_or-set_other}
 use Rattle.std.proofs.lemmas.Bool.{cases_lt, cases_eq}
 use Rattle.std.specs.Option.{option_or}
 use Rattle.regex_hir.specs.Find.{first_between}
 use Rattle.regex_hir.specs.Looks.{holds}
-use Rattle.regex_hir.specs.Text.{is_boundary, is_some_and}
+use Rattle.regex_hir.specs.Text.{is_some_and}
 use Rattle.regex_hir.proofs.OptionLemmas.{is_some-write}
 use Rattle.regex_hir.proofs.FindLemmas.{first_between_unfold, first_between_past}
 use Rattle.regex_nfa.specs.declared.nfa.Nfa.{Nfa}
@@ -13,7 +13,7 @@ use Rattle.regex_nfa.specs.declared.state.State.TheVariants.{ByteRange, Sparse, 
 use Rattle.regex_nfa.specs.States.{next_on, visit, read, byte_below, IsBelow}
 use Rattle.regex_nfa.specs.Run.{run, state_of}
 use Rattle.regex_nfa.proofs.RunLemmas.{run_at, byte_below-length}
-use Rattle.expressions.specs.inner.Accepting.{accepts, reads, leads, AreFlags, AreFlagsBelow, begun, begins_from}
+use Rattle.expressions.specs.inner.Accepting.{accepts, reads, leads, AreFlags, AreFlagsBelow, begins_from}
 use Rattle.expressions.specs.inner.Order.{IsOrder}
 
 -- ---- whether there is something
@@ -103,25 +103,32 @@ flags_done nfa order text at here ordered marks q is_state =
 
 -- ---- where matches begin
 
-pub begins-step : (nfa : Nfa) (text : List ℕ) (at : ℕ) → at ≤ length text → begins_from nfa text at ≡ ((is_boundary text at && accepts nfa text at nfa.start) || begins_from nfa text (at + 1))
+pub begins-step : (nfa : Nfa) (text : List ℕ) (at : ℕ) → at ≤ length text → begins_from nfa text at ≡ (accepts nfa text at nfa.start || begins_from nfa text (at + 1))
 unfolding begins_from accepts
 begins-step nfa text at inside =
-    ap is_some (first_between_unfold (begun nfa text) at (length text) inside) ∙ is_some_or _ _
-    ∙ ap (λ b. b || is_some (first_between (begun nfa text) (at + 1) (length text))) (is_some_map _ (begun nfa text at) ∙ is_some_if (is_boundary text at) _)
+    ap is_some (first_between_unfold (run nfa text (length text) nfa.start) at (length text) inside) ∙ is_some_or _ _
+    ∙ ap (λ b. b || is_some (first_between (run nfa text (length text) nfa.start) (at + 1) (length text))) (is_some_map _ (run nfa text (length text) nfa.start at))
 
 pub begins-past : (nfa : Nfa) (text : List ℕ) → begins_from nfa text (length text + 1) ≡ false
 unfolding begins_from
-begins-past nfa text = ap is_some (first_between_past (begun nfa text) (length text + 1) (length text) (omega arith))
+begins-past nfa text = ap is_some (first_between_past (run nfa text (length text) nfa.start) (length text + 1) (length text) (omega arith))
 
-pub or_true : (b : Bool) → (b || true) ≡ true
+or_true : (b : Bool) → (b || true) ≡ true
 or_true true = refl
 or_true false = refl
 
-pub or_false : (b : Bool) → (b || false) ≡ b
+or_false : (b : Bool) → (b || false) ≡ b
 or_false true = refl
 or_false false = refl
 
--- the same by whether one may begin there, the flag of the first state, and what is known of later places
-pub begins-by : (nfa : Nfa) (text : List ℕ) (at : ℕ) (cut flag later : Bool) → at ≤ length text → cut ≡ is_boundary text at → flag ≡ accepts nfa text at nfa.start → later ≡ begins_from nfa text (at + 1) →
-    ((cut && flag) || later) ≡ begins_from nfa text at
-begins-by nfa text at cut flag later inside is_cut is_flag is_later = ap₂ (λ x y. x || y) (ap₂ (λ x y. x && y) is_cut is_flag) is_later ∙ sym (begins-step nfa text at inside)
+-- where none begins later, the flag of the first state tells
+pub begins-here : (nfa : Nfa) (text : List ℕ) (at : ℕ) (flag : Bool) → at ≤ length text → flag ≡ accepts nfa text at nfa.start → false ≡ begins_from nfa text (at + 1) → flag ≡ begins_from nfa text at
+begins-here nfa text at flag inside is none =
+    is ∙ sym (or_false _) ∙ ap (λ b. accepts nfa text at nfa.start || b) none ∙ sym (begins-step nfa text at inside)
+
+-- a match that begins at a place or after it begins at the first or after it
+pub begins-first : (nfa : Nfa) (text : List ℕ) (at : ℕ) → at ≤ length text → true ≡ begins_from nfa text at → true ≡ begins_from nfa text 0
+begins-first nfa text zero inside found = found
+begins-first nfa text (suc at) inside found =
+    let later : true ≡ begins_from nfa text (at + 1) = found ∙ ap (begins_from nfa text) (omega arith) in
+    begins-first nfa text at (omega arith) (sym (begins-step nfa text at (omega arith) ∙ ap (λ b. accepts nfa text at nfa.start || b) (sym later) ∙ or_true _))

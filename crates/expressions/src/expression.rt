@@ -2,10 +2,13 @@
 ghost use Rattle.std.specs.Prelude.{◌≡◌, MatchResult, IfOk, IsCharBoundary, Some, bytes_eq};
 ghost use Rattle.std.specs.Cmp.{partial_equiv_from_equiv};
 ghost use Rattle.std.specs.Cmp.Lexicographic.{nat_list_eq_equiv};
-ghost use Rattle.regex_syntax.specs.Verdict.{default_config, Refuses};
+ghost use Rattle.regex_syntax.specs.Verdict.{Refuses};
 
+use crate::needles::may_have;
 use crate::order::in_order;
 use crate::search::{MOST_STATES, finds};
+use regex_extract::Needles;
+use regex_hir::Hir;
 use regex_nfa::Nfa;
 use regex_syntax::{Config, ErrorKind, Parsed};
 use std::alloc::{AllocError, Global};
@@ -36,12 +39,20 @@ impl From<AllocError> for ExpressionFault {
     }
 }
 
+// What a text is compiled to: an automaton, and texts of which each match has one, if such are known.
+#[derive(Drop)]
+struct Automaton {
+    nfa: Nfa,
+    needles: Option<Needles>,
+}
+
 /// A regular expression.
 #[derive(Drop)]
 pub struct Expression {
     text: String,
     nfa: Nfa,
     order: Vec<u32>,
+    needles: Option<Needles>,
 }
 
 // Contracts see an expression as its text.
@@ -49,6 +60,7 @@ impl Model for Expression {
     ghost use Rattle.std.specs.Prelude.{◌≤◌, List, ℕ, vec_len};
     ghost use Rattle.std.specs.String.{string_bytes};
     ghost use Rattle.expressions.specs.inner.Accepting.{IsCompiled};
+    ghost use Rattle.expressions.specs.inner.Needles.{NeedsSome};
     ghost use Rattle.expressions.specs.inner.Order.{IsOrder};
     ghost use Rattle.expressions.specs.declared.search.TheConstants.{MOST_STATES};
 
@@ -56,33 +68,59 @@ impl Model for Expression {
 
     ghost view = { λ e. string_bytes e.text };
 
-    ghost invariant = { λ e. IsCompiled (string_bytes e.text) e.nfa × IsOrder e.nfa e.order.items × (vec_len e.nfa.states ≤ MOST_STATES) };
+    ghost invariant = { λ e. IsCompiled (string_bytes e.text) e.nfa × IsOrder e.nfa e.order.items × (vec_len e.nfa.states ≤ MOST_STATES) × NeedsSome e.nfa e.needles };
 }
 
+ghost use Rattle.regex_compile.specs.Implements.{Implements};
+ghost use Rattle.regex_hir.specs.Meaning.{meaning};
+ghost use Rattle.expressions.specs.Expressions.{byte_config, is_found, read_element, IsFoundIn, IsFaultOf};
 ghost use Rattle.expressions.specs.inner.Accepting.{IsCompiled};
-ghost use Rattle.expressions.specs.Expressions.{is_found, read_element, IsFoundIn, IsFaultOf};
+ghost use Rattle.expressions.specs.inner.Needles.{NeedsSome};
 
-// The automaton of the text.
-fn compiled(alloc: Global, text: &str) -> Result<Nfa, ExpressionFault>
-    ensures { MatchResult result (IsCompiled text.now) (IsFaultOf text.now) }
+// How a text is read: letters, digits and white space are those of ASCII, as addresses are.
+fn byte_config() -> Config
+    ensures { result ≡ byte_config }
 {
-    let Parsed { hir, names } = match regex_syntax::parse(alloc, text, &Config::default()) {
+    let mut config = Config::default();
+    config.flags.unicode = false;
+    config.utf8 = false;
+    config
+}
+
+// The automaton of a tree, and what it needs.
+fn compiled_tree(alloc: Global, hir: &Hir, groups: u32) -> Result<Automaton, ExpressionFault>
+    ensures { MatchResult result (λ c. Implements c.nfa (meaning hir.now) × NeedsSome c.nfa c.needles) IsNoSyntax }
+{
+    let needles = regex_extract::required(alloc, hir)?;
+    match regex_compile::compile(alloc, hir, groups, MOST_BYTES) {
+        Ok(nfa) => Ok(Automaton { nfa, needles }),
+        Err(regex_compile::Error::OutOfMemory) => Err(ExpressionFault::Memory),
+        Err(_) => Err(ExpressionFault::Large),
+    }
+}
+
+ghost use Rattle.expressions.specs.Expressions.{IsNoSyntax};
+
+// The automaton of the text, and what it needs.
+fn compiled(alloc: Global, text: &str) -> Result<Automaton, ExpressionFault>
+    ensures { MatchResult result (λ c. IsCompiled text.now c.nfa × NeedsSome c.nfa c.needles) (IsFaultOf text.now) }
+{
+    let Parsed { hir, names } = match regex_syntax::parse(alloc, text, &byte_config()) {
         Ok(parsed) => parsed,
         Err(error) => return Err(fault_of(text, &error)),
     };
     let Ok(groups) = u32::try_from(names.len()) else {
         return Err(ExpressionFault::Large);
     };
-    match regex_compile::compile(alloc, &hir, groups, MOST_BYTES) {
-        Ok(nfa) => Ok(nfa),
-        Err(regex_compile::Error::OutOfMemory) => Err(ExpressionFault::Memory),
-        Err(_) => Err(ExpressionFault::Large),
+    match compiled_tree(alloc, &hir, groups) {
+        Ok(compiled) => Ok(compiled),
+        Err(fault) => Err(fault),
     }
 }
 
 // What is wrong with a text that doesn't parse.
 fn fault_of(text: &str, error: &regex_syntax::Error) -> ExpressionFault
-    requires refused { Refuses default_config text.now error.now.kind }
+    requires refused { Refuses byte_config text.now error.now.kind }
     requires place { IsCharBoundary text.now error.now.span.start }
     ensures { IsFaultOf text.now result }
 {
@@ -102,7 +140,7 @@ impl Expression {
     pub fn read(alloc: Global, text: &str) -> Result<Expression, ExpressionFault>
         ensures { MatchResult result (λ expression. read_element text.now ≡ Some expression) (IsFaultOf text.now) }
     {
-        let nfa = compiled(alloc, text)?;
+        let Automaton { nfa, needles } = compiled(alloc, text)?;
         if nfa.states.len() > MOST_STATES {
             return Err(ExpressionFault::Large);
         }
@@ -110,6 +148,7 @@ impl Expression {
             text: String::from_str(alloc, text)?,
             order: in_order(alloc, &nfa)?,
             nfa,
+            needles,
         })
     }
 
@@ -118,7 +157,11 @@ impl Expression {
         ensures value { result ≡ is_found self.now text.now }
         ensures means { IsTrue result ↔ IsFoundIn self.now text.now }
     {
-        finds(&self.nfa, &self.order, text.as_bytes())
+        let text = text.as_bytes();
+        if !may_have(&self.needles, text) {
+            return false;
+        }
+        finds(&self.nfa, &self.order, text)
     }
 
     /// The expression as it was read. Takes no memory.

@@ -3,6 +3,7 @@
 #![tactic(auto)]
 
 mod expression;
+mod needles;
 mod order;
 mod search;
 

@@ -1,6 +1,5 @@
 //! How an automaton is run over a text from its end on, with no memory but a flag for each state.
-ghost use Rattle.std.specs.Prelude.{◌≡◌, ◌+◌, ◌<◌, ◌≤◌, length, vec_len, slice_index};
-ghost use Rattle.regex_hir.specs.Text.{is_boundary};
+ghost use Rattle.std.specs.Prelude.{◌≡◌, ◌+◌, ◌<◌, ◌≤◌, false, length, vec_len, slice_index};
 ghost use Rattle.regex_nfa.specs.States.{IsReadable};
 ghost use Rattle.expressions.specs.inner.Order.{IsOrder};
 ghost use Rattle.expressions.specs.inner.Accepting.{accepts, reads, AreFlags, AreFlagsBelow, begins_from};
@@ -60,31 +59,18 @@ fn mark(nfa: &Nfa, order: &[u32], text: &[u8], at: usize, next: &[bool], here: &
     }
 }
 
-// Whether a character of a text begins at this place, or the text ends there.
-fn is_cut(text: &[u8], at: usize) -> bool
-    ensures { result ≡ is_boundary text.now at }
-{
-    if at >= text.len() {
-        return true;
-    }
-    (text[at] < 0x80) | (text[at] > 0xBF)
-}
-
-// Whether a match begins at this place, by its flags, or later.
-fn begins(nfa: &Nfa, text: &[u8], at: usize, here: &[bool], later: bool) -> bool
+// Whether a match begins at this place, after which none does, by its flags.
+fn begins(nfa: &Nfa, text: &[u8], at: usize, here: &[bool]) -> bool
     requires place { at ≤ length text.now }
     requires flags { AreFlags nfa.now text.now at here.now }
     requires room { vec_len nfa.now.states ≤ length here.now }
-    requires later { later ≡ begins_from nfa.now text.now (at + 1) }
+    requires later { false ≡ begins_from nfa.now text.now (at + 1) }
     ensures { result ≡ begins_from nfa.now text.now at }
 {
-    if later {
-        return true;
-    }
-    if is_cut(text, at) {
-        return here[nfa.start as usize];
-    }
-    false
+    // Named by the contract alone: of which text the flags are.
+    let _ = text;
+    let _ = at;
+    here[nfa.start as usize]
 }
 
 /// Whether the automaton finds a match in the text. Takes no memory; the time is the text's length times the number of states.
@@ -93,15 +79,24 @@ pub(crate) fn finds(nfa: &Nfa, order: &[u32], text: &[u8]) -> bool
     requires few { vec_len nfa.now.states ≤ MOST_STATES }
     ensures { result ≡ begins_from nfa.now text.now 0 }
 {
-    let mut next = [false; MOST_STATES];
-    let mut here = [false; MOST_STATES];
+    let mut odd = [false; MOST_STATES];
+    let mut even = [false; MOST_STATES];
     let mut at = text.len() + 1;
-    let mut found = false;
-    while at > 0 {
-        at -= 1;
-        mark(nfa, order, text, at, &next, &mut here);
-        found = begins(nfa, text, at, &here, found);
-        next = here;
+    // Two places in turn, since to copy flags would take longer than to find them.
+    while at > 1 {
+        mark(nfa, order, text, at - 1, &odd, &mut even);
+        if begins(nfa, text, at - 1, &even) {
+            return true;
+        }
+        mark(nfa, order, text, at - 2, &even, &mut odd);
+        if begins(nfa, text, at - 2, &odd) {
+            return true;
+        }
+        at -= 2;
     }
-    found
+    if at == 0 {
+        return false;
+    }
+    mark(nfa, order, text, 0, &odd, &mut even);
+    begins(nfa, text, 0, &even)
 }

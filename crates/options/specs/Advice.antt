@@ -95,7 +95,7 @@ told_on line.Domain =
     (codes "an element is letters, digits, -, _ and dots, as example.org (see wgetr --help)"))
 told_on (line.Expression at) =
     Some (Correction (codes "the value of --accept-regex or --reject-regex is no expression")
-    (codes "an expression is looked for in addresses, as [?]C= or (jpg|png)$ (see wgetr --help)"))
+    (codes "an expression is looked for in addresses, as [?]C= or [.]pdf$ (see wgetr --help)"))
 told_on (line.Start why) = option_map (λ wrong. Correction wrong accepted_start) (wrong_start why)
 told_on line.StartIsRobots = Some (Correction (codes "START is a robots file") (codes "START is any other page (see wgetr --help)"))
 told_on line.FarProxy =

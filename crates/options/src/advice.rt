@@ -126,7 +126,7 @@ fn advice_on(wrong: LineFault) -> Option<Advice>
         )),
         LineFault::Expression(_) => Some(Advice::Correction(
             "the value of --accept-regex or --reject-regex is no expression",
-            "an expression is looked for in addresses, as [?]C= or (jpg|png)$ (see wgetr --help)",
+            "an expression is looked for in addresses, as [?]C= or [.]pdf$ (see wgetr --help)",
         )),
         LineFault::Start(refused) => Some(Advice::Correction(wrong_start(refused)?, START)),
         LineFault::StartIsRobots => Some(Advice::Correction(

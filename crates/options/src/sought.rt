@@ -110,7 +110,15 @@ pub(crate) fn read_sought(alloc: Global, matches: &ArgMatches) -> Result<Sought,
         (λ f. ((without_kind f ≡ fault.Expression 0) × (expressions_of (rows_of (found_of matches.now)) ≡ None)) ⊎ (f ≡ fault.Memory)) }
 {
     let ignores_case = is_set(matches, "ignore-case");
-    let accepted = read_value(alloc, ignores_case, unless_empty(given(matches, "accept-regex")))?;
-    let rejected = read_value(alloc, ignores_case, unless_empty(given(matches, "reject-regex")))?;
+    let accepted = read_value(
+        alloc,
+        ignores_case,
+        unless_empty(given(matches, "accept-regex")),
+    )?;
+    let rejected = read_value(
+        alloc,
+        ignores_case,
+        unless_empty(given(matches, "reject-regex")),
+    )?;
     Ok(Sought { accepted, rejected })
 }

@@ -1,9 +1,9 @@
 -- Which states of an automaton lead to a match, from a place of a text.
-use Rattle.std.specs.Prelude.{◌≡◌, ℕ, ◌+◌, ◌<◌, Bool, true, false, ◌||◌, ◌&&◌, List, length, vec_len, slice_get, slice_index, slice_index_or, is_some, None, if◌then◌else◌, All, IsSomeAnd, option_and_then}
-use Rattle.regex_hir.specs.Re.{Re, Rest, accept, attempt}
+use Rattle.std.specs.Prelude.{◌≡◌, ℕ, ◌+◌, ◌<◌, Bool, true, false, ◌||◌, ◌&&◌, List, length, vec_len, slice_get, slice_index, slice_index_or, is_some, All, IsSomeAnd, option_and_then}
+use Rattle.regex_hir.specs.Re.{Re, accept, attempt}
 use Rattle.regex_hir.specs.Find.{first_between}
 use Rattle.regex_hir.specs.Looks.{holds}
-use Rattle.regex_hir.specs.Text.{is_boundary, is_some_and}
+use Rattle.regex_hir.specs.Text.{is_some_and}
 use Rattle.regex_nfa.specs.declared.nfa.Nfa.{Nfa}
 use Rattle.regex_nfa.specs.declared.state.State.{State}
 use Rattle.regex_nfa.specs.declared.state.State.TheVariants.{ByteRange, Sparse, Split, Save, Look, Match, Fail}
@@ -38,13 +38,9 @@ abbrev pub AreFlagsBelow : Nfa → List ℕ → ℕ → List Bool → ℕ → Ty
 AreFlagsBelow nfa text at flags rank =
     (q : ℕ) → q < vec_len nfa.states → slice_index nfa.ranks.items q < rank → slice_index_or flags q false ≡ accepts nfa text at q
 
--- the match that begins at that place, if one may begin there
-abbrev pub begun : Nfa → List ℕ → Rest
-begun nfa text at = if is_boundary text at then run nfa text (length text) nfa.start at else None
-
 -- a match begins at that place or after it
 unfoldable pub begins_from : Nfa → List ℕ → ℕ → Bool
-begins_from nfa text at = is_some (first_between (begun nfa text) at (length text))
+begins_from nfa text at = is_some (first_between (run nfa text (length text) nfa.start) at (length text))
 
 -- the automaton finds a match where the pattern has one, in each text of bytes
 abbrev pub Finds : Nfa → Re → Type 0
