@@ -68,6 +68,8 @@ option_of rule.NotIncluded = codes "-I"
 option_of rule.Excluded = codes "-X"
 option_of rule.NotAccepted = codes "-A"
 option_of rule.Rejected = codes "-R"
+option_of rule.ExpressionMissing = codes "--accept-regex"
+option_of rule.ExpressionFound = codes "--reject-regex"
 
 -- why a redirect isn't followed to this target, and what would go there: each start is requested, whatever filters say
 abbrev pub advice_on : Rule → Text → Text

@@ -90,6 +90,8 @@ fn option_of(rule: Rule) -> &'static str
         Rule::Excluded => "-X",
         Rule::NotAccepted => "-A",
         Rule::Rejected => "-R",
+        Rule::ExpressionMissing => "--accept-regex",
+        Rule::ExpressionFound => "--reject-regex",
     }
 }
 

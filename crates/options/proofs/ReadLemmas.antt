@@ -21,7 +21,7 @@ use Rattle.options.specs.Manners.{manner_of}
 use Rattle.pacing.specs.Retries.{Retried}
 use Rattle.options.specs.Retries.{retries_of}
 use Rattle.options.specs.Naming.{Naming, naming_of}
-use Rattle.options.specs.Order.{Counts, proxies_of, start_of, started_at, are_good, counts_of, patterns_of, directories_of, domains_of, fields_of, login_by, login_of, password_of, user_of, order_of_rows, order_of_written, are_taken, AnswersOrder, ordered}
+use Rattle.options.specs.Order.{Counts, proxies_of, start_of, started_at, are_good, counts_of, patterns_of, directories_of, domains_of, expressions_of, fields_of, login_by, login_of, password_of, user_of, order_of_rows, order_of_written, are_taken, AnswersOrder, ordered}
 use Rattle.requests.specs.Fields.{Sent}
 use Rattle.requests.specs.Proxies.{Proxies}
 use Rattle.options.specs.inner.Order.{Both, StartsAt, FailsToStart, FailsToFilter, Settles, fault_of_kind}
@@ -40,13 +40,16 @@ fails-why found why is = (refl, λ next. ap (λ r. started_at r next) is)
 -- ---- the lists
 
 pub fails-patterns : (found : List Row) → patterns_of found ≡ None → FailsToFilter found fault.Pattern
-fails-patterns found none = (refl, λ next. rw none refl)
+fails-patterns found none = λ next. rw none refl
 
 pub fails-directories : (found : List Row) (p : Both) → patterns_of found ≡ Some p → directories_of found ≡ None → FailsToFilter found fault.Directory
-fails-directories found p patterns none = (refl, λ next. rw (patterns, none) refl)
+fails-directories found p patterns none = λ next. rw (patterns, none) refl
 
 pub fails-domains : (found : List Row) (p d : Both) → patterns_of found ≡ Some p → directories_of found ≡ Some d → domains_of found ≡ None → FailsToFilter found fault.Domain
-fails-domains found p d patterns directories none = (refl, λ next. rw (patterns, directories, none) refl)
+fails-domains found p d patterns directories none = λ next. rw (patterns, directories, none) refl
+
+pub fails-expressions : (found : List Row) (p d h : Both) (why : LineFault) → patterns_of found ≡ Some p → directories_of found ≡ Some d → domains_of found ≡ Some h → expressions_of found ≡ None → without_kind why ≡ fault.Expression 0 → FailsToFilter found why
+fails-expressions found p d h why patterns directories domains none kind = λ next. rw (patterns, directories, domains, none, kind) refl
 
 -- ---- the stages of an order
 
@@ -82,17 +85,17 @@ pub bad-level : (found : List Row) (n : Counts) (x : Proxies) (m : Naming) (s : 
 unfolding order_of_rows
 bad-level found n x m s w r settles level = rw (settles.words, settles.counted, settles.treated, settles.named, settles.retried, settles.proxied, settles.fielded, level) refl
 
-pub bad-filters : (found : List Row) (n : Counts) (x : Proxies) (m : Naming) (s : Sent) (w : Mannered) (r : Retried) (l : Limit) (why : LineFault) → Settles found n x m s w r → level_of found ≡ Some l → FailsToFilter found why → order_of_rows found ≡ Err why
+pub bad-filters : (found : List Row) (n : Counts) (x : Proxies) (m : Naming) (s : Sent) (w : Mannered) (r : Retried) (l : Limit) (why : LineFault) → Settles found n x m s w r → level_of found ≡ Some l → FailsToFilter found why → order_of_rows found ≡ Err (without_kind why)
 unfolding order_of_rows
-bad-filters found n x m s w r l why settles level fails = rw (settles.words, settles.counted, settles.treated, settles.named, settles.retried, settles.proxied, settles.fielded, level) (fails.1 _)
+bad-filters found n x m s w r l why settles level fails = rw (settles.words, settles.counted, settles.treated, settles.named, settles.retried, settles.proxied, settles.fielded, level) (fails _)
 
-pub bad-start : (found : List Row) (n : Counts) (x : Proxies) (m : Naming) (s : Sent) (w : Mannered) (r : Retried) (l : Limit) (p d h : List (List ℕ) × List (List ℕ)) (why : LineFault) → Settles found n x m s w r → level_of found ≡ Some l → patterns_of found ≡ Some p → directories_of found ≡ Some d → domains_of found ≡ Some h → FailsToStart found why → order_of_rows found ≡ Err why
+pub bad-start : (found : List Row) (n : Counts) (x : Proxies) (m : Naming) (s : Sent) (w : Mannered) (r : Retried) (l : Limit) (p d h e : List (List ℕ) × List (List ℕ)) (why : LineFault) → Settles found n x m s w r → level_of found ≡ Some l → patterns_of found ≡ Some p → directories_of found ≡ Some d → domains_of found ≡ Some h → expressions_of found ≡ Some e → FailsToStart found why → order_of_rows found ≡ Err why
 unfolding order_of_rows
-bad-start found n x m s w r l p d h why settles level patterns directories domains fails = rw (settles.words, settles.counted, settles.treated, settles.named, settles.retried, settles.proxied, settles.fielded, level, patterns, directories, domains) (fails.1 _)
+bad-start found n x m s w r l p d h e why settles level patterns directories domains expressions fails = rw (settles.words, settles.counted, settles.treated, settles.named, settles.retried, settles.proxied, settles.fielded, level, patterns, directories, domains, expressions) (fails.1 _)
 
-pub good-order : (found : List Row) (n : Counts) (x : Proxies) (m : Naming) (s : Sent) (w : Mannered) (r : Retried) (l : Limit) (p d h : List (List ℕ) × List (List ℕ)) (start : List ℕ) → Settles found n x m s w r → level_of found ≡ Some l → patterns_of found ≡ Some p → directories_of found ≡ Some d → domains_of found ≡ Some h → StartsAt found start → order_of_rows found ≡ Ok (ordered found n x m s w r l p d h start)
+pub good-order : (found : List Row) (n : Counts) (x : Proxies) (m : Naming) (s : Sent) (w : Mannered) (r : Retried) (l : Limit) (p d h e : List (List ℕ) × List (List ℕ)) (start : List ℕ) → Settles found n x m s w r → level_of found ≡ Some l → patterns_of found ≡ Some p → directories_of found ≡ Some d → domains_of found ≡ Some h → expressions_of found ≡ Some e → StartsAt found start → order_of_rows found ≡ Ok (ordered found n x m s w r l p d h e start)
 unfolding order_of_rows
-good-order found n x m s w r l p d h start settles level patterns directories domains starts = rw (settles.words, settles.counted, settles.treated, settles.named, settles.retried, settles.proxied, settles.fielded, level, patterns, directories, domains) (starts _)
+good-order found n x m s w r l p d h e start settles level patterns directories domains expressions starts = rw (settles.words, settles.counted, settles.treated, settles.named, settles.retried, settles.proxied, settles.fielded, level, patterns, directories, domains, expressions) (starts _)
 
 -- ---- credentials
 

@@ -39,7 +39,8 @@ forms : map forms_of table ≡ (codes "r", codes "recursive", None) ∷ (codes "
     ∷ (codes "np", codes "no-parent", None) ∷ (codes "H", codes "span-hosts", None) ∷ (codes "D", codes "domains", Some (codes "LIST"))
     ∷ ([], codes "exclude-domains", Some (codes "LIST")) ∷ (codes "I", codes "include-directories", Some (codes "LIST"))
     ∷ (codes "X", codes "exclude-directories", Some (codes "LIST")) ∷ (codes "A", codes "accept", Some (codes "LIST"))
-    ∷ (codes "R", codes "reject", Some (codes "LIST")) ∷ ([], codes "ignore-case", None) ∷ (codes "e", codes "execute", Some (codes "COMMAND"))
+    ∷ (codes "R", codes "reject", Some (codes "LIST")) ∷ ([], codes "accept-regex", Some (codes "REGEX")) ∷ ([], codes "reject-regex", Some (codes "REGEX"))
+    ∷ ([], codes "ignore-case", None) ∷ (codes "e", codes "execute", Some (codes "COMMAND"))
     ∷ ([], codes "no-robots", None) ∷ ([], codes "workers", Some (codes "N")) ∷ ([], codes "per-host", Some (codes "N"))
     ∷ ([], codes "no-http-keep-alive", None) ∷ (codes "U", codes "user-agent", Some (codes "AGENT")) ∷ ([], codes "header", Some (codes "LINE"))
     ∷ ([], codes "referer", Some (codes "URL")) ∷ ([], codes "no-cache", None) ∷ ([], codes "user", Some (codes "USER"))
@@ -62,7 +63,7 @@ forms : map forms_of table ≡ (codes "r", codes "recursive", None) ∷ (codes "
     ∷ ([], codes "save", Some (codes "FILE")) ∷ (codes "nv", codes "no-verbose", None) ∷ ([], codes "no-cookies", None) ∷ ([], codes "no-hsts", None)
     ∷ ([], codes "no-config", None) ∷ ([], codes "no-netrc", None) ∷ ([], codes "unlink", None) ∷ ([], codes "no-remove-listing", None)
     ∷ ([], codes "show-progress", None) ∷ ([], codes "no-xattr", None) ∷ ([], codes "no-strict-comments", None) ∷ ([], codes "no-follow-ftp", None)
-    ∷ ([], codes "progress", Some (codes "TYPE")) ∷ ([], codes "compression", Some (codes "none")) ∷ []
+    ∷ ([], codes "progress", Some (codes "TYPE")) ∷ ([], codes "compression", Some (codes "none")) ∷ ([], codes "regex-type", Some (codes "TYPE")) ∷ []
 unfolding table
 forms = refl
 

@@ -93,6 +93,9 @@ told_on line.Directory =
 told_on line.Domain =
     Some (Correction (codes "an element of -D, --domains or --exclude-domains is no domain")
     (codes "an element is letters, digits, -, _ and dots, as example.org (see wgetr --help)"))
+told_on (line.Expression at) =
+    Some (Correction (codes "the value of --accept-regex or --reject-regex is no expression")
+    (codes "an expression is looked for in addresses, as [?]C= or [.]pdf$ (see wgetr --help)"))
 told_on (line.Start why) = option_map (λ wrong. Correction wrong accepted_start) (wrong_start why)
 told_on line.StartIsRobots = Some (Correction (codes "START is a robots file") (codes "START is any other page (see wgetr --help)"))
 told_on line.FarProxy =

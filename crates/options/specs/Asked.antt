@@ -77,7 +77,8 @@ refusal_by (Some wish) = wish_fault wish
 abbrev pub refusal_of : Text → LineFault
 refusal_of word = refusal_by (wish_of word)
 
--- the fault, but for the kind of refused words; words that ask keep theirs
+-- the fault, but for the kind of refused words and the place in an expression; words that ask keep their kind
 abbrev pub without_kind : LineFault → LineFault
 without_kind (fault.Words why) = if is_asking why then fault.Words why else words_refused
+without_kind (fault.Expression at) = fault.Expression 0
 without_kind other = other

@@ -1,5 +1,5 @@
 -- What was likely meant by words that are refused.
-use Rattle.std.specs.Prelude.{◌&&◌, ◌||◌, ◌==◌, ◌++◌, ℕ, Bool, true, false, not, List, [], ◌∷◌, Option, Some, None, Ok, Err, Result, bytes_eq, codes, length, nat_eq, nat_le, nat_lt, unwrap_or, if◌then◌else◌}
+use Rattle.std.specs.Prelude.{◌&&◌, ◌||◌, ◌==◌, ◌++◌, ℕ, Bool, true, false, not, List, [], ◌∷◌, Option, Some, None, Ok, Err, Result, bytes_eq, codes, decimal, length, nat_eq, nat_le, nat_lt, unwrap_or, if◌then◌else◌}
 use Rattle.std.specs.List.{after_first, before_first, find, flat_map, list_any, starts_with}
 use Rattle.std.specs.Option.{option_map_or}
 use Rattle.std.specs.Str.{chars}
@@ -175,6 +175,12 @@ lines_hint_on (Some lines) = lines_hint lines
 abbrev pub header_hint : List Text → Text
 header_hint words = lines_hint_on (value_from (codes "header") true None (sayings words))
 
+-- ---- what is said of expressions
+
+-- where one goes wrong: so many bytes before it are good
+abbrev pub place_hint : ℕ → Text
+place_hint at = codes ", at offset " ++ decimal at
+
 -- ---- what is said of a fault
 
 -- of words that are refused for this kind
@@ -189,4 +195,5 @@ hint_on (line.Words why) words = kind_hint why words
 hint_on (line.Start refused.NotUrl) words = start_hint words
 hint_on (line.Start refused.NotHttp) words = start_hint words
 hint_on line.Header words = header_hint words
+hint_on (line.Expression at) words = place_hint at
 hint_on other words = []

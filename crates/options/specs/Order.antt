@@ -30,6 +30,7 @@ use Rattle.options.specs.Manners.{manner_of}
 use Rattle.pacing.specs.Retries.{Retried, retries_by}
 use Rattle.options.specs.Retries.{retries_of}
 use Rattle.options.specs.Naming.{Naming, naming_by, naming_of}
+use Rattle.options.specs.Sought.{expressions_by, is_type}
 use Rattle.requests.specs.Fields.{Sent, login_of as login_value_of, read_fields}
 use Rattle.requests.specs.declared.fields.FieldsFault.{FieldsFault}
 use Rattle.requests.specs.declared.fields.FieldsFault.TheVariants as unsent
@@ -47,9 +48,9 @@ abbrev pub is_plain_value : Option Text → Bool
 is_plain_value None = true
 is_plain_value (Some value) = bytes_eq value (codes "none")
 
--- `--compression` has a value that it may have
+-- `--compression` and `--regex-type` have values that they may have
 unfoldable pub are_good : List Row → Bool
-are_good found = is_plain_value (first_of (codes "compression") found)
+are_good found = is_plain_value (first_of (codes "compression") found) && is_type (first_of (codes "regex-type") found)
 
 -- ---- the order
 
@@ -67,6 +68,8 @@ pub record Ordered : Type 0 where
   pub exclude_dirs : List (List ℕ)
   pub accept : List (List ℕ)
   pub reject : List (List ℕ)
+  pub accept_expressions : List (List ℕ)
+  pub reject_expressions : List (List ℕ)
   pub ignore_case : Bool
   pub robots : Bool
   pub page_requisites : Bool
@@ -157,6 +160,12 @@ proxy_by (Some value) = if_proxy (proxy_at value)
 abbrev pub unless_empty : Option Text → Option Text
 unless_empty None = None
 unless_empty (Some value) = if length value == 0 then None else Some value
+
+-- the expressions that are found in what is followed, and that aren't; an empty value is none
+unfoldable pub expressions_of : List Row → Option (List (List ℕ) × List (List ℕ))
+expressions_of found =
+    both (expressions_by (is_set (codes "ignore-case") found) (unless_empty (first_of (codes "accept-regex") found)))
+    (expressions_by (is_set (codes "ignore-case") found) (unless_empty (first_of (codes "reject-regex") found)))
 
 -- the value that names a proxy by this option, unless none is to be asked; an empty one names none
 abbrev pub proxy_value : Text → List Row → Option Text
@@ -281,10 +290,10 @@ prefix_of found = folder_of (first_of (codes "directory-prefix") found)
 unfoldable pub log_of : List Row → Option (Text × Bool)
 log_of found = option_map (λ path. (path, is_some (first_of (codes "append-output") found))) (first_of (codes "output-file") found)
 
--- what the options order with these numbers, these proxies, these names, these fields, this manner, these retries, this level, these lists and this start; without `-r` no link is followed and
+-- what the options order with these numbers, these proxies, these names, these fields, this manner, these retries, this level, these lists, these expressions and this start; without `-r` no link is followed and
 -- no robots file is honoured
-abbrev pub ordered : List Row → Counts → Proxies → Naming → Sent → Mannered → Retried → Limit → (patterns directories domains : List (List ℕ) × List (List ℕ)) → List ℕ → Ordered
-ordered found counts proxies names fields manner retries level patterns directories domains start = record {
+abbrev pub ordered : List Row → Counts → Proxies → Naming → Sent → Mannered → Retried → Limit → (patterns directories domains expressions : List (List ℕ) × List (List ℕ)) → List ℕ → Ordered
+ordered found counts proxies names fields manner retries level patterns directories domains expressions start = record {
   start = start;
   others = [];
   logins = [];
@@ -297,6 +306,8 @@ ordered found counts proxies names fields manner retries level patterns director
   exclude_dirs = directories.1;
   accept = patterns.0;
   reject = patterns.1;
+  accept_expressions = expressions.0;
+  reject_expressions = expressions.1;
   ignore_case = is_set (codes "ignore-case") found;
   robots = honours_robots found;
   page_requisites = is_set (codes "page-requisites") found;
@@ -334,7 +345,8 @@ order_of_rows found =
     found_or (patterns_of found) fault.Pattern (λ patterns.
     found_or (directories_of found) fault.Directory (λ directories.
     found_or (domains_of found) fault.Domain (λ domains.
-    started_at (start_of found) (λ start. Ok (ordered found counts proxies names fields manner retries level patterns directories domains start))))))))))))
+    found_or (expressions_of found) (fault.Expression 0) (λ expressions.
+    started_at (start_of found) (λ start. Ok (ordered found counts proxies names fields manner retries level patterns directories domains expressions start)))))))))))))
 
 -- words with no kind of refusal are taken
 abbrev pub are_taken : Kinds → Bool
@@ -447,6 +459,8 @@ ordered_by order = record {
   exclude_dirs = order.plan.exclude_dirs;
   accept = order.plan.accept;
   reject = order.plan.reject;
+  accept_expressions = order.plan.accept_expressions;
+  reject_expressions = order.plan.reject_expressions;
   ignore_case = order.plan.ignore_case;
   robots = order.plan.robots;
   page_requisites = order.plan.page_requisites;

@@ -5,3 +5,4 @@ pub mod Said
 pub mod Line
 pub mod Order
 pub mod Advice
+pub mod Sought

@@ -124,6 +124,10 @@ fn advice_on(wrong: LineFault) -> Option<Advice>
             "an element of -D, --domains or --exclude-domains is no domain",
             "an element is letters, digits, -, _ and dots, as example.org (see wgetr --help)",
         )),
+        LineFault::Expression(_) => Some(Advice::Correction(
+            "the value of --accept-regex or --reject-regex is no expression",
+            "an expression is looked for in addresses, as [?]C= or [.]pdf$ (see wgetr --help)",
+        )),
         LineFault::Start(refused) => Some(Advice::Correction(wrong_start(refused)?, START)),
         LineFault::StartIsRobots => Some(Advice::Correction(
             "START is a robots file",

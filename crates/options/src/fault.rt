@@ -32,6 +32,8 @@ pub enum LineFault {
     Directory,
     /// An element of the lists of domains is no domain.
     Domain,
+    /// The value of `--accept-regex` or `--reject-regex` is no expression, from this byte on.
+    Expression(usize),
     /// The start is no address.
     Start(AddressFault),
     /// The start is its origin's robots file.

@@ -1,7 +1,7 @@
 //! What was likely meant by words that are refused.
 ghost use Rattle.std.specs.Prelude.{◌≡◌, ◌≢◌, ◌++◌, Err, codes, IfOk, OnOk, length, map, option_map, string_bytes};
 ghost use Rattle.std.specs.List.{find, list_any};
-ghost use Rattle.options.specs.Hints.{address_text, advice_in, first_near, foreign_text, foreign_with, form_hint, form_of, forms_text, front_hint, has_scheme, header_hint, hint_on, is_form_of, is_no_start, is_known, is_near, is_own, kind_hint, line_text, lines_hint, long_hint, name_hint, near_text, nearest, scheme_hint, several_text, start_hint, unread_hint, words_hint};
+ghost use Rattle.options.specs.Hints.{address_text, advice_in, first_near, foreign_text, foreign_with, form_hint, form_of, forms_text, front_hint, has_scheme, header_hint, hint_on, is_form_of, is_no_start, is_known, is_near, is_own, kind_hint, line_text, lines_hint, long_hint, name_hint, near_text, nearest, scheme_hint, several_text, start_hint, unread_hint, words_hint, place_hint};
 ghost use Rattle.options.specs.inner.Said.{meaning_in};
 ghost use Rattle.options.specs.inner.Table.{instead_in, row_in};
 ghost use Rattle.address.specs.declared.fault.AddressFault.TheVariants as address_fault;
@@ -364,6 +364,13 @@ fn header_hint(alloc: Global, words: &[&str]) -> Result<String, AllocError>
     }
 }
 
+// Where an expression goes wrong: so many bytes before it are good.
+fn place_hint(alloc: Global, at: usize) -> Result<String, AllocError>
+    ensures { IfOk result (λ text. string_bytes text ≡ place_hint at) }
+{
+    format!(in alloc; ", at offset {at}")
+}
+
 /// What was likely meant by words that are no order, as ` (did you mean http://h/?)`; empty where nothing is known of it.
 pub(crate) fn hint_on(alloc: Global, fault: LineFault, words: &[&str]) -> Result<String, AllocError>
     ensures { IfOk result (λ text. string_bytes text ≡ hint_on fault (map (λ word. word.now) words.now)) }
@@ -372,6 +379,7 @@ pub(crate) fn hint_on(alloc: Global, fault: LineFault, words: &[&str]) -> Result
         LineFault::Words(kind) => kind_hint(alloc, kind, words),
         LineFault::Start(AddressFault::NotUrl | AddressFault::NotHttp) => start_hint(alloc, words),
         LineFault::Header => header_hint(alloc, words),
+        LineFault::Expression(at) => place_hint(alloc, at),
         _ => Ok(String::new(alloc)),
     }
 }

@@ -22,6 +22,7 @@ mod others;
 mod read;
 mod retries;
 mod said;
+mod sought;
 mod start;
 mod table;
 mod trust;

@@ -165,6 +165,8 @@ fn with_starts(plan: Plan, others: Starts) -> Plan
     ensures exclude_dirs { result.exclude_dirs ≡ plan.exclude_dirs }
     ensures accept { result.accept ≡ plan.accept }
     ensures reject { result.reject ≡ plan.reject }
+    ensures accept_expressions { result.accept_expressions ≡ plan.accept_expressions }
+    ensures reject_expressions { result.reject_expressions ≡ plan.reject_expressions }
     ensures ignore_case { result.ignore_case ≡ plan.ignore_case }
     ensures robots { result.robots ≡ plan.robots }
     ensures page_requisites { result.page_requisites ≡ plan.page_requisites }
@@ -185,6 +187,8 @@ fn with_starts(plan: Plan, others: Starts) -> Plan
         exclude_dirs,
         accept,
         reject,
+        accept_expressions,
+        reject_expressions,
         ignore_case,
         robots,
         page_requisites,
@@ -204,6 +208,8 @@ fn with_starts(plan: Plan, others: Starts) -> Plan
         exclude_dirs,
         accept,
         reject,
+        accept_expressions,
+        reject_expressions,
         ignore_case,
         robots,
         page_requisites,

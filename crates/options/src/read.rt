@@ -14,7 +14,7 @@ ghost use Rattle.options.specs.Given.{level_of, list_of};
 ghost use Rattle.pacing.specs.Manners.{mannered};
 ghost use Rattle.pacing.specs.Retries.{retries_by};
 ghost use Rattle.options.specs.Naming.{naming_by};
-ghost use Rattle.options.specs.Order.{AnswersOrder, OrdersBySayings, order_of, order_of_rows, order_of_written, order_said, are_good, is_plain_value, both, counts_of, patterns_of, directories_of, domains_of, fields_fault, fields_of, fields_with, logged, login_by, login_of, login_with, password_of, said_or, start_of, source_of, user_of, honours_robots, limit_within, ordered, ordered_by, folder_of, guarded, prefix_of, log_by, log_of, both_proxies, proxies_of, proxy_at, proxy_by, proxy_value, read_start, root_origin, unless_empty, with_others};
+ghost use Rattle.options.specs.Order.{AnswersOrder, OrdersBySayings, order_of, order_of_rows, order_of_written, order_said, are_good, is_plain_value, both, counts_of, patterns_of, directories_of, domains_of, expressions_of, fields_fault, fields_of, fields_with, logged, login_by, login_of, login_with, password_of, said_or, start_of, source_of, user_of, honours_robots, limit_within, ordered, ordered_by, folder_of, guarded, prefix_of, log_by, log_of, both_proxies, proxies_of, proxy_at, proxy_by, proxy_value, read_start, root_origin, unless_empty, with_others};
 ghost use Rattle.options.specs.Asked.{refusal_of, without_kind, words_refused};
 ghost use Rattle.options.specs.inner.Said.{saying_in};
 ghost use Rattle.options.specs.inner.Order.{StartsAt, FailsToStart, FailsToFilter, IsNoStart, Settles, fault_of_kind, unasked};
@@ -35,6 +35,7 @@ use crate::order::{
 use crate::others::with_others;
 use crate::retries::retries;
 use crate::said::{Saying, sayings};
+use crate::sought::{Sought, is_type, read_sought};
 use crate::trust::guarded;
 use crate::written::{first_unread, starts, written};
 use address::{Address, AddressFault, Origin};
@@ -88,12 +89,13 @@ struct Lists<T> {
     excluded: Elements<T>,
 }
 
-// The lists of names, directories and hosts.
+// The lists of names, directories and hosts, and the expressions.
 #[derive(Drop)]
 struct Filters {
     names: Lists<Pattern>,
     places: Lists<Directory>,
     hosts: Lists<Domain>,
+    sought: Sought,
 }
 
 // Whether the value of `--compression` is one that it may have.
@@ -106,13 +108,13 @@ fn is_plain_value(value: Option<&str>) -> bool
     }
 }
 
-// What is wrong with words that `clap` takes: an encoding of bodies is asked for.
+// What is wrong with words that `clap` takes: an encoding of bodies is asked for, or a kind of expressions that isn't known.
 #[tactic(auto, unfolding(crate::specs::Order::are_good))]
 fn word_fault(matches: &ArgMatches) -> Option<LineFault>
     ensures good { is_none result ≡ are_good (rows_of (found_of matches.now)) }
     ensures refused { IfSome result (λ f. f ≡ words_refused) }
 {
-    if is_plain_value(given(matches, "compression")) {
+    if is_plain_value(given(matches, "compression")) && is_type(given(matches, "regex-type")) {
         None
     } else {
         Some(LineFault::Words(ErrorKind::InvalidValue))
@@ -190,13 +192,14 @@ fn domains(alloc: Global, matches: &ArgMatches) -> Result<Lists<Domain>, LineFau
     )
 }
 
-// The lists, or the fault of the first that is bad. Here and in `order_of_matches` an exit lets go of what was read by calls, since
+// The lists and expressions, or the fault of the first that is bad. Here and in `order_of_matches` an exit lets go of what was read by calls, since
 // what it lets go itself is proved anew at each exit.
 fn read_filters(alloc: Global, matches: &ArgMatches) -> Result<Filters, LineFault>
     ensures { MatchResult result
         (λ l. (patterns_of (rows_of (found_of matches.now)) ≡ Some (l.names.given, l.names.excluded))
         × (directories_of (rows_of (found_of matches.now)) ≡ Some (l.places.given, l.places.excluded))
-        × (domains_of (rows_of (found_of matches.now)) ≡ Some (l.hosts.given, l.hosts.excluded)))
+        × (domains_of (rows_of (found_of matches.now)) ≡ Some (l.hosts.given, l.hosts.excluded))
+        × (expressions_of (rows_of (found_of matches.now)) ≡ Some (l.sought.accepted, l.sought.rejected)))
         (λ f. FailsToFilter (rows_of (found_of matches.now)) f ⊎ (f ≡ fault.Memory)) }
 {
     let names = match patterns(alloc, matches) {
@@ -218,10 +221,20 @@ fn read_filters(alloc: Global, matches: &ArgMatches) -> Result<Filters, LineFaul
             return Err(fault);
         }
     };
+    let sought = match read_sought(alloc, matches) {
+        Ok(sought) => sought,
+        Err(fault) => {
+            drop(names);
+            drop(places);
+            drop(hosts);
+            return Err(fault);
+        }
+    };
     Ok(Filters {
         names,
         places,
         hosts,
+        sought,
     })
 }
 
@@ -278,7 +291,7 @@ fn read_by(alloc: Global, by_proxy: bool, text: &str) -> Result<Address, Address
 }
 
 // A value that isn't empty.
-fn unless_empty(value: Option<&str>) -> Option<&str>
+pub(crate) fn unless_empty(value: Option<&str>) -> Option<&str>
     ensures { option_map (λ s. s.now) result ≡ unless_empty (option_map (λ s. s.now) value.entry) }
 {
     match value {
@@ -701,7 +714,7 @@ fn filled(
     requires save { paths.save ≡ first_of (codes "save") (rows_of (found_of matches.now)) }
     requires log { option_map log_by paths.log ≡ log_of (rows_of (found_of matches.now)) }
     ensures { ordered_by result ≡ ordered (rows_of (found_of matches.now)) (record { workers = settings.counts.workers; per_host = settings.counts.per_host; max_urls = settings.counts.max_urls })
-        settings.proxies (naming_by settings.names) settings.fields (mannered settings.manner) (retries_by settings.retries) level (filters.names.given, filters.names.excluded) (filters.places.given, filters.places.excluded) (filters.hosts.given, filters.hosts.excluded) start }
+        settings.proxies (naming_by settings.names) settings.fields (mannered settings.manner) (retries_by settings.retries) level (filters.names.given, filters.names.excluded) (filters.places.given, filters.places.excluded) (filters.hosts.given, filters.hosts.excluded) (filters.sought.accepted, filters.sought.rejected) start }
 {
     let Settings {
         counts,
@@ -715,6 +728,7 @@ fn filled(
         names,
         places,
         hosts,
+        sought,
     } = filters;
     Order {
         plan: Plan {
@@ -729,6 +743,8 @@ fn filled(
             exclude_dirs: places.excluded,
             accept: names.given,
             reject: names.excluded,
+            accept_expressions: sought.accepted,
+            reject_expressions: sought.rejected,
             ignore_case: is_set(matches, "ignore-case"),
             robots: honours_robots(matches),
             page_requisites: is_set(matches, "page-requisites"),

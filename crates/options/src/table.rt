@@ -42,7 +42,7 @@ pub(crate) struct Row<T> {
 }
 
 /// The options.
-const TABLE: [Row<&str>; 85] = [
+const TABLE: [Row<&str>; 88] = [
     Row {
         short: "r",
         name: "recursive",
@@ -136,10 +136,24 @@ const TABLE: [Row<&str>; 85] = [
     },
     Row {
         short: "",
+        name: "accept-regex",
+        kind: Kind::Value("REGEX"),
+        heading: "",
+        says: "only addresses in which REGEX is found",
+    },
+    Row {
+        short: "",
+        name: "reject-regex",
+        kind: Kind::Value("REGEX"),
+        heading: "",
+        says: "no addresses in which REGEX is found",
+    },
+    Row {
+        short: "",
         name: "ignore-case",
         kind: Kind::Flag,
         heading: "",
-        says: "letters of -A, -R, -I and -X in either case",
+        says: "letters of all these in either case",
     },
     Row {
         short: "e",
@@ -638,6 +652,13 @@ const TABLE: [Row<&str>; 85] = [
         heading: "",
         says: "bodies are asked for as they are",
     },
+    Row {
+        short: "",
+        name: "regex-type",
+        kind: Kind::Value("TYPE"),
+        heading: "",
+        says: "posix and pcre are read alike",
+    },
 ];
 
 const ROWS: &[Row<&str>] = &TABLE;
@@ -928,7 +949,7 @@ pub(crate) struct Instead<T> {
 }
 
 /// What to do in place of Wget's options, if there is something. None of these forms is read.
-const INSTEAD: [Instead<&str>; 75] = [
+const INSTEAD: [Instead<&str>; 73] = [
     Instead {
         form: "--background",
         advice: "& of the shell, or nohup",
@@ -1214,14 +1235,6 @@ const INSTEAD: [Instead<&str>; 75] = [
         advice: "-r -l inf, and --save FILE and --resume FILE for -N",
     },
     Instead {
-        form: "--accept-regex",
-        advice: "-A and -I have wildcards",
-    },
-    Instead {
-        form: "--reject-regex",
-        advice: "-R and -X have wildcards",
-    },
-    Instead {
         form: "--relative",
         advice: "without -H links stay on their host",
     },
@@ -1286,10 +1299,14 @@ pub(crate) struct Command<T> {
 }
 
 /// The commands of wgetrc whose options are here.
-const COMMANDS: [Command<&str>; 68] = [
+const COMMANDS: [Command<&str>; 71] = [
     Command {
         name: "accept",
         option: "accept",
+    },
+    Command {
+        name: "acceptregex",
+        option: "accept-regex",
     },
     Command {
         name: "addhostdir",
@@ -1480,8 +1497,16 @@ const COMMANDS: [Command<&str>; 68] = [
         option: "referer",
     },
     Command {
+        name: "regextype",
+        option: "regex-type",
+    },
+    Command {
         name: "reject",
         option: "reject",
+    },
+    Command {
+        name: "rejectregex",
+        option: "reject-regex",
     },
     Command {
         name: "removelisting",

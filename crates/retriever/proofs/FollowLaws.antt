@@ -56,6 +56,8 @@ pub record IsPlanOfPart (p q : Plan) : Type 0 where
   pub exclude_dirs : p.exclude_dirs ≡ q.exclude_dirs
   pub accept : p.accept ≡ q.accept
   pub reject : p.reject ≡ q.reject
+  pub accept_expressions : p.accept_expressions ≡ q.accept_expressions
+  pub reject_expressions : p.reject_expressions ≡ q.reject_expressions
   pub ignore_case : p.ignore_case ≡ q.ignore_case
 
 -- an edge that doesn't meet the rule on hosts isn't followed
@@ -63,7 +65,7 @@ refused : (plan : Plan) (page : List ℕ) (kind : EdgeKind) (address : List ℕ)
 unfolding follows_of
 refused plan page kind address unmet =
     and_right (meets rule.RobotsFile plan page kind address) _
-    (ap (λ b. b && list_all (λ r. meets r plan page kind address) (rule.Parent ∷ rule.Domain ∷ rule.ExcludedDomain ∷ rule.NotIncluded ∷ rule.Excluded ∷ rule.NotAccepted ∷ rule.Rejected ∷ [])) unmet)
+    (ap (λ b. b && list_all (λ r. meets r plan page kind address) (rule.Parent ∷ rule.Domain ∷ rule.ExcludedDomain ∷ rule.NotIncluded ∷ rule.Excluded ∷ rule.NotAccepted ∷ rule.Rejected ∷ rule.ExpressionMissing ∷ rule.ExpressionFound ∷ [])) unmet)
 
 -- nor does one that leaves its page's host, if none is spanned
 leaves : (plan : Plan) (page : List ℕ) (kind : EdgeKind) (address : List ℕ) → plan.span_hosts ≡ false → plan.span_requisites ≡ false → has_host_of address page ≡ false → meets rule.Host plan page kind address ≡ false
@@ -107,6 +109,8 @@ module _ (p q : Plan) (part : IsPlanOfPart p q) (start address : List ℕ) (mine
   meets_of_part page kind rule.Excluded = rw (part.exclude_dirs, part.ignore_case) refl
   meets_of_part page kind rule.NotAccepted = rw (part.accept, part.ignore_case) refl
   meets_of_part page kind rule.Rejected = rw (part.reject, part.ignore_case) refl
+  meets_of_part page kind rule.ExpressionMissing = rw part.accept_expressions refl
+  meets_of_part page kind rule.ExpressionFound = rw part.reject_expressions refl
 
 -- of a page on the host of one of its starts the part follows the same edges
 pub follows_of_part : (p q : Plan) (start page : List ℕ) (kind : EdgeKind) (address : List ℕ) → IsPlanOfPart p q → Contains (starts q) start → host_of page ≡ host_of start → follows_of p page kind address ≡ follows_of q page kind address

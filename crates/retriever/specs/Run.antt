@@ -63,6 +63,7 @@ line_words line.Fields = codes "line words"
 line_words line.FarProxy = codes "line words"
 line_words line.Depth = codes "line depth"
 line_words line.Pattern = codes "line pattern"
+line_words (line.Expression at) = codes "line pattern"
 line_words line.Directory = codes "line directory"
 line_words line.Domain = codes "line domain"
 line_words (line.Start refused) = start_words refused

@@ -86,7 +86,7 @@ fn line_words(wrong: LineFault) -> &'static str
         | LineFault::Header
         | LineFault::Fields => "line words",
         LineFault::Depth => "line depth",
-        LineFault::Pattern => "line pattern",
+        LineFault::Pattern | LineFault::Expression(_) => "line pattern",
         LineFault::Directory => "line directory",
         LineFault::Domain => "line domain",
         LineFault::Start(refused) => start_words(refused),

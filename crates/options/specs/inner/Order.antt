@@ -13,7 +13,7 @@ use Rattle.options.specs.Manners.{manner_of}
 use Rattle.pacing.specs.Retries.{Retried}
 use Rattle.options.specs.Retries.{retries_of}
 use Rattle.options.specs.Naming.{Naming, naming_of}
-use Rattle.options.specs.Order.{Counts, Ordered, are_good, counts_of, proxies_of, patterns_of, directories_of, domains_of, fields_of, start_of, started_at, found_or}
+use Rattle.options.specs.Order.{Counts, Ordered, are_good, counts_of, proxies_of, patterns_of, directories_of, domains_of, expressions_of, fields_of, start_of, started_at, found_or}
 use Rattle.requests.specs.Fields.{Sent}
 use Rattle.requests.specs.Proxies.{Proxies}
 
@@ -46,16 +46,17 @@ pub record Settles (found : List Row) (counts : Counts) (proxies : Proxies) (nam
 abbrev pub Both : Type 0
 Both = List (List ℕ) × List (List ℕ)
 
--- what follows from the lists of names, directories and hosts, or the fault of the first that is bad
-abbrev pub filtered : List Row → (Both → Both → Both → Result Ordered LineFault) → Result Ordered LineFault
+-- what follows from the lists of names, directories and hosts and from expressions, or the fault of the first that is bad
+abbrev pub filtered : List Row → (Both → Both → Both → Both → Result Ordered LineFault) → Result Ordered LineFault
 filtered found next =
     found_or (patterns_of found) fault.Pattern (λ patterns.
     found_or (directories_of found) fault.Directory (λ directories.
-    found_or (domains_of found) fault.Domain (λ domains. next patterns directories domains)))
+    found_or (domains_of found) fault.Domain (λ domains.
+    found_or (expressions_of found) (fault.Expression 0) (λ expressions. next patterns directories domains expressions))))
 
 -- the options filter nothing, for this fault
 abbrev pub FailsToFilter : List Row → LineFault → Type 0
-FailsToFilter found why = (without_kind why ≡ why) × ((next : Both → Both → Both → Result Ordered LineFault) → filtered found next ≡ Err why)
+FailsToFilter found why = (next : Both → Both → Both → Both → Result Ordered LineFault) → filtered found next ≡ Err (without_kind why)
 
 -- what is wrong with words that ask for nothing
 abbrev pub unasked : ErrorKind → LineFault

@@ -17,7 +17,7 @@ returns-in-Err-read_filters c =
     let found = rows_of (found_of c.args.matches.now) in
     let level : level_of found ≡ Some c.in-Some.level = sym c.in-Some.ensures.value in
     ⊎_elim
-    (λ fails. inl (bad-filters found _ _ _ _ _ _ c.in-Some.level c.in-Err-read_filters.fault c.in-Ok.ensures level fails ∙ ap Err (sym fails.0)))
+    (λ fails. inl (bad-filters found _ _ _ _ _ _ c.in-Some.level c.in-Err-read_filters.fault c.in-Ok.ensures level fails))
     (λ memory. inr memory)
     c.in-Err-read_filters.ensures
 
@@ -28,7 +28,7 @@ returns-in-Err-start c =
     let lists = c.in-Ok-read_filters.ensures in
     let f = c.in-Ok-read_filters.filters in
     ⊎_elim
-    (λ fails. inl (bad-start found _ _ _ _ _ _ c.in-Some.level (f.names.given, f.names.excluded) (f.places.given, f.places.excluded) (f.hosts.given, f.hosts.excluded) c.in-Err-start.fault c.in-Ok.ensures level lists.0 lists.1 lists.2 fails ∙ ap Err (sym fails.0)))
+    (λ fails. inl (bad-start found _ _ _ _ _ _ c.in-Some.level (f.names.given, f.names.excluded) (f.places.given, f.places.excluded) (f.hosts.given, f.hosts.excluded) (f.sought.accepted, f.sought.rejected) c.in-Err-start.fault c.in-Ok.ensures level lists.0 lists.1 lists.2 lists.3 fails ∙ ap Err (sym fails.0)))
     (λ memory. inr memory)
     c.in-Err-start.ensures
 
@@ -38,5 +38,5 @@ returns c =
     let level : level_of found ≡ Some c.in-Some.level = sym c.in-Some.ensures.value in
     let lists = c.in-Ok-read_filters.ensures in
     let f = c.in-Ok-read_filters.filters in
-    good-order found _ _ _ _ _ _ c.in-Some.level (f.names.given, f.names.excluded) (f.places.given, f.places.excluded) (f.hosts.given, f.hosts.excluded) c.in-Ok-start.page c.in-Ok.ensures level lists.0 lists.1 lists.2 c.in-Ok-start.ensures.0
+    good-order found _ _ _ _ _ _ c.in-Some.level (f.names.given, f.names.excluded) (f.places.given, f.places.excluded) (f.hosts.given, f.hosts.excluded) (f.sought.accepted, f.sought.rejected) c.in-Ok-start.page c.in-Ok.ensures level lists.0 lists.1 lists.2 lists.3 c.in-Ok-start.ensures.0
     ∙ ap Ok (sym c.filled.ensures)

@@ -1,7 +1,7 @@
 use Rattle.std.proofs.Common.{inl, inr, ⊎_elim, sym, subst}
 use Rattle.clap.specs.Words.{found_of, rows_of}
 use Rattle.options.specs.inner.Order.{FailsToFilter}
-use Rattle.options.proofs.ReadLemmas.{fails-patterns, fails-directories, fails-domains}
+use Rattle.options.proofs.ReadLemmas.{fails-patterns, fails-directories, fails-domains, fails-expressions}
 use Rattle.options.proofs.read.read_filters.Goals as goal
 
 pub returns-in-Err : goal.returns-in-Err
@@ -27,3 +27,11 @@ returns-in-Err-domains c =
     (λ bad. inl (subst (FailsToFilter found) (sym bad.0) (fails-domains found (c.in-Ok.names.given, c.in-Ok.names.excluded) (c.in-Ok-directories.places.given, c.in-Ok-directories.places.excluded) c.in-Ok.ensures c.in-Ok-directories.ensures bad.1)))
     (λ memory. inr memory)
     c.in-Err-domains.ensures
+
+pub returns-in-Err-read_sought : goal.returns-in-Err-read_sought
+returns-in-Err-read_sought c =
+    let found = rows_of (found_of c.args.matches.now) in
+    ⊎_elim
+    (λ bad. inl (fails-expressions found (c.in-Ok.names.given, c.in-Ok.names.excluded) (c.in-Ok-directories.places.given, c.in-Ok-directories.places.excluded) (c.in-Ok-domains.hosts.given, c.in-Ok-domains.hosts.excluded) c.in-Err-read_sought.fault c.in-Ok.ensures c.in-Ok-directories.ensures c.in-Ok-domains.ensures bad.1 bad.0))
+    (λ memory. inr memory)
+    c.in-Err-read_sought.ensures
