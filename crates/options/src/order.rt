@@ -123,6 +123,8 @@ pub struct Order {
     pub keeps_connections: bool,
     /// Where the site is.
     pub source: Source,
+    /// The most bytes of kept bodies before nothing more is requested, if there is a limit.
+    pub quota: Option<u64>,
     /// Whether the trace is shown before the report.
     pub trace: bool,
     /// Whether nothing is told.
@@ -253,6 +255,7 @@ impl Order {
             workers,
             keeps_connections,
             source,
+            quota,
             trace,
             quiet,
             log,
@@ -272,6 +275,7 @@ impl Order {
             workers,
             keeps_connections,
             source,
+            quota,
             trace,
             quiet,
             log,
@@ -297,6 +301,7 @@ impl Order {
             workers,
             keeps_connections,
             source,
+            quota,
             trace,
             quiet,
             log,
@@ -316,6 +321,7 @@ impl Order {
             workers,
             keeps_connections,
             source,
+            quota,
             trace,
             quiet,
             log,

@@ -42,7 +42,7 @@ pub(crate) struct Row<T> {
 }
 
 /// The options.
-const TABLE: [Row<&str>; 85] = [
+const TABLE: [Row<&str>; 86] = [
     Row {
         short: "r",
         name: "recursive",
@@ -343,6 +343,13 @@ const TABLE: [Row<&str>; 85] = [
         kind: Kind::Value("R"),
         heading: "",
         says: "read R bytes a second at most; 20k, 1.5m",
+    },
+    Row {
+        short: "Q",
+        name: "quota",
+        kind: Kind::Value("N"),
+        heading: "",
+        says: "request nothing after N bytes of bodies",
     },
     Row {
         short: "4",
@@ -651,7 +658,7 @@ pub(crate) fn option_rows() -> &'static [Row<&'static str>]
 
 /// The forms of Wget's options: all long ones, in the order of their letters, and the short ones that aren't among the options
 /// above. One of two letters is the first letter's, as `nc`.
-const WGET: [&str; 256] = [
+const WGET: [&str; 255] = [
     "--accept",
     "--accept-regex",
     "--adjust-extension",
@@ -902,7 +909,6 @@ const WGET: [&str; 256] = [
     "-c",
     "-N",
     "-S",
-    "-Q",
     "-E",
     "-k",
     "-K",
@@ -1286,7 +1292,7 @@ pub(crate) struct Command<T> {
 }
 
 /// The commands of wgetrc whose options are here.
-const COMMANDS: [Command<&str>; 68] = [
+const COMMANDS: [Command<&str>; 69] = [
     Command {
         name: "accept",
         option: "accept",
@@ -1458,6 +1464,10 @@ const COMMANDS: [Command<&str>; 68] = [
     Command {
         name: "quiet",
         option: "quiet",
+    },
+    Command {
+        name: "quota",
+        option: "quota",
     },
     Command {
         name: "randomwait",
