@@ -133,6 +133,8 @@ pub struct Order {
     pub prefix: Prefix,
     /// How files are named.
     pub names: PageNames,
+    /// Whether the links of files lead from file to file.
+    pub converts: bool,
     /// What requests say besides their addresses.
     pub fields: Fields,
     /// How servers are treated.
@@ -258,6 +260,7 @@ impl Order {
             log,
             prefix,
             names,
+            converts,
             fields,
             manner,
             retries,
@@ -277,6 +280,7 @@ impl Order {
             log,
             prefix,
             names,
+            converts,
             fields,
             manner,
             retries,
@@ -302,6 +306,7 @@ impl Order {
             log,
             prefix,
             names,
+            converts,
             fields,
             manner,
             retries,
@@ -321,6 +326,7 @@ impl Order {
             log,
             prefix,
             names,
+            converts,
             fields,
             manner,
             retries,

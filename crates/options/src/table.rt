@@ -42,7 +42,7 @@ pub(crate) struct Row<T> {
 }
 
 /// The options.
-const TABLE: [Row<&str>; 85] = [
+const TABLE: [Row<&str>; 86] = [
     Row {
         short: "r",
         name: "recursive",
@@ -511,6 +511,13 @@ const TABLE: [Row<&str>; 85] = [
         kind: Kind::List("MODES"),
         heading: "",
         says: "unix, windows, ascii, lowercase, uppercase",
+    },
+    Row {
+        short: "k",
+        name: "convert-links",
+        kind: Kind::Flag,
+        heading: "",
+        says: "links in files lead from file to file",
     },
     Row {
         short: "q",
@@ -1198,12 +1205,12 @@ const INSTEAD: [Instead<&str>; 75] = [
         advice: "--save FILE writes what is received, docs/RECORDS.md",
     },
     Instead {
-        form: "--convert-links",
-        advice: "links stay as they are; a web server over the folder finds them",
+        form: "--backup-converted",
+        advice: "leave it out: a run without -k writes pages as they came",
     },
     Instead {
-        form: "-k",
-        advice: "links stay as they are; a web server over the folder finds them",
+        form: "-K",
+        advice: "leave it out: a run without -k writes pages as they came",
     },
     Instead {
         form: "--mirror",
@@ -1286,7 +1293,7 @@ pub(crate) struct Command<T> {
 }
 
 /// The commands of wgetrc whose options are here.
-const COMMANDS: [Command<&str>; 68] = [
+const COMMANDS: [Command<&str>; 69] = [
     Command {
         name: "accept",
         option: "accept",
@@ -1318,6 +1325,10 @@ const COMMANDS: [Command<&str>; 68] = [
     Command {
         name: "connecttimeout",
         option: "connect-timeout",
+    },
+    Command {
+        name: "convertlinks",
+        option: "convert-links",
     },
     Command {
         name: "cookies",

@@ -1,6 +1,6 @@
 -- What is put and told of what a crew retrieved is the end of a live retrieval.
-use Rattle.std.proofs.Common.{◌≡◌, ◌≢◌, ◌⊎◌, ◌∙◌, ◌++◌, ℕ, inl, inr, Bool, false, List, [], length, map, Option, refl, sym, ap, subst, append_assoc}
-use Rattle.std.specs.Prelude.{IfSome, IfOk, IfErr, Result, Ok, Err}
+use Rattle.std.proofs.Common.{◌≡◌, ◌≢◌, ◌⊎◌, ◌∙◌, ◌++◌, ℕ, inl, inr, Bool, true, false, List, [], length, map, Option, refl, sym, ap, subst, append_assoc}
+use Rattle.std.specs.Prelude.{IfSome, IfOk, IfErr, Result, Ok, Err, Some}
 use Rattle.std.specs.List.{AllZip}
 use Rattle.kept_bodies.specs.declared.body_kind.BodyKind.{BodyKind}
 use Rattle.follow_filters.specs.declared.plan.Plan.{Plan}
@@ -11,7 +11,7 @@ use Rattle.frontier_core.specs.Invariants.{IsSound, IsComplete, IsOverfull}
 use Rattle.frontier_core.specs.Machine.{State, answers}
 use Rattle.frontier_core.specs.Plans.{policy}
 use Rattle.frontier_core.specs.Routes.{Policy, HasTooMany}
-use Rattle.frontier_core.specs.Tables.{Text}
+use Rattle.frontier_core.specs.Tables.{Text, keys, IsOnce}
 use Rattle.frontier_core.specs.declared.event.Cause.{Cause}
 use Rattle.frontier_core.specs.declared.event.Cause.TheVariants as why
 use Rattle.frontier_core.specs.declared.event.Event.{Event}
@@ -25,21 +25,24 @@ use Rattle.workers.specs.Retrieval.{IsRetrieved, IsPartRetrieved, IsStopped}
 use Rattle.workers.specs.Sites.{IsCompleteFor}
 use Rattle.workers.specs.declared.retrieval.Halt.{Halt}
 use Rattle.local_tree.specs.Folders.{Holding}
+use Rattle.local_tree.specs.Changes.{IsShelvedAs, IsHalfShelvedAs}
 use Rattle.local_tree.specs.Shelves.{IsShelved, IsHalfShelved}
 use Rattle.report.specs.Entries.{harvest_lines_of}
 use Rattle.report.specs.Named.{names_in}
 use Rattle.report.specs.Report.{report_text}
 use Rattle.report.proofs.NamedLaws.{names_of_lines, pages_of_lines}
-use Rattle.retriever.specs.Found.{Crew, crew_of, MaySay, MaySayRules, asks_of, EndsFound, Finds, Outside, LiveEnd, Finished, Torn, live_text, live_status, torn_line}
+use Rattle.retriever.specs.Found.{Crew, crew_of, MaySay, MaySayRules, asks_of, EndsFound, Finds, Outside, LiveEnd, Finished, Torn, Unchanged, IsPutAt, IsTornAt, live_text, live_status, torn_line, unchanged_line}
 use Rattle.retriever.specs.Live.{AreOfCrew, IsRetrievedLive, IsStoppedLive, EndsLive, Lives}
+use Rattle.retriever.specs.Mirrored.{IsPutAs, IsHalfPutAs, kept_as_named, kept_by, links_become}
 use Rattle.retriever.specs.Parts.{shown_of}
+use Rattle.run_mirror.specs.Mirrors.{Kept}
 use Rattle.retriever.specs.Retrieved.{Retrieved, Stopped}
 use Rattle.retriever.specs.Keeping.{Keeping, kinds_of}
 use Rattle.retriever.specs.Site.{AreNamesOf}
 use Rattle.retriever.specs.inner.Parts.{IsRead, IsToldAs, status_told}
 use Rattle.retriever.specs.inner.Puts.{IsHaltTold, IsPutOf}
 use Rattle.report.specs.Trace.{trace_text}
-use Rattle.retriever.proofs.FoundLaws.{are_lines}
+use Rattle.retriever.proofs.FoundLaws.{are_lines, records_of}
 use Rattle.retriever.proofs.DeliveryLaws.{told_delivered}
 use Rattle.retriever.proofs.EndLaws.{are_named, names_count, none_shown, status_of}
 
@@ -56,7 +59,7 @@ complete_for p s complete = record {
 
 -- ---- a harvest
 
-retrieved : {F B : Type 0} (crew : Crew F B) (plan : Plan) (naming : PageNames) (h : Harvested B) (names : List (List ℕ)) → IsRetrieved (MaySay crew) (MaySayRules crew) plan (asks_of crew) h → IsRead h
+abbrev retrieved : {F B : Type 0} (crew : Crew F B) (plan : Plan) (naming : PageNames) (h : Harvested B) (names : List (List ℕ)) → IsRetrieved (MaySay crew) (MaySayRules crew) plan (asks_of crew) h → IsRead h
     → AreNamesOf naming h.kept (kinds_of crew.keeps.kind_of h.bodies) names → AreOfCrew crew h.trace → IsRetrievedLive crew plan naming h.trace (harvest_lines_of h names) h.bodies
 retrieved crew plan naming h names is read given by =
     let sound = subst (λ (o : Option Plan). IfSome o (λ plan. IsSound (policy plan) h.state)) is.follows read.3 in
@@ -78,6 +81,34 @@ retrieved crew plan naming h names is read given by =
 given : {B : Type 0} (kind_of : B → BodyKind) (naming : PageNames) (h : Harvested B) (names : List (List ℕ)) → IsRead h → AreNamesOf naming h.kept (kinds_of kind_of h.bodies) names
     → names ≡ names_in (harvest_lines_of h names)
 given kind_of naming h names read are = sym (names_of_lines h names read.0 read.1 read.2 (names_count kind_of naming h names are))
+
+-- what was put of a harvest is what the lines say of it
+module _ {B : Type 0} (keeps : Keeping B) (naming : PageNames) (h : Harvested B) (names : List (List ℕ)) (read : IsRead h) (are : AreNamesOf naming h.kept (kinds_of keeps.kind_of h.bodies) names) where
+  kept_of_lines : kept_as_named h names ≡ kept_by (harvest_lines_of h names) h.records
+  kept_of_lines =
+      let lines = harvest_lines_of h names in
+      let long : length names ≡ length h.kept = names_count keeps.kind_of naming h names are in
+      ap (λ (ns : List (List ℕ)). kept_as_named h ns) (given keeps.kind_of naming h names read are)
+      ∙ ap (λ (pages : List (List ℕ)). record { kept = pages; names = names_in lines; records = h.records }) (sym (pages_of_lines h names read.0 read.1 read.2 long))
+
+  put_at : (converts all : Bool) (old new : Holding) → IsOnce (keys h.state.entries) → IsPutAs converts all keeps (kept_as_named h names) h.bodies old new → new.failed ≡ old.failed
+      → IsPutAt converts all keeps (answers h.state) (harvest_lines_of h names) h.bodies old new
+  put_at false false old new once put quiet = put
+  put_at false true old new once put quiet =
+      (subst (λ (ns : List (List ℕ)). IsShelved keeps.holds ns h.bodies old.files new.files) (given keeps.kind_of naming h names read are) put, quiet)
+  put_at true all old new once put quiet =
+      (h.records, records_of h read.1 once, subst (λ (k : Kept). IsShelvedAs (links_become k) all keeps.holds k.names h.bodies old new) kept_of_lines put, quiet)
+
+  torn_at : (converts : Bool) (old new : Holding) (whole : ℕ) → IsOnce (keys h.state.entries) → IsHalfPutAs converts keeps (kept_as_named h names) h.bodies old new whole
+      → IsTornAt converts keeps (answers h.state) (harvest_lines_of h names) h.bodies old new whole
+  torn_at false old new whole once torn =
+      subst (λ (ns : List (List ℕ)). IsHalfShelved keeps.holds ns h.bodies old new whole) (given keeps.kind_of naming h names read are) torn
+  torn_at true old new whole once torn =
+      (h.records, records_of h read.1 once, subst (λ (k : Kept). IsHalfShelvedAs (links_become k) keeps.holds k.names h.bodies old new whole) kept_of_lines torn)
+
+-- no address is held twice
+once_held : {B : Type 0} (plan : Plan) (h : Harvested B) → IsRead h → h.plan ≡ Some plan → IsOnce (keys h.state.entries)
+once_held plan h read follows = (subst (λ (o : Option Plan). IfSome o (λ plan. IsSound (policy plan) h.state)) follows read.3).addresses
 
 part_retrieved : {F B : Type 0} (crew : Crew F B) (plan : Plan) (cause : Cause) (h : Harvested B) → IsPartRetrieved (MaySay crew) (MaySayRules crew) plan (asks_of crew) cause h
     → (cause ≡ why.Full → HasTooMany (policy plan) (answers h.state)) → AreOfCrew crew h.trace → IsStoppedLive crew plan cause h.trace
@@ -103,9 +134,9 @@ module _ {F B : Type 0} (crew : Crew F B) (order : Order) (old new : Holding) (I
   abbrev pub EndsTold : Type 0
   EndsTold = (shown : List Event) × (ending : LiveEnd) × EndsLive crew order old new shown ending × IsTold (trace_text shown ++ live_text ending) (live_status ending)
 
-  ended : (h : Harvested B) → IsRetrieved (MaySay crew) (MaySayRules crew) order.plan (asks_of crew) h → AreOfCrew crew h.trace → IsPutOf crew.keeps IsTold order.names order.trace (Ok h) old new → EndsTold
+  ended : (h : Harvested B) → IsRetrieved (MaySay crew) (MaySayRules crew) order.plan (asks_of crew) h → AreOfCrew crew h.trace → IsPutOf order.converts crew.keeps IsTold order.names order.trace (Ok h) old new → EndsTold
   ended h is by (inl (same, told)) = ([], Finished (Stopped why.Memory), (made_once (asks_of crew) is.once, inl refl, inl same), told)
-  ended h is by (inr (read, names, naming, inl (whole, quiet, told))) =
+  ended h is by (inr (read, names, naming, inl (true, put, quiet, told))) =
       let lines = harvest_lines_of h names in (
         shown_of order.trace h.trace,
         Finished (Retrieved lines),
@@ -114,9 +145,22 @@ module _ {F B : Type 0} (crew : Crew F B) (order : Order) (old new : Holding) (I
           h.bodies,
           retrieved crew order.plan order.names h names is read naming by,
           refl,
-          (subst (λ (given : List (List ℕ)). IsShelved crew.keeps.holds given h.bodies old.files new.files) (given crew.keeps.kind_of order.names h names read naming) whole, quiet),
+          put_at crew.keeps order.names h names read naming order.converts true old new (once_held order.plan h read is.follows) put quiet,
         ),
         subst (λ (wanted : ℕ). IsTold (trace_text (shown_of order.trace h.trace) ++ report_text lines) wanted) (status_of order h names read is.follows) told,
+      )
+  ended h is by (inr (read, names, naming, inl (false, put, quiet, told))) =
+      let lines = harvest_lines_of h names in (
+        shown_of order.trace h.trace,
+        Unchanged lines,
+        (
+          h.trace,
+          h.bodies,
+          retrieved crew order.plan order.names h names is read naming by,
+          refl,
+          put_at crew.keeps order.names h names read naming order.converts false old new (once_held order.plan h read is.follows) put quiet,
+        ),
+        subst (λ (text : List ℕ). IsTold text 3) (append_assoc (trace_text (shown_of order.trace h.trace)) (report_text lines) unchanged_line) told,
       )
   ended h is by (inr (read, names, naming, inr (whole, torn, inl told))) =
       let lines = harvest_lines_of h names in (
@@ -127,7 +171,7 @@ module _ {F B : Type 0} (crew : Crew F B) (order : Order) (old new : Holding) (I
           h.bodies,
           retrieved crew order.plan order.names h names is read naming by,
           refl,
-          subst (λ (given : List (List ℕ)). IsHalfShelved crew.keeps.holds given h.bodies old new whole) (given crew.keeps.kind_of order.names h names read naming) torn,
+          torn_at crew.keeps order.names h names read naming order.converts old new whole (once_held order.plan h read is.follows) torn,
         ),
         subst (λ (text : List ℕ). IsTold text 3) (append_assoc (trace_text (shown_of order.trace h.trace)) (report_text lines) (torn_line whole)) told,
       )
@@ -143,7 +187,7 @@ module _ {F B : Type 0} (crew : Crew F B) (order : Order) (old new : Holding) (I
         h.bodies,
         whole,
         retrieved crew order.plan order.names h names is read naming by,
-        subst (λ (given : List (List ℕ)). IsHalfShelved crew.keeps.holds given h.bodies old new whole) (given crew.keeps.kind_of order.names h names read naming) torn,
+        torn_at crew.keeps order.names h names read naming order.converts old new whole (once_held order.plan h read is.follows) torn,
       ),
     ),
     told,
@@ -184,7 +228,7 @@ module _ {F B : Type 0} (crew : Crew F B) where
       → IfErr r (λ halt. halt.cause ≡ why.Full → HasTooMany (policy order.plan) (answers halt.harvest.state) × IsOverfull (policy order.plan) halt.harvest.state)
       → (length crew.first ≡ 1 → IfErr r (λ halt. halt.cause ≢ why.Mismatch))
       → IfOk r (λ h. AreOfCrew crew h.trace) × IfErr r (λ halt. halt.cause ≢ why.Mismatch → AreOfCrew crew halt.harvest.trace)
-      → IsPutOf crew.keeps IsTold order.names order.trace r old new → EndsTold crew order old new IsTold
+      → IsPutOf order.converts crew.keeps IsTold order.names order.trace r old new → EndsTold crew order old new IsTold
   crew_ends order (Ok h) old new IsTold is stop full one by put = ended crew order old new IsTold h is by.0 put
   crew_ends order (Err halt) old new IsTold is stop full one by put =
       stopped crew order old new IsTold halt.cause halt.harvest stop (λ why. (full why).0) one by.1 put.0 put.1
@@ -216,6 +260,7 @@ lives_from m keeps order olds news before after told status later same (shown, e
 found_end : {F B : Type 0} (crew : Crew F B) (order : Order) (old new : Holding) (shown : List Event) (ending : LiveEnd) → EndsLive crew order old new shown ending → EndsFound crew order old new ending
 found_end crew order old new shown (Finished (Retrieved lines)) (events, bodies, r, is, whole) = (answers r.state, bodies, r.found, whole)
 found_end crew order old new shown (Torn lines whole) (events, bodies, r, is, torn) = (answers r.state, bodies, r.found, torn)
+found_end crew order old new shown (Unchanged lines) (events, bodies, r, is, put) = (answers r.state, bodies, r.found, put)
 found_end crew order old new shown (Finished (Stopped why.Full)) (events, h, is, same) = (answers h.state, h.found, h.full refl, same)
 found_end crew order old new shown (Finished (Stopped why.Memory)) (once, told, inl same) = (once, inl same)
 found_end crew order old new shown (Finished (Stopped why.Memory)) (once, told, inr (events, lines, bodies, whole, r, torn)) =
@@ -230,6 +275,7 @@ untraced_end : {F B : Type 0} (crew : Crew F B) (order : Order) (old new : Holdi
     → trace_text shown ≡ []
 untraced_end crew order old new shown (Finished (Retrieved lines)) (events, bodies, r, is, whole) off = unshown order.trace shown events is off
 untraced_end crew order old new shown (Torn lines whole) (events, bodies, r, is, torn) off = unshown order.trace shown events is off
+untraced_end crew order old new shown (Unchanged lines) (events, bodies, r, is, put) off = unshown order.trace shown events is off
 untraced_end crew order old new shown (Finished (Stopped why.Full)) (events, h, is, same) off = unshown order.trace shown events is off
 untraced_end crew order old new shown (Finished (Stopped why.Memory)) (once, inl none, put) off = ap trace_text none
 untraced_end crew order old new shown (Finished (Stopped why.Memory)) (once, inr (events, h, is), put) off = unshown order.trace shown events is off

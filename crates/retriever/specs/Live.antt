@@ -18,7 +18,7 @@ use Rattle.workers.specs.OneWorker.{AreByCrew}
 use Rattle.workers.specs.Takers.{AreOwn}
 use Rattle.local_tree.specs.Folders.{Holding}
 use Rattle.report.specs.Report.{Line}
-use Rattle.retriever.specs.Found.{Crew, crew_of, asks_of, IsFound, IsPartFound, Outside, LiveEnd, Finished, Torn, IsTornAt, IsWholeAt, live_text, live_status}
+use Rattle.retriever.specs.Found.{Crew, crew_of, asks_of, IsFound, IsPartFound, Outside, LiveEnd, Finished, Torn, Unchanged, IsTornAt, IsPutAt, live_text, live_status}
 use Rattle.retriever.specs.Keeping.{Keeping}
 use Rattle.retriever.specs.Parts.{IsDelivered, shown_of}
 use Rattle.retriever.specs.Retrieved.{Retrieved, Stopped}
@@ -58,17 +58,20 @@ pub record IsStoppedLive {F B : Type 0} (crew : Crew F B) (plan : Plan) (why : C
 -- nothing more is said.
 abbrev pub EndsLive : {F B : Type 0} → Crew F B → Order → Holding → Holding → List Event → LiveEnd → Type 0
 EndsLive {B = B} crew order old new shown (Finished (Retrieved lines)) =
-    (events : List Event) × (bodies : List B) × IsRetrievedLive crew order.plan order.names events lines bodies × (shown ≡ shown_of order.trace events)
-    × IsWholeAt crew.keeps lines bodies old new
+    (events : List Event) × (bodies : List B) × (r : IsRetrievedLive crew order.plan order.names events lines bodies) × (shown ≡ shown_of order.trace events)
+    × IsPutAt order.converts true crew.keeps (answers r.state) lines bodies old new
 EndsLive {B = B} crew order old new shown (Torn lines whole) =
-    (events : List Event) × (bodies : List B) × IsRetrievedLive crew order.plan order.names events lines bodies × (shown ≡ shown_of order.trace events)
-    × IsTornAt crew.keeps lines bodies old new whole
+    (events : List Event) × (bodies : List B) × (r : IsRetrievedLive crew order.plan order.names events lines bodies) × (shown ≡ shown_of order.trace events)
+    × IsTornAt order.converts crew.keeps (answers r.state) lines bodies old new whole
+EndsLive {B = B} crew order old new shown (Unchanged lines) =
+    (events : List Event) × (bodies : List B) × (r : IsRetrievedLive crew order.plan order.names events lines bodies) × (shown ≡ shown_of order.trace events)
+    × IsPutAt order.converts false crew.keeps (answers r.state) lines bodies old new
 EndsLive crew order old new shown (Finished (Stopped cause.Full)) =
     (events : List Event) × IsStoppedLive crew order.plan cause.Full events × (shown ≡ shown_of order.trace events) × (new ≡ old)
 EndsLive {B = B} crew order old new shown (Finished (Stopped cause.Memory)) =
     AreMadeOnce (asks_of crew) × ((shown ≡ []) ⊎ ((events : List Event) × IsStoppedLive crew order.plan cause.Memory events × (shown ≡ shown_of order.trace events)))
-    × ((new ≡ old) ⊎ ((events : List Event) × (lines : List Line) × (bodies : List B) × (whole : ℕ) × IsRetrievedLive crew order.plan order.names events lines bodies
-    × IsTornAt crew.keeps lines bodies old new whole))
+    × ((new ≡ old) ⊎ ((events : List Event) × (lines : List Line) × (bodies : List B) × (whole : ℕ) × (r : IsRetrievedLive crew order.plan order.names events lines bodies)
+    × IsTornAt order.converts crew.keeps (answers r.state) lines bodies old new whole))
 EndsLive crew order old new shown (Finished (Stopped cause.Mismatch)) = (length crew.first ≢ 1) × (shown ≡ []) × (new ≡ old)
 
 -- A live retrieval with these fetchers, one for each worker: it comes to an end, by what the fetchers were asked and may
