@@ -102,4 +102,4 @@ keeps_nothing most len_of halt other = record { within = tt; beyond = λ is. abs
 -- without a quota nothing stops for one
 pub unlimited : {B : Type 0} (len_of : B → ℕ) (r : Result (Harvested B) (Halt B)) → KeepsTo None len_of r → IfErr r (λ halt. halt.cause ≢ why.Quota)
 unlimited len_of (Ok h) keeps = tt
-unlimited len_of (Err halt) keeps is = keeps.beyond is
+unlimited len_of (Err halt) keeps = keeps.beyond

@@ -37,7 +37,7 @@ pub fn run_crew<F: Fetcher + Send, Q: Quota<F::Body> + Sync, R: Threads + Wait +
     alloc: Global,
     lock: &FrontierLock,
     plan: &Plan,
-    meter: &Meter<'_, Q>,
+    quota: &Q,
     mut seats: Vec<Seat<F, F::Body>>,
 ) -> Vec<Seat<F, F::Body>>
 where
@@ -45,6 +45,7 @@ where
     ensures went { AllGo F.Fetcher plan.now seats.items result.items }
     ensures len { vec_len result ≡ vec_len seats }
 {
-    work_all_at(rt, alloc, lock, plan, meter, &mut seats);
+    let meter = Meter::new(quota);
+    work_all_at(rt, alloc, lock, plan, &meter, &mut seats);
     seats
 }

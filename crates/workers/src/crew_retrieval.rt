@@ -17,7 +17,7 @@ use crate::conclusion::conclude;
 use crate::crew::run_crew;
 use crate::note::Notes;
 use crate::once::is_once_in_place;
-use crate::quota::{Meter, NoQuota, Quota};
+use crate::quota::{NoQuota, Quota};
 use crate::retrieval::{Halt, open, retrieve_noting};
 use crate::seats::{Left, leave_all, leave_bare, note_room, seat_all};
 use crate::worker::Seat;
@@ -159,8 +159,7 @@ where
     ensures own { IsOwnAccount F.Fetcher fetchers.items result.fetchers.items result.noted }
 {
     let seats = seat_all(alloc, fetchers, seats);
-    let meter = Meter::new(quota);
-    let mut seats = run_crew(rt, alloc, lock, plan, &meter, seats);
+    let mut seats = run_crew(rt, alloc, lock, plan, quota, seats);
     match note_room(alloc, &seats) {
         Ok(notes) => {
             let Left { fetchers, notes } = leave_all(seats, room, notes);
