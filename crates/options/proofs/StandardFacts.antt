@@ -63,7 +63,7 @@ forms : map forms_of table ≡ (codes "r", codes "recursive", None) ∷ (codes "
     ∷ ([], codes "save", Some (codes "FILE")) ∷ (codes "nv", codes "no-verbose", None) ∷ ([], codes "no-cookies", None) ∷ ([], codes "no-hsts", None)
     ∷ ([], codes "no-config", None) ∷ ([], codes "no-netrc", None) ∷ ([], codes "unlink", None) ∷ ([], codes "no-remove-listing", None)
     ∷ ([], codes "show-progress", None) ∷ ([], codes "no-xattr", None) ∷ ([], codes "no-strict-comments", None) ∷ ([], codes "no-follow-ftp", None)
-    ∷ ([], codes "progress", Some (codes "TYPE")) ∷ ([], codes "compression", Some (codes "none")) ∷ []
+    ∷ ([], codes "progress", Some (codes "TYPE")) ∷ ([], codes "compression", Some (codes "none")) ∷ ([], codes "regex-type", Some (codes "TYPE")) ∷ []
 unfolding table
 forms = refl
 

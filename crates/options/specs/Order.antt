@@ -30,7 +30,7 @@ use Rattle.options.specs.Manners.{manner_of}
 use Rattle.pacing.specs.Retries.{Retried, retries_by}
 use Rattle.options.specs.Retries.{retries_of}
 use Rattle.options.specs.Naming.{Naming, naming_by, naming_of}
-use Rattle.options.specs.Sought.{expressions_by}
+use Rattle.options.specs.Sought.{expressions_by, is_type}
 use Rattle.requests.specs.Fields.{Sent, login_of as login_value_of, read_fields}
 use Rattle.requests.specs.declared.fields.FieldsFault.{FieldsFault}
 use Rattle.requests.specs.declared.fields.FieldsFault.TheVariants as unsent
@@ -48,9 +48,9 @@ abbrev pub is_plain_value : Option Text → Bool
 is_plain_value None = true
 is_plain_value (Some value) = bytes_eq value (codes "none")
 
--- `--compression` has a value that it may have
+-- `--compression` and `--regex-type` have values that they may have
 unfoldable pub are_good : List Row → Bool
-are_good found = is_plain_value (first_of (codes "compression") found)
+are_good found = is_plain_value (first_of (codes "compression") found) && is_type (first_of (codes "regex-type") found)
 
 -- ---- the order
 

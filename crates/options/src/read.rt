@@ -35,7 +35,7 @@ use crate::order::{
 use crate::others::with_others;
 use crate::retries::retries;
 use crate::said::{Saying, sayings};
-use crate::sought::{Sought, read_sought};
+use crate::sought::{Sought, is_type, read_sought};
 use crate::trust::guarded;
 use crate::written::{first_unread, starts, written};
 use address::{Address, AddressFault, Origin};
@@ -108,13 +108,13 @@ fn is_plain_value(value: Option<&str>) -> bool
     }
 }
 
-// What is wrong with words that `clap` takes: an encoding of bodies is asked for.
+// What is wrong with words that `clap` takes: an encoding of bodies is asked for, or a kind of expressions that isn't known.
 #[tactic(auto, unfolding(crate::specs::Order::are_good))]
 fn word_fault(matches: &ArgMatches) -> Option<LineFault>
     ensures good { is_none result ≡ are_good (rows_of (found_of matches.now)) }
     ensures refused { IfSome result (λ f. f ≡ words_refused) }
 {
-    if is_plain_value(given(matches, "compression")) {
+    if is_plain_value(given(matches, "compression")) && is_type(given(matches, "regex-type")) {
         None
     } else {
         Some(LineFault::Words(ErrorKind::InvalidValue))

@@ -42,7 +42,7 @@ pub(crate) struct Row<T> {
 }
 
 /// The options.
-const TABLE: [Row<&str>; 87] = [
+const TABLE: [Row<&str>; 88] = [
     Row {
         short: "r",
         name: "recursive",
@@ -651,6 +651,13 @@ const TABLE: [Row<&str>; 87] = [
         kind: Kind::Value("none"),
         heading: "",
         says: "bodies are asked for as they are",
+    },
+    Row {
+        short: "",
+        name: "regex-type",
+        kind: Kind::Value("TYPE"),
+        heading: "",
+        says: "posix and pcre are read alike",
     },
 ];
 
@@ -1292,7 +1299,7 @@ pub(crate) struct Command<T> {
 }
 
 /// The commands of wgetrc whose options are here.
-const COMMANDS: [Command<&str>; 70] = [
+const COMMANDS: [Command<&str>; 71] = [
     Command {
         name: "accept",
         option: "accept",
@@ -1488,6 +1495,10 @@ const COMMANDS: [Command<&str>; 70] = [
     Command {
         name: "referer",
         option: "referer",
+    },
+    Command {
+        name: "regextype",
+        option: "regex-type",
     },
     Command {
         name: "reject",
