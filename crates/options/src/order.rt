@@ -133,6 +133,8 @@ pub struct Order {
     pub prefix: Prefix,
     /// How files are named.
     pub names: PageNames,
+    /// Whether the links of files lead from file to file.
+    pub converts: bool,
     /// What requests say besides their addresses.
     pub fields: Fields,
     /// How servers are treated.
@@ -264,6 +266,7 @@ impl Order {
             log,
             prefix,
             names,
+            converts,
             fields,
             manner,
             retries,
@@ -283,6 +286,7 @@ impl Order {
             log,
             prefix,
             names,
+            converts,
             fields,
             manner,
             retries,
@@ -308,6 +312,7 @@ impl Order {
             log,
             prefix,
             names,
+            converts,
             fields,
             manner,
             retries,
@@ -327,6 +332,7 @@ impl Order {
             log,
             prefix,
             names,
+            converts,
             fields,
             manner,
             retries,

@@ -761,6 +761,7 @@ fn filled(
         log: paths.log,
         prefix: paths.prefix,
         names: naming,
+        converts: is_set(matches, "convert-links"),
         fields,
         manner,
         retries,

@@ -42,7 +42,7 @@ pub(crate) struct Row<T> {
 }
 
 /// The options.
-const TABLE: [Row<&str>; 88] = [
+const TABLE: [Row<&str>; 89] = [
     Row {
         short: "r",
         name: "recursive",
@@ -527,6 +527,13 @@ const TABLE: [Row<&str>; 88] = [
         says: "unix, windows, ascii, lowercase, uppercase",
     },
     Row {
+        short: "k",
+        name: "convert-links",
+        kind: Kind::Flag,
+        heading: "",
+        says: "links in files lead from file to file",
+    },
+    Row {
         short: "q",
         name: "quiet",
         kind: Kind::Flag,
@@ -672,7 +679,7 @@ pub(crate) fn option_rows() -> &'static [Row<&'static str>]
 
 /// The forms of Wget's options: all long ones, in the order of their letters, and the short ones that aren't among the options
 /// above. One of two letters is the first letter's, as `nc`.
-const WGET: [&str; 256] = [
+const WGET: [&str; 251] = [
     "--accept",
     "--accept-regex",
     "--adjust-extension",
@@ -915,17 +922,12 @@ const WGET: [&str; 256] = [
     "-b",
     "-d",
     "-v",
-    "-i",
-    "-F",
-    "-B",
     "-O",
     "-nc",
     "-c",
     "-N",
     "-S",
     "-Q",
-    "-E",
-    "-k",
     "-K",
     "-m",
     "-L",
@@ -1219,12 +1221,12 @@ const INSTEAD: [Instead<&str>; 73] = [
         advice: "--save FILE writes what is received, docs/RECORDS.md",
     },
     Instead {
-        form: "--convert-links",
-        advice: "links stay as they are; a web server over the folder finds them",
+        form: "--backup-converted",
+        advice: "leave it out: a run without -k writes pages as they came",
     },
     Instead {
-        form: "-k",
-        advice: "links stay as they are; a web server over the folder finds them",
+        form: "-K",
+        advice: "leave it out: a run without -k writes pages as they came",
     },
     Instead {
         form: "--mirror",
@@ -1299,7 +1301,7 @@ pub(crate) struct Command<T> {
 }
 
 /// The commands of wgetrc whose options are here.
-const COMMANDS: [Command<&str>; 71] = [
+const COMMANDS: [Command<&str>; 72] = [
     Command {
         name: "accept",
         option: "accept",
@@ -1335,6 +1337,10 @@ const COMMANDS: [Command<&str>; 71] = [
     Command {
         name: "connecttimeout",
         option: "connect-timeout",
+    },
+    Command {
+        name: "convertlinks",
+        option: "convert-links",
     },
     Command {
         name: "cookies",
