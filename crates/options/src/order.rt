@@ -123,6 +123,8 @@ pub struct Order {
     pub keeps_connections: bool,
     /// Where the site is.
     pub source: Source,
+    /// The most bytes of kept bodies before nothing more is requested, if there is a limit.
+    pub quota: Option<u64>,
     /// Whether the trace is shown before the report.
     pub trace: bool,
     /// Whether nothing is told.
@@ -261,6 +263,7 @@ impl Order {
             workers,
             keeps_connections,
             source,
+            quota,
             trace,
             quiet,
             log,
@@ -281,6 +284,7 @@ impl Order {
             workers,
             keeps_connections,
             source,
+            quota,
             trace,
             quiet,
             log,
@@ -307,6 +311,7 @@ impl Order {
             workers,
             keeps_connections,
             source,
+            quota,
             trace,
             quiet,
             log,
@@ -327,6 +332,7 @@ impl Order {
             workers,
             keeps_connections,
             source,
+            quota,
             trace,
             quiet,
             log,

@@ -42,7 +42,7 @@ pub(crate) struct Row<T> {
 }
 
 /// The options.
-const TABLE: [Row<&str>; 89] = [
+const TABLE: [Row<&str>; 90] = [
     Row {
         short: "r",
         name: "recursive",
@@ -357,6 +357,13 @@ const TABLE: [Row<&str>; 89] = [
         kind: Kind::Value("R"),
         heading: "",
         says: "read R bytes a second at most; 20k, 1.5m",
+    },
+    Row {
+        short: "Q",
+        name: "quota",
+        kind: Kind::Value("N"),
+        heading: "",
+        says: "request nothing after N bytes of bodies",
     },
     Row {
         short: "4",
@@ -679,7 +686,7 @@ pub(crate) fn option_rows() -> &'static [Row<&'static str>]
 
 /// The forms of Wget's options: all long ones, in the order of their letters, and the short ones that aren't among the options
 /// above. One of two letters is the first letter's, as `nc`.
-const WGET: [&str; 251] = [
+const WGET: [&str; 250] = [
     "--accept",
     "--accept-regex",
     "--adjust-extension",
@@ -927,7 +934,6 @@ const WGET: [&str; 251] = [
     "-c",
     "-N",
     "-S",
-    "-Q",
     "-K",
     "-m",
     "-L",
@@ -1301,7 +1307,7 @@ pub(crate) struct Command<T> {
 }
 
 /// The commands of wgetrc whose options are here.
-const COMMANDS: [Command<&str>; 72] = [
+const COMMANDS: [Command<&str>; 73] = [
     Command {
         name: "accept",
         option: "accept",
@@ -1481,6 +1487,10 @@ const COMMANDS: [Command<&str>; 72] = [
     Command {
         name: "quiet",
         option: "quiet",
+    },
+    Command {
+        name: "quota",
+        option: "quota",
     },
     Command {
         name: "randomwait",
