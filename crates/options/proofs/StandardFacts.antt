@@ -29,7 +29,7 @@ usual_requests = refl
 usual_addresses : DEFAULT_MAX_URLS ≡ 100000
 usual_addresses = refl
 
--- the short form, the name, and what its value is called where it has one
+-- the short form, the name, and what its value is called if it has one
 abbrev forms_of : Row Text → Text × Text × Option Text
 forms_of row = (row.short, row.name, value_name row.kind)
 
@@ -83,7 +83,7 @@ each_is_wgets : list_all (λ row. is_one_of wget row.form) instead ≡ true
 unfolding instead wget
 each_is_wgets = refl
 
--- ---- help and version are answered by what they ask for
+-- ---- help and version are answered by what they request
 
 -- `-h` and `--help`
 help_is_answered : told_of_kind DisplayHelp ≡ Help

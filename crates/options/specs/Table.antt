@@ -9,7 +9,7 @@ use Rattle.options.specs.declared.table.Kind.TheVariants as kind
 use Rattle.options.specs.declared.table.Row.{Row}
 use Rattle.options.specs.declared.table.TheConstants.{COMMANDS, INSTEAD, OWN, TABLE, WGET}
 
--- what stands behind an option, its texts read so
+-- what follows an option, with its texts read this way
 abbrev pub kind_by : {T : Type 0} → (T → Text) → Kind T → Kind Text
 kind_by read kind.Flag = kind.Flag
 kind_by read kind.Holds = kind.Holds

@@ -54,7 +54,7 @@ fn short_text(alloc: Global, short: &str) -> Result<String, AllocError>
     format!(in alloc; "  -{short},")
 }
 
-// The name of what stands behind an option.
+// The name of an option's value.
 fn value_name(kind: &Kind<&'static str>) -> Option<&'static str>
     ensures { option_map (λ name. name.now) result ≡ value_name (kind_in kind.now) }
 {
@@ -66,7 +66,7 @@ fn value_name(kind: &Kind<&'static str>) -> Option<&'static str>
     }
 }
 
-// Adds what stands behind an option.
+// Adds the value of an option.
 fn push_value(text: &mut String, name: Option<&str>) -> Result<(), AllocError>
     ensures ok { OnOk result (string_bytes text.new ≡ string_bytes text.old ++ value_text (option_map (λ name. name.now) name.entry)) }
 {
@@ -79,7 +79,7 @@ fn push_value(text: &mut String, name: Option<&str>) -> Result<(), AllocError>
     }
 }
 
-// Adds the forms of an option, the short one as it is shown, with what stands behind it.
+// Adds the forms of an option, the short one as it is shown, and then its value.
 fn push_forms(text: &mut String, short: &str, row: &Row<&'static str>) -> Result<(), AllocError>
     ensures ok { OnOk result (string_bytes text.new ≡ string_bytes text.old ++ in_columns 7 short.now ++ codes "--" ++ (row_in row.now).name
         ++ value_text (value_name (row_in row.now).kind)) }
@@ -90,7 +90,7 @@ fn push_forms(text: &mut String, short: &str, row: &Row<&'static str>) -> Result
     push_value(text, value_name(&row.kind))
 }
 
-// The forms of an option, with what stands behind it.
+// The forms of an option, and then its value.
 fn left_text(alloc: Global, row: &Row<&'static str>) -> Result<String, AllocError>
     ensures { IfOk result (λ text. string_bytes text ≡ left_text (row_in row.now)) }
 {
@@ -100,7 +100,7 @@ fn left_text(alloc: Global, row: &Row<&'static str>) -> Result<String, AllocErro
     Ok(text)
 }
 
-// What counts where an option isn't given, and its range.
+// The default of an option, and its range.
 fn usual_text(alloc: Global, kind: &Kind<&'static str>) -> Result<String, AllocError>
     ensures { IfOk result (λ text. string_bytes text ≡ usual_text (kind_in kind.now)) }
 {
@@ -112,14 +112,14 @@ fn usual_text(alloc: Global, kind: &Kind<&'static str>) -> Result<String, AllocE
     }
 }
 
-// The range of a number, and what counts where it isn't given.
+// The range of a number, and its default.
 fn range_text(alloc: Global, most: u32, usual: u32) -> Result<String, AllocError>
     ensures { IfOk result (λ text. string_bytes text ≡ codes ", 1 to " ++ decimal most ++ codes " (" ++ decimal usual ++ codes ")") }
 {
     format!(in alloc; ", 1 to {most} ({usual})")
 }
 
-// Adds the line of an option, behind its heading, with its forms and what counts where it isn't given.
+// Adds the line of an option, after its heading, with its forms and its default.
 fn push_line(
     text: &mut String,
     row: &Row<&'static str>,
@@ -136,7 +136,7 @@ fn push_line(
     text.push_str("\n")
 }
 
-// Adds the line of an option, behind its heading.
+// Adds the line of an option, after its heading.
 fn push_row(alloc: Global, text: &mut String, row: &Row<&'static str>) -> Result<(), AllocError>
     ensures ok { OnOk result (string_bytes text.new ≡ string_bytes text.old ++ row_text (row_in row.now)) }
 {

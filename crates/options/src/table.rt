@@ -1,4 +1,4 @@
-//! The table of options, a row for each: the command that `clap` reads, the help and what is told of refused words are made
+//! The table of options, a row for each: the command that `clap` reads, the help and the advice on refused words are made
 //! of it; and the forms of Wget's options, among which fronts are read, and the commands of wgetrc (GNU Wget manual, chapters
 //! Invoking and Startup File).
 ghost use Rattle.std.specs.Prelude.{◌≡◌, map};
@@ -8,11 +8,11 @@ ghost use Rattle.options.specs.inner.Table.{command_in, instead_in, row_in};
 use crate::order::{DEFAULT_MAX_URLS, DEFAULT_PER_HOST, DEFAULT_WORKERS, MAX_WORKERS};
 use follow_filters::{MAX_PER_HOST, MAX_URLS};
 
-/// What stands behind an option.
+/// What follows an option.
 pub(crate) enum Kind<T> {
     /// Nothing: the option is on or off.
     Flag,
-    /// Nothing, and what it asks for is so already: it is taken, and its opposite isn't.
+    /// No value, and what it requests is so already: it is accepted, and its opposite isn't.
     Holds,
     /// Nothing: it is the opposite of the option of this name, and the two are one option.
     Opposite(T),
@@ -20,22 +20,22 @@ pub(crate) enum Kind<T> {
     Value(T),
     /// A list of this name in the help: several of them add up, and an empty one clears what was before it.
     List(T),
-    /// A value of this name, and the one that counts where the option isn't given.
+    /// A value of this name, and its default.
     Usual(T, T),
-    /// A whole number from 1 to the first of these, and the one that counts where the option isn't given.
+    /// A whole number from 1 to the first of these, and its default.
     Number(u32, u32),
 }
 
 /// An option. The type of its texts is a parameter, since definitions can cite a constant of such a type, and none with a
 /// reference of its own.
 pub(crate) struct Row<T> {
-    /// Its short form, as `l`, or nothing. One of two letters, as `np`, is the first letter's option with the second as its
-    /// value.
+    /// Its short form, such as `l`, or nothing. One of two letters (`np`) is the first letter's option with the second
+    /// as its value.
     pub short: T,
-    /// The name by which its value is found, and its long form, as `level`; a name that is the short form is no long form.
+    /// The name by which its value is found, and its long form (`level`); a name that is the short form is no long form.
     pub name: T,
     pub kind: Kind<T>,
-    /// What stands above it in the help, where it is the first of a group.
+    /// What is above it in the help, if it is the first of a group.
     pub heading: T,
     /// What it does, for a person.
     pub says: T,
@@ -677,7 +677,7 @@ const TABLE: [Row<&str>; 90] = [
 
 const ROWS: &[Row<&str>] = &TABLE;
 
-/// The options. The constant stands here alone, since what names it is proved with each of its rows.
+/// The options. Nothing else names the constant, since what names it is proved with each of its rows.
 pub(crate) fn option_rows() -> &'static [Row<&'static str>]
     ensures { map row_in result.now ≡ table }
 {
@@ -685,7 +685,7 @@ pub(crate) fn option_rows() -> &'static [Row<&'static str>]
 }
 
 /// The forms of Wget's options: all long ones, in the order of their letters, and the short ones that aren't among the options
-/// above. One of two letters is the first letter's, as `nc`.
+/// above. One of two letters is the first letter's, such as `nc`.
 const WGET: [&str; 250] = [
     "--accept",
     "--accept-regex",
@@ -948,7 +948,7 @@ pub(crate) fn wget_forms() -> &'static [&'static str]
     WGETS
 }
 
-/// What to do in place of an option of Wget that isn't here. The type of its texts is a parameter, as that of a row's.
+/// What to do instead of an option of Wget that isn't here. The type of its texts is a parameter, like that of a row's.
 pub(crate) struct Instead<T> {
     /// The option's form, one of those above.
     pub form: T,
@@ -1298,7 +1298,7 @@ pub(crate) fn own_forms() -> &'static [&'static str]
     OWNS
 }
 
-/// A command of wgetrc. The type of its texts is a parameter, as that of a row's.
+/// A command of wgetrc. The type of its texts is a parameter, like that of a row's.
 pub(crate) struct Command<T> {
     /// Its name in small letters, without `-` and `_`.
     pub name: T,

@@ -7,7 +7,7 @@ use Rattle.options.specs.declared.table.Kind.{Kind}
 use Rattle.options.specs.declared.table.Row.{Row}
 use Rattle.options.specs.Table.{command_by, instead_by, kind_by, row_by}
 
--- what stands behind an option, as the code has it
+-- what follows an option, as the code has it
 abbrev pub kind_in : Kind (Bor Text) → Kind Text
 kind_in behind = kind_by (λ text. text.now) behind
 
@@ -19,6 +19,6 @@ row_in row = row_by (λ text. text.now) row
 abbrev pub command_in : Command (Bor Text) → Command Text
 command_in command = command_by (λ text. text.now) command
 
--- what to do in place of an option, as the code has it
+-- what to do instead of an option, as the code has it
 abbrev pub instead_in : Instead (Bor Text) → Instead Text
 instead_in row = instead_by (λ text. text.now) row
