@@ -4,6 +4,7 @@ ghost use Rattle.std.specs.Fmt.{decimal};
 ghost use Rattle.options.specs.Help.{help_text, in_columns, left_text, row_text, rows_text, short_text, usual_text, value_name, value_text};
 ghost use Rattle.options.specs.inner.Table.{kind_in, row_in};
 
+use crate::summary::summary_of;
 use crate::table::{Kind, Row, option_rows};
 use std::alloc::{AllocError, Global};
 
@@ -124,14 +125,15 @@ fn push_line(
     text: &mut String,
     row: &Row<&'static str>,
     left: &str,
+    says: &str,
     usual: &str,
 ) -> Result<(), AllocError>
-    ensures ok { OnOk result (string_bytes text.new ≡ string_bytes text.old ++ ((row_in row.now).heading ++ in_columns 35 left.now ++ (row_in row.now).says
+    ensures ok { OnOk result (string_bytes text.new ≡ string_bytes text.old ++ ((row_in row.now).heading ++ in_columns 35 left.now ++ says.now
         ++ usual.now ++ codes "\n")) }
 {
     text.push_str(row.heading)?;
     push_column(text, left, 35)?;
-    text.push_str(row.says)?;
+    text.push_str(says)?;
     text.push_str(usual)?;
     text.push_str("\n")
 }
@@ -140,12 +142,12 @@ fn push_line(
 fn push_row(alloc: Global, text: &mut String, row: &Row<&'static str>) -> Result<(), AllocError>
     ensures ok { OnOk result (string_bytes text.new ≡ string_bytes text.old ++ row_text (row_in row.now)) }
 {
-    if row.says.is_empty() {
+    let Some(says) = summary_of(row.name) else {
         return Ok(());
-    }
+    };
     let left = left_text(alloc, row)?;
     let usual = usual_text(alloc, &row.kind)?;
-    push_line(text, row, left.as_str(), usual.as_str())
+    push_line(text, row, left.as_str(), says, usual.as_str())
 }
 
 // Adds the lines of these options.

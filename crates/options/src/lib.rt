@@ -24,6 +24,7 @@ mod retries;
 mod said;
 mod sought;
 mod start;
+mod summary;
 mod table;
 mod trust;
 mod written;

@@ -1,11 +1,12 @@
 -- What proofs alone need beside `Table`.
 use Rattle.std.specs.Borrow.{Bor}
 use Rattle.clap.specs.Walk.{Text}
+use Rattle.options.specs.declared.summary.Summary.{Summary}
 use Rattle.options.specs.declared.table.Command.{Command}
 use Rattle.options.specs.declared.table.Instead.{Instead}
 use Rattle.options.specs.declared.table.Kind.{Kind}
 use Rattle.options.specs.declared.table.Row.{Row}
-use Rattle.options.specs.Table.{command_by, instead_by, kind_by, row_by}
+use Rattle.options.specs.Table.{command_by, instead_by, kind_by, row_by, summary_by}
 
 -- what follows an option, as the code has it
 abbrev pub kind_in : Kind (Bor Text) → Kind Text
@@ -22,3 +23,7 @@ command_in command = command_by (λ text. text.now) command
 -- what to do instead of an option, as the code has it
 abbrev pub instead_in : Instead (Bor Text) → Instead Text
 instead_in row = instead_by (λ text. text.now) row
+
+-- what an option does, as the code has it
+abbrev pub summary_in : Summary (Bor Text) → Summary Text
+summary_in summary = summary_by (λ text. text.now) summary
