@@ -1,5 +1,5 @@
 -- The line of the row is added, with what its forms and its default are.
-use Rattle.std.proofs.Common.{◌≡◌, ◌∙◌, ◌++◌, Some, codes, ap, sym}
+use Rattle.std.proofs.Common.{◌≡◌, ◌∙◌, ◌++◌, Some, codes, ap}
 use Rattle.std.proofs.lemmas.Result.{on_ok_weaker}
 use Rattle.clap.specs.Walk.{Text}
 use Rattle.options.specs.Help.{in_columns, left_text, line_text, row_text, says_of, usual_text}
