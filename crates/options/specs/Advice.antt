@@ -96,6 +96,9 @@ told_on line.Domain =
 told_on (line.Expression at) =
     Some (Correction (codes "the value of --accept-regex or --reject-regex is no expression")
     (codes "an expression is looked for in addresses, as [?]C= or [.]pdf$ (see wgetr --help)"))
+told_on line.Tags =
+    Some (Correction (codes "an element of --follow-tags or --ignore-tags is none with a link")
+    (codes "an element is a name, as a, or a name and an attribute with a link, as img/srcset (see wgetr --help)"))
 told_on (line.Start why) = option_map (λ wrong. Correction wrong accepted_start) (wrong_start why)
 told_on line.StartIsRobots = Some (Correction (codes "START is a robots file") (codes "START is any other page (see wgetr --help)"))
 told_on line.FarProxy =

@@ -15,6 +15,9 @@ use Rattle.follow_filters.specs.declared.plan.TheConstants.{MAX_PER_HOST, MAX_UR
 use Rattle.follow_filters.specs.Domains.{read_domain}
 use Rattle.follow_filters.specs.Directories.{read_directory}
 use Rattle.follow_filters.specs.Patterns.{read_element}
+use Rattle.html_links.specs.Rules.{has_unknown, taken_by}
+use Rattle.html_links.specs.declared.rules.LinkRules.{LinkRules}
+use Rattle.html_links.specs.declared.rules.RowSet.{RowSet}
 use Rattle.options.specs.declared.order.TheConstants.{DEFAULT_MAX_URLS, DEFAULT_PER_HOST, DEFAULT_WORKERS, MAX_WORKERS}
 use Rattle.options.specs.declared.order.Source.{Source}
 use Rattle.options.specs.declared.order.Source.TheVariants.{Map, Recorded, Live}
@@ -52,6 +55,16 @@ is_plain_value (Some value) = bytes_eq value (codes "none")
 unfoldable pub are_good : List Row → Bool
 are_good found = is_plain_value (first_of (codes "compression") found) && is_type (first_of (codes "regex-type") found)
 
+-- ---- which links of pages are taken
+
+-- what is taken by the two lists of elements, unless one names an attribute that has no link
+abbrev pub taken_if : Text → Text → Option RowSet
+taken_if followed ignored = if has_unknown followed || has_unknown ignored then None else Some (taken_by followed ignored)
+
+-- where links of pages are taken from
+unfoldable pub rows_taken : List Row → Option RowSet
+rows_taken found = taken_if (unwrap_or (first_of (codes "follow-tags") found) []) (unwrap_or (first_of (codes "ignore-tags") found) [])
+
 -- ---- the order
 
 -- what an order says, field by field
@@ -77,6 +90,7 @@ pub record Ordered : Type 0 where
   pub max_urls : ℕ
   pub per_host : ℕ
   pub workers : ℕ
+  pub links : LinkRules
   pub keeps_connections : Bool
   pub source : Source
   pub quota : Option ℕ
@@ -276,6 +290,10 @@ source_of found = if is_set (codes "map") found then Map else (if is_set (codes 
 abbrev pub honours_robots : List Row → Bool
 honours_robots found = is_set (codes "recursive") found && not (is_set (codes "no-robots") found)
 
+-- which links of pages are taken, of those that are taken by their place
+abbrev pub links_of : RowSet → List Row → LinkRules
+links_of taken found = record { robots = honours_robots found; relative = is_set (codes "relative") found; rows = taken }
+
 -- the limit of the level, or no hop if links aren't followed
 abbrev pub limit_within : Limit → List Row → Limit
 limit_within level found = if is_set (codes "recursive") found then level else AtMost 0
@@ -293,10 +311,10 @@ prefix_of found = folder_of (first_of (codes "directory-prefix") found)
 unfoldable pub log_of : List Row → Option (Text × Bool)
 log_of found = option_map (λ path. (path, is_some (first_of (codes "append-output") found))) (first_of (codes "output-file") found)
 
--- what the options order with these numbers, these proxies, these names, these fields, this manner, these retries, this level, these lists, these expressions and this start; without `-r` no link is followed and
+-- what the options order with these numbers, these proxies, these names, these fields, this manner, these retries, this level, these lists, these expressions, what is taken and this start; without `-r` no link is followed and
 -- no robots file is honoured
-abbrev pub ordered : List Row → Counts → Proxies → Naming → Sent → Mannered → Retried → Limit → (patterns directories domains expressions : List (List ℕ) × List (List ℕ)) → List ℕ → Ordered
-ordered found counts proxies names fields manner retries level patterns directories domains expressions start = record {
+abbrev pub ordered : List Row → Counts → Proxies → Naming → Sent → Mannered → Retried → Limit → (patterns directories domains expressions : List (List ℕ) × List (List ℕ)) → RowSet → List ℕ → Ordered
+ordered found counts proxies names fields manner retries level patterns directories domains expressions taken start = record {
   start = start;
   others = [];
   logins = [];
@@ -318,6 +336,7 @@ ordered found counts proxies names fields manner retries level patterns director
   max_urls = counts.max_urls;
   per_host = counts.per_host;
   workers = counts.workers;
+  links = links_of taken found;
   keeps_connections = not (is_set (codes "no-http-keep-alive") found);
   source = source_of found;
   quota = counts.quota;
@@ -351,7 +370,8 @@ order_of_rows found =
     found_or (directories_of found) fault.Directory (λ directories.
     found_or (domains_of found) fault.Domain (λ domains.
     found_or (expressions_of found) (fault.Expression 0) (λ expressions.
-    started_at (start_of found) (λ start. Ok (ordered found counts proxies names fields manner retries level patterns directories domains expressions start)))))))))))))
+    found_or (rows_taken found) fault.Tags (λ taken.
+    started_at (start_of found) (λ start. Ok (ordered found counts proxies names fields manner retries level patterns directories domains expressions taken start))))))))))))))
 
 -- words with no kind of refusal are taken
 abbrev pub are_taken : Kinds → Bool
@@ -473,6 +493,7 @@ ordered_by order = record {
   max_urls = order.plan.max_urls;
   per_host = order.plan.per_host;
   workers = order.workers;
+  links = order.links;
   keeps_connections = order.keeps_connections;
   source = order.source;
   quota = order.quota;

@@ -128,6 +128,10 @@ fn advice_on(wrong: LineFault) -> Option<Advice>
             "the value of --accept-regex or --reject-regex is no expression",
             "an expression is looked for in addresses, as [?]C= or [.]pdf$ (see wgetr --help)",
         )),
+        LineFault::Tags => Some(Advice::Correction(
+            "an element of --follow-tags or --ignore-tags is none with a link",
+            "an element is a name, as a, or a name and an attribute with a link, as img/srcset (see wgetr --help)",
+        )),
         LineFault::Start(refused) => Some(Advice::Correction(wrong_start(refused)?, START)),
         LineFault::StartIsRobots => Some(Advice::Correction(
             "START is a robots file",

@@ -34,6 +34,8 @@ pub enum LineFault {
     Domain,
     /// The value of `--accept-regex` or `--reject-regex` is no expression, from this byte on.
     Expression(usize),
+    /// A name in `--follow-tags` or `--ignore-tags` has an attribute that has no link.
+    Tags,
     /// The start is no address.
     Start(AddressFault),
     /// The start is its origin's robots file.

@@ -7,6 +7,7 @@ ghost use Rattle.options.specs.declared.order.TheConstants.{MAX_WORKERS};
 use crate::homes::homes_of;
 use crate::naming::PageNames;
 use follow_filters::{Plan, Starts};
+use html_links::LinkRules;
 use pacing::{Manner, Retries};
 use requests::{Fields, Login, Proxies, Sending};
 use std::alloc::{AllocError, Global};
@@ -119,6 +120,8 @@ pub struct Order {
     pub logins: Vec<Option<Login>>,
     /// How many workers retrieve it, 1 to 64.
     pub workers: u32,
+    /// Which links of pages are taken.
+    pub links: LinkRules,
     /// Whether connections are kept, to be used again.
     pub keeps_connections: bool,
     /// Where the site is.
@@ -261,6 +264,7 @@ impl Order {
             plan,
             logins,
             workers,
+            links,
             keeps_connections,
             source,
             quota,
@@ -282,6 +286,7 @@ impl Order {
             plan: with_starts(plan, others),
             logins,
             workers,
+            links,
             keeps_connections,
             source,
             quota,
@@ -309,6 +314,7 @@ impl Order {
             plan,
             logins: _logins,
             workers,
+            links,
             keeps_connections,
             source,
             quota,
@@ -330,6 +336,7 @@ impl Order {
             plan,
             logins,
             workers,
+            links,
             keeps_connections,
             source,
             quota,

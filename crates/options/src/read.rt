@@ -14,7 +14,7 @@ ghost use Rattle.options.specs.Given.{level_of, list_of};
 ghost use Rattle.pacing.specs.Manners.{mannered};
 ghost use Rattle.pacing.specs.Retries.{retries_by};
 ghost use Rattle.options.specs.Naming.{naming_by};
-ghost use Rattle.options.specs.Order.{AnswersOrder, OrdersBySayings, order_of, order_of_rows, order_of_written, order_said, are_good, is_plain_value, both, counts_of, patterns_of, directories_of, domains_of, expressions_of, fields_fault, fields_of, fields_with, logged, login_by, login_of, login_with, password_of, said_or, start_of, source_of, user_of, honours_robots, limit_within, ordered, ordered_by, folder_of, guarded, prefix_of, log_by, log_of, both_proxies, proxies_of, proxy_at, proxy_by, proxy_value, read_start, root_origin, unless_empty, with_others};
+ghost use Rattle.options.specs.Order.{AnswersOrder, OrdersBySayings, order_of, order_of_rows, order_of_written, order_said, are_good, is_plain_value, both, counts_of, patterns_of, directories_of, domains_of, expressions_of, fields_fault, fields_of, fields_with, logged, login_by, login_of, login_with, password_of, said_or, start_of, source_of, user_of, honours_robots, limit_within, links_of, ordered, ordered_by, folder_of, guarded, prefix_of, log_by, log_of, both_proxies, proxies_of, proxy_at, proxy_by, proxy_value, read_start, root_origin, rows_taken, taken_if, unless_empty, with_others};
 ghost use Rattle.options.specs.Asked.{refusal_of, without_kind, words_refused};
 ghost use Rattle.options.specs.inner.Said.{saying_in};
 ghost use Rattle.options.specs.inner.Order.{StartsAt, FailsToStart, FailsToFilter, IsNoStart, Settles, fault_of_kind, unasked};
@@ -44,6 +44,7 @@ use clap::{ArgMatches, Error};
 use follow_filters::{
     Directory, Domain, Element, Elements, Limit, MAX_PER_HOST, MAX_URLS, Pattern, Plan, Starts,
 };
+use html_links::{LinkRules, RowSet};
 use pacing::{Manner, Retries};
 use requests::{Fields, FieldsFault, Login, Proxies, Proxy};
 use std::alloc::{AllocError, Global};
@@ -90,13 +91,14 @@ struct Lists<T> {
     excluded: Elements<T>,
 }
 
-// The lists of names, directories and hosts, and the expressions.
+// The lists of names, directories and hosts, the expressions, and where links of pages are taken from.
 #[derive(Drop)]
 struct Filters {
     names: Lists<Pattern>,
     places: Lists<Directory>,
     hosts: Lists<Domain>,
     sought: Sought,
+    rows: RowSet,
 }
 
 // Whether the value of `--compression` is one that it may have.
@@ -194,6 +196,24 @@ fn domains(alloc: Global, matches: &ArgMatches) -> Result<Lists<Domain>, LineFau
     )
 }
 
+// Where links of pages are taken from by these lists; nothing if one names an attribute that has no link.
+fn listed_rows(followed: &str, ignored: &str) -> Option<RowSet>
+    ensures { result ≡ taken_if followed.now ignored.now }
+{
+    RowSet::from_lists(followed, ignored)
+}
+
+// Where links of pages are taken from.
+#[tactic(auto, unfolding(crate::specs::Order::rows_taken))]
+fn rows_taken(matches: &ArgMatches) -> Option<RowSet>
+    ensures { result ≡ rows_taken (rows_of (found_of matches.now)) }
+{
+    listed_rows(
+        given(matches, "follow-tags").unwrap_or(""),
+        given(matches, "ignore-tags").unwrap_or(""),
+    )
+}
+
 // The lists and expressions, or the fault of the first that is bad. Here and in `order_of_matches` an exit drops what was read by explicit calls:
 // an implicit drop is proved anew at each exit.
 fn read_filters(alloc: Global, matches: &ArgMatches) -> Result<Filters, LineFault>
@@ -201,7 +221,8 @@ fn read_filters(alloc: Global, matches: &ArgMatches) -> Result<Filters, LineFaul
         (λ l. (patterns_of (rows_of (found_of matches.now)) ≡ Some (l.names.given, l.names.excluded))
         × (directories_of (rows_of (found_of matches.now)) ≡ Some (l.places.given, l.places.excluded))
         × (domains_of (rows_of (found_of matches.now)) ≡ Some (l.hosts.given, l.hosts.excluded))
-        × (expressions_of (rows_of (found_of matches.now)) ≡ Some (l.sought.accepted, l.sought.rejected)))
+        × (expressions_of (rows_of (found_of matches.now)) ≡ Some (l.sought.accepted, l.sought.rejected))
+        × (rows_taken (rows_of (found_of matches.now)) ≡ Some l.rows))
         (λ f. FailsToFilter (rows_of (found_of matches.now)) f ⊎ (f ≡ fault.Memory)) }
 {
     let names = match patterns(alloc, matches) {
@@ -232,11 +253,19 @@ fn read_filters(alloc: Global, matches: &ArgMatches) -> Result<Filters, LineFaul
             return Err(fault);
         }
     };
+    let Some(rows) = rows_taken(matches) else {
+        drop(names);
+        drop(places);
+        drop(hosts);
+        drop(sought);
+        return Err(LineFault::Tags);
+    };
     Ok(Filters {
         names,
         places,
         hosts,
         sought,
+        rows,
     })
 }
 
@@ -716,7 +745,7 @@ fn filled(
     requires save { paths.save ≡ first_of (codes "save") (rows_of (found_of matches.now)) }
     requires log { option_map log_by paths.log ≡ log_of (rows_of (found_of matches.now)) }
     ensures { ordered_by result ≡ ordered (rows_of (found_of matches.now)) (record { workers = settings.counts.workers; per_host = settings.counts.per_host; max_urls = settings.counts.max_urls; quota = settings.counts.quota })
-        settings.proxies (naming_by settings.names) settings.fields (mannered settings.manner) (retries_by settings.retries) level (filters.names.given, filters.names.excluded) (filters.places.given, filters.places.excluded) (filters.hosts.given, filters.hosts.excluded) (filters.sought.accepted, filters.sought.rejected) start }
+        settings.proxies (naming_by settings.names) settings.fields (mannered settings.manner) (retries_by settings.retries) level (filters.names.given, filters.names.excluded) (filters.places.given, filters.places.excluded) (filters.hosts.given, filters.hosts.excluded) (filters.sought.accepted, filters.sought.rejected) filters.rows start }
 {
     let Settings {
         counts,
@@ -731,6 +760,7 @@ fn filled(
         places,
         hosts,
         sought,
+        rows,
     } = filters;
     Order {
         plan: Plan {
@@ -756,6 +786,7 @@ fn filled(
         },
         logins: Vec::new(alloc),
         workers: counts.workers,
+        links: links(matches, rows),
         keeps_connections: !is_set(matches, "no-http-keep-alive"),
         source: source(matches),
         quota: counts.quota,
@@ -785,6 +816,17 @@ fn limit_within(matches: &ArgMatches, level: Limit) -> Limit
         level
     } else {
         Limit::AtMost(0)
+    }
+}
+
+// Which links of pages are taken, of those that are taken by their place.
+fn links(matches: &ArgMatches, rows: RowSet) -> LinkRules
+    ensures { result ≡ links_of rows (rows_of (found_of matches.now)) }
+{
+    LinkRules {
+        robots: honours_robots(matches),
+        relative: is_set(matches, "relative"),
+        rows,
     }
 }
 

@@ -13,7 +13,7 @@ pub(crate) struct Summary<T> {
 }
 
 // An option that isn't here isn't in the help.
-const SUMMARY: [Summary<&str>; 89] = [
+const SUMMARY: [Summary<&str>; 92] = [
     Summary {
         name: "recursive",
         says: "follow links",
@@ -73,6 +73,18 @@ const SUMMARY: [Summary<&str>; 89] = [
     Summary {
         name: "ignore-case",
         says: "letters of all these in either case",
+    },
+    Summary {
+        name: "relative",
+        says: "only links that are relative to their page",
+    },
+    Summary {
+        name: "follow-tags",
+        says: "only links of these elements: a,img/srcset",
+    },
+    Summary {
+        name: "ignore-tags",
+        says: "no links of these elements",
     },
     Summary {
         name: "execute",

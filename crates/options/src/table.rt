@@ -40,7 +40,7 @@ pub(crate) struct Row<T> {
 }
 
 /// The options. What each does is in `summary.rt`: a constant's proof takes time for each pair of a text and a byte in it.
-const TABLE: [Row<&str>; 90] = [
+const TABLE: [Row<&str>; 93] = [
     Row {
         short: "r",
         name: "recursive",
@@ -135,6 +135,24 @@ const TABLE: [Row<&str>; 90] = [
         short: "",
         name: "ignore-case",
         kind: Kind::Flag,
+        heading: "",
+    },
+    Row {
+        short: "L",
+        name: "relative",
+        kind: Kind::Flag,
+        heading: "",
+    },
+    Row {
+        short: "",
+        name: "follow-tags",
+        kind: Kind::List("LIST"),
+        heading: "",
+    },
+    Row {
+        short: "",
+        name: "ignore-tags",
+        kind: Kind::List("LIST"),
         heading: "",
     },
     Row {
@@ -594,7 +612,7 @@ pub(crate) fn option_rows() -> &'static [Row<&'static str>]
 
 /// The forms of Wget's options: all long ones, in the order of their letters, and the short ones that aren't among the options
 /// above. One of two letters is the first letter's, such as `nc`.
-const WGET: [&str; 250] = [
+const WGET: [&str; 249] = [
     "--accept",
     "--accept-regex",
     "--adjust-extension",
@@ -844,7 +862,6 @@ const WGET: [&str; 250] = [
     "-S",
     "-K",
     "-m",
-    "-L",
 ];
 
 const WGETS: &[&str] = &WGET;
@@ -865,7 +882,7 @@ pub(crate) struct Instead<T> {
 }
 
 /// What to do in place of Wget's options, if there is something. None of these forms is read.
-const INSTEAD: [Instead<&str>; 73] = [
+const INSTEAD: [Instead<&str>; 71] = [
     Instead {
         form: "--background",
         advice: "& of the shell, or nohup",
@@ -1150,14 +1167,6 @@ const INSTEAD: [Instead<&str>; 73] = [
         form: "-m",
         advice: "-r -l inf, and --save FILE and --resume FILE for -N",
     },
-    Instead {
-        form: "--relative",
-        advice: "without -H links stay on their host",
-    },
-    Instead {
-        form: "-L",
-        advice: "without -H links stay on their host",
-    },
 ];
 
 const INSTEADS: &[Instead<&str>] = &INSTEAD;
@@ -1215,7 +1224,7 @@ pub(crate) struct Command<T> {
 }
 
 /// The commands of wgetrc whose options are here.
-const COMMANDS: [Command<&str>; 73] = [
+const COMMANDS: [Command<&str>; 76] = [
     Command {
         name: "accept",
         option: "accept",
@@ -1293,6 +1302,10 @@ const COMMANDS: [Command<&str>; 73] = [
         option: "follow-ftp",
     },
     Command {
+        name: "followtags",
+        option: "follow-tags",
+    },
+    Command {
         name: "header",
         option: "header",
     },
@@ -1331,6 +1344,10 @@ const COMMANDS: [Command<&str>; 73] = [
     Command {
         name: "ignorecase",
         option: "ignore-case",
+    },
+    Command {
+        name: "ignoretags",
+        option: "ignore-tags",
     },
     Command {
         name: "includedirectories",
@@ -1431,6 +1448,10 @@ const COMMANDS: [Command<&str>; 73] = [
     Command {
         name: "rejectregex",
         option: "reject-regex",
+    },
+    Command {
+        name: "relativeonly",
+        option: "relative",
     },
     Command {
         name: "removelisting",

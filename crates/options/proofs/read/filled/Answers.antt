@@ -13,6 +13,7 @@ returns c = rw (
   c.is_set-4.ensures,
   c.is_set-5.ensures,
   c.is_set-6.ensures,
+  c.links.ensures,
   c.source.ensures,
   c.is_set-7.ensures,
   c.is_set-8.ensures,
