@@ -11,21 +11,36 @@ use crate::site_files::WriteFault;
 use harvest::Harvest;
 use kept_bodies::{Body, BodyKind};
 
-/// A kept body of which it is known what it is.
+/// A kept body of which it is known what it is, and how long.
 pub trait HasKind {
     // What it is.
     ghost kind_of: { Self → BodyKind };
 
+    // How many bytes it has.
+    ghost len_of: { Self → ℕ };
+
     /// What it is. Takes no memory.
     fn kind_of(&self) -> BodyKind
         ensures { result ≡ kind_of self.now };
+
+    /// How many bytes it has. Takes no memory.
+    fn len_of(&self) -> u64
+        ensures { result ≡ len_of self.now };
 }
 
 impl HasKind for Body {
+    ghost use Rattle.std.specs.Prelude.{length};
+
     ghost kind_of = { λ body. body.kind };
+
+    ghost len_of = { λ body. length body.bytes };
 
     fn kind_of(&self) -> BodyKind {
         self.kind()
+    }
+
+    fn len_of(&self) -> u64 {
+        self.as_slice().len() as u64
     }
 }
 

@@ -26,7 +26,7 @@ use Rattle.options.specs.Asked.{refusal_of, without_kind, words_refused}
 use Rattle.options.specs.Line.{rows, refusals}
 use Rattle.options.specs.Given.{is_set, level_of, number_given, list_of}
 use Rattle.pacing.specs.Manners.{Mannered, mannered}
-use Rattle.options.specs.Manners.{manner_of}
+use Rattle.options.specs.Manners.{manner_of, quota_by}
 use Rattle.pacing.specs.Retries.{Retried, retries_by}
 use Rattle.options.specs.Retries.{retries_of}
 use Rattle.options.specs.Naming.{Naming, naming_by, naming_of}
@@ -79,6 +79,7 @@ pub record Ordered : Type 0 where
   pub workers : ℕ
   pub keeps_connections : Bool
   pub source : Source
+  pub quota : Option ℕ
   pub trace : Bool
   pub quiet : Bool
   pub log : Option (Text × Bool)
@@ -116,17 +117,18 @@ directories_of found =
 unfoldable pub domains_of : List Row → Option (List (List ℕ) × List (List ℕ))
 domains_of found = both (list_of read_domain (codes "domains") found) (list_of read_domain (codes "exclude-domains") found)
 
--- the numbers of workers, requests out to an origin, and addresses
+-- the numbers of workers, requests out to an origin, and addresses, and the quota
 pub record Counts : Type 0 where
   pub workers : ℕ
   pub per_host : ℕ
   pub max_urls : ℕ
+  pub quota : Option ℕ
 
 -- these numbers, the usual ones where they aren't given
 unfoldable pub counts_of : List Row → Option Counts
 counts_of found =
-    option_and_then (λ w. option_and_then (λ p. option_map (λ u. record { workers = w; per_host = p; max_urls = u })
-    (number_given (codes "max-urls") MAX_URLS DEFAULT_MAX_URLS found)) (number_given (codes "per-host") MAX_PER_HOST DEFAULT_PER_HOST found)) (number_given (codes "workers") MAX_WORKERS DEFAULT_WORKERS found)
+    option_and_then (λ w. option_and_then (λ p. option_and_then (λ u. option_map (λ q. record { workers = w; per_host = p; max_urls = u; quota = q })
+    (quota_by (first_of (codes "quota") found))) (number_given (codes "max-urls") MAX_URLS DEFAULT_MAX_URLS found)) (number_given (codes "per-host") MAX_PER_HOST DEFAULT_PER_HOST found)) (number_given (codes "workers") MAX_WORKERS DEFAULT_WORKERS found)
 
 -- why what was read names no proxy
 abbrev pub proxy_fault : AddressFault → LineFault
@@ -317,6 +319,7 @@ ordered found counts proxies names fields manner retries level patterns director
   workers = counts.workers;
   keeps_connections = not (is_set (codes "no-http-keep-alive") found);
   source = source_of found;
+  quota = counts.quota;
   trace = is_set (codes "trace") found;
   quiet = is_set (codes "quiet") found;
   log = log_of found;
@@ -470,6 +473,7 @@ ordered_by order = record {
   workers = order.workers;
   keeps_connections = order.keeps_connections;
   source = order.source;
+  quota = order.quota;
   trace = order.trace;
   quiet = order.quiet;
   log = option_map log_by order.log;

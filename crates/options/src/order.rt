@@ -123,6 +123,8 @@ pub struct Order {
     pub keeps_connections: bool,
     /// Where the site is.
     pub source: Source,
+    /// The most bytes of kept bodies before nothing more is requested, if there is a limit.
+    pub quota: Option<u64>,
     /// Whether the trace is shown before the report.
     pub trace: bool,
     /// Whether nothing is told.
@@ -259,6 +261,7 @@ impl Order {
             workers,
             keeps_connections,
             source,
+            quota,
             trace,
             quiet,
             log,
@@ -278,6 +281,7 @@ impl Order {
             workers,
             keeps_connections,
             source,
+            quota,
             trace,
             quiet,
             log,
@@ -303,6 +307,7 @@ impl Order {
             workers,
             keeps_connections,
             source,
+            quota,
             trace,
             quiet,
             log,
@@ -322,6 +327,7 @@ impl Order {
             workers,
             keeps_connections,
             source,
+            quota,
             trace,
             quiet,
             log,

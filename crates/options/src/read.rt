@@ -26,7 +26,7 @@ use crate::fault::LineFault;
 use crate::given::{elements, given, is_set, level, number};
 use crate::line::parse;
 use crate::login::{has_colon, logins, typed, typed_login};
-use crate::manner::manner;
+use crate::manner::{manner, quota};
 use crate::naming::{PageNames, names};
 use crate::order::{
     DEFAULT_MAX_URLS, DEFAULT_PER_HOST, DEFAULT_WORKERS, FilePath, Log, MAX_WORKERS, Order, Prefix,
@@ -48,12 +48,13 @@ use pacing::{Manner, Retries};
 use requests::{Fields, FieldsFault, Login, Proxies, Proxy};
 use std::alloc::{AllocError, Global};
 
-// The numbers of workers, requests out to an origin, and addresses.
+// The numbers of workers, requests out to an origin, and addresses, and the quota.
 #[derive(Drop)]
 struct Counts {
     workers: u32,
     per_host: u32,
     max_urls: u32,
+    quota: Option<u64>,
     ghost some_workers: { 0 < workers },
     ghost workers_in_range: { workers ≤ MAX_WORKERS },
     ghost some_per_host: { 0 < per_host },
@@ -124,12 +125,13 @@ fn word_fault(matches: &ArgMatches) -> Option<LineFault>
 #[tactic(auto, unfolding(crate::specs::Order::counts_of))]
 fn read_counts(matches: &ArgMatches) -> Option<Counts>
     ensures { MatchOption result (counts_of (rows_of (found_of matches.now)) ≡ None)
-        (λ c. counts_of (rows_of (found_of matches.now)) ≡ Some (record { workers = c.workers; per_host = c.per_host; max_urls = c.max_urls })) }
+        (λ c. counts_of (rows_of (found_of matches.now)) ≡ Some (record { workers = c.workers; per_host = c.per_host; max_urls = c.max_urls; quota = c.quota })) }
 {
     Some(Counts {
         workers: number(matches, "workers", MAX_WORKERS, DEFAULT_WORKERS)?,
         per_host: number(matches, "per-host", MAX_PER_HOST, DEFAULT_PER_HOST)?,
         max_urls: number(matches, "max-urls", MAX_URLS, DEFAULT_MAX_URLS)?,
+        quota: quota(matches)?,
     })
 }
 
@@ -611,7 +613,7 @@ fn fields(alloc: Global, matches: &ArgMatches) -> Result<Fields, LineFault>
 // again, the proxies and what requests say: their faults come before those of levels and lists.
 fn read_settings(alloc: Global, matches: &ArgMatches) -> Result<Settings, LineFault>
     ensures { MatchResult result
-        (λ s. Settles (rows_of (found_of matches.now)) (record { workers = s.counts.workers; per_host = s.counts.per_host; max_urls = s.counts.max_urls }) s.proxies (naming_by s.names) s.fields (mannered s.manner) (retries_by s.retries))
+        (λ s. Settles (rows_of (found_of matches.now)) (record { workers = s.counts.workers; per_host = s.counts.per_host; max_urls = s.counts.max_urls; quota = s.counts.quota }) s.proxies (naming_by s.names) s.fields (mannered s.manner) (retries_by s.retries))
         (λ f. (order_of_rows (rows_of (found_of matches.now)) ≡ Err (without_kind f)) ⊎ (f ≡ fault.Memory)) }
 {
     if let Some(fault) = word_fault(matches) {
@@ -713,7 +715,7 @@ fn filled(
     requires resume { paths.resume ≡ first_of (codes "resume") (rows_of (found_of matches.now)) }
     requires save { paths.save ≡ first_of (codes "save") (rows_of (found_of matches.now)) }
     requires log { option_map log_by paths.log ≡ log_of (rows_of (found_of matches.now)) }
-    ensures { ordered_by result ≡ ordered (rows_of (found_of matches.now)) (record { workers = settings.counts.workers; per_host = settings.counts.per_host; max_urls = settings.counts.max_urls })
+    ensures { ordered_by result ≡ ordered (rows_of (found_of matches.now)) (record { workers = settings.counts.workers; per_host = settings.counts.per_host; max_urls = settings.counts.max_urls; quota = settings.counts.quota })
         settings.proxies (naming_by settings.names) settings.fields (mannered settings.manner) (retries_by settings.retries) level (filters.names.given, filters.names.excluded) (filters.places.given, filters.places.excluded) (filters.hosts.given, filters.hosts.excluded) (filters.sought.accepted, filters.sought.rejected) start }
 {
     let Settings {
@@ -756,6 +758,7 @@ fn filled(
         workers: counts.workers,
         keeps_connections: !is_set(matches, "no-http-keep-alive"),
         source: source(matches),
+        quota: counts.quota,
         trace: is_set(matches, "trace"),
         quiet: is_set(matches, "quiet"),
         log: paths.log,

@@ -42,7 +42,7 @@ pub(crate) struct Row<T> {
 }
 
 /// The options.
-const TABLE: [Row<&str>; 87] = [
+const TABLE: [Row<&str>; 88] = [
     Row {
         short: "r",
         name: "recursive",
@@ -359,6 +359,13 @@ const TABLE: [Row<&str>; 87] = [
         says: "read R bytes a second at most; 20k, 1.5m",
     },
     Row {
+        short: "Q",
+        name: "quota",
+        kind: Kind::Value("N"),
+        heading: "",
+        says: "request nothing after N bytes of bodies",
+    },
+    Row {
         short: "4",
         name: "inet4-only",
         kind: Kind::Flag,
@@ -665,7 +672,7 @@ pub(crate) fn option_rows() -> &'static [Row<&'static str>]
 
 /// The forms of Wget's options: all long ones, in the order of their letters, and the short ones that aren't among the options
 /// above. One of two letters is the first letter's, as `nc`.
-const WGET: [&str; 256] = [
+const WGET: [&str; 255] = [
     "--accept",
     "--accept-regex",
     "--adjust-extension",
@@ -916,7 +923,6 @@ const WGET: [&str; 256] = [
     "-c",
     "-N",
     "-S",
-    "-Q",
     "-E",
     "-k",
     "-K",
@@ -1292,7 +1298,7 @@ pub(crate) struct Command<T> {
 }
 
 /// The commands of wgetrc whose options are here.
-const COMMANDS: [Command<&str>; 70] = [
+const COMMANDS: [Command<&str>; 71] = [
     Command {
         name: "accept",
         option: "accept",
@@ -1468,6 +1474,10 @@ const COMMANDS: [Command<&str>; 70] = [
     Command {
         name: "quiet",
         option: "quiet",
+    },
+    Command {
+        name: "quota",
+        option: "quota",
     },
     Command {
         name: "randomwait",

@@ -1,7 +1,7 @@
 -- What is put and told of what a crew retrieved is the end of a live retrieval.
-use Rattle.std.proofs.Common.{◌≡◌, ◌≢◌, ◌⊎◌, ◌∙◌, ◌++◌, ℕ, inl, inr, Bool, false, List, [], length, map, Option, refl, sym, ap, subst, append_assoc}
+use Rattle.std.proofs.Common.{◌≡◌, ◌≢◌, ◌⊎◌, ◌∙◌, ◌++◌, ℕ, inl, inr, Bool, false, List, [], length, map, Option, Some, refl, sym, ap, subst, append_assoc}
 use Rattle.std.specs.Prelude.{IfSome, IfOk, IfErr, Result, Ok, Err}
-use Rattle.std.specs.List.{AllZip}
+use Rattle.std.specs.List.{AllZip, sum_by}
 use Rattle.kept_bodies.specs.declared.body_kind.BodyKind.{BodyKind}
 use Rattle.follow_filters.specs.declared.plan.Plan.{Plan}
 use Rattle.options.specs.declared.naming.PageNames.{PageNames}
@@ -10,7 +10,8 @@ use Rattle.fetcher.specs.declared.fetcher.Fetcher.{Ghosts as Meaning}
 use Rattle.frontier_core.specs.Invariants.{IsSound, IsComplete, IsOverfull}
 use Rattle.frontier_core.specs.Machine.{State, answers}
 use Rattle.frontier_core.specs.Plans.{policy}
-use Rattle.frontier_core.specs.Routes.{Policy, HasTooMany}
+use Rattle.frontier_core.specs.Routes.{Policy, Answers, HasTooMany}
+use Rattle.frontier_core.proofs.Runs.{closed_replay}
 use Rattle.frontier_core.specs.Tables.{Text}
 use Rattle.frontier_core.specs.declared.event.Cause.{Cause}
 use Rattle.frontier_core.specs.declared.event.Cause.TheVariants as why
@@ -19,7 +20,9 @@ use Rattle.harvest.specs.Harvests.{Harvested}
 use Rattle.harvest.specs.Pages.{IsBodyOf}
 use Rattle.workers.proofs.FoundLaws.{page_among, rules_among, made_once, are_asked, stopped_once}
 use Rattle.workers.specs.Crews.{AreLater}
+use Rattle.workers.specs.Found.{AreMadeOnce}
 use Rattle.workers.specs.OneWorker.{AreByCrew}
+use Rattle.workers.specs.Quotas.{IsPassed, KeepsTo}
 use Rattle.workers.specs.Takers.{AreOwn}
 use Rattle.workers.specs.Retrieval.{IsRetrieved, IsPartRetrieved, IsStopped}
 use Rattle.workers.specs.Sites.{IsCompleteFor}
@@ -30,16 +33,17 @@ use Rattle.report.specs.Entries.{harvest_lines_of}
 use Rattle.report.specs.Named.{names_in}
 use Rattle.report.specs.Report.{report_text}
 use Rattle.report.proofs.NamedLaws.{names_of_lines, pages_of_lines}
-use Rattle.retriever.specs.Found.{Crew, crew_of, MaySay, MaySayRules, asks_of, EndsFound, Finds, Outside, LiveEnd, Finished, Torn, live_text, live_status, torn_line}
-use Rattle.retriever.specs.Live.{AreOfCrew, IsRetrievedLive, IsStoppedLive, EndsLive, Lives}
+use Rattle.retriever.specs.Found.{Crew, crew_of, MaySay, MaySayRules, asks_of, IsPartFound, IsReportFound, EndsFound, Finds, Outside, LiveEnd, Finished, Torn, live_text, live_status, torn_line}
+use Rattle.retriever.specs.Live.{AreOfCrew, IsFrontLive, IsReportLive, IsRetrievedLive, IsStoppedLive, EndsLive, Lives}
 use Rattle.retriever.specs.Parts.{shown_of}
 use Rattle.retriever.specs.Retrieved.{Retrieved, Stopped}
 use Rattle.retriever.specs.Keeping.{Keeping, kinds_of}
 use Rattle.retriever.specs.Site.{AreNamesOf}
 use Rattle.retriever.specs.inner.Parts.{IsRead, IsToldAs, status_told}
-use Rattle.retriever.specs.inner.Puts.{IsHaltTold, IsPutOf}
+use Rattle.retriever.specs.inner.Puts.{IsHarvestPut, IsHaltTold, IsPutOf, IsStopPut}
 use Rattle.report.specs.Trace.{trace_text}
 use Rattle.retriever.proofs.FoundLaws.{are_lines}
+use Rattle.retriever.proofs.FrontLaws.{are_front_lines}
 use Rattle.retriever.proofs.DeliveryLaws.{told_delivered}
 use Rattle.retriever.proofs.EndLaws.{are_named, names_count, none_shown, status_of}
 
@@ -74,6 +78,37 @@ retrieved crew plan naming h names is read given by =
       };
     }
 
+-- what one knows of the part of a retrieval that stopped
+part_found : {F B : Type 0} (crew : Crew F B) (plan : Plan) (cause : Cause) (h : Harvested B) → IsPartRetrieved (MaySay crew) (MaySayRules crew) plan (asks_of crew) cause h
+    → IsPartFound crew plan (answers h.state)
+part_found crew plan cause h part = record {
+  once = made_once (asks_of crew) part.once;
+  wanted = λ u among. part.wanted u (page_among (asks_of crew) u among);
+  needed = λ o among. part.needed o (rules_among (asks_of crew) o among);
+  told = part.told;
+}
+
+-- a front that the quota ended
+front : {F B : Type 0} (crew : Crew F B) (plan : Plan) (naming : PageNames) (h : Harvested B) (names : List (List ℕ)) → IsPartRetrieved (MaySay crew) (MaySayRules crew) plan (asks_of crew) why.Quota h → IsRead h
+    → AreNamesOf naming h.kept (kinds_of crew.keeps.kind_of h.bodies) names → AreOfCrew crew h.trace → IsFrontLive crew plan naming h.trace (harvest_lines_of h names) h.bodies
+front crew plan naming h names part read given by =
+    let sound = subst (λ (o : Option Plan). IfSome o (λ plan. IsSound (policy plan) h.state)) part.follows read.3 in
+    let closed = closed_replay (policy plan) h.trace h.state part.replay in
+    let long : length names ≡ length h.kept = names_count crew.keeps.kind_of naming h names given in
+    record {
+      state = h.state;
+      replay = part.replay;
+      by = by;
+      stopped = part.stopped;
+      recorded = part.recorded;
+      found = record {
+        part = part_found crew plan why.Quota h part;
+        reported = are_front_lines (policy plan) h names read.0 read.1 sound closed;
+        named = are_named crew.keeps.kind_of plan naming h names read.0 read.1 read.2 part.follows sound.addresses given;
+        kept = subst (λ (pages : List Text). AllZip (IsBodyOf (MaySay crew) (answers h.state)) pages h.bodies) (sym (pages_of_lines h names read.0 read.1 read.2 long)) part.bodies;
+      };
+    }
+
 -- the names in the lines of a harvest are those that were given
 given : {B : Type 0} (kind_of : B → BodyKind) (naming : PageNames) (h : Harvested B) (names : List (List ℕ)) → IsRead h → AreNamesOf naming h.kept (kinds_of kind_of h.bodies) names
     → names ≡ names_in (harvest_lines_of h names)
@@ -87,12 +122,7 @@ part_retrieved crew plan cause h part many by = record {
   by = by;
   stopped = part.stopped;
   recorded = part.recorded;
-  found = record {
-    once = made_once (asks_of crew) part.once;
-    wanted = λ u among. part.wanted u (page_among (asks_of crew) u among);
-    needed = λ o among. part.needed o (rules_among (asks_of crew) o among);
-    told = part.told;
-  };
+  found = part_found crew plan cause h part;
   full = many;
 }
 
@@ -103,46 +133,49 @@ module _ {F B : Type 0} (crew : Crew F B) (order : Order) (old new : Holding) (I
   abbrev pub EndsTold : Type 0
   EndsTold = (shown : List Event) × (ending : LiveEnd) × EndsLive crew order old new shown ending × IsTold (trace_text shown ++ live_text ending) (live_status ending)
 
-  ended : (h : Harvested B) → IsRetrieved (MaySay crew) (MaySayRules crew) order.plan (asks_of crew) h → AreOfCrew crew h.trace → IsPutOf crew.keeps IsTold order.names order.trace (Ok h) old new → EndsTold
-  ended h is by (inl (same, told)) = ([], Finished (Stopped why.Memory), (made_once (asks_of crew) is.once, inl refl, inl same), told)
-  ended h is by (inr (read, names, naming, inl (whole, quiet, told))) =
+  -- a harvest of which a report with any names is known to be so
+  ended : (h : Harvested B) → AreMadeOnce (asks_of crew) → h.plan ≡ Some order.plan
+      → ((names : List (List ℕ)) → IsRead h → AreNamesOf order.names h.kept (kinds_of crew.keeps.kind_of h.bodies) names → IsReportLive crew order h.trace (harvest_lines_of h names) h.bodies)
+      → IsHarvestPut crew.keeps IsTold order.names order.trace h old new → EndsTold
+  ended h once follows live (inl (same, told)) = ([], Finished (Stopped why.Memory), (once, inl refl, inl same), told)
+  ended h once follows live (inr (read, names, naming, inl (whole, quiet, told))) =
       let lines = harvest_lines_of h names in (
         shown_of order.trace h.trace,
         Finished (Retrieved lines),
         (
           h.trace,
           h.bodies,
-          retrieved crew order.plan order.names h names is read naming by,
+          live names read naming,
           refl,
           (subst (λ (given : List (List ℕ)). IsShelved crew.keeps.holds given h.bodies old.files new.files) (given crew.keeps.kind_of order.names h names read naming) whole, quiet),
         ),
-        subst (λ (wanted : ℕ). IsTold (trace_text (shown_of order.trace h.trace) ++ report_text lines) wanted) (status_of order h names read is.follows) told,
+        subst (λ (wanted : ℕ). IsTold (trace_text (shown_of order.trace h.trace) ++ report_text lines) wanted) (status_of order h names read follows) told,
       )
-  ended h is by (inr (read, names, naming, inr (whole, torn, inl told))) =
+  ended h once follows live (inr (read, names, naming, inr (whole, torn, inl told))) =
       let lines = harvest_lines_of h names in (
         shown_of order.trace h.trace,
         Torn lines whole,
         (
           h.trace,
           h.bodies,
-          retrieved crew order.plan order.names h names is read naming by,
+          live names read naming,
           refl,
           subst (λ (given : List (List ℕ)). IsHalfShelved crew.keeps.holds given h.bodies old new whole) (given crew.keeps.kind_of order.names h names read naming) torn,
         ),
         subst (λ (text : List ℕ). IsTold text 3) (append_assoc (trace_text (shown_of order.trace h.trace)) (report_text lines) (torn_line whole)) told,
       )
-  ended h is by (inr (read, names, naming, inr (whole, torn, inr told))) = (
+  ended h once follows live (inr (read, names, naming, inr (whole, torn, inr told))) = (
     [],
     Finished (Stopped why.Memory),
     (
-      made_once (asks_of crew) is.once,
+      once,
       inl refl,
       inr (
         h.trace,
         harvest_lines_of h names,
         h.bodies,
         whole,
-        retrieved crew order.plan order.names h names is read naming by,
+        live names read naming,
         subst (λ (given : List (List ℕ)). IsHalfShelved crew.keeps.holds given h.bodies old new whole) (given crew.keeps.kind_of order.names h names read naming) torn,
       ),
     ),
@@ -155,25 +188,34 @@ module _ {F B : Type 0} (crew : Crew F B) (order : Order) (old new : Holding) (I
   part_stopped cause h (inl part) many by = inr (h.trace, part_retrieved crew order.plan cause h part many by, refl)
   part_stopped cause h (inr empty) many by = inl (none_shown order.trace h.trace empty.trace)
 
+  -- a front, or nothing for want of memory: which is no end for the quota
+  fronted : (h : Harvested B) → IsStopped (MaySay crew) (MaySayRules crew) order.plan (asks_of crew) why.Quota h → IsPassed order.quota (sum_by crew.keeps.len_of h.bodies)
+      → AreOfCrew crew h.trace → IsHarvestPut crew.keeps IsTold order.names order.trace h old new → EndsTold
+  fronted h (inl part) passed by put =
+      ended h (made_once (asks_of crew) part.once) part.follows (λ names read naming. inr (passed, front crew order.plan order.names h names part read naming by)) put
+  fronted h (inr empty) passed by put = (let memory : why.Quota ≡ why.Memory = empty.memory in cc)
+
   stopped : (cause : Cause) (h : Harvested B) → (cause ≢ why.Mismatch → IsStopped (MaySay crew) (MaySayRules crew) order.plan (asks_of crew) cause h) → (cause ≡ why.Full → HasTooMany (policy order.plan) (answers h.state))
-      → (length crew.first ≡ 1 → cause ≢ why.Mismatch) → (cause ≢ why.Mismatch → AreOfCrew crew h.trace) → new ≡ old → IsHaltTold IsTold order.trace (record { cause = cause; harvest = h }) → EndsTold
-  stopped why.Full h stop many one by same (inl told) =
+      → (length crew.first ≡ 1 → cause ≢ why.Mismatch) → (cause ≡ why.Quota → IsPassed order.quota (sum_by crew.keeps.len_of h.bodies)) → (cause ≢ why.Mismatch → AreOfCrew crew h.trace)
+      → IsStopPut crew.keeps IsTold order.names order.trace cause h old new → EndsTold
+  stopped why.Full h stop many one passed by (same, inl told) =
       elim (stop (λ is. cc)) [
         | inl part ↦ (shown_of order.trace h.trace, Finished (Stopped why.Full), (h.trace, part_retrieved crew order.plan why.Full h part many (by (λ is. cc)), refl, same), told)
         | inr empty ↦ (let memory = empty.memory in cc)
       ]
-  stopped why.Full h stop many one by same (inr told) =
+  stopped why.Full h stop many one passed by (same, inr told) =
       ([], Finished (Stopped why.Memory), (stopped_once (MaySay crew) (MaySayRules crew) order.plan (asks_of crew) why.Full h (stop (λ is. cc)), inl refl, inl same), told)
-  stopped why.Memory h stop many one by same (inl told) = (
+  stopped why.Memory h stop many one passed by (same, inl told) = (
     shown_of order.trace h.trace,
     Finished (Stopped why.Memory),
     (stopped_once (MaySay crew) (MaySayRules crew) order.plan (asks_of crew) why.Memory h (stop (λ is. cc)), part_stopped why.Memory h (stop (λ is. cc)) many (by (λ is. cc)), inl same),
     told,
   )
-  stopped why.Memory h stop many one by same (inr told) =
+  stopped why.Memory h stop many one passed by (same, inr told) =
       ([], Finished (Stopped why.Memory), (stopped_once (MaySay crew) (MaySayRules crew) order.plan (asks_of crew) why.Memory h (stop (λ is. cc)), inl refl, inl same), told)
-  stopped why.Mismatch h stop many one by same (inl told) = ([], Finished (Stopped why.Mismatch), ((λ is. one is refl), refl, same), told)
-  stopped why.Mismatch h stop many one by same (inr told) = ([], Finished (Stopped why.Mismatch), ((λ is. one is refl), refl, same), told)
+  stopped why.Mismatch h stop many one passed by (same, inl told) = ([], Finished (Stopped why.Mismatch), ((λ is. one is refl), refl, same), told)
+  stopped why.Mismatch h stop many one passed by (same, inr told) = ([], Finished (Stopped why.Mismatch), ((λ is. one is refl), refl, same), told)
+  stopped why.Quota h stop many one passed by put = fronted h (stop (λ is. cc)) (passed refl) (by (λ is. cc)) put
 
 -- ---- a crew
 
@@ -184,10 +226,13 @@ module _ {F B : Type 0} (crew : Crew F B) where
       → IfErr r (λ halt. halt.cause ≡ why.Full → HasTooMany (policy order.plan) (answers halt.harvest.state) × IsOverfull (policy order.plan) halt.harvest.state)
       → (length crew.first ≡ 1 → IfErr r (λ halt. halt.cause ≢ why.Mismatch))
       → IfOk r (λ h. AreOfCrew crew h.trace) × IfErr r (λ halt. halt.cause ≢ why.Mismatch → AreOfCrew crew halt.harvest.trace)
+      → KeepsTo order.quota crew.keeps.len_of r
       → IsPutOf crew.keeps IsTold order.names order.trace r old new → EndsTold crew order old new IsTold
-  crew_ends order (Ok h) old new IsTold is stop full one by put = ended crew order old new IsTold h is by.0 put
-  crew_ends order (Err halt) old new IsTold is stop full one by put =
-      stopped crew order old new IsTold halt.cause halt.harvest stop (λ why. (full why).0) one by.1 put.0 put.1
+  crew_ends order (Ok h) old new IsTold is stop full one by keeps put =
+      ended crew order old new IsTold h (made_once (asks_of crew) is.once) is.follows
+      (λ names read naming. inl (keeps.within, retrieved crew order.plan order.names h names is read naming by.0)) put
+  crew_ends order (Err halt) old new IsTold is stop full one by keeps put =
+      stopped crew order old new IsTold halt.cause halt.harvest stop (λ why. (full why).0) one keeps.beyond by.1 put
 
   -- what two clauses say of a crew's trace is what one says
   pub of_crew : (r : Result (Harvested B) (Halt B)) (count : ℕ) → count ≡ length crew.first
@@ -212,15 +257,22 @@ lives_from m keeps order olds news before after told status later same (shown, e
 
 -- ---- what was found, apart from the events that led there
 
+-- what a report tells of events it tells of what they found
+found_report : {F B : Type 0} (crew : Crew F B) (order : Order) (events : List Event) (lines : List Line) (bodies : List B) → IsReportLive crew order events lines bodies
+    → (m : Answers) × IsReportFound crew order m lines bodies
+found_report crew order events lines bodies (inl (within, r)) = (answers r.state, inl (within, r.found))
+found_report crew order events lines bodies (inr (passed, r)) = (answers r.state, inr (passed, r.found))
+
 -- what a live retrieval comes to is what it found
 found_end : {F B : Type 0} (crew : Crew F B) (order : Order) (old new : Holding) (shown : List Event) (ending : LiveEnd) → EndsLive crew order old new shown ending → EndsFound crew order old new ending
-found_end crew order old new shown (Finished (Retrieved lines)) (events, bodies, r, is, whole) = (answers r.state, bodies, r.found, whole)
-found_end crew order old new shown (Torn lines whole) (events, bodies, r, is, torn) = (answers r.state, bodies, r.found, torn)
+found_end crew order old new shown (Finished (Retrieved lines)) (events, bodies, r, is, whole) = let (m, found) = found_report crew order events lines bodies r in (m, bodies, found, whole)
+found_end crew order old new shown (Torn lines whole) (events, bodies, r, is, torn) = let (m, found) = found_report crew order events lines bodies r in (m, bodies, found, torn)
 found_end crew order old new shown (Finished (Stopped why.Full)) (events, h, is, same) = (answers h.state, h.found, h.full refl, same)
 found_end crew order old new shown (Finished (Stopped why.Memory)) (once, told, inl same) = (once, inl same)
 found_end crew order old new shown (Finished (Stopped why.Memory)) (once, told, inr (events, lines, bodies, whole, r, torn)) =
-    (once, inr (answers r.state, lines, bodies, whole, r.found, torn))
+    let (m, found) = found_report crew order events lines bodies r in (once, inr (m, lines, bodies, whole, found, torn))
 found_end crew order old new shown (Finished (Stopped why.Mismatch)) (many, none, same) = (many, same)
+found_end crew order old new shown (Finished (Stopped why.Quota)) never = never
 
 -- nothing is shown of a trace that isn't ordered
 unshown : (is_shown : Bool) (shown events : List Event) → shown ≡ shown_of is_shown events → is_shown ≡ false → trace_text shown ≡ []
@@ -234,6 +286,7 @@ untraced_end crew order old new shown (Finished (Stopped why.Full)) (events, h, 
 untraced_end crew order old new shown (Finished (Stopped why.Memory)) (once, inl none, put) off = ap trace_text none
 untraced_end crew order old new shown (Finished (Stopped why.Memory)) (once, inr (events, h, is), put) off = unshown order.trace shown events is off
 untraced_end crew order old new shown (Finished (Stopped why.Mismatch)) (many, none, same) off = ap trace_text none
+untraced_end crew order old new shown (Finished (Stopped why.Quota)) never off = absurd never
 
 -- a live retrieval found what it comes to
 pub finds_of_lives : {F B : Type 0} (m : Meaning F B) (keeps : Keeping B) (order : Order) (fetchers : List F) (before after : Outside) (status : ℕ) → Lives m keeps order fetchers before after status

@@ -137,6 +137,7 @@ found_of order site shown (Retrieved lines) (are, named, events) = (are, named)
 found_of order site shown (Stopped cause.Full) (many, events) = many
 found_of order site shown (Stopped cause.Memory) finishes = tt
 found_of order site shown (Stopped cause.Mismatch) (several, none) = several
+found_of order site shown (Stopped cause.Quota) never = never
 
 -- no events are shown that aren't ordered
 unshown : (b : Bool) (AreSuch : List Event → Type 0) (shown : List Event) → AreShown b AreSuch shown → b ≡ false → shown ≡ []
@@ -149,6 +150,7 @@ none_unordered order site shown (Stopped cause.Full) (many, events) = unshown or
 none_unordered order site shown (Stopped cause.Memory) (inl none) = λ is. none
 none_unordered order site shown (Stopped cause.Memory) (inr events) = unshown order.trace (AreEventsOf order.workers order.plan (whole_of site) (HasStopped cause.Memory)) shown events
 none_unordered order site shown (Stopped cause.Mismatch) (several, none) = λ is. none
+none_unordered order site shown (Stopped cause.Quota) never = absurd never
 
 module _ (form : Form) (order : Order) (known before after : Option (List ℕ)) where
   finds_output : (text : List ℕ) (wanted status : ℕ) → IsOutput form.tells order known text wanted → IsDelivered before after text wanted status → FindsIn form order known before after status

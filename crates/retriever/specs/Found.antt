@@ -2,7 +2,7 @@
 -- events led to it says `Live`. What a live site answers isn't known beforehand, so all is said of what was recorded.
 use Rattle.std.specs.Prelude.{◌≡◌, ◌≢◌, ◌⊎◌, ℕ, List, [], ◌++◌, length, codes, Option, Contains, false}
 use Rattle.std.specs.Fmt.{decimal}
-use Rattle.std.specs.List.{AllZip}
+use Rattle.std.specs.List.{AllZip, sum_by}
 use Rattle.follow_filters.specs.declared.plan.Plan.{Plan}
 use Rattle.options.specs.declared.naming.PageNames.{PageNames}
 use Rattle.options.specs.declared.order.Order.{Order}
@@ -19,6 +19,7 @@ use Rattle.harvest.specs.Pages.{IsBodyOf}
 use Rattle.workers.specs.Asks.{IsTold}
 use Rattle.workers.specs.Crews.{AreLater, all_gained, SomeSays, SomeRules}
 use Rattle.workers.specs.Found.{AreMadeOnce, AreAsked}
+use Rattle.workers.specs.Quotas.{IsPassed}
 use Rattle.local_tree.specs.Folders.{Holding}
 use Rattle.local_tree.specs.Shelves.{IsShelved, IsHalfShelved}
 use Rattle.report.specs.Named.{named_pages, names_in}
@@ -27,7 +28,7 @@ use Rattle.retriever.specs.Keeping.{Keeping, kinds_of}
 use Rattle.retriever.specs.Parts.{IsDelivered}
 use Rattle.retriever.specs.Retrieved.{Finish, Retrieved, Stopped}
 use Rattle.retriever.specs.Run.{finish_text, finish_status}
-use Rattle.retriever.specs.Site.{AreLines, AreNamed}
+use Rattle.retriever.specs.Site.{AreLines, AreFrontLines, AreNamed}
 
 -- ---- a crew
 
@@ -73,6 +74,19 @@ pub record IsPartFound {F B : Type 0} (crew : Crew F B) (plan : Plan) (recorded_
   pub needed : (o : Text) → Contains (asks_of crew) (ask.Rules o) → IsNeeded (policy plan) recorded_as o
   pub told : IsTold (MaySay crew) (MaySayRules crew) recorded_as
 
+-- A front of what is to be found: what is recorded of what the fetchers were asked before nothing more was asked for. Each line is of an
+-- address to which a route of what is recorded leads, and its page, if it has a name, has the body that the fetchers may have answered.
+pub record IsFrontFound {F B : Type 0} (crew : Crew F B) (plan : Plan) (naming : PageNames) (recorded_as : Answers) (lines : List Line) (bodies : List B) : Type 0 where
+  pub part : IsPartFound crew plan recorded_as
+  pub reported : AreFrontLines (policy plan) recorded_as lines
+  pub named : AreNamed plan naming (kinds_of crew.keeps.kind_of bodies) lines
+  pub kept : AllZip (IsBodyOf (MaySay crew) recorded_as) (named_pages lines) bodies
+
+-- What a report tells: all that is to be found, if the bodies have no more bytes than the quota; a front of it, if they have more.
+abbrev pub IsReportFound : {F B : Type 0} → Crew F B → Order → Answers → List Line → List B → Type 0
+IsReportFound crew order m lines bodies =
+    let passed = IsPassed order.quota (sum_by crew.keeps.len_of bodies) in ((¬ passed) × IsFound crew order.plan order.names m lines bodies) ⊎ (passed × IsFrontFound crew order.plan order.names m lines bodies)
+
 -- ---- what it comes to
 
 -- what a live run has around it at one moment: what its folder tells, and what its writer got
@@ -112,20 +126,21 @@ IsTornAt keeps lines bodies old new whole = IsHalfShelved keeps.holds (names_in 
 abbrev pub IsWholeAt : {B : Type 0} → Keeping B → List Line → List B → Holding → Holding → Type 0
 IsWholeAt keeps lines bodies old new = IsShelved keeps.holds (names_in lines) bodies old.files new.files × (new.failed ≡ old.failed)
 
--- The retrieval that is ordered found what is to be found, and this came of it. Before its end nothing is put into the folder.
+-- The retrieval that is ordered found what is to be found, or a front of it as large as the quota, and this came of it. Before its end nothing is put into the folder.
 -- The table is full only where what is recorded has more candidates than the plan lets be held. Memory may run out at any time,
 -- and may do so when a put has failed. A check of several workers may fail; then nothing more is said.
 abbrev pub EndsFound : {F B : Type 0} → Crew F B → Order → Holding → Holding → LiveEnd → Type 0
 EndsFound {B = B} crew order old new (Finished (Retrieved lines)) =
-    (m : Answers) × (bodies : List B) × IsFound crew order.plan order.names m lines bodies × IsWholeAt crew.keeps lines bodies old new
+    (m : Answers) × (bodies : List B) × IsReportFound crew order m lines bodies × IsWholeAt crew.keeps lines bodies old new
 EndsFound {B = B} crew order old new (Torn lines whole) =
-    (m : Answers) × (bodies : List B) × IsFound crew order.plan order.names m lines bodies × IsTornAt crew.keeps lines bodies old new whole
+    (m : Answers) × (bodies : List B) × IsReportFound crew order m lines bodies × IsTornAt crew.keeps lines bodies old new whole
 EndsFound crew order old new (Finished (Stopped cause.Full)) = (m : Answers) × IsPartFound crew order.plan m × HasTooMany (policy order.plan) m × (new ≡ old)
 EndsFound {B = B} crew order old new (Finished (Stopped cause.Memory)) =
     AreMadeOnce (asks_of crew)
-    × ((new ≡ old) ⊎ ((m : Answers) × (lines : List Line) × (bodies : List B) × (whole : ℕ) × IsFound crew order.plan order.names m lines bodies
+    × ((new ≡ old) ⊎ ((m : Answers) × (lines : List Line) × (bodies : List B) × (whole : ℕ) × IsReportFound crew order m lines bodies
     × IsTornAt crew.keeps lines bodies old new whole))
 EndsFound crew order old new (Finished (Stopped cause.Mismatch)) = (length crew.first ≢ 1) × (new ≡ old)
+EndsFound crew order old new (Finished (Stopped cause.Quota)) = ⊥
 
 -- A live retrieval with these fetchers, one for each worker: it found what is to be found, by what the fetchers were asked and
 -- may have answered until its end. Either the writer gained that end's text, behind a trace where one is ordered, and the

@@ -48,13 +48,14 @@ TellsFault IsWrong known (fault.Input wrong) = (input : List ℕ) × IsInput kno
 TellsFault IsWrong known fault.Memory = Unit {0}
 
 -- This is found of a whole site: the lines of its report, or more addresses than the plan lets be held. Memory may run out at any
--- time, and a check of several workers may fail.
+-- time, and a check of several workers may fail. No quota counts.
 abbrev pub IsFoundOf : Order → RecordedAnswers → Finish → Type 0
 IsFoundOf order site (Retrieved lines) =
     AreLines (policy order.plan) (whole_of site) lines × AreNamed order.plan order.names (map (kind_at site) (named_pages lines)) lines
 IsFoundOf order site (Stopped cause.Full) = HasTooMany (policy order.plan) (whole_of site)
 IsFoundOf order site (Stopped cause.Memory) = Unit {0}
 IsFoundOf order site (Stopped cause.Mismatch) = order.workers ≢ 1
+IsFoundOf order site (Stopped cause.Quota) = ⊥
 
 -- what the reader has left comes to this ending
 abbrev pub EndsOn : Form → Order → Option (List ℕ) → Ending → Type 0

@@ -1,5 +1,6 @@
 -- How a live retrieval came to what it found: the events that led there, and what is shown of them.
 use Rattle.std.specs.Prelude.{◌≡◌, ◌≢◌, ◌⊎◌, ℕ, List, [], ◌++◌, length, Some}
+use Rattle.std.specs.List.{sum_by}
 use Rattle.follow_filters.specs.declared.plan.Plan.{Plan}
 use Rattle.options.specs.declared.naming.PageNames.{PageNames}
 use Rattle.options.specs.declared.order.Order.{Order}
@@ -15,10 +16,11 @@ use Rattle.workers.specs.Asks.{AreRecordedOrLost}
 use Rattle.workers.specs.Crews.{AreLater}
 use Rattle.workers.specs.Found.{AreMadeOnce}
 use Rattle.workers.specs.OneWorker.{AreByCrew}
+use Rattle.workers.specs.Quotas.{IsPassed}
 use Rattle.workers.specs.Takers.{AreOwn}
 use Rattle.local_tree.specs.Folders.{Holding}
 use Rattle.report.specs.Report.{Line}
-use Rattle.retriever.specs.Found.{Crew, crew_of, asks_of, IsFound, IsPartFound, Outside, LiveEnd, Finished, Torn, IsTornAt, IsWholeAt, live_text, live_status}
+use Rattle.retriever.specs.Found.{Crew, crew_of, asks_of, IsFound, IsFrontFound, IsPartFound, Outside, LiveEnd, Finished, Torn, IsTornAt, IsWholeAt, live_text, live_status}
 use Rattle.retriever.specs.Keeping.{Keeping}
 use Rattle.retriever.specs.Parts.{IsDelivered, shown_of}
 use Rattle.retriever.specs.Retrieved.{Retrieved, Stopped}
@@ -51,6 +53,22 @@ pub record IsStoppedLive {F B : Type 0} (crew : Crew F B) (plan : Plan) (why : C
   pub found : IsPartFound crew plan (answers state)
   pub full : why ≡ cause.Full → HasTooMany (policy plan) (answers state)
 
+-- The fetchers were asked, and these events of their workers happened, until the kept bodies passed the quota: what was asked for is
+-- recorded or was given up, and this front was found.
+pub record IsFrontLive {F B : Type 0} (crew : Crew F B) (plan : Plan) (naming : PageNames) (events : List Event) (lines : List Line) (bodies : List B) : Type 0 where
+  pub state : State
+  pub replay : IsReplay (policy plan) events state
+  pub by : AreOfCrew crew events
+  pub stopped : state.cause ≡ Some cause.Quota
+  pub recorded : AreRecordedOrLost (asks_of crew) state
+  pub found : IsFrontFound crew plan naming (answers state) lines bodies
+
+-- The events of a report: it tells all that is to be found, if the bodies have no more bytes than the quota, else a front of it.
+abbrev pub IsReportLive : {F B : Type 0} → Crew F B → Order → List Event → List Line → List B → Type 0
+IsReportLive crew order events lines bodies =
+    ((¬ IsPassed order.quota (sum_by crew.keeps.len_of bodies)) × IsRetrievedLive crew order.plan order.names events lines bodies)
+    ⊎ (IsPassed order.quota (sum_by crew.keeps.len_of bodies) × IsFrontLive crew order.plan order.names events lines bodies)
+
 -- ---- what it comes to
 
 -- The retrieval that is ordered comes to this, with this shown of its trace. Before its end nothing is put into the
@@ -58,18 +76,19 @@ pub record IsStoppedLive {F B : Type 0} (crew : Crew F B) (plan : Plan) (why : C
 -- nothing more is said.
 abbrev pub EndsLive : {F B : Type 0} → Crew F B → Order → Holding → Holding → List Event → LiveEnd → Type 0
 EndsLive {B = B} crew order old new shown (Finished (Retrieved lines)) =
-    (events : List Event) × (bodies : List B) × IsRetrievedLive crew order.plan order.names events lines bodies × (shown ≡ shown_of order.trace events)
+    (events : List Event) × (bodies : List B) × IsReportLive crew order events lines bodies × (shown ≡ shown_of order.trace events)
     × IsWholeAt crew.keeps lines bodies old new
 EndsLive {B = B} crew order old new shown (Torn lines whole) =
-    (events : List Event) × (bodies : List B) × IsRetrievedLive crew order.plan order.names events lines bodies × (shown ≡ shown_of order.trace events)
+    (events : List Event) × (bodies : List B) × IsReportLive crew order events lines bodies × (shown ≡ shown_of order.trace events)
     × IsTornAt crew.keeps lines bodies old new whole
 EndsLive crew order old new shown (Finished (Stopped cause.Full)) =
     (events : List Event) × IsStoppedLive crew order.plan cause.Full events × (shown ≡ shown_of order.trace events) × (new ≡ old)
 EndsLive {B = B} crew order old new shown (Finished (Stopped cause.Memory)) =
     AreMadeOnce (asks_of crew) × ((shown ≡ []) ⊎ ((events : List Event) × IsStoppedLive crew order.plan cause.Memory events × (shown ≡ shown_of order.trace events)))
-    × ((new ≡ old) ⊎ ((events : List Event) × (lines : List Line) × (bodies : List B) × (whole : ℕ) × IsRetrievedLive crew order.plan order.names events lines bodies
+    × ((new ≡ old) ⊎ ((events : List Event) × (lines : List Line) × (bodies : List B) × (whole : ℕ) × IsReportLive crew order events lines bodies
     × IsTornAt crew.keeps lines bodies old new whole))
 EndsLive crew order old new shown (Finished (Stopped cause.Mismatch)) = (length crew.first ≢ 1) × (shown ≡ []) × (new ≡ old)
+EndsLive crew order old new shown (Finished (Stopped cause.Quota)) = ⊥
 
 -- A live retrieval with these fetchers, one for each worker: it comes to an end, by what the fetchers were asked and may
 -- have answered until then. Either the writer gained that end's text, behind what is shown of the trace, and the status is

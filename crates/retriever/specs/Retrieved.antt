@@ -44,7 +44,7 @@ pub data Finish : Type 0 where
   Stopped : Cause → Finish
 
 -- the retrieval that is ordered of a site comes to this, and this is shown of its trace; where memory was short there
--- may be nothing to show. A check of several workers may fail; one worker has none
+-- may be nothing to show. A check of several workers may fail; one worker has none. No quota counts
 abbrev pub Finishes : Order → RecordedAnswers → List Event → Finish → Type 0
 Finishes order site shown (Retrieved lines) =
     AreLines (policy order.plan) (whole_of site) lines × AreNamed order.plan order.names (map (kind_at site) (named_pages lines)) lines
@@ -54,3 +54,4 @@ Finishes order site shown (Stopped cause.Full) =
 Finishes order site shown (Stopped cause.Memory) =
     (shown ≡ []) ⊎ AreShown order.trace (AreEventsOf order.workers order.plan (whole_of site) (HasStopped cause.Memory)) shown
 Finishes order site shown (Stopped cause.Mismatch) = (order.workers ≢ 1) × (shown ≡ [])
+Finishes order site shown (Stopped cause.Quota) = ⊥

@@ -1,8 +1,9 @@
 -- The site that an input tells, and the report of a whole site.
-use Rattle.std.specs.Prelude.{◌≡◌, ◌≤◌, ℕ, Bool, true, false, List, Some, All, Any, IsTrue, is_some, length, map}
+use Rattle.std.specs.Prelude.{◌≡◌, ◌≤◌, ℕ, Bool, true, false, List, Some, All, Any, IsSome, IsTrue, is_some, length, map}
 use Rattle.kept_bodies.specs.Bodies.{BodyValue}
 use Rattle.kept_bodies.specs.declared.body_kind.BodyKind.{BodyKind}
 use Rattle.fetcher.specs.Sites.{SiteAnswers, bare_body}
+use Rattle.fetcher.specs.declared.edge.Edge.{Edge}
 use Rattle.site_maps.specs.Lines.{Statement}
 use Rattle.site_maps.specs.Maps.{text_lines_of, IsMap, answers_of, rules_of, says_of, IsFault as IsFaultOfMap}
 use Rattle.site_inputs.specs.declared.input_fault.InputFault.{InputFault}
@@ -12,7 +13,7 @@ use Rattle.options.specs.declared.naming.PageNames.{PageNames}
 use Rattle.options.specs.declared.order.Source.{Source}
 use Rattle.options.specs.declared.order.Source.TheVariants as source
 use Rattle.frontier_core.specs.Tables.{Text}
-use Rattle.frontier_core.specs.Routes.{Policy, Answers, IsCandidate, IsDepth, is_open_address}
+use Rattle.frontier_core.specs.Routes.{Policy, Answers, Route, IsCandidate, IsDepth, is_open_address}
 use Rattle.follow_filters.specs.declared.plan.Plan.{Plan}
 use Rattle.local_names.specs.Endings.{ended_name, ended_names}
 use Rattle.local_names.specs.Names.{IsNamingBy}
@@ -77,6 +78,14 @@ pub record AreLines (p : Policy) (m : Answers) (lines : List Line) : Type 0 wher
   pub ascending : AreAscending lines
   pub each : All (λ line. IsDepth p m line.address line.depth × IsFate p m line.address line.fate) lines
   pub all : (u : Text) → IsCandidate p m u → Any (λ line. line.address ≡ u) lines
+  pub few : length lines ≤ p.max_urls
+
+-- The lines of a front of a retrieval, by what is recorded: one for each address that was answered and perhaps for some that robots
+-- rules refuse, in the order of the addresses' texts, with the depth of a route that leads there and what becomes of it.
+pub record AreFrontLines (p : Policy) (m : Answers) (lines : List Line) : Type 0 where
+  pub ascending : AreAscending lines
+  pub each : All (λ line. ((route : List Edge) × Route p m route line.address line.depth) × IsFate p m line.address line.fate) lines
+  pub all : (u : Text) → IsSome (m.outcome u) → Any (λ line. line.address ≡ u) lines
   pub few : length lines ≤ p.max_urls
 
 -- ---- names

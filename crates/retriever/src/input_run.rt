@@ -22,6 +22,7 @@ use std::io::{Read, Write};
 use std::sync::Wait;
 use std::thread::Threads;
 use streams::{read_input, write_text};
+use workers::NoQuota;
 
 /// The most bytes of an input.
 pub(crate) const MAX_INPUT: usize = 1_073_741_824;
@@ -55,7 +56,14 @@ fn retrieve<H: Threads + Wait + Sync, F: Copied>(
         → IfOk result (λ output. IsOutputOf order.now told (string_bytes output.text) output.status) }
 {
     let copies = copies_of(alloc, site, order.workers)?;
-    let (retrieved, copies) = workers::retrieve_shown(rt, alloc, &order.plan, copies, None);
+    let (retrieved, copies) = workers::retrieve_shown(
+        rt,
+        alloc,
+        &order.plan,
+        &NoQuota,
+        copies,
+        None,
+    );
     // They are dropped before a report is made.
     drop(copies);
     let told = told_of(alloc, &order.names, order.trace, &retrieved);

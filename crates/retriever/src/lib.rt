@@ -23,6 +23,7 @@ mod live_order;
 mod live_run;
 mod moves;
 mod program;
+mod quota;
 mod resume_fault;
 mod saved_run;
 mod telling;

@@ -12,6 +12,7 @@ ghost use Rattle.retriever.specs.inner.Systems.{AreResuming, goes_on_from, is_pl
 use crate::input_run::{MAX_INPUT, deliver};
 use crate::live_run::live_shown;
 use crate::moves::tell_moves;
+use crate::quota::tell_quota;
 use crate::resume_fault::{ResumeFault, resume_status, resume_text};
 use crate::saved_run::{live_saved, resuming};
 use early_names::EarlyRules;
@@ -108,12 +109,13 @@ where
     F::Body: HasKind + Send,
     requires some { 0 < vec_len fetchers }
     requires most { vec_len fetchers ≤ 64 }
-    ensures { Lives F.Fetcher (kept_as F.Body.kind_of D.holds) order.now fetchers.items (outside (holding D.files D.failed folder.old) (W.contents writer.old))
+    ensures { Lives F.Fetcher (kept_as F.Body.kind_of F.Body.len_of D.holds) order.now fetchers.items (outside (holding D.files D.failed folder.old) (W.contents writer.old))
         (outside (holding D.files D.failed folder.new) (W.contents writer.new)) result }
 {
     let waiting = system.waiting();
     let (status, retrieved) = live_shown(rt, alloc, order, fetchers, folder, writer, waiting);
     tell_moves(alloc, system, &retrieved);
+    tell_quota(system, &retrieved);
     keep_to_the_end(retrieved);
     status
 }
@@ -133,7 +135,7 @@ fn live_plainly<H: Threads + Wait + Sync, S: System, W: Write>(
     order: &Order,
     writer: &mut W,
 ) -> Result<u8, AllocError>
-    ensures lives { IfOk result (LivesPlainly (means S.System system.now S.Fetcher.Fetcher S.Recorder.Fetcher S.Recorder.noted (kept_as S.Body.kind_of S.Folder.holds) S.Folder.Folder S.Record.Write) order.now (W.contents writer.old) (W.contents writer.new)) }
+    ensures lives { IfOk result (LivesPlainly (means S.System system.now S.Fetcher.Fetcher S.Recorder.Fetcher S.Recorder.noted (kept_as S.Body.kind_of S.Body.len_of S.Folder.holds) S.Folder.Folder S.Record.Write) order.now (W.contents writer.old) (W.contents writer.new)) }
     ensures unwritten { OnErr result (writer.new ≡ writer.old) }
 {
     begin_naming(alloc, system, order)?;
@@ -151,7 +153,7 @@ fn resumed_of<S: System>(
     is_recording: bool,
 ) -> Result<Vec<Resumed<S::Recorder>>, AllocError>
     ensures count { IfOk result (λ all. vec_len all ≡ order.now.workers) }
-    ensures resumed { IfOk result (λ all. AreResuming (means S.System system.now S.Fetcher.Fetcher S.Recorder.Fetcher S.Recorder.noted (kept_as S.Body.kind_of S.Folder.holds) S.Folder.Folder S.Record.Write) order.now is_recording recorded.now all.items) }
+    ensures resumed { IfOk result (λ all. AreResuming (means S.System system.now S.Fetcher.Fetcher S.Recorder.Fetcher S.Recorder.noted (kept_as S.Body.kind_of S.Body.len_of S.Folder.holds) S.Folder.Folder S.Record.Write) order.now is_recording recorded.now all.items) }
 {
     let fetchers = recorders_of(alloc, system, order, is_recording)?;
     resuming(alloc, recorded, fetchers)
@@ -166,8 +168,8 @@ fn live_again<H: Threads + Wait + Sync, S: System, W: Write>(
     recorded: &RecordedSite,
     writer: &mut W,
 ) -> Result<u8, AllocError>
-    requires resumed { IsResumed (means S.System system.now S.Fetcher.Fetcher S.Recorder.Fetcher S.Recorder.noted (kept_as S.Body.kind_of S.Folder.holds) S.Folder.Folder S.Record.Write) order.now recorded.now }
-    ensures lives { IfOk result (LivesAgain (means S.System system.now S.Fetcher.Fetcher S.Recorder.Fetcher S.Recorder.noted (kept_as S.Body.kind_of S.Folder.holds) S.Folder.Folder S.Record.Write) order.now (W.contents writer.old) (W.contents writer.new)) }
+    requires resumed { IsResumed (means S.System system.now S.Fetcher.Fetcher S.Recorder.Fetcher S.Recorder.noted (kept_as S.Body.kind_of S.Body.len_of S.Folder.holds) S.Folder.Folder S.Record.Write) order.now recorded.now }
+    ensures lives { IfOk result (LivesAgain (means S.System system.now S.Fetcher.Fetcher S.Recorder.Fetcher S.Recorder.noted (kept_as S.Body.kind_of S.Body.len_of S.Folder.holds) S.Folder.Folder S.Record.Write) order.now (W.contents writer.old) (W.contents writer.new)) }
     ensures unwritten { OnErr result (writer.new ≡ writer.old) }
 {
     let resumed = resumed_of(alloc, system, order, recorded, false)?;
@@ -185,8 +187,8 @@ fn live_saving<H: Threads + Wait + Sync, S: System, W: Write>(
     path: &str,
     writer: &mut W,
 ) -> Result<u8, AllocError>
-    requires resumed { IsResumed (means S.System system.now S.Fetcher.Fetcher S.Recorder.Fetcher S.Recorder.noted (kept_as S.Body.kind_of S.Folder.holds) S.Folder.Folder S.Record.Write) order.now recorded.now }
-    ensures lives { IfOk result (LivesSaving (means S.System system.now S.Fetcher.Fetcher S.Recorder.Fetcher S.Recorder.noted (kept_as S.Body.kind_of S.Folder.holds) S.Folder.Folder S.Record.Write) order.now path.now (W.contents writer.old) (W.contents writer.new)) }
+    requires resumed { IsResumed (means S.System system.now S.Fetcher.Fetcher S.Recorder.Fetcher S.Recorder.noted (kept_as S.Body.kind_of S.Body.len_of S.Folder.holds) S.Folder.Folder S.Record.Write) order.now recorded.now }
+    ensures lives { IfOk result (LivesSaving (means S.System system.now S.Fetcher.Fetcher S.Recorder.Fetcher S.Recorder.noted (kept_as S.Body.kind_of S.Body.len_of S.Folder.holds) S.Folder.Folder S.Record.Write) order.now path.now (W.contents writer.old) (W.contents writer.new)) }
     ensures unwritten { OnErr result (writer.new ≡ writer.old) }
 {
     let resumed = resumed_of(alloc, system, order, recorded, true)?;
@@ -204,6 +206,7 @@ fn live_saving<H: Threads + Wait + Sync, S: System, W: Write>(
         system.waiting(),
     );
     tell_moves(alloc, system, &retrieved);
+    tell_quota(system, &retrieved);
     keep_to_the_end(retrieved);
     Ok(status)
 }
@@ -249,8 +252,8 @@ fn resumption_of<S: System>(
     system: &S,
     order: &Order,
 ) -> Result<RecordedSite, ResumeFault>
-    ensures ok { IfOk result (λ r. IsResumed (means S.System system.now S.Fetcher.Fetcher S.Recorder.Fetcher S.Recorder.noted (kept_as S.Body.kind_of S.Folder.holds) S.Folder.Folder S.Record.Write) order.now r) }
-    ensures err { IfErr result (IsNotResumed (means S.System system.now S.Fetcher.Fetcher S.Recorder.Fetcher S.Recorder.noted (kept_as S.Body.kind_of S.Folder.holds) S.Folder.Folder S.Record.Write) order.now) }
+    ensures ok { IfOk result (λ r. IsResumed (means S.System system.now S.Fetcher.Fetcher S.Recorder.Fetcher S.Recorder.noted (kept_as S.Body.kind_of S.Body.len_of S.Folder.holds) S.Folder.Folder S.Record.Write) order.now r) }
+    ensures err { IfErr result (IsNotResumed (means S.System system.now S.Fetcher.Fetcher S.Recorder.Fetcher S.Recorder.noted (kept_as S.Body.kind_of S.Body.len_of S.Folder.holds) S.Folder.Folder S.Record.Write) order.now) }
 {
     match &order.resume {
         Some(path) => read_record(alloc, system, path.as_str(), order),
@@ -267,8 +270,8 @@ fn live_with<H: Threads + Wait + Sync, S: System, W: Write>(
     recorded: &RecordedSite,
     writer: &mut W,
 ) -> Result<u8, AllocError>
-    requires resumed { IsResumed (means S.System system.now S.Fetcher.Fetcher S.Recorder.Fetcher S.Recorder.noted (kept_as S.Body.kind_of S.Folder.holds) S.Folder.Folder S.Record.Write) order.now recorded.now }
-    ensures lives { IfOk result (LivesWith (means S.System system.now S.Fetcher.Fetcher S.Recorder.Fetcher S.Recorder.noted (kept_as S.Body.kind_of S.Folder.holds) S.Folder.Folder S.Record.Write) order.now.save order.now (W.contents writer.old) (W.contents writer.new)) }
+    requires resumed { IsResumed (means S.System system.now S.Fetcher.Fetcher S.Recorder.Fetcher S.Recorder.noted (kept_as S.Body.kind_of S.Body.len_of S.Folder.holds) S.Folder.Folder S.Record.Write) order.now recorded.now }
+    ensures lives { IfOk result (LivesWith (means S.System system.now S.Fetcher.Fetcher S.Recorder.Fetcher S.Recorder.noted (kept_as S.Body.kind_of S.Body.len_of S.Folder.holds) S.Folder.Folder S.Record.Write) order.now.save order.now (W.contents writer.old) (W.contents writer.new)) }
     ensures unwritten { OnErr result (writer.new ≡ writer.old) }
 {
     match &order.save {
@@ -289,7 +292,7 @@ fn goes_on_from(order: &Order, path: &str) -> bool
 
 // Holds the place where the order saves, where it does.
 fn hold<S: System>(system: &S, order: &Order) -> Result<(), ResumeFault>
-    ensures { IfErr result (IsNotResumed (means S.System system.now S.Fetcher.Fetcher S.Recorder.Fetcher S.Recorder.noted (kept_as S.Body.kind_of S.Folder.holds) S.Folder.Folder S.Record.Write) order.now) }
+    ensures { IfErr result (IsNotResumed (means S.System system.now S.Fetcher.Fetcher S.Recorder.Fetcher S.Recorder.noted (kept_as S.Body.kind_of S.Body.len_of S.Folder.holds) S.Folder.Folder S.Record.Write) order.now) }
 {
     let Some(path) = &order.save else {
         return Ok(());
@@ -317,8 +320,8 @@ fn live_in<H: Threads + Wait + Sync, S: System, W: Write>(
     order: &Order,
     writer: &mut W,
 ) -> Result<u8, ResumeFault>
-    ensures lives { IfOk result (LivesBy (means S.System system.now S.Fetcher.Fetcher S.Recorder.Fetcher S.Recorder.noted (kept_as S.Body.kind_of S.Folder.holds) S.Folder.Folder S.Record.Write) (order.now.resume, order.now.save) order.now (W.contents writer.old) (W.contents writer.new)) }
-    ensures unresumed { IfErr result (IsNotResumed (means S.System system.now S.Fetcher.Fetcher S.Recorder.Fetcher S.Recorder.noted (kept_as S.Body.kind_of S.Folder.holds) S.Folder.Folder S.Record.Write) order.now) }
+    ensures lives { IfOk result (LivesBy (means S.System system.now S.Fetcher.Fetcher S.Recorder.Fetcher S.Recorder.noted (kept_as S.Body.kind_of S.Body.len_of S.Folder.holds) S.Folder.Folder S.Record.Write) (order.now.resume, order.now.save) order.now (W.contents writer.old) (W.contents writer.new)) }
+    ensures unresumed { IfErr result (IsNotResumed (means S.System system.now S.Fetcher.Fetcher S.Recorder.Fetcher S.Recorder.noted (kept_as S.Body.kind_of S.Body.len_of S.Folder.holds) S.Folder.Folder S.Record.Write) order.now) }
     ensures unwritten { OnErr result (writer.new ≡ writer.old) }
 {
     if is_plain(order) {
@@ -351,7 +354,7 @@ pub(crate) fn live_order<H: Threads + Wait + Sync, S: System, W: Write>(
     order: &Order,
     writer: &mut W,
 ) -> u8
-    ensures { LivesIn (means S.System system.now S.Fetcher.Fetcher S.Recorder.Fetcher S.Recorder.noted (kept_as S.Body.kind_of S.Folder.holds) S.Folder.Folder S.Record.Write) order.now (W.contents writer.old) (W.contents writer.new) result }
+    ensures { LivesIn (means S.System system.now S.Fetcher.Fetcher S.Recorder.Fetcher S.Recorder.noted (kept_as S.Body.kind_of S.Body.len_of S.Folder.holds) S.Folder.Folder S.Record.Write) order.now (W.contents writer.old) (W.contents writer.new) result }
 {
     match live_in(rt, alloc, system, order, writer) {
         Ok(status) => status,

@@ -8,10 +8,11 @@ ghost use Rattle.retriever.specs.Keeping.{kept_as};
 ghost use Rattle.retriever.specs.Live.{Lives};
 ghost use Rattle.retriever.specs.inner.Live.{IsTornTold};
 ghost use Rattle.retriever.specs.inner.Parts.{IsToldAs, status_told};
-ghost use Rattle.retriever.specs.inner.Puts.{IsHaltTold, IsPutAndTold, IsPutOf, bare_cause, files_whole};
+ghost use Rattle.retriever.specs.inner.Puts.{IsHaltTold, IsHarvestPut, IsPutAndTold, IsPutOf, IsStopPut, bare_cause, files_whole};
 ghost use Rattle.retriever.specs.Retrieved.{Stopped};
 ghost use Rattle.retriever.specs.Run.{finish_text};
 
+use crate::quota::ByLength;
 use crate::told::{halt_text, telling_of};
 use fetcher::Fetcher;
 use frontier_core::Cause;
@@ -31,7 +32,7 @@ fn bare_line(cause: Cause) -> &'static str
     ensures { result.now ≡ finish_text (Stopped (bare_cause cause)) }
 {
     match cause {
-        Cause::Full | Cause::Memory => "stopped memory\n",
+        Cause::Full | Cause::Memory | Cause::Quota => "stopped memory\n",
         Cause::Mismatch => "stopped mismatch\n",
     }
 }
@@ -129,7 +130,7 @@ fn put_and_tell<B: HasKind + Drop, D: Shelf<B>, W: Write>(
 ) -> Result<u8, WriteFailed>
     requires count { length names.now ≡ length harvest.now.kept }
     requires distinct { AreDistinct (map string_bytes names.now) }
-    ensures { IsPutAndTold (kept_as B.kind_of D.holds) (IsToldAs (W.contents writer.old) (W.contents writer.new) result) (map string_bytes names.now) harvest.now.bodies
+    ensures { IsPutAndTold (kept_as B.kind_of B.len_of D.holds) (IsToldAs (W.contents writer.old) (W.contents writer.new) result) (map string_bytes names.now) harvest.now.bodies
         (text.now, exit_status (map (λ recorded. recorded.1) harvest.now.records)) (holding D.files D.failed folder.old) (holding D.files D.failed folder.new) }
 {
     match write_site(folder, names, harvest) {
@@ -147,7 +148,7 @@ fn finish_harvest<B: HasKind + Drop, D: Shelf<B>, W: Write>(
     folder: &mut D,
     writer: &mut W,
 ) -> Result<u8, WriteFailed>
-    ensures { IsPutOf (kept_as B.kind_of D.holds) (IsToldAs (W.contents writer.old) (W.contents writer.new) result) naming.now is_shown (Ok harvest.now)
+    ensures { IsHarvestPut (kept_as B.kind_of B.len_of D.holds) (IsToldAs (W.contents writer.old) (W.contents writer.new) result) naming.now is_shown harvest.now
         (holding D.files D.failed folder.old) (holding D.files D.failed folder.new) }
 {
     match telling_of(alloc, naming, is_shown, harvest) {
@@ -163,6 +164,26 @@ fn finish_harvest<B: HasKind + Drop, D: Shelf<B>, W: Write>(
     }
 }
 
+// Puts and tells what was retrieved before a stop: a front that the quota ended as a harvest, and of any other stop the cause.
+fn finish_halt<B: HasKind + Drop, D: Shelf<B>, W: Write>(
+    alloc: Global,
+    naming: &PageNames,
+    is_shown: bool,
+    halt: &Halt<B>,
+    folder: &mut D,
+    writer: &mut W,
+) -> Result<u8, WriteFailed>
+    ensures { IsStopPut (kept_as B.kind_of B.len_of D.holds) (IsToldAs (W.contents writer.old) (W.contents writer.new) result) naming.now is_shown halt.now.cause halt.now.harvest
+        (holding D.files D.failed folder.old) (holding D.files D.failed folder.new) }
+{
+    match halt.cause {
+        Cause::Quota => finish_harvest(alloc, naming, is_shown, &halt.harvest, folder, writer),
+        Cause::Full => tell_halt(alloc, is_shown, halt, writer),
+        Cause::Memory => tell_halt(alloc, is_shown, halt, writer),
+        Cause::Mismatch => tell_halt(alloc, is_shown, halt, writer),
+    }
+}
+
 /// Puts and tells what was retrieved, whose kept pages have their names by these rules. The error is that the writer failed.
 pub(crate) fn finish<B: HasKind + Drop, D: Shelf<B>, W: Write>(
     alloc: Global,
@@ -172,12 +193,12 @@ pub(crate) fn finish<B: HasKind + Drop, D: Shelf<B>, W: Write>(
     folder: &mut D,
     writer: &mut W,
 ) -> Result<u8, WriteFailed>
-    ensures { IsPutOf (kept_as B.kind_of D.holds) (IsToldAs (W.contents writer.old) (W.contents writer.new) result) naming.now is_shown retrieved.now
+    ensures { IsPutOf (kept_as B.kind_of B.len_of D.holds) (IsToldAs (W.contents writer.old) (W.contents writer.new) result) naming.now is_shown retrieved.now
         (holding D.files D.failed folder.old) (holding D.files D.failed folder.new) }
 {
     match retrieved {
         Ok(harvest) => finish_harvest(alloc, naming, is_shown, harvest, folder, writer),
-        Err(halt) => tell_halt(alloc, is_shown, halt, writer),
+        Err(halt) => finish_halt(alloc, naming, is_shown, halt, folder, writer),
     }
 }
 
@@ -206,10 +227,18 @@ where
     F::Body: HasKind + Send,
     requires some { 0 < vec_len fetchers }
     requires most { vec_len fetchers ≤ 64 }
-    ensures lives { Lives F.Fetcher (kept_as F.Body.kind_of D.holds) order.now fetchers.items (outside (holding D.files D.failed folder.old) (W.contents writer.old))
+    ensures lives { Lives F.Fetcher (kept_as F.Body.kind_of F.Body.len_of D.holds) order.now fetchers.items (outside (holding D.files D.failed folder.old) (W.contents writer.old))
         (outside (holding D.files D.failed folder.new) (W.contents writer.new)) result.0 }
 {
-    let (retrieved, left) = workers::retrieve_shown(rt, alloc, &order.plan, fetchers, waiting);
+    let quota = ByLength::of(order);
+    let (retrieved, left) = workers::retrieve_shown(
+        rt,
+        alloc,
+        &order.plan,
+        &quota,
+        fetchers,
+        waiting,
+    );
     // They are dropped before a report is made.
     drop(left);
     let status = status_told(finish(alloc, &order.names, order.trace, &retrieved, folder, writer));
@@ -221,7 +250,8 @@ where
 /// where the order asks for it. Answers the status: that of [`exit_status`] for a report. Where a put fails no other is made,
 /// and the line `files written K` stands behind the report, K being how many files are whole; the status is 3. Where the
 /// retrieval stopped the line of its cause stands in place of the report, nothing is put, and the status is 1; so it is where
-/// memory runs out. Where the writer fails the status is 1, and a front of the text may have been written.
+/// memory runs out. If the order's quota ended it, what was retrieved until then is put and reported. If the writer fails the status
+/// is 1, and a front of the text may have been written.
 pub fn live<H: Threads + Wait + Sync, F: Fetcher + Send, D: Shelf<F::Body>, W: Write>(
     rt: &H,
     alloc: Global,
@@ -235,10 +265,10 @@ where
     requires some { 0 < vec_len fetchers }
     requires most { vec_len fetchers ≤ 64 }
     // What was found and what came of it.
-    ensures finds { Finds F.Fetcher (kept_as F.Body.kind_of D.holds) order.now fetchers.items (outside (holding D.files D.failed folder.old) (W.contents writer.old))
+    ensures finds { Finds F.Fetcher (kept_as F.Body.kind_of F.Body.len_of D.holds) order.now fetchers.items (outside (holding D.files D.failed folder.old) (W.contents writer.old))
         (outside (holding D.files D.failed folder.new) (W.contents writer.new)) result }
     // And which events led there.
-    ensures lives { Lives F.Fetcher (kept_as F.Body.kind_of D.holds) order.now fetchers.items (outside (holding D.files D.failed folder.old) (W.contents writer.old))
+    ensures lives { Lives F.Fetcher (kept_as F.Body.kind_of F.Body.len_of D.holds) order.now fetchers.items (outside (holding D.files D.failed folder.old) (W.contents writer.old))
         (outside (holding D.files D.failed folder.new) (W.contents writer.new)) result }
 {
     let (status, retrieved) = live_shown(rt, alloc, order, fetchers, folder, writer, None);

@@ -138,7 +138,7 @@ fn run_order<H: Threads + Wait + Sync, S: System, R: Read, W: Write>(
     ensures runs { order.now.source ≢ Source.Live → (words : List (List ℕ)) → order_of words ≡ Ok (ordered_by order.now)
         → Runs words (R.remaining reader.old) (W.contents writer.old) (W.contents writer.new) result }
     ensures lives { order.now.source ≡ Source.Live → (words : List (List ℕ)) → order_of words ≡ Ok (ordered_by order.now)
-        → LivesFor (means S.System system.now S.Fetcher.Fetcher S.Recorder.Fetcher S.Recorder.noted (kept_as S.Body.kind_of S.Folder.holds) S.Folder.Folder S.Record.Write) (W.contents writer.old) (W.contents writer.new) result words }
+        → LivesFor (means S.System system.now S.Fetcher.Fetcher S.Recorder.Fetcher S.Recorder.noted (kept_as S.Body.kind_of S.Body.len_of S.Folder.holds) S.Folder.Folder S.Record.Write) (W.contents writer.old) (W.contents writer.new) result words }
     ensures unread { order.now.source ≡ Source.Live → reader.new ≡ reader.old }
 {
     match order.source {
@@ -158,7 +158,7 @@ fn run_texts<H: Threads + Wait + Sync, S: System, R: Read, W: Write, E: Write>(
     writer: &mut W,
     errors: &mut E,
 ) -> u8
-    ensures { Starts (LivesFor (means S.System system.now S.Fetcher.Fetcher S.Recorder.Fetcher S.Recorder.noted (kept_as S.Body.kind_of S.Folder.holds) S.Folder.Folder S.Record.Write) (W.contents writer.old) (W.contents writer.new) result)
+    ensures { Starts (LivesFor (means S.System system.now S.Fetcher.Fetcher S.Recorder.Fetcher S.Recorder.noted (kept_as S.Body.kind_of S.Body.len_of S.Folder.holds) S.Folder.Folder S.Record.Write) (W.contents writer.old) (W.contents writer.new) result)
         (all_streams R.remaining reader.old (outputs E.contents (W.contents writer.old) errors.old)) (all_streams R.remaining reader.new (outputs E.contents (W.contents writer.new) errors.new)) result
         (map (λ word. word.now) words.now) }
 {
@@ -182,7 +182,7 @@ fn run_words<H: Threads + Wait + Sync, S: System, R: Read, W: Write, E: Write>(
     writer: &mut W,
     errors: &mut E,
 ) -> u8
-    ensures { Starts (LivesFor (means S.System system.now S.Fetcher.Fetcher S.Recorder.Fetcher S.Recorder.noted (kept_as S.Body.kind_of S.Folder.holds) S.Folder.Folder S.Record.Write) (W.contents writer.old) (W.contents writer.new) result)
+    ensures { Starts (LivesFor (means S.System system.now S.Fetcher.Fetcher S.Recorder.Fetcher S.Recorder.noted (kept_as S.Body.kind_of S.Body.len_of S.Folder.holds) S.Folder.Folder S.Record.Write) (W.contents writer.old) (W.contents writer.new) result)
         (all_streams R.remaining reader.old (outputs E.contents (W.contents writer.old) errors.old)) (all_streams R.remaining reader.new (outputs E.contents (W.contents writer.new) errors.new)) result
         (words_behind all.now) }
 {
@@ -202,7 +202,7 @@ fn run_args<H: Threads + Wait + Sync, S: System, R: Read, W: Write, E: Write>(
     writer: &mut W,
     errors: &mut E,
 ) -> u8
-    ensures { Starts (LivesFor (means S.System system.now S.Fetcher.Fetcher S.Recorder.Fetcher S.Recorder.noted (kept_as S.Body.kind_of S.Folder.holds) S.Folder.Folder S.Record.Write) (W.contents writer.old) (W.contents writer.new) result)
+    ensures { Starts (LivesFor (means S.System system.now S.Fetcher.Fetcher S.Recorder.Fetcher S.Recorder.noted (kept_as S.Body.kind_of S.Body.len_of S.Folder.holds) S.Folder.Folder S.Record.Write) (W.contents writer.old) (W.contents writer.new) result)
         (all_streams R.remaining reader.old (outputs E.contents (W.contents writer.old) errors.old)) (all_streams R.remaining reader.new (outputs E.contents (W.contents writer.new) errors.new)) result
         (words_behind (into_iter_items args)) }
 {
@@ -232,7 +232,7 @@ pub fn run_program<H: Threads + Wait + Sync, S: System, R: Read, W: Write, E: Wr
     ensures runs { IfOk args (λ all. ¬ AreForLive (words_behind (into_iter_items all))
         → Runs (words_behind (into_iter_items all)) (R.remaining reader.old) (W.contents writer.old) (W.contents writer.new) result) }
     ensures lives { IfOk args (λ all. AreForLive (words_behind (into_iter_items all))
-        → LivesFor (means S.System system.now S.Fetcher.Fetcher S.Recorder.Fetcher S.Recorder.noted (kept_as S.Body.kind_of S.Folder.holds) S.Folder.Folder S.Record.Write) (W.contents writer.old) (W.contents writer.new) result (words_behind (into_iter_items all))) }
+        → LivesFor (means S.System system.now S.Fetcher.Fetcher S.Recorder.Fetcher S.Recorder.noted (kept_as S.Body.kind_of S.Body.len_of S.Folder.holds) S.Folder.Folder S.Record.Write) (W.contents writer.old) (W.contents writer.new) result (words_behind (into_iter_items all))) }
     ensures unread { IfOk args (λ all. ¬ AreForInput (words_behind (into_iter_items all)) → reader.new ≡ reader.old) }
     ensures told { IfOk args (λ all. ¬ AreForInput (words_behind (into_iter_items all)) → ¬ AreForLive (words_behind (into_iter_items all))
         → IsFaultTold (words_behind (into_iter_items all)) (outputs E.contents (W.contents writer.old) errors.old) (outputs E.contents (W.contents writer.new) errors.new) result) }

@@ -8,6 +8,7 @@ ghost use Rattle.retriever.specs.Saving.{IsSaved, LivesResumed, LivesSaved, note
 
 use crate::input_run::deliver;
 use crate::live_run::finish;
+use crate::quota::ByLength;
 use answer_notes::{Noted, Recording};
 use kept_bodies::Body;
 use local_tree::Folder;
@@ -125,7 +126,15 @@ pub(crate) fn live_saved<
     ensures { LivesSaved (notes_of F.Fetcher F.noted given.now) order.now fetchers.items (outside_saved (holding D.files D.failed folder.old) (W.contents writer.old) (V.contents saved.old))
         (outside_saved (holding D.files D.failed folder.new) (W.contents writer.new) (V.contents saved.new)) result.0 }
 {
-    let (retrieved, left) = workers::retrieve_shown(rt, alloc, &order.plan, fetchers, waiting);
+    let quota = ByLength::of(order);
+    let (retrieved, left) = workers::retrieve_shown(
+        rt,
+        alloc,
+        &order.plan,
+        &quota,
+        fetchers,
+        waiting,
+    );
     let saving = save(alloc, given, left.as_slice(), saved);
     // They are dropped before a report is made.
     drop(left);

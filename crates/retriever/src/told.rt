@@ -108,7 +108,7 @@ fn is_borne_out(cause: Cause) -> bool
     ensures { result ≡ is_borne_out cause }
 {
     match cause {
-        Cause::Full | Cause::Memory => true,
+        Cause::Full | Cause::Memory | Cause::Quota => true,
         Cause::Mismatch => false,
     }
 }

@@ -9,6 +9,7 @@
 #![tactic(auto)]
 
 pub use crate::crew_retrieval::{Retrieved, Stopped, retrieve, retrieve_shown};
+pub use crate::quota::{NoQuota, Quota};
 pub use crate::retrieval::{Halt, retrieve_in_order};
 pub use harvest::{Entry, Harvest};
 
@@ -20,6 +21,7 @@ mod crew_trace;
 mod followed;
 mod note;
 mod once;
+mod quota;
 mod retrieval;
 mod seats;
 mod turn;

@@ -5,6 +5,7 @@ ghost use Rattle.workers.specs.inner.Notes.{Goes, body_of};
 ghost use Rattle.workers.specs.inner.Seats.{SeatGoes};
 
 use crate::note::{Notes, PageNote, RulesNote};
+use crate::quota::{Meter, Quota};
 use address::{Address, Origin};
 use fetcher::{Answer, Fetcher, Outcome};
 use follow_filters::Plan;
@@ -144,11 +145,27 @@ fn untold_page<B>(worker: u32, address: Address) -> PageNote<B>
     }
 }
 
+// Counts the body of a page, if it is kept. If it passes the quota the frontier stops, before what was told is recorded: so no
+// permit is given once what is recorded passes it.
+fn count<B, Q: Quota<B>, R: Wait>(
+    rt: &R,
+    lock: &FrontierLock<'_>,
+    meter: &Meter<'_, Q>,
+    body: &Option<B>,
+) {
+    if let Some(body) = body {
+        if meter.passes(body) {
+            lock.halt(rt, None, Cause::Quota);
+        }
+    }
+}
+
 // Hands the answer of a page over, and gives the note of it with what the worker is to do next.
-fn hand_over<B: Drop, R: Wait>(
+fn hand_over<B: Drop, Q: Quota<B>, R: Wait>(
     rt: &R,
     lock: &FrontierLock<'_>,
     plan: &Plan,
+    meter: &Meter<'_, Q>,
     worker: u32,
     address: Address,
     permit: Permit,
@@ -167,6 +184,7 @@ fn hand_over<B: Drop, R: Wait>(
         copy,
         body,
     } = told;
+    count(rt, lock, meter, &body);
     let next = match lock.give_and_take(rt, worker, Done::Page(permit, copy)) {
         Ok(next) => next,
         Err(refused) => {
@@ -185,10 +203,11 @@ fn hand_over<B: Drop, R: Wait>(
 
 // Asks for the page of a permit with the lock free, hands the outcome over, and notes what was asked for. Gives what the worker
 // is to do next.
-fn serve<F: Fetcher, R: Wait>(
+fn serve<F: Fetcher, Q: Quota<F::Body>, R: Wait>(
     rt: &R,
     lock: &FrontierLock<'_>,
     plan: &Plan,
+    meter: &Meter<'_, Q>,
     worker: u32,
     fetcher: &mut F,
     notes: &mut Notes<F::Body>,
@@ -208,7 +227,7 @@ fn serve<F: Fetcher, R: Wait>(
         notes.pages.push_reserved(untold_page(worker, address));
         return stopped;
     };
-    let (note, next) = hand_over(rt, lock, plan, worker, address, permit, answer);
+    let (note, next) = hand_over(rt, lock, plan, meter, worker, address, permit, answer);
     notes.pages.push_reserved(note);
     next
 }
@@ -292,11 +311,12 @@ fn spread<R: Wait>(rt: &R, lock: &FrontierLock<'_>) {
 }
 
 // Takes work and does it, until none is left or the frontier stopped.
-fn work<F: Fetcher, R: Wait>(
+fn work<F: Fetcher, Q: Quota<F::Body>, R: Wait>(
     rt: &R,
     alloc: Global,
     lock: &FrontierLock<'_>,
     plan: &Plan,
+    meter: &Meter<'_, Q>,
     worker: u32,
     fetcher: &mut F,
     notes: &mut Notes<F::Body>,
@@ -317,18 +337,19 @@ fn work<F: Fetcher, R: Wait>(
                 serve_rules(rt, alloc, lock, worker, fetcher, notes, permit);
                 next(rt, lock, worker)
             }
-            Work::Page(permit) => serve(rt, lock, plan, worker, fetcher, notes, permit),
+            Work::Page(permit) => serve(rt, lock, plan, meter, worker, fetcher, notes, permit),
         };
     }
     unreachable!()
 }
 
 /// Has the worker of a seat work, under the seat's number.
-pub fn work_at<F: Fetcher, R: Wait>(
+pub fn work_at<F: Fetcher, Q: Quota<F::Body>, R: Wait>(
     rt: &R,
     alloc: Global,
     lock: &FrontierLock<'_>,
     plan: &Plan,
+    meter: &Meter<'_, Q>,
     seat: &mut Seat<F, F::Body>,
 )
     ensures { SeatGoes F.Fetcher plan.now seat.old seat.new }
@@ -338,6 +359,7 @@ pub fn work_at<F: Fetcher, R: Wait>(
         alloc,
         lock,
         plan,
+        meter,
         seat.number,
         &mut seat.fetcher,
         &mut seat.notes,

@@ -18,8 +18,15 @@ use streams::{Close, Lock};
 impl HasKind for Part {
     ghost kind_of = { λ part. part.kind };
 
+    // How many bytes came.
+    ghost len_of = { λ part. part.len };
+
     fn kind_of(&self) -> BodyKind {
         self.kind
+    }
+
+    fn len_of(&self) -> u64 {
+        self.len
     }
 }
 

@@ -66,6 +66,7 @@ abbrev pub is_borne_out : Cause → Bool
 is_borne_out cause.Full = true
 is_borne_out cause.Memory = true
 is_borne_out cause.Mismatch = false
+is_borne_out cause.Quota = true
 
 -- what is said of a harvest beside its contents: the entries, the records and the kept pages say what its state holds,
 -- which is sound

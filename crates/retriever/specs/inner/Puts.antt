@@ -27,6 +27,7 @@ abbrev pub bare_cause : Cause → Cause
 bare_cause cause.Full = cause.Memory
 bare_cause cause.Memory = cause.Memory
 bare_cause cause.Mismatch = cause.Mismatch
+bare_cause cause.Quota = cause.Memory
 
 -- the line of a retrieval that stopped is told, behind what is shown of its trace, or without that for want of memory
 abbrev pub IsHaltTold : {B : Type 0} → (List ℕ → ℕ → Type 0) → Bool → Halt B → Type 0
@@ -48,11 +49,22 @@ IsPutAndTold keeps IsTold names bodies (text, wanted) old new =
 abbrev pub harvest_text : {B : Type 0} → Bool → Harvested B → List (List ℕ) → List ℕ
 harvest_text is_shown h names = trace_text (shown_of is_shown h.trace) ++ report_text (harvest_lines_of h names)
 
--- what is put and told of what was retrieved: the kept pages and the report of a harvest that was read, or the line of the
--- cause for which it stopped; or there is no memory for it, and nothing is put
-abbrev pub IsPutOf : {B : Type 0} → Keeping B → (List ℕ → ℕ → Type 0) → PageNames → Bool → Result (Harvested B) (Halt B) → Holding → Holding → Type 0
-IsPutOf keeps IsTold naming is_shown (Ok h) old new =
+-- what is put and told of a harvest that was read: its kept pages and its report; or there is no memory for it, and nothing is put
+abbrev pub IsHarvestPut : {B : Type 0} → Keeping B → (List ℕ → ℕ → Type 0) → PageNames → Bool → Harvested B → Holding → Holding → Type 0
+IsHarvestPut keeps IsTold naming is_shown h old new =
     ((new ≡ old) × IsTold (codes "stopped memory\n") 1)
     ⊎ (IsRead h × (names : List (List ℕ)) × AreNamesOf naming h.kept (kinds_of keeps.kind_of h.bodies) names
     × IsPutAndTold keeps IsTold names h.bodies (harvest_text is_shown h names, exit_status (map (λ recorded. recorded.1) h.records)) old new)
-IsPutOf keeps IsTold naming is_shown (Err halt) old new = (new ≡ old) × IsHaltTold IsTold is_shown halt
+
+-- what is put and told of a retrieval that stopped for this cause: of one that stopped for the quota as of a harvest, and of another
+-- the line of the cause
+abbrev pub IsStopPut : {B : Type 0} → Keeping B → (List ℕ → ℕ → Type 0) → PageNames → Bool → Cause → Harvested B → Holding → Holding → Type 0
+IsStopPut keeps IsTold naming is_shown cause.Quota h old new = IsHarvestPut keeps IsTold naming is_shown h old new
+IsStopPut keeps IsTold naming is_shown cause.Full h old new = (new ≡ old) × IsHaltTold IsTold is_shown (record { cause = cause.Full; harvest = h })
+IsStopPut keeps IsTold naming is_shown cause.Memory h old new = (new ≡ old) × IsHaltTold IsTold is_shown (record { cause = cause.Memory; harvest = h })
+IsStopPut keeps IsTold naming is_shown cause.Mismatch h old new = (new ≡ old) × IsHaltTold IsTold is_shown (record { cause = cause.Mismatch; harvest = h })
+
+-- what is put and told of what was retrieved
+abbrev pub IsPutOf : {B : Type 0} → Keeping B → (List ℕ → ℕ → Type 0) → PageNames → Bool → Result (Harvested B) (Halt B) → Holding → Holding → Type 0
+IsPutOf keeps IsTold naming is_shown (Ok h) old new = IsHarvestPut keeps IsTold naming is_shown h old new
+IsPutOf keeps IsTold naming is_shown (Err halt) old new = IsStopPut keeps IsTold naming is_shown halt.cause halt.harvest old new
