@@ -69,6 +69,7 @@ complete -c wgetr -l default-page -x -d 'a page without a name is NAME (index.ht
 complete -c wgetr -s E -l adjust-extension -d 'HTML ends in .html, style sheets in .css'
 complete -c wgetr -l html-extension -d 'the same, by its older name'
 complete -c wgetr -l restrict-file-names -x -d 'unix, windows, ascii, lowercase, uppercase'
+complete -c wgetr -s k -l convert-links -d 'links in files lead from file to file'
 complete -c wgetr -s q -l quiet -d 'tell nothing, except of refused words'
 complete -c wgetr -s o -l output-file -r -F -d 'write report and failures into FILE'
 complete -c wgetr -s a -l append-output -r -F -d 'likewise, after what FILE has'

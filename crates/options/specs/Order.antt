@@ -85,6 +85,7 @@ pub record Ordered : Type 0 where
   pub log : Option (Text × Bool)
   pub prefix : List ℕ
   pub names : Naming
+  pub converts : Bool
   pub fields : Sent
   pub manner : Mannered
   pub retries : Retried
@@ -325,6 +326,7 @@ ordered found counts proxies names fields manner retries level patterns director
   log = log_of found;
   prefix = prefix_of found;
   names = names;
+  converts = is_set (codes "convert-links") found;
   fields = fields;
   manner = manner;
   retries = retries;
@@ -479,6 +481,7 @@ ordered_by order = record {
   log = option_map log_by order.log;
   prefix = order.prefix;
   names = naming_by order.names;
+  converts = order.converts;
   fields = order.fields;
   manner = mannered order.manner;
   retries = retries_by order.retries;

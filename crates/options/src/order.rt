@@ -135,6 +135,8 @@ pub struct Order {
     pub prefix: Prefix,
     /// How files are named.
     pub names: PageNames,
+    /// Whether the links of files lead from file to file.
+    pub converts: bool,
     /// What requests say besides their addresses.
     pub fields: Fields,
     /// How servers are treated.
@@ -267,6 +269,7 @@ impl Order {
             log,
             prefix,
             names,
+            converts,
             fields,
             manner,
             retries,
@@ -287,6 +290,7 @@ impl Order {
             log,
             prefix,
             names,
+            converts,
             fields,
             manner,
             retries,
@@ -313,6 +317,7 @@ impl Order {
             log,
             prefix,
             names,
+            converts,
             fields,
             manner,
             retries,
@@ -333,6 +338,7 @@ impl Order {
             log,
             prefix,
             names,
+            converts,
             fields,
             manner,
             retries,

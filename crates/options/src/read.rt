@@ -764,6 +764,7 @@ fn filled(
         log: paths.log,
         prefix: paths.prefix,
         names: naming,
+        converts: is_set(matches, "convert-links"),
         fields,
         manner,
         retries,

@@ -42,7 +42,7 @@ pub(crate) struct Row<T> {
 }
 
 /// The options.
-const TABLE: [Row<&str>; 88] = [
+const TABLE: [Row<&str>; 89] = [
     Row {
         short: "r",
         name: "recursive",
@@ -532,6 +532,13 @@ const TABLE: [Row<&str>; 88] = [
         kind: Kind::List("MODES"),
         heading: "",
         says: "unix, windows, ascii, lowercase, uppercase",
+    },
+    Row {
+        short: "k",
+        name: "convert-links",
+        kind: Kind::Flag,
+        heading: "",
+        says: "links in files lead from file to file",
     },
     Row {
         short: "q",
@@ -1218,12 +1225,12 @@ const INSTEAD: [Instead<&str>; 73] = [
         advice: "--save FILE writes what is received, docs/RECORDS.md",
     },
     Instead {
-        form: "--convert-links",
-        advice: "links stay as they are; a web server over the folder finds them",
+        form: "--backup-converted",
+        advice: "leave it out: a run without -k writes pages as they came",
     },
     Instead {
-        form: "-k",
-        advice: "links stay as they are; a web server over the folder finds them",
+        form: "-K",
+        advice: "leave it out: a run without -k writes pages as they came",
     },
     Instead {
         form: "--mirror",
@@ -1298,7 +1305,7 @@ pub(crate) struct Command<T> {
 }
 
 /// The commands of wgetrc whose options are here.
-const COMMANDS: [Command<&str>; 71] = [
+const COMMANDS: [Command<&str>; 72] = [
     Command {
         name: "accept",
         option: "accept",
@@ -1334,6 +1341,10 @@ const COMMANDS: [Command<&str>; 71] = [
     Command {
         name: "connecttimeout",
         option: "connect-timeout",
+    },
+    Command {
+        name: "convertlinks",
+        option: "convert-links",
     },
     Command {
         name: "cookies",

@@ -8,6 +8,8 @@
 #[cfg(test)]
 mod agenda_tests;
 #[cfg(test)]
+mod change_tests;
+#[cfg(test)]
 mod disk;
 #[cfg(test)]
 mod disk_site_tests;

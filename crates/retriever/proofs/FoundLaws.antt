@@ -19,6 +19,7 @@ use Rattle.workers.specs.Sites.{IsCompleteFor}
 use Rattle.harvest.specs.declared.entry.Entry.{Entry}
 use Rattle.report.specs.Report.{Line, Fate, Asked, Refused}
 use Rattle.report.specs.Entries.{fate_at, name_among, line_at, harvest_lines_of}
+use Rattle.retriever.specs.Mirrored.{AreRecordsOf}
 use Rattle.retriever.specs.Site.{IsFate, AreLines}
 use Rattle.report.proofs.TableLaws.{found_stands}
 use Rattle.report.proofs.ListLaws.{to_map, from_map, to_given, from_given}
@@ -133,6 +134,20 @@ candidate_line h names are records quiet u slot found =
     let (k, lt, at) = found_stands h.state.entries u slot found in
     let done = subst (λ (z : Text × Slot). is_done z.1.progress ≡ true) at (quiet.entries k (u, slot) lt) in
     came_line h names are records u slot found (came slot.progress done)
+
+-- the records of a harvest are those of its state
+pub records_of : {B : Type 0} (h : Harvested B) → AreRecords h → IsOnce (keys h.state.entries) → AreRecordsOf (answers h.state) h.records
+records_of h records once = record { ascending = records.ascending; same = λ u x. (there u x, back u x (lookup h.state.entries u) refl) }
+  where
+    there : (u : Text) (x : Outcome) → Contains h.records (u, x) → (answers h.state).outcome u ≡ Some x
+    there u x among = let said = answered h records once u x among in ap slot_outcome said.found ∙ said.outcome
+
+    back : (u : Text) (x : Outcome) (o : Option Slot) → lookup h.state.entries u ≡ o → (answers h.state).outcome u ≡ Some x → Contains h.records (u, x)
+    back u x None found is = let none : None ≡ Some x = sym (ap slot_outcome found) ∙ is in cc
+    back u x (Some slot) found is =
+        let told : outcome_in slot.progress ≡ Some x = sym (ap slot_outcome found) ∙ is in
+        Contains-permutation (filter_map record_of h.state.entries) h.records (u, x) records.same
+        (to_given record_of h.state.entries (u, slot) (u, x) (found_stands h.state.entries u slot found) (rw told refl))
 
 pub are_lines : {B : Type 0} (p : Policy) (whole : Answers) (h : Harvested B) (names : List (List ℕ)) → AreEntries h → AreRecords h → IsOnce (keys h.state.entries) → length h.state.entries ≤ p.max_urls
     → IsCompleteFor p whole h.state → IsQuiet h.state → AreLines p whole (harvest_lines_of h names)

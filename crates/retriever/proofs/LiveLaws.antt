@@ -1,5 +1,5 @@
 -- What is put and told of what a crew retrieved is the end of a live retrieval.
-use Rattle.std.proofs.Common.{◌≡◌, ◌≢◌, ◌⊎◌, ◌∙◌, ◌++◌, ℕ, inl, inr, Bool, false, List, [], length, map, Option, Some, refl, sym, ap, subst, append_assoc}
+use Rattle.std.proofs.Common.{◌≡◌, ◌≢◌, ◌⊎◌, ◌∙◌, ◌++◌, ℕ, inl, inr, Bool, true, false, List, [], length, map, Option, Some, refl, sym, ap, subst, append_assoc}
 use Rattle.std.specs.Prelude.{IfSome, IfOk, IfErr, Result, Ok, Err}
 use Rattle.std.specs.List.{AllZip, sum_by}
 use Rattle.kept_bodies.specs.declared.body_kind.BodyKind.{BodyKind}
@@ -12,7 +12,7 @@ use Rattle.frontier_core.specs.Machine.{State, answers}
 use Rattle.frontier_core.specs.Plans.{policy}
 use Rattle.frontier_core.specs.Routes.{Policy, Answers, HasTooMany}
 use Rattle.frontier_core.proofs.Runs.{closed_replay}
-use Rattle.frontier_core.specs.Tables.{Text}
+use Rattle.frontier_core.specs.Tables.{Text, keys, IsOnce}
 use Rattle.frontier_core.specs.declared.event.Cause.{Cause}
 use Rattle.frontier_core.specs.declared.event.Cause.TheVariants as why
 use Rattle.frontier_core.specs.declared.event.Event.{Event}
@@ -28,21 +28,24 @@ use Rattle.workers.specs.Retrieval.{IsRetrieved, IsPartRetrieved, IsStopped}
 use Rattle.workers.specs.Sites.{IsCompleteFor}
 use Rattle.workers.specs.declared.retrieval.Halt.{Halt}
 use Rattle.local_tree.specs.Folders.{Holding}
+use Rattle.local_tree.specs.Changes.{IsShelvedAs, IsHalfShelvedAs}
 use Rattle.local_tree.specs.Shelves.{IsShelved, IsHalfShelved}
 use Rattle.report.specs.Entries.{harvest_lines_of}
 use Rattle.report.specs.Named.{names_in}
-use Rattle.report.specs.Report.{report_text}
+use Rattle.report.specs.Report.{Line, report_text}
 use Rattle.report.proofs.NamedLaws.{names_of_lines, pages_of_lines}
-use Rattle.retriever.specs.Found.{Crew, crew_of, MaySay, MaySayRules, asks_of, IsPartFound, IsReportFound, EndsFound, Finds, Outside, LiveEnd, Finished, Torn, live_text, live_status, torn_line}
+use Rattle.retriever.specs.Found.{Crew, crew_of, MaySay, MaySayRules, asks_of, IsFound, IsFrontFound, IsPartFound, IsReportFound, EndsFound, Finds, Outside, LiveEnd, Finished, Torn, Unchanged, IsPutAt, IsTornAt, live_text, live_status, torn_line, unchanged_line}
 use Rattle.retriever.specs.Live.{AreOfCrew, IsFrontLive, IsReportLive, IsRetrievedLive, IsStoppedLive, EndsLive, Lives}
+use Rattle.retriever.specs.Mirrored.{IsPutAs, IsHalfPutAs, kept_as_named, kept_by, links_become}
 use Rattle.retriever.specs.Parts.{shown_of}
+use Rattle.run_mirror.specs.Mirrors.{Kept}
 use Rattle.retriever.specs.Retrieved.{Retrieved, Stopped}
 use Rattle.retriever.specs.Keeping.{Keeping, kinds_of}
 use Rattle.retriever.specs.Site.{AreNamesOf}
 use Rattle.retriever.specs.inner.Parts.{IsRead, IsToldAs, status_told}
 use Rattle.retriever.specs.inner.Puts.{IsHarvestPut, IsHaltTold, IsPutOf, IsStopPut}
 use Rattle.report.specs.Trace.{trace_text}
-use Rattle.retriever.proofs.FoundLaws.{are_lines}
+use Rattle.retriever.proofs.FoundLaws.{are_lines, records_of}
 use Rattle.retriever.proofs.FrontLaws.{are_front_lines}
 use Rattle.retriever.proofs.DeliveryLaws.{told_delivered}
 use Rattle.retriever.proofs.EndLaws.{are_named, names_count, none_shown, status_of}
@@ -60,7 +63,7 @@ complete_for p s complete = record {
 
 -- ---- a harvest
 
-retrieved : {F B : Type 0} (crew : Crew F B) (plan : Plan) (naming : PageNames) (h : Harvested B) (names : List (List ℕ)) → IsRetrieved (MaySay crew) (MaySayRules crew) plan (asks_of crew) h → IsRead h
+abbrev retrieved : {F B : Type 0} (crew : Crew F B) (plan : Plan) (naming : PageNames) (h : Harvested B) (names : List (List ℕ)) → IsRetrieved (MaySay crew) (MaySayRules crew) plan (asks_of crew) h → IsRead h
     → AreNamesOf naming h.kept (kinds_of crew.keeps.kind_of h.bodies) names → AreOfCrew crew h.trace → IsRetrievedLive crew plan naming h.trace (harvest_lines_of h names) h.bodies
 retrieved crew plan naming h names is read given by =
     let sound = subst (λ (o : Option Plan). IfSome o (λ plan. IsSound (policy plan) h.state)) is.follows read.3 in
@@ -89,7 +92,7 @@ part_found crew plan cause h part = record {
 }
 
 -- a front that the quota ended
-front : {F B : Type 0} (crew : Crew F B) (plan : Plan) (naming : PageNames) (h : Harvested B) (names : List (List ℕ)) → IsPartRetrieved (MaySay crew) (MaySayRules crew) plan (asks_of crew) why.Quota h → IsRead h
+abbrev front : {F B : Type 0} (crew : Crew F B) (plan : Plan) (naming : PageNames) (h : Harvested B) (names : List (List ℕ)) → IsPartRetrieved (MaySay crew) (MaySayRules crew) plan (asks_of crew) why.Quota h → IsRead h
     → AreNamesOf naming h.kept (kinds_of crew.keeps.kind_of h.bodies) names → AreOfCrew crew h.trace → IsFrontLive crew plan naming h.trace (harvest_lines_of h names) h.bodies
 front crew plan naming h names part read given by =
     let sound = subst (λ (o : Option Plan). IfSome o (λ plan. IsSound (policy plan) h.state)) part.follows read.3 in
@@ -114,6 +117,34 @@ given : {B : Type 0} (kind_of : B → BodyKind) (naming : PageNames) (h : Harves
     → names ≡ names_in (harvest_lines_of h names)
 given kind_of naming h names read are = sym (names_of_lines h names read.0 read.1 read.2 (names_count kind_of naming h names are))
 
+-- what was put of a harvest is what the lines say of it
+module _ {B : Type 0} (keeps : Keeping B) (naming : PageNames) (h : Harvested B) (names : List (List ℕ)) (read : IsRead h) (are : AreNamesOf naming h.kept (kinds_of keeps.kind_of h.bodies) names) where
+  kept_of_lines : kept_as_named h names ≡ kept_by (harvest_lines_of h names) h.records
+  kept_of_lines =
+      let lines = harvest_lines_of h names in
+      let long : length names ≡ length h.kept = names_count keeps.kind_of naming h names are in
+      ap (λ (ns : List (List ℕ)). kept_as_named h ns) (given keeps.kind_of naming h names read are)
+      ∙ ap (λ (pages : List (List ℕ)). record { kept = pages; names = names_in lines; records = h.records }) (sym (pages_of_lines h names read.0 read.1 read.2 long))
+
+  put_at : (converts all : Bool) (old new : Holding) → IsOnce (keys h.state.entries) → IsPutAs converts all keeps (kept_as_named h names) h.bodies old new → new.failed ≡ old.failed
+      → IsPutAt converts all keeps (answers h.state) (harvest_lines_of h names) h.bodies old new
+  put_at false false old new once put quiet = put
+  put_at false true old new once put quiet =
+      (subst (λ (ns : List (List ℕ)). IsShelved keeps.holds ns h.bodies old.files new.files) (given keeps.kind_of naming h names read are) put, quiet)
+  put_at true all old new once put quiet =
+      (h.records, records_of h read.1 once, subst (λ (k : Kept). IsShelvedAs (links_become k) all keeps.holds k.names h.bodies old new) kept_of_lines put, quiet)
+
+  torn_at : (converts : Bool) (old new : Holding) (whole : ℕ) → IsOnce (keys h.state.entries) → IsHalfPutAs converts keeps (kept_as_named h names) h.bodies old new whole
+      → IsTornAt converts keeps (answers h.state) (harvest_lines_of h names) h.bodies old new whole
+  torn_at false old new whole once torn =
+      subst (λ (ns : List (List ℕ)). IsHalfShelved keeps.holds ns h.bodies old new whole) (given keeps.kind_of naming h names read are) torn
+  torn_at true old new whole once torn =
+      (h.records, records_of h read.1 once, subst (λ (k : Kept). IsHalfShelvedAs (links_become k) keeps.holds k.names h.bodies old new whole) kept_of_lines torn)
+
+-- no address is held twice
+once_held : {B : Type 0} (plan : Plan) (h : Harvested B) → IsRead h → h.plan ≡ Some plan → IsOnce (keys h.state.entries)
+once_held plan h read follows = (subst (λ (o : Option Plan). IfSome o (λ plan. IsSound (policy plan) h.state)) follows read.3).addresses
+
 part_retrieved : {F B : Type 0} (crew : Crew F B) (plan : Plan) (cause : Cause) (h : Harvested B) → IsPartRetrieved (MaySay crew) (MaySayRules crew) plan (asks_of crew) cause h
     → (cause ≡ why.Full → HasTooMany (policy plan) (answers h.state)) → AreOfCrew crew h.trace → IsStoppedLive crew plan cause h.trace
 part_retrieved crew plan cause h part many by = record {
@@ -135,21 +166,36 @@ module _ {F B : Type 0} (crew : Crew F B) (order : Order) (old new : Holding) (I
 
   -- a harvest of which a report with any names is known to be so
   ended : (h : Harvested B) → AreMadeOnce (asks_of crew) → h.plan ≡ Some order.plan
-      → ((names : List (List ℕ)) → IsRead h → AreNamesOf order.names h.kept (kinds_of crew.keeps.kind_of h.bodies) names → IsReportLive crew order h.trace (harvest_lines_of h names) h.bodies)
-      → IsHarvestPut crew.keeps IsTold order.names order.trace h old new → EndsTold
+      → ((names : List (List ℕ)) → IsRead h → AreNamesOf order.names h.kept (kinds_of crew.keeps.kind_of h.bodies) names → IsReportLive crew order (answers h.state) h.trace (harvest_lines_of h names) h.bodies)
+      → IsHarvestPut order.converts crew.keeps IsTold order.names order.trace h old new → EndsTold
   ended h once follows live (inl (same, told)) = ([], Finished (Stopped why.Memory), (once, inl refl, inl same), told)
-  ended h once follows live (inr (read, names, naming, inl (whole, quiet, told))) =
+  ended h once follows live (inr (read, names, naming, inl (true, put, quiet, told))) =
       let lines = harvest_lines_of h names in (
         shown_of order.trace h.trace,
         Finished (Retrieved lines),
         (
           h.trace,
+          answers h.state,
           h.bodies,
           live names read naming,
           refl,
-          (subst (λ (given : List (List ℕ)). IsShelved crew.keeps.holds given h.bodies old.files new.files) (given crew.keeps.kind_of order.names h names read naming) whole, quiet),
+          put_at crew.keeps order.names h names read naming order.converts true old new (once_held order.plan h read follows) put quiet,
         ),
         subst (λ (wanted : ℕ). IsTold (trace_text (shown_of order.trace h.trace) ++ report_text lines) wanted) (status_of order h names read follows) told,
+      )
+  ended h once follows live (inr (read, names, naming, inl (false, put, quiet, told))) =
+      let lines = harvest_lines_of h names in (
+        shown_of order.trace h.trace,
+        Unchanged lines,
+        (
+          h.trace,
+          answers h.state,
+          h.bodies,
+          live names read naming,
+          refl,
+          put_at crew.keeps order.names h names read naming order.converts false old new (once_held order.plan h read follows) put quiet,
+        ),
+        subst (λ (text : List ℕ). IsTold text 3) (append_assoc (trace_text (shown_of order.trace h.trace)) (report_text lines) unchanged_line) told,
       )
   ended h once follows live (inr (read, names, naming, inr (whole, torn, inl told))) =
       let lines = harvest_lines_of h names in (
@@ -157,10 +203,11 @@ module _ {F B : Type 0} (crew : Crew F B) (order : Order) (old new : Holding) (I
         Torn lines whole,
         (
           h.trace,
+          answers h.state,
           h.bodies,
           live names read naming,
           refl,
-          subst (λ (given : List (List ℕ)). IsHalfShelved crew.keeps.holds given h.bodies old new whole) (given crew.keeps.kind_of order.names h names read naming) torn,
+          torn_at crew.keeps order.names h names read naming order.converts old new whole (once_held order.plan h read follows) torn,
         ),
         subst (λ (text : List ℕ). IsTold text 3) (append_assoc (trace_text (shown_of order.trace h.trace)) (report_text lines) (torn_line whole)) told,
       )
@@ -172,11 +219,12 @@ module _ {F B : Type 0} (crew : Crew F B) (order : Order) (old new : Holding) (I
       inl refl,
       inr (
         h.trace,
+        answers h.state,
         harvest_lines_of h names,
         h.bodies,
         whole,
         live names read naming,
-        subst (λ (given : List (List ℕ)). IsHalfShelved crew.keeps.holds given h.bodies old new whole) (given crew.keeps.kind_of order.names h names read naming) torn,
+        torn_at crew.keeps order.names h names read naming order.converts old new whole (once_held order.plan h read follows) torn,
       ),
     ),
     told,
@@ -190,14 +238,14 @@ module _ {F B : Type 0} (crew : Crew F B) (order : Order) (old new : Holding) (I
 
   -- a front, or nothing for want of memory: which is no end for the quota
   fronted : (h : Harvested B) → IsStopped (MaySay crew) (MaySayRules crew) order.plan (asks_of crew) why.Quota h → IsPassed order.quota (sum_by crew.keeps.len_of h.bodies)
-      → AreOfCrew crew h.trace → IsHarvestPut crew.keeps IsTold order.names order.trace h old new → EndsTold
+      → AreOfCrew crew h.trace → IsHarvestPut order.converts crew.keeps IsTold order.names order.trace h old new → EndsTold
   fronted h (inl part) passed by put =
-      ended h (made_once (asks_of crew) part.once) part.follows (λ names read naming. inr (passed, front crew order.plan order.names h names part read naming by)) put
+      ended h (made_once (asks_of crew) part.once) part.follows (λ names read naming. inr (passed, front crew order.plan order.names h names part read naming by, refl)) put
   fronted h (inr empty) passed by put = (let memory : why.Quota ≡ why.Memory = empty.memory in cc)
 
   stopped : (cause : Cause) (h : Harvested B) → (cause ≢ why.Mismatch → IsStopped (MaySay crew) (MaySayRules crew) order.plan (asks_of crew) cause h) → (cause ≡ why.Full → HasTooMany (policy order.plan) (answers h.state))
       → (length crew.first ≡ 1 → cause ≢ why.Mismatch) → (cause ≡ why.Quota → IsPassed order.quota (sum_by crew.keeps.len_of h.bodies)) → (cause ≢ why.Mismatch → AreOfCrew crew h.trace)
-      → IsStopPut crew.keeps IsTold order.names order.trace cause h old new → EndsTold
+      → IsStopPut order.converts crew.keeps IsTold order.names order.trace cause h old new → EndsTold
   stopped why.Full h stop many one passed by (same, inl told) =
       elim (stop (λ is. cc)) [
         | inl part ↦ (shown_of order.trace h.trace, Finished (Stopped why.Full), (h.trace, part_retrieved crew order.plan why.Full h part many (by (λ is. cc)), refl, same), told)
@@ -227,10 +275,10 @@ module _ {F B : Type 0} (crew : Crew F B) where
       → (length crew.first ≡ 1 → IfErr r (λ halt. halt.cause ≢ why.Mismatch))
       → IfOk r (λ h. AreOfCrew crew h.trace) × IfErr r (λ halt. halt.cause ≢ why.Mismatch → AreOfCrew crew halt.harvest.trace)
       → KeepsTo order.quota crew.keeps.len_of r
-      → IsPutOf crew.keeps IsTold order.names order.trace r old new → EndsTold crew order old new IsTold
+      → IsPutOf order.converts crew.keeps IsTold order.names order.trace r old new → EndsTold crew order old new IsTold
   crew_ends order (Ok h) old new IsTold is stop full one by keeps put =
       ended crew order old new IsTold h (made_once (asks_of crew) is.once) is.follows
-      (λ names read naming. inl (keeps.within, retrieved crew order.plan order.names h names is read naming by.0)) put
+      (λ names read naming. inl (keeps.within, retrieved crew order.plan order.names h names is read naming by.0, refl)) put
   crew_ends order (Err halt) old new IsTold is stop full one by keeps put =
       stopped crew order old new IsTold halt.cause halt.harvest stop (λ why. (full why).0) one keeps.beyond by.1 put
 
@@ -258,19 +306,20 @@ lives_from m keeps order olds news before after told status later same (shown, e
 -- ---- what was found, apart from the events that led there
 
 -- what a report tells of events it tells of what they found
-found_report : {F B : Type 0} (crew : Crew F B) (order : Order) (events : List Event) (lines : List Line) (bodies : List B) → IsReportLive crew order events lines bodies
-    → (m : Answers) × IsReportFound crew order m lines bodies
-found_report crew order events lines bodies (inl (within, r)) = (answers r.state, inl (within, r.found))
-found_report crew order events lines bodies (inr (passed, r)) = (answers r.state, inr (passed, r.found))
+found_report : {F B : Type 0} (crew : Crew F B) (order : Order) (m : Answers) (events : List Event) (lines : List Line) (bodies : List B) → IsReportLive crew order m events lines bodies
+    → IsReportFound crew order m lines bodies
+found_report crew order m events lines bodies (inl (within, r, is)) = inl (within, subst (λ (a : Answers). IsFound crew order.plan order.names a lines bodies) is r.found)
+found_report crew order m events lines bodies (inr (passed, r, is)) = inr (passed, subst (λ (a : Answers). IsFrontFound crew order.plan order.names a lines bodies) is r.found)
 
 -- what a live retrieval comes to is what it found
 found_end : {F B : Type 0} (crew : Crew F B) (order : Order) (old new : Holding) (shown : List Event) (ending : LiveEnd) → EndsLive crew order old new shown ending → EndsFound crew order old new ending
-found_end crew order old new shown (Finished (Retrieved lines)) (events, bodies, r, is, whole) = let (m, found) = found_report crew order events lines bodies r in (m, bodies, found, whole)
-found_end crew order old new shown (Torn lines whole) (events, bodies, r, is, torn) = let (m, found) = found_report crew order events lines bodies r in (m, bodies, found, torn)
+found_end crew order old new shown (Finished (Retrieved lines)) (events, m, bodies, r, is, whole) = (m, bodies, found_report crew order m events lines bodies r, whole)
+found_end crew order old new shown (Torn lines whole) (events, m, bodies, r, is, torn) = (m, bodies, found_report crew order m events lines bodies r, torn)
+found_end crew order old new shown (Unchanged lines) (events, m, bodies, r, is, put) = (m, bodies, found_report crew order m events lines bodies r, put)
 found_end crew order old new shown (Finished (Stopped why.Full)) (events, h, is, same) = (answers h.state, h.found, h.full refl, same)
 found_end crew order old new shown (Finished (Stopped why.Memory)) (once, told, inl same) = (once, inl same)
-found_end crew order old new shown (Finished (Stopped why.Memory)) (once, told, inr (events, lines, bodies, whole, r, torn)) =
-    let (m, found) = found_report crew order events lines bodies r in (once, inr (m, lines, bodies, whole, found, torn))
+found_end crew order old new shown (Finished (Stopped why.Memory)) (once, told, inr (events, m, lines, bodies, whole, r, torn)) =
+    (once, inr (m, lines, bodies, whole, found_report crew order m events lines bodies r, torn))
 found_end crew order old new shown (Finished (Stopped why.Mismatch)) (many, none, same) = (many, same)
 found_end crew order old new shown (Finished (Stopped why.Quota)) never = never
 
@@ -280,8 +329,9 @@ unshown is_shown shown events is off = ap trace_text (is ∙ ap (λ b. shown_of 
 
 untraced_end : {F B : Type 0} (crew : Crew F B) (order : Order) (old new : Holding) (shown : List Event) (ending : LiveEnd) → EndsLive crew order old new shown ending → order.trace ≡ false
     → trace_text shown ≡ []
-untraced_end crew order old new shown (Finished (Retrieved lines)) (events, bodies, r, is, whole) off = unshown order.trace shown events is off
-untraced_end crew order old new shown (Torn lines whole) (events, bodies, r, is, torn) off = unshown order.trace shown events is off
+untraced_end crew order old new shown (Finished (Retrieved lines)) (events, m, bodies, r, is, whole) off = unshown order.trace shown events is off
+untraced_end crew order old new shown (Torn lines whole) (events, m, bodies, r, is, torn) off = unshown order.trace shown events is off
+untraced_end crew order old new shown (Unchanged lines) (events, m, bodies, r, is, put) off = unshown order.trace shown events is off
 untraced_end crew order old new shown (Finished (Stopped why.Full)) (events, h, is, same) off = unshown order.trace shown events is off
 untraced_end crew order old new shown (Finished (Stopped why.Memory)) (once, inl none, put) off = ap trace_text none
 untraced_end crew order old new shown (Finished (Stopped why.Memory)) (once, inr (events, h, is), put) off = unshown order.trace shown events is off

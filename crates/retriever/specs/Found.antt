@@ -1,6 +1,6 @@
 -- What a live retrieval found, what it writes of that and what it leaves in its folder, with no word of how it came there: which
 -- events led to it says `Live`. What a live site answers isn't known beforehand, so all is said of what was recorded.
-use Rattle.std.specs.Prelude.{◌≡◌, ◌≢◌, ◌⊎◌, ℕ, List, [], ◌++◌, length, codes, Option, Contains, false}
+use Rattle.std.specs.Prelude.{◌≡◌, ◌≢◌, ◌⊎◌, ℕ, Bool, List, [], ◌++◌, length, codes, Option, Contains, true, false}
 use Rattle.std.specs.Fmt.{decimal}
 use Rattle.std.specs.List.{AllZip, sum_by}
 use Rattle.follow_filters.specs.declared.plan.Plan.{Plan}
@@ -14,6 +14,7 @@ use Rattle.robots_rules.specs.Access.{RuleSetValue}
 use Rattle.frontier_core.specs.Tables.{Text}
 use Rattle.frontier_core.specs.Routes.{Answers, HasTooMany, IsWanted, IsNeeded}
 use Rattle.frontier_core.specs.Plans.{policy}
+use Rattle.frontier_core.specs.Readers.{Recorded}
 use Rattle.frontier_core.specs.declared.event.Cause.TheVariants as cause
 use Rattle.harvest.specs.Pages.{IsBodyOf}
 use Rattle.workers.specs.Asks.{IsTold}
@@ -21,10 +22,12 @@ use Rattle.workers.specs.Crews.{AreLater, all_gained, SomeSays, SomeRules}
 use Rattle.workers.specs.Found.{AreMadeOnce, AreAsked}
 use Rattle.workers.specs.Quotas.{IsPassed}
 use Rattle.local_tree.specs.Folders.{Holding}
+use Rattle.local_tree.specs.Changes.{IsShelvedAs, IsHalfShelvedAs}
 use Rattle.local_tree.specs.Shelves.{IsShelved, IsHalfShelved}
 use Rattle.report.specs.Named.{named_pages, names_in}
 use Rattle.report.specs.Report.{Line, report_text}
 use Rattle.retriever.specs.Keeping.{Keeping, kinds_of}
+use Rattle.retriever.specs.Mirrored.{AreRecordsOf, kept_by, links_become}
 use Rattle.retriever.specs.Parts.{IsDelivered}
 use Rattle.retriever.specs.Retrieved.{Finish, Retrieved, Stopped}
 use Rattle.retriever.specs.Run.{finish_text, finish_status}
@@ -99,46 +102,63 @@ abbrev pub outside : Holding → Option (List ℕ) → Outside
 outside folder written = record { folder = folder; written = written }
 
 -- what the retrieval comes to, where the files of its report are all whole; or a report's lines, of whose files so many are
--- whole since the next put failed
+-- whole since the next put failed; or a report's lines, of whose files some have the bodies as they came though links of them were to change
 pub data LiveEnd : Type 0 where
   Finished : Finish → LiveEnd
   Torn : List Line → ℕ → LiveEnd
+  Unchanged : List Line → LiveEnd
 
 -- the line that says how many files are whole
 abbrev pub torn_line : ℕ → List ℕ
 torn_line whole = codes "files written " ++ decimal whole ++ codes "\n"
 
+-- the line that says that links of some files weren't changed
+abbrev pub unchanged_line : List ℕ
+unchanged_line = codes "links not changed\n"
+
 -- the text of an end
 abbrev pub live_text : LiveEnd → List ℕ
 live_text (Finished finish) = finish_text finish
 live_text (Torn lines whole) = report_text lines ++ torn_line whole
+live_text (Unchanged lines) = report_text lines ++ unchanged_line
 
 -- its status
 abbrev pub live_status : LiveEnd → ℕ
 live_status (Finished finish) = finish_status finish
 live_status (Torn lines whole) = 3
+live_status (Unchanged lines) = 3
 
--- so many of the files of these lines are whole, the next may hold anything, and all else is as before
-abbrev pub IsTornAt : {B : Type 0} → Keeping B → List Line → List B → Holding → Holding → ℕ → Type 0
-IsTornAt keeps lines bodies old new whole = IsHalfShelved keeps.holds (names_in lines) bodies old new whole
+-- so many of the files of these lines are whole, the next may hold anything, and all else is as before; if links are changed, a file is
+-- whole that has its body or that with its links changed
+abbrev pub IsTornAt : {B : Type 0} → Bool → Keeping B → Answers → List Line → List B → Holding → Holding → ℕ → Type 0
+IsTornAt false keeps m lines bodies old new whole = IsHalfShelved keeps.holds (names_in lines) bodies old new whole
+IsTornAt true keeps m lines bodies old new whole =
+    (records : List Recorded) × AreRecordsOf m records × IsHalfShelvedAs (links_become (kept_by lines records)) keeps.holds (names_in lines) bodies old new whole
 
--- all files of these lines are whole, and all else is as before
-abbrev pub IsWholeAt : {B : Type 0} → Keeping B → List Line → List B → Holding → Holding → Type 0
-IsWholeAt keeps lines bodies old new = IsShelved keeps.holds (names_in lines) bodies old.files new.files × (new.failed ≡ old.failed)
+-- all files of these lines are whole, and all else is as before; if links are changed, each has its body with its links changed, or, if not
+-- all could be, some have their bodies
+abbrev pub IsPutAt : {B : Type 0} → Bool → Bool → Keeping B → Answers → List Line → List B → Holding → Holding → Type 0
+IsPutAt false false keeps m lines bodies old new = ⊥
+IsPutAt false true keeps m lines bodies old new = IsShelved keeps.holds (names_in lines) bodies old.files new.files × (new.failed ≡ old.failed)
+IsPutAt true all keeps m lines bodies old new =
+    (records : List Recorded) × AreRecordsOf m records × IsShelvedAs (links_become (kept_by lines records)) all keeps.holds (names_in lines) bodies old new
+    × (new.failed ≡ old.failed)
 
 -- The retrieval that is ordered found what is to be found, or a front of it as large as the quota, and this came of it. Before its end nothing is put into the folder.
 -- The table is full only where what is recorded has more candidates than the plan lets be held. Memory may run out at any time,
 -- and may do so when a put has failed. A check of several workers may fail; then nothing more is said.
 abbrev pub EndsFound : {F B : Type 0} → Crew F B → Order → Holding → Holding → LiveEnd → Type 0
 EndsFound {B = B} crew order old new (Finished (Retrieved lines)) =
-    (m : Answers) × (bodies : List B) × IsReportFound crew order m lines bodies × IsWholeAt crew.keeps lines bodies old new
+    (m : Answers) × (bodies : List B) × IsReportFound crew order m lines bodies × IsPutAt order.converts true crew.keeps m lines bodies old new
 EndsFound {B = B} crew order old new (Torn lines whole) =
-    (m : Answers) × (bodies : List B) × IsReportFound crew order m lines bodies × IsTornAt crew.keeps lines bodies old new whole
+    (m : Answers) × (bodies : List B) × IsReportFound crew order m lines bodies × IsTornAt order.converts crew.keeps m lines bodies old new whole
+EndsFound {B = B} crew order old new (Unchanged lines) =
+    (m : Answers) × (bodies : List B) × IsReportFound crew order m lines bodies × IsPutAt order.converts false crew.keeps m lines bodies old new
 EndsFound crew order old new (Finished (Stopped cause.Full)) = (m : Answers) × IsPartFound crew order.plan m × HasTooMany (policy order.plan) m × (new ≡ old)
 EndsFound {B = B} crew order old new (Finished (Stopped cause.Memory)) =
     AreMadeOnce (asks_of crew)
     × ((new ≡ old) ⊎ ((m : Answers) × (lines : List Line) × (bodies : List B) × (whole : ℕ) × IsReportFound crew order m lines bodies
-    × IsTornAt crew.keeps lines bodies old new whole))
+    × IsTornAt order.converts crew.keeps m lines bodies old new whole))
 EndsFound crew order old new (Finished (Stopped cause.Mismatch)) = (length crew.first ≢ 1) × (new ≡ old)
 EndsFound crew order old new (Finished (Stopped cause.Quota)) = ⊥
 

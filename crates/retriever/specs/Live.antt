@@ -5,7 +5,7 @@ use Rattle.follow_filters.specs.declared.plan.Plan.{Plan}
 use Rattle.options.specs.declared.naming.PageNames.{PageNames}
 use Rattle.options.specs.declared.order.Order.{Order}
 use Rattle.fetcher.specs.declared.fetcher.Fetcher.{Ghosts as Meaning}
-use Rattle.frontier_core.specs.Routes.{HasTooMany}
+use Rattle.frontier_core.specs.Routes.{Answers, HasTooMany}
 use Rattle.frontier_core.specs.Machine.{State, answers, IsQuiet}
 use Rattle.frontier_core.specs.Lines.{IsReplay}
 use Rattle.frontier_core.specs.Plans.{policy}
@@ -20,7 +20,7 @@ use Rattle.workers.specs.Quotas.{IsPassed}
 use Rattle.workers.specs.Takers.{AreOwn}
 use Rattle.local_tree.specs.Folders.{Holding}
 use Rattle.report.specs.Report.{Line}
-use Rattle.retriever.specs.Found.{Crew, crew_of, asks_of, IsFound, IsFrontFound, IsPartFound, Outside, LiveEnd, Finished, Torn, IsTornAt, IsWholeAt, live_text, live_status}
+use Rattle.retriever.specs.Found.{Crew, crew_of, asks_of, IsFound, IsFrontFound, IsPartFound, Outside, LiveEnd, Finished, Torn, Unchanged, IsTornAt, IsPutAt, live_text, live_status}
 use Rattle.retriever.specs.Keeping.{Keeping}
 use Rattle.retriever.specs.Parts.{IsDelivered, shown_of}
 use Rattle.retriever.specs.Retrieved.{Retrieved, Stopped}
@@ -63,11 +63,12 @@ pub record IsFrontLive {F B : Type 0} (crew : Crew F B) (plan : Plan) (naming : 
   pub recorded : AreRecordedOrLost (asks_of crew) state
   pub found : IsFrontFound crew plan naming (answers state) lines bodies
 
--- The events of a report: it tells all that is to be found, if the bodies have no more bytes than the quota, else a front of it.
-abbrev pub IsReportLive : {F B : Type 0} → Crew F B → Order → List Event → List Line → List B → Type 0
-IsReportLive crew order events lines bodies =
-    ((¬ IsPassed order.quota (sum_by crew.keeps.len_of bodies)) × IsRetrievedLive crew order.plan order.names events lines bodies)
-    ⊎ (IsPassed order.quota (sum_by crew.keeps.len_of bodies) × IsFrontLive crew order.plan order.names events lines bodies)
+-- The events of a report, by which this is recorded: it tells all that is to be found, if the bodies have no more bytes than the quota, else
+-- a front of it.
+abbrev pub IsReportLive : {F B : Type 0} → Crew F B → Order → Answers → List Event → List Line → List B → Type 0
+IsReportLive crew order m events lines bodies =
+    ((¬ IsPassed order.quota (sum_by crew.keeps.len_of bodies)) × (r : IsRetrievedLive crew order.plan order.names events lines bodies) × (answers r.state ≡ m))
+    ⊎ (IsPassed order.quota (sum_by crew.keeps.len_of bodies) × (r : IsFrontLive crew order.plan order.names events lines bodies) × (answers r.state ≡ m))
 
 -- ---- what it comes to
 
@@ -76,17 +77,20 @@ IsReportLive crew order events lines bodies =
 -- nothing more is said.
 abbrev pub EndsLive : {F B : Type 0} → Crew F B → Order → Holding → Holding → List Event → LiveEnd → Type 0
 EndsLive {B = B} crew order old new shown (Finished (Retrieved lines)) =
-    (events : List Event) × (bodies : List B) × IsReportLive crew order events lines bodies × (shown ≡ shown_of order.trace events)
-    × IsWholeAt crew.keeps lines bodies old new
+    (events : List Event) × (m : Answers) × (bodies : List B) × IsReportLive crew order m events lines bodies × (shown ≡ shown_of order.trace events)
+    × IsPutAt order.converts true crew.keeps m lines bodies old new
 EndsLive {B = B} crew order old new shown (Torn lines whole) =
-    (events : List Event) × (bodies : List B) × IsReportLive crew order events lines bodies × (shown ≡ shown_of order.trace events)
-    × IsTornAt crew.keeps lines bodies old new whole
+    (events : List Event) × (m : Answers) × (bodies : List B) × IsReportLive crew order m events lines bodies × (shown ≡ shown_of order.trace events)
+    × IsTornAt order.converts crew.keeps m lines bodies old new whole
+EndsLive {B = B} crew order old new shown (Unchanged lines) =
+    (events : List Event) × (m : Answers) × (bodies : List B) × IsReportLive crew order m events lines bodies × (shown ≡ shown_of order.trace events)
+    × IsPutAt order.converts false crew.keeps m lines bodies old new
 EndsLive crew order old new shown (Finished (Stopped cause.Full)) =
     (events : List Event) × IsStoppedLive crew order.plan cause.Full events × (shown ≡ shown_of order.trace events) × (new ≡ old)
 EndsLive {B = B} crew order old new shown (Finished (Stopped cause.Memory)) =
     AreMadeOnce (asks_of crew) × ((shown ≡ []) ⊎ ((events : List Event) × IsStoppedLive crew order.plan cause.Memory events × (shown ≡ shown_of order.trace events)))
-    × ((new ≡ old) ⊎ ((events : List Event) × (lines : List Line) × (bodies : List B) × (whole : ℕ) × IsReportLive crew order events lines bodies
-    × IsTornAt crew.keeps lines bodies old new whole))
+    × ((new ≡ old) ⊎ ((events : List Event) × (m : Answers) × (lines : List Line) × (bodies : List B) × (whole : ℕ) × IsReportLive crew order m events lines bodies
+    × IsTornAt order.converts crew.keeps m lines bodies old new whole))
 EndsLive crew order old new shown (Finished (Stopped cause.Mismatch)) = (length crew.first ≢ 1) × (shown ≡ []) × (new ≡ old)
 EndsLive crew order old new shown (Finished (Stopped cause.Quota)) = ⊥
 

@@ -19,6 +19,7 @@ mod copies;
 mod environment;
 mod fault;
 mod input_run;
+mod link_change;
 mod live_order;
 mod live_run;
 mod moves;

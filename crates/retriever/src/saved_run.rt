@@ -138,7 +138,15 @@ pub(crate) fn live_saved<
     let saving = save(alloc, given, left.as_slice(), saved);
     // They are dropped before a report is made.
     drop(left);
-    let told = finish(alloc, &order.names, order.trace, &retrieved, folder, writer);
+    let told = finish(
+        alloc,
+        order.converts,
+        &order.names,
+        order.trace,
+        &retrieved,
+        folder,
+        writer,
+    );
     (tell_saving_behind(told, saving, writer), retrieved)
 }
 

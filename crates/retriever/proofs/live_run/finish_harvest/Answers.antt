@@ -3,6 +3,7 @@ use Rattle.std.proofs.Common.{◌∙◌, ℕ, List, String, Global, inr, map, st
 use Rattle.report.specs.ExitStatus.{exit_status}
 use Rattle.local_tree.specs.Folders.{holding}
 use Rattle.retriever.specs.Keeping.{kept_as}
+use Rattle.retriever.specs.Mirrored.{kept_as_named}
 use Rattle.retriever.specs.inner.Parts.{IsToldAs}
 use Rattle.retriever.specs.inner.Puts.{IsPutAndTold}
 use Rattle.retriever.proofs.live_run.finish_harvest.Goals as goal
@@ -21,6 +22,6 @@ returns-in-Ok g c =
       given.read,
       map string_bytes telling.names.items,
       given.naming,
-      subst (λ (text : List ℕ). IsPutAndTold keeps is_told (map string_bytes telling.names.items) h.bodies (text, wanted) old new) (c.as_str.ensures.value ∙ given.text)
-          (subst (λ (names : List (String Global)). IsPutAndTold keeps is_told (map string_bytes names) h.bodies (c.as_str.result.now, wanted) old new) c.as_slice.ensures.value c.put_and_tell.ensures),
+      subst (λ (text : List ℕ). IsPutAndTold c.args.converts keeps is_told (kept_as_named h (map string_bytes telling.names.items)) h.bodies (text, wanted) old new) (c.as_str.ensures.value ∙ given.text)
+          (subst (λ (names : List (String Global)). IsPutAndTold c.args.converts keeps is_told (kept_as_named h (map string_bytes names)) h.bodies (c.as_str.result.now, wanted) old new) c.as_slice.ensures.value c.put_and_tell.ensures),
     )
