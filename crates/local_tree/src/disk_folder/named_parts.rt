@@ -384,9 +384,8 @@ pub fn put_changed_parts<D: NamesParts, C: BodyChange>(
     for (i, name) in names.iter().enumerate() {
         so_far = put_changed_one(folder, i, name.as_str(), harvest.kept_body(i), change, so_far);
     }
-    let SoFar { lost, are_all } = so_far;
-    if lost > 0 {
-        return Err(WriteFault::Device(names.len().saturating_sub(lost)));
+    if so_far.lost > 0 {
+        return Err(WriteFault::Device(names.len().saturating_sub(so_far.lost)));
     }
-    Ok(are_all)
+    Ok(so_far.are_all)
 }
