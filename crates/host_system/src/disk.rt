@@ -79,7 +79,9 @@ where
 
 // The line for a page whose links would be read otherwise if they were changed.
 fn unread_line(alloc: Global, name: &str) -> Result<String, AllocError> {
-    format!(in alloc; "the links of {name} stay as they were: changed ones wouldn't be read as they are to be\n")
+    format!(in alloc;
+        "the links of {name} stay as they were: changed ones wouldn't be read as they are to be\n"
+    )
 }
 
 impl<'a, R: Net + Files + Wait> Disk<'a, R>

@@ -74,8 +74,7 @@ module _ (becomes : Becomes) (all : Bool) (names : List (List ℕ)) (bodies : Li
           | inr late ↦ (
               let same : i ≡ k = omega arith in
               let own : get_or names i [] ≡ name = ap (λ j. get_or names j []) same ∙ sym is in
-              let sole : body ≡ b = some_is body b (sym there ∙ ap (slice_get bodies) (sym same) ∙ at) in
-              (
+              let sole : body ≡ b = some_is body b (sym there ∙ ap (slice_get bodies) (sym same) ∙ at) in (
                 text,
                 subst (λ (j : ℕ). HasText becomes (all && one) j b text) (sym same) (subst (λ (x : BodyValue). HasText becomes (all && one) k x text) sole (other_text becomes all one k body text has)),
                 ap new own ∙ put name ∙ cond-true (bytes_eq name name) (Some text) (mid name) ((bytes_eq-Decides name name).1 refl),

@@ -1,8 +1,7 @@
 //! What the files of a run have in place of the bodies of its pages, if links lead from file to file.
-ghost use Rattle.std.specs.Prelude.{◌≡◌, IfOk, MatchOption, length, map, string_bytes};
+ghost use Rattle.std.specs.Prelude.{◌≡◌, length, map, string_bytes};
 ghost use Rattle.retriever.specs.Mirrored.{kept_as_named};
 
-use address::Address;
 use kept_bodies::BodyKind;
 use local_tree::{BodyChange, ChangeFault};
 use run_mirror::{Anew, RunMirror};
@@ -14,10 +13,6 @@ use workers::Harvest;
 #[derive(Drop)]
 pub(crate) struct LinkChange<'a> {
     mirror: RunMirror<'a>,
-    pages: &'a [Address],
-    names: &'a [String],
-    ghost pages_are: { mirror.kept ≡ pages.now },
-    ghost names_are: { mirror.names ≡ map string_bytes names.now },
 }
 
 // Contracts see what was kept.
@@ -30,9 +25,6 @@ impl<'a> Model for LinkChange<'a> {
 }
 
 impl<'a> LinkChange<'a> {
-    ghost use Rattle.std.specs.Prelude.{◌≡◌, length};
-    ghost use Rattle.retriever.specs.Mirrored.{kept_as_named};
-
     /// That of the pages of this harvest, which have these names. Takes no memory.
     pub(crate) fn of<B: Drop>(harvest: &'a Harvest<B>, names: &'a [String]) -> LinkChange<'a>
         requires { length names.now ≡ length harvest.now.kept }
@@ -40,8 +32,6 @@ impl<'a> LinkChange<'a> {
     {
         LinkChange {
             mirror: RunMirror::new(harvest.kept(), names, harvest.records()),
-            pages: harvest.kept(),
-            names,
         }
     }
 }
@@ -58,13 +48,7 @@ impl<'a> BodyChange for LinkChange<'a> {
         kind: BodyKind,
         body: &[u8],
     ) -> Result<Option<Vec<u8>>, ChangeFault> {
-        let Some(page) = self.pages.get(place) else {
-            return Err(ChangeFault::Left);
-        };
-        let Some(name) = self.names.get(place) else {
-            return Err(ChangeFault::Left);
-        };
-        match self.mirror.body_anew(alloc, page, kind, name.as_str(), body)? {
+        match self.mirror.body_at(alloc, place, kind, body)? {
             Anew::Same => Ok(None),
             Anew::Changed(other) => Ok(Some(other)),
             Anew::Left => Err(ChangeFault::Left),

@@ -1,5 +1,5 @@
 //! Bodies anew.
-ghost use Rattle.std.specs.Prelude.{◌≡◌, IfOk, MatchOption, option_map, string_bytes, vec_items};
+ghost use Rattle.std.specs.Prelude.{◌≡◌, [], IfOk, MatchOption, option_map, slice_index_or, string_bytes, vec_items};
 ghost use Rattle.kept_bodies.specs.declared.body_kind.BodyKind.TheVariants as kinds;
 ghost use Rattle.run_mirror.specs.Mirrors.{outcome_among};
 ghost use Rattle.run_mirror.specs.Anew.{base_at, given, is_read, kind_if, IsAnewAs, IsAnswer};
@@ -111,13 +111,8 @@ impl<'a> RunMirror<'a> {
         }
     }
 
-    /// What becomes of the body that was kept of that address: the body with its links changed. Its kind is this, and its file has that
-    /// name, `/` between segments. The bytes are to be those that came, not those that were changed before. It takes two or three times
-    /// the memory of the body.
-    ///
-    /// # Errors
-    /// Out of memory; then the file is to stay as it is.
-    pub fn body_anew(
+    /// What becomes of the body that was kept of that address, as this file.
+    fn body_anew(
         &self,
         alloc: Global,
         address: &Address,
@@ -138,5 +133,29 @@ impl<'a> RunMirror<'a> {
             },
             BodyKind::Other => Ok(Anew::Same),
         }
+    }
+
+    /// What becomes of the body of the page at that place among those that were kept, counted from 0: the body with its links changed. Its
+    /// kind is this. The bytes are to be those that came, not those that were changed before. It takes two or three times the memory of the
+    /// body. At a place without a page it is left.
+    ///
+    /// # Errors
+    /// Out of memory; then the file is to stay as it is.
+    pub fn body_at(
+        &self,
+        alloc: Global,
+        place: usize,
+        kind: BodyKind,
+        body: &[u8],
+    ) -> Result<Anew, AllocError>
+        ensures { IfOk result (λ anew. IsAnswer self.now (slice_index_or self.now.kept place []) kind (slice_index_or self.now.names place []) body.now anew) }
+    {
+        let Some(page) = self.kept.get(place) else {
+            return Ok(Anew::Left);
+        };
+        let Some(name) = self.names.get(place) else {
+            return Ok(Anew::Left);
+        };
+        self.body_anew(alloc, page, kind, name.as_str(), body)
     }
 }

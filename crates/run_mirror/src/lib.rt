@@ -7,7 +7,7 @@
 //!
 //! ```
 //! let mirror = RunMirror::new(harvest.kept(), &names, harvest.records());
-//! match mirror.body_anew(alloc, address, BodyKind::Html, "h/a.html", body)? {
+//! match mirror.body_at(alloc, 0, BodyKind::Html, body)? {
 //!     Anew::Changed(other) => ..,     // the file is to have these bytes
 //!     Anew::Same | Anew::Left => .., // it stays
 //! }

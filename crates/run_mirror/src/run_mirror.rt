@@ -13,8 +13,8 @@ use std::marker::Model;
 /// that is logarithmic in the number of addresses, and no memory.
 #[derive(Drop)]
 pub struct RunMirror<'a> {
-    kept: &'a [Address],
-    names: &'a [String],
+    pub(crate) kept: &'a [Address],
+    pub(crate) names: &'a [String],
     records: &'a [(Address, Outcome)],
 }
 

@@ -382,7 +382,14 @@ pub fn put_changed_parts<D: NamesParts, C: BodyChange>(
         are_all: true,
     };
     for (i, name) in names.iter().enumerate() {
-        so_far = put_changed_one(folder, i, name.as_str(), harvest.kept_body(i), change, so_far);
+        so_far = put_changed_one(
+            folder,
+            i,
+            name.as_str(),
+            harvest.kept_body(i),
+            change,
+            so_far,
+        );
     }
     if so_far.lost > 0 {
         return Err(WriteFault::Device(names.len().saturating_sub(so_far.lost)));

@@ -22,7 +22,7 @@ returns-in-Ok-None-clause-put g c =
     let bytes = c.as_slice-body.result.now in
     put_answered becomes true c.args.place c.args.kept.now bytes c.args.name.now (g.D.Folder.files c.args.self.now) (g.D.Folder.files c.put_as-in-Ok-None.new.folder) c.put_as-in-Ok-None.result
     (subst (λ (b : BodyValue). becomes c.args.place b bytes) (same_body c.args.kept.now c.kind.result bytes c.kind.ensures c.as_slice-body.ensures)
-        (of_none c.in-Ok-None.field-0 _ _ c.in-Ok-None.field-0-is c.in-Ok-None.ensures))
+    (of_none c.in-Ok-None.field-0 _ _ c.in-Ok-None.field-0-is c.in-Ok-None.ensures))
     c.put_as-in-Ok-None.ensures.put
 
 pub returns-in-Err-clause-put : goal.returns-in-Err-clause-put

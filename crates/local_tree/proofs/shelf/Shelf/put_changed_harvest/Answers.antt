@@ -27,8 +27,8 @@ loop-i-preserved g c =
       files = λ bodies are.
           let (body, there, held) = body_there g.Self.Shelf.holds c.args.harvest.now.bodies bodies c.loop-i.i c.kept_body.result.now c.kept_body.ensures are in
           subst (λ (all : Bool). OfFiles (g.Self.Folder.files c.args.self.now) (g.Self.Folder.files c.put_changed_kept.new.self) (AreChanged becomes all (c.loop-i.i + 1) (c.loop-i.i + 1) names bodies)) (sym c.are_both-are_all.ensures)
-              (put_changed becomes c.loop-i.are_all names bodies c.loop-i.i c.as_str.result.now c.requires.distinct (omega (arith, below, long)) name c.in-Ok.is_changed body
-                  (g.Self.Folder.files c.args.self.now) (g.Self.Folder.files c.loop-i.self) (g.Self.Folder.files c.put_changed_kept.new.self) there (c.loop-i.invariant.files bodies are) (c.in-Ok.ensures.put body held));
+          (put_changed becomes c.loop-i.are_all names bodies c.loop-i.i c.as_str.result.now c.requires.distinct (omega (arith, below, long)) name c.in-Ok.is_changed body
+          (g.Self.Folder.files c.args.self.now) (g.Self.Folder.files c.loop-i.self) (g.Self.Folder.files c.put_changed_kept.new.self) there (c.loop-i.invariant.files bodies are) (c.in-Ok.ensures.put body held));
       quiet = c.in-Ok.ensures.counted ∙ c.loop-i.invariant.quiet;
     }
 
