@@ -4,7 +4,7 @@ use Rattle.address.specs.Address.{AddressText}
 use Rattle.html_links.specs.Links.{Links}
 use Rattle.run_mirror.specs.Anew.{KeptPage, base_at}
 use Rattle.run_mirror.proofs.PageLaws.{page_by, page_given}
-use Rattle.run_mirror.proofs.anew.RunMirror.page_anew.Goals as goal
+use Rattle.run_mirror.proofs.run_mirror.RunMirror.page_anew.Goals as goal
 
 pub returns-in-Ok : goal.returns-in-Ok
 returns-in-Ok c =

@@ -2,7 +2,7 @@ use Rattle.std.proofs.Common.{◌∙◌, sym}
 use Rattle.std.specs.Prelude.{vec_items}
 use Rattle.kept_bodies.specs.declared.body_kind.BodyKind.TheVariants as kinds
 use Rattle.run_mirror.proofs.PageLaws.{answered}
-use Rattle.run_mirror.proofs.anew.RunMirror.body_anew.Goals as goal
+use Rattle.run_mirror.proofs.run_mirror.RunMirror.body_anew.Goals as goal
 
 pub returns-in-Html : goal.returns-in-Html
 returns-in-Html c =

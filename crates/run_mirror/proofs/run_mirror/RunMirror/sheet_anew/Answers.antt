@@ -1,6 +1,6 @@
 use Rattle.std.specs.Prelude.{vec_items}
 use Rattle.run_mirror.proofs.PageLaws.{sheet_given}
-use Rattle.run_mirror.proofs.anew.RunMirror.sheet_anew.Goals as goal
+use Rattle.run_mirror.proofs.run_mirror.RunMirror.sheet_anew.Goals as goal
 
 pub returns-in-Ok : goal.returns-in-Ok
 returns-in-Ok c =
