@@ -26,6 +26,9 @@ use Rattle.run_mirror.specs.Anew.{KeptPage, form_of, page_in, becomes_in, Leads,
 use Rattle.run_mirror.specs.declared.anew.Anew.{Anew}
 use Rattle.run_mirror.specs.declared.anew.Anew.TheVariants.{Same, Changed, Left}
 
+some_is : {X : Type 0} (x y : X) → Some x ≡ Some y → x ≡ y
+some_is x y is = cc
+
 -- both say what a text becomes
 pub same_or : (other : Option (List ℕ)) (text : List ℕ) → changing.or_same other text ≡ sheets.or_same other text
 same_or None text = refl
@@ -35,10 +38,11 @@ same_or (Some other) text = refl
 name_kept : (kept : List AddressText) (names : List (List ℕ)) (u : AddressText) (name : List ℕ) → All IsKeptName names → name_among kept names u ≡ Some name → IsKeptName name
 name_kept [] names u name all e = absurd (cc)
 name_kept (page ∷ kept) [] u name all e = absurd (cc)
-name_kept (page ∷ kept) (first ∷ names) u name all e = go (bytes_eq page u) e where
-  go : (t : Bool) → (if t then Some first else name_among kept names u) ≡ Some name → IsKeptName name
-  go true h = subst IsKeptName (some_is first name h) (All-head IsKeptName first names all)
-  go false h = name_kept kept names u name (All-tail IsKeptName first names all) h
+name_kept (page ∷ kept) (first ∷ names) u name all e = go (bytes_eq page u) e (name_kept kept names u name (All-tail IsKeptName first names all))
+  where
+    go : (t : Bool) → (if t then Some first else name_among kept names u) ≡ Some name → (name_among kept names u ≡ Some name → IsKeptName name) → IsKeptName name
+    go true h later = subst IsKeptName (some_is first name h) (All-head IsKeptName first names all)
+    go false h later = later h
 
 pub is_mirror : (p : KeptPage) (f : ValueForm) → All IsKeptName p.run.names → IsMirror (page_in p f)
 is_mirror p f all = λ address name e. name_kept p.run.kept p.run.names address name all e
