@@ -95,7 +95,7 @@ pub miscounted : {B : Type 0} (most : Option ℕ) (len_of : B → ℕ) (t : Trac
     → IsUnexplained t ⊎ IsMiscounted most t (sum_by (page_len len_of) pages) → IsUnexplained t ⊎ IsMiscounted most t (sum_by len_of h.bodies)
 miscounted most len_of t pages h of = subst (λ n. IsUnexplained t ⊎ IsMiscounted most t n) (sym (kept_len len_of t pages h of))
 
--- what stopped for want of memory, without a harvest, keeps to any quota
+-- what stopped because memory ran out, without a harvest, keeps to any quota
 pub keeps_nothing : {B : Type 0} (most : Option ℕ) (len_of : B → ℕ) (halt : Halt B) → halt.cause ≢ why.Quota → KeepsTo most len_of (Err halt)
 keeps_nothing most len_of halt other = record { within = tt; beyond = λ is. absurd (other is) }
 

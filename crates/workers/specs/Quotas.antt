@@ -1,4 +1,4 @@
--- Quotas: how many bytes kept bodies may have together before nothing more is asked for (GNU Wget manual, Download Options).
+-- Quotas: how many bytes kept bodies may have together before nothing more is requested (GNU Wget manual, Download Options).
 use Rattle.std.specs.Prelude.{◌≡◌, ◌<◌, ℕ, Option, Result, IfOk, IfErr, IsSomeAnd}
 use Rattle.std.specs.List.{sum_by}
 use Rattle.frontier_core.specs.declared.event.Cause.TheVariants as why

@@ -23,7 +23,7 @@ use frontier_core::{Cause, Frontier};
 use harvest::{Harvest, KeptPage};
 use std::alloc::{AllocError, Global};
 
-// How a frontier was left: quiet, or stopped for a cause that is borne out; as Mismatch otherwise.
+// How a frontier was left: quiet, or stopped for a cause that is borne out; Mismatch otherwise.
 fn end_of(frontier: &Frontier) -> Result<(), Cause>
     ensures quiet { OnOk result (IsQuiet frontier.now.state × IsComplete (policy frontier.now.plan) frontier.now.state) }
     ensures stopped { IfErr result (λ cause. cause ≢ Cause.Mismatch → frontier.now.state.cause ≡ Some cause) }
@@ -49,7 +49,7 @@ fn end_of(frontier: &Frontier) -> Result<(), Cause>
 }
 
 // How a frontier was left with these pages: as `end_of` says, if they have more bytes than the quota exactly if it stopped for
-// that; else as Mismatch.
+// that; else Mismatch.
 fn end_with<B, Q: Quota<B>>(
     frontier: &Frontier,
     quota: &Q,
@@ -80,7 +80,7 @@ fn end_with<B, Q: Quota<B>>(
     }
 }
 
-// Keeps the page of a note, where it has a body.
+// Keeps the page of a note, if it has a body.
 fn keep_page<B: Drop>(pages: &mut Vec<KeptPage<B>>, note: PageNote<B>) -> Result<(), AllocError>
     ensures { OnOk result (pages.new.items ≡ pages.old.items ++ filter_map page_of (note ∷ [])) }
 {
@@ -174,7 +174,7 @@ pub fn conclude<B: Drop, Q: Quota<B>>(
             finish(alloc, frontier, pages, ended)
         }
         Err(halt) => {
-            // By a call, since what an exit lets go is proved anew at each exit.
+            // By a call, since what an exit drops is proved anew at each exit.
             drop(frontier);
             Err(halt)
         }

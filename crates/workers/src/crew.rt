@@ -11,7 +11,7 @@ use std::alloc::Global;
 use std::sync::Wait;
 use std::thread::{Threads, for_each_mut};
 
-// Has a worker at each of these seats work, each in a thread of its own where one can be made.
+// Has a worker at each of these seats work, each in a thread of its own if one can be made.
 fn work_all_at<F: Fetcher + Send, Q: Quota<F::Body> + Sync, R: Threads + Wait + Sync>(
     rt: &R,
     alloc: Global,

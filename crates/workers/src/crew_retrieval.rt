@@ -45,7 +45,7 @@ pub struct Retrieved<F, B> {
 pub struct Stopped<F, B> {
     /// Why it stopped.
     pub cause: Cause,
-    /// What it had found until then; empty where there was no memory for more, or where a check of the workers failed.
+    /// What it had found until then; empty if there was no memory for more, or if a check of the workers failed.
     pub harvest: Harvest<B>,
     /// The fetchers, in their order.
     pub fetchers: Vec<F>,
@@ -111,7 +111,7 @@ impl<F: Drop, B: Drop> Room<F, B> {
     {
         let seats = Vec::with_capacity(alloc, count)?;
         let fetchers = Vec::with_capacity(alloc, count)?;
-        // Made last: at each exit behind it all that a frontier holds would be dropped, and each is proved.
+        // Made last: at each exit after it all that a frontier holds would be dropped, and each is proved.
         let frontier = open(alloc, plan)?;
         Ok(Room {
             frontier,
@@ -121,7 +121,7 @@ impl<F: Drop, B: Drop> Room<F, B> {
     }
 }
 
-// Who worked, and what was noted; only whether anything was asked for twice where there was no memory for more.
+// Who worked, and what was noted; only whether anything was requested twice if there was no memory for more.
 #[derive(Drop)]
 struct Worked<F, B> {
     fetchers: Vec<F>,
@@ -132,9 +132,9 @@ struct Worked<F, B> {
 #[derive(Drop)]
 enum Noted<B> {
     All(Notes<B>),
-    // There was no memory to bring them together; nothing was asked for twice.
+    // There was no memory to bring them together; nothing was requested twice.
     Once,
-    // There was no memory to bring them together; something was asked for twice.
+    // There was no memory to bring them together; something was requested twice.
     Twice,
 }
 
@@ -218,7 +218,10 @@ where
     let Worked { fetchers, noted } = work_all(rt, alloc, &lock, plan, quota, fetchers, seats, back);
     let frontier = lock.into_frontier();
     match noted {
-        Noted::All(notes) => (conclude(alloc, plan, quota, workers, frontier, notes), fetchers),
+        Noted::All(notes) => (
+            conclude(alloc, plan, quota, workers, frontier, notes),
+            fetchers,
+        ),
         Noted::Once => {
             drop(frontier);
             (Err(Halt::empty(alloc)), fetchers)
@@ -256,8 +259,8 @@ where
     retrieve_together(rt, alloc, plan, quota, fetchers, waiting)
 }
 
-/// Retrieves as [`retrieve`] does, and gives what that came to beside the fetchers, which come back in their order whatever it
-/// is. How many addresses wait is noted there, where a place is given for who looks on.
+/// Retrieves as [`retrieve`] does, and gives the result beside the fetchers, which come back in their order whatever it
+/// is. How many addresses wait is noted there, if a place is given for an observer.
 pub fn retrieve_shown<F: Fetcher + Send, Q: Quota<F::Body> + Sync, R: Threads + Wait + Sync>(
     rt: &R,
     alloc: Global,
@@ -295,7 +298,7 @@ where
     retrieve_with(rt, alloc, plan, quota, fetchers, waiting)
 }
 
-// What a retrieval came to, with its fetchers.
+// What a retrieval resulted in, with its fetchers.
 fn with_fetchers<F: Drop, B: Drop>(
     retrieved: Result<Harvest<B>, Halt<B>>,
     fetchers: Vec<F>,
@@ -316,13 +319,13 @@ fn with_fetchers<F: Drop, B: Drop>(
     }
 }
 
-/// Asks for what the plan wants, with one worker for each fetcher, until nothing is left to do. The fetchers come back in their
+/// Requests what the plan wants, with one worker for each fetcher, until nothing is left to do. The fetchers come back in their
 /// order, and the site of each is what it was. What they were asked, all together, and what some of them said is what
 /// [`retrieve_in_order`] says of one.
 ///
 /// The lines of the trace name these workers alone, which are counted from 0, in the order of their fetchers, and each fetcher
-/// was asked for what its own worker took. It stops as Mismatch where a check of what the workers noted fails; then nothing more
-/// is said, and with one fetcher that never comes.
+/// was to request what its own worker took. It stops with Mismatch if a check of what the workers noted fails; then nothing more
+/// is said, and with one fetcher that never happens.
 pub fn retrieve<F: Fetcher + Send, R: Threads + Wait + Sync>(
     rt: &R,
     alloc: Global,

@@ -1,4 +1,4 @@
-//! Quotas: how many bytes kept bodies may have together before nothing more is asked for (GNU Wget manual, Download Options).
+//! Quotas: how many bytes kept bodies may have together before nothing more is requested (GNU Wget manual, Download Options).
 ghost use Rattle.std.specs.Prelude.{◌≡◌, ◌≤◌, ◌+◌, ◌↔◌, ℕ, Option, None, IsTrue, false, length, take};
 ghost use Rattle.std.specs.List.{sum_by};
 ghost use Rattle.workers.specs.Quotas.{IsPassed, page_len};

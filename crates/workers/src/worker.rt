@@ -46,7 +46,7 @@ fn make_rules_room<B>(notes: &mut Notes<B>, origin: &Origin) -> Result<Origin, A
     origin.try_clone()
 }
 
-// The body, where the page is kept.
+// The body, if the page is kept.
 fn keep_body<B: Drop>(plan: &Plan, address: &Address, outcome: &Outcome, body: B) -> Option<B>
     ensures { result ≡ body_of plan.now address.now outcome.now body }
 {
@@ -95,7 +95,7 @@ fn refuse<R: Wait>(rt: &R, lock: &FrontierLock<'_>, refused: Refused) -> Cause {
     cause
 }
 
-// Hands an answer over. Where it isn't taken the frontier stops.
+// Hands an answer over. If it isn't taken the frontier stops.
 fn give<R: Wait>(rt: &R, lock: &FrontierLock<'_>, done: Done) -> bool {
     match lock.give(rt, done) {
         Ok(()) => true,
@@ -106,7 +106,7 @@ fn give<R: Wait>(rt: &R, lock: &FrontierLock<'_>, done: Done) -> bool {
     }
 }
 
-// What was told of a page: the outcome, a copy for the frontier, and the body where the page is kept.
+// What was received of a page: the outcome, a copy for the frontier, and the body if the page is kept.
 #[derive(Drop)]
 struct ToldPage<B> {
     outcome: Outcome,
@@ -114,7 +114,7 @@ struct ToldPage<B> {
     body: Option<B>,
 }
 
-// What an answer tells of a page.
+// What an answer contains of a page.
 fn told_of<B: Drop>(
     plan: &Plan,
     address: &Address,
@@ -133,7 +133,7 @@ fn told_of<B: Drop>(
     })
 }
 
-// The note of a page that was asked for, where nothing of it was handed over.
+// The note of a page that was requested, if nothing of it was handed over.
 fn untold_page<B>(worker: u32, address: Address) -> PageNote<B>
     ensures { result ≡ record { worker = worker; address = address; told = None; body = None } }
 {
@@ -145,8 +145,8 @@ fn untold_page<B>(worker: u32, address: Address) -> PageNote<B>
     }
 }
 
-// Counts the body of a page, if it is kept. If it passes the quota the frontier stops, before what was told is recorded: so no
-// permit is given once what is recorded passes it.
+// Counts the body of a page, if it is kept. If it passes the quota the frontier stops, before what was received is recorded:
+// so no permit is given once what is recorded passes it.
 fn count<B, Q: Quota<B>, R: Wait>(
     rt: &R,
     lock: &FrontierLock<'_>,
@@ -201,7 +201,7 @@ fn hand_over<B: Drop, Q: Quota<B>, R: Wait>(
     (note, next)
 }
 
-// Asks for the page of a permit with the lock free, hands the outcome over, and notes what was asked for. Gives what the worker
+// Requests the page of a permit with the lock free, hands the outcome over, and notes what was requested. Gives what the worker
 // is to do next.
 fn serve<F: Fetcher, Q: Quota<F::Body>, R: Wait>(
     rt: &R,
@@ -232,7 +232,7 @@ fn serve<F: Fetcher, Q: Quota<F::Body>, R: Wait>(
     next
 }
 
-// The note of an origin's rules that were asked for, where none were handed over.
+// The note of an origin's rules that were requested, if none were handed over.
 fn untold_rules(worker: u32, origin: Origin) -> RulesNote
     ensures { result ≡ record { worker = worker; origin = origin; told = None } }
 {
@@ -271,7 +271,7 @@ fn hand_rules_over<R: Wait>(
     }
 }
 
-// Asks for the robots rules of a permit's origin with the lock free, hands them over, and notes what was asked for. Whatever
+// Requests the robots rules of a permit's origin with the lock free, hands them over, and notes what was requested. Whatever
 // the plan is.
 fn serve_rules<F: Fetcher, R: Wait>(
     rt: &R,
@@ -301,7 +301,7 @@ fn serve_rules<F: Fetcher, R: Wait>(
     notes.rules.push_reserved(note);
 }
 
-// Offers the edges of one due address. Where they are refused the frontier stops.
+// Offers the edges of one due address. If they are refused the frontier stops.
 fn spread<R: Wait>(rt: &R, lock: &FrontierLock<'_>) {
     match lock.spread(rt) {
         Ok(()) => {}

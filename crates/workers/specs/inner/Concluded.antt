@@ -25,7 +25,7 @@ use Rattle.harvest.specs.Pages.{is_success}
 use Rattle.harvest.specs.Gathered.{IsHarvestOf}
 use Rattle.workers.specs.inner.Turns.{IsNothing}
 
--- a body is noted just where the page is kept
+-- a body is noted exactly if the page is kept
 abbrev pub HasBody : {B : Type 0} → Plan → PageNote B → Type 0
 HasBody plan note = MatchOption note.told (note.body ≡ None) (λ x. is_some note.body ≡ (keeps_of plan note.address && is_success x))
 
@@ -53,13 +53,13 @@ pub record IsBorneOut {B : Type 0} (plan : Plan) (frontier : Traced) (notes : Li
   pub agrees : Agrees frontier.state sorted sorted_sets
   pub kept : pages ≡ filter_map page_of sorted
 
--- nothing was asked for twice, and there was no memory for a harvest
+-- nothing was requested twice, and there was no memory for a harvest
 pub record IsBare {B : Type 0} (notes : List (PageNote B)) (sets : List RulesNote) (cause : Cause) (h : Harvested B) : Type 0 where
   pub once : IsOnce (addresses notes)
   pub once_origins : IsOnce (origins sets)
   pub nothing : IsNothing cause h
 
--- the frontier was left neither quiet nor stopped for want of memory or for the quota, nor as a full table that a refused edge shows
+-- the frontier was left neither quiet nor stopped for Memory or Quota, nor as a full table that a refused edge shows
 pub record IsUnexplained (frontier : Traced) : Type 0 where
   pub unquiet : ¬ IsQuiet frontier.state
   pub supplied : frontier.state.cause ≢ Some why.Memory

@@ -1,4 +1,4 @@
--- What was driven is what the retrieval comes to.
+-- What was driven is what the retrieval results in.
 use Rattle.std.proofs.Common.{sym, ◌∙◌}
 use Rattle.workers.proofs.QuotaLaws.{keeps_from, keeps_nothing, memory_not_quota}
 use Rattle.workers.proofs.RetrievalLaws.{driven_is, driven_kept, driven_log, told_from, told_nothing, log_none, none_once}
@@ -31,7 +31,7 @@ returns-clause-comes g c =
     told_from _ _ c.in-Ok.frontier.plan c.args.plan.now c.drive-driven.new.frontier c.drive-driven.new.pages.items _ _ c.drive-driven.result c.finish.result c.in-Ok.ensures.plan
     driven.ok driven.err driven.by_one driven.full driven.mismatch c.finish.ensures.ok c.finish.ensures.err
 
--- where the first frontier had no memory, nothing was asked for
+-- if the first frontier had no memory, nothing was requested
 pub returns-in_default-clause-log : goal.returns-in_default-clause-log
 returns-in_default-clause-log g c = log_none (g.F.Fetcher.log c.args.fetcher.now)
 
