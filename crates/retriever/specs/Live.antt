@@ -1,5 +1,5 @@
 -- How a live retrieval came to what it found: the events that led there, and what is shown of them.
-use Rattle.std.specs.Prelude.{◌≡◌, ◌≢◌, ◌⊎◌, ℕ, List, [], ◌++◌, length, Some}
+use Rattle.std.specs.Prelude.{◌≡◌, ◌≢◌, ◌⊎◌, ℕ, List, [], ◌++◌, length, Some, true, false}
 use Rattle.std.specs.List.{sum_by}
 use Rattle.follow_filters.specs.declared.plan.Plan.{Plan}
 use Rattle.options.specs.declared.naming.PageNames.{PageNames}
