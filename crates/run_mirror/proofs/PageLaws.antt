@@ -29,6 +29,11 @@ use Rattle.run_mirror.specs.declared.anew.Anew.TheVariants.{Same, Changed, Left}
 some_is : {X : Type 0} (x y : X) → Some x ≡ Some y → x ≡ y
 some_is x y is = cc
 
+-- what is said of a value that is there
+pub some_held : {A : Type 0} (P : A → Type 0) (o : Option A) (x : A) → o ≡ Some x → MatchOption o (Unit {0}) P → P x
+some_held P None x is held = cc
+some_held P (Some y) x is held = subst P (some_is y x is) held
+
 -- both say what a text becomes
 pub same_or : (other : Option (List ℕ)) (text : List ℕ) → changing.or_same other text ≡ sheets.or_same other text
 same_or None text = refl
@@ -87,7 +92,7 @@ pub page_given : {A : Type 0} (items : A → List ℕ) (run : Kept) (at : Addres
     → MatchOption o (Unit {0}) (λ x. IsAnew (becomes_in p) syntax body (items x))
     → MatchOption o (Unit {0}) (λ x. AreChanged (becomes_in p) (Leads p) (links_of_body syntax body) (links_of_body syntax (items x)))
     → MatchOption o (Unit {0}) (λ x. IsAnewAs kinds.Html run at file body (items x))
-page_given items run at file body syntax p None e kept links = unit
+page_given items run at file body syntax p None e kept links = tt
 page_given items run at file body syntax p (Some x) e kept links = (syntax, subst (λ (q : KeptPage). IsPageAnew q syntax body (items x)) e (record { kept = kept; links = links }))
 
 -- what is given for a sheet
@@ -95,7 +100,7 @@ pub sheet_given : {A : Type 0} (items : A → List ℕ) (run : Kept) (at : Addre
     → MatchOption o (Unit {0}) (λ x. sheets.IsAnew (becomes_in p value.Sheet) body (items x))
     → MatchOption o (Unit {0}) (λ x. AreReferencesChanged (becomes_in p value.Sheet) (Leads p value.Sheet) (references body) (references (items x)))
     → MatchOption o (Unit {0}) (λ x. IsAnewAs kinds.Sheet run at file body (items x))
-sheet_given items run at file body p None e kept links = unit
+sheet_given items run at file body p None e kept links = tt
 sheet_given items run at file body p (Some x) e kept links = subst (λ (q : KeptPage). IsSheetAnew q body (items x)) e (record { kept = kept; links = links })
 
 -- what is given for a body is an answer
@@ -106,4 +111,4 @@ answered items run at kind k file body Same None e g h = absurd (cc)
 answered items run at kind k file body Same (Some x) e g h = subst (λ (j : BodyKind). IsAnewAs j run at file body body) e (subst (λ (b : List ℕ). IsAnewAs k run at file body b) (sym (some_is body (items x) g)) h)
 answered items run at kind k file body (Changed other) None e g h = absurd (cc)
 answered items run at kind k file body (Changed other) (Some x) e g h = subst (λ (j : BodyKind). IsAnewAs j run at file body other.items) e (subst (λ (b : List ℕ). IsAnewAs k run at file body b) (sym (some_is other.items (items x) g)) h)
-answered items run at kind k file body Left o e g h = unit
+answered items run at kind k file body Left o e g h = tt

@@ -84,7 +84,8 @@ impl<'a> RunMirror<'a> {
     ) -> Result<Option<Vec<u8>>, AllocError>
         ensures { IfOk result (λ other. MatchOption other (Unit {0}) (λ other. IsAnewAs kinds.Html self.now address.now file.now body.now other.items)) }
     {
-        let Some(reading) = reading_of(alloc, address, self.edges(address), body)? else {
+        let known = reading_of(alloc, address, self.edges(address), body)?;
+        let Some(reading) = known else {
             return Ok(None);
         };
         let base = base_of(address, &reading.found.base)?;
@@ -124,12 +125,12 @@ impl<'a> RunMirror<'a> {
     {
         match self.kind_read(address, kind) {
             BodyKind::Html => {
-                let other = self.page_anew(alloc, address, file, body)?;
-                Ok(answer(body, other))
+                let page = self.page_anew(alloc, address, file, body)?;
+                Ok(answer(body, page))
             },
             BodyKind::Sheet => {
-                let other = self.sheet_anew(alloc, address, file, body)?;
-                Ok(answer(body, other))
+                let sheet = self.sheet_anew(alloc, address, file, body)?;
+                Ok(answer(body, sheet))
             },
             BodyKind::Other => Ok(Anew::Same),
         }
