@@ -12,7 +12,7 @@ first_at left at hop [] h = h.0
 first_at zero at hop (next ∷ more) h = absurd h
 first_at (suc left) at hop (next ∷ more) h = h.0
 
--- a hop that redirects, and the hops behind it
+-- a hop that redirects, and the hops after it
 pub hop_goes_on : (n m : ℕ) (at next : AddressText) (told : Told) (tail : List HopValue) → target_told at told ≡ Some next → n ≡ m + 1
     → AreHops m next tail → AreHops n at ((at, told) ∷ tail)
 hop_goes_on n m at next told [] is less h = absurd h

@@ -10,7 +10,7 @@ use Rattle.answer_notes.specs.declared.told.Told.TheVariants.{Whole, Fault}
 abbrev pub delay_by_status : ℕ → List ℕ → ℕ
 delay_by_status status file = if is_successful status then crawl_delay_in file else 0
 
--- what the response says that was told, if one was
+-- what the received response says, if there is one
 abbrev pub delay_told : Told → ℕ
 delay_told (Whole response) = delay_by_status response.head.status response.body
 delay_told (Fault kind) = 0

@@ -1,4 +1,4 @@
--- Chains of what was told of an origin's robots file and of the redirects behind it (RFC 9309, section 2.3.1.2).
+-- Chains of what was received for an origin's robots file and for the redirects after it (RFC 9309, section 2.3.1.2).
 use Rattle.std.specs.Prelude.{◌≡◌, ⊤, ℕ, zero, suc, List, [], ◌∷◌, ◌++◌, Option, Some, None, codes}
 use Rattle.address.specs.Address.{AddressText, OriginText}
 use Rattle.robots_rules.specs.Access.{RuleSetValue}
@@ -6,17 +6,17 @@ use Rattle.answer_notes.specs.RobotsAnswers.{none_allowed, max_redirects}
 use Rattle.answer_notes.specs.Tellings.{target_told, rules_told}
 use Rattle.answer_notes.specs.declared.told.Told.{Told}
 
--- an address that was asked, and what was told of it
+-- an address that was asked, and what was received
 abbrev pub HopValue : Type 0
 HopValue = AddressText × Told
 
--- a hop ends the chain where so many more redirects may be followed: it redirects nowhere, or none may be
+-- a hop ends the chain if so many more redirects may be followed: it redirects nowhere, or none may be
 abbrev pub EndsChain : ℕ → Option AddressText → Type 0
 EndsChain zero target = ⊤
 EndsChain (suc left) target = target ≡ None
 
--- The hops begin at this address, of which so many more redirects may be followed: each further one is where the one before it
--- redirects, and the last ends the chain.
+-- The hops begin at this address, of which so many more redirects may be followed: each further one is the target of the
+-- redirect before it, and the last ends the chain.
 abbrev pub AreHops : ℕ → AddressText → List HopValue → Type 0
 AreHops left at [] = ⊥
 AreHops left at (hop ∷ []) = (hop.0 ≡ at) × EndsChain left (target_told at hop.1)

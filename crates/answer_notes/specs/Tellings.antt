@@ -1,5 +1,5 @@
--- What was told of an address, a whole response or why there is none, and what that answers.
-use Rattle.std.specs.Prelude.{◌≡◌, ℕ, Bool, List, [], Option, Some, None}
+-- What was received for an address, a whole response or why there is none, and what that answers.
+use Rattle.std.specs.Prelude.{◌≡◌, ℕ, List, [], Option, Some, None}
 use Rattle.address.specs.Address.{AddressText}
 use Rattle.robots_rules.specs.Access.{RuleSetValue}
 use Rattle.kept_bodies.specs.Bodies.{BodyValue, no_body}
@@ -9,23 +9,24 @@ use Rattle.response_answer.specs.Digests.{digest_of, body_of, target_of}
 use Rattle.answer_notes.specs.RobotsAnswers.{none_allowed, rules_by_status}
 use Rattle.answer_notes.specs.declared.told.Told.{Told}
 use Rattle.answer_notes.specs.declared.told.Told.TheVariants.{Whole, Fault}
+use Rattle.html_links.specs.declared.rules.LinkRules.{LinkRules}
 
 -- the outcome that it says
-abbrev pub outcome_told : Bool → AddressText → Told → Outcome
-outcome_told robots at (Whole response) = digest_of robots at response
-outcome_told robots at (Fault kind) = outcome.Fault kind
+abbrev pub outcome_told : LinkRules → AddressText → Told → Outcome
+outcome_told links at (Whole response) = digest_of links at response
+outcome_told links at (Fault kind) = outcome.Fault kind
 
 -- the body that is kept of it
 abbrev pub body_told : Told → BodyValue
 body_told (Whole response) = body_of response.head response.body
 body_told (Fault kind) = no_body
 
--- where it redirects from the address that was asked
+-- the target of its redirect from the address that was asked
 abbrev pub target_told : AddressText → Told → Option AddressText
 target_told at (Whole response) = target_of at response.head
 target_told at (Fault kind) = None
 
--- the rules of an origin whose robots file it is, where no redirect is followed any more (RFC 9309, section 2.3.1); a status
+-- the rules of an origin whose robots file it is, if no redirect is followed any more (RFC 9309, section 2.3.1); a status
 -- that redirects is neither one of success nor one of a server that failed, so it allows everything
 abbrev pub rules_told : Told → RuleSetValue
 rules_told (Whole response) = rules_by_status response.head.status response.body

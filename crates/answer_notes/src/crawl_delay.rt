@@ -21,7 +21,7 @@ fn delay_by_status(alloc: Global, status: u16, file: &[u8]) -> Result<Duration, 
     }
 }
 
-// What was told at the end of the hops says.
+// What the answer at the end of the hops says.
 fn delay_told(alloc: Global, told: &Told) -> Result<Duration, AllocError>
     ensures { IfOk result (λ delay. as_nanos delay ≡ delay_told told.now) }
 {

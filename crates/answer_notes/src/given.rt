@@ -25,7 +25,7 @@ impl Model for Given {
 }
 
 impl Given {
-    /// Keeps a response that some bytes give, as `read_response` answers it. Takes no memory.
+    /// Keeps a response that some bytes give, such as one that `read_response` returns. Takes no memory.
     pub fn new(response: Response) -> Given
         requires { CanBeGiven (response_parts response) }
         ensures { result ≡ response_parts response }

@@ -1,4 +1,4 @@
-//! What was told of an origin's robots file, redirects followed (RFC 9309, section 2.3.1.2).
+//! What was received for an origin's robots file, redirects followed (RFC 9309, section 2.3.1.2).
 ghost use Rattle.std.specs.Prelude.{◌≡◌, IfOk};
 ghost use Rattle.answer_notes.specs.HopChains.{IsAdmitted, rules_of_hops};
 
@@ -8,7 +8,7 @@ use robots_rules::RuleSet;
 use std::alloc::{AllocError, Global};
 use std::marker::Model;
 
-/// The answers of an origin's robots file and of the redirects behind it, one to six. Contracts see the origin and the hops.
+/// The answers of an origin's robots file and of the redirects after it, one to six. Contracts see the origin and the hops.
 #[derive(Drop)]
 pub struct Hops {
     of: Origin,
@@ -26,7 +26,7 @@ impl Model for Hops {
 }
 
 impl Hops {
-    /// The hops of an origin, each where the one before it redirects. Takes no memory.
+    /// The hops of an origin, each the target of the redirect before it. Takes no memory.
     pub fn new(of: Origin, hops: Vec<(Address, Told)>) -> Hops
         requires { IsAdmitted of hops.items }
         ensures of { result.of ≡ of }
@@ -50,7 +50,7 @@ impl Hops {
         self.hops.as_slice()
     }
 
-    /// The rules that stand at the end. The error is want of memory.
+    /// The rules at the end. Fails only if memory runs out.
     pub fn rules(&self, alloc: Global) -> Result<RuleSet, AllocError>
         ensures { IfOk result (λ rules. rules ≡ rules_of_hops self.now.hops) }
     {

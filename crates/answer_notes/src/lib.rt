@@ -1,7 +1,7 @@
-//! What was told of an address or of an origin, so that it can be noted, written down and answered again: a whole response or
+//! What was received for an address or origin, so that it can be noted, written down and answered again: a whole response or
 //! why there is none, and the chain of redirects of a robots file. It knows nothing of connections. The meaning is written in
-//! `specs/`: `Tellings` what a telling answers, `RobotsAnswers` the rules that it gives, `HopChains` which chains can be. Its
-//! tests stand in `site_tests`.
+//! `specs/`: `Tellings` what is answered by it, `RobotsAnswers` the rules that it gives, `HopChains` which chains can be. Its
+//! tests are in `site_tests`.
 #![tactic(auto)]
 
 mod crawl_delay;

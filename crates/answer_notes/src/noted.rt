@@ -3,11 +3,11 @@ use crate::hops::Hops;
 use crate::told::Told;
 use address::Address;
 
-/// What was told when a page, or an origin's robots rules, were asked for.
+/// What was received when a page, or an origin's robots rules, were requested.
 #[derive(Drop)]
 pub enum Noted {
-    /// What was told of this address.
+    /// What was received for this address.
     Page(Address, Told),
-    /// What was told of an origin's robots file and of the redirects behind it.
+    /// What was received for an origin's robots file and for the redirects after it.
     Chain(Hops),
 }

@@ -1,5 +1,6 @@
-//! Fetchers that hand out what they are told, for one who keeps it.
-ghost use Rattle.std.specs.Prelude.{◌≡◌, ◌∷◌, ◌++◌, [], Bool, IfOk, OnOk, OnErr};
+//! Fetchers that hand out what they receive, for a caller who keeps it.
+ghost use Rattle.std.specs.Prelude.{◌≡◌, ◌∷◌, ◌++◌, [], IfOk, OnOk, OnErr};
+ghost use Rattle.html_links.specs.declared.rules.LinkRules.{LinkRules};
 ghost use Rattle.fetcher.specs.declared.fetcher.Ask.TheVariants as ask;
 ghost use Rattle.fetcher.specs.Logs.{GainedAtMost};
 ghost use Rattle.answer_notes.specs.Tellings.{outcome_told, body_told};
@@ -9,31 +10,32 @@ use crate::hops::Hops;
 use crate::told::Told;
 use address::{Address, Origin};
 use fetcher::{Body, Fetcher};
+use html_links::LinkRules;
 use std::alloc::AllocError;
 
-/// Asks as any fetcher does, and hands out what was told in place of its answer. Whoever asks makes the answer of it, and may
+/// Asks as any fetcher does, and hands out what was received instead of its answer. The caller makes the answer of it, and may
 /// keep it.
 pub trait Telling: Fetcher<Body = Body> {
-    /// Whether robots rules are honoured.
-    ghost honours: { Self → Bool };
+    /// Which links of pages are taken.
+    ghost links: { Self → LinkRules };
 
-    /// Whether robots rules are honoured, so that a page that asks that its links aren't followed has none. It stays so.
-    fn honours_robots(&self) -> bool
-        ensures { result ≡ honours self.now };
+    /// Which links of pages are taken. They stay the same.
+    fn link_rules(&self) -> LinkRules
+        ensures { result ≡ links self.now };
 
-    /// Asks for the page of an address. What is told answers as the site may; all else is as of [`Fetcher::ask`].
+    /// Requests the page of an address. What is received answers as the site may; all else is as of [`Fetcher::ask`].
     fn ask_told(&mut self, at: &Address) -> Result<Told, AllocError>
         ensures site { Self.site self.new ≡ Self.site self.old }
-        ensures honours { honours self.new ≡ honours self.old }
-        ensures told { IfOk result (λ t. Self.says (Self.site self.old) at.now (outcome_told (honours self.old) at.now t) (body_told t)) }
+        ensures links { links self.new ≡ links self.old }
+        ensures told { IfOk result (λ t. Self.says (Self.site self.old) at.now (outcome_told (links self.old) at.now t) (body_told t)) }
         ensures asked { OnOk result (Self.log self.new ≡ Self.log self.old ++ ask.Page at.now ∷ []) }
         ensures refused { OnErr result (GainedAtMost (Self.log self.old) (Self.log self.new) (ask.Page at.now)) };
 
-    /// Asks for an origin's robots file, redirects followed. The rules at the end are rules that the origin may have; all else
+    /// Requests an origin's robots file, redirects followed. The rules at the end are rules that the origin may have; all else
     /// is as of [`Fetcher::ask_robots`].
     fn ask_hops(&mut self, of: &Origin) -> Result<Hops, AllocError>
         ensures site { Self.site self.new ≡ Self.site self.old }
-        ensures honours { honours self.new ≡ honours self.old }
+        ensures links { links self.new ≡ links self.old }
         ensures of { IfOk result (λ found. found.of ≡ of.now) }
         ensures told { IfOk result (λ found. Self.rules (Self.site self.old) of.now (rules_of_hops found.hops)) }
         ensures asked { OnOk result (Self.log self.new ≡ Self.log self.old ++ ask.Rules of.now ∷ []) }

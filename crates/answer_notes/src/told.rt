@@ -1,4 +1,4 @@
-//! What was told of an address, as it can be written down: a whole response, or why there is none.
+//! What was received for an address, in a form that can be written down: a whole response, or why there is none.
 ghost use Rattle.std.specs.Prelude.{◌≡◌, IfOk, Some, None};
 ghost use Rattle.answer_notes.specs.Tellings.{outcome_told, body_told, target_told, rules_told};
 
@@ -6,11 +6,12 @@ use crate::given::Given;
 use crate::robots_answer::rules_by_status;
 use address::Address;
 use fetcher::{Answer, Body, FaultKind, Outcome};
+use html_links::LinkRules;
 use response_answer::{digest, into_answer, redirect_target};
 use robots_rules::RuleSet;
 use std::alloc::{AllocError, Global};
 
-/// What was told of an address.
+/// What was received for an address.
 #[derive(Drop)]
 pub enum Told {
     /// A whole response.
@@ -22,19 +23,19 @@ pub enum Told {
 impl Told {
     ghost use Rattle.std.specs.Prelude.{◌≡◌, IfOk};
 
-    /// What it answers for the address that was asked. Where `robots` says so, a page that asks that its links aren't followed
-    /// has no edges. The error is want of memory.
+    /// What it answers for the address that was asked. Of the links of a page those are edges that `links` takes.
+    /// The error is want of memory.
     pub fn answer(
         &self,
         alloc: Global,
         at: &Address,
-        robots: bool,
+        links: LinkRules,
     ) -> Result<Answer<Body>, AllocError>
-        ensures outcome { IfOk result (λ a. a.outcome ≡ outcome_told robots at.now self.now) }
+        ensures outcome { IfOk result (λ a. a.outcome ≡ outcome_told links at.now self.now) }
         ensures body { IfOk result (λ a. a.body ≡ body_told self.now) }
     {
         match self {
-            Told::Whole(given) => digest(alloc, at, given.response(), robots),
+            Told::Whole(given) => digest(alloc, at, given.response(), links),
             Told::Fault(kind) => Ok(Answer {
                 outcome: Outcome::Fault(*kind),
                 body: Body::none(alloc),
@@ -42,18 +43,18 @@ impl Told {
         }
     }
 
-    /// The same answer where it isn't needed any more: the body moves and isn't copied. The error is want of memory.
+    /// The same answer if this isn't needed any more: the body moves and isn't copied. Fails only if memory runs out.
     pub fn into_answer(
         self,
         alloc: Global,
         at: &Address,
-        robots: bool,
+        links: LinkRules,
     ) -> Result<Answer<Body>, AllocError>
-        ensures outcome { IfOk result (λ a. a.outcome ≡ outcome_told robots at.now self) }
+        ensures outcome { IfOk result (λ a. a.outcome ≡ outcome_told links at.now self) }
         ensures body { IfOk result (λ a. a.body ≡ body_told self) }
     {
         match self {
-            Told::Whole(given) => into_answer(alloc, at, given.into_response(), robots),
+            Told::Whole(given) => into_answer(alloc, at, given.into_response(), links),
             Told::Fault(kind) => Ok(Answer {
                 outcome: Outcome::Fault(kind),
                 body: Body::none(alloc),
@@ -61,7 +62,7 @@ impl Told {
         }
     }
 
-    /// Where it redirects from the address that was asked, if anywhere. The error is want of memory.
+    /// The target of its redirect from the address that was asked, if any. Fails only if memory runs out.
     pub fn target(&self, at: &Address) -> Result<Option<Address>, AllocError>
         ensures { IfOk result (λ target. target ≡ target_told at.now self.now) }
     {
@@ -71,8 +72,8 @@ impl Told {
         }
     }
 
-    /// The rules of an origin whose robots file it is, where no redirect is followed any more (RFC 9309, section 2.3.1). The
-    /// error is want of memory.
+    /// The rules of an origin whose robots file it is, if no redirect is followed any more (RFC 9309, section 2.3.1). Fails
+    /// only if memory runs out.
     pub fn rules(&self, alloc: Global) -> Result<RuleSet, AllocError>
         ensures { IfOk result (λ rules. rules ≡ rules_told self.now) }
     {

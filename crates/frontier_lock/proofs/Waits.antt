@@ -12,11 +12,11 @@ use Rattle.frontier_core.specs.declared.work.Work.TheVariants.{Stopped, Spread, 
 use Rattle.frontier_core.proofs.Waits.{held_up}
 use Rattle.frontier_lock.specs.inner.Waits.{IsSleptAt, MakesAtMostOne}
 
--- a step that is made where somebody may be asleep is one that can end a wait
+-- a step that is made while somebody may be asleep is one that can end a wait
 pub ends : (old new : Traced) (action : Action) → IsSleptAt old → Makes old action new → IsTrue (ends_waits action)
 ends old new action (worker, (running, spread, rules, page, left, is)) made = held_up (policy old.plan) old.state (running, spread, rules, page, left) action new.state made.step
 
--- where it is said that it ended no wait, nothing changed
+-- if it is said that it ended no wait, nothing changed
 pub unmoved : (old new : Traced) (said : Bool) → MakesAtMostOne old new → ((action : Action) → Makes old action new → said ≡ ends_waits action) → IsSleptAt old → said ≡ false → new ≡ old
 unmoved old new said one exact slept not_said = one.same (λ action made. let is_said : said ≡ true = exact action made ∙ ends old new action slept made in cc (is_said, not_said))
 
@@ -58,7 +58,7 @@ spread_one old new (Ok done) (inr (undue, is)) err = same_one old new is
 spread_one old new (Err fault) ok (inl (d, u, k, made, stuck)) = makes_one old new _ made
 spread_one old new (Err fault) ok (inr is) = same_one old new is
 
--- ---- no step where somebody may be asleep
+-- ---- no step while somebody may be asleep
 
 take_still_of : (old new : Traced) (worker : ℕ) (work : Work) → TakesWork old worker work new → IsSleptAt old → new ≡ old
 take_still_of old new worker (Stopped cause) (stopped, is) slept = is
@@ -80,28 +80,28 @@ spread_still old new (Err fault) ok (inr is) slept = is
 
 -- ---- an exchange
 
--- what is spread in part for want of memory had room
+-- what is spread in part because memory ran out had room
 pub short_of : (old new : Traced) → SpreadsPart old new ⊎ (new ≡ old) → (new ≡ old) ⊎ (length new.state.entries < new.plan.max_urls)
     → (new ≡ old) ⊎ (SpreadsPart old new × (length new.state.entries < new.plan.max_urls))
 short_of old new part (inl is) = inl is
 short_of old new (inl part) (inr few) = inr (part, few)
 short_of old new (inr is) (inr few) = inl is
 
--- somebody may be asleep just where it is said to be busy
+-- somebody may be asleep exactly if it is said to be busy
 pub slept_if : (s : Traced) (busy : Bool) → ((worker : ℕ) → IsTrue busy ↔ TakesWork s worker Busy s) → IsTrue busy ↔ IsSleptAt s
 slept_if s busy told = (λ is. (0, (told 0).0 is), λ (worker, takes). (told worker).1 takes)
 
--- where it was busy, all are woken just where it is busy no more
+-- if it was busy, all are woken exactly if it is busy no more
 pub woken_unless : (old new : Traced) (busy : Bool) → IsSleptAt old → IsTrue busy ↔ IsSleptAt new → IsTrue (not busy) ↔ (IsSleptAt old × ¬ IsSleptAt new)
 woken_unless old new true slept told = (λ wakes. let wrong : false ≡ true = wakes in cc, λ (was, awake). absurd (awake (told.0 refl)))
 woken_unless old new false slept told = (λ wakes. (slept, λ is. let wrong : false ≡ true = told.1 is in cc), λ (was, awake). refl)
 
--- where nobody is woken that may be asleep, it is busy still
+-- if nobody is woken that may be asleep, it is busy still
 pub asleep_still : (new : Traced) (busy : Bool) → IsTrue busy ↔ IsSleptAt new → not busy ≡ false → IsSleptAt new
 asleep_still new true told none = told.0 refl
 asleep_still new false told none = cc
 
--- where it wasn't busy, nobody is asleep, and nobody woken
+-- if it wasn't busy, nobody is asleep, and nobody woken
 pub none_woken : (old new : Traced) (busy said : Bool) → busy ≡ false → said ≡ false → IsTrue busy ↔ IsSleptAt old → IsTrue said ↔ (IsSleptAt old × ¬ IsSleptAt new)
 none_woken old new busy said idle none told =
     (λ wakes. let is : said ≡ true = wakes in cc (is, none), λ (slept, awake). let is : busy ≡ true = told.1 slept in cc (is, idle))

@@ -47,11 +47,11 @@ pub struct Refused {
 pub struct FrontierLock<'a> {
     core: Mutex<Frontier>,
     moved: Condvar,
-    // How many addresses wait, for those who look on. They take no lock.
+    // How many addresses wait, for observers. They take no lock.
     waiting: Option<&'a AtomicUsize>,
 }
 
-// Takes work for the worker. Where somebody may be asleep nothing changes, so that nobody has to be woken.
+// Takes work for the worker. While somebody may be asleep nothing changes, so that nobody has to be woken.
 fn take(core: &mut Frontier, worker: u32) -> Result<Work, AllocError>
     ensures work { IfOk result (IsFor worker) }
     ensures one { MakesAtMostOne core.old core.new }
@@ -60,7 +60,7 @@ fn take(core: &mut Frontier, worker: u32) -> Result<Work, AllocError>
     core.take(worker)
 }
 
-// Offers the edges of one due address. Where somebody may be asleep nothing is due, and nothing changes.
+// Offers the edges of one due address. While somebody may be asleep nothing is due, and nothing changes.
 #[tactic(auto, using(crate::proofs::Waits::spread_one, crate::proofs::Waits::spread_still))]
 fn offer(core: &mut Frontier) -> Result<(), SpreadFault>
     ensures one { MakesAtMostOne core.old core.new }
@@ -109,7 +109,7 @@ fn hand_over(core: &mut Frontier, done: Done) -> Result<(), Refused>
     }
 }
 
-// Gives a permit up where there is one, and stops.
+// Gives a permit up if there is one, and stops.
 fn give_up(core: &mut Frontier, held: Option<Held>, cause: Cause)
     ensures one { MakesAtMostOne core.old core.new }
     ensures given { GivesPermitUp core.old held cause core.new }
@@ -121,7 +121,7 @@ fn give_up(core: &mut Frontier, held: Option<Held>, cause: Cause)
     }
 }
 
-// Offers the edges of one due address. Where they are refused the frontier stops.
+// Offers the edges of one due address. If they are refused the frontier stops.
 fn offer_or_stop(core: &mut Frontier)
     ensures { OffersOrStops core.old core.new }
 {
@@ -132,7 +132,7 @@ fn offer_or_stop(core: &mut Frontier)
     }
 }
 
-// Takes work for the worker. Where there is no memory for it the frontier stops.
+// Takes work for the worker. If there is no memory for it the frontier stops.
 fn take_or_stop(core: &mut Frontier, worker: u32) -> Work
     ensures work { IsFor worker result }
     ensures takes { TakesOrStops core.old worker result core.new }
@@ -159,9 +159,9 @@ fn exchange(core: &mut Frontier, worker: u32, done: Done) -> Result<Work, Refuse
     Ok(take_or_stop(core, worker))
 }
 
-// Exchanges an answer for work, and says whether all who sleep are to be woken. Whoever sleeps went to sleep at a busy
-// frontier, and while it is busy whenever the lock is let go, nobody who sleeps has anything to do. So an exchange wakes them
-// that finds it busy and leaves it otherwise, be it with work, quiet or stopped; each other call that can end a wait does.
+// Exchanges an answer for work, and says whether all who sleep are to be woken. They went to sleep while the frontier
+// was busy; as long as it is busy whenever the lock is released, they have nothing to do. So an exchange wakes them
+// if it finds it busy and leaves it otherwise: with work, quiet or stopped. So does each other call that can end a wait.
 fn exchange_and_tell(core: &mut Frontier, worker: u32, done: Done) -> (Result<Work, Refused>, bool)
     ensures work { IfOk result.0 (IsFor worker) }
     ensures steps { IfOk result.0 (λ work. Exchanges core.old done worker work core.new) }
@@ -193,7 +193,7 @@ fn can_end_waits(core: &Frontier, lines: usize) -> bool
     )
 }
 
-// Makes a step of the frontier, and says whether all who sleep are to be woken: where it is one that can end a wait. Where
+// Makes a step of the frontier, and says whether all who sleep are to be woken: if it is one that can end a wait. If
 // somebody may be asleep and it says no, nothing changed.
 fn make<A, T, S: FnOnce(&mut Frontier, A) -> T>(core: &mut Frontier, step: S, told: A) -> (T, bool)
     requires call { S.IsAlwaysCallable step }
@@ -214,8 +214,8 @@ impl<'a> FrontierLock<'a> {
         FrontierLock::watched(core, None)
     }
 
-    /// Shares a frontier, and keeps in `waiting` how many addresses wait, as `Frontier::waiting` counts them, from the first call
-    /// on. It is for those who look on without the lock: no clause speaks of it. Takes no memory.
+    /// Shares a frontier, and keeps in `waiting` how many addresses wait, counted like `Frontier::waiting`, from the first call
+    /// on. It is for observers without the lock: no clause speaks of it. Takes no memory.
     pub fn watched(core: Frontier, waiting: Option<&'a AtomicUsize>) -> Self {
         FrontierLock {
             core: Mutex::new(core),
@@ -224,15 +224,15 @@ impl<'a> FrontierLock<'a> {
         }
     }
 
-    /// What the worker is to do now, as `Frontier::take` answers. A permit is for this worker.
+    /// What the worker is to do now, by `Frontier::take`. A permit is for this worker.
     pub fn next<R: Wait>(&self, rt: &R, worker: u32) -> Result<Work, AllocError>
         ensures { IfOk result (IsFor worker) }
     {
         self.step(rt, |core, worker| take(core, worker), worker)
     }
 
-    /// As [`FrontierLock::next`], but where others are at work it sleeps until one of them made a step that can end its
-    /// wait, so it never answers Busy. It goes to sleep under the same lock under which it was told to wait.
+    /// Like [`FrontierLock::next`], but if others are at work it sleeps until one of them made a step that can end its
+    /// wait, so it never returns Busy. It goes to sleep under the same lock under which it had to wait.
     pub fn next_or_wait<R: Wait>(&self, rt: &R, worker: u32) -> Result<Work, AllocError>
         ensures work { IfOk result (IsFor worker) }
         ensures waits { result ≢ Ok Work.Busy }
@@ -250,12 +250,12 @@ impl<'a> FrontierLock<'a> {
         unreachable!()
     }
 
-    /// Offers the edges of one due address, as `Frontier::spread` does.
+    /// Offers the edges of one due address, like `Frontier::spread`.
     pub fn spread<R: Wait>(&self, rt: &R) -> Result<(), SpreadFault> {
         self.step(rt, |core, ()| offer(core), ())
     }
 
-    /// Hands an answer over, as `Frontier::answer` and `Frontier::robots_answer` do. Where it isn't taken, which is where the
+    /// Hands an answer over, like `Frontier::answer` and `Frontier::robots_answer`. If it isn't taken, that is, if the
     /// permit is stray, the permit and the answer are handed back.
     pub fn give<R: Wait>(&self, rt: &R, done: Done) -> Result<(), Refused>
         ensures back { IfErr result (λ refused. refused.done ≡ done) }
@@ -264,9 +264,9 @@ impl<'a> FrontierLock<'a> {
         self.step(rt, |core, done| hand_over(core, done), done)
     }
 
-    /// Hands an answer over, as [`FrontierLock::give`] does, offers the edges of one due address, and takes what the worker is
-    /// to do next, as [`FrontierLock::next`] does, all under one lock. Where the edges are refused, or there is no memory, the
-    /// frontier stops for that cause, and the answer is Stopped. Where the permit is stray nothing else happens.
+    /// Hands an answer over, like [`FrontierLock::give`], offers the edges of one due address, and takes what the worker is
+    /// to do next, like [`FrontierLock::next`], all under one lock. If the edges are refused, or there is no memory, the
+    /// frontier stops for that cause, and the answer is Stopped. If the permit is stray nothing else happens.
     pub fn give_and_take<R: Wait>(&self, rt: &R, worker: u32, done: Done) -> Result<Work, Refused>
         ensures work { IfOk result (IsFor worker) }
         ensures back { IfErr result (λ refused. refused.done ≡ done) }
@@ -284,8 +284,8 @@ impl<'a> FrontierLock<'a> {
         answer
     }
 
-    /// Gives up the permit where there is one, as `Frontier::abandon` and `Frontier::abandon_robots` do, and stops the
-    /// frontier where nothing stopped it yet. Takes no memory.
+    /// Gives up the permit if there is one, like `Frontier::abandon` and `Frontier::abandon_robots`, and stops the
+    /// frontier if nothing stopped it yet. Takes no memory.
     pub fn halt<R: Wait>(&self, rt: &R, held: Option<Held>, cause: Cause) {
         self.step(
             rt,
@@ -294,7 +294,7 @@ impl<'a> FrontierLock<'a> {
         )
     }
 
-    // Makes one locked step, notes how many addresses wait, and wakes all who sleep, with the lock free again, where it says so.
+    // Makes one locked step, notes how many addresses wait, and wakes all who sleep, with the lock free again, if it says so.
     // Whom this wakes no clause can say.
     fn step<R: Wait, A, T, S: FnOnce(&mut Frontier, A) -> T>(&self, rt: &R, step: S, told: A) -> T
         requires call { S.IsAlwaysCallable step }
@@ -313,7 +313,7 @@ impl<'a> FrontierLock<'a> {
         answer
     }
 
-    // Notes how many addresses wait, where somebody looks on.
+    // Notes how many addresses wait, if somebody observes it.
     fn note_waiting(&self, core: &Frontier) {
         if let Some(waiting) = self.waiting {
             waiting.store(core.waiting(), Ordering::Relaxed);

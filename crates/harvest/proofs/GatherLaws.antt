@@ -1,4 +1,4 @@
--- What is copied of a frontier's entries, and which names stand once.
+-- What is copied of a frontier's entries, and which names occur once.
 use Rattle.std.proofs.Common.{◌≡◌, ℕ, ◌+◌, ◌<◌, inl, inr, List, [], ◌∷◌, ◌++◌, length, take, get_or, map, Option, Some, None, zero, refl, sym, ap, ◌∙◌, subst, arith}
 use Rattle.std.specs.Prelude.{Contains}
 use Rattle.std.specs.List.{filter_map}
@@ -104,7 +104,7 @@ once_records (entry ∷ entries) once = go (once_records entries once.1) (outcom
     go rest None is = rw is rest
     go rest (Some x) is = rw is ((λ among. once.0 (recorded_held entries entry.0 among)), rest)
 
--- whose rules are known was asked for
+-- an origin's rules that are known were requested
 pub ruled_asked : (origins : List (Text × OriginRules)) (o : Text) → Contains (ruled_origins (filter_map ruled_of origins)) o → Contains (keys origins) o
 ruled_asked [] o among = among
 ruled_asked (origin ∷ origins) o among = go (λ later. contains_tail origin.0 o (keys origins) (ruled_asked origins o later)) (known_rules_in (Some origin.1)) refl among

@@ -9,7 +9,7 @@ use Rattle.std.specs.List.{swap}
 use Rattle.std.specs.List.Sorted.{IsPermutation}
 use Rattle.frontier_core.specs.Tables.{IsOnce}
 
--- where the element at k of ys stands in xs: at the other of two places that were swapped, or at k
+-- where the element at k of ys is in xs: at the other of two places that were swapped, or at k
 data Place {X : Type 0} (xs ys : List X) (i j : ℕ) (d : X) (k : ℕ) : Type 0 where
   first : k ≡ i → get_or ys k d ≡ get_or xs j d → Place xs ys i j d k
   second : k ≡ j → get_or ys k d ≡ get_or xs i d → Place xs ys i j d k
@@ -51,11 +51,11 @@ module _ {X K : Type 0} (key : X → K) where
   Apart-IsPermutation xs ys moved apart = IsPermutation-keeps xs Apart apart (λ l i j li lj h. apart-swap l i j li lj h) ys moved
 
 module _ {X : Type 0} (key : X → List ℕ) where
-  -- a name that stands at a place is among the names
+  -- a name that is at a place is among the names
   named_at : (xs : List X) (k : ℕ) (d : X) → k < length xs → Contains (map key xs) (key (get_or xs k d))
   named_at xs k d lt = (k, omega (arith, length-map xs key), get_or-map key xs k d (key (get_or xs k d)) lt)
 
-  -- where no name stands twice, no two places have one
+  -- if no name occurs twice, no two places have one
   pub Apart-from_once : (xs : List X) → IsOnce (map key xs) → Apart key xs
   Apart-from_once [] once a b d la lb same = absurd (omega arith)
   Apart-from_once (x ∷ xs) once zero zero d la lb same = refl

@@ -1,4 +1,4 @@
--- Where an address stands among records in address order.
+-- The place of an address among records in address order.
 use Rattle.std.proofs.Common.{◌≡◌, ℕ, ◌<◌, inl, inr, List, length, get_or, Some, Result, Ok, Err, arith, sym, ◌∙◌, ap}
 use Rattle.std.specs.Result.{result_ok}
 use Rattle.std.proofs.lemmas.Bool.{cases_lt}
@@ -32,7 +32,7 @@ compare_same u = go (slice_cmp nat_cmp u u) (nat_list_cmp_total.antisymm u u)
 some_record : Text → Recorded
 some_record u = (u, Leaf 0)
 
--- where the address stands at a place, that is its place
+-- if the address is at a place, that is its place
 pub place_here : (records : List Recorded) (u : Text) (k : ℕ) (d : Recorded) → k < length records → IsTrue (bytes_eq (get_or records k d).0 u) → IsPlaceOf records u (Some k)
 place_here records u k d within same =
     let at : Recorded = get_or records k d in

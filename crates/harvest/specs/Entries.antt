@@ -40,6 +40,6 @@ recorded_addresses records = map (λ recorded. recorded.0) records
 abbrev pub ruled_origins : List Ruled → List Text
 ruled_origins rules = map (λ ruled. ruled.0) rules
 
--- the place of an address's outcome in the records, or none where they have no outcome of it
+-- the place of an address's outcome in the records, or none if they have no outcome of it
 abbrev pub IsPlaceOf : List Recorded → Text → Option ℕ → Type 0
 IsPlaceOf records u place = MatchOption place (¬ Contains (recorded_addresses records) u) (λ i. (x : Outcome) × (slice_get records i ≡ Some (u, x)))

@@ -33,7 +33,7 @@ pub record ArePages {B : Type 0} (h : Harvested B) : Type 0 where
   pub paired : length h.bodies ≡ length h.kept
   pub kept : MatchOption h.plan (h.kept ≡ []) (λ plan. (u : Text) → Contains h.kept u ↔ IsKept plan (answers h.state) u)
 
--- the harvest of a frontier and of these pages, which stand in it in address order
+-- the harvest of a frontier and of these pages, which are in it in address order
 pub record IsHarvestOf {B : Type 0} (frontier : Traced) (pages : List (KeptPage B)) (h : Harvested B) : Type 0 where
   pub plan : h.plan ≡ Some frontier.plan
   pub state : h.state ≡ frontier.state

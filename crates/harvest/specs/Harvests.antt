@@ -10,7 +10,7 @@ use Rattle.frontier_core.specs.declared.event.Event.{Event}
 
 -- a harvest: the plan by which it went, the state in which its frontier was left and the lines of what happened to it;
 -- its entries, its records and the pages that are kept in address order, the body of each of these, and the known rules in
--- origin order. Where memory was short there is no plan, and nothing else.
+-- origin order. If memory was short there is no plan, and nothing else.
 pub record Harvested (B : Type 0) : Type 0 where
   pub plan : Option Plan
   pub state : State
@@ -25,7 +25,7 @@ pub record Harvested (B : Type 0) : Type 0 where
 abbrev pub nothing : State
 nothing = record { entries = []; origins = []; cause = None }
 
--- the plan of a frontier, where there is one
+-- the plan of a frontier, if there is one
 abbrev pub plan_of : Option Traced → Option Plan
 plan_of None = None
 plan_of (Some frontier) = Some frontier.plan

@@ -19,6 +19,6 @@ is_success (Fault kind) = false
 abbrev pub IsKept : Plan → Answers → Text → Type 0
 IsKept plan m u = (x : Outcome) × (m.outcome u ≡ Some x) × IsTrue (is_success x) × IsTrue (keeps_of plan u)
 
--- the site may give this body, whatever stands for bodies, with the outcome that the record has
+-- the site may give this body, whatever represents bodies, with the outcome that the record has
 abbrev pub IsBodyOf : {B : Type 0} → (Text → Outcome → B → Type 0) → Answers → Text → B → Type 0
 IsBodyOf may_say m u body = (x : Outcome) × (m.outcome u ≡ Some x) × may_say u x body

@@ -140,7 +140,7 @@ fn entries_of(
     ensures places { IfOk result (λ entries. All (λ entry. IsPlaceOf records.now entry.address entry.answer) entries.items) }
 {
     let mut entries = Vec::with_capacity(alloc, held.len())?;
-    // Where what is held ascends as records do, the next outcome stands behind the last one.
+    // If what is held ascends as records do, the next outcome is after the last one.
     let mut near = 0usize;
     for (address, depth, condition) in held {
         let entry = entry_of(address, *depth, *condition, records, near)?;

@@ -22,7 +22,7 @@ use robots_rules::RuleSet;
 use std::alloc::{AllocError, Global};
 use std::marker::Model;
 
-/// What a retrieval brings in: the frontier as it was left, and the pages that are kept. It is empty where memory was
+/// What a retrieval brings in: the frontier as it was left, and the pages that are kept. It is empty if memory was
 /// short; then its trace has no line.
 pub struct Harvest<B> {
     frontier: Option<Box<Frontier>>,
@@ -33,7 +33,7 @@ pub struct Harvest<B> {
     bodies: Vec<B>,
 }
 
-// By hand: who drops one proves a call, and nothing of what it holds.
+// Written by hand: a user that drops one proves a call, and nothing about its fields.
 impl<B: Drop> Drop for Harvest<B> {
     fn drop(self) {
         let Harvest {
@@ -78,8 +78,8 @@ impl<B: Drop> Harvest<B> {
         }
     }
 
-    /// The harvest of a frontier and of the pages that are kept of it, one for each address that its plan keeps. The error
-    /// is want of memory; the frontier and the pages are then gone.
+    /// The harvest of a frontier and of the pages that are kept of it, one for each address that its plan keeps. Fails
+    /// only if memory runs out; the frontier and the pages are then gone.
     pub fn gather(
         alloc: Global,
         frontier: Frontier,
@@ -93,7 +93,7 @@ impl<B: Drop> Harvest<B> {
         let (held, parted) = match gather_all(alloc, &frontier, pages) {
             Ok(all) => all,
             Err(short) => {
-                // By a call, since what an exit lets go is proved anew at each exit.
+                // By a call, since what an exit drops is proved anew at each exit.
                 drop(frontier);
                 return Err(short);
             }
@@ -157,8 +157,8 @@ impl<B: Drop> Harvest<B> {
         &self.bodies[i]
     }
 
-    /// The lines of what happened, in order; none where memory was short. Replayed, they give the harvest's state; what
-    /// holds of every replay stands in the clauses. Takes no memory.
+    /// The lines of what happened, in order; none if memory was short. Replayed, they give the harvest's state; what
+    /// holds of every replay is said by the clauses. Takes no memory.
     pub fn trace(&self) -> &[Event]
         ensures trace { result.now ≡ self.now.trace }
         ensures empty { self.now.plan ≡ None ↔ (self.now.trace ≡ []) }
@@ -177,7 +177,7 @@ impl<B: Drop> Harvest<B> {
         }
     }
 
-    /// The plan by which the retrieval went; none where memory was short. Takes no memory.
+    /// The plan by which the retrieval went; none if memory was short. Takes no memory.
     pub fn plan(&self) -> Option<&Plan>
         ensures { MatchOption result (self.now.plan ≡ None) (λ plan. self.now.plan ≡ Some plan.now) }
     {

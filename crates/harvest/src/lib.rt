@@ -1,7 +1,7 @@
 //! What a retrieval brings in: a frontier as it was left, read in address order, and the pages that are kept. Its one idea:
-//! each list is sorted once, and says no more and no less than the frontier holds. What that means stands in `specs/`:
-//! `Harvests` what a harvest is, `Gathered` how what it keeps belongs together, `Entries` what is said of an address,
-//! `Pages` what is kept, `Order` the order. The crate asks nobody for anything. Its tests stand in `retrieval_tests`.
+//! each list is sorted once, and says no more and no less than the frontier holds. What that means is defined in
+//! `specs/`: `Harvests` what a harvest is, `Gathered` how what it keeps belongs together, `Entries` what is said of an
+//! address, `Pages` what is kept, `Order` the order. The crate requests nothing. Its tests are in `retrieval_tests`.
 #![tactic(auto)]
 
 pub use crate::entry::Entry;

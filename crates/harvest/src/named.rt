@@ -52,7 +52,7 @@ impl Named for (Origin, RuleSet) {
     }
 }
 
-/// Sorts things of which no two are named alike, by their names' bytes. The error is want of memory.
+/// Sorts things of which no two are named alike, by their names' bytes. Fails only if memory runs out.
 pub fn sort_by_name<T: Named>(things: &mut Vec<T>) -> Result<(), AllocError>
     requires { IsOnce (map T.text_of things.old.items) }
     ensures permutation { IsPermutation things.old.items things.new.items }

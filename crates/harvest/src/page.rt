@@ -8,7 +8,7 @@ use fetcher::{Outcome, is_successful};
 /// A page that is kept: its address, and the body of its response.
 #[derive(Drop)]
 pub struct KeptPage<B> {
-    /// The address that was asked for.
+    /// The address that was requested.
     pub address: Address,
     /// The body of its response, as its fetcher keeps bodies.
     pub body: B,

@@ -14,10 +14,10 @@ use std::sync::Wait;
 use std::time::Clock;
 use tcp_fetcher::OverTcp;
 
-/// Asks over TCP, shows on the terminal what comes of it, hands what is received to the journal of the run, and keeps why a
+/// Asks over TCP, shows on the terminal what results, hands what is received to the journal of the run, and keeps why a
 /// connection was lost.
-// A type of its own, as what it asks, since a call at a type that names all these parts costs its proof more than the checker
-// allows.
+// It has a type of its own, like what it asks, since a call at a type that names all these parts costs its proof more than
+// the checker allows.
 pub struct Asking<'a, R: Net + Wait + Files + Clock + Eprint> {
     pub(crate) inner: Journaled<OverTcp<'a, R>, Pen<'a, R, R>>,
     pub(crate) rt: &'a R,
@@ -25,7 +25,7 @@ pub struct Asking<'a, R: Net + Wait + Files + Clock + Eprint> {
     pub(crate) failures: &'a SharedFailures,
 }
 
-// By hand: who drops one proves a call, and nothing of what it holds.
+// Written by hand: a user that drops one proves a call, and nothing about its fields.
 impl<'a, R: Net + Wait + Files + Clock + Eprint> Drop for Asking<'a, R> {
     fn drop(self) {
         let Asking {
@@ -38,19 +38,19 @@ impl<'a, R: Net + Wait + Files + Clock + Eprint> Drop for Asking<'a, R> {
 }
 
 impl<'a, R: Net + Wait + Files + Clock + Eprint> Asking<'a, R> {
-    // Why the last connection was lost, where it was.
+    // Why the last connection was lost, if it was.
     fn loss(&self) -> Option<LossKind> {
         self.inner.inner().loss()
     }
 
-    // Keeps that the last connection was lost, which was to ask for this address.
+    // Keeps that the last connection was lost, which was to request this address.
     fn note_page(&self, at: &Address) {
         if let Some(kind) = self.loss() {
             self.failures.lose(self.rt, kind, at.try_clone());
         }
     }
 
-    // Keeps that the last connection was lost, which was to ask for this origin's robots file.
+    // Keeps that the last connection was lost, which was to request this origin's robots file.
     fn note_robots(&self, of: &Origin) {
         if let Some(kind) = self.loss() {
             self.failures.lose(self.rt, kind, of.robots_file());
@@ -59,14 +59,14 @@ impl<'a, R: Net + Wait + Files + Clock + Eprint> Asking<'a, R> {
 }
 
 impl<'a, R: Net + Wait + Files + Clock + Eprint> Fetcher for Asking<'a, R> {
-    ghost use Rattle.std.specs.Prelude.{Bool};
+    ghost use Rattle.html_links.specs.declared.rules.LinkRules.{LinkRules};
     ghost use Rattle.http_fetcher.specs.Meanings.{MayAnswer, MayRule};
 
     type Body = Body;
 
-    ghost Site = { Bool };
+    ghost Site = { LinkRules };
 
-    ghost site = { λ f. f.inner.inner.robots };
+    ghost site = { λ f. f.inner.inner.links };
 
     ghost says = { MayAnswer };
 
@@ -95,7 +95,7 @@ impl<'a, R: Net + Wait + Files + Clock + Eprint> Fetcher for Asking<'a, R> {
     }
 }
 
-// What was told and isn't in the journal.
+// What was received and isn't in the journal.
 impl<'a, R: Net + Wait + Files + Clock + Eprint> Recording for Asking<'a, R> {
     ghost noted = { λ f. f.inner.kept };
 

@@ -26,7 +26,7 @@ fn told(alloc: Global, path: &str, fault: CookieFault) -> Result<String, AllocEr
             let why = why.as_str();
             format!(in alloc; "couldn't read {path}: line {number}: {why}\n")
         }
-        // The one was told when it was found, and the other has no memory for it.
+        // The one was reported when it was found, and the other has no memory for it.
         CookieFault::Unread | CookieFault::Memory => Ok(String::new(alloc)),
     }
 }
@@ -135,7 +135,7 @@ fn jar_by<D: Files + Clock + Wait>(
 }
 
 /// The cookies of the file that the arguments of the program name, its name first, if they name one, with the time of now. It isn't
-/// read if the words are refused with these starts of a list, or ask for the help. Why it can't be used is kept for a person.
+/// read if the words are refused with these starts of a list, or request the help. Why it can't be used is kept for a person.
 /// Arguments that can't be had name no file.
 pub fn jar_of<D: Files + Clock + Wait>(
     disk: &D,

@@ -8,10 +8,13 @@ use address::Address;
 use early_names::EarlyRules;
 use harvest::Harvest;
 use kept_bodies::Body;
-use local_tree::{DiskFolder, Folder, FolderFault, NamesParts, Shelf, WriteFault, put_parts};
+use local_tree::{
+    BodyChange, DiskFolder, Folder, FolderFault, NamesParts, Shelf, WriteFault, put_changed_parts,
+    put_parts,
+};
 use part_keeper::{Part, PartsDir, Standing};
 use record_journal::SavedFile;
-use std::alloc::Global;
+use std::alloc::{AllocError, Global};
 use std::fs::Files;
 use std::io;
 use std::io::{ErrorKind, Write};
@@ -34,7 +37,7 @@ pub struct Disk<'a, R: Net + Files + Wait> {
     pub(crate) failures: &'a SharedFailures,
 }
 
-// By hand: who drops one proves a call, and nothing of what it holds.
+// Written by hand: a user that drops one proves a call, and nothing about its fields.
 impl<'a, R: Net + Files + Wait> Drop for Disk<'a, R> {
     fn drop(self) {
         let Disk {
@@ -74,6 +77,13 @@ where
     }
 }
 
+// The line for a page whose links would be read otherwise if they were changed.
+fn unread_line(alloc: Global, name: &str) -> Result<String, AllocError> {
+    format!(in alloc;
+        "the links of {name} stay as they were: changed ones wouldn't be read as they are to be\n"
+    )
+}
+
 impl<'a, R: Net + Files + Wait> Disk<'a, R>
 where
     R::File: Close + Lock,
@@ -83,6 +93,20 @@ where
     // Keeps why the file of this name couldn't be put.
     fn note(&self, name: &str) {
         if let Some(error) = self.inner.error() {
+            self.failures.fail(self.rt, name, error);
+        }
+    }
+
+    // Keeps why the links of the file of this name couldn't be changed.
+    fn note_unchanged(&self, name: &str) {
+        let Some(error) = self.inner.error() else {
+            return;
+        };
+        if error.kind() == ErrorKind::InvalidData {
+            if let Ok(text) = unread_line(self.alloc, name) {
+                self.failures.say(self.rt, text.as_str());
+            }
+        } else {
             self.failures.fail(self.rt, name, error);
         }
     }
@@ -185,6 +209,22 @@ where
         }
         put
     }
+
+    fn put_changed_part<C: BodyChange>(
+        &mut self,
+        place: usize,
+        name: &str,
+        part: &Part,
+        change: &C,
+    ) -> Result<bool, FolderFault> {
+        let put = self.inner.put_changed(place, name, part, change);
+        match put {
+            Ok(true) => {}
+            Ok(false) => self.note_unchanged(name),
+            Err(_) => self.note_part(name, part),
+        }
+        put
+    }
 }
 
 impl<'a, R: Net + Files + Wait + Threads> Shelf<Part> for Disk<'a, R>
@@ -193,7 +233,7 @@ where
 {
     ghost use Rattle.std.specs.Prelude.{⊤};
 
-    // Of what stands on the disk nothing is known.
+    // Of what is on the disk nothing is known.
     ghost holds = { λ part body. ⊤ };
 
     fn put_kept(&mut self, name: &str, kept: &Part) -> Result<(), FolderFault> {
@@ -204,6 +244,33 @@ where
         self.take_parts();
         self.take_back(names, harvest);
         put_parts(self, names, harvest)
+    }
+
+    fn put_changed_kept<C: BodyChange>(
+        &mut self,
+        _alloc: Global,
+        place: usize,
+        name: &str,
+        kept: &Part,
+        change: &C,
+    ) -> Result<bool, FolderFault> {
+        let put = self.put_changed_part(place, name, kept, change);
+        self.inner.end_puts();
+        put
+    }
+
+    fn put_changed_harvest<C: BodyChange>(
+        &mut self,
+        _alloc: Global,
+        names: &[String],
+        harvest: &Harvest<Part>,
+        change: &C,
+    ) -> Result<bool, WriteFault> {
+        self.take_parts();
+        self.take_back(names, harvest);
+        let put = put_changed_parts(self, names, harvest, change);
+        self.inner.end_puts();
+        put
     }
 }
 
@@ -218,7 +285,7 @@ pub struct Saved<'a, R: Net + Wait + Eprint + Files> {
     pub(crate) is_lost: bool,
 }
 
-// By hand: who drops one proves a call, and nothing of what it holds.
+// Written by hand: a user that drops one proves a call, and nothing about its fields.
 impl<'a, R: Net + Wait + Eprint + Files> Drop for Saved<'a, R> {
     fn drop(self) {
         let Saved {

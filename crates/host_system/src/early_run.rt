@@ -10,7 +10,7 @@ pub struct EarlyRun {
     claims: Mutex<Claims>,
 }
 
-// By hand: who drops one proves a call, and nothing of what it holds.
+// Written by hand: a user that drops one proves a call, and nothing about its fields.
 impl Drop for EarlyRun {
     fn drop(self) {
         let EarlyRun {
@@ -21,7 +21,7 @@ impl Drop for EarlyRun {
     }
 }
 
-// What stands under the lock is lent to functions of its own: there no way out of them lets go of the lock.
+// These take `&mut` to the locked data, so that no early return of theirs drops the guard.
 
 // Pages are named by these rules from now on.
 fn set(held: &mut Option<Arc<EarlyRules>>, rules: Arc<EarlyRules>) {

@@ -86,11 +86,11 @@ impl<'a, R: Net + Wait + Files + Clock + Eprint> Network<'a, R> {
 
     // What asks over TCP for one worker, with these settings, and with the cookies of the run.
     fn over_tcp(&self, settings: FetcherSettings) -> Result<OverTcp<'a, R>, AllocError>
-        ensures { IfOk result (λ fetcher. (fetcher.robots ≡ settings.robots) × (fetcher.keeps ≡ is_some settings.kept) × (fetcher.most ≡ settings.kept) × (fetcher.sends ≡ Some (record settings.sends { jar = self.now.jar })) × (fetcher.retries ≡ settings.retries) × (fetcher.limits ≡ limits_of settings.manner.body_limit)) }
+        ensures { IfOk result (λ fetcher. (fetcher.links ≡ settings.links) × (fetcher.keeps ≡ is_some settings.kept) × (fetcher.most ≡ settings.kept) × (fetcher.sends ≡ Some (record settings.sends { jar = self.now.jar })) × (fetcher.retries ≡ settings.retries) × (fetcher.limits ≡ limits_of settings.manner.body_limit)) }
     {
         let jar = self.jar()?;
         let FetcherSettings {
-            robots,
+            links,
             is_recording: _is_recording,
             kept,
             proxies,
@@ -104,7 +104,7 @@ impl<'a, R: Net + Wait + Files + Clock + Eprint> Network<'a, R> {
             self.hosts,
             self.kept,
             self.progress,
-            robots,
+            links,
             kept,
             proxies,
             sends.with_jar(jar),
@@ -113,9 +113,9 @@ impl<'a, R: Net + Wait + Files + Clock + Eprint> Network<'a, R> {
         ))
     }
 
-    // What asks for one worker and may note what it is told.
+    // The fetcher of one worker that may note what it receives.
     fn asking(&self, settings: FetcherSettings) -> Result<Asking<'a, R>, AllocError>
-        ensures { IfOk result (λ asking. (asking.inner.inner.robots ≡ settings.robots) × (asking.inner.inner.keeps ≡ is_some settings.kept) × (asking.inner.inner.most ≡ settings.kept) × (asking.inner.inner.sends ≡ Some (record settings.sends { jar = self.now.jar })) × (asking.inner.inner.retries ≡ settings.retries) × (asking.inner.inner.limits ≡ limits_of settings.manner.body_limit) × (asking.inner.is_recording ≡ settings.is_recording)) }
+        ensures { IfOk result (λ asking. (asking.inner.inner.links ≡ settings.links) × (asking.inner.inner.keeps ≡ is_some settings.kept) × (asking.inner.inner.most ≡ settings.kept) × (asking.inner.inner.sends ≡ Some (record settings.sends { jar = self.now.jar })) × (asking.inner.inner.retries ≡ settings.retries) × (asking.inner.inner.limits ≡ limits_of settings.manner.body_limit) × (asking.inner.is_recording ≡ settings.is_recording)) }
     {
         let is_recording = settings.is_recording;
         let fetcher = self.over_tcp(settings)?;
@@ -136,9 +136,9 @@ where
     ghost use Rattle.std.specs.Prelude.{◌≡◌, IfOk, Some, is_some};
     ghost use Rattle.response_reader.specs.Limits.{limits_of};
 
-    // What asks for one worker and has bodies kept in parts.
+    // The fetcher of one worker that has bodies kept in parts.
     fn parts_asking(&self, settings: FetcherSettings) -> Result<PartsAsking<'a, R>, AllocError>
-        ensures { IfOk result (λ asking. (asking.inner.robots ≡ settings.robots) × (asking.inner.keeps ≡ is_some settings.kept) × (asking.inner.most ≡ settings.kept) × (asking.inner.sends ≡ Some (record settings.sends { jar = self.now.jar })) × (asking.inner.retries ≡ settings.retries) × (asking.inner.limits ≡ limits_of settings.manner.body_limit)) }
+        ensures { IfOk result (λ asking. (asking.inner.links ≡ settings.links) × (asking.inner.keeps ≡ is_some settings.kept) × (asking.inner.most ≡ settings.kept) × (asking.inner.sends ≡ Some (record settings.sends { jar = self.now.jar })) × (asking.inner.retries ≡ settings.retries) × (asking.inner.limits ≡ limits_of settings.manner.body_limit)) }
     {
         let fetcher = self.over_tcp(settings)?;
         let kept = self.early.rules(self.rt);
@@ -174,9 +174,9 @@ where
 
     type Record = Saved<'a, R>;
 
-    ghost makes = { λ network settings fetcher. (fetcher.inner.robots ≡ settings.robots) × (fetcher.inner.keeps ≡ is_some settings.kept) × (fetcher.inner.most ≡ settings.kept) × (fetcher.inner.sends ≡ Some (record settings.sends { jar = network.jar })) × (fetcher.inner.retries ≡ settings.retries) × (fetcher.inner.limits ≡ limits_of settings.manner.body_limit) };
+    ghost makes = { λ network settings fetcher. (fetcher.inner.links ≡ settings.links) × (fetcher.inner.keeps ≡ is_some settings.kept) × (fetcher.inner.most ≡ settings.kept) × (fetcher.inner.sends ≡ Some (record settings.sends { jar = network.jar })) × (fetcher.inner.retries ≡ settings.retries) × (fetcher.inner.limits ≡ limits_of settings.manner.body_limit) };
 
-    ghost makes_recorder = { λ network settings fetcher. (fetcher.inner.inner.robots ≡ settings.robots) × (fetcher.inner.inner.keeps ≡ is_some settings.kept) × (fetcher.inner.inner.most ≡ settings.kept) × (fetcher.inner.inner.sends ≡ Some (record settings.sends { jar = network.jar })) × (fetcher.inner.inner.retries ≡ settings.retries) × (fetcher.inner.inner.limits ≡ limits_of settings.manner.body_limit) × (fetcher.inner.is_recording ≡ settings.is_recording) };
+    ghost makes_recorder = { λ network settings fetcher. (fetcher.inner.inner.links ≡ settings.links) × (fetcher.inner.inner.keeps ≡ is_some settings.kept) × (fetcher.inner.inner.most ≡ settings.kept) × (fetcher.inner.inner.sends ≡ Some (record settings.sends { jar = network.jar })) × (fetcher.inner.inner.retries ≡ settings.retries) × (fetcher.inner.inner.limits ≡ limits_of settings.manner.body_limit) × (fetcher.inner.is_recording ≡ settings.is_recording) };
 
     ghost opens = { λ network path folder. folder.inner ≡ opened_at path };
 

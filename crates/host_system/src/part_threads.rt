@@ -5,7 +5,7 @@ use std::thread::{Threads, join};
 /// How many threads write parts.
 const WRITERS: usize = 3;
 
-/// Writes parts in three threads, while the caller's gives names. Each has one file open at a time. Where no thread can be made the
+/// Writes parts in three threads, while the caller's gives names. Each has one file open at a time. If no thread can be made, the
 /// caller's does its work.
 // What a method sends to a thread may rest on no bound of its block, so the disk has a handle here whose type is known.
 #[derive(Drop)]

@@ -15,7 +15,7 @@ use std::time::Clock;
 use streams::{Close, Lock};
 use tcp_fetcher::PartsOverTcp;
 
-/// Asks over TCP, has bodies kept in parts, of which it names those that may be named early, shows on the terminal what comes of it,
+/// Asks over TCP, has bodies kept in parts, of which it names those that may be named early, shows on the terminal what results,
 /// and keeps why a connection was lost.
 pub struct PartsAsking<'a, R: Net + Wait + Files + Clock + Eprint>
 where
@@ -32,7 +32,7 @@ where
     pub(crate) folder: Option<DiskFolder<'a, R>>,
 }
 
-// By hand: who drops one proves a call, and nothing of what it holds.
+// Written by hand: a user that drops one proves a call, and nothing about its fields.
 impl<'a, R: Net + Wait + Files + Clock + Eprint> Drop for PartsAsking<'a, R>
 where
     R::File: Close + Lock,
@@ -108,7 +108,7 @@ where
         is_named
     }
 
-    // A page's part, which has its name from then on if nothing stands in its way.
+    // A page's part, which has its name from then on if nothing is in its way.
     fn named(&mut self, at: &Address, part: Part) -> Part
         ensures kind { result.kind ≡ part.kind }
         ensures len { result.len ≡ part.len }
@@ -126,14 +126,14 @@ where
         }
     }
 
-    // Keeps that the last connection was lost, which was to ask for this address.
+    // Keeps that the last connection was lost, which was to request this address.
     fn note_page(&self, at: &Address) {
         if let Some(kind) = self.inner.loss() {
             self.failures.lose(self.rt, kind, at.try_clone());
         }
     }
 
-    // Keeps that the last connection was lost, which was to ask for this origin's robots file.
+    // Keeps that the last connection was lost, which was to request this origin's robots file.
     fn note_robots(&self, of: &Origin) {
         if let Some(kind) = self.inner.loss() {
             self.failures.lose(self.rt, kind, of.robots_file());

@@ -15,7 +15,7 @@ pub struct SharedFailures {
     said: Mutex<String>,
 }
 
-// By hand: who drops one proves a call, and nothing of what it holds.
+// Written by hand: a user that drops one proves a call, and nothing about its fields.
 impl Drop for SharedFailures {
     fn drop(self) {
         let SharedFailures {
@@ -26,7 +26,7 @@ impl Drop for SharedFailures {
     }
 }
 
-// What stands under the lock is lent to functions of its own: there no way out of them lets go of the lock.
+// These take `&mut` to the locked data, so that no early return of theirs drops the guard.
 
 // If there is no memory for it, it isn't kept.
 fn fail(kept: &mut Failures, file: FileFault) {
@@ -69,33 +69,33 @@ impl SharedFailures {
         fail(&mut self.kept.lock(rt), file);
     }
 
-    // A connection was lost, which was to ask for this address.
+    // A connection was lost, which was to request this address.
     pub(crate) fn lose<R: Wait>(&self, rt: &R, kind: LossKind, at: Result<Address, AllocError>) {
         if let Ok(at) = at {
             lose(&mut self.kept.lock(rt), kind, at);
         }
     }
 
-    // A person is to be told this, too.
+    // This is to be reported to a person, too.
     pub(crate) fn say<R: Wait>(&self, rt: &R, text: &str) {
         say(&mut self.said.lock(rt), text);
     }
 
-    /// A person is to be told of the servers to which no connection is kept any more, too.
+    /// The servers to which no connection is kept any more are to be reported to a person, too.
     pub fn say_unasked<R: Wait, S: Drop>(&self, rt: &R, kept: &Kept<S>) {
         if let Ok(text) = kept.unasked_text(rt) {
             self.say(rt, text.as_str());
         }
     }
 
-    /// The lines that tell a person what failed, as [`Failures::text`] has them, and then what else is said.
+    /// The lines that report what failed to a person, as [`Failures::text`] has them, and then what else is said.
     pub fn text<R: Wait>(&self, rt: &R) -> Result<String, AllocError> {
         let mut text = text_of(&mut self.kept.lock(rt))?;
         push_said(&mut text, &mut self.said.lock(rt))?;
         Ok(text)
     }
 
-    /// Writes these lines. Where the writer fails, or there is no memory for them, a front of them may be written.
+    /// Writes these lines. If the writer fails, or there is no memory for them, a front of them may be written.
     pub fn tell<R: Wait, W: Write>(&self, rt: &R, errors: &mut W) {
         if let Ok(text) = self.text(rt) {
             if !text.is_empty() {

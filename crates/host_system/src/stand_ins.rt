@@ -16,7 +16,7 @@ pub struct StandIns<F: Drop> {
 }
 
 impl<F: OpenFile + AsRawFd + Drop> StandIns<F> {
-    /// Opens the null device in the place of each standard stream that is closed. To be called before anything else is opened. Where
+    /// Opens the null device in the place of each standard stream that is closed. To be called before anything else is opened. If
     /// that device can't be opened, a stream stays closed.
     pub fn open<D: Files<File = F>>(disk: &D) -> StandIns<F> {
         StandIns {

@@ -138,7 +138,7 @@ fn starts_by<D: Files + Wait, R: Read>(
 
 /// The starts of the file that the arguments of the program name, its name first, if they name one. It is read from the disk, or
 /// from this reader if its path is `-`; why it can't be read is kept for a person. It isn't read if the words are refused whatever it
-/// has, or ask for the help. Arguments that can't be had name no file.
+/// has, or request the help. Arguments that can't be had name no file.
 pub fn starts_of<D: Files + Wait, R: Read>(
     disk: &D,
     alloc: Global,

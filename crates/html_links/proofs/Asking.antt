@@ -11,6 +11,8 @@ use Rattle.html_links.specs.Pieces.Source.{FromTag, FromSheet}
 use Rattle.html_links.specs.Values.{value_text_of, written, value_of}
 use Rattle.html_links.specs.declared.table.Form.{Form}
 use Rattle.html_links.specs.declared.links.LinkKind.{LinkKind}
+use Rattle.html_links.specs.declared.links.LinkPlace.{LinkPlace}
+use Rattle.html_links.specs.declared.links.LinkPlace.TheVariants as place
 use Rattle.html_links.specs.declared.table.Form.TheVariants as form
 use Rattle.html_links.specs.Links.{Link, Links, Row, link_table, kind_in, related, pressed, refreshed, link_with, link_by, row_links, table_links, styling, style_links, styling_links, links_of, source_links, base_of, is_nofollow, first_base, any_nofollow, with_tags}
 use Rattle.html_links.specs.Asked.{is_asked_element, is_asked_attribute, is_styling, is_wanted, asked_attributes, given, asked}
@@ -184,16 +186,16 @@ plain tag h =
     record { links = rw (rows_nothing tag link_table tests.third) refl; base = rw tests.first refl; nofollow = rw tests.second refl }
 
 -- a tag without attributes says nothing
-kind_alone : (f : Form) (k : Option LinkKind) → link_with f k None ≡ []
-kind_alone f None = refl
-kind_alone f (Some k) = refl
+kind_alone : (p : LinkPlace) (f : Form) (k : Option LinkKind) → link_with p f k None ≡ []
+kind_alone p f None = refl
+kind_alone p f (Some k) = refl
 
 rows_alone : (name : List ℕ) (rows : List Row) → flat_map (row_links (record { name = name; attributes = [] })) rows ≡ []
 rows_alone name [] = refl
 rows_alone name (r ∷ others) = go (bytes_eq name r.element) (rows_alone name others) where
   go : (t : Bool) → flat_map (row_links (record { name = name; attributes = [] })) others ≡ []
       → ((if t then link_by [] r else []) ++ flat_map (row_links (record { name = name; attributes = [] })) others) ≡ []
-  go true g = rw (kind_alone r.form (kind_in [] r.form)) g
+  go true g = rw (kind_alone (place.Row r.number) r.form (kind_in [] r.form)) g
   go false g = g
 
 -- what a tag without attributes says

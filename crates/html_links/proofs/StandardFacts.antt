@@ -1,11 +1,11 @@
 -- The standard's own names and samples hold of the definitions: links, raw text elements, character references, comments, foreign content (HTML Standard, sections 4.2.4, 4.6.1, 13.1.2, 13.1.4, 13.2.5 and 13.2.6.5).
-use Rattle.std.proofs.Common.{◌≡◌, ℕ, List, [], ◌∷◌, ◌++◌, Option, Some, None, true, false, if◌then◌else◌, map, refl}
+use Rattle.std.proofs.Common.{◌≡◌, ℕ, Bool, List, [], ◌∷◌, ◌++◌, Option, Some, None, true, false, if◌then◌else◌, map, refl}
 use Rattle.std.specs.Str.{bytes_eq}
-use Rattle.std.specs.Prelude.{codes}
+use Rattle.std.specs.Prelude.{codes, filter}
 use Rattle.html_links.specs.Pieces.{Source}
 use Rattle.html_links.specs.Pieces.Source.{FromTag, FromSheet}
 use Rattle.css_links.specs.References as sheets
-use Rattle.std.specs.List.{flat_map}
+use Rattle.std.specs.List.{flat_map, range_with_len}
 use Rattle.html_links.specs.Contexts.{outermost, broken, left}
 use Rattle.html_links.specs.declared.context.Syntax.{Syntax}
 use Rattle.html_links.specs.declared.context.Syntax.TheVariants as syntax
@@ -15,6 +15,8 @@ use Rattle.html_links.specs.Asked.{is_styling}
 use Rattle.html_links.specs.Links.{Row, link_table, styling, kind_in, related, pressed, refreshed, is_robots, forbids}
 use Rattle.html_links.specs.declared.links.LinkKind.{LinkKind}
 use Rattle.html_links.specs.declared.links.LinkKind.TheVariants as kind
+use Rattle.html_links.specs.declared.links.LinkPlace.TheVariants as place
+use Rattle.html_links.specs.Rules.{all_links, all_rows, has_unknown, is_relative, takes_place, takes_row}
 
 -- what the table has of an element of that name, in a tag without attributes that say more
 abbrev leads_by : List ℕ → List Row → List (List ℕ × Option LinkKind)
@@ -92,6 +94,42 @@ styles : map is_styling (codes "style" ∷ codes "fill" ∷ codes "clip-path" �
     ≡ true ∷ true ∷ true ∷ true ∷ false ∷ false ∷ false ∷ []
 unfolding is_styling styling
 styles = refl
+
+-- a row's number is its place in the table
+numbered : map (λ r. r.number) link_table ≡ range_with_len 0 38
+unfolding link_table
+numbered = refl
+
+-- rules that take all links take those of each row, and those of style sheets
+all_taken : (robots : Bool) → map (λ r. takes_place (all_links robots).rows (place.Row r.number)) link_table ≡ map (λ _. true) link_table
+unfolding link_table all_rows
+all_taken robots = refl
+
+all_of_sheets : (robots : Bool) → takes_place (all_links robots).rows place.Sheet ≡ true
+unfolding all_rows
+all_of_sheets robots = refl
+
+-- texts that begin with neither a scheme nor `/`, and some that do
+relative_texts : map is_relative (codes "a" ∷ codes "../b" ∷ codes "?x" ∷ codes "#f" ∷ codes "" ∷ codes "1:a" ∷ codes "./a:b" ∷ codes "a/b:c" ∷ codes "a b:c" ∷ [])
+    ≡ true ∷ true ∷ true ∷ true ∷ true ∷ true ∷ true ∷ true ∷ true ∷ []
+relative_texts = refl
+
+other_texts : map is_relative (codes "/a" ∷ codes "//h/a" ∷ codes "http://h/" ∷ codes "HTTP:a" ∷ codes "a+b-1.c:" ∷ codes "mailto:a" ∷ codes "\\h\\a" ∷ codes " \t/a" ∷ codes "ht\ntp:a" ∷ [])
+    ≡ false ∷ false ∷ false ∷ false ∷ false ∷ false ∷ false ∷ false ∷ false ∷ []
+other_texts = refl
+
+-- the rows that a list has taken, by their numbers
+abbrev numbers : List ℕ → List ℕ → List ℕ
+numbers followed ignored = map (λ r. r.number) (filter (takes_row followed ignored) link_table)
+
+lists_of_names : numbers (codes "IMG/src,,area") [] ∷ numbers (codes "img") (codes "img/SRCSET,a") ∷ numbers (codes "picture") [] ∷ numbers (codes ",") (codes "t,h,a/href/") ∷ []
+    ≡ (2 ∷ 9 ∷ []) ∷ (9 ∷ 11 ∷ 12 ∷ []) ∷ [] ∷ range_with_len 0 38 ∷ []
+unfolding link_table
+lists_of_names = refl
+
+unknown_names : map has_unknown (codes "img/data-src" ∷ codes "a,/href" ∷ codes "picture,img/SRC" ∷ codes "style/x" ∷ [] ∷ []) ≡ true ∷ true ∷ false ∷ true ∷ false ∷ []
+unfolding link_table
+unknown_names = refl
 
 -- elements whose content is text, and some whose isn't here
 raw : map is_raw (codes "script" ∷ codes "style" ∷ codes "title" ∷ codes "textarea" ∷ codes "xmp" ∷ codes "noscript" ∷ codes "pre" ∷ [])

@@ -11,6 +11,7 @@ ghost use Rattle.std.specs.Str.{bytes_eq};
 
 use crate::asked::AskedName;
 use crate::bytes::is_name;
+use crate::links::LinkPlace;
 
 /// What the value of an attribute leads to.
 #[derive(Clone, Copy)]
@@ -29,76 +30,62 @@ pub(crate) enum Form {
     Refresh,
 }
 
-/// A row of the table: an element, an attribute, and what its value leads to.
+/// A row of the table: its number, which is its place in the table, an element, an attribute, and what its value leads to.
 #[derive(Clone, Copy)]
-pub(crate) struct Row(&'static [u8], AskedName, Form);
+pub(crate) struct Row(u8, &'static [u8], AskedName, Form);
+
+/// How many rows the table has.
+pub(crate) const ROWS: usize = 38;
 
 // The rows by the first letters of their elements, so that most tags are compared with few of them.
-static A: [Row; 4] = [
-    Row(b"a", AskedName::Href, Form::Link),
-    Row(b"a", AskedName::XlinkHref, Form::Link),
-    Row(b"area", AskedName::Href, Form::Link),
-    Row(b"audio", AskedName::Src, Form::Shown),
+static TABLE: [Row; ROWS] = [
+    Row(0, b"a", AskedName::Href, Form::Link),
+    Row(1, b"a", AskedName::XlinkHref, Form::Link),
+    Row(2, b"area", AskedName::Href, Form::Link),
+    Row(3, b"audio", AskedName::Src, Form::Shown),
+    Row(4, b"body", AskedName::Background, Form::Shown),
+    Row(5, b"embed", AskedName::Src, Form::Shown),
+    Row(6, b"frame", AskedName::Src, Form::Shown),
+    Row(7, b"feimage", AskedName::Href, Form::Shown),
+    Row(8, b"feimage", AskedName::XlinkHref, Form::Shown),
+    Row(9, b"img", AskedName::Src, Form::Shown),
+    Row(10, b"img", AskedName::SrcSet, Form::Set),
+    Row(11, b"img", AskedName::LongDesc, Form::Link),
+    Row(12, b"img", AskedName::LowSrc, Form::Shown),
+    Row(13, b"iframe", AskedName::Src, Form::Shown),
+    Row(14, b"input", AskedName::Src, Form::Button),
+    Row(15, b"image", AskedName::Href, Form::Shown),
+    Row(16, b"image", AskedName::XlinkHref, Form::Shown),
+    Row(17, b"link", AskedName::Href, Form::Related),
+    Row(18, b"link", AskedName::ImageSrcSet, Form::Set),
+    Row(19, b"meta", AskedName::Content, Form::Refresh),
+    Row(20, b"object", AskedName::Data, Form::Shown),
+    Row(21, b"script", AskedName::Src, Form::Shown),
+    Row(22, b"script", AskedName::Href, Form::Shown),
+    Row(23, b"script", AskedName::XlinkHref, Form::Shown),
+    Row(24, b"source", AskedName::Src, Form::Shown),
+    Row(25, b"source", AskedName::SrcSet, Form::Set),
+    Row(26, b"track", AskedName::Src, Form::Shown),
+    Row(27, b"table", AskedName::Background, Form::Shown),
+    Row(28, b"thead", AskedName::Background, Form::Shown),
+    Row(29, b"tbody", AskedName::Background, Form::Shown),
+    Row(30, b"tfoot", AskedName::Background, Form::Shown),
+    Row(31, b"tr", AskedName::Background, Form::Shown),
+    Row(32, b"td", AskedName::Background, Form::Shown),
+    Row(33, b"th", AskedName::Background, Form::Shown),
+    Row(34, b"use", AskedName::Href, Form::Shown),
+    Row(35, b"use", AskedName::XlinkHref, Form::Shown),
+    Row(36, b"video", AskedName::Src, Form::Shown),
+    Row(37, b"video", AskedName::Poster, Form::Shown),
 ];
 
-static B: [Row; 1] = [Row(b"body", AskedName::Background, Form::Shown)];
-
-static E: [Row; 1] = [Row(b"embed", AskedName::Src, Form::Shown)];
-
-static F: [Row; 3] = [
-    Row(b"frame", AskedName::Src, Form::Shown),
-    Row(b"feimage", AskedName::Href, Form::Shown),
-    Row(b"feimage", AskedName::XlinkHref, Form::Shown),
-];
-
-static I: [Row; 8] = [
-    Row(b"img", AskedName::Src, Form::Shown),
-    Row(b"img", AskedName::SrcSet, Form::Set),
-    Row(b"img", AskedName::LongDesc, Form::Link),
-    Row(b"img", AskedName::LowSrc, Form::Shown),
-    Row(b"iframe", AskedName::Src, Form::Shown),
-    Row(b"input", AskedName::Src, Form::Button),
-    Row(b"image", AskedName::Href, Form::Shown),
-    Row(b"image", AskedName::XlinkHref, Form::Shown),
-];
-
-static L: [Row; 2] = [
-    Row(b"link", AskedName::Href, Form::Related),
-    Row(b"link", AskedName::ImageSrcSet, Form::Set),
-];
-
-static M: [Row; 1] = [Row(b"meta", AskedName::Content, Form::Refresh)];
-
-static O: [Row; 1] = [Row(b"object", AskedName::Data, Form::Shown)];
-
-static S: [Row; 5] = [
-    Row(b"script", AskedName::Src, Form::Shown),
-    Row(b"script", AskedName::Href, Form::Shown),
-    Row(b"script", AskedName::XlinkHref, Form::Shown),
-    Row(b"source", AskedName::Src, Form::Shown),
-    Row(b"source", AskedName::SrcSet, Form::Set),
-];
-
-static T: [Row; 8] = [
-    Row(b"track", AskedName::Src, Form::Shown),
-    Row(b"table", AskedName::Background, Form::Shown),
-    Row(b"thead", AskedName::Background, Form::Shown),
-    Row(b"tbody", AskedName::Background, Form::Shown),
-    Row(b"tfoot", AskedName::Background, Form::Shown),
-    Row(b"tr", AskedName::Background, Form::Shown),
-    Row(b"td", AskedName::Background, Form::Shown),
-    Row(b"th", AskedName::Background, Form::Shown),
-];
-
-static U: [Row; 2] = [
-    Row(b"use", AskedName::Href, Form::Shown),
-    Row(b"use", AskedName::XlinkHref, Form::Shown),
-];
-
-static V: [Row; 2] = [
-    Row(b"video", AskedName::Src, Form::Shown),
-    Row(b"video", AskedName::Poster, Form::Shown),
-];
+/// The rows.
+#[tactic(auto, unfolding(crate::specs::Links::link_table))]
+pub(crate) fn table() -> &'static [Row; ROWS]
+    ensures { map named result.now ≡ link_table }
+{
+    &TABLE
+}
 
 /// The rows of elements whose names begin with that byte.
 #[tactic(auto, unfolding(crate::specs::Links::link_table))]
@@ -106,18 +93,18 @@ fn rows_with(first: u8) -> &'static [Row]
     ensures { map named result.now ≡ rows_with first link_table }
 {
     match first {
-        b'a' => &A,
-        b'b' => &B,
-        b'e' => &E,
-        b'f' => &F,
-        b'i' => &I,
-        b'l' => &L,
-        b'm' => &M,
-        b'o' => &O,
-        b's' => &S,
-        b't' => &T,
-        b'u' => &U,
-        b'v' => &V,
+        b'a' => &TABLE[0..4],
+        b'b' => &TABLE[4..5],
+        b'e' => &TABLE[5..6],
+        b'f' => &TABLE[6..9],
+        b'i' => &TABLE[9..17],
+        b'l' => &TABLE[17..19],
+        b'm' => &TABLE[19..20],
+        b'o' => &TABLE[20..21],
+        b's' => &TABLE[21..26],
+        b't' => &TABLE[26..34],
+        b'u' => &TABLE[34..36],
+        b'v' => &TABLE[36..38],
         _ => &[],
     }
 }
@@ -139,26 +126,39 @@ impl Row {
     pub(crate) fn is_of(&self, name: &[u8]) -> bool
         ensures { result ≡ bytes_eq name.now (named self.now).element }
     {
-        is_name(name, self.0)
+        is_name(name, self.1)
     }
 
     /// Whether it is of that attribute.
     pub(crate) fn is_named(&self, attribute: AskedName) -> bool
         ensures { result ≡ bytes_eq (asked_name attribute) (named self.now).attribute }
     {
-        attribute.name() == self.1.name()
+        attribute.name() == self.2.name()
+    }
+
+    pub(crate) fn element(&self) -> &'static [u8]
+        ensures { result.now ≡ (named self.now).element }
+    {
+        self.1
     }
 
     pub(crate) fn attribute(&self) -> AskedName
         ensures { asked_name result ≡ (named self.now).attribute }
     {
-        self.1
+        self.2
     }
 
     pub(crate) fn form(&self) -> Form
         ensures { result ≡ (named self.now).form }
     {
-        self.2
+        self.3
+    }
+
+    /// Where a value is written that the row names.
+    pub(crate) fn place(&self) -> LinkPlace
+        ensures { result ≡ LinkPlace.Row (named self.now).number }
+    {
+        LinkPlace::Row(self.0)
     }
 }
 

@@ -16,12 +16,12 @@ use Rattle.http_fetcher.specs.declared.chain.Hop.TheVariants.{Next, Last}
 use Rattle.http_fetcher.specs.Chains.{IsChain, SaysHop}
 use Rattle.http_fetcher.specs.Fetching.{Fetching, IsGiven, IsToldByTries}
 
--- what was told over a connection is given, by a fetcher with the settings of another
+-- what was received over a connection is given, by a fetcher with the settings of another
 pub given_by : {C W : Type 0} (connects : Connects C W) (wires : Wires W) (limits : Limited) (first old new : Fetching C) (at : AddressText) (answer : Answer BodyValue)
-    → old.robots ≡ first.robots → old.keeps ≡ first.keeps → old.sends ≡ first.sends → IsToldByTries connects wires limits old new at answer
+    → old.links ≡ first.links → old.keeps ≡ first.keeps → old.sends ≡ first.sends → IsToldByTries connects wires limits old new at answer
     → IsGiven connects wires limits first at answer.outcome answer.body
-given_by connects wires limits first old new at answer robots keeps sends told =
-    (old.connect, new.connect, rw (sym robots, sym keeps, sym sends) told)
+given_by connects wires limits first old new at answer links keeps sends told =
+    (old.connect, new.connect, rw (sym links, sym keeps, sym sends) told)
 
 -- what an answer says of the hop that it was read as
 pub says_of : (x : Outcome) (body : List ℕ) (n : ℕ) (hop read : Hop) → hop ≡ read → SaysHop x body n hop → SaysHop x body n read
@@ -38,7 +38,7 @@ unfolding IsChain
 chain_ends Told zero at rules x body told says = (x, body, told, says)
 chain_ends Told (suc n) at rules x body told says = (x, body, told, inl says)
 
--- a chain goes on behind a redirect
+-- a chain goes on after a redirect
 pub chain_goes_on : (Told : AddressText → Outcome → BodyValue → Type 0) (n m : ℕ) (at next : AddressText) (rules : RuleSetValue) (x : Outcome) (body : BodyValue)
     → Told at x body → SaysHop x body.bytes n (Next next) → n ≡ m + 1 → IsChain Told m next rules → IsChain Told n at rules
 unfolding IsChain
@@ -54,6 +54,6 @@ one_more first before after old new hop is one more =
     let longer : length new ≡ length old + 1 = ap length more ∙ length-append old (hop ∷ []) in
     omega arith
 
--- one connection more, where so many redirects could still be followed
+-- one more connection, if this many redirects could still be followed
 pub few_more : (before left first most now : ℕ) → before + left ≤ first + most → now ≤ before + 1 → now ≤ first + (most + 1)
 few_more before left first most now few one = omega arith

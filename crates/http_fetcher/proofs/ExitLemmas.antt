@@ -1,4 +1,4 @@
--- What holds at an exit of a call that may ask for a connection.
+-- What holds at an exit of a call that may request a connection.
 use Rattle.std.proofs.Common.{◌≡◌, ◌≤◌, ◌+◌, ℕ, Result, Ok, Err, arith}
 use Rattle.std.specs.Prelude.{IfOk, OnOk, OnErr}
 use Rattle.response_reader.specs.Wire.{counted, HasRisen}
@@ -12,11 +12,11 @@ pub on_err : {T E : Type 0} (r : Result T E) {P : Type 0} → P → OnErr r P
 on_err (Ok a) p = tt
 on_err (Err e) p = p
 
--- the count where no connection was asked for
+-- the count if no connection was requested
 pub none_made : (old new : ℕ) → new ≡ old → new ≤ old + 1
 none_made old new same = omega arith
 
--- where one was
+-- if one was
 pub one_made : (old new : ℕ) → new ≡ counted old 1 → new ≤ old + 1
 one_made old new same = omega arith
 

@@ -21,11 +21,11 @@ if_ok_on (Ok a) X P Q x p step = step x a p
 if_ok_on (Err e) X P Q x p step = tt
 
 -- a fetcher with the same settings asks the same question
-same_question : {C : Type 0} (limits : Limited) (old mid : Fetching C) (at : AddressText) → mid.robots ≡ old.robots → mid.keeps ≡ old.keeps → mid.sends ≡ old.sends → question_of limits mid at ≡ question_of limits old at
-same_question limits old mid at robots keeps sends i = record { at = at; robots = robots i; keeps = keeps i; sends = sends i; limits = limits }
+same_question : {C : Type 0} (limits : Limited) (old mid : Fetching C) (at : AddressText) → mid.links ≡ old.links → mid.keeps ≡ old.keeps → mid.sends ≡ old.sends → question_of limits mid at ≡ question_of limits old at
+same_question limits old mid at links keeps sends i = record { at = at; links = links i; keeps = keeps i; sends = sends i; limits = limits }
 
 module _ {C W : Type 0} (connects : Connects C W) (wires : Wires W) (limits : Limited) where
-  -- a wire that stands behind a question stood before, or was left by it
+  -- a wire that is kept after a question was kept before, or was left by it
   pub stands_by : (old mid new : OriginText → W → Type 0) (question : Question) (of : OriginText) (serves : Bool) (given left : W)
       → of ≡ origin_of question.at → Stays old mid
       → ((o : OriginText) (w : W) → new o w → mid o w ⊎ ((o ≡ of) × (question.keeps ≡ true) × (serves ≡ true) × connects.again left w))
@@ -37,13 +37,13 @@ module _ {C W : Type 0} (connects : Connects C W) (wires : Wires W) (limits : Li
       by (inl was) = inl (stays o w was)
       by (inr x) = inr (x.0 ∙ is, x.1, given, left, leaves x.2, x.3)
 
-  -- an answer over a new connection, where before it none was taken, or one over which no byte came
+  -- an answer over a new connection, if before it none was taken, or one over which no byte came
   pub told_second : (old mid new : Fetching C) (at : AddressText) (answer : Answer BodyValue) → connects.made mid.connect ≡ connects.made old.connect
-      → connects.refused mid.connect ≡ connects.refused old.connect → mid.robots ≡ old.robots → mid.keeps ≡ old.keeps → mid.sends ≡ old.sends
+      → connects.refused mid.connect ≡ connects.refused old.connect → mid.links ≡ old.links → mid.keeps ≡ old.keeps → mid.sends ≡ old.sends
       → Stays (connects.gives old.connect) (connects.gives mid.connect) → IsUntold connects wires limits old mid at
       → connects.taken new.connect ≡ connects.taken mid.connect → connects.made new.connect ≡ counted (connects.made mid.connect) 1
       → IsToldAnew connects wires limits mid new at answer → IsToldByTries connects wires limits old new at answer
-  told_second old mid new at answer made-is refused-is robots-is keeps-is sends-is stays silent taken-is one told =
+  told_second old mid new at answer made-is refused-is links-is keeps-is sends-is stays silent taken-is one told =
       inr (subst (λ n. connects.made new.connect ≡ counted n 1) made-is one, before silent, by told)
     where
       before : IsUntold connects wires limits old mid at → IsUntold connects wires limits old new at
@@ -53,24 +53,24 @@ module _ {C W : Type 0} (connects : Connects C W) (wires : Wires W) (limits : Li
       by : IsToldAnew connects wires limits mid new at answer → IsToldAnew connects wires limits old new at answer
       by (inl unmade) = inl (subst (λ n. IsUnmade n (connects.refused new.connect) answer) refused-is unmade)
       by (inr t) =
-          inr (t.0, stays (origin_of at) t.0 t.1, subst (λ q. ComesOver wires q t.0 answer) (same_question limits old mid at robots-is keeps-is sends-is) t.2)
+          inr (t.0, stays (origin_of at) t.0 t.1, subst (λ q. ComesOver wires q t.0 answer) (same_question limits old mid at links-is keeps-is sends-is) t.2)
 
-  -- what stands behind one question more
-  pub stands_more : (old mid new : Fetching C) (at : AddressText) → mid.robots ≡ old.robots → mid.keeps ≡ old.keeps → mid.sends ≡ old.sends
+  -- what is kept after one more question
+  pub stands_more : (old mid new : Fetching C) (at : AddressText) → mid.links ≡ old.links → mid.keeps ≡ old.keeps → mid.sends ≡ old.sends
       → StandsBehind connects wires limits old mid → StandsBy connects wires limits mid new at → StandsBehind connects wires limits old new
-  stands_more old mid new at robots keeps sends before by of wire stands = go (by of wire stands)
+  stands_more old mid new at links keeps sends before by of wire stands = go (by of wire stands)
     where
       go : connects.stands mid.connect of wire ⊎ IsKeptAfter connects wires limits (question_of limits mid at) of wire
           → connects.stands old.connect of wire ⊎ ((at : AddressText) × IsKeptAfter connects wires limits (question_of limits old at) of wire)
       go (inl stood) = before of wire stood
-      go (inr kept) = inr (at, subst (λ q. IsKeptAfter connects wires limits q of wire) (same_question limits old mid at robots keeps sends) kept)
+      go (inr kept) = inr (at, subst (λ q. IsKeptAfter connects wires limits q of wire) (same_question limits old mid at links keeps sends) kept)
 
-  -- what stands behind the same question put twice
-  pub stands_twice : (old mid new : Fetching C) (at : AddressText) → mid.robots ≡ old.robots → mid.keeps ≡ old.keeps → mid.sends ≡ old.sends
+  -- what is kept after the same question put twice
+  pub stands_twice : (old mid new : Fetching C) (at : AddressText) → mid.links ≡ old.links → mid.keeps ≡ old.keeps → mid.sends ≡ old.sends
       → StandsBy connects wires limits old mid at → StandsBy connects wires limits mid new at → StandsBy connects wires limits old new at
-  stands_twice old mid new at robots keeps sends before by of wire stands = go (by of wire stands)
+  stands_twice old mid new at links keeps sends before by of wire stands = go (by of wire stands)
     where
       go : connects.stands mid.connect of wire ⊎ IsKeptAfter connects wires limits (question_of limits mid at) of wire
           → connects.stands old.connect of wire ⊎ IsKeptAfter connects wires limits (question_of limits old at) of wire
       go (inl stood) = before of wire stood
-      go (inr kept) = inr (subst (λ q. IsKeptAfter connects wires limits q of wire) (same_question limits old mid at robots keeps sends) kept)
+      go (inr kept) = inr (subst (λ q. IsKeptAfter connects wires limits q of wire) (same_question limits old mid at links keeps sends) kept)

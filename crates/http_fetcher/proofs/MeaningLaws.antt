@@ -1,4 +1,4 @@
--- What was told over connections is what the site may answer.
+-- What was received over connections is what the site may answer.
 use Rattle.std.proofs.Common.{ℕ, zero, suc, List, inl, inr}
 use Rattle.kept_bodies.specs.Bodies.{BodyValue}
 use Rattle.address.specs.Address.{AddressText}
@@ -14,19 +14,19 @@ use Rattle.http_fetcher.specs.Meanings.{MayAnswerWithin}
 
 -- what bytes say may be answered
 may_answer_bytes : (question : Question) (before after : ℕ) (answer : Answer BodyValue) (bytes : List ℕ)
-    → AnswersBytes question before after answer bytes → MayAnswerWithin question.limits question.robots question.at answer.outcome answer.body
+    → AnswersBytes question before after answer bytes → MayAnswerWithin question.limits question.links question.at answer.outcome answer.body
 may_answer_bytes question before after answer bytes (inl digest) = inl (bytes, digest)
 may_answer_bytes question before after answer bytes (inr (fault, kind, is, has, risen, outcome, none)) =
     inr (inl (bytes, (fault, kind, is, has, (outcome, none))))
 
 -- what comes over a wire may be answered
 may_answer_over : {W : Type 0} (wires : Wires W) (question : Question) (given : W) (answer : Answer BodyValue)
-    → ComesOver wires question given answer → MayAnswerWithin question.limits question.robots question.at answer.outcome answer.body
+    → ComesOver wires question given answer → MayAnswerWithin question.limits question.links question.at answer.outcome answer.body
 may_answer_over wires question given answer (asked, left, inl unwritten) = inr (inr (inr (unwritten.1, unwritten.2)))
 may_answer_over wires question given answer (asked, left, inr (sent, silent, (bytes, tells, answers))) =
     may_answer_bytes question (wires.failed asked) (wires.failed left) answer bytes answers
 
--- a chain of answers that were told is one of answers that others were told too
+-- a chain of received answers is one under any relation that contains them
 chain_of_more : (Told More : AddressText → Outcome → BodyValue → Type 0) (n : ℕ) (at : AddressText) (rules : RuleSetValue)
     → ((at : AddressText) (x : Outcome) (body : BodyValue) → Told at x body → More at x body) → IsChain Told n at rules → IsChain More n at rules
 unfolding IsChain
@@ -36,21 +36,21 @@ chain_of_more Told More (suc n) at rules more (x, body, told, inr (next, on, res
     (x, body, more at x body told, inr (next, on, chain_of_more Told More n next rules more rest))
 
 module _ {C W : Type 0} (connects : Connects C W) (wires : Wires W) (limits : Limited) where
-  -- what was told over a connection, or that none was made, may be answered
+  -- what was received over a connection, or that none was made, may be answered
   pub may_answer_anew : (old new : Fetching C) (at : AddressText) (answer : Answer BodyValue)
-      → IsToldAnew connects wires limits old new at answer → MayAnswerWithin limits old.robots at answer.outcome answer.body
+      → IsToldAnew connects wires limits old new at answer → MayAnswerWithin limits old.links at answer.outcome answer.body
   may_answer_anew old new at answer (inl unmade) = inr (inr (inl (unmade.1, unmade.2)))
   may_answer_anew old new at answer (inr (given, gave, over)) = may_answer_over wires (question_of limits old at) given answer over
 
-  -- what was told, over a connection that was kept or a new one, may be answered
+  -- what was received, over a connection that was kept or a new one, may be answered
   pub may_answer : (old new : Fetching C) (at : AddressText) (answer : Answer BodyValue)
-      → IsToldByTries connects wires limits old new at answer → MayAnswerWithin limits old.robots at answer.outcome answer.body
+      → IsToldByTries connects wires limits old new at answer → MayAnswerWithin limits old.links at answer.outcome answer.body
   may_answer old new at answer (inl (made, taken, holds, counts, (given, gave, over))) = may_answer_over wires (question_of limits old at) given answer over
   may_answer old new at answer (inr (made, before, told)) = may_answer_anew old new at answer told
 
   -- the rules at the end of a chain over connections are rules that the origin may have
   pub may_rule : (fetcher : Fetching C) (n : ℕ) (at : AddressText) (rules : RuleSetValue)
-      → IsChain (IsGiven connects wires limits fetcher) n at rules → IsChain (MayAnswerWithin limits fetcher.robots) n at rules
+      → IsChain (IsGiven connects wires limits fetcher) n at rules → IsChain (MayAnswerWithin limits fetcher.links) n at rules
   may_rule fetcher n at rules chain =
-      chain_of_more (IsGiven connects wires limits fetcher) (MayAnswerWithin limits fetcher.robots) n at rules
+      chain_of_more (IsGiven connects wires limits fetcher) (MayAnswerWithin limits fetcher.links) n at rules
       (λ at x body given. may_answer (record fetcher { connect = given.0 }) (record fetcher { connect = given.1 }) at (record { outcome = x; body = body }) given.2) chain

@@ -1,4 +1,4 @@
--- What was told of a hop says what its answer says.
+-- What was received for a hop says what its answer says.
 use Rattle.std.proofs.Common.{◌≡◌, ◌∙◌, ℕ, zero, suc, ◌==◌, ◌||◌, ◌⊎◌, Bool, true, false, List, Option, Some, None, refl, sym, subst, inl, inr}
 use Rattle.std.proofs.lemmas.Bool.{eqb-true, false≢true}
 use Rattle.kept_bodies.specs.Bodies.{BodyValue}
@@ -21,6 +21,7 @@ use Rattle.http_fetcher.specs.declared.chain.Hop.TheVariants.{Next, Last}
 use Rattle.http_fetcher.specs.Chains.{SaysHop}
 use Rattle.http_fetcher.specs.inner.Chains.{IsHopTold}
 use Rattle.http_fetcher.specs.Fetching.{Fetching, IsToldByTries, answer_told}
+use Rattle.html_links.specs.declared.rules.LinkRules.{LinkRules}
 
 or_split : (x y : Bool) → (x || y) ≡ true → (x ≡ true) ⊎ (y ≡ true)
 or_split true y h = inl refl
@@ -47,7 +48,7 @@ redirect_allows status file h =
     at : (n : ℕ) → (status == n) ≡ true → rules_by_status n file ≡ all_allowed → rules_by_status status file ≡ all_allowed
     at n is allows = rw (eqb-true status n is) allows
 
--- a file is looked at only where the status is one of success
+-- a file is looked at only if the status is one of success
 kept_is_enough : (status : ℕ) (body : List ℕ) → rules_by_status status (kept_body status body) ≡ rules_by_status status body
 unfolding rules_by_status
 kept_is_enough status body = by (is_successful status) refl
@@ -65,46 +66,46 @@ redirects at target head h = by (is_redirect head.status) refl
     by false is = absurd (let none : target_of at head ≡ None = rw is refl in cc)
 
 -- what a response that is no page of HTML says of the rules
-sheet_says : (at : AddressText) (r : ResponseParts) (left : ℕ) (rules : RuleSetValue) → rules ≡ rules_by_status r.head.status r.body
-    → SaysHop (sheet_or_leaf at r) (kept_body r.head.status r.body) left (Last rules)
-sheet_says at r left rules is = by (is_sheet r.head) refl
+sheet_says : (links : LinkRules) (at : AddressText) (r : ResponseParts) (left : ℕ) (rules : RuleSetValue) → rules ≡ rules_by_status r.head.status r.body
+    → SaysHop (sheet_or_leaf links at r) (kept_body r.head.status r.body) left (Last rules)
+sheet_says links at r left rules is = by (is_sheet r.head) refl
   where
-    by : (t : Bool) → is_sheet r.head ≡ t → SaysHop (sheet_or_leaf at r) (kept_body r.head.status r.body) left (Last rules)
+    by : (t : Bool) → is_sheet r.head ≡ t → SaysHop (sheet_or_leaf links at r) (kept_body r.head.status r.body) left (Last rules)
     by true sheet = rw sheet (tt, is ∙ sym (kept_is_enough r.head.status r.body))
     by false sheet = rw sheet (tt, is ∙ sym (kept_is_enough r.head.status r.body))
 
 -- what a response that redirects nowhere says of the rules
-plain_says : (robots : Bool) (at : AddressText) (r : ResponseParts) (left : ℕ) (rules : RuleSetValue) → rules ≡ rules_by_status r.head.status r.body
-    → SaysHop (page_or_leaf robots at r) (kept_body r.head.status r.body) left (Last rules)
-plain_says robots at r left rules is = by (is_document r.head) refl
+plain_says : (links : LinkRules) (at : AddressText) (r : ResponseParts) (left : ℕ) (rules : RuleSetValue) → rules ≡ rules_by_status r.head.status r.body
+    → SaysHop (page_or_leaf links at r) (kept_body r.head.status r.body) left (Last rules)
+plain_says links at r left rules is = by (is_document r.head) refl
   where
-    by : (t : Bool) → is_document r.head ≡ t → SaysHop (page_or_leaf robots at r) (kept_body r.head.status r.body) left (Last rules)
+    by : (t : Bool) → is_document r.head ≡ t → SaysHop (page_or_leaf links at r) (kept_body r.head.status r.body) left (Last rules)
     by true document = rw document (tt, is ∙ sym (kept_is_enough r.head.status r.body))
-    by false document = rw document (sheet_says at r left rules is)
+    by false document = rw document (sheet_says links at r left rules is)
 
 -- what a whole response says of a hop
-whole_says : (robots : Bool) (at : AddressText) (r : ResponseParts) (left : ℕ) (hop : Hop) (target : Option AddressText) → target_of at r.head ≡ target
-    → IsHopTold at (Whole r) left hop → SaysHop (digest_of robots at r) (kept_body r.head.status r.body) left hop
-whole_says robots at r left (Next next) None is h = let some = h.1 in absurd cc
-whole_says robots at r left (Next next) (Some target) is h = let some = h.1 in rw is (h.0, cc)
-whole_says robots at r left (Last rules) None is h = rw is (plain_says robots at r left rules h.1)
-whole_says robots at r zero (Last rules) (Some target) is h = rw is (refl, h.1 ∙ redirect_allows r.head.status r.body (redirects at target r.head is))
-whole_says robots at r (suc left) (Last rules) (Some target) is h = let none = h.0 in absurd cc
+whole_says : (links : LinkRules) (at : AddressText) (r : ResponseParts) (left : ℕ) (hop : Hop) (target : Option AddressText) → target_of at r.head ≡ target
+    → IsHopTold at (Whole r) left hop → SaysHop (digest_of links at r) (kept_body r.head.status r.body) left hop
+whole_says links at r left (Next next) None is h = let some = h.1 in absurd cc
+whole_says links at r left (Next next) (Some target) is h = let some = h.1 in rw is (h.0, cc)
+whole_says links at r left (Last rules) None is h = rw is (plain_says links at r left rules h.1)
+whole_says links at r zero (Last rules) (Some target) is h = rw is (refl, h.1 ∙ redirect_allows r.head.status r.body (redirects at target r.head is))
+whole_says links at r (suc left) (Last rules) (Some target) is h = let none = h.0 in absurd cc
 
--- what was told of an address says of a hop what its answer says
-pub tells_says : (robots : Bool) (at : AddressText) (told : Told) (left : ℕ) (hop : Hop) → IsHopTold at told left hop
-    → SaysHop (outcome_told robots at told) (body_told told).bytes left hop
-tells_says robots at (Whole r) left hop h = whole_says robots at r left hop (target_of at r.head) refl h
-tells_says robots at (Fault kind) left (Next next) h = let some = h.1 in absurd cc
-tells_says robots at (Fault kind) left (Last rules) h = (tt, h.1)
+-- what was received for an address says of a hop what its answer says
+pub tells_says : (links : LinkRules) (at : AddressText) (told : Told) (left : ℕ) (hop : Hop) → IsHopTold at told left hop
+    → SaysHop (outcome_told links at told) (body_told told).bytes left hop
+tells_says links at (Whole r) left hop h = whole_says links at r left hop (target_of at r.head) refl h
+tells_says links at (Fault kind) left (Next next) h = let some = h.1 in absurd cc
+tells_says links at (Fault kind) left (Last rules) h = (tt, h.1)
 
--- what was told says of the hop that it was read as
+-- what was received says this of the hop that it was read as
 pub tells_of : (at : AddressText) (told : Told) (left : ℕ) (hop read : Hop) → hop ≡ read → IsHopTold at told left hop → IsHopTold at told left read
 tells_of at told left hop read is tells = subst (λ h. IsHopTold at told left h) is tells
 
--- an answer that says what was told over a connection was told over it
+-- an answer that says what was received over a connection was received over it
 pub told_by_answer : {C W : Type 0} (connects : Connects C W) (wires : Wires W) (limits : Limited) (old now new : Fetching C) (at : AddressText) (told : Told) (answer : Answer BodyValue)
-    → now ≡ new → new.robots ≡ old.robots → answer.outcome ≡ outcome_told now.robots at told → answer.body ≡ body_told told
-    → IsToldByTries connects wires limits old new at (answer_told old.robots at told) → IsToldByTries connects wires limits old now at answer
+    → now ≡ new → new.links ≡ old.links → answer.outcome ≡ outcome_told now.links at told → answer.body ≡ body_told told
+    → IsToldByTries connects wires limits old new at (answer_told old.links at told) → IsToldByTries connects wires limits old now at answer
 told_by_answer connects wires limits old now new at told answer same is outcome_is body_is h =
     rw (outcome_is, body_is, same, is) h

@@ -25,49 +25,50 @@ use Rattle.answer_notes.specs.declared.told.Told.{Told}
 use Rattle.response_answer.specs.Digests.{digest_of, body_of}
 use Rattle.response_answer.specs.KindsOfFaults.{kind_of_fault}
 use Rattle.connect.specs.declared.connect.Connect.{Ghosts as Connects}
+use Rattle.html_links.specs.declared.rules.LinkRules.{LinkRules}
 
--- what makes its connections, whether robots rules are honoured and connections are kept, what it sends besides the usual, what was asked,
+-- what makes its connections, which links of pages it takes, whether connections are kept, what it sends besides the usual, what was asked,
 -- whether notes are taken, and these
 pub record Fetching (C : Type 0) : Type 0 where
   pub connect : C
-  pub robots : Bool
+  pub links : LinkRules
   pub keeps : Bool
   pub sends : Option Sending
   pub asks : List Ask
   pub is_recording : Bool
   pub notes : List Noted
 
--- an address that is asked for, whether robots rules are honoured, whether the connection is to be kept, what is sent, and how long the
+-- an address that is asked for, which links of a page are taken, whether the connection is to be kept, what is sent, and how long the
 -- response may be
 pub record Question : Type 0 where
   pub at : AddressText
-  pub robots : Bool
+  pub links : LinkRules
   pub keeps : Bool
   pub sends : Option Sending
   pub limits : Limited
 
--- the question by which such a fetcher asks for an address, within these limits
+-- the question by which such a fetcher requests an address, within these limits
 abbrev pub question_of : {C : Type 0} → Limited → Fetching C → AddressText → Question
-question_of limits fetcher at = record { at = at; robots = fetcher.robots; keeps = fetcher.keeps; sends = fetcher.sends; limits = limits }
+question_of limits fetcher at = record { at = at; links = fetcher.links; keeps = fetcher.keeps; sends = fetcher.sends; limits = limits }
 
--- what was told of an address, as an answer
-abbrev pub answer_told : Bool → AddressText → Told → Answer BodyValue
-answer_told robots at told = record { outcome = outcome_told robots at told; body = body_told told }
+-- what was received for an address, as an answer
+abbrev pub answer_told : LinkRules → AddressText → Told → Answer BodyValue
+answer_told links at told = record { outcome = outcome_told links at told; body = body_told told }
 
--- an answer, whose body is kept somewhere, stands for this one
+-- an answer, whose body is kept somewhere, represents this one
 abbrev pub IsKeptAs : {B : Type 0} → (B → BodyValue → Type 0) → Answer B → Answer BodyValue → Type 0
 IsKeptAs holds kept real = (kept.outcome ≡ real.outcome) × holds kept.body real.body
 
--- P holds of some answer for which this one stands
+-- P holds of some answer that this one represents
 abbrev pub StandsForOne : {B : Type 0} → (B → BodyValue → Type 0) → Answer B → (Answer BodyValue → Type 0) → Type 0
 StandsForOne holds kept P = (real : Answer BodyValue) × IsKeptAs holds kept real × P real
 
 -- the answer is the digest of the response that begins the bytes, within these limits
-abbrev pub IsDigestOf : Limited → Bool → AddressText → Outcome → BodyValue → List ℕ → Type 0
-IsDigestOf limits robots at x body bytes =
-    (r : ResponseParts) × BeginsWithin limits r bytes × (x ≡ digest_of robots at r) × (body ≡ body_of r.head r.body)
+abbrev pub IsDigestOf : Limited → LinkRules → AddressText → Outcome → BodyValue → List ℕ → Type 0
+IsDigestOf limits links at x body bytes =
+    (r : ResponseParts) × BeginsWithin limits r bytes × (x ≡ digest_of links at r) × (body ≡ body_of r.head r.body)
 
--- the answer is a fault of the bytes, in which no response was read; a lost connection is one only where the count of failed calls rose
+-- the answer is a fault of the bytes, in which no response was read; a lost connection is one only if the count of failed calls rose
 abbrev pub IsFaultOfBytes : Limited → ℕ → ℕ → Answer BodyValue → List ℕ → Type 0
 IsFaultOfBytes limits before after answer bytes =
     (fault : ReadFault) × (kind : FaultKind) × (kind_of_fault fault ≡ Some kind) × IsReadFault limits fault bytes
@@ -76,7 +77,7 @@ IsFaultOfBytes limits before after answer bytes =
 -- the answer is what the bytes say
 abbrev pub AnswersBytes : Question → ℕ → ℕ → Answer BodyValue → List ℕ → Type 0
 AnswersBytes question before after answer bytes =
-    IsDigestOf question.limits question.robots question.at answer.outcome answer.body bytes ⊎ IsFaultOfBytes question.limits before after answer bytes
+    IsDigestOf question.limits question.links question.at answer.outcome answer.body bytes ⊎ IsFaultOfBytes question.limits before after answer bytes
 
 -- no connection was made
 abbrev pub IsUnmade : ℕ → ℕ → Answer BodyValue → Type 0
@@ -109,7 +110,7 @@ module _ {W : Type 0} (wires : Wires W) where
   IsAsked question given asked =
       Appends (wires.outgoing given) (wires.outgoing asked) (request_by question.sends question.keeps question.at) × Keeps (wires.incoming given) (wires.incoming asked)
 
-  -- the answer came over a wire: its request was written and nothing behind it, and the answer is what the wire then told
+  -- the answer came over a wire: its request was written and nothing after it, and the answer is what then came over the wire
   abbrev pub ComesOver : Question → W → Answer BodyValue → Type 0
   ComesOver question given answer =
       (asked : W) × (left : W)
@@ -143,12 +144,12 @@ module _ {W : Type 0} (wires : Wires W) where
   abbrev pub IsSilent : (OriginText → W → Type 0) → Question → Type 0
   IsSilent stands question = (given : W) × stands (origin_of question.at) given × IsSilentOn question given
 
-  -- over a wire the request was written and nothing behind it, and its response was read to its last byte, with none behind it, and leaves the connection usable
+  -- over a wire the request was written and nothing after it, and its response was read to its last byte, with none after it, and leaves the connection usable
   abbrev pub LeavesUsable : Question → W → W → Type 0
   LeavesUsable question given left =
       (asked : W) × IsAsked question given asked × Keeps (wires.outgoing asked) (wires.outgoing left) × Reusable question.limits (wires.incoming asked) (wires.incoming left) true
 
--- the same with what makes the connections, where these are the limits of a response
+-- the same with what makes the connections, if these are the limits of a response
 module _ {C W : Type 0} (connects : Connects C W) (wires : Wires W) (limits : Limited) where
   -- a wire is a connection to this origin that a question left usable, kept since
   abbrev pub IsKeptAfter : Question → OriginText → W → Type 0
@@ -156,7 +157,7 @@ module _ {C W : Type 0} (connects : Connects C W) (wires : Wires W) (limits : Li
       (of ≡ origin_of question.at) × (question.keeps ≡ true)
       × (given : W) × (left : W) × LeavesUsable wires question given left × connects.again left wire
 
-  -- a connection that stands behind a question stood before it, or was kept by it
+  -- a connection that is kept after a question was kept before it, or was kept by it
   abbrev pub StandsBy : Fetching C → Fetching C → AddressText → Type 0
   StandsBy old new at =
       (of : OriginText) (wire : W) → connects.stands new.connect of wire
@@ -168,7 +169,7 @@ module _ {C W : Type 0} (connects : Connects C W) (wires : Wires W) (limits : Li
       (of : OriginText) (wire : W) → connects.stands new.connect of wire
       → connects.stands old.connect of wire ⊎ ((at : AddressText) × IsKeptAfter (question_of limits old at) of wire)
 
-  -- an answer comes over a connection that was kept, and no other is asked for: it isn't that of a server that had given up waiting
+  -- an answer comes over a connection that was kept, and no other is requested: it isn't that of a server that had given up waiting
   abbrev pub IsToldAgain : Fetching C → Fetching C → AddressText → Answer BodyValue → Type 0
   IsToldAgain old new at answer =
       (connects.made new.connect ≡ connects.made old.connect)
@@ -189,7 +190,7 @@ module _ {C W : Type 0} (connects : Connects C W) (wires : Wires W) (limits : Li
       IsUnmade (connects.refused old.connect) (connects.refused new.connect) answer
       ⊎ IsToldByWire wires (connects.gives old.connect) (question_of limits old at) answer
 
-  -- an answer comes over a connection that was kept, and no other is asked for; or one more is asked for, once, and before it
+  -- an answer comes over a connection that was kept, and no other is requested; or one more is requested, once, and before it
   -- none was taken, or one over which no byte came, or the answer of a server that had given up waiting
   abbrev pub IsToldByTries : Fetching C → Fetching C → AddressText → Answer BodyValue → Type 0
   IsToldByTries old new at answer =

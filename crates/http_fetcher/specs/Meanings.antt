@@ -1,5 +1,5 @@
 -- What a site may answer that is asked over connections.
-use Rattle.std.specs.Prelude.{◌≡◌, ◌⊎◌, ℕ, Bool, List, ◌++◌, Some, codes}
+use Rattle.std.specs.Prelude.{◌≡◌, ◌⊎◌, ℕ, List, ◌++◌, Some, codes}
 use Rattle.address.specs.Address.{AddressText, OriginText}
 use Rattle.robots_rules.specs.Access.{RuleSetValue}
 use Rattle.response_reader.specs.Limits.{Limited, standard}
@@ -14,6 +14,7 @@ use Rattle.response_answer.specs.KindsOfFaults.{kind_of_fault}
 use Rattle.answer_notes.specs.RobotsAnswers.{max_redirects}
 use Rattle.http_fetcher.specs.Chains.{IsChain}
 use Rattle.http_fetcher.specs.Fetching.{IsDigestOf}
+use Rattle.html_links.specs.declared.rules.LinkRules.{LinkRules}
 
 -- the answer is this fault, without a body
 abbrev pub IsNoResponse : FaultKind → Outcome → BodyValue → Type 0
@@ -24,19 +25,19 @@ abbrev pub IsUnread : Limited → Outcome → BodyValue → List ℕ → Type 0
 IsUnread limits x body bytes =
     (fault : ReadFault) × (kind : FaultKind) × (kind_of_fault fault ≡ Some kind) × IsReadFault limits fault bytes × IsNoResponse kind x body
 
--- what a site may answer for an address within these limits, where robots rules are honoured or not: what the response that begins some bytes answers,
+-- what a site may answer for an address within these limits, if these links of pages are taken: what the response that begins some bytes answers,
 -- or the fault of such bytes; or no connection was made, or the request wasn't written
-abbrev pub MayAnswerWithin : Limited → Bool → AddressText → Outcome → BodyValue → Type 0
-MayAnswerWithin limits robots at x body =
-    ((bytes : List ℕ) × IsDigestOf limits robots at x body bytes)
+abbrev pub MayAnswerWithin : Limited → LinkRules → AddressText → Outcome → BodyValue → Type 0
+MayAnswerWithin limits links at x body =
+    ((bytes : List ℕ) × IsDigestOf limits links at x body bytes)
     ⊎ ((bytes : List ℕ) × IsUnread limits x body bytes)
     ⊎ IsNoResponse kind.Connect x body
     ⊎ IsNoResponse kind.Device x body
 
 -- the same within the usual limits
-abbrev pub MayAnswer : Bool → AddressText → Outcome → BodyValue → Type 0
-MayAnswer robots at x body = MayAnswerWithin standard robots at x body
+abbrev pub MayAnswer : LinkRules → AddressText → Outcome → BodyValue → Type 0
+MayAnswer links at x body = MayAnswerWithin standard links at x body
 
 -- which rules an origin may have: those at the end of a chain of such answers, which begins at its robots file (RFC 9309, section 2.3.1)
-abbrev pub MayRule : Bool → OriginText → RuleSetValue → Type 0
-MayRule robots of rules = IsChain (MayAnswer robots) max_redirects (of ++ codes "/robots.txt") rules
+abbrev pub MayRule : LinkRules → OriginText → RuleSetValue → Type 0
+MayRule links of rules = IsChain (MayAnswer links) max_redirects (of ++ codes "/robots.txt") rules

@@ -1,5 +1,5 @@
 -- What a recording fetcher notes of its asks: what is noted says the answer given.
-use Rattle.std.specs.Prelude.{◌≡◌, Bool, List, [], ◌∷◌, ◌++◌}
+use Rattle.std.specs.Prelude.{◌≡◌, List, [], ◌∷◌, ◌++◌}
 use Rattle.address.specs.Address.{AddressText, OriginText}
 use Rattle.robots_rules.specs.Access.{RuleSetValue}
 use Rattle.kept_bodies.specs.Bodies.{BodyValue}
@@ -9,13 +9,14 @@ use Rattle.answer_notes.specs.HopChains.{HopValue, rules_of_hops}
 use Rattle.answer_notes.specs.declared.told.Told.{Told}
 use Rattle.answer_notes.specs.declared.noted.Noted.{Noted}
 use Rattle.answer_notes.specs.declared.noted.Noted.TheVariants.{Page, Chain}
+use Rattle.html_links.specs.declared.rules.LinkRules.{LinkRules}
 
--- one note more stands there, of this address, and says this answer
-abbrev pub NotesPage : Bool → AddressText → Answer BodyValue → List Noted → List Noted → Type 0
-NotesPage robots at answer old new =
-    (told : Told) × (new ≡ old ++ Page at told ∷ []) × (answer.outcome ≡ outcome_told robots at told) × (answer.body ≡ body_told told)
+-- there is one more note, of this address, and it says this answer
+abbrev pub NotesPage : LinkRules → AddressText → Answer BodyValue → List Noted → List Noted → Type 0
+NotesPage links at answer old new =
+    (told : Told) × (new ≡ old ++ Page at told ∷ []) × (answer.outcome ≡ outcome_told links at told) × (answer.body ≡ body_told told)
 
--- one note more stands there, of this origin, and says these rules
+-- there is one more note, of this origin, and it says these rules
 abbrev pub NotesChain : OriginText → RuleSetValue → List Noted → List Noted → Type 0
 NotesChain of rules old new =
     (hops : List HopValue) × (new ≡ old ++ Chain (record { of = of; hops = hops }) ∷ []) × (rules ≡ rules_of_hops hops)

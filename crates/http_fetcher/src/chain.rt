@@ -1,4 +1,4 @@
-//! What one answer of a robots file says: where it leads, or which rules these are (RFC 9309, section 2.3.1).
+//! What one answer of a robots file says: a redirect to follow, or which rules these are (RFC 9309, section 2.3.1).
 ghost use Rattle.std.specs.Prelude.{◌≡◌, IfOk};
 ghost use Rattle.http_fetcher.specs.inner.Chains.{IsHopTold};
 
@@ -16,7 +16,7 @@ pub(crate) enum Hop {
     Last(RuleSet),
 }
 
-/// What was told of an address says, where so many redirects may still be followed. The error is want of memory.
+/// What the answer of an address says if this many redirects may still be followed. Fails only if memory runs out.
 pub(crate) fn read_hop(
     alloc: Global,
     at: &Address,

@@ -1,5 +1,6 @@
 //! A fetcher that asks over connections, a new one for each question or one that served before (RFC 9112, sections 9.3 and 9.6).
-ghost use Rattle.std.specs.Prelude.{◌≡◌, ◌⊎◌, ◌≤◌, ◌+◌, ℕ, Bool, List, [], ◌∷◌, ◌++◌, true, false, length, IsTrue, Err, None, Some, IfOk, IfSome, IfNone, OnOk, OnErr, MatchBool, codes};
+ghost use Rattle.std.specs.Prelude.{◌≡◌, ◌⊎◌, ◌≤◌, ◌+◌, ℕ, List, [], ◌∷◌, ◌++◌, true, false, length, IsTrue, Err, None, Some, IfOk, IfSome, IfNone, OnOk, OnErr, MatchBool, codes};
+ghost use Rattle.html_links.specs.declared.rules.LinkRules.{LinkRules};
 ghost use Rattle.std.specs.Io.KnownBytes.{Appends, IsAtEnd, Keeps};
 ghost use Rattle.response_reader.specs.Wire.{counted, HasRisen, OfBytes, IsLostInTime};
 ghost use Rattle.response_reader.specs.Limits.{limited, standard};
@@ -27,6 +28,7 @@ use address::{Address, Origin};
 use answer_notes::{Given, Hops, MAX_REDIRECTS, Noted, Recording, Telling, Told};
 use connect::{Connect, ConnectFault};
 use fetcher::{Answer, Ask, Body, FaultKind, Fetcher, Outcome};
+use html_links::LinkRules;
 use kept_bodies::Keeper;
 use requests::{SendFault, Sending};
 use response_answer::{PageSink, kind_of_fault};
@@ -39,12 +41,12 @@ use std::alloc::{AllocError, Global};
 use std::marker::Model;
 
 /// Asks a site over connections: a new one for each page and for each hop of a robots file, or one that served before and was
-/// kept. What such a site tells is unknown, so an answer is what some bytes say, or that none came, and rules stand at the end
+/// kept. What such a site sends is unknown, so an answer is what some bytes say, or that none came, and rules are at the end
 /// of a chain of such answers.
 pub struct HttpFetcher<C: Connect> {
     alloc: Global,
     connect: C,
-    robots: bool,
+    links: LinkRules,
     keeps: bool,
     // What is sent in place of the usual fields.
     sends: Option<Sending>,
@@ -55,13 +57,13 @@ pub struct HttpFetcher<C: Connect> {
     room: Room,
 }
 
-// By hand: who drops one proves a call, and nothing of what it holds.
+// Written by hand: a user that drops one proves a call, and nothing about its fields.
 impl<C: Connect> Drop for HttpFetcher<C> {
     fn drop(self) {
         let HttpFetcher {
             alloc: _alloc,
             connect: _connect,
-            robots: _robots,
+            links: _links,
             keeps: _keeps,
             sends: _sends,
             asks: _asks,
@@ -77,15 +79,15 @@ impl<C: Connect> Model for HttpFetcher<C> {
 
     ghost Value = { Fetching C };
 
-    ghost view = { λ f. record { connect = f.connect; robots = f.robots; keeps = f.keeps; sends = f.sends; asks = f.asks.items; is_recording = f.is_recording; notes = f.notes.items } };
+    ghost view = { λ f. record { connect = f.connect; links = f.links; keeps = f.keeps; sends = f.sends; asks = f.asks.items; is_recording = f.is_recording; notes = f.notes.items } };
 }
 
 /// The status of a server that had given up waiting for the request (RFC 9110, section 15.5.9).
 const REQUEST_TIMEOUT: u16 = 408;
 
-// Whether it was told that the server had given up waiting for the request.
+// Whether the server reported that it had given up waiting for the request.
 fn has_given_up(told: &Told) -> bool
-    ensures { (robots : Bool) (at : AddressText) → result ≡ is_given_up (outcome_told robots at told.now) }
+    ensures { (links : LinkRules) (at : AddressText) → result ≡ is_given_up (outcome_told links at told.now) }
 {
     match told {
         Told::Whole(given) => given.response().status == REQUEST_TIMEOUT,
@@ -103,7 +105,7 @@ fn says_given_up(outcome: &Outcome) -> bool
     }
 }
 
-/// What was told over a wire, and whether its connection serves again.
+/// What was received over a wire, and whether its connection can be used again.
 #[derive(Drop)]
 struct Heard {
     told: Told,
@@ -122,11 +124,11 @@ fn unwritten() -> Heard
 }
 
 impl<C: Connect> HttpFetcher<C> {
-    /// Asks over these connections. Where robots rules are honoured, a page that asks that its links
-    /// aren't followed has no edges. Takes no memory; later growth comes from `alloc`.
-    pub fn new(alloc: Global, connect: C, robots: bool) -> HttpFetcher<C>
+    /// Asks over these connections. Of the links of pages those are edges that `links` takes. Takes no memory; later growth comes from
+    /// `alloc`.
+    pub fn new(alloc: Global, connect: C, links: LinkRules) -> HttpFetcher<C>
         ensures connect { result.connect ≡ connect }
-        ensures robots { result.robots ≡ robots }
+        ensures links { result.links ≡ links }
         ensures keeps { result.keeps ≡ false }
         ensures sends { result.sends ≡ None }
         ensures asks { result.asks ≡ [] }
@@ -136,7 +138,7 @@ impl<C: Connect> HttpFetcher<C> {
         HttpFetcher {
             alloc,
             connect,
-            robots,
+            links,
             keeps: false,
             sends: None,
             asks: Vec::new(alloc),
@@ -147,9 +149,9 @@ impl<C: Connect> HttpFetcher<C> {
     }
 
     /// The same, with a note of each ask that succeeds.
-    pub fn recording(alloc: Global, connect: C, robots: bool) -> HttpFetcher<C>
+    pub fn recording(alloc: Global, connect: C, links: LinkRules) -> HttpFetcher<C>
         ensures connect { result.connect ≡ connect }
-        ensures robots { result.robots ≡ robots }
+        ensures links { result.links ≡ links }
         ensures keeps { result.keeps ≡ false }
         ensures sends { result.sends ≡ None }
         ensures asks { result.asks ≡ [] }
@@ -159,7 +161,7 @@ impl<C: Connect> HttpFetcher<C> {
         HttpFetcher {
             alloc,
             connect,
-            robots,
+            links,
             keeps: false,
             sends: None,
             asks: Vec::new(alloc),
@@ -174,7 +176,7 @@ impl<C: Connect> HttpFetcher<C> {
     /// (RFC 9110, section 15.5.9), the question is asked once more over a new one, so a server may see it twice.
     pub fn keeping(self) -> HttpFetcher<C>
         ensures connect { result.connect ≡ self.connect }
-        ensures robots { result.robots ≡ self.robots }
+        ensures links { result.links ≡ self.links }
         ensures keeps { result.keeps ≡ true }
         ensures sends { result.sends ≡ self.sends }
         ensures asks { result.asks ≡ self.asks }
@@ -184,7 +186,7 @@ impl<C: Connect> HttpFetcher<C> {
         let HttpFetcher {
             alloc,
             connect,
-            robots,
+            links,
             sends,
             asks,
             is_recording,
@@ -195,7 +197,7 @@ impl<C: Connect> HttpFetcher<C> {
         HttpFetcher {
             alloc,
             connect,
-            robots,
+            links,
             keeps: true,
             sends,
             asks,
@@ -208,7 +210,7 @@ impl<C: Connect> HttpFetcher<C> {
     /// The same fetcher, which sends this in place of the usual fields.
     pub fn sending(self, sends: Sending) -> HttpFetcher<C>
         ensures connect { result.connect ≡ self.connect }
-        ensures robots { result.robots ≡ self.robots }
+        ensures links { result.links ≡ self.links }
         ensures keeps { result.keeps ≡ self.keeps }
         ensures sends { result.sends ≡ Some sends }
         ensures asks { result.asks ≡ self.asks }
@@ -218,7 +220,7 @@ impl<C: Connect> HttpFetcher<C> {
         let HttpFetcher {
             alloc,
             connect,
-            robots,
+            links,
             keeps,
             asks,
             is_recording,
@@ -229,7 +231,7 @@ impl<C: Connect> HttpFetcher<C> {
         HttpFetcher {
             alloc,
             connect,
-            robots,
+            links,
             keeps,
             sends: Some(sends),
             asks,
@@ -253,11 +255,11 @@ impl<C: Connect> HttpFetcher<C> {
         &self.connect
     }
 
-    // What a wire tells, once the request was written, whatever it was for. The error is want of memory.
+    // What comes over a wire once the request was written, whatever it was for. Fails only if memory runs out.
     fn read_told(&mut self, wire: &mut C::Wire) -> Result<Heard, AllocError>
         ensures same { self.new ≡ self.old }
         ensures told { (at : AddressText) → IfOk result (λ h. OfBytes (C.Wire.incoming wire.old)
-            (AnswersBytes (question_of standard self.old at) (C.Wire.failed wire.old) (C.Wire.failed wire.new) (answer_told self.old.robots at h.told))) }
+            (AnswersBytes (question_of standard self.old at) (C.Wire.failed wire.old) (C.Wire.failed wire.new) (answer_told self.old.links at h.told))) }
         ensures serves { IfOk result (λ h. IsTrue h.serves → Reusable standard (C.Wire.incoming wire.old) (C.Wire.incoming wire.new) true) }
         ensures written { Keeps (C.Wire.outgoing wire.old) (C.Wire.outgoing wire.new) }
     {
@@ -270,7 +272,7 @@ impl<C: Connect> HttpFetcher<C> {
         }
     }
 
-    // What a fault tells, in which no response was read. The error is want of memory.
+    // What a fault means, by which no response was read. Fails only if memory runs out.
     fn unread(&self, fault: ReadFault) -> Result<Heard, AllocError>
         ensures told { IfOk result (λ h. (kind : FaultKind) × (kind_of_fault fault ≡ Some kind) × (h.told ≡ told.Fault kind)) }
         ensures serves { IfOk result (λ h. h.serves ≡ false) }
@@ -284,13 +286,13 @@ impl<C: Connect> HttpFetcher<C> {
         }
     }
 
-    // What a wire tells that served before: none where no byte came. The error is want of memory.
+    // What comes over a wire that served before: none if no byte came. Fails only if memory runs out.
     fn read_again(&mut self, wire: &mut C::Wire) -> Result<Option<Heard>, AllocError>
         ensures same { self.new ≡ self.old }
         ensures silent { IfOk result (λ o. IfNone o (Keeps (C.Wire.incoming wire.old) (C.Wire.incoming wire.new)
             × (IsAtEnd (C.Wire.incoming wire.old) ⊎ IsLostInTime (C.Wire.failed wire.old) (C.Wire.failed wire.new) (C.Wire.timed_out wire.new)))) }
         ensures told { (at : AddressText) → IfOk result (λ o. IfSome o (λ h. OfBytes (C.Wire.incoming wire.old)
-            (AnswersBytes (question_of standard self.old at) (C.Wire.failed wire.old) (C.Wire.failed wire.new) (answer_told self.old.robots at h.told)))) }
+            (AnswersBytes (question_of standard self.old at) (C.Wire.failed wire.old) (C.Wire.failed wire.new) (answer_told self.old.links at h.told)))) }
         ensures serves { IfOk result (λ o. IfSome o (λ h. IsTrue h.serves → Reusable standard (C.Wire.incoming wire.old) (C.Wire.incoming wire.new) true)) }
         ensures written { Keeps (C.Wire.outgoing wire.old) (C.Wire.outgoing wire.new) }
     {
@@ -336,12 +338,12 @@ impl<C: Connect> HttpFetcher<C> {
         }
     }
 
-    // What is told over a new wire. The error is want of memory.
+    // What is received over a new wire. Fails only if memory runs out.
     fn told_over(&mut self, wire: &mut C::Wire, at: &Address) -> Result<Heard, AllocError>
         ensures same { self.new ≡ self.old }
-        ensures told { IfOk result (λ h. ComesOver C.Wire.Wire (question_of standard self.old at.now) wire.old (answer_told self.old.robots at.now h.told)) }
+        ensures told { IfOk result (λ h. ComesOver C.Wire.Wire (question_of standard self.old at.now) wire.old (answer_told self.old.links at.now h.told)) }
         ensures serves { IfOk result (λ h. IsTrue h.serves → LeavesUsable C.Wire.Wire (question_of standard self.old at.now) wire.old wire.new) }
-        // Nothing is written behind the request, and nothing at all if memory runs out for it.
+        // Nothing is written after the request, and nothing at all if memory runs out for it.
         ensures sent { OnOk result (Appends (C.Wire.outgoing wire.old) (C.Wire.outgoing wire.new) (request_by self.old.sends self.old.keeps at.now)
             ⊎ HasRisen (C.Wire.failed wire.old) (C.Wire.failed wire.new)) }
         ensures unsent { OnErr result (Appends (C.Wire.outgoing wire.old) (C.Wire.outgoing wire.new) (request_by self.old.sends self.old.keeps at.now)
@@ -354,11 +356,11 @@ impl<C: Connect> HttpFetcher<C> {
         }
     }
 
-    // What is told over a wire that served before: none where no byte came. The error is want of memory.
+    // What is received over a wire that served before: none if no byte came. Fails only if memory runs out.
     fn told_again(&mut self, wire: &mut C::Wire, at: &Address) -> Result<Option<Heard>, AllocError>
         ensures same { self.new ≡ self.old }
         ensures silent { IfOk result (λ o. IfNone o (IsUnansweredOn C.Wire.Wire (question_of standard self.old at.now) wire.old)) }
-        ensures told { IfOk result (λ o. IfSome o (λ h. ComesOver C.Wire.Wire (question_of standard self.old at.now) wire.old (answer_told self.old.robots at.now h.told))) }
+        ensures told { IfOk result (λ o. IfSome o (λ h. ComesOver C.Wire.Wire (question_of standard self.old at.now) wire.old (answer_told self.old.links at.now h.told))) }
         ensures serves { IfOk result (λ o. IfSome o (λ h. IsTrue h.serves → LeavesUsable C.Wire.Wire (question_of standard self.old at.now) wire.old wire.new)) }
     {
         match self.write(wire, at) {
@@ -376,7 +378,7 @@ impl<C: Connect> HttpFetcher<C> {
     // Keeps a connection that serves again, and ends another.
     fn put_away(&mut self, of: &Origin, wire: C::Wire, serves: bool)
         ensures asks { self.new.asks ≡ self.old.asks }
-        ensures robots { self.new.robots ≡ self.old.robots }
+        ensures links { self.new.links ≡ self.old.links }
         ensures keeps { self.new.keeps ≡ self.old.keeps }
         ensures sends { self.new.sends ≡ self.old.sends }
         ensures is_recording { self.new.is_recording ≡ self.old.is_recording }
@@ -394,11 +396,11 @@ impl<C: Connect> HttpFetcher<C> {
         }
     }
 
-    // Asks one question over one new connection. The error is want of memory.
+    // Asks one question over one new connection. Fails only if memory runs out.
     fn ask_anew(&mut self, origin: &Origin, at: &Address) -> Result<Told, AllocError>
         requires { origin.now ≡ origin_of at.now }
         ensures asks { self.new.asks ≡ self.old.asks }
-        ensures robots { self.new.robots ≡ self.old.robots }
+        ensures links { self.new.links ≡ self.old.links }
         ensures keeps { self.new.keeps ≡ self.old.keeps }
         ensures sends { self.new.sends ≡ self.old.sends }
         ensures is_recording { self.new.is_recording ≡ self.old.is_recording }
@@ -406,7 +408,7 @@ impl<C: Connect> HttpFetcher<C> {
         ensures one { OnOk result (C.made self.new.connect ≡ counted (C.made self.old.connect) 1) }
         ensures most { C.made self.new.connect ≤ C.made self.old.connect + 1 }
         ensures taken { C.taken self.new.connect ≡ C.taken self.old.connect }
-        ensures told { IfOk result (λ t. IsToldAnew C.Connect C.Wire.Wire standard self.old self.new at.now (answer_told self.old.robots at.now t)) }
+        ensures told { IfOk result (λ t. IsToldAnew C.Connect C.Wire.Wire standard self.old self.new at.now (answer_told self.old.links at.now t)) }
         ensures stands { StandsBy C.Connect C.Wire.Wire standard self.old self.new at.now }
     {
         match self.connect.connect(origin) {
@@ -425,12 +427,12 @@ impl<C: Connect> HttpFetcher<C> {
         }
     }
 
-    // Asks it over a connection that was kept: none where there was none, no byte came over it, or its server had given up waiting.
-    // The error is want of memory.
+    // Asks it over a connection that was kept: none if there was none, no byte came over it, or its server had given up waiting.
+    // Fails only if memory runs out.
     fn ask_again(&mut self, origin: &Origin, at: &Address) -> Result<Option<Told>, AllocError>
         requires { origin.now ≡ origin_of at.now }
         ensures asks { self.new.asks ≡ self.old.asks }
-        ensures robots { self.new.robots ≡ self.old.robots }
+        ensures links { self.new.links ≡ self.old.links }
         ensures keeps { self.new.keeps ≡ self.old.keeps }
         ensures sends { self.new.sends ≡ self.old.sends }
         ensures is_recording { self.new.is_recording ≡ self.old.is_recording }
@@ -439,7 +441,7 @@ impl<C: Connect> HttpFetcher<C> {
         ensures refused { C.refused self.new.connect ≡ C.refused self.old.connect }
         ensures gives { IfOk result (λ o. IfNone o (Stays (C.gives self.old.connect) (C.gives self.new.connect))) }
         ensures silent { IfOk result (λ o. IfNone o (IsUntold C.Connect C.Wire.Wire standard self.old self.new at.now)) }
-        ensures told { IfOk result (λ o. IfSome o (λ t. IsToldAgain C.Connect C.Wire.Wire standard self.old self.new at.now (answer_told self.old.robots at.now t))) }
+        ensures told { IfOk result (λ o. IfSome o (λ t. IsToldAgain C.Connect C.Wire.Wire standard self.old self.new at.now (answer_told self.old.links at.now t))) }
         ensures stands { StandsBy C.Connect C.Wire.Wire standard self.old self.new at.now }
     {
         if !self.keeps {
@@ -468,17 +470,17 @@ impl<C: Connect> HttpFetcher<C> {
         }
     }
 
-    // Asks one question, over a connection that was kept or else one new one. The error is want of memory.
+    // Asks one question, over a connection that was kept or else one new one. Fails only if memory runs out.
     fn exchange(&mut self, at: &Address) -> Result<Told, AllocError>
         ensures asks { self.new.asks ≡ self.old.asks }
-        ensures robots { self.new.robots ≡ self.old.robots }
+        ensures links { self.new.links ≡ self.old.links }
         ensures keeps { self.new.keeps ≡ self.old.keeps }
         ensures sends { self.new.sends ≡ self.old.sends }
         ensures is_recording { self.new.is_recording ≡ self.old.is_recording }
         ensures notes { self.new.notes ≡ self.old.notes }
         ensures one { self.old.keeps ≡ false → OnOk result (C.made self.new.connect ≡ counted (C.made self.old.connect) 1) }
         ensures most { C.made self.new.connect ≤ C.made self.old.connect + 1 }
-        ensures told { IfOk result (λ t. IsToldByTries C.Connect C.Wire.Wire standard self.old self.new at.now (answer_told self.old.robots at.now t)) }
+        ensures told { IfOk result (λ t. IsToldByTries C.Connect C.Wire.Wire standard self.old self.new at.now (answer_told self.old.links at.now t)) }
         ensures stands { StandsBy C.Connect C.Wire.Wire standard self.old self.new at.now }
     {
         let origin = Origin::of(at)?;
@@ -488,10 +490,10 @@ impl<C: Connect> HttpFetcher<C> {
         }
     }
 
-    // Asks for a page. The error is want of memory.
+    // Requests a page. Fails only if memory runs out.
     fn ask_page(&mut self, at: &Address) -> Result<Answer<Body>, AllocError>
         ensures asks { self.new.asks ≡ self.old.asks }
-        ensures robots { self.new.robots ≡ self.old.robots }
+        ensures links { self.new.links ≡ self.old.links }
         ensures keeps { self.new.keeps ≡ self.old.keeps }
         ensures sends { self.new.sends ≡ self.old.sends }
         ensures is_recording { self.new.is_recording ≡ self.old.is_recording }
@@ -502,14 +504,14 @@ impl<C: Connect> HttpFetcher<C> {
         ensures stands { StandsBy C.Connect C.Wire.Wire standard self.old self.new at.now }
     {
         let told = self.exchange(at)?;
-        let answer = told.into_answer(self.alloc, at, self.robots)?;
+        let answer = told.into_answer(self.alloc, at, self.links)?;
         Ok(answer)
     }
 
-    // Asks for a page, and notes what was told of it. The error is want of memory; then nothing is noted.
+    // Requests a page, and notes what was received. Fails only if memory runs out; then nothing is noted.
     fn ask_and_note(&mut self, at: &Address) -> Result<Answer<Body>, AllocError>
         ensures asks { self.new.asks ≡ self.old.asks }
-        ensures robots { self.new.robots ≡ self.old.robots }
+        ensures links { self.new.links ≡ self.old.links }
         ensures keeps { self.new.keeps ≡ self.old.keeps }
         ensures sends { self.new.sends ≡ self.old.sends }
         ensures is_recording { self.new.is_recording ≡ self.old.is_recording }
@@ -517,21 +519,21 @@ impl<C: Connect> HttpFetcher<C> {
         ensures most { C.made self.new.connect ≤ C.made self.old.connect + 1 }
         ensures told { IfOk result (IsToldByTries C.Connect C.Wire.Wire standard self.old self.new at.now) }
         ensures stands { StandsBy C.Connect C.Wire.Wire standard self.old self.new at.now }
-        ensures noted { IfOk result (λ a. NotesPage self.old.robots at.now a self.old.notes self.new.notes) }
+        ensures noted { IfOk result (λ a. NotesPage self.old.links at.now a self.old.notes self.new.notes) }
         ensures unnoted { OnErr result (self.new.notes ≡ self.old.notes) }
     {
         let name = at.try_clone()?;
         let told = self.exchange(at)?;
-        let answer = told.answer(self.alloc, at, self.robots)?;
+        let answer = told.answer(self.alloc, at, self.links)?;
         self.notes.push(Noted::Page(name, told))?;
         Ok(answer)
     }
 
-    // What was told of an origin's robots file and of the redirects behind it, and the rules at the end. The error is want of
-    // memory.
+    // What was received for an origin's robots file and for the redirects after it, and the rules at the end. Fails only if memory
+    // runs out.
     fn follow(&mut self, of: &Origin) -> Result<(Hops, RuleSet), AllocError>
         ensures asks { self.new.asks ≡ self.old.asks }
-        ensures robots { self.new.robots ≡ self.old.robots }
+        ensures links { self.new.links ≡ self.old.links }
         ensures keeps { self.new.keeps ≡ self.old.keeps }
         ensures sends { self.new.sends ≡ self.old.sends }
         ensures is_recording { self.new.is_recording ≡ self.old.is_recording }
@@ -565,10 +567,10 @@ impl<C: Connect> HttpFetcher<C> {
         }
     }
 
-    // Asks for an origin's rules, and notes what was told. The error is want of memory; then nothing is noted.
+    // Requests an origin's rules, and notes what was received. Fails only if memory runs out; then nothing is noted.
     fn rules_of(&mut self, of: &Origin) -> Result<RuleSet, AllocError>
         ensures asks { self.new.asks ≡ self.old.asks }
-        ensures robots { self.new.robots ≡ self.old.robots }
+        ensures links { self.new.links ≡ self.old.links }
         ensures keeps { self.new.keeps ≡ self.old.keeps }
         ensures sends { self.new.sends ≡ self.old.sends }
         ensures is_recording { self.new.is_recording ≡ self.old.is_recording }
@@ -587,7 +589,7 @@ impl<C: Connect> HttpFetcher<C> {
     }
 }
 
-/// What was told of a page over a wire, whose body a keeper has, and whether its connection serves again.
+/// What was received of a page over a wire, with its body at a keeper, and whether the connection can be used again.
 #[derive(Drop)]
 struct HeardPage<B> {
     answer: Answer<B>,
@@ -596,7 +598,7 @@ struct HeardPage<B> {
 
 // Pages whose bodies go to a keeper while they arrive.
 impl<C: Connect> HttpFetcher<C> {
-    // What a fault tells of a page, of which no response was read. The error is want of memory.
+    // What a fault means for a page, of which no response was read. Fails only if memory runs out.
     fn unread_page<K: Keeper>(
         &self,
         fault: ReadFault,
@@ -614,7 +616,7 @@ impl<C: Connect> HttpFetcher<C> {
         }
     }
 
-    // What a wire tells of a page, once the request was written. The error is want of memory.
+    // What comes over a wire for a page, once the request was written. Fails only if memory runs out.
     fn read_page<K: Keeper>(
         &mut self,
         wire: &mut C::Wire,
@@ -631,14 +633,14 @@ impl<C: Connect> HttpFetcher<C> {
         sink.begin();
         match read_into(self.alloc, wire, sink, limits) {
             Ok(serves) => {
-                let answer = sink.finish(at, self.robots)?;
+                let answer = sink.finish(at, self.links)?;
                 Ok(HeardPage { answer, serves })
             }
             Err(fault) => self.unread_page(fault, sink),
         }
     }
 
-    // What a wire tells of a page that served before: none where no byte came. The error is want of memory.
+    // What comes for a page over a wire that served before: none if no byte came. Fails only if memory runs out.
     fn read_page_again<K: Keeper>(
         &mut self,
         wire: &mut C::Wire,
@@ -657,7 +659,7 @@ impl<C: Connect> HttpFetcher<C> {
         sink.begin();
         match read_if_any(&mut self.room, self.alloc, wire, sink, limits) {
             Ok(Some(serves)) => {
-                let answer = sink.finish(at, self.robots)?;
+                let answer = sink.finish(at, self.links)?;
                 Ok(Some(HeardPage { answer, serves }))
             }
             Ok(None) => Ok(None),
@@ -668,7 +670,7 @@ impl<C: Connect> HttpFetcher<C> {
         }
     }
 
-    // What is told of a page over a wire that served before: none where no byte came. The error is want of memory.
+    // What is received of a page over a wire that served before: none if no byte came. Fails only if memory runs out.
     fn page_again<K: Keeper>(
         &mut self,
         wire: &mut C::Wire,
@@ -697,7 +699,7 @@ impl<C: Connect> HttpFetcher<C> {
         }
     }
 
-    // What is told of a page over a new wire. The error is want of memory.
+    // What is received of a page over a new wire. Fails only if memory runs out.
     fn page_over<K: Keeper>(
         &mut self,
         wire: &mut C::Wire,
@@ -719,7 +721,7 @@ impl<C: Connect> HttpFetcher<C> {
         }
     }
 
-    // Asks for a page over one new connection. The error is want of memory.
+    // Requests a page over one new connection. Fails only if memory runs out.
     fn ask_page_anew<K: Keeper>(
         &mut self,
         origin: &Origin,
@@ -729,7 +731,7 @@ impl<C: Connect> HttpFetcher<C> {
     ) -> Result<Answer<K::Kept>, AllocError>
         requires { origin.now ≡ origin_of at.now }
         ensures asks { self.new.asks ≡ self.old.asks }
-        ensures robots { self.new.robots ≡ self.old.robots }
+        ensures links { self.new.links ≡ self.old.links }
         ensures keeps { self.new.keeps ≡ self.old.keeps }
         ensures sends { self.new.sends ≡ self.old.sends }
         ensures is_recording { self.new.is_recording ≡ self.old.is_recording }
@@ -756,8 +758,8 @@ impl<C: Connect> HttpFetcher<C> {
         }
     }
 
-    // Asks for a page over a connection that was kept: none where there was none, no byte came over it, or its server had given up
-    // waiting. The error is want of memory.
+    // Requests a page over a connection that was kept: none if there was none, no byte came over it, or its server had given up
+    // waiting. Fails only if memory runs out.
     fn ask_page_again<K: Keeper>(
         &mut self,
         origin: &Origin,
@@ -767,7 +769,7 @@ impl<C: Connect> HttpFetcher<C> {
     ) -> Result<Option<Answer<K::Kept>>, AllocError>
         requires { origin.now ≡ origin_of at.now }
         ensures asks { self.new.asks ≡ self.old.asks }
-        ensures robots { self.new.robots ≡ self.old.robots }
+        ensures links { self.new.links ≡ self.old.links }
         ensures keeps { self.new.keeps ≡ self.old.keeps }
         ensures sends { self.new.sends ≡ self.old.sends }
         ensures is_recording { self.new.is_recording ≡ self.old.is_recording }
@@ -805,8 +807,8 @@ impl<C: Connect> HttpFetcher<C> {
         }
     }
 
-    // Asks for a page, over a connection that was kept or else one new one, and hands its body to the sink's keeper as it comes. The
-    // error is want of memory.
+    // Requests a page, over a connection that was kept or else one new one, and hands its body to the sink's keeper as it comes.
+    // Fails only if memory runs out.
     fn exchange_page<K: Keeper>(
         &mut self,
         at: &Address,
@@ -814,7 +816,7 @@ impl<C: Connect> HttpFetcher<C> {
         limits: Limits,
     ) -> Result<Answer<K::Kept>, AllocError>
         ensures asks { self.new.asks ≡ self.old.asks }
-        ensures robots { self.new.robots ≡ self.old.robots }
+        ensures links { self.new.links ≡ self.old.links }
         ensures keeps { self.new.keeps ≡ self.old.keeps }
         ensures sends { self.new.sends ≡ self.old.sends }
         ensures is_recording { self.new.is_recording ≡ self.old.is_recording }
@@ -823,7 +825,7 @@ impl<C: Connect> HttpFetcher<C> {
         ensures most { C.made self.new.connect ≤ C.made self.old.connect + 1 }
         ensures told { IfOk result (λ a. StandsForOne K.holds a (IsToldByTries C.Connect C.Wire.Wire (limited limits) self.old self.new at.now)) }
         ensures stands { StandsBy C.Connect C.Wire.Wire (limited limits) self.old self.new at.now }
-        ensures may { IfOk result (λ a. StandsForOne K.holds a (λ real. MayAnswerWithin (limited limits) self.old.robots at.now real.outcome real.body)) }
+        ensures may { IfOk result (λ a. StandsForOne K.holds a (λ real. MayAnswerWithin (limited limits) self.old.links at.now real.outcome real.body)) }
     {
         let origin = Origin::of(at)?;
         match self.ask_page_again(&origin, at, sink, limits)? {
@@ -832,8 +834,8 @@ impl<C: Connect> HttpFetcher<C> {
         }
     }
 
-    /// Asks for a page as [`Fetcher::ask`] does, but that its body goes to the sink's keeper as it comes, so that it stands nowhere
-    /// else whole, and within these limits. What is answered stands for what the site may answer. Nothing is noted.
+    /// Requests a page as [`Fetcher::ask`] does, except that its body goes to the sink's keeper as it comes, so that it is nowhere
+    /// else whole, and within these limits. The answer represents what the site may answer. Nothing is noted.
     pub fn ask_into<K: Keeper>(
         &mut self,
         at: &Address,
@@ -844,7 +846,7 @@ impl<C: Connect> HttpFetcher<C> {
         ensures refused { OnErr result (GainedAtMost self.old.asks self.new.asks (ask.Page at.now)) }
         // No connection is asked for before the ask is logged.
         ensures first { OnErr result ((C.made self.new.connect ≡ C.made self.old.connect) ⊎ (self.new.asks ≡ self.old.asks ++ ask.Page at.now ∷ [])) }
-        ensures robots { self.new.robots ≡ self.old.robots }
+        ensures links { self.new.links ≡ self.old.links }
         ensures keeps { self.new.keeps ≡ self.old.keeps }
         ensures sends { self.new.sends ≡ self.old.sends }
         // The answer is what came over one connection behind its own request. Where none are kept, one is asked for.
@@ -852,7 +854,7 @@ impl<C: Connect> HttpFetcher<C> {
         ensures most { C.made self.new.connect ≤ C.made self.old.connect + 1 }
         ensures told { IfOk result (λ a. StandsForOne K.holds a (IsToldByTries C.Connect C.Wire.Wire (limited limits) self.old self.new at.now)) }
         ensures stands { StandsBy C.Connect C.Wire.Wire (limited limits) self.old self.new at.now }
-        ensures may { IfOk result (λ a. StandsForOne K.holds a (λ real. MayAnswerWithin (limited limits) self.old.robots at.now real.outcome real.body)) }
+        ensures may { IfOk result (λ a. StandsForOne K.holds a (λ real. MayAnswerWithin (limited limits) self.old.links at.now real.outcome real.body)) }
         ensures is_recording { self.new.is_recording ≡ self.old.is_recording }
         ensures notes { self.new.notes ≡ self.old.notes }
     {
@@ -863,14 +865,14 @@ impl<C: Connect> HttpFetcher<C> {
 }
 
 impl<C: Connect> Fetcher for HttpFetcher<C> {
-    ghost use Rattle.std.specs.Prelude.{Bool};
+    ghost use Rattle.html_links.specs.declared.rules.LinkRules.{LinkRules};
 
     type Body = Body;
 
-    // Of the site it is known alone how its answers come of what it tells, robots rules honoured or not.
-    ghost Site = { Bool };
+    // Of the site only this is known: how its answers come from what it says, by which links of pages are taken.
+    ghost Site = { LinkRules };
 
-    ghost site = { λ f. f.robots };
+    ghost site = { λ f. f.links };
 
     ghost says = { MayAnswer };
 
@@ -883,7 +885,7 @@ impl<C: Connect> Fetcher for HttpFetcher<C> {
         ensures refused { OnErr result (GainedAtMost self.old.asks self.new.asks (ask.Page at.now)) }
         // No connection is asked for before the ask is logged.
         ensures first { OnErr result ((C.made self.new.connect ≡ C.made self.old.connect) ⊎ (self.new.asks ≡ self.old.asks ++ ask.Page at.now ∷ [])) }
-        ensures robots { self.new.robots ≡ self.old.robots }
+        ensures links { self.new.links ≡ self.old.links }
         ensures keeps { self.new.keeps ≡ self.old.keeps }
         ensures sends { self.new.sends ≡ self.old.sends }
         // The answer is what came over one connection behind its own request. Where none are kept, one is asked for.
@@ -891,10 +893,10 @@ impl<C: Connect> Fetcher for HttpFetcher<C> {
         ensures most { C.made self.new.connect ≤ C.made self.old.connect + 1 }
         ensures told { IfOk result (IsToldByTries C.Connect C.Wire.Wire standard self.old self.new at.now) }
         ensures stands { StandsBy C.Connect C.Wire.Wire standard self.old self.new at.now }
-        ensures may { IfOk result (λ a. MayAnswer self.old.robots at.now a.outcome a.body) }
+        ensures may { IfOk result (λ a. MayAnswer self.old.links at.now a.outcome a.body) }
         // A recording fetcher adds one note, which says the answer given.
         ensures is_recording { self.new.is_recording ≡ self.old.is_recording }
-        ensures noted { IfOk result (λ a. MatchBool self.old.is_recording (NotesPage self.old.robots at.now a self.old.notes self.new.notes) (self.new.notes ≡ self.old.notes)) }
+        ensures noted { IfOk result (λ a. MatchBool self.old.is_recording (NotesPage self.old.links at.now a self.old.notes self.new.notes) (self.new.notes ≡ self.old.notes)) }
         ensures unnoted { OnErr result (self.new.notes ≡ self.old.notes) }
     {
         self.asks.push(Ask::Page(at.try_clone()?))?;
@@ -909,7 +911,7 @@ impl<C: Connect> Fetcher for HttpFetcher<C> {
         ensures refused { OnErr result (GainedAtMost self.old.asks self.new.asks (ask.Rules of.now)) }
         // No connection is asked for before the ask is logged.
         ensures first { OnErr result ((C.made self.new.connect ≡ C.made self.old.connect) ⊎ (self.new.asks ≡ self.old.asks ++ ask.Rules of.now ∷ [])) }
-        ensures robots { self.new.robots ≡ self.old.robots }
+        ensures links { self.new.links ≡ self.old.links }
         ensures keeps { self.new.keeps ≡ self.old.keeps }
         ensures sends { self.new.sends ≡ self.old.sends }
         // The rules are those at the end of the chain of redirects that begins at the origin's file, with a connection for each
@@ -918,7 +920,7 @@ impl<C: Connect> Fetcher for HttpFetcher<C> {
         ensures stands { StandsBehind C.Connect C.Wire.Wire standard self.old self.new }
         ensures count { self.old.keeps ≡ false → IfOk result (CountsHops (C.made self.old.connect) (C.made self.new.connect) of.now) }
         ensures chain { IfOk result (IsChain (IsGiven C.Connect C.Wire.Wire standard self.old) max_redirects (of.now ++ codes "/robots.txt")) }
-        ensures may { IfOk result (MayRule self.old.robots of.now) }
+        ensures may { IfOk result (MayRule self.old.links of.now) }
         // A recording fetcher adds one note, which says the rules given.
         ensures is_recording { self.new.is_recording ≡ self.old.is_recording }
         ensures noted { IfOk result (λ r. MatchBool self.old.is_recording (NotesChain of.now r self.old.notes self.new.notes) (self.new.notes ≡ self.old.notes)) }
@@ -934,10 +936,10 @@ impl<C: Connect> Fetcher for HttpFetcher<C> {
 }
 
 impl<C: Connect> Telling for HttpFetcher<C> {
-    ghost honours = { λ f. f.robots };
+    ghost links = { λ f. f.links };
 
-    fn honours_robots(&self) -> bool {
-        self.robots
+    fn link_rules(&self) -> LinkRules {
+        self.links
     }
 
     fn ask_told(&mut self, at: &Address) -> Result<Told, AllocError>
@@ -945,15 +947,15 @@ impl<C: Connect> Telling for HttpFetcher<C> {
         ensures refused { OnErr result (GainedAtMost self.old.asks self.new.asks (ask.Page at.now)) }
         // No connection is asked for before the ask is logged.
         ensures first { OnErr result ((C.made self.new.connect ≡ C.made self.old.connect) ⊎ (self.new.asks ≡ self.old.asks ++ ask.Page at.now ∷ [])) }
-        ensures honours { self.new.robots ≡ self.old.robots }
+        ensures links { self.new.links ≡ self.old.links }
         ensures keeps { self.new.keeps ≡ self.old.keeps }
         ensures sends { self.new.sends ≡ self.old.sends }
-        // What is told came over one connection behind its own request. Where none are kept, one is asked for. Nothing is noted.
+        // The result is what came over one connection after its own request. If none are kept, one is requested. Nothing is noted.
         ensures one { self.old.keeps ≡ false → OnOk result (C.made self.new.connect ≡ counted (C.made self.old.connect) 1) }
         ensures most { C.made self.new.connect ≤ C.made self.old.connect + 1 }
-        ensures told { IfOk result (λ t. IsToldByTries C.Connect C.Wire.Wire standard self.old self.new at.now (answer_told self.old.robots at.now t)) }
+        ensures told { IfOk result (λ t. IsToldByTries C.Connect C.Wire.Wire standard self.old self.new at.now (answer_told self.old.links at.now t)) }
         ensures stands { StandsBy C.Connect C.Wire.Wire standard self.old self.new at.now }
-        ensures may { IfOk result (λ t. MayAnswer self.old.robots at.now (outcome_told self.old.robots at.now t) (body_told t)) }
+        ensures may { IfOk result (λ t. MayAnswer self.old.links at.now (outcome_told self.old.links at.now t) (body_told t)) }
         ensures is_recording { self.new.is_recording ≡ self.old.is_recording }
         ensures notes { self.new.notes ≡ self.old.notes }
     {
@@ -967,7 +969,7 @@ impl<C: Connect> Telling for HttpFetcher<C> {
         ensures refused { OnErr result (GainedAtMost self.old.asks self.new.asks (ask.Rules of.now)) }
         // No connection is asked for before the ask is logged.
         ensures first { OnErr result ((C.made self.new.connect ≡ C.made self.old.connect) ⊎ (self.new.asks ≡ self.old.asks ++ ask.Rules of.now ∷ [])) }
-        ensures honours { self.new.robots ≡ self.old.robots }
+        ensures links { self.new.links ≡ self.old.links }
         ensures keeps { self.new.keeps ≡ self.old.keeps }
         ensures sends { self.new.sends ≡ self.old.sends }
         // The rules are those at the end of the chain of redirects that begins at the origin's file. Nothing is noted.
@@ -976,7 +978,7 @@ impl<C: Connect> Telling for HttpFetcher<C> {
         ensures stands { StandsBehind C.Connect C.Wire.Wire standard self.old self.new }
         ensures count { self.old.keeps ≡ false → IfOk result (λ found. C.made self.new.connect ≡ counted (C.made self.old.connect) (length found.hops)) }
         ensures chain { IfOk result (λ found. IsChain (IsGiven C.Connect C.Wire.Wire standard self.old) max_redirects (of.now ++ codes "/robots.txt") (rules_of_hops found.hops)) }
-        ensures may { IfOk result (λ found. MayRule self.old.robots of.now (rules_of_hops found.hops)) }
+        ensures may { IfOk result (λ found. MayRule self.old.links of.now (rules_of_hops found.hops)) }
         ensures is_recording { self.new.is_recording ≡ self.old.is_recording }
         ensures notes { self.new.notes ≡ self.old.notes }
     {

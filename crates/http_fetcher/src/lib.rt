@@ -1,6 +1,6 @@
 //! Sites that are asked over connections. It opens none itself: who hands in a `Connect` does. The meaning is written in
-//! `specs/`: `Fetching` how an answer comes over a connection, `Chains` how the rules of an origin come of its robots file,
-//! `Notes` what is noted of an ask. Its tests stand in `site_tests`.
+//! `specs/`: `Fetching` how an answer comes over a connection, `Chains` how an origin's rules follow from its robots file,
+//! `Notes` what is noted of an ask. Its tests are in `site_tests`.
 #![tactic(auto)]
 
 mod chain;

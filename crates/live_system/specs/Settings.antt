@@ -4,11 +4,12 @@ use Rattle.pacing.specs.Retries.{Retried}
 use Rattle.pacing.specs.declared.manner.Manner.{Manner}
 use Rattle.requests.specs.Proxies.{Proxies}
 use Rattle.requests.specs.Requests.{Sending}
+use Rattle.html_links.specs.declared.rules.LinkRules.{LinkRules}
 
--- whether robots files are honoured and answers are noted, how many connections to a server are kept, the proxies,
+-- which links of pages are taken, whether answers are noted, how many connections to a server are kept, the proxies,
 -- what each request says, how servers are treated, and when a request is made again
 pub record Settings : Type 0 where
-  pub robots : Bool
+  pub links : LinkRules
   pub is_recording : Bool
   pub kept : Option ℕ
   pub proxies : Proxies

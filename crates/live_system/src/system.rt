@@ -5,6 +5,7 @@ ghost use Rattle.live_system.specs.Settings.{Settings};
 use answer_notes::Recording;
 use early_names::EarlyRules;
 use fetcher::Fetcher;
+use html_links::LinkRules;
 use local_tree::{HasKind, Shelf};
 use pacing::{Manner, Retries};
 use requests::{Proxies, Sending};
@@ -26,8 +27,8 @@ pub enum HoldFault {
 /// How a worker's fetcher makes its requests.
 #[derive(Drop)]
 pub struct FetcherSettings {
-    /// Whether robots files are honoured: a page that says that its links aren't to be followed then has none.
-    pub robots: bool,
+    /// Which links of pages are taken.
+    pub links: LinkRules,
     /// Whether answers are noted. If not, no memory is taken for notes.
     pub is_recording: bool,
     /// How many connections to a server are kept at most, if they are kept.
@@ -49,7 +50,7 @@ impl Model for FetcherSettings {
 
     ghost Value = { Settings };
 
-    ghost view = { λ s. record { robots = s.robots; is_recording = s.is_recording; kept = s.kept; proxies = s.proxies; sends = s.sends; manner = s.manner; retries = retries_by s.retries } };
+    ghost view = { λ s. record { links = s.links; is_recording = s.is_recording; kept = s.kept; proxies = s.proxies; sends = s.sends; manner = s.manner; retries = retries_by s.retries } };
 }
 
 /// Makes a live run's fetchers, its folder and its records.
@@ -60,7 +61,7 @@ pub trait System {
     /// What asks the site for one worker.
     type Fetcher: Fetcher<Body = Self::Body> + Send;
 
-    /// What does so and may note what it is told. It keeps bodies in memory.
+    /// What does so and may note what it receives. It keeps bodies in memory.
     type Recorder: Recording + Send;
 
     /// A folder that files are put into.
@@ -72,7 +73,7 @@ pub trait System {
     // The fetchers that may be given for these settings.
     ghost makes: { Self → Settings → Self.Fetcher → Type 0 };
 
-    // The same of those that may note what they are told.
+    // The same of those that may note what they receive.
     ghost makes_recorder: { Self → Settings → Self.Recorder → Type 0 };
 
     // The folders that may be given for a path.
@@ -100,12 +101,12 @@ pub trait System {
     fn recorder(&self, settings: FetcherSettings) -> Result<Self::Recorder, AllocError>
         ensures { IfOk result (λ recorder. makes_recorder self.now settings recorder) };
 
-    /// The folder at a path. Nothing is made there before the first put. The error is that memory is wanting.
+    /// The folder at a path. Nothing is made there before the first put. Fails only if memory runs out.
     fn folder(&self, path: &str) -> Result<Self::Folder, AllocError>
         ensures { IfOk result (opens self.now path.now) };
 
-    /// Holds the place at which a run saves, before anything is read or asked for, so that no other saves there. It says whether
-    /// the run goes on from the file at this path. Why a path is refused is told to a person.
+    /// Holds the place at which a run saves, before anything is read or requested, so that no other saves there. It says whether
+    /// the run goes on from the file at this path. Why a path is refused is reported to a person.
     fn hold(&self, _path: &str, _is_resumed: bool) -> Result<(), HoldFault>
         ensures { result ≡ Err HoldFault.Refused → refuses self.now _path.now }
     {
@@ -116,15 +117,15 @@ pub trait System {
     fn read_file(&self, alloc: Global, path: &str, limit: usize) -> Result<Vec<u8>, ReadFault>
         ensures { IfOk result (λ bytes. holds self.now path.now bytes.items) };
 
-    /// What takes the record that is to stand at a path, and fails where none can stand there. The file that stands there is
-    /// replaced by the whole record, or stays. The error is that memory is wanting.
+    /// What takes the record that is to be saved at a path, and fails if none can be there. The file that is there is
+    /// replaced by the whole record, or stays. Fails only if memory runs out.
     fn record(&self, path: &str) -> Result<Self::Record, AllocError>
         ensures { IfOk result (names self.now path.now) };
 
-    /// Tells a person this when the run has ended: lines, each with its end, or nothing.
+    /// Writes this for a person when the run has ended: lines, each with its end, or nothing.
     fn tell(&self, _text: &str) {}
 
-    /// Where the run notes how many addresses wait, for who looks on.
+    /// The counter of waiting addresses that the progress line shows, if any.
     fn waiting(&self) -> Option<&AtomicUsize> {
         None
     }

@@ -19,7 +19,7 @@ pub fn origin(rt: &impl Abort, alloc: Global, text: &str) -> Origin {
     Origin::of(&address).expect(rt, "memory")
 }
 
-/// Makes a connection to the origin of an address and closes it. Tells what came of it.
+/// Makes a connection to the origin of an address and closes it. Gives what resulted.
 fn visit<R: Wait + Abort>(
     rt: &R,
     alloc: Global,
@@ -37,8 +37,8 @@ fn visit<R: Wait + Abort>(
     }
 }
 
-/// What two workers do after one another: which of them goes where, what comes of it, and how many lookups, reads at the end and
-/// tried addresses there were by then. Behind `#` stands what the next rows show.
+/// What two workers do after one another: which of them goes where, what results, and how many lookups, reads at the end and
+/// tried addresses there were by then. After `#` is what the next rows show.
 const VISITS: &str =
     "# A host is looked up once, for its other ports too. A dead first address costs one connection.
 0 http://two/ made (1, 1, 2)
@@ -163,7 +163,7 @@ fn workers_share_what_is_known_of_hosts(rt: HostRuntime) {
     );
 }
 
-/// Makes a connection, reads it once and closes it. Tells what came of it.
+/// Makes a connection, reads it once and closes it. Gives what resulted.
 pub fn read_once<R: Wait + Abort>(
     rt: &R,
     alloc: Global,
@@ -191,7 +191,7 @@ fn count_of<R: Wait + Abort>(network: &Network<'_, R>, word: &str) -> u64 {
     }
 }
 
-/// Takes the steps of a worker, each a word and what comes of it: it visits an address, or reads a connection to that; all others
+/// Takes the steps of a worker, each a word and what results: it visits an address, or reads a connection to that; all others
 /// are counts.
 fn take_steps<R: Wait + Abort>(
     rt: &R,
@@ -237,7 +237,7 @@ fn a_host_is_looked_up_again_where_memory_was_wanting(rt: HostRuntime) {
     go_alone(&rt, rt.alloc(), "http://full/", steps);
 }
 
-/// Where a worker goes twice in a network of its own. The errors of a port's number are Linux's (errno(3)). Behind `#` stands what
+/// Where a worker goes twice in a network of its own. The errors of a port's number are Linux's (errno(3)). After `#` is what
 /// the next rows show.
 const WAITS: &str = "# No descriptor, no buffer and no port are waited for.
 http://lacking:23/ visit made, clock 3000, visit made, clock 3000, lookups 1
@@ -273,7 +273,7 @@ fn what_the_system_lacks_is_waited_for(rt: HostRuntime) {
     }
 }
 
-/// Goes to a server until there is what lacks.
+/// Goes to a server until what was missing is there.
 fn visit_until_late<R: Wait + Abort>(
     rt: &R,
     network: &Network<'_, R>,
@@ -404,7 +404,7 @@ fn faults_of_streams_are_faults_of_wires(rt: HostRuntime) {
     }
 }
 
-/// What a question over a connection that served before comes to, if its stream answers each call so.
+/// What a question over a connection that served before results in, if its stream answers each call so.
 fn told_by(alloc: Global, kind: ErrorKind) -> &'static str {
     let mut room = Room::new();
     let mut wire = TcpWire::new(Stuck(Err(kind)));

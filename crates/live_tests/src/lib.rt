@@ -1,7 +1,7 @@
 //! Connections and streams, which no run of the program shows as closely: tests alone, of connections over a network that isn't
 //! there: how hosts are looked up, which addresses are tried, how a connection ends and why it is lost, what a fault of a stream
 //! is to a wire, and what a person sees of it on a terminal; of connections over TCP that are kept; and of inputs and outputs that
-//! are interrupted or fail. What runs write is in `tests/runs`. They stand above the crates that they are of, so none is proved once
+//! are interrupted or fail. What runs write is in `tests/runs`. They are above the crates that they are of, so none is proved once
 //! more with them.
 #![tactic(auto)]
 

@@ -1,4 +1,4 @@
-//! A network for tests: it knows a few hosts by name, and tells what it was asked for. Its clock goes only while somebody sleeps.
+//! A network for tests: it knows a few hosts by name, and reports the requests. Its clock goes only while somebody sleeps.
 use std::alloc::Global;
 use std::io::{ErrorKind, Read, Write};
 use std::net::{IpAddr, Net, OpenListener, OpenStream, SocketAddr};
@@ -31,7 +31,7 @@ pub const STAYS_AT_TIMES: u16 = 87;
 /// The port of the servers that keep a connection open, where a time limit has the other error (recv(2) beside connect(2)).
 pub const TIMES_OUT: u16 = 88;
 
-/// The millisecond from which on this machine lacks nothing, where it did, and that for a host that needs longer.
+/// The millisecond from which on this machine is short of nothing, if it was, and that for a host that needs longer.
 const SOON: u64 = 3_000;
 
 pub const LATE: u64 = 130_000;
@@ -57,20 +57,20 @@ const AGAIN: &str = "failed to lookup address information: Temporary failure in 
 /// Linux: too many open files.
 const EMFILE: i32 = 24;
 
-/// What was asked for of a network.
+/// What was requested of a network.
 #[derive(Drop)]
 pub struct Log {
     pub lookups: AtomicU64,
     pub reads: AtomicU64,
-    /// The addresses at which a connection was asked for, in order.
+    /// The addresses at which a connection was requested, in order.
     pub tried: Mutex<Vec<SocketAddr>>,
-    /// The milliseconds of the first limits that were set: on reads, on reads behind these, and on writes.
+    /// The milliseconds of the first limits that were set: on reads, on reads after these, and on writes.
     pub limits: [AtomicU64; 3],
     /// How often it was set that nothing is delayed.
     pub undelayed: AtomicU64,
     /// The milliseconds that were slept.
     pub clock: AtomicU64,
-    // Whether there is no descriptor, where one looks for that.
+    // Whether there is no descriptor, if one looks for that.
     is_full: AtomicBool,
 }
 
@@ -79,7 +79,7 @@ pub struct Log {
 pub struct Network<'a, R: Wait + Abort> {
     rt: &'a R,
     pub log: Arc<Log>,
-    // Whether each sleep lasts until one more connection was asked for.
+    // Whether each sleep lasts until one more connection was requested.
     follows: bool,
 }
 
@@ -112,7 +112,7 @@ impl<'a, R: Wait + Abort> Network<'a, R> {
         }
     }
 
-    /// One in which each sleep lasts until one more connection was asked for.
+    /// One in which each sleep lasts until one more connection was requested.
     pub fn following(rt: &'a R, alloc: Global) -> Network<'a, R> {
         let mut network = Network::new(rt, alloc);
         network.follows = true;
@@ -128,7 +128,7 @@ impl<'a, R: Wait + Abort> Network<'a, R> {
         )
     }
 
-    /// The milliseconds of the first limits on reads, on reads behind these, and on writes, and how often no delay was set.
+    /// The milliseconds of the first limits on reads, on reads after these, and on writes, and how often no delay was set.
     pub fn limits(&self) -> (u64, u64, u64, u64) {
         let [reads, ends, writes] = &self.log.limits;
         (
@@ -144,13 +144,13 @@ impl<'a, R: Wait + Abort> Network<'a, R> {
         self.log.clock.load(Ordering::SeqCst)
     }
 
-    // Whether a connection was asked for there once.
+    // Whether a connection was requested there once.
     fn is_first(&self, addr: SocketAddr) -> bool {
         let tried = self.log.tried.lock(self.rt);
         tried.iter().filter(|other| **other == addr).count() == 1
     }
 
-    // What a connection meets at 10.0.0.x, none where it is taken; what this machine lacks is the error of the port's number.
+    // What a connection meets at 10.0.0.x, none if it is taken; a shortage of this machine is the error of the port's number.
     fn met_at(&self, addr: SocketAddr) -> Option<io::Error> {
         let lack = Some(io::Error::from_raw_os_error(i32::from(addr.port())));
         match last_number(addr) {
@@ -165,8 +165,8 @@ impl<'a, R: Wait + Abort> Network<'a, R> {
         }
     }
 
-    // What a lookup meets, none where it is answered. That of `full` has no memory, that of `tight` no descriptor, and that of
-    // `hidden` doesn't tell that it has none.
+    // What a lookup meets, none if it is answered. That of `full` has no memory, that of `tight` no descriptor, and that of
+    // `hidden` doesn't report that it has none.
     fn met_by(&self, host: &str) -> Option<io::Error> {
         let early = self.clock() < SOON;
         match host {
@@ -259,7 +259,7 @@ impl<R: Wait + Abort> Net for Network<'_, R> {
         Ok(numbers.len().min(found.len()))
     }
 
-    // None is made here. That there is no descriptor it tells where it is so.
+    // None is made here. That there is no descriptor it reports if it is so.
     fn unix_socket(&self) -> io::Result<OwnedFd> {
         if self.log.is_full.load(Ordering::SeqCst) && self.clock() < SOON {
             return Err(io::Error::from_raw_os_error(EMFILE));

@@ -60,12 +60,12 @@ impl<R: Net> Net for Still<'_, R> {
     }
 }
 
-/// What befalls connections of which two to an origin may stand. The origins are 127.0.0.1 and so on, all of one server, and a
-/// connection has the number in which it was made. `make`, `take` and `give` are a worker's calls for an origin, `none` one that
-/// takes none, `elsewhere` one that takes none for another port of that host, `refused` one that makes none; `sends` and `shuts` are
-/// what the server does with a connection, the worker's last, of which it reads a byte or the end, and `breaks` resets the one that was
-/// made last; `ended` is one whose end the server reads, `waits` a number of seconds, `fills` so many origins of which one connection
-/// waits each, and `files` the moment at which those that wait are ended.
+/// What befalls connections of which two to an origin may be open. The origins are 127.0.0.1 and so on, all of one server,
+/// and a connection has the number in which it was made. `make`, `take` and `give` are a worker's calls for an origin,
+/// `none` one that takes none, `elsewhere` one that takes none for another port of that host, `refused` one that makes none;
+/// `sends` and `shuts` are what the server does with a connection, the worker's last, of which it reads a byte or the end,
+/// and `breaks` resets the one that was made last; `ended` is one whose end the server reads, `waits` a number of seconds,
+/// `fills` so many origins of which one connection waits each, and `files` the moment at which those that wait are ended.
 const STEPS: &str = "make 1
 none 1
 give 1
@@ -260,7 +260,7 @@ fn serves<W: Wire>(end: &mut TcpStream, wires: &mut [W], word: &str) -> bool {
         return is_ended(end);
     }
     if word == "sends" {
-        // Both bytes have come where the first has.
+        // Both bytes have come if the first has.
         return end.write_all(b"xy").is_ok() && reads(wires) == Some(1);
     }
     end.shutdown(Shutdown::Write).is_ok() && reads(wires) == Some(0)
@@ -353,6 +353,6 @@ fn connections_that_wait_are_counted_and_those_that_died_are_dropped(rt: HostRun
     drop(wires);
     drop(connect);
     drop(kept);
-    // Behind a run no connection stands.
+    // After a run no connection is open.
     assert!(rt; are_ended(&mut server.ends));
 }

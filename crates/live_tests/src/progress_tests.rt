@@ -78,7 +78,7 @@ const LINES: &str = "2 answered, 17 waiting, 0 failed, 4 kB, 13 kB/s
 3 answered, 9 waiting, 2 failed, 6 kB, 6 kB/s
 3 answered, 0 waiting, 3 failed, 8 kB, 6 kB/s";
 
-/// Makes a connection, which is used where there is one.
+/// Makes a connection, which is used if there is one.
 fn use_once<C: Connect>(connect: &mut C, of: &Origin) {
     if let Ok(mut wire) = connect.connect(of) {
         let _ = wire.write(&[b'x'; 1000]);
@@ -142,8 +142,8 @@ fn one_line_counts_at_most_four_times_a_second(rt: HostRuntime) {
     assert!(rt; shows(&rt, rt.alloc()));
 }
 
-/// A terminal with a clock by which two threads meet: each of their calls waits for one of the other, and both are told the same
-/// time, a second behind that of the calls before. It counts what is written to it.
+/// A terminal with a clock by which two threads meet: each of their calls waits for one of the other, and both receive the same
+/// time, a second after that of the calls before. It counts what is written to it.
 #[derive(Drop)]
 struct Meeting {
     calls: AtomicU64,

@@ -12,7 +12,7 @@ enum Trouble {
     Interrupts(u32),
     /// The one of this number, counted from 0, fails.
     Fails(u32),
-    /// The one of this number takes nothing, or is interrupted where it is a flush.
+    /// The one of this number takes nothing, or is interrupted if it is a flush.
     TakesNothing(u32),
 }
 
@@ -167,7 +167,7 @@ fn a_writer_that_is_interrupted_too_often_or_takes_nothing_fails(rt: HostRuntime
     }
 }
 
-/// Whether the writer has this text, and it was written; or, where its call failed, it has a front, and that call was the last.
+/// Whether the writer has this text, and it was written; or, if its call failed, it has a front, and that call was the last.
 fn has_front(writer: &Narrow, call: u32, text: &[u8], is_written: bool) -> bool {
     if writer.calls <= call {
         return is_written && writer.held.as_slice() == text;

@@ -1,3 +1,4 @@
+pub mod ChangeLaws
 pub mod FolderLaws
 pub mod PartLaws
 pub mod ShelfLaws

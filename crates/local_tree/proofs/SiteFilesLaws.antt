@@ -32,10 +32,10 @@ none_written names bodies None = tt
 none_written names bodies (Some files) = record { files = λ i below. absurd (omega arith); others = λ name none. refl }
 
 -- a name at a place that is taken in
-taken_in : (names : List (List ℕ)) (k : ℕ) → k < length names → Contains (take (k + 1) names) (get_or names k [])
+pub taken_in : (names : List (List ℕ)) (k : ℕ) → k < length names → Contains (take (k + 1) names) (get_or names k [])
 taken_in names k below = subst (λ xs. Contains xs (get_or names k [])) (sym (take_more names k [] below)) (Contains-push (take k names) (get_or names k []))
 
-still_in : (names : List (List ℕ)) (k : ℕ) (name : List ℕ) → k < length names → Contains (take k names) name → Contains (take (k + 1) names) name
+pub still_in : (names : List (List ℕ)) (k : ℕ) (name : List ℕ) → k < length names → Contains (take k names) name → Contains (take (k + 1) names) name
 still_in names k name below held = subst (λ xs. Contains xs name) (sym (take_more names k [] below)) (Contains-append_left (take k names) (get_or names k [] ∷ []) name held)
 
 more_written : (names bodies : List (List ℕ)) (k : ℕ) (name body : List ℕ) (old mid new : Files) → AreDistinct names → k < length names → name ≡ get_or names k [] → body ≡ get_or bodies k [] → AreWritten k k names bodies old mid → ((other : List ℕ) → new other ≡ cond (bytes_eq name other) (Some body) (mid other)) → AreWritten (k + 1) (k + 1) names bodies old new

@@ -1,3 +1,4 @@
+pub mod Changes
 pub mod Folders
 pub mod MemoryFolders
 pub mod Shelves

@@ -20,7 +20,7 @@ use streams::{Close, Lock};
 
 mod named_parts;
 
-pub use named_parts::{NamesParts, put_parts};
+pub use named_parts::{NamesParts, put_changed_parts, put_parts};
 
 /// How many files of a site are made ready together, at most.
 const BATCH: usize = 256;

@@ -4,14 +4,16 @@
 //! Its tests are in `retrieval_tests`.
 #![tactic(auto)]
 
-pub use crate::disk_folder::{DiskFolder, NamesParts, put_parts};
+pub use crate::body_change::{BodyChange, ChangeFault};
+pub use crate::disk_folder::{DiskFolder, NamesParts, put_changed_parts, put_parts};
 pub use crate::folder::{Folder, FolderFault};
 pub use crate::memory_folder::MemoryFolder;
 pub use crate::parts::{Naming, Part, PartCrew};
 pub use crate::shelf::{HasKind, Shelf};
-pub use crate::site_files::{WriteFault, write_site};
+pub use crate::site_files::{WriteFault, write_changed_site, write_site};
 pub use streams::{Close, Lock};
 
+mod body_change;
 mod disk_folder;
 mod folder;
 mod memory_folder;

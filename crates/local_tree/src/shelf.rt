@@ -1,31 +1,73 @@
 //! What a folder is asked for that takes bodies as those hand them out who keep them.
-ghost use Rattle.std.specs.Prelude.{◌≡◌, ℕ, OnOk, OnErr, IfErr, length, map, string_bytes};
+ghost use Rattle.std.specs.Prelude.{◌≡◌, ◌&&◌, ℕ, OnOk, OnErr, IfOk, IfErr, length, map, string_bytes};
 ghost use Rattle.kept_bodies.specs.Bodies.{BodyValue};
 ghost use Rattle.kept_bodies.specs.declared.body_kind.BodyKind.{BodyKind};
 ghost use Rattle.local_names.specs.Names.{AreDistinct};
+ghost use Rattle.local_tree.specs.Changes.{PutsChanged, IsShelvedAs, IsHalfShelvedAsBy};
 ghost use Rattle.local_tree.specs.Folders.{Puts, KeepsOthers, CountsRefusedPut, holding};
 ghost use Rattle.local_tree.specs.Shelves.{IsShelved, IsHalfShelvedBy};
 
+use crate::body_change::BodyChange;
 use crate::folder::{Folder, FolderFault};
 use crate::site_files::WriteFault;
 use harvest::Harvest;
 use kept_bodies::{Body, BodyKind};
+use std::alloc::Global;
 
-/// A kept body of which it is known what it is.
+/// A kept body of which it is known what it is, and how long.
 pub trait HasKind {
     // What it is.
     ghost kind_of: { Self → BodyKind };
 
+    // How many bytes it has.
+    ghost len_of: { Self → ℕ };
+
     /// What it is. Takes no memory.
     fn kind_of(&self) -> BodyKind
         ensures { result ≡ kind_of self.now };
+
+    /// How many bytes it has. Takes no memory.
+    fn len_of(&self) -> u64
+        ensures { result ≡ len_of self.now };
 }
 
 impl HasKind for Body {
+    ghost use Rattle.std.specs.Prelude.{length};
+
     ghost kind_of = { λ body. body.kind };
+
+    ghost len_of = { λ body. length body.bytes };
 
     fn kind_of(&self) -> BodyKind {
         self.kind()
+    }
+
+    fn len_of(&self) -> u64 {
+        self.as_slice().len() as u64
+    }
+}
+
+// Whether both are so.
+fn are_both(one: bool, other: bool) -> bool
+    ensures { result ≡ (one && other) }
+{
+    one && other
+}
+
+// Puts a file, and gives this.
+fn put_as<D: Folder>(
+    folder: &mut D,
+    name: &str,
+    bytes: &[u8],
+    is_changed: bool,
+) -> Result<bool, FolderFault>
+    ensures put { IfOk result (λ all. (all ≡ is_changed) × Puts (D.files folder.old) (D.files folder.new) name.now bytes.now) }
+    ensures torn { OnErr result (KeepsOthers (D.files folder.old) (D.files folder.new) name.now) }
+    ensures counted { CountsRefusedPut (D.failed folder.old) (D.failed folder.new) result }
+{
+    match folder.put(name, bytes) {
+        Ok(()) => Ok(is_changed),
+        Err(fault) => Err(fault),
     }
 }
 
@@ -56,6 +98,45 @@ pub trait Shelf<B: Drop>: Folder {
         }
         Ok(())
     }
+
+    /// Puts a file of this name below the folder, with what is to be in place of this body, which is that of the page at this place.
+    /// Whether that is so: if not, the file has the body as it came. All else is as of [`Folder::put`].
+    fn put_changed_kept<C: BodyChange>(
+        &mut self,
+        alloc: Global,
+        place: usize,
+        name: &str,
+        kept: &B,
+        change: &C,
+    ) -> Result<bool, FolderFault>
+        ensures put { IfOk result (λ all. (body : BodyValue) → holds kept.now body → PutsChanged (C.becomes change.now) all place body name.now (Self.files self.old) (Self.files self.new)) }
+        ensures torn { OnErr result (KeepsOthers (Self.files self.old) (Self.files self.new) name.now) }
+        ensures counted { CountsRefusedPut (Self.failed self.old) (Self.failed self.new) result };
+
+    /// Puts the kept pages of a harvest, in their order, each under its name and with what is to be in place of its body. Whether all
+    /// have that; the others have their bodies as they came. If a put fails no other is made, as of [`Shelf::put_harvest`].
+    fn put_changed_harvest<C: BodyChange>(
+        &mut self,
+        alloc: Global,
+        names: &[String],
+        harvest: &Harvest<B>,
+        change: &C,
+    ) -> Result<bool, WriteFault>
+        requires count { length names.now ≡ length harvest.now.kept }
+        requires distinct { AreDistinct (map string_bytes names.now) }
+        ensures whole { IfOk result (λ all. IsShelvedAs (C.becomes change.now) all holds (map string_bytes names.now) harvest.now.bodies (holding Self.files Self.failed self.old) (holding Self.files Self.failed self.new)) }
+        ensures torn { IfErr result (IsHalfShelvedAsBy (C.becomes change.now) holds (map string_bytes names.now) harvest.now.bodies (holding Self.files Self.failed self.old) (holding Self.files Self.failed self.new)) }
+        ensures quiet { OnOk result (Self.failed self.new ≡ Self.failed self.old) }
+    {
+        let mut are_all = true;
+        for (i, name) in names.iter().enumerate() {
+            match self.put_changed_kept(alloc, i, name.as_str(), harvest.kept_body(i), change) {
+                Ok(is_changed) => are_all = are_both(are_all, is_changed),
+                Err(_) => return Err(WriteFault::Device(i)),
+            }
+        }
+        Ok(are_all)
+    }
 }
 
 impl<D: Folder> Shelf<Body> for D {
@@ -70,5 +151,21 @@ impl<D: Folder> Shelf<Body> for D {
 
     fn put_harvest(&mut self, names: &[String], harvest: &Harvest<Body>) -> Result<(), WriteFault> {
         self.put_site(names, harvest)
+    }
+
+    fn put_changed_kept<C: BodyChange>(
+        &mut self,
+        alloc: Global,
+        place: usize,
+        name: &str,
+        kept: &Body,
+        change: &C,
+    ) -> Result<bool, FolderFault> {
+        let body = kept.as_slice();
+        match change.change(alloc, place, kept.kind(), body) {
+            Ok(Some(other)) => put_as(self, name, other.as_slice(), true),
+            Ok(None) => put_as(self, name, body, true),
+            Err(_) => put_as(self, name, body, false),
+        }
     }
 }

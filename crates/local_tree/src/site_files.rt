@@ -1,11 +1,14 @@
 //! The files of a retrieved site.
-ghost use Rattle.std.specs.Prelude.{◌≡◌, length, map, OnOk, IfErr, string_bytes};
+ghost use Rattle.std.specs.Prelude.{◌≡◌, length, map, OnOk, IfOk, IfErr, string_bytes};
+ghost use Rattle.local_tree.specs.Changes.{IsShelvedAs, IsHalfShelvedAsBy};
 ghost use Rattle.local_tree.specs.Folders.{holding};
 ghost use Rattle.local_names.specs.Names.{AreDistinct};
 ghost use Rattle.local_tree.specs.Shelves.{IsShelved, IsHalfShelvedBy};
 
+use crate::body_change::BodyChange;
 use crate::shelf::Shelf;
 use harvest::Harvest;
+use std::alloc::Global;
 use thiserror::Error;
 
 /// Why not all files of a site were written.
@@ -30,4 +33,22 @@ pub fn write_site<B: Drop, D: Shelf<B>>(
     ensures quiet { OnOk result (D.failed folder.new ≡ D.failed folder.old) }
 {
     folder.put_harvest(names, harvest)
+}
+
+/// The same, but each file has what is to be in place of its body. Whether all have that: each other one has the body as it came, since
+/// memory ran out, or nothing can be in its place, or the folder failed.
+pub fn write_changed_site<B: Drop, D: Shelf<B>, C: BodyChange>(
+    alloc: Global,
+    folder: &mut D,
+    names: &[String],
+    harvest: &Harvest<B>,
+    change: &C,
+) -> Result<bool, WriteFault>
+    requires count { length names.now ≡ length harvest.now.kept }
+    requires distinct { AreDistinct (map string_bytes names.now) }
+    ensures whole { IfOk result (λ all. IsShelvedAs (C.becomes change.now) all D.holds (map string_bytes names.now) harvest.now.bodies (holding D.files D.failed folder.old) (holding D.files D.failed folder.new)) }
+    ensures torn { IfErr result (IsHalfShelvedAsBy (C.becomes change.now) D.holds (map string_bytes names.now) harvest.now.bodies (holding D.files D.failed folder.old) (holding D.files D.failed folder.new)) }
+    ensures quiet { OnOk result (D.failed folder.new ≡ D.failed folder.old) }
+{
+    folder.put_changed_harvest(alloc, names, harvest, change)
 }

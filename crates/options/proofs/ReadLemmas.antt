@@ -21,7 +21,8 @@ use Rattle.options.specs.Manners.{manner_of}
 use Rattle.pacing.specs.Retries.{Retried}
 use Rattle.options.specs.Retries.{retries_of}
 use Rattle.options.specs.Naming.{Naming, naming_of}
-use Rattle.options.specs.Order.{Counts, proxies_of, start_of, started_at, are_good, counts_of, patterns_of, directories_of, domains_of, expressions_of, fields_of, login_by, login_of, password_of, user_of, order_of_rows, order_of_written, are_taken, AnswersOrder, ordered}
+use Rattle.options.specs.Order.{Counts, proxies_of, start_of, started_at, are_good, counts_of, patterns_of, directories_of, domains_of, expressions_of, rows_taken, fields_of, login_by, login_of, password_of, user_of, order_of_rows, order_of_written, are_taken, AnswersOrder, ordered}
+use Rattle.html_links.specs.declared.rules.RowSet.{RowSet}
 use Rattle.requests.specs.Fields.{Sent}
 use Rattle.requests.specs.Proxies.{Proxies}
 use Rattle.options.specs.inner.Order.{Both, StartsAt, FailsToStart, FailsToFilter, Settles, fault_of_kind}
@@ -50,6 +51,9 @@ fails-domains found p d patterns directories none = λ next. rw (patterns, direc
 
 pub fails-expressions : (found : List Row) (p d h : Both) (why : LineFault) → patterns_of found ≡ Some p → directories_of found ≡ Some d → domains_of found ≡ Some h → expressions_of found ≡ None → without_kind why ≡ fault.Expression 0 → FailsToFilter found why
 fails-expressions found p d h why patterns directories domains none kind = λ next. rw (patterns, directories, domains, none, kind) refl
+
+pub fails-tags : (found : List Row) (p d h e : Both) → patterns_of found ≡ Some p → directories_of found ≡ Some d → domains_of found ≡ Some h → expressions_of found ≡ Some e → rows_taken found ≡ None → FailsToFilter found fault.Tags
+fails-tags found p d h e patterns directories domains expressions none = λ next. rw (patterns, directories, domains, expressions, none) refl
 
 -- ---- the stages of an order
 
@@ -89,13 +93,13 @@ pub bad-filters : (found : List Row) (n : Counts) (x : Proxies) (m : Naming) (s 
 unfolding order_of_rows
 bad-filters found n x m s w r l why settles level fails = rw (settles.words, settles.counted, settles.treated, settles.named, settles.retried, settles.proxied, settles.fielded, level) (fails _)
 
-pub bad-start : (found : List Row) (n : Counts) (x : Proxies) (m : Naming) (s : Sent) (w : Mannered) (r : Retried) (l : Limit) (p d h e : List (List ℕ) × List (List ℕ)) (why : LineFault) → Settles found n x m s w r → level_of found ≡ Some l → patterns_of found ≡ Some p → directories_of found ≡ Some d → domains_of found ≡ Some h → expressions_of found ≡ Some e → FailsToStart found why → order_of_rows found ≡ Err why
+pub bad-start : (found : List Row) (n : Counts) (x : Proxies) (m : Naming) (s : Sent) (w : Mannered) (r : Retried) (l : Limit) (p d h e : List (List ℕ) × List (List ℕ)) (t : RowSet) (why : LineFault) → Settles found n x m s w r → level_of found ≡ Some l → patterns_of found ≡ Some p → directories_of found ≡ Some d → domains_of found ≡ Some h → expressions_of found ≡ Some e → rows_taken found ≡ Some t → FailsToStart found why → order_of_rows found ≡ Err why
 unfolding order_of_rows
-bad-start found n x m s w r l p d h e why settles level patterns directories domains expressions fails = rw (settles.words, settles.counted, settles.treated, settles.named, settles.retried, settles.proxied, settles.fielded, level, patterns, directories, domains, expressions) (fails.1 _)
+bad-start found n x m s w r l p d h e t why settles level patterns directories domains expressions taken fails = rw (settles.words, settles.counted, settles.treated, settles.named, settles.retried, settles.proxied, settles.fielded, level, patterns, directories, domains, expressions, taken) (fails.1 _)
 
-pub good-order : (found : List Row) (n : Counts) (x : Proxies) (m : Naming) (s : Sent) (w : Mannered) (r : Retried) (l : Limit) (p d h e : List (List ℕ) × List (List ℕ)) (start : List ℕ) → Settles found n x m s w r → level_of found ≡ Some l → patterns_of found ≡ Some p → directories_of found ≡ Some d → domains_of found ≡ Some h → expressions_of found ≡ Some e → StartsAt found start → order_of_rows found ≡ Ok (ordered found n x m s w r l p d h e start)
+pub good-order : (found : List Row) (n : Counts) (x : Proxies) (m : Naming) (s : Sent) (w : Mannered) (r : Retried) (l : Limit) (p d h e : List (List ℕ) × List (List ℕ)) (t : RowSet) (start : List ℕ) → Settles found n x m s w r → level_of found ≡ Some l → patterns_of found ≡ Some p → directories_of found ≡ Some d → domains_of found ≡ Some h → expressions_of found ≡ Some e → rows_taken found ≡ Some t → StartsAt found start → order_of_rows found ≡ Ok (ordered found n x m s w r l p d h e t start)
 unfolding order_of_rows
-good-order found n x m s w r l p d h e start settles level patterns directories domains expressions starts = rw (settles.words, settles.counted, settles.treated, settles.named, settles.retried, settles.proxied, settles.fielded, level, patterns, directories, domains, expressions) (starts _)
+good-order found n x m s w r l p d h e t start settles level patterns directories domains expressions taken starts = rw (settles.words, settles.counted, settles.treated, settles.named, settles.retried, settles.proxied, settles.fielded, level, patterns, directories, domains, expressions, taken) (starts _)
 
 -- ---- credentials
 

@@ -47,6 +47,10 @@ rate_limit text = if bytes_eq text (codes "inf") then Some None else option_map 
 abbrev pub rate_by : Option Text → Option (Option ℕ)
 rate_by value = option_map_or rate_limit value (Some None)
 
+-- the quota that a value gives, which is written like a limit of speed; none if the option isn't given
+abbrev pub quota_by : Option Text → Option (Option ℕ)
+quota_by value = rate_by value
+
 -- which addresses of hosts are connected to; both alone can't be
 unfoldable pub family_of : List Row → Option Family
 family_of found =

@@ -15,6 +15,9 @@ use Rattle.follow_filters.specs.declared.plan.TheConstants.{MAX_PER_HOST, MAX_UR
 use Rattle.follow_filters.specs.Domains.{read_domain}
 use Rattle.follow_filters.specs.Directories.{read_directory}
 use Rattle.follow_filters.specs.Patterns.{read_element}
+use Rattle.html_links.specs.Rules.{has_unknown, taken_by}
+use Rattle.html_links.specs.declared.rules.LinkRules.{LinkRules}
+use Rattle.html_links.specs.declared.rules.RowSet.{RowSet}
 use Rattle.options.specs.declared.order.TheConstants.{DEFAULT_MAX_URLS, DEFAULT_PER_HOST, DEFAULT_WORKERS, MAX_WORKERS}
 use Rattle.options.specs.declared.order.Source.{Source}
 use Rattle.options.specs.declared.order.Source.TheVariants.{Map, Recorded, Live}
@@ -26,11 +29,11 @@ use Rattle.options.specs.Asked.{refusal_of, without_kind, words_refused}
 use Rattle.options.specs.Line.{rows, refusals}
 use Rattle.options.specs.Given.{is_set, level_of, number_given, list_of}
 use Rattle.pacing.specs.Manners.{Mannered, mannered}
-use Rattle.options.specs.Manners.{manner_of}
+use Rattle.options.specs.Manners.{manner_of, quota_by}
 use Rattle.pacing.specs.Retries.{Retried, retries_by}
 use Rattle.options.specs.Retries.{retries_of}
 use Rattle.options.specs.Naming.{Naming, naming_by, naming_of}
-use Rattle.options.specs.Sought.{expressions_by}
+use Rattle.options.specs.Sought.{expressions_by, is_type}
 use Rattle.requests.specs.Fields.{Sent, login_of as login_value_of, read_fields}
 use Rattle.requests.specs.declared.fields.FieldsFault.{FieldsFault}
 use Rattle.requests.specs.declared.fields.FieldsFault.TheVariants as unsent
@@ -43,14 +46,24 @@ use Rattle.options.specs.Written.{SayTheSame, first_unread, others_in, starts_in
 
 -- ---- words that `clap` takes and that are refused all the same
 
--- an encoding of bodies isn't asked for: `--compression` isn't given, or its value is `none`
+-- no encoding of bodies is requested: `--compression` isn't given, or its value is `none`
 abbrev pub is_plain_value : Option Text → Bool
 is_plain_value None = true
 is_plain_value (Some value) = bytes_eq value (codes "none")
 
--- `--compression` has a value that it may have
+-- `--compression` and `--regex-type` have values that they may have
 unfoldable pub are_good : List Row → Bool
-are_good found = is_plain_value (first_of (codes "compression") found)
+are_good found = is_plain_value (first_of (codes "compression") found) && is_type (first_of (codes "regex-type") found)
+
+-- ---- which links of pages are taken
+
+-- what is taken by the two lists of elements, unless one names an attribute that has no link
+abbrev pub taken_if : Text → Text → Option RowSet
+taken_if followed ignored = if has_unknown followed || has_unknown ignored then None else Some (taken_by followed ignored)
+
+-- where links of pages are taken from
+unfoldable pub rows_taken : List Row → Option RowSet
+rows_taken found = taken_if (unwrap_or (first_of (codes "follow-tags") found) []) (unwrap_or (first_of (codes "ignore-tags") found) [])
 
 -- ---- the order
 
@@ -77,13 +90,16 @@ pub record Ordered : Type 0 where
   pub max_urls : ℕ
   pub per_host : ℕ
   pub workers : ℕ
+  pub links : LinkRules
   pub keeps_connections : Bool
   pub source : Source
+  pub quota : Option ℕ
   pub trace : Bool
   pub quiet : Bool
   pub log : Option (Text × Bool)
   pub prefix : List ℕ
   pub names : Naming
+  pub converts : Bool
   pub fields : Sent
   pub manner : Mannered
   pub retries : Retried
@@ -97,7 +113,7 @@ abbrev pub found_or : {X Y : Type 0} → Option X → LineFault → (X → Resul
 found_or None unless next = Err unless
 found_or (Some x) unless next = next x
 
--- both values, where both were found
+-- both values, if both were found
 abbrev pub both : {X Y : Type 0} → Option X → Option Y → Option (X × Y)
 both None second = None
 both (Some x) None = None
@@ -116,17 +132,18 @@ directories_of found =
 unfoldable pub domains_of : List Row → Option (List (List ℕ) × List (List ℕ))
 domains_of found = both (list_of read_domain (codes "domains") found) (list_of read_domain (codes "exclude-domains") found)
 
--- the numbers of workers, requests out to an origin, and addresses
+-- the numbers of workers, requests out to an origin, and addresses, and the quota
 pub record Counts : Type 0 where
   pub workers : ℕ
   pub per_host : ℕ
   pub max_urls : ℕ
+  pub quota : Option ℕ
 
--- these numbers, the usual ones where they aren't given
+-- these numbers, the usual ones if they aren't given
 unfoldable pub counts_of : List Row → Option Counts
 counts_of found =
-    option_and_then (λ w. option_and_then (λ p. option_map (λ u. record { workers = w; per_host = p; max_urls = u })
-    (number_given (codes "max-urls") MAX_URLS DEFAULT_MAX_URLS found)) (number_given (codes "per-host") MAX_PER_HOST DEFAULT_PER_HOST found)) (number_given (codes "workers") MAX_WORKERS DEFAULT_WORKERS found)
+    option_and_then (λ w. option_and_then (λ p. option_and_then (λ u. option_map (λ q. record { workers = w; per_host = p; max_urls = u; quota = q })
+    (quota_by (first_of (codes "quota") found))) (number_given (codes "max-urls") MAX_URLS DEFAULT_MAX_URLS found)) (number_given (codes "per-host") MAX_PER_HOST DEFAULT_PER_HOST found)) (number_given (codes "workers") MAX_WORKERS DEFAULT_WORKERS found)
 
 -- why what was read names no proxy
 abbrev pub proxy_fault : AddressFault → LineFault
@@ -188,7 +205,7 @@ abbrev pub proxied_by : {Y : Type 0} → Result Proxies LineFault → (Proxies �
 proxied_by (Err why) next = Err why
 proxied_by (Ok proxies) next = next proxies
 
--- a start; https is one where a proxy for it is given
+-- a start; https is accepted if a proxy for it is given
 abbrev pub read_start : Bool → Text → Result (List ℕ) AddressFault
 read_start false text = read_address text
 read_start true text = read_either text
@@ -255,7 +272,7 @@ abbrev pub fielded_by : {Y : Type 0} → Result Sent LineFault → (Sent → Res
 fielded_by (Err why) next = Err why
 fielded_by (Ok fields) next = next fields
 
--- the start, or why it is no address; `http` is its scheme where it has none, and user and password are left out
+-- the start, or why it is no address; `http` is its scheme if it has none, and user and password are left out
 unfoldable pub start_of : List Row → Result (List ℕ) AddressFault
 start_of found =
     read_start (is_some (proxy_value (codes "https-proxy") found)) (typed (unwrap_or (first_of (codes "start") found) []))
@@ -265,7 +282,7 @@ abbrev pub started_at : {Y : Type 0} → Result (List ℕ) AddressFault → (Lis
 started_at (Err why) next = Err (fault.Start why)
 started_at (Ok start) next = if is_robots_file start then Err fault.StartIsRobots else next start
 
--- where the site is: a map before a record, and the network where neither is asked for
+-- where the site is: a map before a record, and the network if neither is chosen
 abbrev pub source_of : List Row → Source
 source_of found = if is_set (codes "map") found then Map else (if is_set (codes "record") found then Recorded else Live)
 
@@ -273,11 +290,15 @@ source_of found = if is_set (codes "map") found then Map else (if is_set (codes 
 abbrev pub honours_robots : List Row → Bool
 honours_robots found = is_set (codes "recursive") found && not (is_set (codes "no-robots") found)
 
--- the limit of the level, or no hop where links aren't followed
+-- which links of pages are taken, of those that are taken by their place
+abbrev pub links_of : RowSet → List Row → LinkRules
+links_of taken found = record { robots = honours_robots found; relative = is_set (codes "relative") found; rows = taken }
+
+-- the limit of the level, or no hop if links aren't followed
 abbrev pub limit_within : Limit → List Row → Limit
 limit_within level found = if is_set (codes "recursive") found then level else AtMost 0
 
--- the folder that a value names, `.` where it is empty or isn't given
+-- the folder that a value names, `.` if it is empty or isn't given
 abbrev pub folder_of : Option Text → Text
 folder_of None = codes "."
 folder_of (Some path) = if length path == 0 then codes "." else path
@@ -286,14 +307,14 @@ folder_of (Some path) = if length path == 0 then codes "." else path
 abbrev pub prefix_of : List Row → Text
 prefix_of found = folder_of (first_of (codes "directory-prefix") found)
 
--- the file that takes what is told, and whether it keeps what it has
+-- the file that takes the text of the run, and whether it keeps what it has
 unfoldable pub log_of : List Row → Option (Text × Bool)
 log_of found = option_map (λ path. (path, is_some (first_of (codes "append-output") found))) (first_of (codes "output-file") found)
 
--- what the options order with these numbers, these proxies, these names, these fields, this manner, these retries, this level, these lists, these expressions and this start; without `-r` no link is followed and
+-- what the options order with these numbers, these proxies, these names, these fields, this manner, these retries, this level, these lists, these expressions, what is taken and this start; without `-r` no link is followed and
 -- no robots file is honoured
-abbrev pub ordered : List Row → Counts → Proxies → Naming → Sent → Mannered → Retried → Limit → (patterns directories domains expressions : List (List ℕ) × List (List ℕ)) → List ℕ → Ordered
-ordered found counts proxies names fields manner retries level patterns directories domains expressions start = record {
+abbrev pub ordered : List Row → Counts → Proxies → Naming → Sent → Mannered → Retried → Limit → (patterns directories domains expressions : List (List ℕ) × List (List ℕ)) → RowSet → List ℕ → Ordered
+ordered found counts proxies names fields manner retries level patterns directories domains expressions taken start = record {
   start = start;
   others = [];
   logins = [];
@@ -315,13 +336,16 @@ ordered found counts proxies names fields manner retries level patterns director
   max_urls = counts.max_urls;
   per_host = counts.per_host;
   workers = counts.workers;
+  links = links_of taken found;
   keeps_connections = not (is_set (codes "no-http-keep-alive") found);
   source = source_of found;
+  quota = counts.quota;
   trace = is_set (codes "trace") found;
   quiet = is_set (codes "quiet") found;
   log = log_of found;
   prefix = prefix_of found;
   names = names;
+  converts = is_set (codes "convert-links") found;
   fields = fields;
   manner = manner;
   retries = retries;
@@ -346,7 +370,8 @@ order_of_rows found =
     found_or (directories_of found) fault.Directory (λ directories.
     found_or (domains_of found) fault.Domain (λ domains.
     found_or (expressions_of found) (fault.Expression 0) (λ expressions.
-    started_at (start_of found) (λ start. Ok (ordered found counts proxies names fields manner retries level patterns directories domains expressions start)))))))))))))
+    found_or (rows_taken found) fault.Tags (λ taken.
+    started_at (start_of found) (λ start. Ok (ordered found counts proxies names fields manner retries level patterns directories domains expressions taken start))))))))))))))
 
 -- words with no kind of refusal are taken
 abbrev pub are_taken : Kinds → Bool
@@ -425,7 +450,7 @@ read_or None result = result
 read_or (Some word) result = Err (refusal_of word)
 
 -- what is ordered by what is said, or the lowest fault, that of the first start before those of others: each word is read, and the first that
--- isn't may ask for the help
+-- isn't may request the help
 unfoldable pub order_said : List (Saying Text) → Result Ordered LineFault
 order_said said =
     read_or (first_unread said) (logged (starts_in said) (guarded (with_others (others_in said) (order_of_written (written said)))))
@@ -468,13 +493,16 @@ ordered_by order = record {
   max_urls = order.plan.max_urls;
   per_host = order.plan.per_host;
   workers = order.workers;
+  links = order.links;
   keeps_connections = order.keeps_connections;
   source = order.source;
+  quota = order.quota;
   trace = order.trace;
   quiet = order.quiet;
   log = option_map log_by order.log;
   prefix = order.prefix;
   names = naming_by order.names;
+  converts = order.converts;
   fields = order.fields;
   manner = mannered order.manner;
   retries = retries_by order.retries;
@@ -484,7 +512,7 @@ ordered_by order = record {
   save = order.save;
 }
 
--- how many connections to a server may stand at a time, where they are kept
+-- how many connections to a server may be open at a time, if they are kept
 abbrev pub kept_of : Order → Option ℕ
 kept_of order = if order.keeps_connections then Some order.plan.per_host else None
 

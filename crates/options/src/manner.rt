@@ -3,7 +3,7 @@ ghost use Rattle.std.specs.Prelude.{◌≡◌, None, codes, option_map};
 ghost use Rattle.std.specs.Duration.{as_nanos};
 ghost use Rattle.clap.specs.Words.{first_of, found_of, rows_of};
 ghost use Rattle.pacing.specs.Manners.{mannered};
-ghost use Rattle.options.specs.Manners.{body_by, family_of, limit_by, limit_of, manner_of, rate_by, rate_limit, rate_unless_zero, read_limit, unless_zero, wait_by};
+ghost use Rattle.options.specs.Manners.{body_by, family_of, limit_by, limit_of, manner_of, quota_by, rate_by, rate_limit, rate_unless_zero, read_limit, unless_zero, wait_by};
 
 use crate::given::{given, is_set};
 use clap::ArgMatches;
@@ -99,6 +99,16 @@ fn rate(matches: &ArgMatches) -> Option<Option<u64>>
     ensures { result ≡ rate_by (first_of (codes "limit-rate") (rows_of (found_of matches.now))) }
 {
     match given(matches, "limit-rate") {
+        Some(text) => rate_limit(text),
+        None => Some(None),
+    }
+}
+
+/// The most bytes of kept bodies before nothing more is requested, if there is a limit; nothing if the value can't be.
+pub(crate) fn quota(matches: &ArgMatches) -> Option<Option<u64>>
+    ensures { result ≡ quota_by (first_of (codes "quota") (rows_of (found_of matches.now))) }
+{
+    match given(matches, "quota") {
         Some(text) => rate_limit(text),
         None => Some(None),
     }

@@ -14,7 +14,7 @@ ghost use Rattle.options.specs.Given.{level_of, list_of};
 ghost use Rattle.pacing.specs.Manners.{mannered};
 ghost use Rattle.pacing.specs.Retries.{retries_by};
 ghost use Rattle.options.specs.Naming.{naming_by};
-ghost use Rattle.options.specs.Order.{AnswersOrder, OrdersBySayings, order_of, order_of_rows, order_of_written, order_said, are_good, is_plain_value, both, counts_of, patterns_of, directories_of, domains_of, expressions_of, fields_fault, fields_of, fields_with, logged, login_by, login_of, login_with, password_of, said_or, start_of, source_of, user_of, honours_robots, limit_within, ordered, ordered_by, folder_of, guarded, prefix_of, log_by, log_of, both_proxies, proxies_of, proxy_at, proxy_by, proxy_value, read_start, root_origin, unless_empty, with_others};
+ghost use Rattle.options.specs.Order.{AnswersOrder, OrdersBySayings, order_of, order_of_rows, order_of_written, order_said, are_good, is_plain_value, both, counts_of, patterns_of, directories_of, domains_of, expressions_of, fields_fault, fields_of, fields_with, logged, login_by, login_of, login_with, password_of, said_or, start_of, source_of, user_of, honours_robots, limit_within, links_of, ordered, ordered_by, folder_of, guarded, prefix_of, log_by, log_of, both_proxies, proxies_of, proxy_at, proxy_by, proxy_value, read_start, root_origin, rows_taken, taken_if, unless_empty, with_others};
 ghost use Rattle.options.specs.Asked.{refusal_of, without_kind, words_refused};
 ghost use Rattle.options.specs.inner.Said.{saying_in};
 ghost use Rattle.options.specs.inner.Order.{StartsAt, FailsToStart, FailsToFilter, IsNoStart, Settles, fault_of_kind, unasked};
@@ -26,7 +26,7 @@ use crate::fault::LineFault;
 use crate::given::{elements, given, is_set, level, number};
 use crate::line::parse;
 use crate::login::{has_colon, logins, typed, typed_login};
-use crate::manner::manner;
+use crate::manner::{manner, quota};
 use crate::naming::{PageNames, names};
 use crate::order::{
     DEFAULT_MAX_URLS, DEFAULT_PER_HOST, DEFAULT_WORKERS, FilePath, Log, MAX_WORKERS, Order, Prefix,
@@ -35,7 +35,7 @@ use crate::order::{
 use crate::others::with_others;
 use crate::retries::retries;
 use crate::said::{Saying, sayings};
-use crate::sought::{Sought, read_sought};
+use crate::sought::{Sought, is_type, read_sought};
 use crate::trust::guarded;
 use crate::written::{first_unread, starts, written};
 use address::{Address, AddressFault, Origin};
@@ -44,16 +44,18 @@ use clap::{ArgMatches, Error};
 use follow_filters::{
     Directory, Domain, Element, Elements, Limit, MAX_PER_HOST, MAX_URLS, Pattern, Plan, Starts,
 };
+use html_links::{LinkRules, RowSet};
 use pacing::{Manner, Retries};
 use requests::{Fields, FieldsFault, Login, Proxies, Proxy};
 use std::alloc::{AllocError, Global};
 
-// The numbers of workers, requests out to an origin, and addresses.
+// The numbers of workers, requests out to an origin, and addresses, and the quota.
 #[derive(Drop)]
 struct Counts {
     workers: u32,
     per_host: u32,
     max_urls: u32,
+    quota: Option<u64>,
     ghost some_workers: { 0 < workers },
     ghost workers_in_range: { workers ≤ MAX_WORKERS },
     ghost some_per_host: { 0 < per_host },
@@ -73,7 +75,7 @@ struct Settings {
     retries: Retries,
 }
 
-// The folder below which files are put, the records that are resumed and saved, and the file that takes what is told.
+// The folder for the files, the records that are resumed and saved, and the file that takes the text of the run.
 #[derive(Drop)]
 struct Paths {
     prefix: Prefix,
@@ -89,13 +91,14 @@ struct Lists<T> {
     excluded: Elements<T>,
 }
 
-// The lists of names, directories and hosts, and the expressions.
+// The lists of names, directories and hosts, the expressions, and where links of pages are taken from.
 #[derive(Drop)]
 struct Filters {
     names: Lists<Pattern>,
     places: Lists<Directory>,
     hosts: Lists<Domain>,
     sought: Sought,
+    rows: RowSet,
 }
 
 // Whether the value of `--compression` is one that it may have.
@@ -108,13 +111,13 @@ fn is_plain_value(value: Option<&str>) -> bool
     }
 }
 
-// What is wrong with words that `clap` takes: an encoding of bodies is asked for.
+// What is wrong with words that `clap` takes: an encoding of bodies is asked for, or a kind of expressions that isn't known.
 #[tactic(auto, unfolding(crate::specs::Order::are_good))]
 fn word_fault(matches: &ArgMatches) -> Option<LineFault>
     ensures good { is_none result ≡ are_good (rows_of (found_of matches.now)) }
     ensures refused { IfSome result (λ f. f ≡ words_refused) }
 {
-    if is_plain_value(given(matches, "compression")) {
+    if is_plain_value(given(matches, "compression")) && is_type(given(matches, "regex-type")) {
         None
     } else {
         Some(LineFault::Words(ErrorKind::InvalidValue))
@@ -124,16 +127,17 @@ fn word_fault(matches: &ArgMatches) -> Option<LineFault>
 #[tactic(auto, unfolding(crate::specs::Order::counts_of))]
 fn read_counts(matches: &ArgMatches) -> Option<Counts>
     ensures { MatchOption result (counts_of (rows_of (found_of matches.now)) ≡ None)
-        (λ c. counts_of (rows_of (found_of matches.now)) ≡ Some (record { workers = c.workers; per_host = c.per_host; max_urls = c.max_urls })) }
+        (λ c. counts_of (rows_of (found_of matches.now)) ≡ Some (record { workers = c.workers; per_host = c.per_host; max_urls = c.max_urls; quota = c.quota })) }
 {
     Some(Counts {
         workers: number(matches, "workers", MAX_WORKERS, DEFAULT_WORKERS)?,
         per_host: number(matches, "per-host", MAX_PER_HOST, DEFAULT_PER_HOST)?,
         max_urls: number(matches, "max-urls", MAX_URLS, DEFAULT_MAX_URLS)?,
+        quota: quota(matches)?,
     })
 }
 
-// The elements of two options' lists; `bad` where one is bad.
+// The elements of two options' lists; `bad` if one is bad.
 fn read_lists<T: Element>(
     alloc: Global,
     matches: &ArgMatches,
@@ -192,14 +196,33 @@ fn domains(alloc: Global, matches: &ArgMatches) -> Result<Lists<Domain>, LineFau
     )
 }
 
-// The lists and expressions, or the fault of the first that is bad. Here and in `order_of_matches` an exit lets go of what was read by calls, since
-// what it lets go itself is proved anew at each exit.
+// Where links of pages are taken from by these lists; nothing if one names an attribute that has no link.
+fn listed_rows(followed: &str, ignored: &str) -> Option<RowSet>
+    ensures { result ≡ taken_if followed.now ignored.now }
+{
+    RowSet::from_lists(followed, ignored)
+}
+
+// Where links of pages are taken from.
+#[tactic(auto, unfolding(crate::specs::Order::rows_taken))]
+fn rows_taken(matches: &ArgMatches) -> Option<RowSet>
+    ensures { result ≡ rows_taken (rows_of (found_of matches.now)) }
+{
+    listed_rows(
+        given(matches, "follow-tags").unwrap_or(""),
+        given(matches, "ignore-tags").unwrap_or(""),
+    )
+}
+
+// The lists and expressions, or the fault of the first that is bad. Here and in `order_of_matches` an exit drops what was read by explicit calls:
+// an implicit drop is proved anew at each exit.
 fn read_filters(alloc: Global, matches: &ArgMatches) -> Result<Filters, LineFault>
     ensures { MatchResult result
         (λ l. (patterns_of (rows_of (found_of matches.now)) ≡ Some (l.names.given, l.names.excluded))
         × (directories_of (rows_of (found_of matches.now)) ≡ Some (l.places.given, l.places.excluded))
         × (domains_of (rows_of (found_of matches.now)) ≡ Some (l.hosts.given, l.hosts.excluded))
-        × (expressions_of (rows_of (found_of matches.now)) ≡ Some (l.sought.accepted, l.sought.rejected)))
+        × (expressions_of (rows_of (found_of matches.now)) ≡ Some (l.sought.accepted, l.sought.rejected))
+        × (rows_taken (rows_of (found_of matches.now)) ≡ Some l.rows))
         (λ f. FailsToFilter (rows_of (found_of matches.now)) f ⊎ (f ≡ fault.Memory)) }
 {
     let names = match patterns(alloc, matches) {
@@ -230,11 +253,19 @@ fn read_filters(alloc: Global, matches: &ArgMatches) -> Result<Filters, LineFaul
             return Err(fault);
         }
     };
+    let Some(rows) = rows_taken(matches) else {
+        drop(names);
+        drop(places);
+        drop(hosts);
+        drop(sought);
+        return Err(LineFault::Tags);
+    };
     Ok(Filters {
         names,
         places,
         hosts,
         sought,
+        rows,
     })
 }
 
@@ -279,7 +310,7 @@ pub(crate) fn read_page(alloc: Global, by_proxy: bool, text: &str) -> Result<Add
     page_of(read_typed(alloc, by_proxy, text))
 }
 
-// A start. Https is one where a proxy is given.
+// A start. Https is accepted if a proxy is given.
 fn read_by(alloc: Global, by_proxy: bool, text: &str) -> Result<Address, AddressFault>
     ensures { address.Gives result (read_start by_proxy text.now) }
 {
@@ -464,7 +495,7 @@ fn fault_of(error: &Error) -> LineFault
     }
 }
 
-// What is wrong with words that ask for nothing, whatever `clap` says of them.
+// What is wrong with words that request nothing, whatever `clap` says of them.
 fn unasked(kind: ErrorKind) -> LineFault
     ensures value { result ≡ unasked kind }
     ensures refused { without_kind result ≡ words_refused }
@@ -611,7 +642,7 @@ fn fields(alloc: Global, matches: &ArgMatches) -> Result<Fields, LineFault>
 // again, the proxies and what requests say: their faults come before those of levels and lists.
 fn read_settings(alloc: Global, matches: &ArgMatches) -> Result<Settings, LineFault>
     ensures { MatchResult result
-        (λ s. Settles (rows_of (found_of matches.now)) (record { workers = s.counts.workers; per_host = s.counts.per_host; max_urls = s.counts.max_urls }) s.proxies (naming_by s.names) s.fields (mannered s.manner) (retries_by s.retries))
+        (λ s. Settles (rows_of (found_of matches.now)) (record { workers = s.counts.workers; per_host = s.counts.per_host; max_urls = s.counts.max_urls; quota = s.counts.quota }) s.proxies (naming_by s.names) s.fields (mannered s.manner) (retries_by s.retries))
         (λ f. (order_of_rows (rows_of (found_of matches.now)) ≡ Err (without_kind f)) ⊎ (f ≡ fault.Memory)) }
 {
     if let Some(fault) = word_fault(matches) {
@@ -713,8 +744,8 @@ fn filled(
     requires resume { paths.resume ≡ first_of (codes "resume") (rows_of (found_of matches.now)) }
     requires save { paths.save ≡ first_of (codes "save") (rows_of (found_of matches.now)) }
     requires log { option_map log_by paths.log ≡ log_of (rows_of (found_of matches.now)) }
-    ensures { ordered_by result ≡ ordered (rows_of (found_of matches.now)) (record { workers = settings.counts.workers; per_host = settings.counts.per_host; max_urls = settings.counts.max_urls })
-        settings.proxies (naming_by settings.names) settings.fields (mannered settings.manner) (retries_by settings.retries) level (filters.names.given, filters.names.excluded) (filters.places.given, filters.places.excluded) (filters.hosts.given, filters.hosts.excluded) (filters.sought.accepted, filters.sought.rejected) start }
+    ensures { ordered_by result ≡ ordered (rows_of (found_of matches.now)) (record { workers = settings.counts.workers; per_host = settings.counts.per_host; max_urls = settings.counts.max_urls; quota = settings.counts.quota })
+        settings.proxies (naming_by settings.names) settings.fields (mannered settings.manner) (retries_by settings.retries) level (filters.names.given, filters.names.excluded) (filters.places.given, filters.places.excluded) (filters.hosts.given, filters.hosts.excluded) (filters.sought.accepted, filters.sought.rejected) filters.rows start }
 {
     let Settings {
         counts,
@@ -729,6 +760,7 @@ fn filled(
         places,
         hosts,
         sought,
+        rows,
     } = filters;
     Order {
         plan: Plan {
@@ -754,13 +786,16 @@ fn filled(
         },
         logins: Vec::new(alloc),
         workers: counts.workers,
+        links: links(matches, rows),
         keeps_connections: !is_set(matches, "no-http-keep-alive"),
         source: source(matches),
+        quota: counts.quota,
         trace: is_set(matches, "trace"),
         quiet: is_set(matches, "quiet"),
         log: paths.log,
         prefix: paths.prefix,
         names: naming,
+        converts: is_set(matches, "convert-links"),
         fields,
         manner,
         retries,
@@ -771,7 +806,7 @@ fn filled(
     }
 }
 
-// The limit of the level, or no hop where links aren't followed.
+// The limit of the level, or no hop if links aren't followed.
 fn limit_within(matches: &ArgMatches, level: Limit) -> Limit
     requires { is_in_range level ≡ true }
     ensures value { result ≡ limit_within level (rows_of (found_of matches.now)) }
@@ -781,6 +816,17 @@ fn limit_within(matches: &ArgMatches, level: Limit) -> Limit
         level
     } else {
         Limit::AtMost(0)
+    }
+}
+
+// Which links of pages are taken, of those that are taken by their place.
+fn links(matches: &ArgMatches, rows: RowSet) -> LinkRules
+    ensures { result ≡ links_of rows (rows_of (found_of matches.now)) }
+{
+    LinkRules {
+        robots: honours_robots(matches),
+        relative: is_set(matches, "relative"),
+        rows,
     }
 }
 
@@ -817,7 +863,7 @@ fn file(alloc: Global, matches: &ArgMatches, id: &str) -> Result<Option<FilePath
     }
 }
 
-// The file that takes what is told.
+// The file that takes the text of the run.
 #[tactic(auto, unfolding(crate::specs::Order::log_of))]
 fn log(alloc: Global, matches: &ArgMatches) -> Result<Option<Log>, AllocError>
     ensures { IfOk result (λ log. option_map log_by log ≡ log_of (rows_of (found_of matches.now))) }
@@ -858,7 +904,7 @@ fn read_written(alloc: Global, words: &[String]) -> Result<Order, LineFault>
     }
 }
 
-// What is wrong with a word that isn't read, for which `clap` alone gives this kind: of a word that it takes it says that START lacks.
+// What is wrong with a word that isn't read if `clap` alone gives this kind: of a word that it accepts it says that START is missing.
 fn unread_kind(kind: ErrorKind) -> LineFault
     ensures { (without_kind result ≡ words_refused) ⊎ (result ≡ fault.Memory) }
 {
@@ -884,7 +930,7 @@ fn kind_alone(alloc: Global, word: &str) -> Result<ErrorKind, AllocError> {
     Ok(kind_of_words(alloc, words.as_slice()))
 }
 
-// What is wrong with a word that isn't read, or what it asks for.
+// What is wrong with a word that isn't read, or what it requests.
 fn unread_fault(alloc: Global, word: &str) -> LineFault
     ensures { (without_kind result ≡ refusal_of word.now) ⊎ (result ≡ fault.Memory) }
 {
@@ -973,7 +1019,7 @@ fn read_said(alloc: Global, said: &[Saying<&str>]) -> Result<Order, LineFault>
 }
 
 /// Reads the words of a command line, without the program's name. Of several faults the lowest is named, in the order of
-/// `LineFault`, want of memory aside. An option may be given several times, and the last counts: words that say the same of each
+/// `LineFault`, except `Memory`. An option may be given several times, and the last counts: words that say the same of each
 /// option last order the same, in whatever order they say it.
 pub fn read_order(alloc: Global, words: &[&str]) -> Result<Order, LineFault>
     ensures answers { AnswersOrder result (order_of (map (λ w. w.now) words.now)) }

@@ -7,7 +7,7 @@ use std::io::Write;
 use std::marker::Model;
 use std::time::Clock;
 
-/// Writes what another is to write, once the line is cleared, so that both may stand on one terminal.
+/// Writes what another is to write, once the line is cleared, so that both may be on one terminal.
 #[derive(Drop)]
 pub struct BehindLine<'a, W: Write + Drop, R: Clock + Eprint> {
     inner: W,

@@ -1,6 +1,6 @@
 //! What a person sees on a terminal while a site is retrieved: one line, which is rewritten now and then. It counts what
-//! connections did, so it holds no lock and changes nothing of what is asked for or answered. No clause speaks of the line.
-//! Its tests stand in `live_tests`.
+//! connections did, so it holds no lock and changes nothing of what is requested or answered. No clause speaks of the line.
+//! Its tests are in `live_tests`.
 #![tactic(auto)]
 
 mod behind_line;

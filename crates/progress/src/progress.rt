@@ -5,18 +5,18 @@ use std::time::{Clock, Instant};
 /// The least milliseconds between two lines.
 const PAUSE: u64 = 250;
 
-/// Counts what the connections of a run did, and tells it on standard error at most four times a second. All workers of a
-/// run share it.
+/// Counts what the connections of a run did, and reports it on standard error at most four times a second. All workers of
+/// a run share it.
 #[derive(Drop)]
 pub struct Progress<'a, R: Clock + Eprint> {
     rt: &'a R,
-    // When the run began; none where nothing is to be shown.
+    // When the run began; none if nothing is to be shown.
     start: Option<Instant>,
     answered: AtomicU64,
     failed: AtomicU64,
     // How many answers came from a record.
     recorded: AtomicU64,
-    // How many addresses wait, as who knows it noted last.
+    // How many addresses wait, by the last note of who knows it.
     waiting: AtomicUsize,
     bytes: AtomicU64,
     // How many milliseconds after the start the next line may be written.
@@ -24,8 +24,8 @@ pub struct Progress<'a, R: Clock + Eprint> {
 }
 
 impl<'a, R: Clock + Eprint> Progress<'a, R> {
-    /// The progress of a run that begins now. It is shown where this is true, as where standard error is a terminal, and the
-    /// clock can be read. Takes no memory.
+    /// The progress of a run that begins now. It is shown if this is true, for example if standard error is a terminal, and
+    /// the clock can be read. Takes no memory.
     pub fn new(rt: &'a R, shown: bool) -> Progress<'a, R> {
         let start = if shown { Instant::now(rt).ok() } else { None };
         Progress {
@@ -40,7 +40,7 @@ impl<'a, R: Clock + Eprint> Progress<'a, R> {
         }
     }
 
-    // Counts a connection that has ended, over which so many bytes came, and shows the line where it is due.
+    // Counts a connection that has ended, over which so many bytes came, and shows the line if it is due.
     pub(crate) fn ended(&self, failed: bool, bytes: u64) {
         let Some(start) = &self.start else {
             return;
@@ -51,7 +51,7 @@ impl<'a, R: Clock + Eprint> Progress<'a, R> {
         self.show_due(start);
     }
 
-    /// Counts an answer that came from a record, and shows the line where it is due.
+    /// Counts an answer that came from a record, and shows the line if it is due.
     pub fn took_recorded(&self) {
         let Some(start) = &self.start else {
             return;
@@ -60,7 +60,7 @@ impl<'a, R: Clock + Eprint> Progress<'a, R> {
         self.show_due(start);
     }
 
-    // Shows the line where it is due.
+    // Shows the line if it is due.
     fn show_due(&self, start: &Instant) {
         let Ok(elapsed) = start.elapsed(self.rt) else {
             return;
@@ -71,7 +71,7 @@ impl<'a, R: Clock + Eprint> Progress<'a, R> {
         }
     }
 
-    /// Where it is noted how many addresses wait: the line shows the number that stands there.
+    /// The place in which it is noted how many addresses wait: the line shows the number that is there.
     pub fn waiting(&self) -> &AtomicUsize {
         &self.waiting
     }
@@ -87,7 +87,7 @@ impl<'a, R: Clock + Eprint> Progress<'a, R> {
                 .is_ok()
     }
 
-    // Covers the line before, however long it was, and writes this one there. Where it can't be written, nobody sees it.
+    // Covers the line before, however long it was, and writes this one there. If it can't be written, nobody sees it.
     fn show(&self, now: u64) {
         let answered = self.answered.load(Ordering::SeqCst);
         let failed = self.failed.load(Ordering::SeqCst);
@@ -108,7 +108,7 @@ impl<'a, R: Clock + Eprint> Progress<'a, R> {
         };
     }
 
-    /// Ends the line, and clears it where it was shown: no other is written. Later calls change nothing.
+    /// Ends the line, and clears it if it was shown: no other is written. Later calls change nothing.
     pub fn clear(&self) {
         let due = self.due.swap(u64::MAX, Ordering::SeqCst);
         if due != PAUSE && due != u64::MAX {

@@ -1,5 +1,5 @@
--- What a fetcher with a journal hands over, seen from before and behind its calls.
-use Rattle.std.proofs.Common.{◌≡◌, ◌∙◌, ◌⊎◌, ℕ, Bool, List, [], ◌∷◌, ◌++◌, Option, Result, Ok, Err, OnErr, sym, ap, subst, inl, inr}
+-- What a fetcher with a journal hands over, seen from before and after its calls.
+use Rattle.std.proofs.Common.{◌≡◌, ◌∙◌, ◌⊎◌, ℕ, List, [], ◌∷◌, ◌++◌, Option, Result, Ok, Err, OnErr, sym, ap, subst, inl, inr}
 use Rattle.std.specs.Io.KnownBytes.{Appends}
 use Rattle.kept_bodies.specs.Bodies.{BodyValue}
 use Rattle.streams.specs.Streams.{AppendsFront}
@@ -12,6 +12,7 @@ use Rattle.answer_notes.specs.declared.told.Told.{Told}
 use Rattle.answer_notes.specs.declared.noted.Noted.{Noted}
 use Rattle.site_records.specs.WrittenEntries.{written_note}
 use Rattle.record_journal.specs.Handed.{Journaling, IsHanded}
+use Rattle.html_links.specs.declared.rules.LinkRules.{LinkRules}
 
 -- what is so holds of a call that failed
 pub on_err : {T E P : Type 0} (r : Result T E) → P → OnErr r P
@@ -34,10 +35,10 @@ is_handed contents {n} {m} {j} {kept} old new same before note (inr (refused, mo
       more ∙ ap (λ ns. ns ++ n ∷ []) before ∙ ap (λ x. old.kept ++ x ∷ []) note,
     )
 
--- what was told says the answer that was made of it
-pub says_told : {S : Type 0} (says : S → AddressText → Outcome → BodyValue → Type 0) {was old : S} {honours robots : Bool} {at : AddressText} (told : Told) (a : Answer BodyValue) → was ≡ old → robots ≡ honours
-    → a.outcome ≡ outcome_told robots at told → a.body ≡ body_told told → says was at (outcome_told honours at told) (body_told told) → says old at a.outcome a.body
-says_told says told a site robots outcome body said = rw (outcome, body, robots, sym site) said
+-- what was received says the answer that was made of it
+pub says_told : {S : Type 0} (says : S → AddressText → Outcome → BodyValue → Type 0) {was old : S} {given links : LinkRules} {at : AddressText} (told : Told) (a : Answer BodyValue) → was ≡ old → links ≡ given
+    → a.outcome ≡ outcome_told links at told → a.body ≡ body_told told → says was at (outcome_told given at told) (body_told told) → says old at a.outcome a.body
+says_told says told a site links outcome body said = rw (outcome, body, links, sym site) said
 
 -- a journal gained a front of the entry of a note over what is the same before, and so of one that is equal
 pub half_handed : {J : Type 0} (contents : J → Option (List ℕ)) {n m : Noted} {j old : J} (new : J) → j ≡ old → n ≡ m

@@ -1,4 +1,4 @@
--- What a fetcher with a journal does with what it is told: the journal has it, or the fetcher keeps it.
+-- What a fetcher with a journal does with what it receives: the journal has it, or the fetcher keeps it.
 use Rattle.std.specs.Prelude.{◌≡◌, ◌⊎◌, ℕ, Bool, List, [], ◌∷◌, ◌++◌, Option}
 use Rattle.std.specs.Io.KnownBytes.{Appends}
 use Rattle.kept_bodies.specs.Bodies.{BodyValue}
@@ -12,15 +12,16 @@ use Rattle.answer_notes.specs.declared.told.Told.{Told}
 use Rattle.answer_notes.specs.declared.noted.Noted.{Noted}
 use Rattle.answer_notes.specs.declared.noted.Noted.TheVariants.{Page, Chain}
 use Rattle.site_records.specs.WrittenEntries.{written_note}
+use Rattle.html_links.specs.declared.rules.LinkRules.{LinkRules}
 
--- a fetcher with a journal, whether what it is told is to be saved, and the notes that the journal didn't take
+-- a fetcher with a journal, whether what it receives is to be saved, and the notes that the journal didn't take
 pub record Journaling (F J : Type 0) : Type 0 where
   pub inner : F
   pub journal : J
   pub is_recording : Bool
   pub kept : List Noted
 
--- the journal gained the entry of the note; or a front of it, and the note is kept behind the others
+-- the journal gained the entry of the note; or a front of it, and the note is kept after the others
 abbrev pub IsHanded : {F J : Type 0} → (J → Option (List ℕ)) → Noted → Journaling F J → Journaling F J → Type 0
 IsHanded contents note old new =
     (Appends (contents old.journal) (contents new.journal) (written_note note) × (new.kept ≡ old.kept))
@@ -31,9 +32,9 @@ abbrev pub IsStill : {F J : Type 0} → Journaling F J → Journaling F J → Ty
 IsStill old new = (new.journal ≡ old.journal) × (new.kept ≡ old.kept)
 
 -- a note of this address was handed over, which says this answer
-abbrev pub HandsPage : {F J : Type 0} → (J → Option (List ℕ)) → Bool → AddressText → Answer BodyValue → Journaling F J → Journaling F J → Type 0
-HandsPage contents robots at answer old new =
-    (told : Told) × IsHanded contents (Page at told) old new × (answer.outcome ≡ outcome_told robots at told) × (answer.body ≡ body_told told)
+abbrev pub HandsPage : {F J : Type 0} → (J → Option (List ℕ)) → LinkRules → AddressText → Answer BodyValue → Journaling F J → Journaling F J → Type 0
+HandsPage contents links at answer old new =
+    (told : Told) × IsHanded contents (Page at told) old new × (answer.outcome ≡ outcome_told links at told) × (answer.body ≡ body_told told)
 
 -- a note of this origin was handed over, which says these rules
 abbrev pub HandsChain : {F J : Type 0} → (J → Option (List ℕ)) → OriginText → RuleSetValue → Journaling F J → Journaling F J → Type 0

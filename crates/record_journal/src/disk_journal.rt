@@ -16,21 +16,21 @@ const PAUSE: u64 = 1000;
 pub struct DiskJournal<D: Files> {
     path: String,
     tail: Mutex<Tail<D::File>>,
-    // The same open file, by which what was added is brought onto the disk while others add more; none where there is no second
+    // The same open file, by which what was added is brought onto the disk while others add more; none if there is no second
     // handle of it.
     synced: Option<D::File>,
-    // How many bytes stood there before this run added any.
+    // How many bytes were there before this run added any.
     since: u64,
     // Whether that is no entry.
     is_new: bool,
     is_removed: AtomicBool,
-    // When it was opened; none where the clock can't be read.
+    // When it was opened; none if the clock can't be read.
     start: Option<Instant>,
     // How many milliseconds after that what was added is next to be brought onto the disk.
     due: AtomicU64,
 }
 
-// What stands under the lock is lent to functions of its own: there no way out of them lets go of the lock.
+// These take `&mut` to the locked data, so that no early return of theirs drops the guard.
 
 // Adds an entry.
 fn append_to<F: Write + OpenFile + Drop>(tail: &mut Tail<F>, entry: &[u8]) -> Added {
@@ -42,7 +42,7 @@ fn close<F: Write + OpenFile + Drop>(tail: &mut Tail<F>) {
     tail.is_open = false;
 }
 
-// Copies what stands there whole behind so many bytes.
+// Copies what is there whole after this many bytes.
 fn copy_behind<F: Read + Write + Seek + OpenFile + Drop, W: Write>(
     tail: &mut Tail<F>,
     since: u64,
@@ -57,7 +57,7 @@ fn copy_behind<F: Read + Write + Seek + OpenFile + Drop, W: Write>(
     Ok(())
 }
 
-// Whether it has at most so many bytes, and each entry that it was to have stands there whole.
+// Whether it has at most this many bytes, and each entry that it was to have is there whole.
 fn is_whole<F: Write + OpenFile + Drop>(tail: &mut Tail<F>, most: u64) -> io::Result<bool> {
     let len = tail.file.metadata()?.len();
     Ok(tail.is_open && tail.whole == len && len <= most)
@@ -101,9 +101,9 @@ impl<D: Files> DiskJournal<D> {
         self.tail.lock(rt).is_open
     }
 
-    // Adds an entry, and answers whether it stands there whole. A person is told of the first that doesn't.
+    // Adds an entry, and returns whether it is there whole. The first that isn't is reported to a person.
     pub(crate) fn append<R: Wait + Clock + Eprint>(&self, rt: &R, entry: &[u8]) -> bool {
-        // The lock is let go here: what is told and brought onto the disk keeps nobody from adding more.
+        // The lock is released here: reporting, and bringing entries onto the disk, keeps nobody from adding more.
         let added = append_to(&mut self.tail.lock(rt), entry);
         match added {
             Added::Whole => {
@@ -123,8 +123,8 @@ impl<D: Files> DiskJournal<D> {
         copy_behind(&mut self.tail.lock(rt), self.since, to)
     }
 
-    // Makes it the file of a record, where it is one that has nothing but what this run added behind so many bytes, those of the
-    // first line, and is no longer than that. Answers whether it is.
+    // Makes it the file of a record, if it is one that has nothing but what this run added after this many bytes, those of the
+    // first line, and is no longer than that. Returns whether it is.
     pub(crate) fn become_record<R: Wait>(
         &self,
         rt: &R,
@@ -144,7 +144,7 @@ impl<D: Files> DiskJournal<D> {
         Ok(is_record)
     }
 
-    // Brings what was added onto the disk, where that is due and this worker is the one to do it.
+    // Brings what was added onto the disk, if that is due and this worker is the one to do it.
     fn sync_where_due<R: Wait + Clock + Eprint>(&self, rt: &R) {
         let (Some(start), Some(synced)) = (&self.start, &self.synced) else {
             return;
@@ -170,14 +170,14 @@ impl<D: Files> DiskJournal<D> {
                 .is_ok()
     }
 
-    // Removes it. Later calls change nothing: another run's may stand there then.
+    // Removes it. Later calls change nothing: another run's may be there then.
     pub(crate) fn remove(&self, disk: &D) {
         if !self.is_removed.swap(true, Ordering::SeqCst) {
             let _ = disk.remove_file(self.path.as_str());
         }
     }
 
-    // Removes it where it has no entry.
+    // Removes it if it has no entry.
     pub(crate) fn remove_where_empty<R: Wait>(&self, rt: &R, disk: &D) {
         let whole = self.tail.lock(rt).whole;
         if self.is_new && whole == self.since {
@@ -185,7 +185,7 @@ impl<D: Files> DiskJournal<D> {
         }
     }
 
-    // Tells a person that what comes from here on isn't in the journal.
+    // Reports to a person that what comes from here on isn't in the journal.
     pub(crate) fn tell_closed<R: Eprint>(&self, rt: &R) {
         let path = self.path.as_str();
         let _ = eprintln!(rt;

@@ -19,7 +19,7 @@ pub(crate) struct HeldJournal<D: Files> {
     is_new: bool,
 }
 
-// Whether a file stands at a path, or nothing. What is neither is refused: a link isn't followed, and nobody waits at a pipe.
+// Whether a file is at a path, or nothing. What is neither is refused: a link isn't followed, and nobody waits at a pipe.
 pub(crate) fn look_for_file<D: Files>(disk: &D, path: &str) -> io::Result<bool> {
     match disk.symlink_metadata(path) {
         Ok(found) if found.is_file() => Ok(true),
@@ -29,7 +29,7 @@ pub(crate) fn look_for_file<D: Files>(disk: &D, path: &str) -> io::Result<bool> 
     }
 }
 
-// Whether the open file still stands at the path: a run that is done removes the journal that it holds.
+// Whether the open file is still at the path: a run that is done removes the journal that it holds.
 pub(crate) fn is_at<D: Files>(disk: &D, file: &D::File, path: &str) -> io::Result<bool> {
     let open = file.metadata()?;
     match disk.symlink_metadata(path) {
@@ -49,7 +49,7 @@ fn write_first_line<W: Write>(alloc: Global, file: &mut W) -> Result<u64, Journa
     Ok(line.len() as u64)
 }
 
-// Cuts a journal to so many bytes, and writes the first line where none is left. Gives how many stand there then.
+// Cuts a journal to this many bytes, and writes the first line if none is left. Returns how many bytes it has then.
 fn cut<F: Write + OpenFile>(alloc: Global, file: &mut F, whole: u64) -> Result<u64, JournalFault> {
     file.set_len(whole)?;
     if whole > 0 {
@@ -59,7 +59,7 @@ fn cut<F: Write + OpenFile>(alloc: Global, file: &mut F, whole: u64) -> Result<u
 }
 
 impl<D: Files> HeldJournal<D> {
-    /// Opens `SAVED.journal` beside the file of a record, and holds it; it is made where nothing stands there, and what it has
+    /// Opens `SAVED.journal` beside the file of a record, and holds it; it is made if nothing is there, and what it has
     /// stays.
     pub(crate) fn open(disk: &D, alloc: Global, saved: &str) -> Result<HeldJournal<D>, JournalFault>
     where
@@ -78,7 +78,7 @@ impl<D: Files> HeldJournal<D> {
         Ok(HeldJournal { path, file, is_new })
     }
 
-    /// Where it stands.
+    /// Its path.
     pub(crate) fn path(&self) -> &str {
         self.path.as_str()
     }
@@ -93,7 +93,7 @@ impl<D: Files> HeldJournal<D> {
         &mut self.file
     }
 
-    /// From here on entries are added behind these bytes, those of a whole record or none; what else is there is dropped. Where
+    /// From here on entries are added after these bytes, those of a whole record or none; what else is there is dropped. If
     /// that fails, the journal is held all the same, and takes no entry.
     pub(crate) fn begin<R: Clock>(self, rt: &R, alloc: Global, whole: u64) -> DiskJournal<D> {
         let HeldJournal {

@@ -1,14 +1,14 @@
-//! What a journal is asked for.
+//! What a journal does.
 ghost use Rattle.std.specs.Prelude.{◌≡◌, ℕ, List, Option, true, false};
 ghost use Rattle.std.specs.Io.KnownBytes.{Appends};
 ghost use Rattle.streams.specs.Streams.{AppendsFront};
 
-/// Takes entries of a record, each as it comes. A journal may tell what it holds; one that others add to tells nothing.
+/// Takes entries of a record, each as it comes. Its contents may be known; those of one that others add to aren't.
 pub trait Journal: Drop {
-    // What it holds, where it tells that.
+    // Its contents, if they are known.
     ghost contents: { Self → Option (List ℕ) };
 
-    /// Adds an entry, and answers whether it stands there whole. Where it doesn't, a front of it may stand there, and it is to be
+    /// Adds an entry, and returns whether it is there whole. If it isn't, a front of it may be there, and it is to be
     /// kept elsewhere.
     fn append(&mut self, entry: &[u8]) -> bool
         ensures taken { result ≡ true → Appends (contents self.old) (contents self.new) entry.now }

@@ -17,7 +17,7 @@ use std::alloc::{AllocError, Global};
 use std::marker::Model;
 use streams::Pieces;
 
-/// Asks a fetcher, and hands what this is told to a journal before it answers. What the journal doesn't take is kept, so that
+/// Asks a fetcher, and hands what this receives to a journal before it answers. What the journal doesn't take is kept, so that
 /// it can be saved when all is done.
 #[derive(Drop)]
 pub struct Journaled<F: Telling, J: Journal> {
@@ -36,7 +36,7 @@ impl<F: Telling, J: Journal> Model for Journaled<F, J> {
     ghost view = { λ f. record { inner = f.inner; journal = f.journal; is_recording = f.is_recording; kept = f.kept.items } };
 }
 
-// The text of a note's entry. The error is want of memory.
+// The text of a note's entry. Fails only if memory runs out.
 fn entry_of(alloc: Global, note: &Noted) -> Result<Vec<u8>, AllocError>
     ensures { IfOk result (λ entry. entry.items ≡ written_note note.now) }
 {
@@ -45,7 +45,7 @@ fn entry_of(alloc: Global, note: &Noted) -> Result<Vec<u8>, AllocError>
     pieces.joined(alloc)
 }
 
-// Adds a note's entry to the journal, and answers whether it stands there whole. Where there is no memory for it, it doesn't.
+// Adds a note's entry to the journal, and returns whether it is there whole. It isn't if there is no memory for it.
 fn is_taken<J: Journal>(alloc: Global, journal: &mut J, note: &Noted) -> bool
     ensures taken { result ≡ true → Appends (J.contents journal.old) (J.contents journal.new) (written_note note.now) }
     ensures refused { result ≡ false → AppendsFront (J.contents journal.old) (J.contents journal.new) (written_note note.now) }
@@ -57,7 +57,7 @@ fn is_taken<J: Journal>(alloc: Global, journal: &mut J, note: &Noted) -> bool
 }
 
 impl<F: Telling, J: Journal> Journaled<F, J> {
-    /// Asks `inner`. Where answers are saved, each goes to the journal. Takes no memory; later growth comes from `alloc`.
+    /// Asks `inner`. If answers are saved, each goes to the journal. Takes no memory; later growth comes from `alloc`.
     pub fn new(alloc: Global, inner: F, journal: J, is_recording: bool) -> Journaled<F, J>
         ensures inner { result.inner ≡ inner }
         ensures journal { result.journal ≡ journal }
@@ -103,29 +103,29 @@ impl<F: Telling, J: Journal> Journaled<F, J> {
         Ok(())
     }
 
-    // Asks for a page, and hands over what was told of it. The error is want of memory.
+    // Requests a page, and hands over what was received. Fails only if memory runs out.
     fn ask_and_hand(&mut self, at: &Address) -> Result<Answer<Body>, AllocError>
         ensures site { F.site self.new.inner ≡ F.site self.old.inner }
-        ensures honours { F.honours self.new.inner ≡ F.honours self.old.inner }
+        ensures links { F.links self.new.inner ≡ F.links self.old.inner }
         ensures is_recording { self.new.is_recording ≡ self.old.is_recording }
         ensures told { IfOk result (λ a. F.says (F.site self.old.inner) at.now a.outcome a.body) }
         ensures asked { OnOk result (F.log self.new.inner ≡ F.log self.old.inner ++ ask.Page at.now ∷ []) }
         ensures refused { OnErr result (GainedAtMost (F.log self.old.inner) (F.log self.new.inner) (ask.Page at.now)) }
-        ensures handed { IfOk result (λ a. HandsPage J.contents (F.honours self.old.inner) at.now a self.old self.new) }
+        ensures handed { IfOk result (λ a. HandsPage J.contents (F.links self.old.inner) at.now a self.old self.new) }
         ensures unkept { OnErr result (self.new.kept ≡ self.old.kept) }
         ensures half { OnErr result (IsHalfHandedPage J.contents at.now self.old self.new) }
     {
         let name = at.try_clone()?;
         let told = self.inner.ask_told(at)?;
-        let answer = told.answer(self.alloc, at, self.inner.honours_robots())?;
+        let answer = told.answer(self.alloc, at, self.inner.link_rules())?;
         self.hand(Noted::Page(name, told))?;
         Ok(answer)
     }
 
-    // Asks for an origin's rules, and hands over what was told. The error is want of memory.
+    // Requests an origin's rules, and hands over what was received. Fails only if memory runs out.
     fn ask_robots_and_hand(&mut self, of: &Origin) -> Result<RuleSet, AllocError>
         ensures site { F.site self.new.inner ≡ F.site self.old.inner }
-        ensures honours { F.honours self.new.inner ≡ F.honours self.old.inner }
+        ensures links { F.links self.new.inner ≡ F.links self.old.inner }
         ensures is_recording { self.new.is_recording ≡ self.old.is_recording }
         ensures told { IfOk result (λ r. F.rules (F.site self.old.inner) of.now r) }
         ensures asked { OnOk result (F.log self.new.inner ≡ F.log self.old.inner ++ ask.Rules of.now ∷ []) }
@@ -161,7 +161,7 @@ impl<F: Telling, J: Journal> Fetcher for Journaled<F, J> {
         ensures refused { OnErr result (GainedAtMost (F.log self.old.inner) (F.log self.new.inner) (ask.Page at.now)) }
         // Where answers are saved, what was told is handed over before it is answered.
         ensures is_recording { self.new.is_recording ≡ self.old.is_recording }
-        ensures handed { IfOk result (λ a. MatchBool self.old.is_recording (HandsPage J.contents (F.honours self.old.inner) at.now a self.old self.new) (IsStill self.old self.new)) }
+        ensures handed { IfOk result (λ a. MatchBool self.old.is_recording (HandsPage J.contents (F.links self.old.inner) at.now a self.old self.new) (IsStill self.old self.new)) }
         ensures unkept { OnErr result (self.new.kept ≡ self.old.kept) }
         ensures half { OnErr result (IsHalfHandedPage J.contents at.now self.old self.new) }
     {
@@ -193,7 +193,7 @@ impl<F: Telling, J: Journal> Fetcher for Journaled<F, J> {
     }
 }
 
-// What was told and isn't in the journal.
+// What was received and isn't in the journal.
 impl<F: Telling, J: Journal> Recording for Journaled<F, J> {
     ghost noted = { λ f. f.kept };
 

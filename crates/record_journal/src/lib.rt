@@ -2,9 +2,9 @@
 //! finds its answers again. This crate knows when an answer is kept where, and how the file of a record gets its place; the
 //! format is that of records (`site_records`).
 //!
-//! Beside `FILE`, which is always a whole record, stands `FILE.journal`: a record of version 2 that grows by one write for each
+//! Beside `FILE`, which is always a whole record, is `FILE.journal`: a record of version 2 that grows by one write for each
 //! answer, under a lock that no ask holds. A journal that was cut at any byte still begins with the whole entries of the first
-//! answers. What the disk holds isn't proved; the tests show it. Its tests stand in `retrieval_tests`.
+//! answers. What the disk holds isn't proved; the tests show it. Its tests are in `retrieval_tests`.
 #![tactic(auto)]
 
 mod disk_journal;

@@ -7,7 +7,7 @@ use std::fs::Files;
 use std::sync::Wait;
 use std::time::Clock;
 
-/// Adds one worker's entries to the journal of the run, where there is one by then. Others add to it too, so it tells nothing.
+/// Adds one worker's entries to the journal of the run, if there is one by then. Its contents aren't known: others add too.
 #[derive(Drop)]
 pub struct Pen<'a, R: Wait + Clock + Eprint, D: Files> {
     rt: &'a R,

@@ -17,9 +17,9 @@ const MAX_READ: u64 = 1_073_741_824;
 const FIRST_LEN: u64 = 15;
 
 /// A record's file in the making. What is written goes into `SAVED.part`. When it is flushed, the entries of the run's journal
-/// are added behind, all is brought onto the disk, the part gets the file's name, and the journal is removed. Where nothing but
+/// are added after it, all is brought onto the disk, the part gets the file's name, and the journal is removed. If nothing but
 /// the first line was written, the journal is that record, and gets the file's name itself. So the file is the old one or the new
-/// one at any moment, and an answer is in the file or in the journal. Where a call fails, the old file and the journal stay.
+/// one at any moment, and an answer is in the file or in the journal. If a call fails, the old file and the journal stay.
 ///
 /// A link, a directory or a device isn't replaced.
 pub struct SavedFile<'a, R: Wait + Eprint, D: Files> {
@@ -33,7 +33,7 @@ pub struct SavedFile<'a, R: Wait + Eprint, D: Files> {
     journal: Option<&'a DiskJournal<D>>,
 }
 
-// By hand: who drops one proves a call, and nothing of what it holds.
+// Written by hand: a user that drops one proves a call, and nothing about its fields.
 impl<'a, R: Wait + Eprint, D: Files> Drop for SavedFile<'a, R, D> {
     fn drop(self) {
         let SavedFile {
@@ -76,7 +76,7 @@ pub(crate) fn can_be_made<D: Files>(
     }
 }
 
-// The file that is being made, which is made now where none is.
+// The file that is being made, which is made now if there is none.
 fn opened<'a, D: Files>(
     disk: &D,
     path: &str,
@@ -103,8 +103,8 @@ impl<'a, R: Wait + Eprint, D: Files> SavedFile<'a, R, D>
 where
     D::File: Close,
 {
-    /// The file at this path, with the run's journal beside it, where there is one. Nothing is made before the first write. The
-    /// error is want of memory.
+    /// The file at this path, with the run's journal beside it, if there is one. Nothing is made before the first write. Fails
+    /// only if memory runs out.
     pub fn new(
         rt: &'a R,
         disk: &'a D,
@@ -123,7 +123,7 @@ where
         })
     }
 
-    // Refuses to go on behind a write that failed: the part lacks bytes.
+    // Refuses to go on after a write that failed: bytes are missing in the part.
     fn writable(&self) -> io::Result<()> {
         if self.is_lost {
             return Err(Error::from(ErrorKind::BrokenPipe));
@@ -131,7 +131,7 @@ where
         Ok(())
     }
 
-    // Takes the part away where a write failed for good, so that a full disk isn't kept full by it.
+    // Takes the part away if a write failed for good, so that a full disk isn't kept full by it.
     fn give_up(&mut self, kind: ErrorKind) {
         if kind == ErrorKind::Interrupted {
             return;
@@ -141,7 +141,7 @@ where
         let _ = self.disk.remove_file(self.part.as_str());
     }
 
-    // Puts the part in place, or the journal where nothing else is saved.
+    // Puts the part in place, or the journal if nothing else is saved.
     fn put(&self, file: D::File) -> io::Result<()> {
         let _ = look_for_file(self.disk, self.path.as_str())?;
         if file.metadata()?.len() == FIRST_LEN && self.is_journal_put()? {
@@ -151,7 +151,7 @@ where
         self.put_part(file)
     }
 
-    // Gives the journal the file's name, where it is the record. Answers whether it did.
+    // Gives the journal the file's name, if it is the record. Returns whether it did.
     fn is_journal_put(&self) -> io::Result<bool> {
         match self.journal {
             Some(journal) => journal.become_record(
@@ -181,14 +181,14 @@ where
         Ok(())
     }
 
-    // Removes the journal: all that it has is in the file. Where it stays, a later run takes from it what the file has too.
+    // Removes the journal: all that it has is in the file. If it stays, a later run takes from it what the file has too.
     fn drop_journal(&self) {
         if let Some(journal) = self.journal {
             journal.remove(self.disk);
         }
     }
 
-    // Tells a person that the file is whole, and that no run will take it.
+    // Reports to a person that the file is whole, and that no run will take it.
     fn tell_long(&self, len: u64) {
         let path = self.path.as_str();
         let _ = eprintln!(self.rt;
@@ -221,7 +221,7 @@ where
         written
     }
 
-    /// Puts what was written in place; where nothing was, it changes nothing.
+    /// Puts what was written in place; if nothing was, it changes nothing.
     fn flush(&mut self) -> io::Result<()> {
         self.writable()?;
         let Some(file) = self.file.take() else {

@@ -3,6 +3,7 @@ use crate::disk_journal::DiskJournal;
 use crate::held_journal::{HeldJournal, look_for_file};
 use crate::journal_fault::JournalFault;
 use crate::saved_file::can_be_made;
+use html_links::LinkRules;
 use site_inputs::InputFault;
 use site_records::{RecordFault, RecordFront, RecordedSite, read_front, write_record};
 use std::alloc::{AllocError, Global};
@@ -22,7 +23,7 @@ const FIRST_LINE: &[u8] = b"wgetr-record 2\n";
 /// Why a run may not save there.
 #[derive(Clone, Copy, Debug, PartialEq, Eq, Error)]
 pub enum HoldFault {
-    /// Another run saves there, answers are there that this run would lose, or no file can be made. A person is told.
+    /// Another run saves there, answers are there that this run would lose, or no file can be made. It is reported.
     #[error("answers can't be saved there")]
     Refused,
     /// Memory ran out.
@@ -33,11 +34,11 @@ pub enum HoldFault {
 /// Where a run saves its answers: nowhere, until it holds the file of a record. All its workers share it.
 pub struct Saving<D: Files> {
     journal: OnceLock<DiskJournal<D>>,
-    // What the journal had that is resumed, until it is taken: a record, or nothing where there was no journal.
+    // What the journal had that is resumed, until it is taken: a record, or nothing if there was no journal.
     left: Mutex<Option<Vec<u8>>>,
 }
 
-// By hand: who drops one proves a call, and nothing of what it holds.
+// Written by hand: a user that drops one proves a call, and nothing about its fields.
 impl<D: Files> Drop for Saving<D> {
     fn drop(self) {
         let Saving {
@@ -47,7 +48,7 @@ impl<D: Files> Drop for Saving<D> {
     }
 }
 
-// What stands in a journal, from its beginning.
+// The contents of a journal, from its beginning.
 fn text_of<R: Eprint, D: Files>(
     rt: &R,
     alloc: Global,
@@ -71,7 +72,7 @@ fn is_journal(text: &[u8]) -> bool {
     text.starts_with(FIRST_LINE) || FIRST_LINE.starts_with(text)
 }
 
-// Tells a person which line of a journal isn't one of a record, and refuses it.
+// Reports to a person which line of a journal isn't one of a record, and refuses it.
 fn refuse_line<R: Eprint, T>(rt: &R, path: &str, line: usize) -> Result<T, HoldFault> {
     let _ = eprintln!(rt;
         "{path}: line {line} is none of a record of version 2; mend it, or move the journal away"
@@ -89,7 +90,7 @@ fn front_of<R: Eprint>(
     if !is_journal(text) {
         return refuse_line(rt, path, 1);
     }
-    match read_front(alloc, text, false) {
+    match read_front(alloc, text, LinkRules::all(false)) {
         Ok(front) => Ok(front),
         Err(InputFault::Memory) => Err(HoldFault::Memory),
         Err(InputFault::Line(line) | InputFault::Address(line)) => refuse_line(rt, path, line),
@@ -111,7 +112,7 @@ fn grouped(alloc: Global, number: usize) -> Result<String, AllocError> {
     Ok(text)
 }
 
-// Tells a person how many answers of a journal are taken, and how many bytes of one that isn't whole are left out.
+// Reports to a person how many answers of a journal are taken, and how many bytes of one that isn't whole are left out.
 fn tell_taken<R: Eprint>(
     rt: &R,
     alloc: Global,
@@ -131,7 +132,7 @@ fn tell_taken<R: Eprint>(
     Ok(())
 }
 
-// Cuts a journal to its front, and tells a person of it. One without a whole first line is a record without entries.
+// Cuts a journal to its front, and reports this to a person. One without a whole first line is a record without entries.
 fn cut_to<R: Eprint>(
     rt: &R,
     alloc: Global,
@@ -147,7 +148,7 @@ fn cut_to<R: Eprint>(
     tell_taken(rt, alloc, path, front.site.entry_count(), torn)
 }
 
-// All bytes of the file at a path, at most so many; none where there is no file.
+// All bytes of the file at a path, at most this many; none if there is no file.
 fn read_at<D: Files>(
     disk: &D,
     alloc: Global,
@@ -162,7 +163,7 @@ fn read_at<D: Files>(
     }
 }
 
-// Whether a file is at a path that a record may replace. What none may replace is refused, and a person is told.
+// Whether a file is at a path that a record may replace. What none may replace is refused, and a person gets a message.
 fn is_file<R: Eprint, D: Files>(rt: &R, disk: &D, saved: &str) -> Result<bool, HoldFault> {
     match look_for_file(disk, saved) {
         Ok(is_there) => Ok(is_there),
@@ -176,7 +177,7 @@ fn is_file<R: Eprint, D: Files>(rt: &R, disk: &D, saved: &str) -> Result<bool, H
     }
 }
 
-// Refuses a file that a run would replace by a record without its answers, and tells a person of it.
+// Refuses a file that a run would replace by a record without its answers, and reports this to a person.
 fn refuse_other<R: Eprint, D: Files>(
     rt: &R,
     disk: &D,
@@ -192,7 +193,7 @@ fn refuse_other<R: Eprint, D: Files>(
     Ok(())
 }
 
-// Refuses a path at which no record can be made, and tells a person of it.
+// Refuses a path at which no record can be made, and reports this to a person.
 fn refuse_unmade<R: Eprint, D: Files>(
     rt: &R,
     disk: &D,
@@ -206,7 +207,7 @@ fn refuse_unmade<R: Eprint, D: Files>(
     Err(HoldFault::Refused)
 }
 
-// Whether a journal is at a path. What is neither a file nor nothing is refused, and a person is told: a link isn't followed, and
+// Whether a journal is at a path. What is neither a file nor nothing is refused with a message: a link isn't followed, and
 // nobody waits at a pipe.
 fn is_beside<R: Eprint, D: Files>(rt: &R, disk: &D, path: &str) -> Result<bool, ReadFault> {
     match look_for_file(disk, path) {
@@ -246,14 +247,14 @@ fn left_beside<R: Eprint, D: Files>(
     }
 }
 
-// The record of a record's answers and of those of a journal that it doesn't have. Where one of both is no record it is handed
-// out as it is, so that its line is told.
+// The record of a record's answers and of those of a journal that it doesn't have. If one of both is no record it is handed
+// out as it is, so that its line is reported.
 fn joined(alloc: Global, record: Vec<u8>, journal: Vec<u8>) -> Result<Vec<u8>, ReadFault> {
-    let Ok(first) = RecordedSite::read_noted(alloc, record.as_slice(), false) else {
+    let Ok(first) = RecordedSite::read_noted(alloc, record.as_slice(), LinkRules::all(false)) else {
         return Ok(record);
     };
     drop(record);
-    let Ok(more) = RecordedSite::read_noted(alloc, journal.as_slice(), false) else {
+    let Ok(more) = RecordedSite::read_noted(alloc, journal.as_slice(), LinkRules::all(false)) else {
         return Ok(journal);
     };
     drop(journal);
@@ -279,14 +280,14 @@ impl<D: Files> Saving<D> {
         }
     }
 
-    /// The journal of the run, where one is held.
+    /// The journal of the run, if one is held.
     pub fn journal(&self) -> Option<&DiskJournal<D>> {
         self.journal.get()
     }
 
     /// Holds the file of a record, so that no other run saves there, and begins its journal. Answers that are left in the journal
     /// stay there. The run is refused if it doesn't resume these, or a file that is there, and if the file is a link, a folder or a
-    /// device. If the journal can't be opened a person is told, and the run goes on without one, unless no file can be made there
+    /// device. If the journal can't be opened, that is reported, and the run goes on without it, unless no file can be made there
     /// at all. To be called once, before anything is requested.
     pub fn hold<R: Wait + Clock + Eprint>(
         &self,
@@ -317,7 +318,7 @@ impl<D: Files> Saving<D> {
         }
     }
 
-    // Begins a journal behind what is left there.
+    // Begins a journal after what is left there.
     fn begin<R: Wait + Clock + Eprint>(
         &self,
         rt: &R,
@@ -335,7 +336,7 @@ impl<D: Files> Saving<D> {
         Ok(())
     }
 
-    // Keeps what is left in a journal, where it is resumed. Gives how many bytes of it stay there.
+    // Keeps what is left in a journal, if it is resumed. Returns how many bytes of it stay there.
     fn take_left<R: Wait + Eprint>(
         &self,
         rt: &R,
@@ -363,7 +364,7 @@ impl<D: Files> Saving<D> {
     }
 
     /// The record at a path, of at most so many bytes, with what the journal beside it has: of two answers of one address, or of
-    /// one origin, that of the record. Where one of both is missing it is the other. A person is told what of the journal is taken.
+    /// one origin, that of the record. If one of both is missing it is the other. What of the journal is taken is reported.
     pub fn read<R: Wait + Eprint>(
         &self,
         rt: &R,

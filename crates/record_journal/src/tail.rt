@@ -9,7 +9,7 @@ use streams::write_text;
 /// What became of an entry.
 #[derive(Clone, Copy, PartialEq, Eq)]
 pub(crate) enum Added {
-    /// It stands there whole.
+    /// It is there whole.
     Whole,
     /// It doesn't, and nothing more will be added.
     Failed,
@@ -17,7 +17,7 @@ pub(crate) enum Added {
     Closed,
 }
 
-/// The end of a journal. Behind an entry that isn't whole nothing is added.
+/// The end of a journal. Nothing is added after an entry that isn't whole.
 #[derive(Drop)]
 pub(crate) struct Tail<F: Write + OpenFile + Drop> {
     pub(crate) file: F,
@@ -27,7 +27,7 @@ pub(crate) struct Tail<F: Write + OpenFile + Drop> {
 }
 
 impl<F: Write + OpenFile + Drop> Tail<F> {
-    /// Adds an entry. Where the file takes only a front of it, the file is cut to what is whole, and nothing is added any more.
+    /// Adds an entry. If the file takes only a front of it, the file is cut to what is whole, and nothing is added any more.
     pub(crate) fn append(&mut self, entry: &[u8]) -> Added
         ensures { AddsToTail F.contents self.old entry.now result self.new }
     {
@@ -40,7 +40,7 @@ impl<F: Write + OpenFile + Drop> Tail<F> {
         };
         if write_text(&mut self.file, entry).is_err() {
             self.is_open = false;
-            // Where it can't be cut, what isn't whole is passed over when it is read.
+            // If it can't be cut, what isn't whole is passed over when it is read.
             let _ = self.file.set_len(self.whole);
             return Added::Failed;
         }

@@ -1,4 +1,4 @@
--- What the entries of a harvest say stands in its frontier's state.
+-- What the entries of a harvest say is in its frontier's state.
 use Rattle.std.proofs.Common.{◌≡◌, ℕ, ◌<◌, ◌≤◌, ◌⊎◌, inl, inr, Bool, true, false, List, Option, Some, None, length, get_or, map, refl, sym, ap, ◌∙◌, subst, arith}
 use Rattle.std.specs.Prelude.{Contains, option_map, slice_get}
 use Rattle.std.proofs.lemmas.Bool.{cases_lt, false≢true}
@@ -28,7 +28,7 @@ pub record Holds (s : State) (u : Text) (d : ℕ) (refusal : Bool) : Type 0 wher
   pub depth : slot.depth ≡ d
   pub refused : is_refused (condition_of slot.progress) ≡ refusal
 
--- an element of a table whose keys stand once is found by its key
+-- an element of a table whose keys occur once is found by its key
 found_among : (s : State) → IsOnce (keys s.entries) → (t : Text × Slot) → Contains s.entries t → lookup s.entries t.0 ≡ Some t.1
 found_among s once t (k, lt, at) = subst (λ (z : Text × Slot). lookup s.entries z.0 ≡ Some z.1) at (found_entry s.entries once k t lt)
 
@@ -69,7 +69,7 @@ pub data FateOf (records : List Recorded) (u : Text) (refused : Bool) (fate : Fa
   by_rules : refused ≡ true → fate ≡ Refused → FateOf records u refused fate
   by_record : (x : Outcome) → Contains records (u, x) → fate ≡ Asked x → FateOf records u refused fate
 
--- where an entry stands in the records
+-- the place of an entry in the records
 pub at_place : (records : List Recorded) (i : ℕ) (r : Recorded) → slice_get records i ≡ Some r → Contains records r
 at_place records i r is = go (cases_lt i (length records))
   where

@@ -1,4 +1,4 @@
--- The lines of a harvest have the names of its kept pages, in their order, and just those pages have one that are to be kept.
+-- The lines of a harvest have the names of its kept pages, in order, and exactly the pages that are to be kept have one.
 use Rattle.std.proofs.Common.{◌≡◌, ◌≢◌, ◌↔◌, ℕ, ◌<◌, zero, suc, inl, inr, Bool, true, false, ◌&&◌, List, [], ◌∷◌, Option, Some, None, IsTrue, length, get_or, map, refl, sym, ap, ◌∙◌, subst, arith}
 use Rattle.std.specs.Prelude.{Contains, AllPairs, MatchOption, is_some, option_map}
 use Rattle.std.specs.List.{filter_map, cons_option}
@@ -28,11 +28,11 @@ use Rattle.report.proofs.ListLaws.{contains_tail, contains_cases, to_map, from_m
 use Rattle.report.proofs.NameLaws.{no_name}
 use Rattle.report.proofs.TableLaws.{same, other, compare_texts, found_stands}
 
--- two texts don't stand each before the other
+-- two texts aren't each before the other
 not_both : (u v : Text) → IsBefore u v → IsBefore v u → ⊥
 not_both u v before after = false≢true (sym (not_before u v before) ∙ after)
 
--- no text stands before one that is it
+-- no text is before one that is it
 before_itself : (u v : Text) → u ≡ v → IsBefore u v → ⊥
 before_itself u v is before = not_before_itself v (subst (λ (w : Text). IsBefore w v) is before)
 
@@ -57,7 +57,7 @@ paired_pages (page ∷ pages) (name ∷ names) long = ap (λ (rest : List Text).
 later_up : (page : Text) (pages : List Text) → IsAscending (page ∷ pages) → IsAscending pages
 later_up page pages up a b d less within = up (suc a) (suc b) d (omega arith) (omega arith)
 
--- the first of an ascending list stands before the others
+-- the first of an ascending list is before the others
 first_before : (page : Text) (pages : List Text) (u : Text) → IsAscending (page ∷ pages) → Contains pages u → IsBefore page u
 first_before page pages u up (k, lt, at) = subst (λ (v : Text). IsBefore page v) at (up 0 (suc k) u (omega arith) (omega arith))
 
@@ -125,7 +125,7 @@ module _ {X Y : Type 0} (key : X → Text) (f : Text → List ℕ → Y) where
 
 -- ---- the lines of a harvest
 
--- what was answered stands in the records
+-- what was answered is in the records
 recorded : {B : Type 0} (h : Harvested B) → AreRecords h → (u : Text) (slot : Slot) (x : Outcome) → lookup h.state.entries u ≡ Some slot → outcome_in slot.progress ≡ Some x → Contains h.records (u, x)
 recorded h are u slot x found is =
     Contains-permutation (filter_map record_of h.state.entries) h.records (u, x) are.same
@@ -220,7 +220,7 @@ both true true h = (refl, refl)
 both true false h = absurd (false≢true h)
 both false b h = absurd (false≢true h)
 
--- whether a page has a name where its outcome is known
+-- whether a page has a name if its outcome is known
 named_by_outcome : (plan : Plan) (s : State) (kept : List Text) (names : List (List ℕ)) (u : Text) (x : Outcome) → length names ≡ length kept
     → Contains kept u ↔ IsKept plan (answers s) u → (answers s).outcome u ≡ Some x → is_some (name_among kept names u) ≡ (is_success x && keeps_of plan u)
 named_by_outcome plan s kept names u x long kept_is said = go (is_success x && keeps_of plan u) refl
@@ -239,7 +239,7 @@ unnamed : (plan : Plan) (s : State) (kept : List Text) (names : List (List ℕ))
     → is_some (name_among kept names u) ≡ false
 unnamed plan s kept names u kept_is none = has_no_name kept names u (λ held. let (y, told, success, keeps) = kept_is.0 held in let no : None ≡ Some y = sym none ∙ told in cc)
 
--- just the lines have a name whose page is to be kept
+-- exactly the lines have a name whose page is to be kept
 pub line_to_keep : {B : Type 0} (plan : Plan) (h : Harvested B) (names : List (List ℕ)) → AreEntries h → AreRecords h → IsOnce (keys h.state.entries) → length names ≡ length h.kept
     → ((u : Text) → Contains h.kept u ↔ IsKept plan (answers h.state) u) → (line : Line) → Contains (harvest_lines_of h names) line → is_some line.name ≡ is_to_keep plan line
 line_to_keep plan h names are records once long kept line among =

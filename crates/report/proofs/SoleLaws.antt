@@ -26,16 +26,16 @@ before_trans u v w a b = ap is_lt (nat_list_cmp_total.trans u v w (less_lt _ a) 
 not_before : (u v : List ℕ) → IsBefore u v → u ≡ v → ⊥
 not_before u v h same = not_before_itself v (subst (λ (w : List ℕ). IsBefore w v) same h)
 
--- ---- lines but for their names
+-- ---- lines except for their names
 
--- two lines say the same of one address, but for the name, which both have or neither
+-- two lines say the same of one address, except for the name, which both have or neither
 pub record AreAlike (a b : Line) : Type 0 where
   pub address : a.address ≡ b.address
   pub depth : a.depth ≡ b.depth
   pub fate : a.fate ≡ b.fate
   pub named : is_some a.name ≡ is_some b.name
 
--- a line stands before each later one
+-- a line is before each later one
 before_later : (x b : Line) (xs : List Line) → AreAscending (x ∷ xs) → Contains xs b → IsBefore x.address b.address
 before_later x b xs up (k, lt, is) = subst (λ (l : Line). IsBefore x.address l.address) is (up zero (suc k) b (omega arith) (omega (arith, lt)))
 
@@ -109,7 +109,7 @@ line_is a b same name =
     ∙ ap (λ f. line b.address b.depth f a.name) same.fate ∙ ap (λ n. line b.address b.depth b.fate n) name in
     is
 
--- lines that are alike are the same where their names are
+-- lines that are alike are the same if their names are
 pub same_lines : (xs ys : List Line) → AllZip AreAlike xs ys → names_in xs ≡ names_in ys → xs ≡ ys
 same_lines [] [] alike names = refl
 same_lines [] (y ∷ ys) alike names = absurd alike

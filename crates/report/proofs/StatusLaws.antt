@@ -1,4 +1,4 @@
--- The outcomes that the lines of a harvest tell are those of its records, so the exit status is the same by either.
+-- The outcomes that the lines of a harvest contain are those of its records, so the exit status is the same by either.
 use Rattle.std.proofs.Common.{◌≡◌, ◌⊎◌, ℕ, Bool, true, false, cond, List, Option, Some, None, map, refl, sym, ap, ◌∙◌, subst}
 use Rattle.std.specs.Prelude.{Contains}
 use Rattle.std.specs.List.{list_any}
@@ -49,7 +49,7 @@ status_alike xs ys there back =
 
 -- ---- the outcomes of a harvest
 
--- what a line tells was recorded
+-- what a line contains was recorded
 told_recorded : {B : Type 0} (h : Harvested B) (names : List (List ℕ)) → AreEntries h → (x : Outcome) → Contains (outcomes_in (harvest_lines_of h names)) x → Contains (map (λ (recorded : Recorded). recorded.1) h.records) x
 told_recorded h names are x among =
     let (line, there, is) = from_given (λ (line : Line). outcome_of line.fate) (harvest_lines_of h names) x among in
@@ -77,7 +77,7 @@ recorded_fate h records once u x among false (Some i) free (y, is) =
     let same : y ≡ x = cc in
     rw is (ap (λ (z : Outcome). Some (Asked z)) same)
 
--- what is recorded is told by a line
+-- what is recorded is in a line
 recorded_told : {B : Type 0} (h : Harvested B) (names : List (List ℕ)) → AreEntries h → AreRecords h → IsOnce (keys h.state.entries) → (u : Text) (x : Outcome) → Contains h.records (u, x) → Contains (outcomes_in (harvest_lines_of h names)) x
 recorded_told h names are records once u x among =
     let said = answered h records once u x among in

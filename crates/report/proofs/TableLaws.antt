@@ -1,4 +1,4 @@
--- Tables: where a key stands.
+-- Tables: where a key is.
 use Rattle.std.proofs.Common.{◌≡◌, ◌≢◌, ℕ, ◌<◌, Bool, true, false, List, [], ◌∷◌, length, get_or, zero, suc, Some, refl, sym, ap, ◌∙◌, arith}
 use Rattle.std.specs.Prelude.{Contains}
 use Rattle.std.specs.Str.{bytes_eq}
@@ -22,7 +22,7 @@ compare_texts a b = go (bytes_eq a b) refl
 abbrev key_of : {V : Type 0} → Text × V → Text
 key_of entry = entry.0
 
--- an entry of a table whose keys stand once is found by its key
+-- an entry of a table whose keys occur once is found by its key
 pub found_entry : {V : Type 0} (entries : List (Text × V)) → IsOnce (keys entries) → (k : ℕ) (d : Text × V) → k < length entries
     → lookup entries (get_or entries k d).0 ≡ Some (get_or entries k d).1
 found_entry [] once k d lt = absurd (omega arith)
@@ -33,7 +33,7 @@ found_entry (entry ∷ entries) once (suc k) d lt =
       | other h e ↦ rw e (found_entry entries once.1 k d (omega arith))
     ]
 
--- what is found in a table stands in it
+-- what is found in a table is in it
 pub found_stands : {V : Type 0} (entries : List (Text × V)) (u : Text) (e : V) → lookup entries u ≡ Some e → Contains entries (u, e)
 found_stands [] u e found = cc
 found_stands {V} (entry ∷ entries) u e found =

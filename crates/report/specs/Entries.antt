@@ -24,7 +24,7 @@ abbrev pub line_with : {B : Type 0} → Harvested B → List (List ℕ) → Entr
 line_with harvest names entry fate =
     record { address = entry.address; depth = entry.depth; fate = fate; name = name_among harvest.kept names entry.address }
 
--- the line of an entry, where something became of it
+-- the line of an entry, if something became of it
 abbrev pub line_at : {B : Type 0} → Harvested B → List (List ℕ) → Entry → Option Line
 line_at harvest names entry = option_map (line_with harvest names entry) (fate_at harvest.records entry.refused entry.answer)
 

@@ -29,11 +29,11 @@ exit_status outcomes =
     else (if list_any is_fault outcomes then 7
     else (if list_any is_failed outcomes then 8 else 0))
 
--- the outcome of an address, where it was asked for
+-- the outcome of an address, if it was requested
 abbrev pub outcome_of : Fate → Option Outcome
 outcome_of (Asked x) = Some x
 outcome_of Refused = None
 
--- the outcomes that lines tell, in their order
+-- the outcomes that lines contain, in their order
 abbrev pub outcomes_in : List Line → List Outcome
 outcomes_in lines = filter_map (λ line. outcome_of line.fate) lines

@@ -6,7 +6,7 @@ use Rattle.follow_filters.specs.declared.plan.Plan.{Plan}
 use Rattle.harvest.specs.Pages.{is_success}
 use Rattle.report.specs.Report.{Line, Fate, Asked, Refused}
 
--- it was asked for, and answered with success (RFC 9110, section 15.3)
+-- it was requested, and answered with success (RFC 9110, section 15.3)
 abbrev pub has_succeeded : Fate → Bool
 has_succeeded (Asked x) = is_success x
 has_succeeded Refused = false

@@ -7,13 +7,13 @@ use Rattle.fetcher.specs.FaultWords.{word_of}
 use Rattle.fetcher.specs.declared.outcome.Outcome.{Outcome}
 use Rattle.fetcher.specs.declared.outcome.Outcome.TheVariants.{Page, Moved, Leaf, Fault}
 
--- what became of a candidate: it was asked for, with this outcome, or its origin's robots rules refuse it
+-- what became of a candidate: it was requested, with this outcome, or its origin's robots rules refuse it
 -- (RFC 9309, section 2.2.2)
 pub data Fate : Type 0 where
   Asked : Outcome → Fate
   Refused : Fate
 
--- what a report says of one address: its depth, what became of it, and the name of its file, where its page is kept
+-- what a report says of one address: its depth, what became of it, and the name of its file, if its page is kept
 pub record Line : Type 0 where
   pub address : List ℕ
   pub depth : ℕ
@@ -39,7 +39,7 @@ abbrev pub fate_word : Fate → List ℕ
 fate_word (Asked x) = outcome_word x
 fate_word Refused = codes "rob"
 
--- it was asked for
+-- it was requested
 abbrev pub was_asked : Fate → Bool
 was_asked (Asked x) = true
 was_asked Refused = false
@@ -49,12 +49,12 @@ abbrev pub was_refused : Fate → Bool
 was_refused (Asked x) = false
 was_refused Refused = true
 
--- it was asked for, and failed
+-- it was requested, and failed
 abbrev pub has_failed : Fate → Bool
 has_failed (Asked x) = is_failed x
 has_failed Refused = false
 
--- the name, `-` where the page isn't kept
+-- the name, `-` if the page isn't kept
 abbrev pub name_text : Option (List ℕ) → List ℕ
 name_text (Some name) = name
 name_text None = codes "-"
@@ -76,7 +76,7 @@ is_kept line = is_some line.name
 abbrev pub count_kept : List Line → ℕ
 count_kept lines = count_by is_kept lines
 
--- how many were asked for, kept, refused by robots rules, and failed
+-- how many were requested, kept, refused by robots rules, and failed
 abbrev pub counts_text : ℕ → ℕ → ℕ → ℕ → List ℕ
 counts_text asked kept refused failed =
     codes "fetched " ++ decimal asked ++ codes " kept " ++ decimal kept ++ codes " refused " ++ decimal refused ++ codes " failed " ++ decimal failed ++ codes "\n"
@@ -86,6 +86,6 @@ abbrev pub report_text : List Line → List ℕ
 report_text lines =
     flat_map line_text lines ++ counts_text (count_of was_asked lines) (count_kept lines) (count_of was_refused lines) (count_of has_failed lines)
 
--- each address stands before every later one, by their bytes
+-- each address is before every later one, by their bytes
 abbrev pub AreAscending : List Line → Type 0
 AreAscending lines = AllPairs (λ line later. IsBefore line.address later.address) lines

@@ -12,6 +12,7 @@ abbrev pub cause_word : Cause → List ℕ
 cause_word cause.Full = codes "full"
 cause_word cause.Memory = codes "memory"
 cause_word cause.Mismatch = codes "mismatch"
+cause_word cause.Quota = codes "quota"
 
 -- what an event says: who did what, to which address or origin
 abbrev pub event_words : Event → List ℕ

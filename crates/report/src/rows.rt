@@ -14,7 +14,7 @@ use std::marker::Model;
 /// What became of an address.
 #[derive(Clone, Copy)]
 pub(crate) enum Fate<'a> {
-    /// It was asked for, with this outcome.
+    /// It was requested, with this outcome.
     Asked(&'a Outcome),
     /// Its origin's robots rules refuse it.
     Refused,
@@ -26,7 +26,7 @@ pub(crate) struct Row<'a> {
     pub address: &'a str,
     pub depth: u32,
     pub fate: Fate<'a>,
-    /// The name of its file, where its page is kept.
+    /// The name of its file, if its page is kept.
     pub name: Option<&'a str>,
 }
 
@@ -79,7 +79,7 @@ fn fate_of<'a>(entry: &Entry, records: &'a [(Address, Outcome)]) -> Option<Fate<
     Some(Fate::Asked(&records.get(entry.answer?)?.1))
 }
 
-// The row of an entry of which this became. Its page is looked for at this place among those that are
+// The row of an entry with this fate. Its page is looked for at this place among those that are
 // kept first.
 fn row_of<'a, B: Drop>(
     harvest: &'a Harvest<B>,
@@ -112,7 +112,7 @@ pub(crate) fn rows_of<'a, B: Drop>(
 {
     let records = harvest.records();
     let mut rows = Vec::new(alloc);
-    // Entries ascend as kept pages do, so the next page that is kept stands behind as many.
+    // Entries ascend as kept pages do, so the next page that is kept is after as many.
     let mut named = 0usize;
     for entry in harvest.entries() {
         let Some(fate) = fate_of(entry, records) else {

@@ -24,8 +24,8 @@ fn is_network_fault(outcome: &Outcome) -> bool
     }
 }
 
-/// The exit status of a harvest: 4 where the network failed for an address, else 7 where there was
-/// another fault, else 8 where a status was 400 or more, else 0. Robots files don't count. Takes no
+/// The exit status of a harvest: 4 if the network failed for an address, else 7 if there was
+/// another fault, else 8 if a status was 400 or more, else 0. Robots files don't count. Takes no
 /// memory.
 pub fn exit_status<B: Drop>(harvest: &Harvest<B>) -> u8
     ensures { result ≡ exit_status (map (λ recorded. recorded.1) harvest.now.records) }

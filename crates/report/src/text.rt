@@ -69,7 +69,7 @@ pub(crate) fn is_failed(outcome: &Outcome) -> bool
     }
 }
 
-// How many addresses of a report were asked for, how many pages are kept, how many addresses robots
+// How many addresses of a report were requested, how many pages are kept, how many addresses robots
 // rules refuse, and how many failed.
 #[derive(Clone, Copy)]
 struct Counts {
@@ -99,7 +99,7 @@ impl Counts {
     }
 }
 
-// How many of these rows were asked for.
+// How many of these rows were requested.
 fn count_asked(rows: &[Row<'_>]) -> usize
     ensures { result ≡ count_of was_asked rows.now }
 {
@@ -120,14 +120,14 @@ fn count_refused(rows: &[Row<'_>]) -> usize
     rows.iter().filter(|row| was_refused(row.fate)).count()
 }
 
-// How many of them were asked for, and failed.
+// How many of them were requested, and failed.
 fn count_failed(rows: &[Row<'_>]) -> usize
     ensures { result ≡ count_of has_failed rows.now }
 {
     rows.iter().filter(|row| has_failed(row.fate)).count()
 }
 
-// Whether it was asked for.
+// Whether it was requested.
 fn was_asked(fate: Fate<'_>) -> bool
     ensures { result ≡ was_asked (fate_of fate.entry) }
 {
@@ -148,7 +148,7 @@ fn is_kept(row: &Row<'_>) -> bool
     row.name.is_some()
 }
 
-// Whether it was asked for, and failed.
+// Whether it was requested, and failed.
 fn has_failed(fate: Fate<'_>) -> bool
     ensures { result ≡ has_failed (fate_of fate.entry) }
 {
@@ -196,9 +196,9 @@ pub(crate) fn push_report(text: &mut String, rows: &[Row<'_>]) -> Result<(), All
 }
 
 /// The report of a harvest whose kept pages have these names, each in its page's place: a line
-/// `depth word address name` for each address that was asked for or that robots rules refuse, in
-/// address order, the name `-` where the page isn't kept, and last the line
-/// `fetched A kept B refused C failed D`. The error is that memory is wanting.
+/// `depth word address name` for each address that was requested or that robots rules refuse, in
+/// address order, the name `-` if the page isn't kept, and last the line
+/// `fetched A kept B refused C failed D`. Fails only if memory runs out.
 pub fn report_text<B: Drop>(
     alloc: Global,
     harvest: &Harvest<B>,

@@ -14,6 +14,7 @@ pub fn cause_word(cause: Cause) -> &'static str
         Cause::Full => "full",
         Cause::Memory => "memory",
         Cause::Mismatch => "mismatch",
+        Cause::Quota => "quota",
     }
 }
 

@@ -9,6 +9,7 @@ use Rattle.fetcher.specs.Statuses.{is_successful, is_redirect}
 use Rattle.fetcher.specs.declared.edge.Edge.{Edge}
 use Rattle.fetcher.specs.declared.outcome.Outcome.TheVariants as outcome
 use Rattle.html_links.specs.Links.{links_of_body}
+use Rattle.html_links.specs.declared.rules.LinkRules.{LinkRules}
 use Rattle.response_answer.specs.declared.stage.TheConstants.{MAX_SCANNED}
 use Rattle.response_answer.specs.Digests.{digest_of, is_document, is_sheet, kept_body, page_edges, scanned_front, syntax_of, target_of}
 use Rattle.response_answer.specs.Digesting.{IsStageOf, has_head}
@@ -41,7 +42,7 @@ redirect_is_no_document head h = rw (redirect_is_none head.status h) refl
 pub redirect_is_no_sheet : (head : HeadParts) → is_redirect head.status ≡ true → is_sheet head ≡ false
 redirect_is_no_sheet head h = rw (redirect_is_none head.status h) refl
 
--- where a stage is that of a response, there was a head
+-- if a stage is that of a response, there was a head
 pub stage_has_head : (head : HeadParts) (front : List ℕ) (stage : Stage) → IsStageOf head front stage → has_head stage ≡ true
 stage_has_head head front Fresh h = absurd h
 stage_has_head head front (Redirect status location) h = refl
@@ -90,8 +91,8 @@ unscanned_more head front piece stage (inr (inr (status, is))) =
     subst (λ (s : Stage). IsStageOf head front s → IsStageOf head (front ++ piece) s) (sym is) (λ x. x)
 
 -- a page of HTML answers the links of the front that is looked through
-pub page_digest : (robots : Bool) (at : AddressText) (head : HeadParts) (body : List ℕ) (status : ℕ) (edges : List Edge)
+pub page_digest : (rules : LinkRules) (at : AddressText) (head : HeadParts) (body : List ℕ) (status : ℕ) (edges : List Edge)
     → status ≡ head.status → is_document head ≡ true → target_of at head ≡ None
-    → edges ≡ page_edges robots at (links_of_body (syntax_of head) (scanned_front body))
-    → outcome.Page status edges ≡ digest_of robots at (record { head = head; body = body })
-page_digest robots at head body status edges is document nowhere found = rw (nowhere, document, is, found) refl
+    → edges ≡ page_edges rules at (links_of_body (syntax_of head) (scanned_front body))
+    → outcome.Page status edges ≡ digest_of rules at (record { head = head; body = body })
+page_digest rules at head body status edges is document nowhere found = rw (nowhere, document, is, found) refl

@@ -35,7 +35,7 @@ unfolding kind_of read_word
 same_kind read.Memory = refl
 same_kind f = refl
 
--- the kind that has a fault's word is that of the fault, and where none has it there is none
+-- the kind that has a fault's word is that of the fault, and if none has it there is none
 pub found : (f : ReadFault) (r : Option FaultKind) → MatchOption r ((k : FaultKind) → read_word f ≢ word_of k) (λ k. read_word f ≡ word_of k)
     → r ≡ kind_of_fault f
 found f (Some k) is = sym (kind_of-word_of k) ∙ ap kind_of (sym is) ∙ same_kind f

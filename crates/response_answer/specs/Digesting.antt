@@ -1,7 +1,8 @@
--- What a sink that digests a response has come to.
+-- What a sink that digests a response has taken so far.
 use Rattle.std.specs.Prelude.{◌≡◌, ℕ, ◌-◌, length, Bool, true, false, List, [], Option, Some, None}
 use Rattle.address.specs.Address.{AddressText}
 use Rattle.html_links.specs.Scanning.{StandsFor}
+use Rattle.html_links.specs.declared.rules.LinkRules.{LinkRules}
 use Rattle.css_links.specs.Scanning.{StandsFor as StandsForSheet}
 use Rattle.response_reader.specs.Fields.{HeadParts}
 use Rattle.response_answer.specs.declared.stage.Stage.{Stage}
@@ -11,26 +12,26 @@ use Rattle.response_answer.specs.Digests.{scanned_front, target_of, named_from, 
 use Rattle.kept_bodies.specs.declared.body_kind.BodyKind.{BodyKind}
 use Rattle.fetcher.specs.Statuses.{is_successful}
 
--- the address that was asked and whether robots rules are honoured, what the head says and what the body is by it, the bytes that
+-- the address that was asked and which links are taken, what the head says and what the body is by it, the bytes that
 -- are kept, and whether memory ran out
 pub record Digesting : Type 0 where
   pub at : AddressText
-  pub robots : Bool
+  pub rules : LinkRules
   pub stage : Stage
   pub kind : BodyKind
   pub kept : List ℕ
   pub failed : Bool
 
--- what a response is digested for: the address that was asked, and whether robots rules are honoured
+-- what a response is digested for: the address that was asked, and which links are taken
 pub record Purpose : Type 0 where
   pub at : AddressText
-  pub robots : Bool
+  pub rules : LinkRules
 
 -- what this one is for
 abbrev pub purpose_of : Digesting → Purpose
-purpose_of d = record { at = d.at; robots = d.robots }
+purpose_of d = record { at = d.at; rules = d.rules }
 
--- whatever was asked for, the head redirects nowhere
+-- whatever was requested, the head redirects nowhere
 abbrev pub RedirectsNowhere : HeadParts → Type 0
 RedirectsNowhere head = (at : AddressText) → target_of at head ≡ None
 

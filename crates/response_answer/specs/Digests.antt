@@ -1,11 +1,13 @@
 -- What a response answers: a page with its links, a redirect, or neither (RFC 9110, section 15.4; HTML Standard, section 2.4.3).
-use Rattle.std.specs.Prelude.{ℕ, ◌&&◌, ◌||◌, ◌==◌, not, Bool, true, false, List, [], ◌∷◌, ◌++◌, map, take, Option, Some, None, Result, Ok, Err, if◌then◌else◌, codes}
+use Rattle.std.specs.Prelude.{ℕ, ◌&&◌, ◌||◌, ◌==◌, not, Bool, true, false, List, [], ◌∷◌, ◌++◌, take, Option, Some, None, Result, Ok, Err, if◌then◌else◌, codes}
 use Rattle.std.specs.List.{before_first}
 use Rattle.std.specs.Str.{is_utf8, str_eq_ignore_ascii_case}
 use Rattle.httparse.specs.Grammar.{trim_ows}
 use Rattle.address.specs.Address.{AddressText, join_address}
 use Rattle.address.specs.declared.fault.AddressFault.{AddressFault}
 use Rattle.html_links.specs.Links.{Link, Links, links_of_body}
+use Rattle.html_links.specs.Rules.{takes, takes_text}
+use Rattle.html_links.specs.declared.rules.LinkRules.{LinkRules}
 use Rattle.html_links.specs.declared.context.Syntax.{Syntax}
 use Rattle.html_links.specs.declared.context.Syntax.TheVariants as syntax
 use Rattle.html_links.specs.declared.links.LinkKind.{LinkKind}
@@ -29,16 +31,16 @@ abbrev pub address_or_none : Result AddressText AddressFault → Option AddressT
 address_or_none (Ok address) = Some address
 address_or_none (Err fault) = None
 
--- what bytes name from a base: an address, where they are text
+-- what bytes name from a base: an address, if they are text
 unfoldable pub named_from : AddressText → List ℕ → Option AddressText
 named_from base text = if is_utf8 text then address_or_none (join_address base text) else None
 
--- the same of a field's value, where there is one
+-- the same of a field's value, if there is one
 abbrev pub named_by : AddressText → Option (List ℕ) → Option AddressText
 named_by base None = None
 named_by base (Some text) = named_from base text
 
--- where a response redirects (RFC 9110, section 10.2.2)
+-- the target of a response's redirect (RFC 9110, section 10.2.2)
 abbrev pub target_of : AddressText → HeadParts → Option AddressText
 target_of at head = if is_redirect head.status then named_by at head.location else None
 
@@ -92,17 +94,21 @@ abbrev pub edge_kind : LinkKind → EdgeKind
 edge_kind link.Link = edge.Link
 edge_kind link.Inline = edge.Inline
 
--- the edge to an address, where there is one
+-- the edge to an address, if there is one
 abbrev pub edge_to : LinkKind → Option AddressText → List Edge
 edge_to kind None = []
 edge_to kind (Some target) = record { target = target; kind = edge_kind kind } ∷ []
 
--- the edges of links: those whose text, joined to the base, is an address
-unfoldable pub edges_from : AddressText → List Link → List Edge
-edges_from base [] = []
-edges_from base (l ∷ ls) = edge_to l.kind (address_or_none (join_address base l.text)) ++ edges_from base ls
+-- the edge of a link, if it is taken and its text, joined to the base, is an address
+abbrev pub edge_of : LinkRules → AddressText → Link → List Edge
+edge_of rules base l = if takes rules l then edge_to l.kind (address_or_none (join_address base l.text)) else []
 
--- the base, or the page's own address where there is none
+-- the edges of links, in their order
+unfoldable pub edges_from : LinkRules → AddressText → List Link → List Edge
+edges_from rules base [] = []
+edges_from rules base (l ∷ ls) = edge_of rules base l ++ edges_from rules base ls
+
+-- the base, or the page's own address if there is none
 abbrev pub base_or : AddressText → Option AddressText → AddressText
 base_or at None = at
 base_or at (Some base) = base
@@ -112,40 +118,41 @@ abbrev pub document_base : AddressText → Option (List ℕ) → AddressText
 document_base at None = at
 document_base at (Some text) = base_or at (address_or_none (join_address at text))
 
--- the edges of a page: none where robots rules are honoured and it asks that its links aren't followed
-abbrev pub page_edges : Bool → AddressText → Links → List Edge
-page_edges robots at found =
-    if robots && found.nofollow then [] else edges_from (document_base at found.base) found.links
-
--- a reference of a style sheet as a link: what it leads to is shown
-abbrev pub shown : List ℕ → Link
-shown text = record { text = text; kind = link.Inline }
+-- the edges of a page: those of its links that are taken, and none if it asks that its links aren't followed and this is honoured
+abbrev pub page_edges : LinkRules → AddressText → Links → List Edge
+page_edges rules at found =
+    if rules.robots && found.nofollow then [] else edges_from rules (document_base at found.base) found.links
 
 -- the bytes of a body that are looked through for links
 abbrev pub scanned_front : List ℕ → List ℕ
 scanned_front body = take MAX_SCANNED body
 
+-- the edge of a reference of a style sheet, which is in no element: what it leads to is shown
+abbrev pub edge_of_reference : LinkRules → AddressText → List ℕ → List Edge
+edge_of_reference rules at text = if takes_text rules text then edge_to link.Inline (address_or_none (join_address at text)) else []
+
 -- the edges of a style sheet: its references, joined to its own address (CSS Values and Units Level 3, section 3.4)
-abbrev pub sheet_edges : AddressText → List (List ℕ) → List Edge
-sheet_edges at found = edges_from at (map shown found)
+unfoldable pub sheet_edges : LinkRules → AddressText → List (List ℕ) → List Edge
+sheet_edges rules at [] = []
+sheet_edges rules at (t ∷ ts) = edge_of_reference rules at t ++ sheet_edges rules at ts
 
 -- what a body that is no page of HTML answers: a style sheet is a page that shows what its references lead to
-abbrev pub sheet_or_leaf : AddressText → ResponseParts → Outcome
-sheet_or_leaf at r =
-    if is_sheet r.head then Page r.head.status (sheet_edges at (references (scanned_front r.body))) else Leaf r.head.status
+abbrev pub sheet_or_leaf : LinkRules → AddressText → ResponseParts → Outcome
+sheet_or_leaf rules at r =
+    if is_sheet r.head then Page r.head.status (sheet_edges rules at (references (scanned_front r.body))) else Leaf r.head.status
 
 -- what a body that isn't a redirect's answers
-abbrev pub page_or_leaf : Bool → AddressText → ResponseParts → Outcome
-page_or_leaf robots at r =
-    if is_document r.head then Page r.head.status (page_edges robots at (links_of_body (syntax_of r.head) (scanned_front r.body))) else sheet_or_leaf at r
+abbrev pub page_or_leaf : LinkRules → AddressText → ResponseParts → Outcome
+page_or_leaf rules at r =
+    if is_document r.head then Page r.head.status (page_edges rules at (links_of_body (syntax_of r.head) (scanned_front r.body))) else sheet_or_leaf rules at r
 
-abbrev pub outcome_by : Bool → AddressText → ResponseParts → Option AddressText → Outcome
-outcome_by robots at r None = page_or_leaf robots at r
-outcome_by robots at r (Some target) = Moved r.head.status target
+abbrev pub outcome_by : LinkRules → AddressText → ResponseParts → Option AddressText → Outcome
+outcome_by rules at r None = page_or_leaf rules at r
+outcome_by rules at r (Some target) = Moved r.head.status target
 
 -- what a response answers
-abbrev pub digest_of : Bool → AddressText → ResponseParts → Outcome
-digest_of robots at r = outcome_by robots at r (target_of at r.head)
+abbrev pub digest_of : LinkRules → AddressText → ResponseParts → Outcome
+digest_of rules at r = outcome_by rules at r (target_of at r.head)
 
 -- the bytes that are kept of a response's body
 abbrev pub kept_body : ℕ → List ℕ → List ℕ

@@ -5,7 +5,7 @@ use Rattle.response_reader.specs.Words.{place_of}
 use Rattle.fetcher.specs.declared.fault_kind.FaultKind.{FaultKind}
 use Rattle.fetcher.specs.FaultWords.{kinds}
 
--- the fault of an answer whose response wasn't read. Answers have the reader's faults in its order, behind Connect, which no
--- reader has; none for want of memory, which is its last
+-- the fault of an answer whose response wasn't read. Answers have the reader's faults in its order, after Connect, which no
+-- reader has; none if memory ran out, which is its last
 abbrev pub kind_of_fault : ReadFault → Option FaultKind
 kind_of_fault fault = slice_get kinds (place_of fault + 1)

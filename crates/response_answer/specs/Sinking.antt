@@ -1,4 +1,4 @@
--- What a sink that digests responses has come to whose bodies go to a keeper.
+-- What a sink has taken so far that digests responses whose bodies go to a keeper.
 use Rattle.std.specs.Prelude.{◌≡◌, ℕ, Bool, false, List, [], Option, Some, None}
 use Rattle.response_reader.specs.Fields.{HeadParts}
 use Rattle.response_answer.specs.declared.stage.Stage.{Stage}

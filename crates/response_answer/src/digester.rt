@@ -11,18 +11,19 @@ use crate::head_kind::{HeadKind, kind_of};
 use crate::stage::Stage;
 use address::Address;
 use fetcher::{Answer, Body, BodyKind};
+use html_links::LinkRules;
 use response_reader::{Head, Sink};
 use std::alloc::{AllocError, Global};
 use std::marker::Model;
 
 /// Takes a response for an address, and keeps of it what its answer is made of: the links of a
-/// page, the target of a redirect, and the body where the status is one of success. After a refused
-/// growth each later call answers want of memory.
+/// page, the target of a redirect, and the body if the status is one of success. After a refused
+/// growth each later call fails because memory ran out.
 #[derive(Drop)]
 pub struct Digester {
     alloc: Global,
     at: Address,
-    robots: bool,
+    rules: LinkRules,
     stage: Stage,
     kind: BodyKind,
     kept: Vec<u8>,
@@ -34,20 +35,20 @@ impl Model for Digester {
 
     ghost Value = { Digesting };
 
-    ghost view = { λ d. record { at = d.at; robots = d.robots; stage = d.stage; kind = d.kind; kept = d.kept.items; failed = d.failed } };
+    ghost view = { λ d. record { at = d.at; rules = d.rules; stage = d.stage; kind = d.kind; kept = d.kept.items; failed = d.failed } };
 }
 
 impl Digester {
-    /// Takes a response for this address. Where `robots` says so, a page that asks that its links
-    /// aren't followed has no edges. The error is want of memory; later growth comes from `alloc`.
-    pub fn new(alloc: Global, at: &Address, robots: bool) -> Result<Digester, AllocError>
+    /// Takes a response for this address. Of the links of a page those are edges that
+    /// `rules` takes. The error is want of memory; later growth comes from `alloc`.
+    pub fn new(alloc: Global, at: &Address, rules: LinkRules) -> Result<Digester, AllocError>
         ensures fresh { IfOk result (λ d. HasTaken d None []) }
-        ensures purpose { IfOk result (λ d. purpose_of d ≡ record { at = at.now; robots = robots }) }
+        ensures purpose { IfOk result (λ d. purpose_of d ≡ record { at = at.now; rules = rules }) }
     {
         Ok(Digester {
             alloc,
             at: at.try_clone()?,
-            robots,
+            rules,
             stage: Stage::Fresh,
             kind: BodyKind::Other,
             kept: Vec::new(alloc),
@@ -88,12 +89,12 @@ impl Digester {
         Ok(())
     }
 
-    /// The answer of the response that was taken. The error is want of memory, now or at an earlier
+    /// The answer of the response that was taken. Fails only if memory runs out, now or at an earlier
     /// call.
     pub fn finish(self) -> Result<Answer<Body>, AllocError>
         requires { (has_head self.stage ≡ true) ⊎ (self.failed ≡ true) }
         ensures outcome { IfOk result (λ a. (h : HeadParts) (body : List ℕ) → HasTaken self (Some h) body
-            → a.outcome ≡ digest_of self.robots self.at (record { head = h; body = body })) }
+            → a.outcome ≡ digest_of self.rules self.at (record { head = h; body = body })) }
         ensures body { IfOk result (λ a. (h : HeadParts) (body : List ℕ) → HasTaken self (Some h) body
             → a.body ≡ body_of h body) }
         ensures failed { self.failed ≡ true → IfOk result (λ _. ⊥) }
@@ -104,13 +105,13 @@ impl Digester {
         let Digester {
             alloc,
             at,
-            robots,
+            rules,
             stage,
             kind,
             kept,
             ..
         } = self;
-        let outcome = stage.outcome(alloc, &at, robots)?;
+        let outcome = stage.outcome(alloc, &at, rules)?;
         Ok(Answer {
             outcome,
             body: Body::new(kind, kept),

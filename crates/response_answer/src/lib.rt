@@ -1,7 +1,7 @@
 //! What a response answers: a page with its links, a redirect, or neither, of a response that is kept whole and of one that
 //! comes in pieces; and which fault an answer has whose response wasn't read. It reads none itself. The meaning is written in
-//! `specs/`: `Digests` what a response answers, `Digesting` what a sink in mid-response stands for, `KindsOfFaults` the
-//! faults. Its tests stand in `site_tests`.
+//! `specs/`: `Digests` what a response answers, `Digesting` what a sink in mid-response represents, `KindsOfFaults` the
+//! faults. Its tests are in `site_tests`.
 #![tactic(auto)]
 
 mod digester;

@@ -14,6 +14,7 @@ use crate::head_kind::{HeadKind, kind_of};
 use crate::stage::Stage;
 use address::Address;
 use fetcher::{Answer, FaultKind, Outcome};
+use html_links::LinkRules;
 use kept_bodies::{BodyKind, Keeper};
 use response_reader::{Head, Sink};
 use std::alloc::{AllocError, Global};
@@ -28,7 +29,7 @@ pub struct PageSink<K: Keeper> {
     alloc: Global,
     stage: Stage,
     kind: BodyKind,
-    // How long the server wants to be left alone, as its head says it.
+    // How long the server wants to be left alone, in the words of its head.
     retry_after: Option<Vec<u8>>,
     keeper: K,
     failed: bool,
@@ -154,12 +155,12 @@ impl<K: Keeper> PageSink<K> {
         })
     }
 
-    /// The answer of the response that was taken, for the address that was asked. Where `robots` says so, a page that asks that its
-    /// links aren't followed has no edges. The error is out of memory, now or at an earlier call.
-    pub fn finish(&mut self, at: &Address, robots: bool) -> Result<Answer<K::Kept>, AllocError>
+    /// The answer of the response that was taken, for the address that was asked. Of the links of a page those are
+    /// edges that `rules` takes. The error is out of memory, now or at an earlier call.
+    pub fn finish(&mut self, at: &Address, rules: LinkRules) -> Result<Answer<K::Kept>, AllocError>
         requires { (has_head self.old.stage ≡ true) ⊎ (self.old.failed ≡ true) }
         ensures outcome { IfOk result (λ a. (h : HeadParts) (body : List ℕ) → HasSunk K.begun self.old (Some h) body
-            → a.outcome ≡ digest_of robots at.now (record { head = h; body = body })) }
+            → a.outcome ≡ digest_of rules at.now (record { head = h; body = body })) }
         ensures body { IfOk result (λ a. (h : HeadParts) (body : List ℕ) → HasSunk K.begun self.old (Some h) body
             → K.holds a.body (body_of h body)) }
         ensures retry_after { self.new.retry_after ≡ self.old.retry_after }
@@ -170,7 +171,7 @@ impl<K: Keeper> PageSink<K> {
         }
         let body = self.finish_body()?;
         let stage = mem::replace(&mut self.stage, Stage::Fresh);
-        let outcome = stage.outcome(self.alloc, at, robots)?;
+        let outcome = stage.outcome(self.alloc, at, rules)?;
         Ok(Answer { outcome, body })
     }
 }

@@ -5,7 +5,7 @@ ghost use Rattle.response_answer.specs.KindsOfFaults.{kind_of_fault};
 use fetcher::FaultKind;
 use response_reader::ReadFault;
 
-/// The fault that an address has for which no response was read, for this reason; want of memory is
+/// The fault of an address for which no response was read, for this reason. Memory that ran out is
 /// none. Takes no memory.
 pub fn kind_of_fault(fault: ReadFault) -> Option<FaultKind>
     ensures { result ≡ kind_of_fault fault }

@@ -11,7 +11,7 @@ use crate::links::{named, page_edges, sheet_edges};
 use address::Address;
 use css_links::Scanner as SheetScanner;
 use fetcher::{Outcome, is_redirect, is_successful};
-use html_links::Scanner;
+use html_links::{LinkRules, Scanner};
 use std::alloc::{AllocError, Global};
 
 /// How many bytes of a page of HTML, or of a style sheet, are looked through for links: a page without end has no end of links either.
@@ -91,7 +91,7 @@ impl Stage {
         }
     }
 
-    // Whether the body is kept: where the status is one of success.
+    // Whether the body is kept: if the status is one of success.
     pub(crate) fn keeps_body(&self) -> bool
         ensures { (h : HeadParts) (front : List ℕ) → IsStageOf h front self.now → result ≡ is_successful h.status }
     {
@@ -107,11 +107,11 @@ impl Stage {
         self,
         alloc: Global,
         at: &Address,
-        robots: bool,
+        rules: LinkRules,
     ) -> Result<Outcome, AllocError>
         requires { has_head self ≡ true }
         ensures { IfOk result (λ x. (h : HeadParts) (body : List ℕ) → IsStageOf h body self
-            → x ≡ digest_of robots at.now (record { head = h; body = body })) }
+            → x ≡ digest_of rules at.now (record { head = h; body = body })) }
     {
         match self {
             Stage::Fresh => unreachable!(),
@@ -123,13 +123,13 @@ impl Stage {
                 let Ok(scan) = scanner.finish() else {
                     return Err(AllocError);
                 };
-                Ok(Outcome::Page(status, page_edges(alloc, at, robots, &scan)?))
+                Ok(Outcome::Page(status, page_edges(alloc, at, rules, &scan)?))
             }
             Stage::Sheet(status, scanner, _) => {
                 let Ok(found) = scanner.finish() else {
                     return Err(AllocError);
                 };
-                Ok(Outcome::Page(status, sheet_edges(alloc, at, &found)?))
+                Ok(Outcome::Page(status, sheet_edges(alloc, at, rules, &found)?))
             }
             Stage::Leaf(status) => Ok(Outcome::Leaf(status)),
         }

@@ -9,22 +9,23 @@ use crate::links::named;
 use crate::stage::Stage;
 use address::Address;
 use fetcher::{Answer, Body, Outcome, is_redirect, is_successful};
+use html_links::LinkRules;
 use response_reader::Response;
 use std::alloc::{AllocError, Global};
 
 /// What a response answers for the address that was asked: a redirect, a page with its links, or
-/// neither, with the body where the status is 200 to 299. Where `robots` says so, a page that asks
-/// that its links aren't followed has no edges. The error is want of memory.
+/// neither, with the body where the status is 200 to 299. Of the links of a page those
+/// are edges that `rules` takes. The error is want of memory.
 pub fn digest(
     alloc: Global,
     at: &Address,
     response: &Response,
-    robots: bool,
+    rules: LinkRules,
 ) -> Result<Answer<Body>, AllocError>
-    ensures outcome { IfOk result (λ a. a.outcome ≡ digest_of robots at.now (response_parts response.now)) }
+    ensures outcome { IfOk result (λ a. a.outcome ≡ digest_of rules at.now (response_parts response.now)) }
     ensures body { IfOk result (λ a. a.body ≡ body_of (response_parts response.now).head response.now.body.items) }
 {
-    let outcome = outcome_of(alloc, at, response, robots)?;
+    let outcome = outcome_of(alloc, at, response, rules)?;
     let kind = kind_of(&head_of(response));
     let body = if is_successful(response.status) {
         Vec::from_slice(alloc, &response.body)?
@@ -42,12 +43,12 @@ pub fn into_answer(
     alloc: Global,
     at: &Address,
     response: Response,
-    robots: bool,
+    rules: LinkRules,
 ) -> Result<Answer<Body>, AllocError>
-    ensures outcome { IfOk result (λ a. a.outcome ≡ digest_of robots at.now (response_parts response)) }
+    ensures outcome { IfOk result (λ a. a.outcome ≡ digest_of rules at.now (response_parts response)) }
     ensures body { IfOk result (λ a. a.body ≡ body_of (response_parts response).head response.body.items) }
 {
-    let outcome = outcome_of(alloc, at, &response, robots)?;
+    let outcome = outcome_of(alloc, at, &response, rules)?;
     let kind = kind_of(&head_of(&response));
     let Response { status, body, .. } = response;
     let kept = if is_successful(status) {
@@ -61,7 +62,7 @@ pub fn into_answer(
     })
 }
 
-/// Where a response for an address redirects, if anywhere (RFC 9110, section 10.2.2). The error is want of memory.
+/// Where a response redirects from an address, if anywhere (RFC 9110, section 10.2.2). Fails only if memory runs out.
 pub fn redirect_target(at: &Address, response: &Response) -> Result<Option<Address>, AllocError>
     ensures { IfOk result (λ target. target ≡ target_of at.now (response_parts response.now).head) }
 {
@@ -92,11 +93,11 @@ fn outcome_of(
     alloc: Global,
     at: &Address,
     response: &Response,
-    robots: bool,
+    rules: LinkRules,
 ) -> Result<Outcome, AllocError>
-    ensures { IfOk result (λ x. x ≡ digest_of robots at.now (response_parts response.now)) }
+    ensures { IfOk result (λ x. x ≡ digest_of rules at.now (response_parts response.now)) }
 {
     let mut stage = Stage::of(alloc, &head_of(response))?;
     stage.take(&response.body)?;
-    stage.outcome(alloc, at, robots)
+    stage.outcome(alloc, at, rules)
 }

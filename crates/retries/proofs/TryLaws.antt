@@ -1,4 +1,4 @@
--- A fetcher that tries again asks as often as it was told something, and its tries can be added to.
+-- A fetcher that tries again asks as often as it received something, and its tries can be added to.
 use Rattle.std.proofs.Common.{◌≡◌, ◌∙◌, ◌+◌, ◌≤◌, ℕ, Bool, true, false, inl, inr, List, [], ◌∷◌, ◌++◌, length, length-append, Option, arith, ap, refl}
 use Rattle.std.specs.Prelude.{IfOk, Result, Ok, Err}
 use Rattle.run_failures.specs.declared.loss_kind.LossKind.{LossKind}

@@ -24,7 +24,7 @@ seconds_until now date = option_map (λ time. date - time) now
 unfoldable pub seconds_after : Option ℕ → List ℕ → Option ℕ
 seconds_after now value = option_or (seconds_in value) (option_and_then (seconds_until now) (parse_secs value))
 
--- the seconds that what was told says at a time
+-- the seconds that what was received says at a time
 abbrev pub seconds_told : Option ℕ → Told → Option ℕ
 seconds_told now (Whole response) = option_and_then (seconds_after now) response.head.retry_after
 seconds_told now (Fault kind) = None
@@ -34,7 +34,7 @@ seconds_told now (Fault kind) = None
 abbrev pub pause_of : Retried → ℕ → Option ℕ → ℕ
 pause_of retries made seconds = min (unwrap_or seconds (made + 1) * 1_000_000_000) retries.wait
 
--- those after this was told
+-- those after this was received
 abbrev pub pause_before : Retried → ℕ → Option ℕ → Told → ℕ
 pause_before retries made now told = pause_of retries made (seconds_told now told)
 

@@ -43,7 +43,7 @@ is_worth_fault retries kind.Coding lost = false
 is_worth_fault retries kind.Chunk lost = false
 is_worth_fault retries kind.BodyLong lost = false
 
--- what was told of an address, where this was the connection's loss
+-- what was received for an address, if this was the connection's loss
 abbrev pub is_worth : Retried → Told → Option LossKind → Bool
 is_worth retries (Whole response) lost = is_worth_status retries response.head.status
 is_worth retries (Fault kind) lost = is_worth_fault retries kind lost

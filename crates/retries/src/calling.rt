@@ -8,7 +8,7 @@ use std::time::Duration;
 
 /// Asks as any fetcher does, knows why a connection was lost and what time it is, and can leave an origin alone.
 pub trait Calling: Telling {
-    /// Why the last connection was lost, where it was.
+    /// Why the last connection was lost, if it was.
     fn loss(&self) -> Option<LossKind>;
 
     /// The seconds since 1970, if there is a clock that shows them.

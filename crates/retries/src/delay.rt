@@ -50,7 +50,7 @@ fn seconds_after(value: &[u8], now: Option<u64>) -> Option<u64>
     }
 }
 
-// The seconds that what was told says at this time.
+// The seconds that what was received says at this time.
 fn seconds_told(told: &Told, now: Option<u64>) -> Option<u64>
     ensures { result ≡ seconds_told now told.now }
 {
@@ -78,7 +78,7 @@ fn pause_of(retries: &Retries, made: u32, said: Option<u64>) -> Duration
     shorter(Duration::from_secs(seconds), retries.wait)
 }
 
-// How long the origin is left alone after this was told, if so many tries were made again, and this is the time.
+// How long the origin is left alone after this was received, if so many tries were repeated, and this is the time.
 pub(crate) fn pause_before(retries: &Retries, made: u32, now: Option<u64>, told: &Told) -> Duration
     ensures { as_nanos result ≡ pause_before (retries_by retries.now) made now told.now }
 {

@@ -18,7 +18,7 @@ use response_answer::PageSink;
 use response_reader::Limits;
 use std::alloc::AllocError;
 
-/// Asks for a page as [`crate::ask`] does, except that its body goes to the sink's keeper while it arrives. What was kept of an earlier
+/// Requests a page as [`crate::ask`] does, except that its body goes to the sink's keeper while it arrives. What was kept of an earlier
 /// try is given up: a body begins anew. Each answer is within these limits. The error is that memory ran out.
 pub fn ask_into<C: CallingConnect, K: Keeper>(
     inner: &mut HttpFetcher<C>,
@@ -27,7 +27,7 @@ pub fn ask_into<C: CallingConnect, K: Keeper>(
     at: &Address,
     limits: Limits,
 ) -> Result<Answer<K::Kept>, AllocError>
-    ensures robots { inner.new.robots ≡ inner.old.robots }
+    ensures links { inner.new.links ≡ inner.old.links }
     ensures told { IfOk result (MayKeep K.holds (limited limits) at.now inner.old) }
     ensures tries { IfOk result (IsLastOf asks_of (MayKeep K.holds (limited limits) at.now) (is_worth_answer (retries_by retries.now)) (ask.Page at.now) retries.now.most inner.old inner.new) }
 {

@@ -19,7 +19,7 @@ use robots_rules::RuleSet;
 use std::alloc::{AllocError, Global};
 use std::time::Duration;
 
-// Has an origin left alone whose robots file was asked for, and that at which its redirects end. The error is that memory ran out.
+// Has an origin left alone whose robots file was requested, and that at which its redirects end. Fails only if memory runs out.
 fn leave_hops_alone<F: Calling>(
     inner: &F,
     of: &Origin,
@@ -34,12 +34,12 @@ fn leave_hops_alone<F: Calling>(
     Ok(())
 }
 
-/// What a fetcher tells last of a page, as by [`ask`]. The error is that memory ran out.
+/// What a fetcher last receives for a page, as by [`ask`]. Fails only if memory runs out.
 pub fn tell<F: Calling>(inner: &mut F, retries: &Retries, at: &Address) -> Result<Told, AllocError>
     ensures site { F.site inner.new ≡ F.site inner.old }
-    ensures honours { F.honours inner.new ≡ F.honours inner.old }
-    ensures told { IfOk result (λ t. F.says (F.site inner.old) at.now (outcome_told (F.honours inner.old) at.now t) (body_told t)) }
-    ensures tries { IfOk result (λ t. IsLastOf F.log (λ f t. F.says (F.site f) at.now (outcome_told (F.honours f) at.now t) (body_told t))
+    ensures links { F.links inner.new ≡ F.links inner.old }
+    ensures told { IfOk result (λ t. F.says (F.site inner.old) at.now (outcome_told (F.links inner.old) at.now t) (body_told t)) }
+    ensures tries { IfOk result (λ t. IsLastOf F.log (λ f t. F.says (F.site f) at.now (outcome_told (F.links f) at.now t) (body_told t))
         (is_worth (retries_by retries.now)) (ask.Page at.now) retries.now.most inner.old inner.new t) }
 {
     let mut told = inner.ask_told(at)?;
@@ -54,14 +54,14 @@ pub fn tell<F: Calling>(inner: &mut F, retries: &Retries, at: &Address) -> Resul
     Ok(told)
 }
 
-/// What a fetcher tells last of an origin's robots file, as by [`ask`]. The error is that memory ran out.
+/// What a fetcher last receives for an origin's robots file, as by [`ask`]. Fails only if memory runs out.
 pub fn tell_hops<F: Calling>(
     inner: &mut F,
     retries: &Retries,
     of: &Origin,
 ) -> Result<Hops, AllocError>
     ensures site { F.site inner.new ≡ F.site inner.old }
-    ensures honours { F.honours inner.new ≡ F.honours inner.old }
+    ensures links { F.links inner.new ≡ F.links inner.old }
     ensures of { IfOk result (λ found. found.of ≡ of.now) }
     ensures told { IfOk result (λ found. F.rules (F.site inner.old) of.now (rules_of_hops found.hops)) }
     ensures tries { IfOk result (λ found. IsLastOf F.log (λ f found. F.rules (F.site f) of.now (rules_of_hops found.hops))
@@ -88,14 +88,14 @@ fn answer<F: Calling>(
 ) -> Result<Answer<Body>, AllocError>
     ensures site { F.site inner.new ≡ F.site inner.old }
     ensures told { IfOk result (λ a. F.says (F.site inner.old) at.now a.outcome a.body) }
-    ensures tries { IfOk result (λ a. (t : Told) × (a.outcome ≡ outcome_told (F.honours inner.old) at.now t) × (a.body ≡ body_told t)
-        × IsLastOf F.log (λ f t. F.says (F.site f) at.now (outcome_told (F.honours f) at.now t) (body_told t)) (is_worth (retries_by retries.now)) (ask.Page at.now) retries.now.most inner.old inner.new t) }
+    ensures tries { IfOk result (λ a. (t : Told) × (a.outcome ≡ outcome_told (F.links inner.old) at.now t) × (a.body ≡ body_told t)
+        × IsLastOf F.log (λ f t. F.says (F.site f) at.now (outcome_told (F.links f) at.now t) (body_told t)) (is_worth (retries_by retries.now)) (ask.Page at.now) retries.now.most inner.old inner.new t) }
 {
     let told = tell(inner, retries, at)?;
-    told.into_answer(alloc, at, inner.honours_robots())
+    told.into_answer(alloc, at, inner.link_rules())
 }
 
-// The rules by what a fetcher tells last of an origin's robots file. The error is that memory ran out.
+// The rules by what a fetcher last receives for an origin's robots file. Fails only if memory runs out.
 fn rules_of<F: Calling>(
     alloc: Global,
     inner: &mut F,
@@ -111,8 +111,8 @@ fn rules_of<F: Calling>(
     hops.rules(alloc)
 }
 
-/// Asks a fetcher for a page, and again after answers and faults that are worth it. Before that the origin is left alone for as long as
-/// a `Retry-After` says, or else for a second, and for a second more each time, up to the longest pause. What is told last is what is
+/// Requests a page of a fetcher, and again after answers and faults that are worth it. Before that the origin is left alone for as long as
+/// a `Retry-After` says, or else for a second, and for a second more each time, up to the longest pause. What is received last is what is
 /// answered. The error is that memory ran out.
 pub fn ask<F: Calling>(
     alloc: Global,
@@ -123,8 +123,8 @@ pub fn ask<F: Calling>(
     ensures site { F.site inner.new ≡ F.site inner.old }
     ensures told { IfOk result (λ a. F.says (F.site inner.old) at.now a.outcome a.body) }
     ensures once { retries.now.most ≡ 0 → OnOk result (F.log inner.new ≡ F.log inner.old ++ ask.Page at.now ∷ []) }
-    ensures tries { 0 < retries.now.most → IfOk result (λ a. (t : Told) × (a.outcome ≡ outcome_told (F.honours inner.old) at.now t) × (a.body ≡ body_told t)
-        × IsLastOf F.log (λ f t. F.says (F.site f) at.now (outcome_told (F.honours f) at.now t) (body_told t)) (is_worth (retries_by retries.now)) (ask.Page at.now) retries.now.most inner.old inner.new t) }
+    ensures tries { 0 < retries.now.most → IfOk result (λ a. (t : Told) × (a.outcome ≡ outcome_told (F.links inner.old) at.now t) × (a.body ≡ body_told t)
+        × IsLastOf F.log (λ f t. F.says (F.site f) at.now (outcome_told (F.links f) at.now t) (body_told t)) (is_worth (retries_by retries.now)) (ask.Page at.now) retries.now.most inner.old inner.new t) }
 {
     if retries.most == 0 {
         return inner.ask(at);

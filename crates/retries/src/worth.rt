@@ -55,7 +55,7 @@ fn is_worth_fault(retries: &Retries, kind: FaultKind, loss: Option<LossKind>) ->
     }
 }
 
-// Whether what was told is worth another try, where this was the connection's loss.
+// Whether what was received is worth another try, if this was the connection's loss.
 pub(crate) fn is_worth(retries: &Retries, told: &Told, loss: Option<LossKind>) -> bool
     ensures { result ≡ is_worth (retries_by retries.now) told.now loss }
 {

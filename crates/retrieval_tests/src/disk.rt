@@ -51,7 +51,7 @@ fn unsupported<T>() -> io::Result<T> {
 }
 
 impl Log {
-    // Counts a call, and answers whether it fails.
+    // Counts a call, and returns whether it fails.
     fn count(&self) -> io::Result<()> {
         let number = self.calls.fetch_add(1, Ordering::SeqCst);
         match self.mishap {
@@ -205,7 +205,7 @@ impl Files for Disk {
         self.rt.remove_file(path)
     }
 
-    // Where a directory stands none is made in any case, so that such a call doesn't count.
+    // If a directory is there none is made in any case, so that such a call doesn't count.
     fn create_dir(&self, path: &str) -> io::Result<()> {
         if self.rt.symlink_metadata(path).is_err() {
             self.begin("mkdir", path)?;

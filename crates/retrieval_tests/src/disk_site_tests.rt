@@ -16,7 +16,7 @@ use std::process::Abort;
 use std::thread::{Threads, join_mut};
 use workers::retrieve_in_order;
 
-/// In how many directories the pages of a site stand.
+/// In how many directories the pages of a site are.
 const DIRECTORIES: u16 = 7;
 
 /// Writes parts in a thread of their own.
@@ -139,7 +139,7 @@ impl Fetcher for Pages {
     }
 }
 
-/// Writes a line of a map for each page of a site but its start.
+/// Writes a line of a map for each page of a site except its start.
 fn write_lines(rt: &impl Abort, map: &mut String, word: &str, pages: u16) {
     for page in 1..pages {
         let directory = page % DIRECTORIES;
@@ -197,7 +197,7 @@ fn clear(rt: &impl Files, alloc: Global) {
     let _ = rt.remove_dir_all(alloc, "disk");
 }
 
-/// Whether the file of this name stands in the folder with these bytes, or none does where there are none.
+/// Whether the file of this name is in the folder with these bytes, or none is if there are none.
 fn stands<R: Abort + Files + AllocGlobal>(rt: &R, name: &str, bytes: Option<&[u8]>) -> bool {
     let path = format!(in rt.alloc(); "disk/{name}").expect(rt, "memory");
     match fs::read(rt, path.as_str()) {
@@ -206,7 +206,7 @@ fn stands<R: Abort + Files + AllocGlobal>(rt: &R, name: &str, bytes: Option<&[u8
     }
 }
 
-/// The bytes of a site's file, where it is one of the first so many.
+/// The bytes of a site's file, if it is one of the first so many.
 fn bytes_of(site: &KeptSite, file: usize, whole: usize) -> Option<&[u8]> {
     if file < whole && file < site.harvest.kept().len() {
         Some(site.harvest.body(file))
@@ -215,7 +215,7 @@ fn bytes_of(site: &KeptSite, file: usize, whole: usize) -> Option<&[u8]> {
     }
 }
 
-/// Whether exactly the first so many files of a site stand in the folder, each with its bytes.
+/// Whether exactly the first so many files of a site are in the folder, each with its bytes.
 fn are_put<R: Abort + Files + AllocGlobal>(rt: &R, site: &KeptSite, whole: usize) -> bool {
     for (i, name) in site.names.iter().enumerate() {
         if !stands(rt, name.as_str(), bytes_of(site, i, whole)) {
@@ -225,7 +225,7 @@ fn are_put<R: Abort + Files + AllocGlobal>(rt: &R, site: &KeptSite, whole: usize
     true
 }
 
-/// How many entries a directory has. The folder has that of the host, and parts that stay stand beside it.
+/// How many entries a directory has. The folder has that of the host, and parts that stay are beside it.
 fn entries<R: Abort + Files + AllocGlobal + Clone + Drop>(rt: &R, path: &str) -> usize {
     let mut entries = 0usize;
     for entry in fs::read_dir(rt, path).expect(rt, "the disk") {
@@ -243,7 +243,7 @@ where
     DiskFolder::new(disk, alloc, "disk").expect(rt, "memory")
 }
 
-/// Puts a site by a crew into a folder. Answers how many files are whole, and the kind of the error, if any.
+/// Puts a site by a crew into a folder. Returns how many files are whole, and the kind of the error, if any.
 fn put_into<R: Files, C: PartCrew>(
     rt: &impl Abort,
     folder: &mut DiskFolder<'_, R>,
@@ -265,7 +265,7 @@ where
     }
 }
 
-/// Puts a site by a crew into the folder `disk`. Answers the same.
+/// Puts a site by a crew into the folder `disk`. Returns the same.
 fn put<R: Files, C: PartCrew>(
     rt: &impl Abort,
     alloc: Global,
@@ -282,7 +282,7 @@ where
     ended
 }
 
-/// Puts a site by threads into the folder `disk`. Answers the same.
+/// Puts a site by threads into the folder `disk`. Returns the same.
 fn put_by_threads<R: Abort + Threads + AllocGlobal>(
     rt: &R,
     disk: &Disk,
@@ -292,7 +292,7 @@ fn put_by_threads<R: Abort + Threads + AllocGlobal>(
     put(rt, rt.alloc(), disk, &crew, site)
 }
 
-/// Puts a site into a folder, one file after another. Answers how many files are whole.
+/// Puts a site into a folder, one file after another. Returns how many files are whole.
 fn put_all(folder: &mut impl Folder, site: &KeptSite) -> usize {
     for (i, name) in site.names.iter().enumerate() {
         if i >= site.harvest.kept().len()
@@ -407,7 +407,7 @@ fn size_of(site: &KeptSite) -> u64 {
     bytes
 }
 
-/// Whether a disk takes as many of 300 files by threads as in turn: all, or those that it has room for where it is full.
+/// Whether a disk takes as many of 300 files by threads as in turn: all, or those that it has room for if it is full.
 fn holds_as_many<R: Abort + Threads + Files + AllocGlobal + Clone + Drop>(
     rt: &R,
     disk: &Disk,
@@ -467,7 +467,7 @@ fn files_are_replaced_where_a_disk_has_room_for_few(rt: HostRuntime) {
     drop(site);
 }
 
-/// Whether the directory for parts has nothing but its lock. It is removed.
+/// Whether the directory for parts has nothing except its lock. It is removed.
 fn is_bare(rt: &impl Files) -> bool {
     rt.remove_file("disk/.wgetr%part0/lock").is_ok() && rt.remove_dir("disk/.wgetr%part0").is_ok()
 }

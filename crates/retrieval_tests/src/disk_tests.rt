@@ -1,4 +1,4 @@
-//! Files on a disk: made with their directories, and replaced; a disk that fails, and one that another process uses. Names stand in a
+//! Files on a disk: made with their directories, and replaced; a disk that fails, and one that another process uses. Names are in a
 //! text with a blank between two.
 use crate::disk::{Disk, Log, Mishap};
 use local_tree::{Close, DiskFolder, Folder, Lock};
@@ -37,7 +37,7 @@ fn holds_below<R: Abort + Files + AllocGlobal>(
     holds(rt, path.as_str(), bytes)
 }
 
-// Whether nothing stands there.
+// Whether nothing is there.
 fn is_absent(rt: &impl Files, path: &str) -> bool {
     fs::metadata(rt, path).is_err()
 }
@@ -75,7 +75,7 @@ fn puts_none(folder: &mut impl Folder, names: &str) -> bool {
     true
 }
 
-// Whether files are put into a folder that is `tree/of files` on the disk, of which nothing stands there before.
+// Whether files are put into a folder that is `tree/of files` on the disk, of which nothing is there before.
 fn is_filled<R: Abort + Files + AllocGlobal>(rt: &R, folder: &mut impl Folder) -> bool {
     // The third directory is named as the two before it are in one; the text of one begins with that of the next, twice.
     let names = "h/index.html h/a/b?c=%2F hh/a/d h:81/index.html m/a!/x m/a/y n.com/x n/y";
@@ -98,8 +98,8 @@ fn is_replaced<R: Abort + Files + AllocGlobal>(rt: &R, folder: &mut impl Folder)
         && holds(rt, "tree/of files/h/empty", b"")
 }
 
-// Whether a name is refused where a directory stands in the place of its file, or a file in that of a directory, and one that
-// leads out or is empty, as the last is.
+// Whether a name is refused if a directory is in the place of its file, or a file in that of a directory, and one that
+// leads out or is empty, like the last.
 fn refuses_odd_names(rt: &impl Files, folder: &mut impl Folder) -> bool {
     puts_none(folder, "h/a h/index.html/b ../x /x h//x h/./x ")
         && folder.failures() == 7
@@ -138,7 +138,7 @@ where
     DiskFolder::new(disk, rt.alloc(), "disk").expect(rt, "memory")
 }
 
-// Whether the file holds what was put, where that ended well, and else what was there, if anything.
+// Whether the file holds what was put, if that ended well, and else what was there, if anything.
 fn is_whole(
     rt: &(impl Files + AllocGlobal),
     path: &str,
@@ -163,7 +163,7 @@ fn put_both(folder: &mut impl Folder) -> (bool, bool) {
     (replaced, folder.put("k/y", NEW).is_ok())
 }
 
-// Whether both are put once the disk is mended, and no part stays but another run's.
+// Whether both are put once the disk is mended, and no part stays except another run's.
 fn is_mended<R: Files + AllocGlobal>(rt: &R, folder: &mut impl Folder) -> bool {
     put_both(folder) == (true, true)
         && holds(rt, "disk/h/x", REPLACED)
@@ -172,7 +172,7 @@ fn is_mended<R: Files + AllocGlobal>(rt: &R, folder: &mut impl Folder) -> bool {
         && holds(rt, "disk/.wgetr%part0/part", b"of another run")
 }
 
-// Whether both files hold what was put, where that ended well, and else what was there, and what failed once isn't seen.
+// Whether both files hold what was put, if that ended well, and else what was there, and what failed once isn't seen.
 fn are_whole<R: Files + AllocGlobal>(rt: &R, replaced: bool, new: bool, lasting: u64) -> bool {
     is_whole(rt, "disk/h/x", replaced, REPLACED, b"as it was")
         && is_whole(rt, "disk/k/y", new, NEW, b"")
@@ -264,7 +264,7 @@ where
     is_put
 }
 
-// Whether the put ends as it is to, with the file whole where it ends well, and neither a part of it nor anything outside.
+// Whether the put ends as it is to, with the file whole if it ends well, and neither a part of it nor anything outside.
 fn meets<R: Abort + Files + AllocGlobal>(rt: &R, disk: &Disk, file: &str, ends: &str) -> bool {
     let is_put = puts_new(rt, disk, file);
     is_put == (ends == "whole")

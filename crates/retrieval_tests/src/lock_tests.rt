@@ -38,7 +38,7 @@ fn page(rt: &impl Abort, alloc: Global) -> Outcome {
     page_to(rt, alloc, &["http://h/a"])
 }
 
-/// What a worker is told; a permit is given up.
+/// What a worker receives; a permit is given up.
 #[derive(Clone, Copy, PartialEq, Eq)]
 enum Told {
     Stopped(Cause),
@@ -48,7 +48,7 @@ enum Told {
     Permit,
 }
 
-/// What the worker is told.
+/// What the worker receives.
 fn tell(rt: &impl Wait, lock: &FrontierLock, work: Work) -> Told {
     match work {
         Work::Stopped(cause) => Told::Stopped(cause),
@@ -66,7 +66,7 @@ fn tell(rt: &impl Wait, lock: &FrontierLock, work: Work) -> Told {
     }
 }
 
-/// What worker 1 is told at once.
+/// What worker 1 receives at once.
 fn told_now<R: Abort + Wait>(rt: &R, lock: &FrontierLock) -> Told {
     let work = lock.next(rt, 1).expect(rt, "memory");
     tell(rt, lock, work)
@@ -78,7 +78,7 @@ fn page_permit<R: Abort + Wait>(rt: &R, lock: &FrontierLock, worker: u32) -> Per
     permit_of(rt, lock, work)
 }
 
-/// The permit for the page that a worker is to ask for.
+/// The permit for the page that a worker is to request.
 fn permit_of<R: Abort + Wait>(rt: &R, lock: &FrontierLock, work: Work) -> Permit {
     let Work::Page(permit) = work else {
         tell(rt, lock, work);
@@ -119,12 +119,12 @@ fn exchange<R: Abort + Wait>(
     }
 }
 
-/// How many wait, as who looks on sees it.
+/// How many wait, as an observer sees it.
 fn seen(waiting: &AtomicUsize) -> usize {
     waiting.load(Ordering::Relaxed)
 }
 
-/// Has the lock's two pages asked for and answered by worker 0, and asserts what is told and what waits between.
+/// Has the lock's two pages requested and answered by worker 0, and asserts what is received and what waits between.
 fn go_through<R: Abort + Wait>(rt: &R, alloc: Global, lock: &FrontierLock, waiting: &AtomicUsize) {
     let permit = page_permit(rt, lock, 0);
     assert!(rt; seen(waiting) == 0);
@@ -161,7 +161,7 @@ fn the_edges_of_a_page_are_offered(rt: HostRuntime) {
     assert!(rt; is_left_quiet(lock));
 }
 
-/// Has the lock's pages asked for by worker 0, each answer in exchange for the next.
+/// Has the lock's pages requested by worker 0, each answer in exchange for the next.
 fn exchange_all<R: Abort + Wait>(
     rt: &R,
     alloc: Global,
@@ -248,13 +248,13 @@ fn the_first_cause_stops_all_workers(rt: HostRuntime) {
     assert!(rt; is_left_given_up(lock, &start));
 }
 
-/// How far the workers are: one holds a permit, and so many more ask for work.
+/// How far the workers are: one holds a permit, and so many more request work.
 const HELD: u64 = 1;
 
-/// Beside the one that holds a permit, one other asks for work.
+/// Beside the one that holds a permit, one other requests work.
 const ASKED: u64 = 2;
 
-/// That other was told what to do.
+/// That other learned what to do.
 const TOLD: u64 = 3;
 
 /// Lets other threads run until the workers are so far.
@@ -274,7 +274,7 @@ fn let_others_run() {
     }
 }
 
-/// What worker 1 is told that asks for work while worker 0 holds a permit.
+/// What worker 1 receives if it requests work while worker 0 holds a permit.
 fn wait_for_work<R: Abort + Wait>(rt: &R, lock: &FrontierLock, progress: &AtomicU64) -> Told {
     wait_until(progress, HELD);
     progress.fetch_add(1, Ordering::SeqCst);
@@ -282,7 +282,7 @@ fn wait_for_work<R: Abort + Wait>(rt: &R, lock: &FrontierLock, progress: &Atomic
     tell(rt, lock, work)
 }
 
-/// Has worker 0 answer its page, or give it up, a while after so many others asked for work.
+/// Has worker 0 answer its page, or give it up, a while after so many others requested work.
 fn end_permit<R: Abort + Wait>(
     rt: &R,
     lock: &FrontierLock,
@@ -300,7 +300,7 @@ fn end_permit<R: Abort + Wait>(
     }
 }
 
-/// What a worker is told that waited for another's page to be answered, or to be given up.
+/// What a worker receives that waited for another's page to be answered, or to be given up.
 fn woken<R: Abort + Threads + Wait + Sync>(rt: &R, alloc: Global, answer: Option<Outcome>) -> Told {
     let lock = locked(rt, alloc);
     let progress = AtomicU64::new(0);
@@ -339,8 +339,8 @@ fn a_worker_sleeps_until_another_is_done(rt: HostRuntime) {
     assert!(rt; woken(&rt, alloc, None) == Told::Stopped(Cause::Memory));
 }
 
-/// Has worker 0 exchange the start for its next page a while after worker 1 asked for work, and says whether worker 1 is
-/// told anything before that page is answered too. Where it `is_due` to be told, that is waited for.
+/// Has worker 0 exchange the start for its next page a while after worker 1 requested work, and says whether worker 1
+/// receives anything before that page is answered too. If it `is_due` to receive something, that is waited for.
 fn exchange_late<R: Abort + Wait>(
     rt: &R,
     alloc: Global,
@@ -368,8 +368,8 @@ fn exchange_late<R: Abort + Wait>(
     is_told
 }
 
-/// What worker 1 is told that slept while worker 0 exchanged the start for its next page, and whether it was told before
-/// that page was answered too.
+/// What worker 1 receives that slept while worker 0 exchanged the start for its next page, and whether it received it
+/// before that page was answered too.
 fn told_by<R: Abort + Threads + Wait + Sync>(
     rt: &R,
     alloc: Global,

@@ -1,4 +1,4 @@
-//! A retrieval that stops for want of memory keeps what it found.
+//! A retrieval that stops because memory ran out keeps what it found.
 use crate::rows::plan;
 use address::{Address, Origin};
 use fetcher::{Answer, Ask, Body, Fetcher};
@@ -62,12 +62,12 @@ fn has_plan(harvest: &Harvest<Body>) -> bool {
     harvest.plan().is_some()
 }
 
-/// Whether the trace ends with a stop for want of memory.
+/// Whether the trace ends with a stop because memory ran out.
 fn ends_for_memory(harvest: &Harvest<Body>) -> bool {
     matches!(harvest.trace().last(), Some(Event::Stop(Cause::Memory)))
 }
 
-/// Whether the retrieval stopped for want of memory with one record, its plan, and a trace that ends so.
+/// Whether the retrieval stopped because memory ran out with one record, its plan, and a trace that ends so.
 fn kept_one(halt: &Halt<Body>) -> bool {
     let harvest = &halt.harvest;
     halt.cause == Cause::Memory

@@ -1,4 +1,4 @@
--- A text that is written behind another.
+-- A text that is written after another.
 use Rattle.std.proofs.Common.{◌≡◌, ◌∙◌, ◌++◌, ℕ, List, Option, inl, inr, sym, ap, append_assoc}
 use Rattle.std.specs.Prelude.{Result, Ok, Err}
 use Rattle.std.specs.Io.KnownBytes.{Appends}
@@ -25,19 +25,19 @@ front_of_second old between new first second whole f = record {
   appended = Appends-trans old between new first f.front whole f.appended;
 }
 
--- the second is delivered behind the first
+-- the second is delivered after the first
 pub delivered_behind : (old between new : Option (List ℕ)) (first second : List ℕ) (wanted status : ℕ) → Appends old between first → IsDelivered between new second wanted status
     → IsDelivered old new (first ++ second) wanted status
 delivered_behind old between new first second wanted status whole (inl (is, appends)) = inl (is, Appends-trans old between new first second whole appends)
 delivered_behind old between new first second wanted status whole (inr (is, front)) = inr (is, front_of_second old between new first second whole front)
 
--- the second is told behind the first
+-- the second is written after the first
 pub told_behind : {E : Type 0} (old between new : Option (List ℕ)) (first second : List ℕ) (wanted : ℕ) (told : Result ℕ E) → Appends old between first → IsToldAs between new told second wanted
     → IsToldAs old new told (first ++ second) wanted
 told_behind old between new first second wanted (Ok status) whole (is, appends) = (is, Appends-trans old between new first second whole appends)
 told_behind old between new first second wanted (Err failed) whole front = front_of_second old between new first second whole front
 
--- what is told is delivered, where nothing more is
+-- what is written is delivered, if nothing more is
 pub told_delivered : {E : Type 0} (old new : Option (List ℕ)) (told : Result ℕ E) (status : ℕ) → status ≡ status_told told → (text : List ℕ) (wanted : ℕ) → IsToldAs old new told text wanted
     → IsDelivered old new text wanted status
 told_delivered old new (Ok s) status same text wanted (is, appends) = inl (same ∙ is, appends)

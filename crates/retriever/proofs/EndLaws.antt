@@ -1,4 +1,4 @@
--- What a retrieval comes to is what the whole site has, where it gives each address one outcome.
+-- What a retrieval results in is what the whole site has, if it gives each address one outcome.
 use Rattle.std.proofs.Common.{◌≡◌, ◌≢◌, ◌↔◌, ℕ, inl, inr, Bool, true, false, List, [], ◌∷◌, All, length, map, replicate, Option, Some, refl, sym, ap, ◌∙◌, subst}
 use Rattle.std.specs.Prelude.{◌&&◌, Contains, IfSome, IfOk, IfErr, MatchOption, Result, Ok, Err, string_bytes}
 use Rattle.std.specs.List.{AllZip}
@@ -53,7 +53,7 @@ use Rattle.retriever.proofs.FoundLaws.{are_lines}
 pub map_fits : (site : SiteAnswers) → Fits (GivesOutcome site) (GivesRules site) (whole_of (with_bare_bodies site))
 map_fits site = record { outcomes = λ u x body says. ap Some (sym says.0); rules = λ o rules is. ap Some (sym is) }
 
--- with bodies of the kinds of outcomes that are told alone
+-- with bodies of the kinds of outcomes that are given alone
 pub map_kinds : (site : SiteAnswers) → HasKinds (GivesOutcome site) (with_bare_bodies site)
 map_kinds site = λ u x body says. ap (λ (b : BodyValue). b.kind) (says.1 ∙ ap (λ (o : Outcome). bare_body o) says.0)
 
@@ -80,7 +80,7 @@ pub copies_kinds : {F : Type 0} (m : Meaning F BodyValue) (site : RecordedAnswer
 copies_kinds {F = F} m site one count copies are has =
     subst (λ (fs : List F). All (λ (f : F). HasKinds (m.says (m.site f)) site) fs) (sym are) (All-replicate (λ (f : F). HasKinds (m.says (m.site f)) site) count one has)
 
--- the kinds of kept bodies are those that the site tells of their pages
+-- the kinds of kept bodies are those that the site gives for their pages
 kinds_told : (may_say : Text → Outcome → BodyValue → Type 0) (site : RecordedAnswers) (m : Answers) → HasKinds may_say site → (pages : List Text) (bodies : List BodyValue) → AllZip (IsBodyOf may_say m) pages bodies
     → kinds_of kind_in bodies ≡ map (kind_at site) pages
 kinds_told may_say site m has [] [] are = refl
@@ -157,31 +157,33 @@ stop_events order may_say may_rule whole asks cause h fits part by_one =
 
 pub stopped : (order : Order) (may_say : Text → Outcome → BodyValue → Type 0) (may_rule : Text → RuleSetValue → Type 0) (site : RecordedAnswers) (asks : List Ask) (cause : Cause) (h : Harvested BodyValue)
     → Fits may_say may_rule (whole_of site) → (cause ≢ why.Mismatch → IsStopped may_say may_rule order.plan asks cause h)
-    → (cause ≡ why.Full → HasTooMany (policy order.plan) (whole_of site)) → (order.workers ≡ 1 → cause ≢ why.Mismatch) → (cause ≢ why.Mismatch → AreByCrew order.workers h.trace)
+    → (cause ≡ why.Full → HasTooMany (policy order.plan) (whole_of site)) → (order.workers ≡ 1 → cause ≢ why.Mismatch) → cause ≢ why.Quota → (cause ≢ why.Mismatch → AreByCrew order.workers h.trace)
     → Finishes order site (shown_of (is_borne_out cause && order.trace) h.trace) (Stopped cause)
-stopped order may_say may_rule site asks why.Full h fits stop many never by =
+stopped order may_say may_rule site asks why.Full h fits stop many never limitless by =
     elim (stop (λ is. cc)) [
       | inl part ↦ (many refl, stop_events order may_say may_rule (whole_of site) asks why.Full h fits part (by (λ is. cc)))
       | inr empty ↦ (let same = empty.memory in cc)
     ]
-stopped order may_say may_rule site asks why.Memory h fits stop many never by =
+stopped order may_say may_rule site asks why.Memory h fits stop many never limitless by =
     elim (stop (λ is. cc)) [
       | inl part ↦ inr (stop_events order may_say may_rule (whole_of site) asks why.Memory h fits part (by (λ is. cc)))
       | inr empty ↦ inl (none_shown order.trace h.trace empty.trace)
     ]
-stopped order may_say may_rule site asks why.Mismatch h fits stop many never by = ((λ one. never one refl), refl)
+stopped order may_say may_rule site asks why.Mismatch h fits stop many never limitless by = ((λ one. never one refl), refl)
+stopped order may_say may_rule site asks why.Quota h fits stop many never limitless by = limitless refl
 
 -- ---- either
 
--- what is told of either is told of how the retrieval of the site finishes
+-- what is written of either is written of how the retrieval of the site finishes
 pub told_finishes : (order : Order) (may_say : Text → Outcome → BodyValue → Type 0) (may_rule : Text → RuleSetValue → Type 0) (site : RecordedAnswers) (asks : List Ask) (r : Result (Harvested BodyValue) (Halt BodyValue))
     (result : Result Output AllocError) → Fits may_say may_rule (whole_of site) → HasKinds may_say site → IfOk r (λ h. IsRetrieved may_say may_rule order.plan asks h)
     → IfOk r (λ h. IsCompleteFor (policy order.plan) (whole_of site) h.state)
     → IfErr r (λ halt. halt.cause ≢ why.Mismatch → IsStopped may_say may_rule order.plan asks halt.cause halt.harvest)
     → IfErr r (λ halt. halt.cause ≡ why.Full → HasTooMany (policy order.plan) (whole_of site)) → (order.workers ≡ 1 → IfErr r (λ halt. halt.cause ≢ why.Mismatch))
+    → IfErr r (λ halt. halt.cause ≢ why.Quota)
     → IfOk r (λ h. AreByCrew order.workers h.trace) × IfErr r (λ halt. halt.cause ≢ why.Mismatch → AreByCrew order.workers halt.harvest.trace)
     → IfOk result (λ output. IsRetrievalTold order.names order.trace r (string_bytes output.text) output.status) → IfOk result (λ output. IsOutputOf order site (string_bytes output.text) output.status)
-told_finishes order may_say may_rule site asks (Ok h) (Ok output) fits has is complete stop many never by told =
+told_finishes order may_say may_rule site asks (Ok h) (Ok output) fits has is complete stop many never limitless by told =
     let (read, names, naming, text, status) = told in
     record {
       shown = shown_of order.trace h.trace;
@@ -190,17 +192,17 @@ told_finishes order may_say may_rule site asks (Ok h) (Ok output) fits has is co
       text_is = text;
       status_is = status ∙ status_of order h names read is.follows;
     }
-told_finishes order may_say may_rule site asks (Err halt) (Ok output) fits has is complete stop many never by told =
+told_finishes order may_say may_rule site asks (Err halt) (Ok output) fits has is complete stop many never limitless by told =
     record {
       shown = shown_of (is_borne_out halt.cause && order.trace) halt.harvest.trace;
       finish = Stopped halt.cause;
-      finishes = stopped order may_say may_rule site asks halt.cause halt.harvest fits stop many never by.1;
+      finishes = stopped order may_say may_rule site asks halt.cause halt.harvest fits stop many never limitless by.1;
       text_is = told.0;
       status_is = told.1;
     }
-told_finishes order may_say may_rule site asks r (Err e) fits has is complete stop many never by told = told
+told_finishes order may_say may_rule site asks r (Err e) fits has is complete stop many never limitless by told = told
 
--- copies fit where the site does
+-- copies fit if the site does
 pub copies_fit : {F : Type 0} (m : Meaning F BodyValue) (whole : Answers) (one : F) (count : ℕ) (copies : List F) → copies ≡ replicate count one → Fits (m.says (m.site one)) (m.rules (m.site one)) whole
     → AllFit m copies whole
 copies_fit {F = F} m whole one count copies are fits =

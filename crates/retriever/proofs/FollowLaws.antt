@@ -1,4 +1,4 @@
--- A plan of some of the starts, with those of their hosts that another has, follows an edge of a page on these hosts just where that does, if neither
+-- A plan of some of the starts, with those of their hosts that another has, follows an edge of a page on these hosts exactly if that does, if neither
 -- spans hosts.
 use Rattle.std.proofs.Common.{◌≡◌, ◌∙◌, ℕ, Bool, true, false, not, ◌&&◌, ◌||◌, List, ◌∷◌, [], zero, suc, bytes_eq, refl, sym, ap, subst, ⊎_elim, arith}
 use Rattle.std.specs.Prelude.{Contains}

@@ -19,6 +19,7 @@ use Rattle.workers.specs.Sites.{IsCompleteFor}
 use Rattle.harvest.specs.declared.entry.Entry.{Entry}
 use Rattle.report.specs.Report.{Line, Fate, Asked, Refused}
 use Rattle.report.specs.Entries.{fate_at, name_among, line_at, harvest_lines_of}
+use Rattle.retriever.specs.Mirrored.{AreRecordsOf}
 use Rattle.retriever.specs.Site.{IsFate, AreLines}
 use Rattle.report.proofs.TableLaws.{found_stands}
 use Rattle.report.proofs.ListLaws.{to_map, from_map, to_given, from_given}
@@ -38,7 +39,7 @@ not_true false never = refl
 -- ---- what became of an address
 
 -- robots rules refuse it, or it was answered
-data Came (q : Progress) : Type 0 where
+pub data Came (q : Progress) : Type 0 where
   refused : is_refused (condition_of q) ≡ true → outcome_in q ≡ None → Came q
   told : (x : Outcome) → is_refused (condition_of q) ≡ false → outcome_in q ≡ Some x → Came q
 
@@ -96,11 +97,11 @@ has_line : {B : Type 0} (h : Harvested B) (names : List (List ℕ)) (e : Entry) 
     → Contains (harvest_lines_of h names) (record { address = e.address; depth = e.depth; fate = fate; name = name_among h.kept names e.address })
 has_line h names e fate there is = to_given (line_at h names) h.entries e _ there (rw is refl)
 
--- something became of each entry of a quiet frontier
+-- something became of each entry that was answered or that robots rules refuse
 something : {B : Type 0} (h : Harvested B) → AreEntries h → AreRecords h → (e : Entry) → Contains h.entries e → (slot : Slot) → lookup h.state.entries e.address ≡ Some slot
-    → is_refused (condition_of slot.progress) ≡ e.refused → is_done slot.progress ≡ true → (fate : Fate) × (fate_at h.records e.refused e.answer ≡ Some fate)
-something h are records e there slot found refusal done =
-    elim (came slot.progress done) [
+    → is_refused (condition_of slot.progress) ≡ e.refused → Came slot.progress → (fate : Fate) × (fate_at h.records e.refused e.answer ≡ Some fate)
+something h are records e there slot found refusal came =
+    elim came [
       | refused shut none ↦ (Refused, ap (λ (b : Bool). fate_at h.records b e.answer) (sym refusal ∙ shut))
       | told x free is ↦ (let (k, lt, at) = there in
           let recorded = Contains-permutation (filter_map record_of h.state.entries) h.records (e.address, x) records.same
@@ -115,19 +116,38 @@ something h are records e there slot found refusal done =
     by_place None false free placed among = absurd (placed among)
     by_place (Some i) false free (x, is) among = (Asked x, rw is refl)
 
--- a candidate of the whole site has a line
-candidate_line : {B : Type 0} (p : Policy) (whole : Answers) (h : Harvested B) (names : List (List ℕ)) → AreEntries h → AreRecords h → IsOnce (keys h.state.entries) → IsCompleteFor p whole h.state → IsQuiet h.state
-    → (u : Text) (slot : Slot) → lookup h.state.entries u ≡ Some slot → (line : Line) × Contains (harvest_lines_of h names) line × (line.address ≡ u)
-candidate_line p whole h names are records once complete quiet u slot found =
+-- an address of which something became has a line
+pub came_line : {B : Type 0} (h : Harvested B) (names : List (List ℕ)) → AreEntries h → AreRecords h → (u : Text) (slot : Slot) → lookup h.state.entries u ≡ Some slot → Came slot.progress → (line : Line) × Contains (harvest_lines_of h names) line × (line.address ≡ u)
+came_line h names are records u slot found came =
     let stands = found_stands h.state.entries u slot found in
     let seen = Contains-permutation (seen_in h.state) (map said_by h.entries) (u, slot.depth, is_refused (condition_of slot.progress)) are.same
     (to_map (λ (entry : Text × Slot). seen_of (entry_of entry)) h.state.entries (u, slot) stands) in
     let (e, there, is) = from_map said_by h.entries _ seen in
     let named : e.address ≡ u = ap (λ (z : Seen). z.0) is in
-    let (k, lt, at) = stands in
-    let done = subst (λ (z : Text × Slot). is_done z.1.progress ≡ true) at (quiet.entries k (u, slot) lt) in
-    let (fate, became) = something h are records e there slot (subst (λ (v : Text). lookup h.state.entries v ≡ Some slot) (sym named) found) (sym (ap (λ (z : Seen). z.2) is)) done in
+    let (fate, became) = something h are records e there slot (subst (λ (v : Text). lookup h.state.entries v ≡ Some slot) (sym named) found) (sym (ap (λ (z : Seen). z.2) is)) came in
     (record { address = e.address; depth = e.depth; fate = fate; name = name_among h.kept names e.address }, has_line h names e fate there became, named)
+
+-- a candidate of the whole site has a line
+candidate_line : {B : Type 0} (h : Harvested B) (names : List (List ℕ)) → AreEntries h → AreRecords h → IsQuiet h.state → (u : Text) (slot : Slot) → lookup h.state.entries u ≡ Some slot
+    → (line : Line) × Contains (harvest_lines_of h names) line × (line.address ≡ u)
+candidate_line h names are records quiet u slot found =
+    let (k, lt, at) = found_stands h.state.entries u slot found in
+    let done = subst (λ (z : Text × Slot). is_done z.1.progress ≡ true) at (quiet.entries k (u, slot) lt) in
+    came_line h names are records u slot found (came slot.progress done)
+
+-- the records of a harvest are those of its state
+pub records_of : {B : Type 0} (h : Harvested B) → AreRecords h → IsOnce (keys h.state.entries) → AreRecordsOf (answers h.state) h.records
+records_of h records once = record { ascending = records.ascending; same = λ u x. (there u x, back u x (lookup h.state.entries u) refl) }
+  where
+    there : (u : Text) (x : Outcome) → Contains h.records (u, x) → (answers h.state).outcome u ≡ Some x
+    there u x among = let said = answered h records once u x among in ap slot_outcome said.found ∙ said.outcome
+
+    back : (u : Text) (x : Outcome) (o : Option Slot) → lookup h.state.entries u ≡ o → (answers h.state).outcome u ≡ Some x → Contains h.records (u, x)
+    back u x None found is = let none : None ≡ Some x = sym (ap slot_outcome found) ∙ is in cc
+    back u x (Some slot) found is =
+        let told : outcome_in slot.progress ≡ Some x = sym (ap slot_outcome found) ∙ is in
+        Contains-permutation (filter_map record_of h.state.entries) h.records (u, x) records.same
+        (to_given record_of h.state.entries (u, slot) (u, x) (found_stands h.state.entries u slot found) (rw told refl))
 
 pub are_lines : {B : Type 0} (p : Policy) (whole : Answers) (h : Harvested B) (names : List (List ℕ)) → AreEntries h → AreRecords h → IsOnce (keys h.state.entries) → length h.state.entries ≤ p.max_urls
     → IsCompleteFor p whole h.state → IsQuiet h.state → AreLines p whole (harvest_lines_of h names)
@@ -136,7 +156,7 @@ are_lines p whole h names are records once few complete quiet = record {
   each = λ k d lt. line_true p whole h names are records once complete _ (Contains-get_or (harvest_lines_of h names) k d lt);
   all = λ u candidate.
       let (slot, found) = some_of (lookup h.state.entries u) ((complete.candidates u).1 candidate) in
-      let (line, there, named) = candidate_line p whole h names are records once complete quiet u slot found in
+      let (line, there, named) = candidate_line h names are records quiet u slot found in
       let (k, lt, at) = there in
       (k, line, lt, at, named);
   few = omega (arith, length-harvest_lines_of h names are, few);

@@ -1,5 +1,7 @@
 pub mod StandardFacts
 pub mod FoundLaws
+pub mod FrontLaws
+pub mod PutLaws
 pub mod EndLaws
 pub mod KindLaws
 pub mod RunLaws

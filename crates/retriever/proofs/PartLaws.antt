@@ -28,7 +28,7 @@ use Rattle.retriever.proofs.SoleLaws.{sole_depth, sole_fate}
 
 -- ---- lines of one report
 
--- a line stands at one place alone: of two lines at one address both are one
+-- a line is at one place alone: of two lines at one address both are one
 sole_line : (lines : List Line) → AreAscending lines → (a b : Line) → Contains lines a → Contains lines b → a.address ≡ b.address → a ≡ b
 sole_line lines up a b (k, lt, is) (i, within, at) same =
     let is' : get_or lines k b ≡ a = get_or_default lines k b a lt ∙ is in

@@ -1,4 +1,4 @@
--- What a person is told, and how a program ends that has no words.
+-- What a person reads, and how a program ends that has no words.
 use Rattle.std.proofs.Common.{◌≡◌, ◌≢◌, ◌∙◌, ℕ, Bool, true, false, List, [], Option, refl, sym, ap, subst, inl, inr, append-nil}
 use Rattle.std.specs.Prelude.{Result, Ok, Err, OnOk, OnErr}
 use Rattle.std.specs.Io.KnownBytes.{Appends}
@@ -24,12 +24,12 @@ use Rattle.retriever.proofs.RunLaws.{ends_memory, ends_refused, runs_refused}
 pub nothing_of : (contents : Option (List ℕ)) (text : List ℕ) → AppendsFront contents contents text
 nothing_of contents text = record { front = []; rest = text; parts = refl; appended = Appends-nil contents }
 
--- a text that was written, or a front of it where the writer failed
+-- a text that was written, or a front of it if the writer failed
 pub wrote : {F : Type 0} (r : Result (Unit {0}) F) (old new : Option (List ℕ)) (text : List ℕ) → OnOk r (Appends old new text) → OnErr r (AppendsFront old new text) → AppendsFront old new text
 wrote (Ok x) old new text ok err = record { front = text; rest = []; parts = sym (append-nil text); appended = ok }
 wrote (Err e) old new text ok err = err
 
--- of words that order something only memory is wanting
+-- words that order something can only be refused because memory ran out
 only_memory : (words : List (List ℕ)) (ordered : Ordered) (wrong : LineFault) → order_of words ≡ Ok ordered → IsRefused words (fault.Line wrong) → wrong ≡ line.Memory
 only_memory words ordered wrong says (inl e) = cc
 only_memory words ordered wrong says (inr e) = e
@@ -54,7 +54,7 @@ is_live source.Live never = refl
 is_live source.Map never = absurd (never map_is_not_live)
 is_live source.Recorded never = absurd (never record_is_not_live)
 
--- ---- want of memory before a run
+-- ---- memory that ran out before a run
 
 pub runs_memory : (words : List (List ℕ)) (known old new : Option (List ℕ)) (status : ℕ) → IsFaultDelivered old new fault.Memory status → Runs words known old new status
 runs_memory words known old new status refusal = runs_refused words known old new fault.Memory status (ends_memory words known) refusal
@@ -73,7 +73,7 @@ refusal_of words wrong before after status (inr told) = inr told.0
 -- ---- the program
 
 module _ {R E : Type 0} (Lives : List (List ℕ) → Type 0) (before after : Streams R E) (status : ℕ) where
-  -- want of memory before the words are read
+  -- memory that ran out before the words are read
   pub starts_memory : after.reader ≡ before.reader → after.outputs.errors ≡ before.outputs.errors → (words : List (List ℕ)) → Lives words
       → IsFaultDelivered before.outputs.written after.outputs.written fault.Memory status → Starts Lives before after status words
   starts_memory unread quiet words lives refusal = record {
@@ -88,7 +88,7 @@ module _ {R E : Type 0} (Lives : List (List ℕ) → Type 0) (before after : Str
   pub starts_as : (given words : List (List ℕ)) → given ≡ words → Starts Lives before after status given → Starts Lives before after status words
   starts_as given words same starts = subst (λ (w : List (List ℕ)). Starts Lives before after status w) same starts
 
-  -- words that order something: of a site on the network, or of one that the input tells
+  -- words that order something: of a site on the network, or of one that the input describes
   pub starts_order : after.outputs.errors ≡ before.outputs.errors → (words : List (List ℕ)) (order : Order) → order_of words ≡ Ok (ordered_by order)
       → (order.source ≢ source.Live → Runs words before.remaining before.outputs.written after.outputs.written status) → (order.source ≡ source.Live → Lives words)
       → (order.source ≡ source.Live → after.reader ≡ before.reader) → Starts Lives before after status words

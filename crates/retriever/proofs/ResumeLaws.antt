@@ -5,6 +5,7 @@ use Rattle.std.specs.declared.alloc.AllocError.{AllocError}
 use Rattle.options.specs.declared.order.Order.{Order}
 use Rattle.site_inputs.specs.declared.input_fault.InputFault.{InputFault}
 use Rattle.site_inputs.specs.declared.input_fault.InputFault.TheVariants as input
+use Rattle.html_links.specs.declared.rules.LinkRules.{LinkRules}
 use Rattle.site_records.specs.RecordSites.{RecordValue}
 use Rattle.site_records.specs.Records.{IsFault}
 use Rattle.site_records.specs.Resumption.{Resuming}
@@ -16,21 +17,21 @@ use Rattle.retriever.specs.declared.resume_fault.ResumeFault.{ResumeFault}
 use Rattle.retriever.specs.declared.resume_fault.ResumeFault.TheVariants.{Read, Input, Refused}
 
 -- a fault of bytes that a file may hold
-pub fault_not_read : (holds : List ℕ → Type 0) (robots : Bool) (bytes : List ℕ) (wrong : InputFault) → holds bytes → IsFault robots bytes wrong → IsNotRead holds robots (Input wrong)
-fault_not_read holds robots bytes input.Memory held bad = tt
-fault_not_read holds robots bytes (input.Line n) held bad = (bytes, held, bad)
-fault_not_read holds robots bytes (input.Address n) held bad = (bytes, held, bad)
+pub fault_not_read : (holds : List ℕ → Type 0) (links : LinkRules) (bytes : List ℕ) (wrong : InputFault) → holds bytes → IsFault links bytes wrong → IsNotRead holds links (Input wrong)
+fault_not_read holds links bytes input.Memory held bad = tt
+fault_not_read holds links bytes (input.Line n) held bad = (bytes, held, bad)
+fault_not_read holds links bytes (input.Address n) held bad = (bytes, held, bad)
 
 module _ {S B F K D V : Type 0} (m : Means S B F K D V) (order : Order) where
   -- what is read of the file that the order names is resumed
   pub read_resumed : (path given : List ℕ) (r : Result RecordValue ResumeFault) → order.resume ≡ Some path → given ≡ path
-      → IfOk r (λ x. (bytes : List ℕ) × m.gives.holds m.system given bytes × IsRecordRead (is_some order.save) order.plan.robots bytes x) → IfOk r (λ x. IsResumed m order x)
+      → IfOk r (λ x. (bytes : List ℕ) × m.gives.holds m.system given bytes × IsRecordRead (is_some order.save) order.links bytes x) → IfOk r (λ x. IsResumed m order x)
   read_resumed path given (Ok x) is same (bytes, held, read) = rw is (bytes, subst (λ (p : List ℕ). m.gives.holds m.system p bytes) same held, read)
   read_resumed path given (Err wrong) is same read = read
 
   -- what can't be read of it isn't resumed
   pub read_not_resumed : (path given : List ℕ) (r : Result RecordValue ResumeFault) → order.resume ≡ Some path → given ≡ path
-      → IfErr r (IsNotRead (m.gives.holds m.system given) order.plan.robots) → IfErr r (IsNotResumed m order)
+      → IfErr r (IsNotRead (m.gives.holds m.system given) order.links) → IfErr r (IsNotResumed m order)
   read_not_resumed path given (Ok x) is same bad = bad
   read_not_resumed path given (Err (Read reading.Memory)) is same bad = tt
   read_not_resumed path given (Err (Read reading.Long)) is same bad = (path, is, tt)
@@ -42,7 +43,7 @@ module _ {S B F K D V : Type 0} (m : Means S B F K D V) (order : Order) where
   read_not_resumed path given (Err (Input (input.Address n))) is same (bytes, held, bad) =
       (path, is, (bytes, subst (λ (p : List ℕ). m.gives.holds m.system p bytes) same held, bad))
 
-  -- fetchers of the system that are put behind a record
+  -- fetchers of the system, each with a record before it
   pub are_resuming : {T : Type 0} (r : Result T AllocError) (items : T → List (Resuming K)) (is_recording : Bool) (recorded : RecordValue) (fetchers : List K)
       → All (m.gives.makes_recorder m.system (settings_of order is_recording)) fetchers → length fetchers ≡ order.workers
       → IfOk r (λ all. items all ≡ map (resuming_of m.recorders.log recorded) fetchers) → IfOk r (λ all. AreResuming m order is_recording recorded (items all))

@@ -1,7 +1,8 @@
--- The parts of a run come to its ending.
+-- The parts of a run result in its ending.
 use Rattle.std.proofs.Common.{◌≡◌, ◌≢◌, ℕ, inl, inr, Bool, true, false, List, [], Option, Some, None, refl, sym, ap, subst, ◌∙◌}
 use Rattle.std.specs.Prelude.{Ok}
 use Rattle.frontier_core.specs.Machine.{IsQuiet}
+use Rattle.html_links.specs.declared.rules.LinkRules.{LinkRules}
 use Rattle.site_records.specs.Records.{RecordedAnswers}
 use Rattle.frontier_core.specs.declared.event.Cause.TheVariants as cause
 use Rattle.frontier_core.specs.declared.event.Event.{Event}
@@ -63,6 +64,8 @@ comes_refused words input (fault.Line line.Directory) (inl e) = e
 comes_refused words input (fault.Line line.Directory) (inr e) = cc
 comes_refused words input (fault.Line line.Domain) (inl e) = e
 comes_refused words input (fault.Line line.Domain) (inr e) = cc
+comes_refused words input (fault.Line line.Tags) (inl e) = e
+comes_refused words input (fault.Line line.Tags) (inr e) = cc
 comes_refused words input (fault.Line (line.Start why)) (inl e) = e
 comes_refused words input (fault.Line (line.Start why)) (inr e) = cc
 comes_refused words input (fault.Line line.StartIsRobots) (inl e) = e
@@ -78,7 +81,7 @@ ends_refused words known wrong refused = let (input, is) = some_input known in (
 
 -- ---- the input
 
-pub ends_input : (words : List (List ℕ)) (known : Option (List ℕ)) (order : Order) (wrong : Fault) → IsInputOrder words order → TellsFault (IsWrongBy order.source order.plan.robots) known wrong
+pub ends_input : (words : List (List ℕ)) (known : Option (List ℕ)) (order : Order) (wrong : Fault) → IsInputOrder words order → TellsFault (IsWrongBy order.source order.links) known wrong
     → EndsFor words known (Failed wrong)
 ends_input words known order (fault.Line w) ordered told = absurd told
 ends_input words known order fault.NotText ordered told = absurd told
@@ -89,20 +92,20 @@ ends_input words known order (fault.Read reading.Memory) ordered told = let (inp
 ends_input words known order (fault.Input w) ordered (input, is, within, bad) = (input, is, (order, ordered, within, bad))
 ends_input words known order fault.Memory ordered told = ends_memory words known
 
--- what an order and the reader come to instead of a retrieval is the run's
+-- what an order and the reader result in instead of a retrieval is the run's
 pub ends_unfit : (words : List (List ℕ)) (known : Option (List ℕ)) (order : Order) (wrong : Fault) → order_of words ≡ Ok (ordered_by order) → IsUnfit order known wrong → EndsFor words known (Failed wrong)
 ends_unfit words known order wrong says (inl (live, is)) = let (input, among) = some_input known in (input, among, subst (λ (w : Fault). Comes words input w) (sym is) (ordered_by order, says, live))
 ends_unfit words known order wrong says (inr (not, told)) = ends_input words known order wrong (says, not) told
 
 -- ---- the retrieval
 
--- an input tells no site on the network
-told_not_live : (order : Order) (known : Option (List ℕ)) (text : List ℕ) (status : ℕ) → IsOutput (IsToldBy order.source order.plan.robots) order known text status → order.source ≢ source.Live
-told_not_live order known text status (site, (input, is, within, told), output) = λ live. subst (λ (s : Source). IsToldBy s order.plan.robots input site) live told
+-- an input describes no site on the network
+told_not_live : (order : Order) (known : Option (List ℕ)) (text : List ℕ) (status : ℕ) → IsOutput (IsToldBy order.source order.links) order known text status → order.source ≢ source.Live
+told_not_live order known text status (site, (input, is, within, told), output) = λ live. subst (λ (s : Source). IsToldBy s order.links input site) live told
 
--- what is told of the retrieval is the text of its ending
+-- what is written of the retrieval is the text of its ending
 pub ends_output : (words : List (List ℕ)) (known : Option (List ℕ)) (order : Order) (text : List ℕ) (status : ℕ) → order_of words ≡ Ok (ordered_by order)
-    → IsOutput (IsToldBy order.source order.plan.robots) order known text status
+    → IsOutput (IsToldBy order.source order.links) order known text status
     → (ending : Ending) × EndsFor words known ending × (text ≡ ending_text ending) × (status ≡ ending_status ending)
 ends_output words known order text status says (site, (input, is, within, told), output) = (
   Ended (trace_text output.shown) output.finish,
@@ -118,12 +121,12 @@ delivered before after text wanted status ending is is_status told =
     subst (λ (n : ℕ). IsDelivered before after (ending_text ending) n status) is_status (subst (λ (t : List ℕ). IsDelivered before after t wanted status) is told)
 
 pub runs_output : (words : List (List ℕ)) (known before after : Option (List ℕ)) (order : Order) (text : List ℕ) (wanted status : ℕ) → order_of words ≡ Ok (ordered_by order)
-    → IsOutput (IsToldBy order.source order.plan.robots) order known text wanted → IsDelivered before after text wanted status → Runs words known before after status
+    → IsOutput (IsToldBy order.source order.links) order known text wanted → IsDelivered before after text wanted status → Runs words known before after status
 runs_output words known before after order text wanted status says output told =
     let (ending, ends, is, is_status) = ends_output words known order text wanted says output in
     record { ending = ending; ends = ends; written = delivered before after text wanted status ending is is_status told }
 
--- the line of a fault is a run's that comes to it
+-- the line of a fault is that of a run that ends with it
 pub runs_refused : (words : List (List ℕ)) (known before after : Option (List ℕ)) (wrong : Fault) (status : ℕ) → EndsFor words known (Failed wrong) → IsFaultDelivered before after wrong status
     → Runs words known before after status
 runs_refused words known before after wrong status ends (inl told) = record { ending = Failed wrong; ends = ends; written = told }
@@ -137,6 +140,7 @@ found_of order site shown (Retrieved lines) (are, named, events) = (are, named)
 found_of order site shown (Stopped cause.Full) (many, events) = many
 found_of order site shown (Stopped cause.Memory) finishes = tt
 found_of order site shown (Stopped cause.Mismatch) (several, none) = several
+found_of order site shown (Stopped cause.Quota) never = never
 
 -- no events are shown that aren't ordered
 unshown : (b : Bool) (AreSuch : List Event → Type 0) (shown : List Event) → AreShown b AreSuch shown → b ≡ false → shown ≡ []
@@ -149,6 +153,7 @@ none_unordered order site shown (Stopped cause.Full) (many, events) = unshown or
 none_unordered order site shown (Stopped cause.Memory) (inl none) = λ is. none
 none_unordered order site shown (Stopped cause.Memory) (inr events) = unshown order.trace (AreEventsOf order.workers order.plan (whole_of site) (HasStopped cause.Memory)) shown events
 none_unordered order site shown (Stopped cause.Mismatch) (several, none) = λ is. none
+none_unordered order site shown (Stopped cause.Quota) never = absurd never
 
 module _ (form : Form) (order : Order) (known before after : Option (List ℕ)) where
   finds_output : (text : List ℕ) (wanted status : ℕ) → IsOutput form.tells order known text wanted → IsDelivered before after text wanted status → FindsIn form order known before after status
@@ -168,20 +173,20 @@ module _ (form : Form) (order : Order) (known before after : Option (List ℕ)) 
   finds_fault wrong status tells (inr told) = record { ending = Failed fault.Memory; ends = tt; written = told }
 
 -- the form that is read, by the source
-abbrev form_by : Source → Bool → Form
-form_by s robots = record { tells = IsToldBy s robots; has_fault = IsWrongBy s robots }
+abbrev form_by : Source → LinkRules → Form
+form_by s links = record { tells = IsToldBy s links; has_fault = IsWrongBy s links }
 
 -- the same by the order's source
 pub finds_told : (s : Source) (order : Order) (known before after : Option (List ℕ)) (text : List ℕ) (wanted status : ℕ) → order.source ≡ s
-    → IsOutput (IsToldBy order.source order.plan.robots) order known text wanted → IsDelivered before after text wanted status
-    → FindsIn (form_by s order.plan.robots) order known before after status
+    → IsOutput (IsToldBy order.source order.links) order known text wanted → IsDelivered before after text wanted status
+    → FindsIn (form_by s order.links) order known before after status
 finds_told s order known before after text wanted status is output told =
-    finds_output (form_by s order.plan.robots) order known before after text wanted status
-    (subst (λ (x : Source). IsOutput (IsToldBy x order.plan.robots) order known text wanted) is output) told
+    finds_output (form_by s order.links) order known before after text wanted status
+    (subst (λ (x : Source). IsOutput (IsToldBy x order.links) order known text wanted) is output) told
 
 pub finds_unfit : (s : Source) (order : Order) (known before after : Option (List ℕ)) (wrong : Fault) (status : ℕ) → order.source ≡ s → (s ≢ source.Live) → IsUnfit order known wrong
-    → IsFaultDelivered before after wrong status → FindsIn (form_by s order.plan.robots) order known before after status
+    → IsFaultDelivered before after wrong status → FindsIn (form_by s order.links) order known before after status
 finds_unfit s order known before after wrong status is other (inl (live, none)) told = absurd (other (sym is ∙ live))
 finds_unfit s order known before after wrong status is other (inr (not, tells)) told =
-    finds_fault (form_by s order.plan.robots) order known before after wrong status
-    (subst (λ (x : Source). TellsFault (IsWrongBy x order.plan.robots) known wrong) is tells) told
+    finds_fault (form_by s order.links) order known before after wrong status
+    (subst (λ (x : Source). TellsFault (IsWrongBy x order.links) known wrong) is tells) told

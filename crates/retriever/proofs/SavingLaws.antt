@@ -1,4 +1,4 @@
--- Which notes are saved, and what is told of that.
+-- Which notes are saved, and what is written of that.
 use Rattle.std.proofs.Common.{◌≡◌, ◌<◌, ◌+◌, ◌∙◌, ◌++◌, ℕ, suc, List, [], ◌∷◌, length, get_or, drop, drop-cons, add-one, Option, refl, sym, ap, subst}
 use Rattle.std.specs.Prelude.{Result, Ok, Err, OnOk}
 use Rattle.std.specs.List.{flat_map}
@@ -39,7 +39,7 @@ is_saved contents (Ok done) old new text wanted same ok device memory = subst (�
 is_saved contents (Err Device) old new text wanted same ok device memory = subst (λ (t : List ℕ). AppendsFront (contents old) (contents new) t) same (device refl)
 is_saved contents (Err Memory) old new text wanted same ok device memory = ap contents (memory refl)
 
--- it is told behind what was told before
+-- it is written after what was written before
 pub saving_behind : (saving : Result (Unit {0}) RecordFault) (before old new : Option (List ℕ)) (told status : ℕ) → IsDelivered old new (save_text saving) (save_status saving told) status
     → (text : List ℕ) (wanted : ℕ) → told ≡ wanted → Appends before old text → IsDelivered before new (text ++ save_text saving) (save_status saving wanted) status
 saving_behind saving before old new told status delivered text wanted same whole =

@@ -67,7 +67,7 @@ named_of_set p q naming kinds lines like named = record {
   names = named.names;
 }
 
--- Orders whose plans have the same starts, in any order and however often, and are the same otherwise, come to one report of one site, if they name files
+-- Orders whose plans have the same starts, in any order and however often, and are the same otherwise, result in one report of one site, if they name files
 -- alike: however many workers each orders, and whatever is shown of their traces.
 pub report_of_set : (order other : Order) (site : RecordedAnswers) (shown others : List Event) (xs ys : List Line) → HaveSameStarts order.plan other.plan → order.names.has_endings ≡ other.names.has_endings
     → ((page : Text) (kind : BodyKind) → plain_name_by order.names.has_endings order.names.rules kind page ≡ plain_name_by order.names.has_endings other.names.rules kind page)

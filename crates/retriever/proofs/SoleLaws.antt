@@ -81,7 +81,7 @@ same_named plan naming others kinds lines ends same named = record {
       (subst (λ plain. IsNamingBy naming.has_endings plain (names_in lines)) (same_plain naming.has_endings naming.rules others.rules same (named_pages lines) kinds) named.names);
 }
 
--- orders of one plan, by whose rules each page has one plain name, come to one report of one site, however many workers each orders
+-- orders of one plan, by whose rules each page has one plain name, result in one report of one site, however many workers each orders
 -- and whatever is shown of their traces; if names have endings, a page has one plain name for each kind of its body
 pub sole_report : (order other : Order) (site : RecordedAnswers) (shown others : List Event) (xs ys : List Line) → order.plan ≡ other.plan → order.names.has_endings ≡ other.names.has_endings
     → ((page : Text) (kind : BodyKind) → plain_name_by order.names.has_endings order.names.rules kind page ≡ plain_name_by order.names.has_endings other.names.rules kind page)

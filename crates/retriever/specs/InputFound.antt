@@ -1,6 +1,6 @@
--- What a run by an order found of the site that its input tells, and what it writes of that, with no word of the events that led
--- there nor of the words that order it: these says `Run`.
-use Rattle.std.specs.Prelude.{◌≡◌, ◌≢◌, ◌≤◌, ◌<◌, ℕ, Bool, false, List, [], length, map, Option}
+-- What a run by an order found of the site that its input describes, and what it writes of that. It mentions neither the events
+-- that led there nor the words that order it: those are in `Run`.
+use Rattle.std.specs.Prelude.{◌≡◌, ◌≢◌, ◌≤◌, ◌<◌, ℕ, false, List, [], length, map, Option}
 use Rattle.frontier_core.specs.Plans.{policy}
 use Rattle.frontier_core.specs.Routes.{HasTooMany}
 use Rattle.frontier_core.specs.declared.event.Cause.TheVariants as cause
@@ -8,6 +8,7 @@ use Rattle.options.specs.declared.order.Order.{Order}
 use Rattle.site_inputs.specs.declared.input_fault.InputFault.{InputFault}
 use Rattle.site_maps.specs.Maps.{IsFault as IsFaultOfMap}
 use Rattle.report.specs.Named.{named_pages}
+use Rattle.html_links.specs.declared.rules.LinkRules.{LinkRules}
 use Rattle.site_records.specs.Records.{RecordedAnswers, IsFault as IsFaultOfRecord}
 use Rattle.streams.specs.Streams.{IsInput}
 use Rattle.streams.specs.declared.input.ReadFault.TheVariants as reading
@@ -19,7 +20,7 @@ use Rattle.retriever.specs.Retrieved.{Finish, Retrieved, Stopped}
 use Rattle.retriever.specs.Run.{Ending, Failed, Ended, ending_text, ending_status}
 use Rattle.retriever.specs.Site.{IsMapOf, IsRecordOf, AreLines, AreNamed, kind_at, whole_of}
 
--- a form of inputs: the site that an input tells, and the faults that it has
+-- a form of inputs: the site that an input describes, and the faults that it has
 pub record Form : Type 1 where
   pub tells : List ℕ → RecordedAnswers → Type 0
   pub has_fault : List ℕ → InputFault → Type 0
@@ -28,15 +29,15 @@ pub record Form : Type 1 where
 abbrev pub map_form : Form
 map_form = record { tells = IsMapOf; has_fault = IsFaultOfMap }
 
--- the form of records, by whether robots are honoured
-abbrev pub record_form : Bool → Form
-record_form robots = record { tells = IsRecordOf robots; has_fault = IsFaultOfRecord robots }
+-- the form of records, by which links of pages are taken
+abbrev pub record_form : LinkRules → Form
+record_form links = record { tells = IsRecordOf links; has_fault = IsFaultOfRecord links }
 
--- what the reader has left tells this site
+-- what the reader has left describes this site
 abbrev pub TellsSite : (List ℕ → RecordedAnswers → Type 0) → Option (List ℕ) → RecordedAnswers → Type 0
 TellsSite IsOf known site = (input : List ℕ) × IsInput known input × (length input ≤ MAX_INPUT) × IsOf input site
 
--- what the reader has left comes to this fault
+-- what the reader has left results in this fault
 abbrev pub TellsFault : (List ℕ → InputFault → Type 0) → Option (List ℕ) → Fault → Type 0
 TellsFault IsWrong known (fault.Line wrong) = ⊥
 TellsFault IsWrong known fault.NotText = ⊥
@@ -48,21 +49,22 @@ TellsFault IsWrong known (fault.Input wrong) = (input : List ℕ) × IsInput kno
 TellsFault IsWrong known fault.Memory = Unit {0}
 
 -- This is found of a whole site: the lines of its report, or more addresses than the plan lets be held. Memory may run out at any
--- time, and a check of several workers may fail.
+-- time, and a check of several workers may fail. No quota counts.
 abbrev pub IsFoundOf : Order → RecordedAnswers → Finish → Type 0
 IsFoundOf order site (Retrieved lines) =
     AreLines (policy order.plan) (whole_of site) lines × AreNamed order.plan order.names (map (kind_at site) (named_pages lines)) lines
 IsFoundOf order site (Stopped cause.Full) = HasTooMany (policy order.plan) (whole_of site)
 IsFoundOf order site (Stopped cause.Memory) = Unit {0}
 IsFoundOf order site (Stopped cause.Mismatch) = order.workers ≢ 1
+IsFoundOf order site (Stopped cause.Quota) = ⊥
 
--- what the reader has left comes to this ending
+-- what the reader has left results in this ending
 abbrev pub EndsOn : Form → Order → Option (List ℕ) → Ending → Type 0
 EndsOn form order known (Failed wrong) = TellsFault form.has_fault known wrong
 EndsOn form order known (Ended trace finish) =
     (order.trace ≡ false → trace ≡ []) × (site : RecordedAnswers) × TellsSite form.tells known site × IsFoundOf order site finish
 
--- A run by an order, of an input of a form: it comes to an ending, whose text the writer gained, or a front of it where it failed.
+-- A run by an order, of an input of a form: it has an ending, whose text the writer gained, or a front of it if it failed.
 pub record FindsIn (form : Form) (order : Order) (known old new : Option (List ℕ)) (status : ℕ) : Type 0 where
   pub ending : Ending
   pub ends : EndsOn form order known ending

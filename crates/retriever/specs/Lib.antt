@@ -12,6 +12,7 @@ pub mod Cookies
 pub mod Program
 pub mod Found
 pub mod Live
+pub mod Mirrored
 pub mod Saving
 pub mod Resuming
 pub mod Systems

@@ -1,4 +1,4 @@
--- What the words of a run order of a site that its input tells, or what is wrong with them.
+-- What the words of a run order of a site that its input describes, or what is wrong with them.
 use Rattle.std.specs.Prelude.{◌≡◌, ◌≢◌, ◌⊎◌, ℕ, List, Ok, Err}
 use Rattle.options.specs.Asked.{without_kind}
 use Rattle.options.specs.Order.{Ordered, order_of, ordered_by}
@@ -12,7 +12,7 @@ use Rattle.retriever.specs.declared.fault.Fault.TheVariants as fault
 abbrev pub IsInputOrder : List (List ℕ) → Order → Type 0
 IsInputOrder words order = (order_of words ≡ Ok (ordered_by order)) × (order.source ≢ source.Live)
 
--- the words order something of a site that the input tells
+-- the words order something of a site that the input describes
 abbrev pub AreForInput : List (List ℕ) → Type 0
 AreForInput words = (order : Order) × IsInputOrder words order
 

@@ -1,4 +1,4 @@
--- What the parts of a run come to.
+-- What the parts of a run result in.
 use Rattle.std.specs.Prelude.{◌≡◌, ◌⊎◌, ◌++◌, ℕ, Bool, true, false, List, [], codes, Option}
 use Rattle.std.specs.Io.KnownBytes.{Appends}
 use Rattle.frontier_core.specs.declared.event.Event.{Event}
@@ -10,7 +10,7 @@ use Rattle.retriever.specs.declared.fault.Fault.{Fault}
 abbrev pub IsDelivered : Option (List ℕ) → Option (List ℕ) → List ℕ → ℕ → ℕ → Type 0
 IsDelivered old new text wanted status = ((status ≡ wanted) × Appends old new text) ⊎ ((status ≡ 1) × AppendsFront old new text)
 
--- the text of the fault is delivered with its status, or that of want of memory
+-- the text of the fault is delivered with its status, or that for memory that ran out
 abbrev pub IsFaultDelivered : Option (List ℕ) → Option (List ℕ) → Fault → ℕ → Type 0
 IsFaultDelivered old new wrong status =
     IsDelivered old new (fault_text wrong) (fault_status wrong) status

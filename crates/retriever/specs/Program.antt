@@ -1,4 +1,4 @@
--- What the program makes of its arguments, and what a person is told of them.
+-- What the program makes of its arguments, and what a person reads about them.
 use Rattle.std.specs.Prelude.{◌≡◌, ◌⊎◌, ℕ, List, Option, String, codes, drop, map, string_bytes}
 use Rattle.std.specs.declared.io.ErrorKind.{ErrorKind}
 use Rattle.std.specs.declared.io.ErrorKind.TheVariants.{OutOfMemory}
@@ -12,7 +12,7 @@ use Rattle.streams.specs.Streams.{AppendsFront}
 use Rattle.retriever.specs.declared.fault.Fault.{Fault}
 use Rattle.retriever.specs.declared.fault.Fault.TheVariants as fault
 
--- the words of arguments: all behind the program's name
+-- the words of arguments: all after the program's name
 abbrev pub words_behind : {Z : Type 0} → List (String Z) → List (List ℕ)
 words_behind arguments = map string_bytes (drop 1 arguments)
 
@@ -21,7 +21,7 @@ abbrev pub words_fault : ErrorKind → Fault
 words_fault OutOfMemory = fault.Memory
 words_fault kind = fault.NotText
 
--- the outputs of the program at one moment: what its writer got, and its error stream with what a person was told there
+-- the outputs of the program at one moment: what its writer got, and its error stream with what a person got there
 pub record Outputs (E : Type 0) : Type 0 where
   pub written : Option (List ℕ)
   pub errors : E
@@ -31,20 +31,20 @@ pub record Outputs (E : Type 0) : Type 0 where
 abbrev pub outputs : {E : Type 0} → (E → Option (List ℕ)) → Option (List ℕ) → E → Outputs E
 outputs contents written errors = record { written = written; errors = errors; told = contents errors }
 
--- The text of a fault of the words, or what they ask for, is delivered with its status, and what is wrong, or a front of it, was written to a person;
--- or the line of want of memory is delivered, and nothing was written to a person.
+-- The text of a fault of the words, or what they request, is delivered with its status, and what is wrong, or a front of it, was written to a person;
+-- or the line for memory that ran out is delivered, and nothing was written to a person.
 abbrev pub IsExplained : {E : Type 0} → List (List ℕ) → Fault → Outputs E → Outputs E → ℕ → Type 0
 IsExplained words wrong before after status =
     (IsDelivered before.written after.written (fault_text wrong) (fault_status wrong) status × AppendsFront before.told after.told (said_of words wrong))
     ⊎ (IsDelivered before.written after.written (codes "stopped memory\n") 1 status × (after.errors ≡ before.errors))
 
--- what is wrong with the words is told, in its line and to a person
+-- what is wrong with the words is reported, in its line and to a person
 abbrev pub IsFaultTold : {E : Type 0} → List (List ℕ) → Outputs E → Outputs E → ℕ → Type 0
 IsFaultTold words before after status = (wrong : Fault) × IsRefused words wrong × IsExplained words wrong before after status
 
 -- ---- a site on the network
 
--- the live retrieval that the words order, or the line of want of memory before it
+-- the live retrieval that the words order, or the line for memory that ran out before it
 abbrev pub LivesFor : {S B F K D V : Type 0} → Means S B F K D V → Option (List ℕ) → Option (List ℕ) → ℕ → List (List ℕ) → Type 0
 LivesFor m before after status words =
     ((order : Order) × IsLiveOrder words order × LivesIn m order before after status) ⊎ IsFaultDelivered before after fault.Memory status

@@ -17,7 +17,7 @@ resume_words (Input (input.Address n)) = codes "resume address " ++ decimal n
 resume_words (Input input.Memory) = codes "stopped memory"
 resume_words Refused = codes "record not written"
 
--- 3 where the file can't be read or none may be saved, 2 for what it holds, 1 where memory ran out
+-- 3 if the file can't be read or none may be saved, 2 for what it holds, 1 if memory ran out
 abbrev pub resume_status : ResumeFault → ℕ
 resume_status (Read reading.Failed) = 3
 resume_status (Read reading.Long) = 2
@@ -27,7 +27,7 @@ resume_status (Input (input.Address n)) = 2
 resume_status (Input input.Memory) = 1
 resume_status Refused = 3
 
--- its line is delivered with its status, or that of want of memory
+-- its line is delivered with its status, or that for memory that ran out
 abbrev pub IsUnresumed : Option (List ℕ) → Option (List ℕ) → ResumeFault → ℕ → Type 0
 IsUnresumed old new wrong status =
     IsDelivered old new (resume_words wrong ++ codes "\n") (resume_status wrong) status

@@ -1,4 +1,4 @@
--- What a retrieval of a site comes to, with what is shown of its trace.
+-- What a retrieval of a site results in, with what is shown of its trace.
 use Rattle.std.specs.Prelude.{◌≡◌, ◌≢◌, ◌⊎◌, ℕ, Bool, true, false, List, [], map, Some}
 use Rattle.follow_filters.specs.declared.plan.Plan.{Plan}
 use Rattle.options.specs.declared.order.Order.{Order}
@@ -23,13 +23,13 @@ pub record IsPartOf (m whole : Answers) : Type 0 where
   pub outcomes : (u : Text) (x : Outcome) → m.outcome u ≡ Some x → whole.outcome u ≡ Some x
   pub rules : (o : Text) (rules : RuleSetValue) → m.rules o ≡ Some rules → whole.rules o ≡ Some rules
 
--- the events are those of a frontier that goes by the plan, is told what the site has, and is left in such a state; so many
+-- the events are those of a frontier that goes by the plan, receives what the site has, and is left in such a state; this many
 -- workers drive it, which are counted from 0, and several may come in any order
 abbrev pub AreEventsOf : ℕ → Plan → Answers → (State → Type 0) → List Event → Type 0
 AreEventsOf workers plan whole IsSuch events =
     AreByCrew workers events × (s : State) × IsReplay (policy plan) events s × IsPartOf (answers s) whole × IsSuch s
 
--- what is shown are such events, where they are to be shown, else none
+-- what is shown are such events, if they are to be shown, else none
 abbrev pub AreShown : Bool → (List Event → Type 0) → List Event → Type 0
 AreShown true AreSuch shown = AreSuch shown
 AreShown false AreSuch shown = shown ≡ []
@@ -38,13 +38,13 @@ AreShown false AreSuch shown = shown ≡ []
 abbrev pub HasStopped : Cause → State → Type 0
 HasStopped why s = s.cause ≡ Some why
 
--- what a retrieval comes to: the lines of a report, or the cause for which it stopped
+-- what a retrieval results in: the lines of a report, or the cause for which it stopped
 pub data Finish : Type 0 where
   Retrieved : List Line → Finish
   Stopped : Cause → Finish
 
--- the retrieval that is ordered of a site comes to this, and this is shown of its trace; where memory was short there
--- may be nothing to show. A check of several workers may fail; one worker has none
+-- the retrieval that is ordered of a site results in this, and this is shown of its trace; if memory was short there
+-- may be nothing to show. A check of several workers may fail; one worker has none. No quota counts
 abbrev pub Finishes : Order → RecordedAnswers → List Event → Finish → Type 0
 Finishes order site shown (Retrieved lines) =
     AreLines (policy order.plan) (whole_of site) lines × AreNamed order.plan order.names (map (kind_at site) (named_pages lines)) lines
@@ -54,3 +54,4 @@ Finishes order site shown (Stopped cause.Full) =
 Finishes order site shown (Stopped cause.Memory) =
     (shown ≡ []) ⊎ AreShown order.trace (AreEventsOf order.workers order.plan (whole_of site) (HasStopped cause.Memory)) shown
 Finishes order site shown (Stopped cause.Mismatch) = (order.workers ≢ 1) × (shown ≡ [])
+Finishes order site shown (Stopped cause.Quota) = ⊥

@@ -27,7 +27,7 @@ use Rattle.retriever.specs.declared.fault.Fault.TheVariants as fault
 use Rattle.streams.specs.declared.input.ReadFault.{ReadFault}
 use Rattle.streams.specs.declared.input.ReadFault.TheVariants as reading
 
--- the words and the input come to this fault; memory may run out at any time, and a reader may fail once the words are read
+-- the words and the input result in this fault; memory may run out at any time, and a reader may fail once the words are read
 abbrev pub Comes : List (List ℕ) → List ℕ → Fault → Type 0
 Comes words input (fault.Line line.Memory) = Unit {0}
 Comes words input (fault.Line wrong) = order_of words ≡ Err (without_kind wrong)
@@ -37,7 +37,7 @@ Comes words input (fault.Read reading.Long) = AreForInput words × (MAX_INPUT < 
 Comes words input (fault.Read reading.Failed) = AreForInput words
 Comes words input (fault.Read reading.Memory) = Unit {0}
 Comes words input (fault.Input wrong) =
-    (order : Order) × IsInputOrder words order × (length input ≤ MAX_INPUT) × IsWrongBy order.source order.plan.robots input wrong
+    (order : Order) × IsInputOrder words order × (length input ≤ MAX_INPUT) × IsWrongBy order.source order.links input wrong
 Comes words input fault.Memory = Unit {0}
 
 -- ---- texts and statuses
@@ -66,6 +66,7 @@ line_words line.Pattern = codes "line pattern"
 line_words (line.Expression at) = codes "line pattern"
 line_words line.Directory = codes "line directory"
 line_words line.Domain = codes "line domain"
+line_words line.Tags = codes "line tags"
 line_words (line.Start refused) = start_words refused
 line_words line.StartIsRobots = codes "line start-robots"
 line_words line.Memory = codes "stopped memory"
@@ -91,7 +92,7 @@ fault_words (fault.Read wrong) = reading_words wrong
 fault_words (fault.Input wrong) = input_words wrong
 fault_words fault.Memory = codes "stopped memory"
 
--- what is written in place of a report: the help, or name and version, if the words ask for it, else the line of what is wrong
+-- what is written instead of a report: the help, or name and version, if the words request it, else the line of what is wrong
 abbrev pub fault_text : Fault → List ℕ
 fault_text (fault.Line wrong) = if asks wrong then advice_text [] wrong else line_words wrong ++ codes "\n"
 fault_text wrong = fault_words wrong ++ codes "\n"
@@ -102,7 +103,7 @@ wrong_status line.Memory = 1
 wrong_status (line.Start refused.Memory) = 1
 wrong_status _ = 2
 
--- 2 for what the words or the input say, 1 for what memory, a reader or a plan's bound stopped; 0 if the words ask for the help or the version
+-- 2 for what the words or the input say, 1 for what memory, a reader or a plan's bound stopped; 0 if the words request the help or the version
 abbrev pub fault_status : Fault → ℕ
 fault_status (fault.Line wrong) = if asks wrong then 0 else wrong_status wrong
 fault_status fault.NotText = 2
@@ -117,19 +118,19 @@ fault_status fault.Memory = 1
 
 -- ---- a retrieval
 
--- the text of what a retrieval comes to: a report, or one line of words
+-- the text of a retrieval's result: a report, or one line of words
 abbrev pub finish_text : Finish → List ℕ
 finish_text (Retrieved lines) = report_text lines
 finish_text (Stopped why) = codes "stopped " ++ cause_word why ++ codes "\n"
 
--- its status: that of a report is told by its outcomes
+-- its status: that of a report follows from its outcomes
 abbrev pub finish_status : Finish → ℕ
 finish_status (Retrieved lines) = exit_status (outcomes_in lines)
 finish_status (Stopped why) = 1
 
 -- ---- a run
 
--- what a run comes to: a fault, or what a retrieval comes to, behind the text of what is shown of its trace
+-- what a run results in: a fault, or a retrieval's result, after the text of what is shown of its trace
 pub data Ending : Type 0 where
   Failed : Fault → Ending
   Ended : List ℕ → Finish → Ending
@@ -144,22 +145,22 @@ abbrev pub ending_status : Ending → ℕ
 ending_status (Failed wrong) = fault_status wrong
 ending_status (Ended trace finish) = finish_status finish
 
--- the input tells a site of which the retrieval that is ordered comes to this
+-- the input describes a site of which the retrieval that is ordered results in this
 abbrev pub FinishesOn : Order → List ℕ → List Event → Finish → Type 0
 FinishesOn order input shown finish =
-    (length input ≤ MAX_INPUT) × (site : RecordedAnswers) × IsToldBy order.source order.plan.robots input site × Finishes order site shown finish
+    (length input ≤ MAX_INPUT) × (site : RecordedAnswers) × IsToldBy order.source order.links input site × Finishes order site shown finish
 
--- the words and the input come to this ending
+-- the words and the input result in this ending
 abbrev pub Ends : List (List ℕ) → List ℕ → Ending → Type 0
 Ends words input (Failed wrong) = Comes words input wrong
 Ends words input (Ended trace finish) = (order : Order) × IsInputOrder words order × (shown : List Event) × (trace ≡ trace_text shown) × FinishesOn order input shown finish
 
--- the words and what the reader has left come to this ending
+-- the words and what the reader has left result in this ending
 abbrev pub EndsFor : List (List ℕ) → Option (List ℕ) → Ending → Type 0
 EndsFor words known ending = (input : List ℕ) × IsInput known input × Ends words input ending
 
--- A run: its words and what its reader has left come to an ending. Either the writer gained that ending's text, and the
--- status is the ending's, or the writer failed behind a front of the text, and the status is 1.
+-- A run: its words and what its reader has left result in an ending. Either the writer gained that ending's text, and the
+-- status is the ending's, or the writer failed after a front of the text, and the status is 1.
 pub record Runs (words : List (List ℕ)) (known old new : Option (List ℕ)) (status : ℕ) : Type 0 where
   pub ending : Ending
   pub ends : EndsFor words known ending

@@ -1,4 +1,4 @@
--- What a live retrieval that saves its answers writes into their record, and what it tells of that.
+-- What a live retrieval that saves its answers writes into their record, and what it reports of that.
 use Rattle.std.specs.Prelude.{◌≡◌, ◌⊎◌, ◌==◌, ℕ, List, [], ◌++◌, flat_map, codes, length, map, Option, Result, Ok, Err, if◌then◌else◌}
 use Rattle.std.specs.Io.KnownBytes.{Appends}
 use Rattle.kept_bodies.specs.Bodies.{BodyValue}
@@ -21,13 +21,13 @@ use Rattle.retriever.specs.Live.{EndsLive}
 use Rattle.retriever.specs.Parts.{IsDelivered}
 use Rattle.report.specs.Trace.{trace_text}
 
--- what is told behind all else of how the record was saved: nothing where it is whole
+-- what is written after all else about how the record was saved: nothing if it is whole
 abbrev pub save_text : Result (Unit {0}) RecordFault → List ℕ
 save_text (Ok done) = []
 save_text (Err Device) = codes "record not written\n"
 save_text (Err Memory) = codes "stopped memory\n"
 
--- the status where the record isn't whole: 1 stays
+-- the status if the record isn't whole: 1 stays
 abbrev pub unsaved_status : ℕ → ℕ
 unsaved_status status = if status == 1 then 1 else 3
 
@@ -37,7 +37,7 @@ save_status (Ok done) status = status
 save_status (Err Device) status = unsaved_status status
 save_status (Err Memory) status = 1
 
--- the writer of the record gained its text; or it failed behind a front of it; or memory ran out before
+-- the writer of the record gained its text; or it failed after a front of it; or memory ran out before
 abbrev pub IsSaved : Result (Unit {0}) RecordFault → Option (List ℕ) → Option (List ℕ) → List ℕ → Type 0
 IsSaved (Ok done) old new text = Appends old new text
 IsSaved (Err Device) old new text = AppendsFront old new text
@@ -63,8 +63,8 @@ pub record Notes (F : Type 0) : Type 1 where
 abbrev pub notes_of : {F : Type 0} → Meaning F BodyValue → (F → List Noted) → List Noted → Notes F
 notes_of m noted given = record { means = m; noted = noted; given = given }
 
--- A live retrieval, as `Lives` has it, whose record is saved at its end, whatever that is: what was given, and behind it what
--- each fetcher noted. What is told of that stands behind all else.
+-- A live retrieval, as `Lives` has it, whose record is saved at its end, whatever that is: what was given, and after it what
+-- each fetcher noted. What is reported of that comes after all else.
 pub record LivesSaved {F : Type 0} (notes : Notes F) (order : Order) (fetchers : List F) (before after : OutsideSaved) (status : ℕ) : Type 0 where
   pub left : List F
   pub later : AreLater notes.means fetchers left
@@ -86,7 +86,7 @@ abbrev pub resuming_means : {F : Type 0} → Meaning F BodyValue → Meaning (Re
 resuming_means m =
     record { Site = Resumption m.Site; site = resumption_of m.site m.log; says = SaysOr m.says; rules = RulesOr m.rules; log = λ r. r.asks }
 
--- what fetchers noted that ask others for what a record doesn't state
+-- what fetchers noted that request from others what a record doesn't state
 abbrev pub noted_within : {F : Type 0} → (F → List Noted) → Resuming F → List Noted
 noted_within noted resuming = noted resuming.inner
 
@@ -100,7 +100,7 @@ pub record Resumes (F : Type 0) : Type 1 where
 abbrev pub resumes : {F : Type 0} → Meaning F BodyValue → (F → List Noted) → RecordValue → Resumes F
 resumes m noted recorded = record { means = m; noted = noted; recorded = recorded }
 
--- The same by fetchers that ask those given for what the record doesn't state, where the notes of the record are what is saved
+-- The same by fetchers that ask those given for what the record doesn't state; the notes of the record are what is saved
 -- first. Or there was no memory for these fetchers: nothing was asked, put or saved.
 abbrev pub LivesResumed : {F : Type 0} → Resumes F → Order → List F → OutsideSaved → OutsideSaved → ℕ → Type 0
 LivesResumed resumed order fetchers before after status =

@@ -1,10 +1,12 @@
--- The site that an input tells, and the report of a whole site.
-use Rattle.std.specs.Prelude.{◌≡◌, ◌≤◌, ℕ, Bool, true, false, List, Some, All, Any, IsTrue, is_some, length, map}
+-- The site that an input describes, and the report of a whole site.
+use Rattle.std.specs.Prelude.{◌≡◌, ◌≤◌, ℕ, Bool, true, false, List, Some, All, Any, IsSome, IsTrue, is_some, length, map}
 use Rattle.kept_bodies.specs.Bodies.{BodyValue}
 use Rattle.kept_bodies.specs.declared.body_kind.BodyKind.{BodyKind}
 use Rattle.fetcher.specs.Sites.{SiteAnswers, bare_body}
+use Rattle.fetcher.specs.declared.edge.Edge.{Edge}
 use Rattle.site_maps.specs.Lines.{Statement}
 use Rattle.site_maps.specs.Maps.{text_lines_of, IsMap, answers_of, rules_of, says_of, IsFault as IsFaultOfMap}
+use Rattle.html_links.specs.declared.rules.LinkRules.{LinkRules}
 use Rattle.site_inputs.specs.declared.input_fault.InputFault.{InputFault}
 use Rattle.site_records.specs.Entries.{Entry}
 use Rattle.site_records.specs.Records.{RecordedAnswers, IsRecord, answers_of as recorded_answers, rules_of as recorded_rules, says_of as record_says, IsFault as IsFaultOfRecord}
@@ -12,7 +14,7 @@ use Rattle.options.specs.declared.naming.PageNames.{PageNames}
 use Rattle.options.specs.declared.order.Source.{Source}
 use Rattle.options.specs.declared.order.Source.TheVariants as source
 use Rattle.frontier_core.specs.Tables.{Text}
-use Rattle.frontier_core.specs.Routes.{Policy, Answers, IsCandidate, IsDepth, is_open_address}
+use Rattle.frontier_core.specs.Routes.{Policy, Answers, Route, IsCandidate, IsDepth, is_open_address}
 use Rattle.follow_filters.specs.declared.plan.Plan.{Plan}
 use Rattle.local_names.specs.Endings.{ended_name, ended_names}
 use Rattle.local_names.specs.Names.{IsNamingBy}
@@ -21,17 +23,17 @@ use Rattle.local_names.specs.declared.rules.NameRules.{NameRules}
 use Rattle.report.specs.Named.{is_to_keep, named_pages, names_in}
 use Rattle.report.specs.Report.{Line, Fate, Asked, Refused, AreAscending}
 
--- ---- what an input tells
+-- ---- what an input describes
 
--- these outcomes and rule sets, with the bodies of outcomes that are told alone
+-- these outcomes and rule sets, with the bodies of outcomes that are given alone
 abbrev pub with_bare_bodies : SiteAnswers → RecordedAnswers
 with_bare_bodies site = record { answer = λ at. record { outcome = site.outcome at; body = bare_body (site.outcome at) }; rules = site.rules }
 
--- the site that the lines of a map tell of
+-- the site that the lines of a map describe
 abbrev pub site_told : List Statement → RecordedAnswers
 site_told said = with_bare_bodies (says_of (answers_of said) (rules_of said))
 
--- the site that the entries of a record tell of
+-- the site that the entries of a record describe
 abbrev pub site_recorded : List Entry → RecordedAnswers
 site_recorded said = record_says (recorded_answers said) (recorded_rules said)
 
@@ -39,21 +41,21 @@ site_recorded said = record_says (recorded_answers said) (recorded_rules said)
 abbrev pub IsMapOf : List ℕ → RecordedAnswers → Type 0
 IsMapOf input site = (said : List Statement) × IsMap (text_lines_of input) said × (site ≡ site_told said)
 
--- the input is a record, of this site; where robots are honoured, a page that forbids it isn't followed
-abbrev pub IsRecordOf : Bool → List ℕ → RecordedAnswers → Type 0
-IsRecordOf robots input site = (said : List Entry) × IsRecord robots input said × (site ≡ site_recorded said)
+-- the input is a record of this site, if these links of its pages are taken
+abbrev pub IsRecordOf : LinkRules → List ℕ → RecordedAnswers → Type 0
+IsRecordOf links input site = (said : List Entry) × IsRecord links input said × (site ≡ site_recorded said)
 
--- the input tells this site, as the source says
-abbrev pub IsToldBy : Source → Bool → List ℕ → RecordedAnswers → Type 0
-IsToldBy source.Map robots input site = IsMapOf input site
-IsToldBy source.Recorded robots input site = IsRecordOf robots input site
-IsToldBy source.Live robots input site = ⊥
+-- the input describes this site, as the source says
+abbrev pub IsToldBy : Source → LinkRules → List ℕ → RecordedAnswers → Type 0
+IsToldBy source.Map links input site = IsMapOf input site
+IsToldBy source.Recorded links input site = IsRecordOf links input site
+IsToldBy source.Live links input site = ⊥
 
--- what is wrong with an input that tells no site, as the source says
-abbrev pub IsWrongBy : Source → Bool → List ℕ → InputFault → Type 0
-IsWrongBy source.Map robots input wrong = IsFaultOfMap input wrong
-IsWrongBy source.Recorded robots input wrong = IsFaultOfRecord robots input wrong
-IsWrongBy source.Live robots input wrong = ⊥
+-- what is wrong with an input that describes no site, as the source says
+abbrev pub IsWrongBy : Source → LinkRules → List ℕ → InputFault → Type 0
+IsWrongBy source.Map links input wrong = IsFaultOfMap input wrong
+IsWrongBy source.Recorded links input wrong = IsFaultOfRecord links input wrong
+IsWrongBy source.Live links input wrong = ⊥
 
 -- ---- a whole site
 
@@ -65,7 +67,7 @@ whole_of site = record { outcome = λ u. Some (site.answer u).outcome; rules = �
 abbrev pub kind_at : RecordedAnswers → Text → BodyKind
 kind_at site u = (site.answer u).body.kind
 
--- what becomes of a candidate: it is asked for, with the site's outcome, unless its origin's robots rules refuse it
+-- what becomes of a candidate: it is requested, with the site's outcome, unless its origin's robots rules refuse it
 -- (RFC 9309, section 2.2.2)
 abbrev pub IsFate : Policy → Answers → Text → Fate → Type 0
 IsFate p m u (Asked x) = IsTrue (is_open_address p m u) × (m.outcome u ≡ Some x)
@@ -77,6 +79,14 @@ pub record AreLines (p : Policy) (m : Answers) (lines : List Line) : Type 0 wher
   pub ascending : AreAscending lines
   pub each : All (λ line. IsDepth p m line.address line.depth × IsFate p m line.address line.fate) lines
   pub all : (u : Text) → IsCandidate p m u → Any (λ line. line.address ≡ u) lines
+  pub few : length lines ≤ p.max_urls
+
+-- The lines of a front of a retrieval, by what is recorded: one for each address that was answered and perhaps for some that robots
+-- rules refuse, in the order of the addresses' texts, with the depth of a route that leads there and what becomes of it.
+pub record AreFrontLines (p : Policy) (m : Answers) (lines : List Line) : Type 0 where
+  pub ascending : AreAscending lines
+  pub each : All (λ line. ((route : List Edge) × Route p m route line.address line.depth) × IsFate p m line.address line.fate) lines
+  pub all : (u : Text) → IsSome (m.outcome u) → Any (λ line. line.address ≡ u) lines
   pub few : length lines ≤ p.max_urls
 
 -- ---- names

@@ -10,6 +10,7 @@ use Rattle.local_tree.specs.declared.folder.Folder.{Ghosts as Folders}
 use Rattle.answer_notes.specs.declared.noted.Noted.{Noted}
 use Rattle.site_inputs.specs.declared.input_fault.InputFault.TheVariants as input
 use Rattle.streams.specs.declared.input.ReadFault.TheVariants as reading
+use Rattle.html_links.specs.declared.rules.LinkRules.{LinkRules}
 use Rattle.site_records.specs.Entries.{Entry}
 use Rattle.site_records.specs.RecordNotes.{HasNotes}
 use Rattle.site_records.specs.RecordSites.{RecordValue}
@@ -44,22 +45,22 @@ means gives system fetchers recorders noted keeps folders records =
 -- how the fetchers of an order make their requests, with notes or without
 abbrev pub settings_of : Order → Bool → Settings
 settings_of order is_recording =
-    record { robots = order.plan.robots; is_recording = is_recording; kept = kept_of order; proxies = order.proxies; sends = sending_of order; manner = order.manner; retries = retries_by order.retries }
+    record { links = order.links; is_recording = is_recording; kept = kept_of order; proxies = order.proxies; sends = sending_of order; manner = order.manner; retries = retries_by order.retries }
 
--- the bytes are a record, which says this; where it is saved again its notes say the same
-abbrev pub IsRecordRead : Bool → Bool → List ℕ → RecordValue → Type 0
-IsRecordRead is_saving robots bytes recorded =
-    (said : List Entry) × IsRecord robots bytes said × (recorded.answers ≡ answers_of said) × (recorded.rules ≡ rules_of said) × HasNotes is_saving robots recorded.notes said
+-- the bytes are a record, which says this; if it is saved again its notes say the same
+abbrev pub IsRecordRead : Bool → LinkRules → List ℕ → RecordValue → Type 0
+IsRecordRead is_saving links bytes recorded =
+    (said : List Entry) × IsRecord links bytes said × (recorded.answers ≡ answers_of said) × (recorded.rules ≡ rules_of said) × HasNotes is_saving links recorded.notes said
 
 -- why no record is read of bytes that a file may hold: they can't be had, or have this fault
-abbrev pub IsNotRead : (List ℕ → Type 0) → Bool → ResumeFault → Type 0
-IsNotRead holds robots (Read wrong) = Unit {0}
-IsNotRead holds robots (Input input.Memory) = Unit {0}
-IsNotRead holds robots Refused = ⊥
-IsNotRead holds robots (Input wrong) = (bytes : List ℕ) × holds bytes × IsFault robots bytes wrong
+abbrev pub IsNotRead : (List ℕ → Type 0) → LinkRules → ResumeFault → Type 0
+IsNotRead holds links (Read wrong) = Unit {0}
+IsNotRead holds links (Input input.Memory) = Unit {0}
+IsNotRead holds links Refused = ⊥
+IsNotRead holds links (Input wrong) = (bytes : List ℕ) × holds bytes × IsFault links bytes wrong
 
 module _ {S B F K D V : Type 0} (m : Means S B F K D V) where
-  -- what a folder of the system tells
+  -- what is known of the contents of a folder of the system
   abbrev pub held : D → Holding
   held folder = holding m.folders.files m.folders.failed folder
 
@@ -78,11 +79,11 @@ module _ {S B F K D V : Type 0} (m : Means S B F K D V) where
     pub left : D
     pub lives : Lives m.fetchers m.keeps order fetchers (outside (held folder) before) (outside (held left) after) status
 
-  -- this is recorded in the file that the order resumes, or in a record without entries where it resumes none
+  -- this is recorded in the file that the order resumes, or in a record without entries if it resumes none
   abbrev pub IsResumed : Order → RecordValue → Type 0
   IsResumed order recorded =
-      MatchOption order.resume (IsRecordRead (is_some order.save) order.plan.robots (codes "wgetr-record 2\n") recorded)
-      (λ path. (bytes : List ℕ) × m.gives.holds m.system path bytes × IsRecordRead (is_some order.save) order.plan.robots bytes recorded)
+      MatchOption order.resume (IsRecordRead (is_some order.save) order.links (codes "wgetr-record 2\n") recorded)
+      (λ path. (bytes : List ℕ) × m.gives.holds m.system path bytes × IsRecordRead (is_some order.save) order.links bytes recorded)
 
   -- the same by fetchers that ask such as note for what is recorded in the file that the order resumes
   pub record LivesAgain (order : Order) (before after : Option (List ℕ)) (status : ℕ) : Type 0 where
@@ -94,7 +95,7 @@ module _ {S B F K D V : Type 0} (m : Means S B F K D V) where
     pub left : D
     pub lives : Lives (resuming_means m.recorders) in_memory order (map (resuming_of m.recorders.log recorded) fetchers) (outside (held folder) before) (outside (held left) after) status
 
-  -- the same, where the notes of what is recorded, and what such fetchers note, are saved at this path
+  -- the same, and the notes of what is recorded, and what such fetchers note, are saved at this path
   pub record LivesSaving (order : Order) (path : List ℕ) (before after : Option (List ℕ)) (status : ℕ) : Type 0 where
     pub recorded : RecordValue
     pub resumed : IsResumed order recorded
@@ -108,7 +109,7 @@ module _ {S B F K D V : Type 0} (m : Means S B F K D V) where
     pub lives : LivesResumed (resumes m.recorders m.noted recorded) order fetchers (outside_saved (held folder) before (m.records.contents record_begun))
         (outside_saved (held left) after (m.records.contents record_left)) status
 
-  -- one of the last two, by where the order saves
+  -- one of the last two, by whether and where the order saves
   abbrev pub LivesWith : Option (List ℕ) → Order → Option (List ℕ) → Option (List ℕ) → ℕ → Type 0
   LivesWith None order before after status = LivesAgain order before after status
   LivesWith (Some path) order before after status = LivesSaving order path before after status
@@ -119,14 +120,14 @@ module _ {S B F K D V : Type 0} (m : Means S B F K D V) where
   LivesBy (None, Some path) order before after status = LivesWith (Some path) order before after status
   LivesBy (Some from, save) order before after status = LivesWith save order before after status
 
-  -- why the file that the order resumes can't be, or none may stand where it saves
+  -- why the file that the order resumes can't be, or none may be saved where the order says
   abbrev pub IsNotResumed : Order → ResumeFault → Type 0
   IsNotResumed order (Read reading.Memory) = Unit {0}
   IsNotResumed order (Input input.Memory) = Unit {0}
   IsNotResumed order Refused = (path : List ℕ) × (order.save ≡ Some path) × m.gives.refuses m.system path
-  IsNotResumed order wrong = (path : List ℕ) × (order.resume ≡ Some path) × IsNotRead (m.gives.holds m.system path) order.plan.robots wrong
+  IsNotResumed order wrong = (path : List ℕ) × (order.resume ≡ Some path) × IsNotRead (m.gives.holds m.system path) order.links wrong
 
-  -- the live retrieval that is ordered, or the line that tells why its record can't be resumed, or of want of memory
+  -- the live retrieval that is ordered, or the line that says why its record can't be resumed, or that memory ran out
   abbrev pub LivesIn : Order → Option (List ℕ) → Option (List ℕ) → ℕ → Type 0
   LivesIn order before after status =
       LivesBy (order.resume, order.save) order before after status ⊎ ((wrong : ResumeFault) × IsNotResumed order wrong × IsUnresumed before after wrong status)

@@ -1,10 +1,10 @@
--- Where a run tells what it has to tell.
+-- Where a run writes its output.
 use Rattle.std.specs.Prelude.{Bool, List, ℕ, Option, None, Result, Ok, Err}
 use Rattle.options.specs.Listed.{are_quiet}
 use Rattle.options.specs.Order.{Ordered}
 use Rattle.options.specs.declared.fault.LineFault.{LineFault}
 
--- whether nothing is told, and the file that takes it, with whether that keeps what it has: as it is ordered; for refused words on the standard
+-- whether nothing is written, and the file that takes it, with whether that keeps what it has: as ordered; for refused words on the standard
 -- streams, unless they say that nothing is to be printed
 abbrev pub telling_by : List (List ℕ) → Result Ordered LineFault → Bool × Option (List ℕ × Bool)
 telling_by words (Ok ordered) = (ordered.quiet, ordered.log)

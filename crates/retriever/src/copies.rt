@@ -11,7 +11,7 @@ use std::alloc::{AllocError, Global};
 pub(crate) trait Copied: Fetcher<Body = Body> + Sized + Send {
     ghost use Rattle.std.specs.Prelude.{◌≡◌, IfOk};
 
-    /// An equal site, or an error where memory ran out.
+    /// An equal site, or an error if memory ran out.
     fn copied(&self) -> Result<Self, AllocError>
         ensures { IfOk result (λ copy. copy ≡ self.now) };
 }

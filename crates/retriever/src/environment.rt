@@ -70,7 +70,7 @@ fn refuse_list<W: Write>(alloc: Global, fault: ListFault, writer: &mut W) -> u8
     }
 }
 
-// Writes the line of these words, which are refused, or what they ask for, and gives the status of the run; a person is told what is
+// Writes the line of these words, which are refused, or what they request, and gives the status of the run; a person reads what is
 // wrong with them.
 fn refuse_words<W: Write, E: Write>(
     alloc: Global,

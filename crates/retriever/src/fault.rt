@@ -13,7 +13,7 @@ use streams::ReadFault;
 /// Why a run has no report.
 #[derive(Clone, Copy)]
 pub(crate) enum Fault {
-    /// The words are no order, or ask for the help or the version.
+    /// The words are no order, or request the help or the version.
     Line(LineFault),
     /// A word of the command line isn't UTF-8.
     NotText,
@@ -31,7 +31,7 @@ impl Fault {
     ghost use Rattle.std.specs.Prelude.{◌≡◌};
     ghost use Rattle.retriever.specs.Run.{fault_status};
 
-    /// The status with which a run ends: 0 if the words ask for the help or the version, 2 for what else they or the input say, and
+    /// The status with which a run ends: 0 if the words request the help or the version, 2 for what else they or the input say, and
     /// else 1.
     pub(crate) fn status(&self) -> u8
         ensures { result ≡ fault_status self.now }
@@ -89,6 +89,7 @@ fn line_words(wrong: LineFault) -> &'static str
         LineFault::Pattern | LineFault::Expression(_) => "line pattern",
         LineFault::Directory => "line directory",
         LineFault::Domain => "line domain",
+        LineFault::Tags => "line tags",
         LineFault::Start(refused) => start_words(refused),
         LineFault::StartIsRobots => "line start-robots",
         LineFault::Memory => "stopped memory",
@@ -117,7 +118,7 @@ fn input_text(alloc: Global, wrong: InputFault) -> Result<String, AllocError>
     }
 }
 
-// What the words ask for, or the line of what is wrong with them.
+// What the words request, or the line of what is wrong with them.
 fn line_text(alloc: Global, wrong: LineFault) -> Result<String, AllocError>
     ensures { IfOk result (λ text. string_bytes text ≡ fault_text (Line wrong)) }
 {
@@ -127,7 +128,7 @@ fn line_text(alloc: Global, wrong: LineFault) -> Result<String, AllocError>
     with_newline(alloc, line_words(wrong))
 }
 
-/// The line of a fault, or the help, or name and version, if the words ask for it.
+/// The line of a fault, or the help, or name and version, if the words request it.
 pub(crate) fn fault_text(alloc: Global, fault: Fault) -> Result<String, AllocError>
     ensures { IfOk result (λ text. string_bytes text ≡ fault_text fault) }
 {

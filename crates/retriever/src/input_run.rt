@@ -14,6 +14,7 @@ ghost use Rattle.retriever.specs.Run.{Runs};
 use crate::copies::{Copied, copies_of};
 use crate::fault::{Fault, fault_text};
 use crate::told::{Output, told_of};
+use html_links::LinkRules;
 use options::{Order, Source, read_order};
 use site_maps::MapSite;
 use site_records::RecordedSite;
@@ -22,6 +23,7 @@ use std::io::{Read, Write};
 use std::sync::Wait;
 use std::thread::Threads;
 use streams::{read_input, write_text};
+use workers::NoQuota;
 
 /// The most bytes of an input.
 pub(crate) const MAX_INPUT: usize = 1_073_741_824;
@@ -36,15 +38,19 @@ fn map_of<R: Read>(alloc: Global, reader: &mut R) -> Result<MapSite, Fault>
 }
 
 // The site of the record that is the input, by whether robots are honoured. The record's own bytes are dropped.
-fn record_of<R: Read>(alloc: Global, reader: &mut R, robots: bool) -> Result<RecordedSite, Fault>
-    ensures ok { IfOk result (λ site. TellsSite (IsRecordOf robots) (R.remaining reader.old) (record_says site.answers site.rules)) }
-    ensures err { IfErr result (TellsFault (IsFaultOfRecord robots) (R.remaining reader.old)) }
+fn record_of<R: Read>(
+    alloc: Global,
+    reader: &mut R,
+    links: LinkRules,
+) -> Result<RecordedSite, Fault>
+    ensures ok { IfOk result (λ site. TellsSite (IsRecordOf links) (R.remaining reader.old) (record_says site.answers site.rules)) }
+    ensures err { IfErr result (TellsFault (IsFaultOfRecord links) (R.remaining reader.old)) }
 {
     let input = read_input(alloc, reader, MAX_INPUT)?;
-    Ok(RecordedSite::read(alloc, input.as_slice(), robots)?)
+    Ok(RecordedSite::read(alloc, input.as_slice(), links)?)
 }
 
-// What is told of the retrieval of a site that gives each address one outcome, and each origin one rule set; each worker has a copy.
+// The output of the retrieval of a site that gives each address one outcome, and each origin one rule set; each worker has a copy.
 fn retrieve<H: Threads + Wait + Sync, F: Copied>(
     rt: &H,
     alloc: Global,
@@ -55,7 +61,14 @@ fn retrieve<H: Threads + Wait + Sync, F: Copied>(
         → IfOk result (λ output. IsOutputOf order.now told (string_bytes output.text) output.status) }
 {
     let copies = copies_of(alloc, site, order.workers)?;
-    let (retrieved, copies) = workers::retrieve_shown(rt, alloc, &order.plan, copies, None);
+    let (retrieved, copies) = workers::retrieve_shown(
+        rt,
+        alloc,
+        &order.plan,
+        &NoQuota,
+        copies,
+        None,
+    );
     // They are dropped before a report is made.
     drop(copies);
     let told = told_of(alloc, &order.names, order.trace, &retrieved);
@@ -63,7 +76,7 @@ fn retrieve<H: Threads + Wait + Sync, F: Copied>(
     told
 }
 
-// What is told of the retrieval of the map that is the input.
+// The output of the retrieval of the map that is the input.
 fn output_of_map<H: Threads + Wait + Sync, R: Read>(
     rt: &H,
     alloc: Global,
@@ -79,30 +92,30 @@ fn output_of_map<H: Threads + Wait + Sync, R: Read>(
     Ok(told?)
 }
 
-// What is told of the retrieval of the record that is the input.
+// The output of the retrieval of the record that is the input.
 fn output_of_record<H: Threads + Wait + Sync, R: Read>(
     rt: &H,
     alloc: Global,
     order: &Order,
     reader: &mut R,
 ) -> Result<Output, Fault>
-    ensures ok { IfOk result (λ output. IsOutput (IsRecordOf order.now.plan.robots) order.now (R.remaining reader.old) (string_bytes output.text) output.status) }
-    ensures err { IfErr result (TellsFault (IsFaultOfRecord order.now.plan.robots) (R.remaining reader.old)) }
+    ensures ok { IfOk result (λ output. IsOutput (IsRecordOf order.now.links) order.now (R.remaining reader.old) (string_bytes output.text) output.status) }
+    ensures err { IfErr result (TellsFault (IsFaultOfRecord order.now.links) (R.remaining reader.old)) }
 {
-    let site = record_of(alloc, reader, order.plan.robots)?;
+    let site = record_of(alloc, reader, order.links)?;
     let told = retrieve(rt, alloc, order, &site);
     drop(site);
     Ok(told?)
 }
 
-// What is told of the retrieval of the input, which is what the order's source says. No byte is read for a site on the network.
+// The output of the retrieval of the input, which is what the order's source says. No byte is read for a site on the network.
 fn output_of<H: Threads + Wait + Sync, R: Read>(
     rt: &H,
     alloc: Global,
     order: &Order,
     reader: &mut R,
 ) -> Result<Output, Fault>
-    ensures ok { IfOk result (λ output. IsOutput (IsToldBy order.now.source order.now.plan.robots) order.now (R.remaining reader.old) (string_bytes output.text) output.status) }
+    ensures ok { IfOk result (λ output. IsOutput (IsToldBy order.now.source order.now.links) order.now (R.remaining reader.old) (string_bytes output.text) output.status) }
     ensures err { IfErr result (IsUnfit order.now (R.remaining reader.old)) }
     ensures unread { order.now.source ≡ Source.Live → reader.new ≡ reader.old }
 {
@@ -113,7 +126,7 @@ fn output_of<H: Threads + Wait + Sync, R: Read>(
     }
 }
 
-/// Writes a text, and gives the status of the run: this one, or 1 where the writer fails.
+/// Writes a text, and gives the status of the run: this one, or 1 if the writer fails.
 pub(crate) fn deliver<W: Write>(writer: &mut W, text: &[u8], status: u8) -> u8
     ensures { IsDelivered (W.contents writer.old) (W.contents writer.new) text.now status result }
 {
@@ -123,7 +136,7 @@ pub(crate) fn deliver<W: Write>(writer: &mut W, text: &[u8], status: u8) -> u8
     }
 }
 
-/// Writes the line of a fault, or what the words ask for, and gives its status; if memory runs out, the line of that.
+/// Writes the line of a fault, or what the words request, and gives its status; if memory runs out, the line of that.
 pub(crate) fn refuse<W: Write>(alloc: Global, fault: Fault, writer: &mut W) -> u8
     ensures { IsFaultDelivered (W.contents writer.old) (W.contents writer.new) fault result }
 {
@@ -133,12 +146,12 @@ pub(crate) fn refuse<W: Write>(alloc: Global, fault: Fault, writer: &mut W) -> u
     }
 }
 
-/// Runs by an order: reads the whole input as a map, or as a record where the order says so, retrieves what the order's plan says
+/// Runs by an order: reads the whole input as a map, or as a record if the order says so, retrieves what the order's plan says
 /// with as many workers as the order has, and writes the report or one line of words; the first fault ends it. The report is the
-/// same for each number of workers. Where the order asks for the trace, its lines stand before the report, or before the line of a
-/// retrieval that stopped. Answers the status: that of [`exit_status`] for a report, 2 where the input is wrong or the site is on
-/// the network, 1 where the reader or the writer fails, more addresses are found than may be held, memory runs out, or a check of
-/// several workers fails. Where the writer fails a front of the text may be written. No byte is read for a site on the network.
+/// same for each number of workers. If the order requests the trace, its lines are before the report, or before the line of a
+/// retrieval that stopped. Returns the status: that of [`exit_status`] for a report, 2 if the input is wrong or the site is on
+/// the network, 1 if the reader or the writer fails, more addresses are found than may be held, memory runs out, or a check of
+/// several workers fails. If the writer fails, a front of the text may be written. No byte is read for a site on the network.
 pub fn run_of_order<H: Threads + Wait + Sync, R: Read, W: Write>(
     rt: &H,
     alloc: Global,
@@ -146,11 +159,11 @@ pub fn run_of_order<H: Threads + Wait + Sync, R: Read, W: Write>(
     reader: &mut R,
     writer: &mut W,
 ) -> u8
-    // What is found and what comes of it, by the order.
+    // What is found and what results, by the order.
     ensures of_map { order.now.source ≡ Source.Map
         → FindsIn map_form order.now (R.remaining reader.old) (W.contents writer.old) (W.contents writer.new) result }
     ensures of_record { order.now.source ≡ Source.Recorded
-        → FindsIn (record_form order.now.plan.robots) order.now (R.remaining reader.old) (W.contents writer.old) (W.contents writer.new) result }
+        → FindsIn (record_form order.now.links) order.now (R.remaining reader.old) (W.contents writer.old) (W.contents writer.new) result }
 
     // By the words that order it, with the events that led there.
     ensures runs { (words : List (List ℕ)) → order_of words ≡ Ok (ordered_by order.now)

@@ -1,7 +1,7 @@
 //! The retriever: from the words and the input to what is written. Its one idea: a run is glue over the crates below, and what
 //! it writes for its words and its input is one definition. It holds no rule of following. What a run finds by its order
-//! stands in `specs/InputFound.antt`, what it comes to by its words in `specs/Run.antt`, what is made of the program's arguments
-//! and told to a person in `specs/Program.antt`. Its tests stand in `live_tests`.
+//! is defined in `specs/InputFound.antt`, what its words result in in `specs/Run.antt`, what is made of the program's arguments
+//! and what a person reads in `specs/Program.antt`. Its tests are in `live_tests`.
 #![tactic(auto)]
 
 pub use crate::environment::{
@@ -19,10 +19,12 @@ mod copies;
 mod environment;
 mod fault;
 mod input_run;
+mod link_change;
 mod live_order;
 mod live_run;
 mod moves;
 mod program;
+mod quota;
 mod resume_fault;
 mod saved_run;
 mod telling;

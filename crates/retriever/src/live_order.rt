@@ -1,4 +1,4 @@
-//! A live order: what it names is taken from the system, a record is read and written where it says so, and its site is retrieved.
+//! A live order: what it names is taken from the system, a record is read and written if it says so, and its site is retrieved.
 ghost use Rattle.std.specs.Prelude.{◌≡◌, ◌≢◌, ◌<◌, ◌≤◌, ◌⊎◌, ℕ, List, All, false, IfOk, IfErr, OnErr, codes, is_some, vec_len};
 ghost use Rattle.site_records.specs.Records.{IsFault};
 ghost use Rattle.local_tree.specs.Folders.{holding};
@@ -12,6 +12,7 @@ ghost use Rattle.retriever.specs.inner.Systems.{AreResuming, goes_on_from, is_pl
 use crate::input_run::{MAX_INPUT, deliver};
 use crate::live_run::live_shown;
 use crate::moves::tell_moves;
+use crate::quota::tell_quota;
 use crate::resume_fault::{ResumeFault, resume_status, resume_text};
 use crate::saved_run::{live_saved, resuming};
 use early_names::EarlyRules;
@@ -41,7 +42,7 @@ fn settings_of(
     ensures { IfOk result (λ settings. settings ≡ settings_of order.now is_recording) }
 {
     Ok(FetcherSettings {
-        robots: order.plan.robots,
+        links: order.links,
         is_recording,
         kept: order.kept(),
         proxies: order.proxies()?,
@@ -69,7 +70,7 @@ fn fetchers_of<S: System>(
     Ok(fetchers)
 }
 
-// The same, of such as may note what they are told.
+// The same, of fetchers that may note what they receive.
 fn recorders_of<S: System>(
     alloc: Global,
     system: &S,
@@ -88,8 +89,8 @@ fn recorders_of<S: System>(
     Ok(fetchers)
 }
 
-// Lets what was retrieved stand to the end. To give its memory back to the system, page by page, would take a tenth of a large
-// run, and the process ends behind it.
+// Keeps what was retrieved to the end. To give its memory back to the system, page by page, would take a tenth of a large
+// run, and the process ends after it.
 fn keep_to_the_end<B: Drop>(retrieved: Result<Harvest<B>, Halt<B>>) {
     mem::forget(retrieved);
 }
@@ -108,17 +109,18 @@ where
     F::Body: HasKind + Send,
     requires some { 0 < vec_len fetchers }
     requires most { vec_len fetchers ≤ 64 }
-    ensures { Lives F.Fetcher (kept_as F.Body.kind_of D.holds) order.now fetchers.items (outside (holding D.files D.failed folder.old) (W.contents writer.old))
+    ensures { Lives F.Fetcher (kept_as F.Body.kind_of F.Body.len_of D.holds) order.now fetchers.items (outside (holding D.files D.failed folder.old) (W.contents writer.old))
         (outside (holding D.files D.failed folder.new) (W.contents writer.new)) result }
 {
     let waiting = system.waiting();
     let (status, retrieved) = live_shown(rt, alloc, order, fetchers, folder, writer, waiting);
     tell_moves(alloc, system, &retrieved);
+    tell_quota(system, &retrieved);
     keep_to_the_end(retrieved);
     status
 }
 
-// Has the system name files early, as the order says what is kept and how it is named.
+// Has the system name files early, by what the order says is kept and how it is named.
 fn begin_naming<S: System>(alloc: Global, system: &S, order: &Order) -> Result<(), AllocError> {
     let names = &order.names;
     let rules = EarlyRules::of(alloc, &order.plan, &names.rules, names.has_endings)?;
@@ -133,7 +135,7 @@ fn live_plainly<H: Threads + Wait + Sync, S: System, W: Write>(
     order: &Order,
     writer: &mut W,
 ) -> Result<u8, AllocError>
-    ensures lives { IfOk result (LivesPlainly (means S.System system.now S.Fetcher.Fetcher S.Recorder.Fetcher S.Recorder.noted (kept_as S.Body.kind_of S.Folder.holds) S.Folder.Folder S.Record.Write) order.now (W.contents writer.old) (W.contents writer.new)) }
+    ensures lives { IfOk result (LivesPlainly (means S.System system.now S.Fetcher.Fetcher S.Recorder.Fetcher S.Recorder.noted (kept_as S.Body.kind_of S.Body.len_of S.Folder.holds) S.Folder.Folder S.Record.Write) order.now (W.contents writer.old) (W.contents writer.new)) }
     ensures unwritten { OnErr result (writer.new ≡ writer.old) }
 {
     begin_naming(alloc, system, order)?;
@@ -151,7 +153,7 @@ fn resumed_of<S: System>(
     is_recording: bool,
 ) -> Result<Vec<Resumed<S::Recorder>>, AllocError>
     ensures count { IfOk result (λ all. vec_len all ≡ order.now.workers) }
-    ensures resumed { IfOk result (λ all. AreResuming (means S.System system.now S.Fetcher.Fetcher S.Recorder.Fetcher S.Recorder.noted (kept_as S.Body.kind_of S.Folder.holds) S.Folder.Folder S.Record.Write) order.now is_recording recorded.now all.items) }
+    ensures resumed { IfOk result (λ all. AreResuming (means S.System system.now S.Fetcher.Fetcher S.Recorder.Fetcher S.Recorder.noted (kept_as S.Body.kind_of S.Body.len_of S.Folder.holds) S.Folder.Folder S.Record.Write) order.now is_recording recorded.now all.items) }
 {
     let fetchers = recorders_of(alloc, system, order, is_recording)?;
     resuming(alloc, recorded, fetchers)
@@ -166,8 +168,8 @@ fn live_again<H: Threads + Wait + Sync, S: System, W: Write>(
     recorded: &RecordedSite,
     writer: &mut W,
 ) -> Result<u8, AllocError>
-    requires resumed { IsResumed (means S.System system.now S.Fetcher.Fetcher S.Recorder.Fetcher S.Recorder.noted (kept_as S.Body.kind_of S.Folder.holds) S.Folder.Folder S.Record.Write) order.now recorded.now }
-    ensures lives { IfOk result (LivesAgain (means S.System system.now S.Fetcher.Fetcher S.Recorder.Fetcher S.Recorder.noted (kept_as S.Body.kind_of S.Folder.holds) S.Folder.Folder S.Record.Write) order.now (W.contents writer.old) (W.contents writer.new)) }
+    requires resumed { IsResumed (means S.System system.now S.Fetcher.Fetcher S.Recorder.Fetcher S.Recorder.noted (kept_as S.Body.kind_of S.Body.len_of S.Folder.holds) S.Folder.Folder S.Record.Write) order.now recorded.now }
+    ensures lives { IfOk result (LivesAgain (means S.System system.now S.Fetcher.Fetcher S.Recorder.Fetcher S.Recorder.noted (kept_as S.Body.kind_of S.Body.len_of S.Folder.holds) S.Folder.Folder S.Record.Write) order.now (W.contents writer.old) (W.contents writer.new)) }
     ensures unwritten { OnErr result (writer.new ≡ writer.old) }
 {
     let resumed = resumed_of(alloc, system, order, recorded, false)?;
@@ -185,8 +187,8 @@ fn live_saving<H: Threads + Wait + Sync, S: System, W: Write>(
     path: &str,
     writer: &mut W,
 ) -> Result<u8, AllocError>
-    requires resumed { IsResumed (means S.System system.now S.Fetcher.Fetcher S.Recorder.Fetcher S.Recorder.noted (kept_as S.Body.kind_of S.Folder.holds) S.Folder.Folder S.Record.Write) order.now recorded.now }
-    ensures lives { IfOk result (LivesSaving (means S.System system.now S.Fetcher.Fetcher S.Recorder.Fetcher S.Recorder.noted (kept_as S.Body.kind_of S.Folder.holds) S.Folder.Folder S.Record.Write) order.now path.now (W.contents writer.old) (W.contents writer.new)) }
+    requires resumed { IsResumed (means S.System system.now S.Fetcher.Fetcher S.Recorder.Fetcher S.Recorder.noted (kept_as S.Body.kind_of S.Body.len_of S.Folder.holds) S.Folder.Folder S.Record.Write) order.now recorded.now }
+    ensures lives { IfOk result (LivesSaving (means S.System system.now S.Fetcher.Fetcher S.Recorder.Fetcher S.Recorder.noted (kept_as S.Body.kind_of S.Body.len_of S.Folder.holds) S.Folder.Folder S.Record.Write) order.now path.now (W.contents writer.old) (W.contents writer.new)) }
     ensures unwritten { OnErr result (writer.new ≡ writer.old) }
 {
     let resumed = resumed_of(alloc, system, order, recorded, true)?;
@@ -204,19 +206,20 @@ fn live_saving<H: Threads + Wait + Sync, S: System, W: Write>(
         system.waiting(),
     );
     tell_moves(alloc, system, &retrieved);
+    tell_quota(system, &retrieved);
     keep_to_the_end(retrieved);
     Ok(status)
 }
 
-// Reads a record, with notes of what it states where the order saves.
+// Reads a record, with notes of what it states if the order saves.
 fn read_bytes(alloc: Global, bytes: &[u8], order: &Order) -> Result<RecordedSite, InputFault>
-    ensures ok { IfOk result (λ r. IsRecordRead (is_some order.now.save) order.now.plan.robots bytes.now r) }
-    ensures err { IfErr result (IsFault order.now.plan.robots bytes.now) }
+    ensures ok { IfOk result (λ r. IsRecordRead (is_some order.now.save) order.now.links bytes.now r) }
+    ensures err { IfErr result (IsFault order.now.links bytes.now) }
 {
     if order.save.is_some() {
-        return RecordedSite::read_noted(alloc, bytes, order.plan.robots);
+        return RecordedSite::read_noted(alloc, bytes, order.links);
     }
-    RecordedSite::read(alloc, bytes, order.plan.robots)
+    RecordedSite::read(alloc, bytes, order.links)
 }
 
 // Reads the record at a path.
@@ -226,8 +229,8 @@ fn read_record<S: System>(
     path: &str,
     order: &Order,
 ) -> Result<RecordedSite, ResumeFault>
-    ensures ok { IfOk result (λ r. (bytes : List ℕ) × S.holds system.now path.now bytes × IsRecordRead (is_some order.now.save) order.now.plan.robots bytes r) }
-    ensures err { IfErr result (IsNotRead (S.holds system.now path.now) order.now.plan.robots) }
+    ensures ok { IfOk result (λ r. (bytes : List ℕ) × S.holds system.now path.now bytes × IsRecordRead (is_some order.now.save) order.now.links bytes r) }
+    ensures err { IfErr result (IsNotRead (S.holds system.now path.now) order.now.links) }
 {
     let bytes = system.read_file(alloc, path, MAX_INPUT)?;
     Ok(read_bytes(alloc, bytes.as_slice(), order)?)
@@ -235,7 +238,7 @@ fn read_record<S: System>(
 
 // A record without entries.
 fn read_nothing(alloc: Global, order: &Order) -> Result<RecordedSite, AllocError>
-    ensures { IfOk result (λ r. IsRecordRead (is_some order.now.save) order.now.plan.robots (codes "wgetr-record 2\n") r) }
+    ensures { IfOk result (λ r. IsRecordRead (is_some order.now.save) order.now.links (codes "wgetr-record 2\n") r) }
 {
     match read_bytes(alloc, EMPTY, order) {
         Ok(recorded) => Ok(recorded),
@@ -243,14 +246,14 @@ fn read_nothing(alloc: Global, order: &Order) -> Result<RecordedSite, AllocError
     }
 }
 
-// What the order resumes: a record without entries where it resumes none.
+// What the order resumes: a record without entries if it resumes none.
 fn resumption_of<S: System>(
     alloc: Global,
     system: &S,
     order: &Order,
 ) -> Result<RecordedSite, ResumeFault>
-    ensures ok { IfOk result (λ r. IsResumed (means S.System system.now S.Fetcher.Fetcher S.Recorder.Fetcher S.Recorder.noted (kept_as S.Body.kind_of S.Folder.holds) S.Folder.Folder S.Record.Write) order.now r) }
-    ensures err { IfErr result (IsNotResumed (means S.System system.now S.Fetcher.Fetcher S.Recorder.Fetcher S.Recorder.noted (kept_as S.Body.kind_of S.Folder.holds) S.Folder.Folder S.Record.Write) order.now) }
+    ensures ok { IfOk result (λ r. IsResumed (means S.System system.now S.Fetcher.Fetcher S.Recorder.Fetcher S.Recorder.noted (kept_as S.Body.kind_of S.Body.len_of S.Folder.holds) S.Folder.Folder S.Record.Write) order.now r) }
+    ensures err { IfErr result (IsNotResumed (means S.System system.now S.Fetcher.Fetcher S.Recorder.Fetcher S.Recorder.noted (kept_as S.Body.kind_of S.Body.len_of S.Folder.holds) S.Folder.Folder S.Record.Write) order.now) }
 {
     match &order.resume {
         Some(path) => read_record(alloc, system, path.as_str(), order),
@@ -258,7 +261,7 @@ fn resumption_of<S: System>(
     }
 }
 
-// Retrieves with what is recorded, and saves where the order says so.
+// Retrieves with what is recorded, and saves if the order says so.
 fn live_with<H: Threads + Wait + Sync, S: System, W: Write>(
     rt: &H,
     alloc: Global,
@@ -267,8 +270,8 @@ fn live_with<H: Threads + Wait + Sync, S: System, W: Write>(
     recorded: &RecordedSite,
     writer: &mut W,
 ) -> Result<u8, AllocError>
-    requires resumed { IsResumed (means S.System system.now S.Fetcher.Fetcher S.Recorder.Fetcher S.Recorder.noted (kept_as S.Body.kind_of S.Folder.holds) S.Folder.Folder S.Record.Write) order.now recorded.now }
-    ensures lives { IfOk result (LivesWith (means S.System system.now S.Fetcher.Fetcher S.Recorder.Fetcher S.Recorder.noted (kept_as S.Body.kind_of S.Folder.holds) S.Folder.Folder S.Record.Write) order.now.save order.now (W.contents writer.old) (W.contents writer.new)) }
+    requires resumed { IsResumed (means S.System system.now S.Fetcher.Fetcher S.Recorder.Fetcher S.Recorder.noted (kept_as S.Body.kind_of S.Body.len_of S.Folder.holds) S.Folder.Folder S.Record.Write) order.now recorded.now }
+    ensures lives { IfOk result (LivesWith (means S.System system.now S.Fetcher.Fetcher S.Recorder.Fetcher S.Recorder.noted (kept_as S.Body.kind_of S.Body.len_of S.Folder.holds) S.Folder.Folder S.Record.Write) order.now.save order.now (W.contents writer.old) (W.contents writer.new)) }
     ensures unwritten { OnErr result (writer.new ≡ writer.old) }
 {
     match &order.save {
@@ -287,9 +290,9 @@ fn goes_on_from(order: &Order, path: &str) -> bool
     }
 }
 
-// Holds the place where the order saves, where it does.
+// Holds the place where the order saves, if it does.
 fn hold<S: System>(system: &S, order: &Order) -> Result<(), ResumeFault>
-    ensures { IfErr result (IsNotResumed (means S.System system.now S.Fetcher.Fetcher S.Recorder.Fetcher S.Recorder.noted (kept_as S.Body.kind_of S.Folder.holds) S.Folder.Folder S.Record.Write) order.now) }
+    ensures { IfErr result (IsNotResumed (means S.System system.now S.Fetcher.Fetcher S.Recorder.Fetcher S.Recorder.noted (kept_as S.Body.kind_of S.Body.len_of S.Folder.holds) S.Folder.Folder S.Record.Write) order.now) }
 {
     let Some(path) = &order.save else {
         return Ok(());
@@ -309,7 +312,7 @@ fn is_plain(order: &Order) -> bool
     order.resume.is_none() && order.save.is_none()
 }
 
-// Retrieves as the order says. The error is why its record can't be resumed, or want of memory.
+// Retrieves as the order says. The error is why its record can't be resumed, or that memory ran out.
 fn live_in<H: Threads + Wait + Sync, S: System, W: Write>(
     rt: &H,
     alloc: Global,
@@ -317,8 +320,8 @@ fn live_in<H: Threads + Wait + Sync, S: System, W: Write>(
     order: &Order,
     writer: &mut W,
 ) -> Result<u8, ResumeFault>
-    ensures lives { IfOk result (LivesBy (means S.System system.now S.Fetcher.Fetcher S.Recorder.Fetcher S.Recorder.noted (kept_as S.Body.kind_of S.Folder.holds) S.Folder.Folder S.Record.Write) (order.now.resume, order.now.save) order.now (W.contents writer.old) (W.contents writer.new)) }
-    ensures unresumed { IfErr result (IsNotResumed (means S.System system.now S.Fetcher.Fetcher S.Recorder.Fetcher S.Recorder.noted (kept_as S.Body.kind_of S.Folder.holds) S.Folder.Folder S.Record.Write) order.now) }
+    ensures lives { IfOk result (LivesBy (means S.System system.now S.Fetcher.Fetcher S.Recorder.Fetcher S.Recorder.noted (kept_as S.Body.kind_of S.Body.len_of S.Folder.holds) S.Folder.Folder S.Record.Write) (order.now.resume, order.now.save) order.now (W.contents writer.old) (W.contents writer.new)) }
+    ensures unresumed { IfErr result (IsNotResumed (means S.System system.now S.Fetcher.Fetcher S.Recorder.Fetcher S.Recorder.noted (kept_as S.Body.kind_of S.Body.len_of S.Folder.holds) S.Folder.Folder S.Record.Write) order.now) }
     ensures unwritten { OnErr result (writer.new ≡ writer.old) }
 {
     if is_plain(order) {
@@ -331,7 +334,7 @@ fn live_in<H: Threads + Wait + Sync, S: System, W: Write>(
     Ok(lived?)
 }
 
-// Writes the line of a fault, and gives its status; where memory runs out, the line of that.
+// Writes the line of a fault, and gives its status; if memory runs out, the line of that.
 fn refuse_resume<W: Write>(alloc: Global, fault: ResumeFault, writer: &mut W) -> u8
     ensures { IsUnresumed (W.contents writer.old) (W.contents writer.new) fault result }
 {
@@ -341,9 +344,9 @@ fn refuse_resume<W: Write>(alloc: Global, fault: ResumeFault, writer: &mut W) ->
     }
 }
 
-/// Retrieves the live site that the order says, by fetchers of the system, into its folder: what the order resumes isn't asked
-/// for again, and what it saves is saved. Where a record can't be resumed its line stands in place of all else, and nothing is
-/// asked for or saved.
+/// Retrieves the live site that the order says, by fetchers of the system, into its folder: what the order resumes isn't
+/// requested again, and what it saves is saved. If a record can't be resumed, its line replaces all else, and nothing is
+/// requested or saved.
 pub(crate) fn live_order<H: Threads + Wait + Sync, S: System, W: Write>(
     rt: &H,
     alloc: Global,
@@ -351,7 +354,7 @@ pub(crate) fn live_order<H: Threads + Wait + Sync, S: System, W: Write>(
     order: &Order,
     writer: &mut W,
 ) -> u8
-    ensures { LivesIn (means S.System system.now S.Fetcher.Fetcher S.Recorder.Fetcher S.Recorder.noted (kept_as S.Body.kind_of S.Folder.holds) S.Folder.Folder S.Record.Write) order.now (W.contents writer.old) (W.contents writer.new) result }
+    ensures { LivesIn (means S.System system.now S.Fetcher.Fetcher S.Recorder.Fetcher S.Recorder.noted (kept_as S.Body.kind_of S.Body.len_of S.Folder.holds) S.Folder.Folder S.Record.Write) order.now (W.contents writer.old) (W.contents writer.new) result }
 {
     match live_in(rt, alloc, system, order, writer) {
         Ok(status) => status,

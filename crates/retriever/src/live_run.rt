@@ -1,21 +1,24 @@
 //! A live retrieval: fetchers ask the site, its kept pages are put into a folder, and then the report is written.
-ghost use Rattle.std.specs.Prelude.{◌≡◌, ◌<◌, ◌≤◌, ◌++◌, IfOk, Ok, length, map, string_bytes, vec_len};
+ghost use Rattle.std.specs.Prelude.{◌≡◌, ◌<◌, ◌≤◌, ◌++◌, IfOk, IfErr, Ok, OnOk, true, length, map, string_bytes, vec_len};
 ghost use Rattle.report.specs.ExitStatus.{exit_status};
 ghost use Rattle.local_tree.specs.Folders.{holding};
 ghost use Rattle.local_names.specs.Names.{AreDistinct};
-ghost use Rattle.retriever.specs.Found.{Finds, outside, torn_line};
+ghost use Rattle.retriever.specs.Found.{Finds, outside, torn_line, unchanged_line};
 ghost use Rattle.retriever.specs.Keeping.{kept_as};
 ghost use Rattle.retriever.specs.Live.{Lives};
+ghost use Rattle.retriever.specs.Mirrored.{IsPutAs, kept_as_named};
 ghost use Rattle.retriever.specs.inner.Live.{IsTornTold};
 ghost use Rattle.retriever.specs.inner.Parts.{IsToldAs, status_told};
-ghost use Rattle.retriever.specs.inner.Puts.{IsHaltTold, IsPutAndTold, IsPutOf, bare_cause, files_whole};
+ghost use Rattle.retriever.specs.inner.Puts.{IsHalfPutBy, IsHaltTold, IsHarvestPut, IsPutAndTold, IsPutOf, IsPutTold, IsStopPut, bare_cause, files_whole};
 ghost use Rattle.retriever.specs.Retrieved.{Stopped};
 ghost use Rattle.retriever.specs.Run.{finish_text};
 
+use crate::link_change::LinkChange;
+use crate::quota::ByLength;
 use crate::told::{halt_text, telling_of};
 use fetcher::Fetcher;
 use frontier_core::Cause;
-use local_tree::{HasKind, Shelf, WriteFault, write_site};
+use local_tree::{HasKind, Shelf, WriteFault, write_changed_site, write_site};
 use options::{Order, PageNames};
 use report::exit_status;
 use std::alloc::{AllocError, Global};
@@ -26,18 +29,21 @@ use std::thread::Threads;
 use streams::{WriteFailed, write_text};
 use workers::{Halt, Harvest};
 
-// The line for a cause where there is no memory for more.
+/// The line that says that links of some files weren't changed.
+const UNCHANGED: &str = "links not changed\n";
+
+// The line for a cause if there is no memory for more.
 fn bare_line(cause: Cause) -> &'static str
     ensures { result.now ≡ finish_text (Stopped (bare_cause cause)) }
 {
     match cause {
-        Cause::Full | Cause::Memory => "stopped memory\n",
+        Cause::Full | Cause::Memory | Cause::Quota => "stopped memory\n",
         Cause::Mismatch => "stopped mismatch\n",
     }
 }
 
-// Writes a text, and gives the status of a run that has nothing more to tell. The error is that the writer failed: then nothing
-// more is told.
+// Writes a text, and gives the status of a run that has nothing more to write. The error is that the writer failed: then nothing
+// more is written.
 fn tell<W: Write>(writer: &mut W, text: &[u8], status: u8) -> Result<u8, WriteFailed>
     ensures { IsToldAs (W.contents writer.old) (W.contents writer.new) result text.now status }
 {
@@ -45,7 +51,7 @@ fn tell<W: Write>(writer: &mut W, text: &[u8], status: u8) -> Result<u8, WriteFa
     Ok(status)
 }
 
-// Tells of a retrieval that stopped.
+// Writes how a retrieval stopped.
 fn tell_halt<B: Drop, W: Write>(
     alloc: Global,
     is_shown: bool,
@@ -60,7 +66,7 @@ fn tell_halt<B: Drop, W: Write>(
     }
 }
 
-// Tells a harvest's text, with the status of its report.
+// Writes a harvest's text, and gives the status of its report.
 fn tell_report<B: Drop, W: Write>(
     harvest: &Harvest<B>,
     text: &str,
@@ -71,7 +77,7 @@ fn tell_report<B: Drop, W: Write>(
     tell(writer, text.as_bytes(), exit_status(harvest))
 }
 
-// Writes one text behind another, and gives this status.
+// Writes one text after another, and gives this status.
 fn tell_both<W: Write>(
     writer: &mut W,
     first: &str,
@@ -86,14 +92,14 @@ fn tell_both<W: Write>(
     }
 }
 
-// The line that tells how many files were whole when a put failed.
+// The line that says how many files were whole when a put failed.
 fn torn_line(alloc: Global, whole: usize) -> Result<String, AllocError>
     ensures { IfOk result (λ line. string_bytes line ≡ torn_line whole) }
 {
     format!(in alloc; "files written {whole}\n")
 }
 
-// Tells a harvest's text, and behind it how many files were whole when a put failed. The text isn't copied for that line, since
+// Writes a harvest's text, and after it how many files were whole when a put failed. The text isn't copied for that line, since
 // memory may be what failed.
 fn tell_torn<W: Write>(
     alloc: Global,
@@ -118,9 +124,66 @@ fn files_whole(fault: WriteFault) -> usize
     }
 }
 
-// Puts the kept pages of a harvest into the folder under these names, and then tells its text.
+// Tells a harvest's text when its files were put; if links of some weren't changed, with the line that says so.
+fn tell_put<B: Drop, W: Write>(
+    all: bool,
+    harvest: &Harvest<B>,
+    text: &str,
+    writer: &mut W,
+) -> Result<u8, WriteFailed>
+    ensures { IsPutTold (IsToldAs (W.contents writer.old) (W.contents writer.new) result) all (text.now, exit_status (map (λ recorded. recorded.1) harvest.now.records)) }
+{
+    if all {
+        tell_report(harvest, text, writer)
+    } else {
+        tell_both(writer, text, UNCHANGED, 3)
+    }
+}
+
+// Puts the kept pages of a harvest into the folder under these names, with their links changed. Whether all are that are to be.
+fn put_changed<B: HasKind + Drop, D: Shelf<B>>(
+    alloc: Global,
+    names: &[String],
+    harvest: &Harvest<B>,
+    folder: &mut D,
+) -> Result<bool, WriteFault>
+    requires count { length names.now ≡ length harvest.now.kept }
+    requires distinct { AreDistinct (map string_bytes names.now) }
+    ensures whole { IfOk result (λ all. IsPutAs true all (kept_as B.kind_of B.len_of D.holds) (kept_as_named harvest.now (map string_bytes names.now)) harvest.now.bodies (holding D.files D.failed folder.old) (holding D.files D.failed folder.new)) }
+    ensures torn { IfErr result (IsHalfPutBy true (kept_as B.kind_of B.len_of D.holds) (kept_as_named harvest.now (map string_bytes names.now)) harvest.now.bodies (holding D.files D.failed folder.old) (holding D.files D.failed folder.new)) }
+    ensures quiet { OnOk result (D.failed folder.new ≡ D.failed folder.old) }
+{
+    let change = LinkChange::of(harvest, names);
+    write_changed_site(alloc, folder, names, harvest, &change)
+}
+
+// Puts the kept pages of a harvest into the folder under these names, with their links changed or not. Whether all are that are to be.
+fn put<B: HasKind + Drop, D: Shelf<B>>(
+    alloc: Global,
+    converts: bool,
+    names: &[String],
+    harvest: &Harvest<B>,
+    folder: &mut D,
+) -> Result<bool, WriteFault>
+    requires count { length names.now ≡ length harvest.now.kept }
+    requires distinct { AreDistinct (map string_bytes names.now) }
+    ensures whole { IfOk result (λ all. IsPutAs converts all (kept_as B.kind_of B.len_of D.holds) (kept_as_named harvest.now (map string_bytes names.now)) harvest.now.bodies (holding D.files D.failed folder.old) (holding D.files D.failed folder.new)) }
+    ensures torn { IfErr result (IsHalfPutBy converts (kept_as B.kind_of B.len_of D.holds) (kept_as_named harvest.now (map string_bytes names.now)) harvest.now.bodies (holding D.files D.failed folder.old) (holding D.files D.failed folder.new)) }
+    ensures quiet { OnOk result (D.failed folder.new ≡ D.failed folder.old) }
+{
+    if converts {
+        return put_changed(alloc, names, harvest, folder);
+    }
+    match write_site(folder, names, harvest) {
+        Ok(()) => Ok(true),
+        Err(fault) => Err(fault),
+    }
+}
+
+// Puts the kept pages of a harvest into the folder under these names, and then writes its text.
 fn put_and_tell<B: HasKind + Drop, D: Shelf<B>, W: Write>(
     alloc: Global,
+    converts: bool,
     names: &[String],
     text: &str,
     harvest: &Harvest<B>,
@@ -129,30 +192,32 @@ fn put_and_tell<B: HasKind + Drop, D: Shelf<B>, W: Write>(
 ) -> Result<u8, WriteFailed>
     requires count { length names.now ≡ length harvest.now.kept }
     requires distinct { AreDistinct (map string_bytes names.now) }
-    ensures { IsPutAndTold (kept_as B.kind_of D.holds) (IsToldAs (W.contents writer.old) (W.contents writer.new) result) (map string_bytes names.now) harvest.now.bodies
+    ensures { IsPutAndTold converts (kept_as B.kind_of B.len_of D.holds) (IsToldAs (W.contents writer.old) (W.contents writer.new) result) (kept_as_named harvest.now (map string_bytes names.now)) harvest.now.bodies
         (text.now, exit_status (map (λ recorded. recorded.1) harvest.now.records)) (holding D.files D.failed folder.old) (holding D.files D.failed folder.new) }
 {
-    match write_site(folder, names, harvest) {
-        Ok(()) => tell_report(harvest, text, writer),
+    match put(alloc, converts, names, harvest, folder) {
+        Ok(all) => tell_put(all, harvest, text, writer),
         Err(fault) => tell_torn(alloc, text, files_whole(fault), writer),
     }
 }
 
-// Puts and tells a harvest, whose kept pages have their names by these rules; where there is no memory for its names and its text nothing is put.
+// Puts and writes a harvest, whose kept pages have their names by these rules; if there is no memory for its names and its text nothing is put.
 fn finish_harvest<B: HasKind + Drop, D: Shelf<B>, W: Write>(
     alloc: Global,
+    converts: bool,
     naming: &PageNames,
     is_shown: bool,
     harvest: &Harvest<B>,
     folder: &mut D,
     writer: &mut W,
 ) -> Result<u8, WriteFailed>
-    ensures { IsPutOf (kept_as B.kind_of D.holds) (IsToldAs (W.contents writer.old) (W.contents writer.new) result) naming.now is_shown (Ok harvest.now)
+    ensures { IsHarvestPut converts (kept_as B.kind_of B.len_of D.holds) (IsToldAs (W.contents writer.old) (W.contents writer.new) result) naming.now is_shown harvest.now
         (holding D.files D.failed folder.old) (holding D.files D.failed folder.new) }
 {
     match telling_of(alloc, naming, is_shown, harvest) {
         Ok(telling) => put_and_tell(
             alloc,
+            converts,
             telling.names.as_slice(),
             telling.text.as_str(),
             harvest,
@@ -163,25 +228,56 @@ fn finish_harvest<B: HasKind + Drop, D: Shelf<B>, W: Write>(
     }
 }
 
-/// Puts and tells what was retrieved, whose kept pages have their names by these rules. The error is that the writer failed.
+// Puts and tells what was retrieved before a stop: a front that the quota ended as a harvest, and of any other stop the cause.
+fn finish_halt<B: HasKind + Drop, D: Shelf<B>, W: Write>(
+    alloc: Global,
+    converts: bool,
+    naming: &PageNames,
+    is_shown: bool,
+    halt: &Halt<B>,
+    folder: &mut D,
+    writer: &mut W,
+) -> Result<u8, WriteFailed>
+    ensures { IsStopPut converts (kept_as B.kind_of B.len_of D.holds) (IsToldAs (W.contents writer.old) (W.contents writer.new) result) naming.now is_shown halt.now.cause halt.now.harvest
+        (holding D.files D.failed folder.old) (holding D.files D.failed folder.new) }
+{
+    match halt.cause {
+        Cause::Quota => finish_harvest(
+            alloc,
+            converts,
+            naming,
+            is_shown,
+            &halt.harvest,
+            folder,
+            writer,
+        ),
+        Cause::Full => tell_halt(alloc, is_shown, halt, writer),
+        Cause::Memory => tell_halt(alloc, is_shown, halt, writer),
+        Cause::Mismatch => tell_halt(alloc, is_shown, halt, writer),
+    }
+}
+
+/// Puts and tells what was retrieved, whose kept pages have their names by these rules, with their links changed or not. The error is
+/// that the writer failed.
 pub(crate) fn finish<B: HasKind + Drop, D: Shelf<B>, W: Write>(
     alloc: Global,
+    converts: bool,
     naming: &PageNames,
     is_shown: bool,
     retrieved: &Result<Harvest<B>, Halt<B>>,
     folder: &mut D,
     writer: &mut W,
 ) -> Result<u8, WriteFailed>
-    ensures { IsPutOf (kept_as B.kind_of D.holds) (IsToldAs (W.contents writer.old) (W.contents writer.new) result) naming.now is_shown retrieved.now
+    ensures { IsPutOf converts (kept_as B.kind_of B.len_of D.holds) (IsToldAs (W.contents writer.old) (W.contents writer.new) result) naming.now is_shown retrieved.now
         (holding D.files D.failed folder.old) (holding D.files D.failed folder.new) }
 {
     match retrieved {
-        Ok(harvest) => finish_harvest(alloc, naming, is_shown, harvest, folder, writer),
-        Err(halt) => tell_halt(alloc, is_shown, halt, writer),
+        Ok(harvest) => finish_harvest(alloc, converts, naming, is_shown, harvest, folder, writer),
+        Err(halt) => finish_halt(alloc, converts, naming, is_shown, halt, folder, writer),
     }
 }
 
-// The status of a run that has nothing more to tell: 1 where the writer failed.
+// The status of a run that has nothing more to write: 1 if the writer failed.
 fn status_told(told: Result<u8, WriteFailed>) -> u8
     ensures { result ≡ status_told told }
 {
@@ -191,8 +287,8 @@ fn status_told(told: Result<u8, WriteFailed>) -> u8
     }
 }
 
-/// Retrieves as [`live`] does, and gives what was retrieved beside the status. How many addresses wait is noted there, where a
-/// place is given for who looks on.
+/// Retrieves as [`live`] does, and gives what was retrieved beside the status. How many addresses wait is noted in `waiting`, if
+/// one is given, for a progress line.
 pub(crate) fn live_shown<H: Threads + Wait + Sync, F: Fetcher + Send, D: Shelf<F::Body>, W: Write>(
     rt: &H,
     alloc: Global,
@@ -206,22 +302,41 @@ where
     F::Body: HasKind + Send,
     requires some { 0 < vec_len fetchers }
     requires most { vec_len fetchers ≤ 64 }
-    ensures lives { Lives F.Fetcher (kept_as F.Body.kind_of D.holds) order.now fetchers.items (outside (holding D.files D.failed folder.old) (W.contents writer.old))
+    ensures lives { Lives F.Fetcher (kept_as F.Body.kind_of F.Body.len_of D.holds) order.now fetchers.items (outside (holding D.files D.failed folder.old) (W.contents writer.old))
         (outside (holding D.files D.failed folder.new) (W.contents writer.new)) result.0 }
 {
-    let (retrieved, left) = workers::retrieve_shown(rt, alloc, &order.plan, fetchers, waiting);
+    let quota = ByLength::of(order);
+    let (retrieved, left) = workers::retrieve_shown(
+        rt,
+        alloc,
+        &order.plan,
+        &quota,
+        fetchers,
+        waiting,
+    );
     // They are dropped before a report is made.
     drop(left);
-    let status = status_told(finish(alloc, &order.names, order.trace, &retrieved, folder, writer));
+    let told = finish(
+        alloc,
+        order.converts,
+        &order.names,
+        order.trace,
+        &retrieved,
+        folder,
+        writer,
+    );
+    let status = status_told(told);
     (status, retrieved)
 }
 
 /// Retrieves the live site that the order says by these fetchers, a worker for each, 1 to 64 of them: asks for what its plan
 /// wants, puts the kept pages into the folder, each whole and under its name by the order's rules, and then writes the report, behind the trace
 /// where the order asks for it. Answers the status: that of [`exit_status`] for a report. Where a put fails no other is made,
-/// and the line `files written K` stands behind the report, K being how many files are whole; the status is 3. Where the
-/// retrieval stopped the line of its cause stands in place of the report, nothing is put, and the status is 1; so it is where
-/// memory runs out. Where the writer fails the status is 1, and a front of the text may have been written.
+/// and the line `files written K` stands behind the report, K being how many files are whole; the status is 3. If links are to
+/// lead from file to file, each file has its body with its links changed; if some have their bodies as they came, the line
+/// `links not changed` is behind the report, and the status is 3. Where the retrieval stopped the line of its cause stands in place of the
+/// report, nothing is put, and the status is 1; so it is where memory runs out. If the order's quota ended it, what was retrieved until
+/// then is put and reported. If the writer fails the status is 1, and a front of the text may have been written.
 pub fn live<H: Threads + Wait + Sync, F: Fetcher + Send, D: Shelf<F::Body>, W: Write>(
     rt: &H,
     alloc: Global,
@@ -234,11 +349,11 @@ where
     F::Body: HasKind + Send,
     requires some { 0 < vec_len fetchers }
     requires most { vec_len fetchers ≤ 64 }
-    // What was found and what came of it.
-    ensures finds { Finds F.Fetcher (kept_as F.Body.kind_of D.holds) order.now fetchers.items (outside (holding D.files D.failed folder.old) (W.contents writer.old))
+    // What was found and what resulted.
+    ensures finds { Finds F.Fetcher (kept_as F.Body.kind_of F.Body.len_of D.holds) order.now fetchers.items (outside (holding D.files D.failed folder.old) (W.contents writer.old))
         (outside (holding D.files D.failed folder.new) (W.contents writer.new)) result }
     // And which events led there.
-    ensures lives { Lives F.Fetcher (kept_as F.Body.kind_of D.holds) order.now fetchers.items (outside (holding D.files D.failed folder.old) (W.contents writer.old))
+    ensures lives { Lives F.Fetcher (kept_as F.Body.kind_of F.Body.len_of D.holds) order.now fetchers.items (outside (holding D.files D.failed folder.old) (W.contents writer.old))
         (outside (holding D.files D.failed folder.new) (W.contents writer.new)) result }
 {
     let (status, retrieved) = live_shown(rt, alloc, order, fetchers, folder, writer, None);

@@ -4,7 +4,7 @@ use moved_starts::moves_text;
 use std::alloc::Global;
 use workers::{Halt, Harvest};
 
-/// Tells a person of the starts that moved away. If there is no memory for it, or the retrieval stopped, nobody is told.
+/// Reports to a person the starts that moved away, unless there is no memory for it or the retrieval stopped.
 pub(crate) fn tell_moves<S: System, B: Drop>(
     alloc: Global,
     system: &S,

@@ -1,4 +1,4 @@
-//! The program on its words, its three streams and the system: what a person is told, and the run, or the live retrieval.
+//! The program on its words, its three streams and the system: what a person reads, and the run, or the live retrieval.
 ghost use Rattle.std.specs.Prelude.{◌≡◌, ◌≢◌, ◌⊎◌, ℕ, List, [], IfOk, IfErr, Ok, drop, map, string_bytes};
 ghost use Rattle.std.specs.IoError.{error_kind};
 ghost use Rattle.std.specs.Vec.Iter.{into_iter_items};
@@ -36,7 +36,7 @@ pub(crate) fn all_words(alloc: Global, args: Args) -> Result<Vec<String>, AllocE
     Ok(all)
 }
 
-/// The texts of the words behind the program's name.
+/// The texts of the words after the program's name.
 pub(crate) fn texts_behind(alloc: Global, all: &[String]) -> Result<Vec<&str>, AllocError>
     ensures { IfOk result (λ texts. map (λ text. text.now) texts.items ≡ map string_bytes (drop 1 all.now)) }
 {
@@ -60,16 +60,16 @@ fn words_fault(error: &io::Error) -> Fault
     }
 }
 
-// What is written where words are refused.
+// What is written if words are refused.
 #[derive(Drop)]
 struct Refusal {
-    // For a person; empty if there is nothing to tell.
+    // For a person; empty if there is nothing to report.
     advice: String,
     // In place of a report.
     text: String,
 }
 
-// What a person is told of a fault of these words. It is empty for other faults.
+// What a person reads about a fault of these words. It is empty for other faults.
 fn advice_for(alloc: Global, fault: Fault, words: &[&str]) -> Result<String, AllocError>
     ensures { IfOk result (λ text. string_bytes text ≡ said_of (map (λ word. word.now) words.now) fault) }
 {
@@ -91,7 +91,7 @@ fn refusal_of(alloc: Global, fault: Fault, words: &[&str]) -> Result<Refusal, Al
     Ok(Refusal { advice, text })
 }
 
-// Tells a person this, if anything. Where the writer fails the run goes on: its line and its status say what went wrong,
+// Writes this for a person, if not empty. If the writer fails the run goes on: its line and its status say what went wrong,
 // whether or not anybody reads more.
 fn tell<E: Write>(advice: &str, errors: &mut E)
     ensures told { AppendsFront (E.contents errors.old) (E.contents errors.new) advice.now }
@@ -103,9 +103,9 @@ fn tell<E: Write>(advice: &str, errors: &mut E)
     let _ = write_text(errors, advice.as_bytes());
 }
 
-/// Tells a person what is wrong with the words, and nothing of other faults, and writes the line of it, or what the words ask for.
+/// Reports to a person what is wrong with the words, and nothing of other faults, and writes the line of it, or what the words request.
 /// Answers the status. Both
-/// texts are made before either is written, so that no person is told of words whose line is that memory ran out.
+/// texts are made before either is written, so that nothing is reported of words whose line is that memory ran out.
 pub(crate) fn explain<W: Write, E: Write>(
     alloc: Global,
     fault: Fault,
@@ -138,7 +138,7 @@ fn run_order<H: Threads + Wait + Sync, S: System, R: Read, W: Write>(
     ensures runs { order.now.source ≢ Source.Live → (words : List (List ℕ)) → order_of words ≡ Ok (ordered_by order.now)
         → Runs words (R.remaining reader.old) (W.contents writer.old) (W.contents writer.new) result }
     ensures lives { order.now.source ≡ Source.Live → (words : List (List ℕ)) → order_of words ≡ Ok (ordered_by order.now)
-        → LivesFor (means S.System system.now S.Fetcher.Fetcher S.Recorder.Fetcher S.Recorder.noted (kept_as S.Body.kind_of S.Folder.holds) S.Folder.Folder S.Record.Write) (W.contents writer.old) (W.contents writer.new) result words }
+        → LivesFor (means S.System system.now S.Fetcher.Fetcher S.Recorder.Fetcher S.Recorder.noted (kept_as S.Body.kind_of S.Body.len_of S.Folder.holds) S.Folder.Folder S.Record.Write) (W.contents writer.old) (W.contents writer.new) result words }
     ensures unread { order.now.source ≡ Source.Live → reader.new ≡ reader.old }
 {
     match order.source {
@@ -158,7 +158,7 @@ fn run_texts<H: Threads + Wait + Sync, S: System, R: Read, W: Write, E: Write>(
     writer: &mut W,
     errors: &mut E,
 ) -> u8
-    ensures { Starts (LivesFor (means S.System system.now S.Fetcher.Fetcher S.Recorder.Fetcher S.Recorder.noted (kept_as S.Body.kind_of S.Folder.holds) S.Folder.Folder S.Record.Write) (W.contents writer.old) (W.contents writer.new) result)
+    ensures { Starts (LivesFor (means S.System system.now S.Fetcher.Fetcher S.Recorder.Fetcher S.Recorder.noted (kept_as S.Body.kind_of S.Body.len_of S.Folder.holds) S.Folder.Folder S.Record.Write) (W.contents writer.old) (W.contents writer.new) result)
         (all_streams R.remaining reader.old (outputs E.contents (W.contents writer.old) errors.old)) (all_streams R.remaining reader.new (outputs E.contents (W.contents writer.new) errors.new)) result
         (map (λ word. word.now) words.now) }
 {
@@ -182,7 +182,7 @@ fn run_words<H: Threads + Wait + Sync, S: System, R: Read, W: Write, E: Write>(
     writer: &mut W,
     errors: &mut E,
 ) -> u8
-    ensures { Starts (LivesFor (means S.System system.now S.Fetcher.Fetcher S.Recorder.Fetcher S.Recorder.noted (kept_as S.Body.kind_of S.Folder.holds) S.Folder.Folder S.Record.Write) (W.contents writer.old) (W.contents writer.new) result)
+    ensures { Starts (LivesFor (means S.System system.now S.Fetcher.Fetcher S.Recorder.Fetcher S.Recorder.noted (kept_as S.Body.kind_of S.Body.len_of S.Folder.holds) S.Folder.Folder S.Record.Write) (W.contents writer.old) (W.contents writer.new) result)
         (all_streams R.remaining reader.old (outputs E.contents (W.contents writer.old) errors.old)) (all_streams R.remaining reader.new (outputs E.contents (W.contents writer.new) errors.new)) result
         (words_behind all.now) }
 {
@@ -202,7 +202,7 @@ fn run_args<H: Threads + Wait + Sync, S: System, R: Read, W: Write, E: Write>(
     writer: &mut W,
     errors: &mut E,
 ) -> u8
-    ensures { Starts (LivesFor (means S.System system.now S.Fetcher.Fetcher S.Recorder.Fetcher S.Recorder.noted (kept_as S.Body.kind_of S.Folder.holds) S.Folder.Folder S.Record.Write) (W.contents writer.old) (W.contents writer.new) result)
+    ensures { Starts (LivesFor (means S.System system.now S.Fetcher.Fetcher S.Recorder.Fetcher S.Recorder.noted (kept_as S.Body.kind_of S.Body.len_of S.Folder.holds) S.Folder.Folder S.Record.Write) (W.contents writer.old) (W.contents writer.new) result)
         (all_streams R.remaining reader.old (outputs E.contents (W.contents writer.old) errors.old)) (all_streams R.remaining reader.new (outputs E.contents (W.contents writer.new) errors.new)) result
         (words_behind (into_iter_items args)) }
 {
@@ -214,10 +214,10 @@ fn run_args<H: Threads + Wait + Sync, S: System, R: Read, W: Write, E: Write>(
 
 /// Runs the program on its arguments, the program's name first, and its three streams. Words that order a site on the network
 /// are retrieved by [`live`](crate::live), with as many fetchers of the system as they order workers, into its folder at their
-/// prefix. Where they resume a record, that is read first, and nothing that it states is asked for; a record that can't be resumed
-/// ends the run with its line. Where they save one, it is done by [`live_resumed`](crate::live_resumed);
-/// `run` gets all others behind that name. What is wrong with words that order nothing is told to a person on `errors`; where
-/// the writer of that fails a front of it may be written, and nothing is written there of other words, nor where memory runs
+/// prefix. If they resume a record, that is read first, and nothing that it states is requested; a record that can't be resumed
+/// ends the run with its line. If they save one, it is done by [`live_resumed`](crate::live_resumed);
+/// `run` gets all others after that name. What is wrong with words that order nothing is written for a person to `errors`; if
+/// the writer of that fails, a front of it may be written, and nothing is written there of other words, nor if memory runs
 /// out for it: then the line says that. Arguments that can't
 /// be had, since one isn't text or memory ran out, end the program as refused words do, with no byte read. Answers the status.
 pub fn run_program<H: Threads + Wait + Sync, S: System, R: Read, W: Write, E: Write>(
@@ -232,7 +232,7 @@ pub fn run_program<H: Threads + Wait + Sync, S: System, R: Read, W: Write, E: Wr
     ensures runs { IfOk args (λ all. ¬ AreForLive (words_behind (into_iter_items all))
         → Runs (words_behind (into_iter_items all)) (R.remaining reader.old) (W.contents writer.old) (W.contents writer.new) result) }
     ensures lives { IfOk args (λ all. AreForLive (words_behind (into_iter_items all))
-        → LivesFor (means S.System system.now S.Fetcher.Fetcher S.Recorder.Fetcher S.Recorder.noted (kept_as S.Body.kind_of S.Folder.holds) S.Folder.Folder S.Record.Write) (W.contents writer.old) (W.contents writer.new) result (words_behind (into_iter_items all))) }
+        → LivesFor (means S.System system.now S.Fetcher.Fetcher S.Recorder.Fetcher S.Recorder.noted (kept_as S.Body.kind_of S.Body.len_of S.Folder.holds) S.Folder.Folder S.Record.Write) (W.contents writer.old) (W.contents writer.new) result (words_behind (into_iter_items all))) }
     ensures unread { IfOk args (λ all. ¬ AreForInput (words_behind (into_iter_items all)) → reader.new ≡ reader.old) }
     ensures told { IfOk args (λ all. ¬ AreForInput (words_behind (into_iter_items all)) → ¬ AreForLive (words_behind (into_iter_items all))
         → IsFaultTold (words_behind (into_iter_items all)) (outputs E.contents (W.contents writer.old) errors.old) (outputs E.contents (W.contents writer.new) errors.new) result) }

@@ -15,11 +15,11 @@ pub(crate) enum ResumeFault {
     Read(ReadFault),
     /// What it holds is no record, or memory ran out.
     Input(InputFault),
-    /// Nothing may be saved where the run is to save.
+    /// Nothing may be saved at the place where the run is to save.
     Refused,
 }
 
-/// The status with which the run ends: 3 where the file can't be read or none may be saved, 2 where it holds no record that can be resumed, 1 where
+/// The status with which the run ends: 3 if the file can't be read or none may be saved, 2 if it holds no record that can be resumed, 1 if
 /// memory ran out.
 pub(crate) fn resume_status(fault: ResumeFault) -> u8
     ensures { result ≡ resume_status fault }

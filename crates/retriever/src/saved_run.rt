@@ -8,6 +8,7 @@ ghost use Rattle.retriever.specs.Saving.{IsSaved, LivesResumed, LivesSaved, note
 
 use crate::input_run::deliver;
 use crate::live_run::finish;
+use crate::quota::ByLength;
 use answer_notes::{Noted, Recording};
 use kept_bodies::Body;
 use local_tree::Folder;
@@ -21,7 +22,7 @@ use std::thread::Threads;
 use streams::WriteFailed;
 use workers::{Halt, Harvest};
 
-/// Fetchers that ask these for what the record doesn't state.
+/// Fetchers that request from these what the record doesn't state.
 pub(crate) fn resuming<F: Recording>(
     alloc: Global,
     recorded: &RecordedSite,
@@ -37,7 +38,7 @@ pub(crate) fn resuming<F: Recording>(
     Ok(all)
 }
 
-// The notes that are given, and behind them those of each fetcher.
+// The notes that are given, and after them those of each fetcher.
 fn parts_of<'a, F: Recording>(
     alloc: Global,
     given: &'a [Noted],
@@ -53,7 +54,7 @@ fn parts_of<'a, F: Recording>(
     Ok(parts)
 }
 
-// Saves the notes that are given, and behind them those of each fetcher.
+// Saves the notes that are given, and after them those of each fetcher.
 fn save<F: Recording, V: Write>(
     alloc: Global,
     given: &[Noted],
@@ -73,7 +74,7 @@ fn unsaved_status(status: u8) -> u8
     if status == 1 { 1 } else { 3 }
 }
 
-// Tells how the record was saved, and gives the status of the run that has this one without it.
+// Writes how the record was saved, and gives the status of the run that has this one without it.
 fn tell_saving<W: Write>(status: u8, saving: Result<(), RecordFault>, writer: &mut W) -> u8
     ensures { IsDelivered (W.contents writer.old) (W.contents writer.new) (save_text saving) (save_status saving status) result }
 {
@@ -86,7 +87,7 @@ fn tell_saving<W: Write>(status: u8, saving: Result<(), RecordFault>, writer: &m
     }
 }
 
-// Tells it behind what was told, unless the writer failed there.
+// Writes it after what was written, unless the writer failed there.
 fn tell_saving_behind<W: Write>(
     told: Result<u8, WriteFailed>,
     saving: Result<(), RecordFault>,
@@ -102,7 +103,7 @@ fn tell_saving_behind<W: Write>(
 }
 
 /// Retrieves live, and saves what is given and what the fetchers note; gives what was retrieved beside the status. How many
-/// addresses wait is noted there, where a place is given for who looks on.
+/// addresses wait is noted in `waiting`, if one is given, for a progress line.
 pub(crate) fn live_saved<
     H: Threads + Wait + Sync,
     F: Recording + Send,
@@ -125,18 +126,34 @@ pub(crate) fn live_saved<
     ensures { LivesSaved (notes_of F.Fetcher F.noted given.now) order.now fetchers.items (outside_saved (holding D.files D.failed folder.old) (W.contents writer.old) (V.contents saved.old))
         (outside_saved (holding D.files D.failed folder.new) (W.contents writer.new) (V.contents saved.new)) result.0 }
 {
-    let (retrieved, left) = workers::retrieve_shown(rt, alloc, &order.plan, fetchers, waiting);
+    let quota = ByLength::of(order);
+    let (retrieved, left) = workers::retrieve_shown(
+        rt,
+        alloc,
+        &order.plan,
+        &quota,
+        fetchers,
+        waiting,
+    );
     let saving = save(alloc, given, left.as_slice(), saved);
     // They are dropped before a report is made.
     drop(left);
-    let told = finish(alloc, &order.names, order.trace, &retrieved, folder, writer);
+    let told = finish(
+        alloc,
+        order.converts,
+        &order.names,
+        order.trace,
+        &retrieved,
+        folder,
+        writer,
+    );
     (tell_saving_behind(told, saving, writer), retrieved)
 }
 
-/// Retrieves as [`live`](crate::live) does, but that nothing is asked for that the record states, and saves the record's notes
-/// and behind them what the fetchers noted, whatever end the retrieval came to. This is done before anything is put or told.
-/// Where the saved record's writer fails, the line `record not written` stands behind all else, and the status is 3 where it
-/// would not be 1; where memory runs out for it, `stopped memory`, with status 1. Where there is no memory to begin with,
+/// Retrieves as [`live`](crate::live) does, except that nothing is requested that the record states, and saves the record's notes
+/// and after them what the fetchers noted, however the retrieval ended. This is done before anything is put or written.
+/// If the saved record's writer fails, the line `record not written` follows all else, and the status is 3 if it
+/// would not be 1; if memory runs out for it, `stopped memory`, with status 1. If there is no memory to begin with,
 /// nothing is saved.
 pub fn live_resumed<H: Threads + Wait + Sync, F: Recording + Send, D: Folder, W: Write, V: Write>(
     rt: &H,

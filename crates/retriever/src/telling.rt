@@ -1,4 +1,4 @@
-//! Where a run tells what it has to tell: on standard output and standard error, nowhere, or into a file.
+//! Where a run writes its output: to standard output and standard error, nowhere, or into a file.
 ghost use Rattle.std.specs.Prelude.{◌≡◌, None, IfErr, IfOk, false, map, option_map};
 ghost use Rattle.std.specs.Vec.Iter.{into_iter_items};
 ghost use Rattle.options.specs.Order.{log_by, order_of};
@@ -11,10 +11,10 @@ use std::alloc::{AllocError, Global};
 use std::env::Args;
 use std::io;
 
-/// Where a run tells what it has to tell.
+/// Where a run writes its output.
 #[derive(Drop)]
 pub struct Telling {
-    /// Nothing is told.
+    /// Nothing is written.
     pub is_quiet: bool,
     /// The file that takes the report and what failed; without one they go to standard output and standard error.
     pub log: Option<Log>,
@@ -30,7 +30,7 @@ impl Telling {
     }
 }
 
-// What is told of refused words goes to standard output and standard error, or to the latter alone.
+// The output for refused words goes to standard output and standard error, or to the latter alone.
 fn standard(is_quiet: bool) -> Telling
     ensures quiet { result.is_quiet ≡ is_quiet }
     ensures log { option_map log_by result.log ≡ None }
@@ -63,7 +63,7 @@ fn telling_of_all(alloc: Global, all: &[String]) -> Result<Telling, AllocError>
     telling_of_words(alloc, words.as_slice())
 }
 
-/// Where the program tells what it has to tell, by its arguments, the program's name first: what they order says it. What is told of
+/// Where the program writes its output, by its arguments, the program's name first: what they order says it. The output for
 /// refused words goes to standard output and standard error, or to the latter alone if they say that nothing is to be printed. The
 /// error is that memory ran out.
 pub fn telling_of(alloc: Global, args: io::Result<Args>) -> Result<Telling, AllocError>

@@ -1,4 +1,4 @@
-//! What is told of a retrieval: its report, or the line of the cause for which it stopped.
+//! The text on a retrieval: its report, or the line of the cause for which it stopped.
 ghost use Rattle.std.specs.Prelude.{◌≡◌, ◌++◌, ◌&&◌, IfOk, OnOk, length, map, string_bytes};
 ghost use Rattle.harvest.specs.Gathered.{ArePages};
 ghost use Rattle.local_names.specs.Names.{AreDistinct};
@@ -28,14 +28,14 @@ pub(crate) struct Output {
     pub(crate) status: u8,
 }
 
-/// The names of a harvest's kept pages, and the text that tells of it.
+/// The names of a harvest's kept pages, and the text on it.
 #[derive(Drop)]
 pub(crate) struct Telling {
     pub(crate) names: Vec<String>,
     pub(crate) text: String,
 }
 
-// Adds the trace, where it is to be shown.
+// Adds the trace, if it is to be shown.
 fn push_shown(text: &mut String, is_shown: bool, trace: &[Event]) -> Result<(), AllocError>
     ensures ok { OnOk result (string_bytes text.new ≡ string_bytes text.old ++ trace_text (shown_of is_shown trace.now)) }
 {
@@ -108,12 +108,12 @@ fn is_borne_out(cause: Cause) -> bool
     ensures { result ≡ is_borne_out cause }
 {
     match cause {
-        Cause::Full | Cause::Memory => true,
+        Cause::Full | Cause::Memory | Cause::Quota => true,
         Cause::Mismatch => false,
     }
 }
 
-/// The text of a retrieval that stopped: its trace, where it is to be shown and no check failed, and the line of the cause.
+/// The text of a retrieval that stopped: its trace, if it is to be shown and no check failed, and the line of the cause.
 pub(crate) fn halt_text<B: Drop>(
     alloc: Global,
     is_shown: bool,
@@ -129,7 +129,7 @@ pub(crate) fn halt_text<B: Drop>(
     Ok(text)
 }
 
-/// What is told of what was retrieved, whose kept pages have their names by these rules.
+/// The text on what was retrieved, whose kept pages have their names by these rules.
 pub(crate) fn told_of(
     alloc: Global,
     naming: &PageNames,

@@ -15,7 +15,7 @@ use Rattle.site_records.specs.inner.Readings.{AddsHop, IsWrongHop, IsBadHop, Nam
 use Rattle.std.specs.Str.{IsUtf8}
 use Rattle.site_records.proofs.EntryLaws.{same_line}
 
--- a hop behind the others, where they lead
+-- a hop after the others, where they lead
 led_on : (from : Option AddressText) (hops : List HopValue) (h : HopValue) → AreLed from hops → due from hops ≡ Some h.0 → AreLed from (hops ++ h ∷ [])
 led_on from [] h led is = (is, tt)
 led_on from (x ∷ hops) h led is = (led.0, led_on (target_told x.0 x.1) hops h led.1 is)
@@ -52,7 +52,7 @@ admitted_from (suc left) at (h ∷ second ∷ more) led some few ends =
       admitted_from left second.0 (second ∷ more) (refl, led.1.1) (omega arith) (omega (arith, few)) (λ less. ends (omega (arith, less))),
     )
 
--- so many hops that are led from an origin's robots file, and don't lead on where one more redirect may be followed
+-- this many hops that are led from an origin's robots file, and don't lead on if one more redirect may be followed
 pub chain_admitted : (of : OriginText) (hops : List HopValue) (n : ℕ) → AreLed (chain_start of) hops → length hops ≡ n → IsHopCount n
     → (n < max_redirects + 1 → due (chain_start of) hops ≡ None) → IsAdmitted of hops
 chain_admitted of hops n led long count ends =

@@ -1,5 +1,5 @@
 -- A record that was cut at any byte is the entries of its first notes and a front of the next one's, within which it ends.
-use Rattle.std.proofs.Common.{◌≡◌, ◌≢◌, ◌==◌, ℕ, zero, suc, ◌-◌, ◌^◌, ◌<◌, ◌≤◌, ◌⊎◌, ◌++◌, ◌∙◌, Bool, true, List, [], ◌∷◌, refl, sym, ap, subst, inl, inr, length, take, drop, arith, append_assoc, append-nil, length-append}
+use Rattle.std.proofs.Common.{◌≡◌, ◌≢◌, ◌==◌, ℕ, zero, suc, ◌-◌, ◌^◌, ◌<◌, ◌≤◌, ◌⊎◌, ◌++◌, ◌∙◌, true, List, [], ◌∷◌, refl, sym, ap, subst, inl, inr, length, take, drop, arith, append_assoc, append-nil, length-append}
 use Rattle.std.specs.Prelude.{codes, decimal, All, flat_map, get_or}
 use Rattle.std.specs.List.{list_all}
 use Rattle.std.proofs.lemmas.Bool.{cases_lt, eqb-true}
@@ -28,6 +28,7 @@ use Rattle.site_records.specs.WrittenEntries.{line_of_three, counted_entry, chai
 use Rattle.site_records.proofs.FormLaws.{and_parts}
 use Rattle.site_records.proofs.WrittenEntryLaws.{IsPlain, plain_line, three_fields, ascii_line, line_is, has_bytes, length_is, small_response, short_head, all_visible, word_visible, address_visible, digits_visible, entry_text, hop_count}
 use Rattle.site_records.proofs.WrittenRecordLaws.{AreShort, AreFresh, notes_follow}
+use Rattle.html_links.specs.declared.rules.LinkRules.{LinkRules}
 
 -- of two texts that begin alike the shorter one is a front of the other
 front_of_front : (p q a b : List ℕ) → p ++ q ≡ a ++ b → length a ≤ length p → (rest : List ℕ) × (p ≡ a ++ rest) × (rest ++ q ≡ b)
@@ -54,7 +55,7 @@ plain_no_line text plain line behind is =
     let feed = eqb-true (get_or text is.place 0) 10 at.1 in
     omega (arith, low, feed)
 
--- a text that is cut ends within a line of it, or goes on behind its line feed
+-- a text that is cut ends within a line of it, or goes on after its line feed
 line_cut : (torn more line tail : List ℕ) → All IsPlain line → torn ++ more ≡ line ++ 10 ∷ tail → HasNoLine torn ⊎ ((q : List ℕ) × (torn ≡ line ++ 10 ∷ q) × (q ++ more ≡ tail))
 line_cut torn more line tail plain e =
     elim (cases_lt (length line) (length torn)) [
@@ -112,7 +113,7 @@ fault_torn line torn more plain e some =
       | inr h ↦ absurd (some (nothing_of h.0 more h.2).1)
     ]
 
--- bytes behind a line that are cut run out, or this holds of what follows them
+-- bytes after a line that are cut run out, or this holds of what follows them
 bytes_torn : (q more bytes rest : List ℕ) (k : ℕ) → q ++ more ≡ bytes ++ 10 ∷ rest → ((after : List ℕ) → after ++ more ≡ rest → IsTornRow k after)
     → (length q ≤ length bytes) ⊎ ((b : List ℕ) × (after : List ℕ) × HasBytes q (length bytes) b after × IsTornRow k after)
 bytes_torn q more bytes rest k e later =
@@ -246,13 +247,13 @@ ends_within torn [] are short front = inl (subst HasNoLine (sym front) (plain_no
 ends_within torn (note ∷ notes) are short (more, is, some) =
     note_torn note torn more (All-head IsNote note notes are) (All-head (λ n. has_short_heads n ≡ true) note notes short) is some
 
--- a record of notes, each of an address or an origin of its own and with short heads, that is cut anywhere behind its first line is the entries of the first of them, and a front of
+-- a record of notes, each of an address or an origin of its own and with short heads, that is cut anywhere after its first line is the entries of the first of them, and a front of
 -- the next one's
-pub cut_record : (robots : Bool) (notes : List Noted) → All IsNote notes → AreShort notes → AreFresh [] notes → IsReadCut robots notes
-cut_record robots notes are short fresh front behind e =
+pub cut_record : (links : LinkRules) (notes : List Noted) → All IsNote notes → AreShort notes → AreFresh [] notes → IsReadCut links notes
+cut_record links notes are short fresh front behind e =
     let (k, torn, whole, first) = cut_behind notes front behind e in
-    let so = notes_follow robots front [] (take k notes) torn (All-take IsNote k notes are) (All-take (λ n. has_short_heads n ≡ true) k notes short) (first_fresh [] notes k fresh)
-    (subst (λ t. IsFront Second robots front [] t) whole none) in (
+    let so = notes_follow links front [] (take k notes) torn (All-take IsNote k notes are) (All-take (λ n. has_short_heads n ≡ true) k notes short) (first_fresh [] notes k fresh)
+    (subst (λ t. IsFront Second links front [] t) whole none) in (
       k,
       torn,
       record {

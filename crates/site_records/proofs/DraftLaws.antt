@@ -20,7 +20,7 @@ filter_push (n ∷ ns) more = by (has_short_heads n) (filter_push ns more)
     by true e = ap (λ l. n ∷ l) e
     by false e = e
 
--- one more note is a first where none of those above repeats it
+-- one more note is a first if none of those above repeats it
 firsts_push : (above notes : List Noted) (n : Noted) → firsts_behind above (notes ++ n ∷ []) ≡ firsts_behind above notes ++ cond (is_repeated (above ++ notes) n) [] (n ∷ [])
 firsts_push above [] n = append-nil (cond (is_repeated above n) [] (n ∷ [])) ∙ ap (λ l. cond (is_repeated l n) [] (n ∷ [])) (sym (append-nil above))
 firsts_push above (x ∷ notes) n =

@@ -26,6 +26,7 @@ use Rattle.site_records.specs.declared.entry_fault.EntryFault.{EntryFault}
 use Rattle.site_records.specs.declared.entry_fault.EntryFault.TheVariants.{Own, Hop}
 use Rattle.site_records.specs.declared.taken.Taken.{Taken}
 use Rattle.site_records.specs.declared.version.Version.{Version}
+use Rattle.html_links.specs.declared.rules.LinkRules.{LinkRules}
 
 -- what wasn't found
 pub none_left : {A : Type 0} (o : Option A) (b : Bool) → b ≡ is_some o → b ≡ false → o ≡ None
@@ -62,7 +63,7 @@ refused_rules old s behind Address root to h = h
 refused_rules old s behind Memory root to h = tt
 
 -- the entry that a line states is kept
-pub takes : (old new : Reading) (s : Statement) (behind : List ℕ) (taken : Taken) (e : Entry) → IsNamed (text_of s) → IsAtRoot s → States old.robots s behind e taken.after.now → Keeps old e new
+pub takes : (old new : Reading) (s : Statement) (behind : List ℕ) (taken : Taken) (e : Entry) → IsNamed (text_of s) → IsAtRoot s → States old.links s behind e taken.after.now → Keeps old e new
     → taken.lines ≡ lines_of e → AddsLines old s behind taken new
 takes old new s behind taken e named_is root states keeps lines = record {
   adds = record { entry = e; is_named = named_is; at_root = root; states = states; keeps = keeps };
@@ -70,12 +71,12 @@ takes old new s behind taken e named_is root states keeps lines = record {
 }
 
 -- the answer of a page is what its bytes are read as
-pub page_states : (robots : Bool) (text : List ℕ) (n : ℕ) (behind bytes after at : List ℕ) (a : Answer BodyValue) → HasBytes behind n bytes after → IsReadAs robots at bytes a
-    → named text ≡ at → States robots (page text n) behind (answered at a) after
-page_states robots text n behind bytes after at a has read is = (bytes, a, has, rw is read, rw is refl)
+pub page_states : (links : LinkRules) (text : List ℕ) (n : ℕ) (behind bytes after at : List ℕ) (a : Answer BodyValue) → HasBytes behind n bytes after → IsReadAs links at bytes a
+    → named text ≡ at → States links (page text n) behind (answered at a) after
+page_states links text n behind bytes after at a has read is = (bytes, a, has, rw is read, rw is refl)
 
-pub fault_states : (robots : Bool) (kind : FaultKind) (text behind at : List ℕ) → named text ≡ at → States robots (fault kind text) behind (answered at (no_response kind)) behind
-fault_states robots kind text behind at is = (refl, rw is refl)
+pub fault_states : (links : LinkRules) (kind : FaultKind) (text behind at : List ℕ) → named text ≡ at → States links (fault kind text) behind (answered at (no_response kind)) behind
+fault_states links kind text behind at is = (refl, rw is refl)
 
 -- ---- from the line to the text
 
@@ -141,13 +142,13 @@ shorter_hops text hops after (more_hops before rest h last are is) =
     let two = shorter_hop rest h last is in
     omega (arith, long, one, two)
 
-shorter_entry : (robots : Bool) (s : Statement) (behind after : List ℕ) (e : Entry) → States robots s behind e after → length after + lines_of e ≤ length behind + 1
-shorter_entry robots (page text n) behind after e h = let (bytes, a, has, _, is) = h in let less = shorter_bytes behind bytes after n has in rw is (omega (arith, less))
-shorter_entry robots (fault kind text) behind after e h = rw (h.0, h.1) (omega arith)
-shorter_entry robots (file text n) behind after e h = let (bytes, has, is) = h in let less = shorter_bytes behind bytes after n has in rw is (omega (arith, less))
-shorter_entry robots (free text) behind after e h = rw (h.0, h.1) (omega arith)
-shorter_entry robots (closed text) behind after e h = rw (h.0, h.1) (omega arith)
-shorter_entry robots (chain text n) behind after e h = let (hops, are, _, _, is) = h in let less = shorter_hops behind hops after are in rw is (omega (arith, less))
+shorter_entry : (links : LinkRules) (s : Statement) (behind after : List ℕ) (e : Entry) → States links s behind e after → length after + lines_of e ≤ length behind + 1
+shorter_entry links (page text n) behind after e h = let (bytes, a, has, _, is) = h in let less = shorter_bytes behind bytes after n has in rw is (omega (arith, less))
+shorter_entry links (fault kind text) behind after e h = rw (h.0, h.1) (omega arith)
+shorter_entry links (file text n) behind after e h = let (bytes, has, is) = h in let less = shorter_bytes behind bytes after n has in rw is (omega (arith, less))
+shorter_entry links (free text) behind after e h = rw (h.0, h.1) (omega arith)
+shorter_entry links (closed text) behind after e h = rw (h.0, h.1) (omega arith)
+shorter_entry links (chain text n) behind after e h = let (hops, are, _, _, is) = h in let less = shorter_hops behind hops after are in rw is (omega (arith, less))
 
 short_row : (s : Statement) (behind : List ℕ) (k : ℕ) (IsBad : Option AddressText → List ℕ → Type 0) → IsBadBehind s behind k IsBad → k ≤ length behind
 short_row (chain text n) behind k IsBad h = let (hops, rest, begun, long, _, _) = h in let less = shorter_hops behind hops rest begun.are in omega (arith, long, less)
@@ -162,7 +163,7 @@ pub shorter : (old new : Reading) (r : Result Taken EntryFault) (text line behin
     → TakesEntry old s behind r new → MatchResult r (λ taken. length taken.after.now + taken.lines ≤ length text) (λ f. lines_to f ≤ length text)
 shorter old new (Ok taken) text line behind s is t =
     let one = shorter_line text line behind is in
-    let two = shorter_entry old.robots s behind taken.after.now t.adds.entry t.adds.states in
+    let two = shorter_entry old.links s behind taken.after.now t.adds.entry t.adds.states in
     let lines = t.lines in
     omega (arith, one, two, lines)
 shorter old new (Err (Own f)) text line behind s is t = omega arith
@@ -173,13 +174,13 @@ shorter old new (Err (Hop k f)) text line behind s is t =
 
 -- ---- a chain
 
--- the hops behind a chain's line are its entry
-pub chain_states : (robots : Bool) (text : List ℕ) (n : ℕ) (behind after of : List ℕ) (c : ChainValue) → AreHopsOf behind c.hops after → length c.hops ≡ n → IsAdmitted of c.hops → c.of ≡ of
-    → origin_of (named text) ≡ of → States robots (chain text n) behind (chained c.of c.hops) after
-chain_states robots text n behind after of c are long admitted same is =
+-- the hops after a chain's line are its entry
+pub chain_states : (links : LinkRules) (text : List ℕ) (n : ℕ) (behind after of : List ℕ) (c : ChainValue) → AreHopsOf behind c.hops after → length c.hops ≡ n → IsAdmitted of c.hops → c.of ≡ of
+    → origin_of (named text) ≡ of → States links (chain text n) behind (chained c.of c.hops) after
+chain_states links text n behind after of c are long admitted same is =
     (c.hops, are, long, subst (λ o. IsAdmitted o c.hops) (sym is) admitted, ap (λ o. chained o c.hops) (same ∙ sym is))
 
--- a chain that is refused behind its line
+-- a chain that is refused after its line
 pub wrong_chain : (old : Reading) (text : List ℕ) (n : ℕ) (behind : List ℕ) (of : List ℕ) (f : EntryFault) → IsNamed text → path_query_of (named text) ≡ codes "/"
     → origin_of (named text) ≡ of → lookup (bytes_eq of) old.rules.entries ≡ None → IsWrongChain of n behind f → IsWrongAt old (chain text n) behind f
 wrong_chain old text n behind of (Own Line) named_is root is none h = (named_is, inr (inr (inr (subst (λ o. LeadsOn o n behind) (sym is) h))))
@@ -188,16 +189,16 @@ wrong_chain old text n behind of (Own Memory) named_is root is none h = tt
 wrong_chain old text n behind of (Hop k f) named_is root is none h =
     (named_is, root, (λ some. let gone = rw (is, none) at some in cc), subst (λ o. IsBadRow o n behind k (IsBadHop f)) (sym is) h)
 
--- ---- lines that are refused behind their address
+-- ---- lines that are refused after their address
 
 -- a line whose bytes aren't there
 pub without_bytes : (old : Reading) (s : Statement) (behind : List ℕ) → IsNamed (text_of s) → ¬ HasItsBytes s behind → IsWrong old s behind Line
 without_bytes old s behind named_is none = (named_is, inr (inr (inl none)))
 
 -- the rules of an origin are those of its robots file
-pub file_states : (robots : Bool) (text : List ℕ) (n : ℕ) (behind bytes after of own : List ℕ) (r : RuleSetValue) → HasBytes behind n bytes after → r ≡ rules_in bytes
-    → own ≡ of → origin_of (named text) ≡ of → States robots (file text n) behind (ruled own r) after
-file_states robots text n behind bytes after of own r has read same is = (bytes, has, rw (is, same, read) refl)
+pub file_states : (links : LinkRules) (text : List ℕ) (n : ℕ) (behind bytes after of own : List ℕ) (r : RuleSetValue) → HasBytes behind n bytes after → r ≡ rules_in bytes
+    → own ≡ of → origin_of (named text) ≡ of → States links (file text n) behind (ruled own r) after
+file_states links text n behind bytes after of own r has read same is = (bytes, has, rw (is, same, read) refl)
 
 -- a line by which everything is allowed, or nothing, at an origin that isn't read or has rules
 pub refused_bare : (old : Reading) (allowed : Bool) (text behind : List ℕ) (f : InputLineFault) → IsRuled old.rules.entries text f → IsWrong old (cond allowed (free text) (closed text)) behind f

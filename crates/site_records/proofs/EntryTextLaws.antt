@@ -12,7 +12,7 @@ use Rattle.answer_notes.specs.HopChains.{HopValue}
 use Rattle.answer_notes.specs.declared.noted.Noted.TheVariants.{Chain}
 use Rattle.site_records.specs.WrittenEntries.{line_of_three, counted_entry, chain_line, is_short, told_text, hop_entry, written_note, IsToldOf}
 
--- what follows of a fact does where a call succeeds
+-- what follows of a fact does if a call succeeds
 pub on_ok : {T E : Type 0} {P Q : Type 0} (r : Result T E) → (P → Q) → OnOk r P → OnOk r Q
 on_ok (Ok x) f p = f p
 on_ok (Err e) f p = p
@@ -59,7 +59,7 @@ hops_grow hops i h pieces old new within is short was now =
     single : flat_map hop_entry (take i hops) ++ flat_map hop_entry (h ∷ []) ≡ flat_map hop_entry (take i hops) ++ hop_entry h
     single = ap (λ t. flat_map hop_entry (take i hops) ++ t) (append-nil (hop_entry h))
 
--- what is told of one hop more
+-- one more hop was received
 pub told_more : (hops : List HopValue) (i : ℕ) (h : HopValue) → i < length hops → h ≡ get_or hops i h → list_all (λ (h : HopValue). is_short h.1) hops ≡ true
     → All (λ (h : HopValue). IsToldOf h.0 h.1) (take i hops) → (is_short h.1 ≡ true → IsToldOf h.0 h.1) → All (λ (h : HopValue). IsToldOf h.0 h.1) (take (i + 1) hops)
 told_more hops i h within is short was now =

@@ -1,4 +1,4 @@
--- What stands in notes for the robots entries of version 1: chains of one hop with the same rules.
+-- What notes have for the robots entries of version 1: chains of one hop with the same rules.
 use Rattle.std.proofs.Common.{◌≡◌, ℕ, ◌<◌, ◌≤◌, ◌++◌, ◌∙◌, min, Result, Err, IfOk, true, false, cond, List, [], ◌∷◌, Some, None, Ok, refl, ap, inl, inr, length, take, arith, length-append}
 use Rattle.std.specs.Prelude.{fold, map, nat_lt}
 use Rattle.std.specs.List.{list_all, slice_split, filter_map, before_last}
@@ -122,7 +122,7 @@ rules_front file = ap (λ s. record { closed = false; rules = fold with_rule [] 
 
 -- ---- the rules of these chains
 
--- the first bytes of a file, as the answer, are its rules
+-- the first bytes of a file, taken for the answer, are its rules
 pub file_rules : (r : ResponseParts) (body file : List ℕ) (n : ℕ) → r ≡ bare 200 body → body ≡ take n file → n ≡ min 512001 (length file) → rules_told (Whole r) ≡ rules_in file
 unfolding rules_by_status
 file_rules r body file n is front kept =

@@ -67,7 +67,7 @@ of_word Second (free text) = refl
 of_word Second (closed text) = refl
 of_word Second (chain text n) = refl
 
--- where the version hasn't what a line says, the line has no form
+-- if the version doesn't have what a line says, the line has no form
 pub other_version : (version : Version) (line : List ℕ) (s : Statement) → IsForm (fields line) s → is_of version s ≡ false → (t : Statement) → ¬ HasForm version line t
 other_version version line s form lacks t h =
     let same : is_of version s ≡ is_of version t =

@@ -12,6 +12,7 @@ use Rattle.site_records.specs.Entries.{IsBadLine, IsBadAddress, IsFormed}
 use Rattle.site_records.specs.inner.Readings.{IsBad, fault_at}
 use Rattle.site_records.specs.Fronts.{HasNoLine, IsTornEntry, IsBadWhole, IsFrontFault, HasFront}
 use Rattle.site_records.proofs.ReadLaws.{IsReadTo, first_bad_at}
+use Rattle.html_links.specs.declared.rules.LinkRules.{LinkRules}
 
 nothing_is_torn : (rest : List ℕ) → rest ≡ [] → HasNoLine rest
 nothing_is_torn [] e line behind is = let first = is.first in absurd cc
@@ -21,24 +22,24 @@ some_left : (version : Version) (rest : List ℕ) → ¬ IsTornEntry version res
 some_left version rest whole e = whole (inl (nothing_is_torn rest e))
 
 -- a bad entry within which the bytes don't end is the first
-pub first_bad_whole : (robots : Bool) (bytes : List ℕ) (old : Reading) (number : ℕ) (rest : List ℕ) (f : EntryFault) → IsReadTo robots bytes old number rest
-    → ¬ IsTornEntry old.version rest → IsBad old rest f → IsFrontFault robots bytes (fault_at f (number + 1))
-first_bad_whole robots bytes old number rest (Own Line) s whole bad =
-    inr (first_bad_at robots bytes old number rest (IsBadWhole IsBadLine) None (number + 1) s (some_left old.version rest whole) (omega arith) (bad, whole))
-first_bad_whole robots bytes old number rest (Own Address) s whole bad =
-    first_bad_at robots bytes old number rest (IsBadWhole IsBadAddress) None (number + 1) s (some_left old.version rest whole) (omega arith) (bad, whole)
-first_bad_whole robots bytes old number rest (Own Memory) s whole bad =
-    inl (number + 1, first_bad_at robots bytes old number rest (λ version _ _ _ rest. IsFormed version rest) None (number + 1) s (some_left old.version rest whole) (omega arith) bad)
-first_bad_whole robots bytes old number rest (Hop k Line) s whole bad =
-    inr (first_bad_at robots bytes old number rest (IsBadWhole IsBadLine) (Some k) (number + 1 + k + 1) s (some_left old.version rest whole) (omega arith) (bad, whole))
-first_bad_whole robots bytes old number rest (Hop k Address) s whole bad =
-    first_bad_at robots bytes old number rest (IsBadWhole IsBadAddress) (Some k) (number + 1 + k + 1) s (some_left old.version rest whole) (omega arith) (bad, whole)
-first_bad_whole robots bytes old number rest (Hop k Memory) s whole bad =
-    inl (number + 1 + k + 1, first_bad_at robots bytes old number rest (λ version _ _ _ rest. IsFormed version rest) (Some k) (number + 1 + k + 1) s (some_left old.version rest whole) (omega arith) bad)
+pub first_bad_whole : (links : LinkRules) (bytes : List ℕ) (old : Reading) (number : ℕ) (rest : List ℕ) (f : EntryFault) → IsReadTo links bytes old number rest
+    → ¬ IsTornEntry old.version rest → IsBad old rest f → IsFrontFault links bytes (fault_at f (number + 1))
+first_bad_whole links bytes old number rest (Own Line) s whole bad =
+    inr (first_bad_at links bytes old number rest (IsBadWhole IsBadLine) None (number + 1) s (some_left old.version rest whole) (omega arith) (bad, whole))
+first_bad_whole links bytes old number rest (Own Address) s whole bad =
+    first_bad_at links bytes old number rest (IsBadWhole IsBadAddress) None (number + 1) s (some_left old.version rest whole) (omega arith) (bad, whole)
+first_bad_whole links bytes old number rest (Own Memory) s whole bad =
+    inl (number + 1, first_bad_at links bytes old number rest (λ version _ _ _ rest. IsFormed version rest) None (number + 1) s (some_left old.version rest whole) (omega arith) bad)
+first_bad_whole links bytes old number rest (Hop k Line) s whole bad =
+    inr (first_bad_at links bytes old number rest (IsBadWhole IsBadLine) (Some k) (number + 1 + k + 1) s (some_left old.version rest whole) (omega arith) (bad, whole))
+first_bad_whole links bytes old number rest (Hop k Address) s whole bad =
+    first_bad_at links bytes old number rest (IsBadWhole IsBadAddress) (Some k) (number + 1 + k + 1) s (some_left old.version rest whole) (omega arith) (bad, whole)
+first_bad_whole links bytes old number rest (Hop k Memory) s whole bad =
+    inl (number + 1 + k + 1, first_bad_at links bytes old number rest (λ version _ _ _ rest. IsFormed version rest) (Some k) (number + 1 + k + 1) s (some_left old.version rest whole) (omega arith) bad)
 
 -- what is read before an entry within which the bytes end is a front
-pub front_read : (robots : Bool) (bytes : List ℕ) (reading : Reading) (number : ℕ) (rest : List ℕ) → (s : IsReadTo robots bytes reading number rest) → IsTornEntry reading.version rest → HasFront robots bytes s.above rest
-front_read robots bytes reading number rest s torn = record { version = reading.version; text = s.text; begins = s.begins; front = s.front; torn = torn }
+pub front_read : (links : LinkRules) (bytes : List ℕ) (reading : Reading) (number : ℕ) (rest : List ℕ) → (s : IsReadTo links bytes reading number rest) → IsTornEntry reading.version rest → HasFront links bytes s.above rest
+front_read links bytes reading number rest s torn = record { version = reading.version; text = s.text; begins = s.begins; front = s.front; torn = torn }
 
 -- a text that begins with a line is this and a rest
 pub begins_with : (line text : List ℕ) → bytes_eq (take (length line) text) line ≡ true → text ≡ line ++ drop (length line) text

@@ -18,48 +18,49 @@ use Rattle.site_records.specs.Records.{answers_of}
 use Rattle.site_records.specs.WrittenEntries.{note_entry}
 use Rattle.site_records.specs.inner.RecordNotes.{AddsNote}
 use Rattle.site_records.specs.inner.Readings.{Keeps, KeepsNote}
+use Rattle.html_links.specs.declared.rules.LinkRules.{LinkRules}
 
--- what bytes tell is what they answer
-pub read_as_told : (robots : Bool) (at : AddressText) (bytes : List ℕ) (t : Told) → IsToldIn bytes t → IsReadAs robots at bytes (record { outcome = outcome_told robots at t; body = body_told t })
-read_as_told robots at bytes (told.Whole r) is = inl (record { response = r; begins = is; outcome = refl; body = refl })
-read_as_told robots at bytes (told.Fault kind) (fault, text, of, kind_is) = inr (record { fault = fault; kind = kind; text = text; of_bytes = of; kind_is = kind_is; answer = refl })
+-- what bytes contain as a response is what they answer
+pub read_as_told : (links : LinkRules) (at : AddressText) (bytes : List ℕ) (t : Told) → IsToldIn bytes t → IsReadAs links at bytes (record { outcome = outcome_told links at t; body = body_told t })
+read_as_told links at bytes (told.Whole r) is = inl (record { response = r; begins = is; outcome = refl; body = refl })
+read_as_told links at bytes (told.Fault kind) (fault, text, of, kind_is) = inr (record { fault = fault; kind = kind; text = text; of_bytes = of; kind_is = kind_is; answer = refl })
 
--- an answer is what is told where its parts are
-pub answer_is : (robots : Bool) (at : AddressText) (t : Told) (a : Answer BodyValue) → a.outcome ≡ outcome_told robots at t → a.body ≡ body_told t
-    → a ≡ record { outcome = outcome_told robots at t; body = body_told t }
-answer_is robots at t a outcome body = λ i. record { outcome = outcome i; body = body i }
+-- an answer is what was received if its parts are
+pub answer_is : (links : LinkRules) (at : AddressText) (t : Told) (a : Answer BodyValue) → a.outcome ≡ outcome_told links at t → a.body ≡ body_told t
+    → a ≡ record { outcome = outcome_told links at t; body = body_told t }
+answer_is links at t a outcome body = λ i. record { outcome = outcome i; body = body i }
 
--- a note is kept where notes are, and says its own entry
-note_added : (keeps robots : Bool) (old new : List Noted) (note : Noted) → new ≡ cond keeps (old ++ note ∷ []) old → AddsNote keeps robots old (note_entry robots note) new
-note_added true robots old new note is = (note, is, record { answers = refl; rules = refl })
-note_added false robots old new note is = is
+-- a note is kept if notes are, and says its own entry
+note_added : (keeps : Bool) (links : LinkRules) (old new : List Noted) (note : Noted) → new ≡ cond keeps (old ++ note ∷ []) old → AddsNote keeps links old (note_entry links note) new
+note_added true links old new note is = (note, is, record { answers = refl; rules = refl })
+note_added false links old new note is = is
 
--- what is told of an address is kept behind the others, and then its note
+-- what was received for an address is kept after the others, and then its note
 pub keeps_page : (old mid new : Reading) (at : AddressText) (t : Told) → lookup (bytes_eq at) old.answers.entries ≡ None → mid ≡ record old { answers = mid.answers }
-    → mid.answers.entries ≡ old.answers.entries ++ answers_of (note_entry old.robots (Page at t) ∷ []) → new ≡ record mid { notes = new.notes }
+    → mid.answers.entries ≡ old.answers.entries ++ answers_of (note_entry old.links (Page at t) ∷ []) → new ≡ record mid { notes = new.notes }
     → new.notes.items ≡ cond mid.keeps_notes (mid.notes.items ++ Page at t ∷ []) mid.notes.items → KeepsNote old (Page at t) new
 keeps_page old mid new at t vacant first answers second items = record {
   answers = ap (λ (r : Reading). r.answers.entries) second ∙ answers;
   rules = ap (λ (r : Reading). r.rules.entries) second ∙ ap (λ (r : Reading). r.rules.entries) first ∙ sym (append-nil old.rules.entries);
-  robots = ap (λ (r : Reading). r.robots) second ∙ ap (λ (r : Reading). r.robots) first;
+  links = ap (λ (r : Reading). r.links) second ∙ ap (λ (r : Reading). r.links) first;
   version = ap (λ (r : Reading). r.version) second ∙ ap (λ (r : Reading). r.version) first;
   keeps_notes = ap (λ (r : Reading). r.keeps_notes) second ∙ ap (λ (r : Reading). r.keeps_notes) first;
-  noted = note_added old.keeps_notes old.robots old.notes.items new.notes.items (Page at t)
+  noted = note_added old.keeps_notes old.links old.notes.items new.notes.items (Page at t)
       (items ∙ ap (λ (r : Reading). cond r.keeps_notes (r.notes.items ++ Page at t ∷ []) r.notes.items) first);
   is_new = vacant;
 }
 
--- the rules of a chain are kept behind the others, and its note
+-- the rules of a chain are kept after the others, and its note
 pub keeps_chain : (old new : Reading) (c : ChainValue) → lookup (bytes_eq c.of) old.rules.entries ≡ None → new.rules.entries ≡ old.rules.entries ++ (c.of, rules_of_hops c.hops) ∷ []
-    → new.answers.entries ≡ old.answers.entries → new.robots ≡ old.robots → new.version ≡ old.version → new.keeps_notes ≡ old.keeps_notes
+    → new.answers.entries ≡ old.answers.entries → new.links ≡ old.links → new.version ≡ old.version → new.keeps_notes ≡ old.keeps_notes
     → new.notes.items ≡ cond old.keeps_notes (old.notes.items ++ Chain c ∷ []) old.notes.items → KeepsNote old (Chain c) new
-keeps_chain old new c vacant rules answers robots version keeps items = record {
+keeps_chain old new c vacant rules answers links version keeps items = record {
   answers = answers ∙ sym (append-nil old.answers.entries);
   rules = rules;
-  robots = robots;
+  links = links;
   version = version;
   keeps_notes = keeps;
-  noted = note_added old.keeps_notes old.robots old.notes.items new.notes.items (Chain c) items;
+  noted = note_added old.keeps_notes old.links old.notes.items new.notes.items (Chain c) items;
   is_new = vacant;
 }
 
@@ -68,13 +69,13 @@ pub keeps_rules : (old new : Reading) (c : ChainValue) → KeepsNote old (Chain 
 keeps_rules old new c keeps = record {
   answers = keeps.answers;
   rules = keeps.rules;
-  robots = keeps.robots;
+  links = keeps.links;
   version = keeps.version;
   keeps_notes = keeps.keeps_notes;
   noted = noted old.keeps_notes old.notes.items new.notes.items keeps.noted;
   is_new = keeps.is_new;
 }
   where
-    noted : (b : Bool) (was now : List Noted) → AddsNote b old.robots was (chained c.of c.hops) now → AddsNote b old.robots was (ruled c.of (rules_of_hops c.hops)) now
+    noted : (b : Bool) (was now : List Noted) → AddsNote b old.links was (chained c.of c.hops) now → AddsNote b old.links was (ruled c.of (rules_of_hops c.hops)) now
     noted true was now (note, is, says) = (note, is, record { answers = says.answers; rules = says.rules })
     noted false was now is = is

@@ -1,5 +1,5 @@
--- A text that begins with a line, and says one thing behind it, begins with one entry and no other.
-use Rattle.std.proofs.Common.{◌≡◌, ℕ, ◌∙◌, Bool, List, [], ◌∷◌, ◌++◌, refl, sym, ap, subst, inl, inr}
+-- A text that begins with a line, and says one thing after it, begins with one entry and no other.
+use Rattle.std.proofs.Common.{◌≡◌, ℕ, ◌∙◌, List, [], ◌∷◌, ◌++◌, refl, sym, ap, subst, inl, inr}
 use Rattle.kept_bodies.specs.Bodies.{BodyValue}
 use Rattle.address.specs.Address.{AddressText}
 use Rattle.fetcher.specs.declared.answer.Answer.{Answer}
@@ -15,6 +15,7 @@ use Rattle.site_records.specs.declared.version.Version.{Version}
 use Rattle.site_records.specs.EntryLines.{Statement, HasForm, text_of, HopStatement, HasHopForm, hop_text}
 use Rattle.site_records.specs.Entries.{Entry, IsLine, HasBytes, IsReadAs, States, IsAtRoot, IsEntry, IsToldIn, TellsHop, IsHop, AreHopsOf, no_hops, more_hops}
 use Rattle.site_records.proofs.TornLaws.{begins_once, begins_hop_once}
+use Rattle.html_links.specs.declared.rules.LinkRules.{LinkRules}
 
 -- ---- what bytes say
 
@@ -25,26 +26,26 @@ answer_same : (a b : Answer BodyValue) → a.outcome ≡ b.outcome → a.body �
 answer_same a b outcome body = λ i. record { outcome = outcome i; body = body i }
 
 -- bytes that begin with a response are read as its answer alone
-one_answer : (robots : Bool) (at : AddressText) (bytes : List ℕ) (r : ResponseParts) (a : Answer BodyValue) → BeginsWithResponse r bytes → IsReadAs robots at bytes a
-    → a ≡ record { outcome = digest_of robots at r; body = body_of r.head r.body }
-one_answer robots at bytes r a begins (inl d) =
+one_answer : (links : LinkRules) (at : AddressText) (bytes : List ℕ) (r : ResponseParts) (a : Answer BodyValue) → BeginsWithResponse r bytes → IsReadAs links at bytes a
+    → a ≡ record { outcome = digest_of links at r; body = body_of r.head r.body }
+one_answer links at bytes r a begins (inl d) =
     let same : d.response ≡ r = (one_response standard bytes d.response r d.begins.0 begins.0 d.begins.1 begins.1).0 in
-    answer_same a (record { outcome = digest_of robots at r; body = body_of r.head r.body })
-    (d.outcome ∙ ap (λ q. digest_of robots at q) same) (d.body ∙ ap (λ (q : ResponseParts). body_of q.head q.body) same)
-one_answer robots at bytes r a begins (inr f) = absurd (faulty_has_none standard f.fault bytes f.text f.of_bytes r begins.0 begins.1)
+    answer_same a (record { outcome = digest_of links at r; body = body_of r.head r.body })
+    (d.outcome ∙ ap (λ q. digest_of links at q) same) (d.body ∙ ap (λ (q : ResponseParts). body_of q.head q.body) same)
+one_answer links at bytes r a begins (inr f) = absurd (faulty_has_none standard f.fault bytes f.text f.of_bytes r begins.0 begins.1)
 
--- and tell it alone
+-- and contain it alone
 one_told : (bytes : List ℕ) (r : ResponseParts) (said : Told) → BeginsWithResponse r bytes → IsToldIn bytes said → said ≡ told.Whole r
 one_told bytes r (told.Whole q) begins is = ap told.Whole (one_response standard bytes q r is.0 begins.0 is.1 begins.1).0
 one_told bytes r (told.Fault kind) begins (fault, text, of, _) = absurd (faulty_has_none standard fault bytes text of r begins.0 begins.1)
 
--- so does what stands behind the line of a page, and of a hop
-pub one_page : (robots : Bool) (at : AddressText) (behind : List ℕ) (n : ℕ) (bytes after other rest : List ℕ) (r : ResponseParts) (a : Answer BodyValue)
-    → HasBytes behind n bytes after → BeginsWithResponse r bytes → HasBytes behind n other rest → IsReadAs robots at other a
-    → (a ≡ record { outcome = digest_of robots at r; body = body_of r.head r.body }) × (rest ≡ after)
-one_page robots at behind n bytes after other rest r a has begins has_other read =
+-- so does what follows the line of a page, and of a hop
+pub one_page : (links : LinkRules) (at : AddressText) (behind : List ℕ) (n : ℕ) (bytes after other rest : List ℕ) (r : ResponseParts) (a : Answer BodyValue)
+    → HasBytes behind n bytes after → BeginsWithResponse r bytes → HasBytes behind n other rest → IsReadAs links at other a
+    → (a ≡ record { outcome = digest_of links at r; body = body_of r.head r.body }) × (rest ≡ after)
+one_page links at behind n bytes after other rest r a has begins has_other read =
     let (same, rests) = one_bytes_before behind n other bytes rest after has_other has in
-    (one_answer robots at bytes r a begins (subst (λ b. IsReadAs robots at b a) same read), rests)
+    (one_answer links at bytes r a begins (subst (λ b. IsReadAs links at b a) same read), rests)
 
 pub one_hop_told : (behind : List ℕ) (n : ℕ) (bytes after other rest : List ℕ) (r : ResponseParts) (said : Told)
     → HasBytes behind n bytes after → BeginsWithResponse r bytes → HasBytes behind n other rest → IsToldIn other said → (said ≡ told.Whole r) × (rest ≡ after)
@@ -55,22 +56,22 @@ one_hop_told behind n bytes after other rest r said has begins has_other tells =
 -- ---- from the line to the text
 
 -- the text begins with this entry, in front of what follows, and with no other
-abbrev pub IsOneEntry : Version → Bool → List ℕ → Entry → List ℕ → Type 0
-IsOneEntry version robots text e after =
-    IsEntry version robots text e after × ((f : Entry) (rest : List ℕ) → IsEntry version robots text f rest → (f ≡ e) × (rest ≡ after))
+abbrev pub IsOneEntry : Version → LinkRules → List ℕ → Entry → List ℕ → Type 0
+IsOneEntry version links text e after =
+    IsEntry version links text e after × ((f : Entry) (rest : List ℕ) → IsEntry version links text f rest → (f ≡ e) × (rest ≡ after))
 
-pub one_entry : (version : Version) (robots : Bool) (text line behind : List ℕ) (s : Statement) (e : Entry) (after : List ℕ) → IsLine text line behind → HasForm version line s
-    → IsNamed (text_of s) → IsAtRoot s → States robots s behind e after
-    → ((f : Entry) (rest : List ℕ) → States robots s behind f rest → (f ≡ e) × (rest ≡ after)) → IsOneEntry version robots text e after
-one_entry version robots text line behind s e after is form is_named root states only = (
+pub one_entry : (version : Version) (links : LinkRules) (text line behind : List ℕ) (s : Statement) (e : Entry) (after : List ℕ) → IsLine text line behind → HasForm version line s
+    → IsNamed (text_of s) → IsAtRoot s → States links s behind e after
+    → ((f : Entry) (rest : List ℕ) → States links s behind f rest → (f ≡ e) × (rest ≡ after)) → IsOneEntry version links text e after
+one_entry version links text line behind s e after is form is_named root states only = (
   record { line = line; behind = behind; says = s; is_line = is; form = form; is_named = is_named; at_root = root; states = states },
   others,
 )
   where
-    others : (f : Entry) (rest : List ℕ) → IsEntry version robots text f rest → (f ≡ e) × (rest ≡ after)
+    others : (f : Entry) (rest : List ℕ) → IsEntry version links text f rest → (f ≡ e) × (rest ≡ after)
     others f rest other =
         let (says, left) = begins_once version text line behind s other.says other.behind is form (record { line = other.line; is_line = other.is_line; form = other.form }) in
-        only f rest (subst (λ b. States robots s b f rest) left (subst (λ t. States robots t other.behind f rest) says other.states))
+        only f rest (subst (λ b. States links s b f rest) left (subst (λ t. States links t other.behind f rest) says other.states))
 
 -- the same of a hop
 abbrev pub IsOneHop : List ℕ → HopValue → List ℕ → Type 0

@@ -23,17 +23,18 @@ use Rattle.site_records.specs.WrittenEntries.{note_entry}
 use Rattle.site_records.specs.RecordNotes.{HasNotes}
 use Rattle.site_records.specs.inner.RecordNotes.{AddsNote}
 use Rattle.site_records.specs.inner.Readings.{Reads, IsBad, fault_at}
+use Rattle.html_links.specs.declared.rules.LinkRules.{LinkRules}
 
 -- the entries so far are kept, and this is the rest
-pub record IsReadTo (robots : Bool) (bytes : List ℕ) (reading : Reading) (number : ℕ) (rest : List ℕ) : Type 0 where
+pub record IsReadTo (links : LinkRules) (bytes : List ℕ) (reading : Reading) (number : ℕ) (rest : List ℕ) : Type 0 where
   pub text : List ℕ
   pub above : List Entry
   pub begins : bytes ≡ version_line reading.version ++ text
-  pub front : IsFront reading.version robots text above rest
+  pub front : IsFront reading.version links text above rest
   pub answers : reading.answers.entries ≡ answers_of above
   pub rules : reading.rules.entries ≡ rules_of above
-  pub robots_is : reading.robots ≡ robots
-  pub noted : HasNotes reading.keeps_notes robots reading.notes.items above
+  pub robots_is : reading.links ≡ links
+  pub noted : HasNotes reading.keeps_notes links reading.notes.items above
   pub count : number ≡ line_count above + 1
   pub within : number + length rest < length bytes
 
@@ -50,21 +51,21 @@ rules_of-append (answered at a ∷ xs) ys = rules_of-append xs ys
 rules_of-append (ruled of r ∷ xs) ys = ap (λ l. (of, r) ∷ l) (rules_of-append xs ys)
 rules_of-append (chained of hops ∷ xs) ys = ap (λ l. (of, rules_of_hops hops) ∷ l) (rules_of-append xs ys)
 
--- one entry more has its lines behind those of the others
+-- one more entry has its lines after those of the others
 line_count-push : (xs : List Entry) (e : Entry) → line_count (xs ++ e ∷ []) ≡ line_count xs + lines_of e
 line_count-push [] e = omega arith
 line_count-push (x ∷ xs) e = let more = line_count-push xs e in omega (arith, more)
 
 -- nothing is noted of nothing
-no_notes : (keeps robots : Bool) (notes : List Noted) → notes ≡ [] → HasNotes keeps robots notes []
-no_notes true robots notes e = record { answers = ap (λ l. answers_of (map (note_entry robots) l)) e; rules = ap (λ l. rules_of (map (note_entry robots) l)) e }
-no_notes false robots notes e = e
+no_notes : (keeps : Bool) (links : LinkRules) (notes : List Noted) → notes ≡ [] → HasNotes keeps links notes []
+no_notes true links notes e = record { answers = ap (λ l. answers_of (map (note_entry links) l)) e; rules = ap (λ l. rules_of (map (note_entry links) l)) e }
+no_notes false links notes e = e
 
 -- a note more says one entry more
-notes_grow : (keeps robots : Bool) (old new : List Noted) (above : List Entry) (e : Entry) → HasNotes keeps robots old above → AddsNote keeps robots old e new → HasNotes keeps robots new (above ++ e ∷ [])
-notes_grow false robots old new above e was adds = adds ∙ was
-notes_grow true robots old new above e was (note, pushed, says) =
-    let f = note_entry robots in
+notes_grow : (keeps : Bool) (links : LinkRules) (old new : List Noted) (above : List Entry) (e : Entry) → HasNotes keeps links old above → AddsNote keeps links old e new → HasNotes keeps links new (above ++ e ∷ [])
+notes_grow false links old new above e was adds = adds ∙ was
+notes_grow true links old new above e was (note, pushed, says) =
+    let f = note_entry links in
     let more : map f new ≡ map f old ++ map f (note ∷ []) = ap (map f) pushed ∙ map-append f old (note ∷ []) in
     record {
       answers = ap answers_of more ∙ answers_of-append (map f old) (map f (note ∷ [])) ∙ ap (λ l. l ++ answers_of (map f (note ∷ []))) was.answers
@@ -73,10 +74,10 @@ notes_grow true robots old new above e was (note, pushed, says) =
           ∙ ap (λ l. rules_of above ++ l) says.rules ∙ sym (rules_of-append above (e ∷ []));
     }
 
--- nothing is read behind the first line
-pub starts : (robots : Bool) (bytes : List ℕ) (reading : Reading) (rest : List ℕ) → bytes ≡ version_line reading.version ++ rest
-    → reading.answers.entries ≡ [] → reading.rules.entries ≡ [] → reading.robots ≡ robots → reading.notes.items ≡ [] → IsReadTo robots bytes reading 1 rest
-starts robots bytes reading rest is answers rules same none_noted =
+-- nothing is read yet after the first line
+pub starts : (links : LinkRules) (bytes : List ℕ) (reading : Reading) (rest : List ℕ) → bytes ≡ version_line reading.version ++ rest
+    → reading.answers.entries ≡ [] → reading.rules.entries ≡ [] → reading.links ≡ links → reading.notes.items ≡ [] → IsReadTo links bytes reading 1 rest
+starts links bytes reading rest is answers rules same none_noted =
     let some = long_line reading.version in
     let long = length-append (version_line reading.version) rest in
     let all = ap length is in
@@ -88,7 +89,7 @@ starts robots bytes reading rest is answers rules same none_noted =
       answers = answers;
       rules = rules;
       robots_is = same;
-      noted = no_notes reading.keeps_notes robots reading.notes.items none_noted;
+      noted = no_notes reading.keeps_notes links reading.notes.items none_noted;
       count = refl;
       within = omega (arith, some, long, all);
     }
@@ -117,31 +118,31 @@ has_version version bytes rest front is =
     sym (take-append-drop (length (version_line version)) bytes) ∙ ap (λ l. l ++ drop (length (version_line version)) bytes) begins ∙ ap (λ l. version_line version ++ l) (sym is)
 
 -- one more entry is read
-pub goes_on : (robots : Bool) (bytes : List ℕ) (old new : Reading) (number lines : ℕ) (rest after : List ℕ) → IsReadTo robots bytes old number rest
-    → Reads old rest lines after new → length after + lines ≤ length rest → IsReadTo robots bytes new (number + lines) after
-goes_on robots bytes old new number lines rest after so_far r less =
-    let e : IsEntry old.version robots rest r.entry after = rw so_far.robots_is at r.is in
+pub goes_on : (links : LinkRules) (bytes : List ℕ) (old new : Reading) (number lines : ℕ) (rest after : List ℕ) → IsReadTo links bytes old number rest
+    → Reads old rest lines after new → length after + lines ≤ length rest → IsReadTo links bytes new (number + lines) after
+goes_on links bytes old new number lines rest after so_far r less =
+    let e : IsEntry old.version links rest r.entry after = rw so_far.robots_is at r.is in
     let fresh : IsNew (answers_of so_far.above) (rules_of so_far.above) r.entry = rw (so_far.answers, so_far.rules) at r.keeps.is_new in
     let longer = line_count-push so_far.above r.entry in
     record {
       text = so_far.text;
       above = so_far.above ++ r.entry ∷ [];
       begins = subst (λ v. bytes ≡ version_line v ++ so_far.text) (sym r.keeps.version) so_far.begins;
-      front = subst (λ v. IsFront v robots so_far.text (so_far.above ++ r.entry ∷ []) after) (sym r.keeps.version) (next so_far.above rest r.entry after so_far.front e fresh);
+      front = subst (λ v. IsFront v links so_far.text (so_far.above ++ r.entry ∷ []) after) (sym r.keeps.version) (next so_far.above rest r.entry after so_far.front e fresh);
       answers = r.keeps.answers ∙ ap (λ l. l ++ answers_of (r.entry ∷ [])) so_far.answers ∙ sym (answers_of-append so_far.above (r.entry ∷ []));
       rules = r.keeps.rules ∙ ap (λ l. l ++ rules_of (r.entry ∷ [])) so_far.rules ∙ sym (rules_of-append so_far.above (r.entry ∷ []));
-      robots_is = r.keeps.robots ∙ so_far.robots_is;
-      noted = subst (λ b. HasNotes b robots new.notes.items (so_far.above ++ r.entry ∷ [])) (sym r.keeps.keeps_notes)
-          (notes_grow old.keeps_notes robots old.notes.items new.notes.items so_far.above r.entry so_far.noted (subst (λ b. AddsNote old.keeps_notes b old.notes.items r.entry new.notes.items) so_far.robots_is r.keeps.noted));
+      robots_is = r.keeps.links ∙ so_far.robots_is;
+      noted = subst (λ b. HasNotes b links new.notes.items (so_far.above ++ r.entry ∷ [])) (sym r.keeps.keeps_notes)
+          (notes_grow old.keeps_notes links old.notes.items new.notes.items so_far.above r.entry so_far.noted (subst (λ b. AddsNote old.keeps_notes b old.notes.items r.entry new.notes.items) so_far.robots_is r.keeps.noted));
       count = let was = so_far.count in let lines_are = r.lines_are in omega (arith, was, longer, lines_are);
       within = let was = so_far.within in omega (arith, was, less);
     }
 
 -- a bad entry is the first
-pub first_bad_at : (robots : Bool) (bytes : List ℕ) (old : Reading) (number : ℕ) (rest : List ℕ) (IsBadSo : Version → List (AddressText × Answer BodyValue) → List (OriginText × RuleSetValue) → Option ℕ → List ℕ → Type 0)
-    (place : Option ℕ) (line : ℕ) → IsReadTo robots bytes old number rest → rest ≢ [] → line ≡ number + 1 + lines_ahead place
-    → IsBadSo old.version old.answers.entries old.rules.entries place rest → FirstBad robots bytes line IsBadSo
-first_bad_at robots bytes old number rest IsBadSo place line s more is bad = record {
+pub first_bad_at : (links : LinkRules) (bytes : List ℕ) (old : Reading) (number : ℕ) (rest : List ℕ) (IsBadSo : Version → List (AddressText × Answer BodyValue) → List (OriginText × RuleSetValue) → Option ℕ → List ℕ → Type 0)
+    (place : Option ℕ) (line : ℕ) → IsReadTo links bytes old number rest → rest ≢ [] → line ≡ number + 1 + lines_ahead place
+    → IsBadSo old.version old.answers.entries old.rules.entries place rest → FirstBad links bytes line IsBadSo
+first_bad_at links bytes old number rest IsBadSo place line s more is bad = record {
   version = old.version;
   text = s.text;
   begins = s.begins;
@@ -154,26 +155,26 @@ first_bad_at robots bytes old number rest IsBadSo place line s more is bad = rec
   bad = subst (λ answers. IsBadSo old.version answers (rules_of s.above) place rest) s.answers (subst (λ rules. IsBadSo old.version old.answers.entries rules place rest) s.rules bad);
 }
 
-pub first_bad : (robots : Bool) (bytes : List ℕ) (old : Reading) (number : ℕ) (rest : List ℕ) (f : EntryFault) → IsReadTo robots bytes old number rest
-    → rest ≢ [] → IsBad old rest f → IsFault robots bytes (fault_at f (number + 1))
-first_bad robots bytes old number rest (Own Line) s more bad = inr (first_bad_at robots bytes old number rest IsBadLine None (number + 1) s more (omega arith) bad)
-first_bad robots bytes old number rest (Own Address) s more bad = first_bad_at robots bytes old number rest IsBadAddress None (number + 1) s more (omega arith) bad
-first_bad robots bytes old number rest (Own Memory) s more bad =
-    inl (number + 1, first_bad_at robots bytes old number rest (λ version _ _ _ rest. IsFormed version rest) None (number + 1) s more (omega arith) bad)
-first_bad robots bytes old number rest (Hop k Line) s more bad = inr (first_bad_at robots bytes old number rest IsBadLine (Some k) (number + 1 + k + 1) s more (omega arith) bad)
-first_bad robots bytes old number rest (Hop k Address) s more bad = first_bad_at robots bytes old number rest IsBadAddress (Some k) (number + 1 + k + 1) s more (omega arith) bad
-first_bad robots bytes old number rest (Hop k Memory) s more bad =
-    inl (number + 1 + k + 1, first_bad_at robots bytes old number rest (λ version _ _ _ rest. IsFormed version rest) (Some k) (number + 1 + k + 1) s more (omega arith) bad)
+pub first_bad : (links : LinkRules) (bytes : List ℕ) (old : Reading) (number : ℕ) (rest : List ℕ) (f : EntryFault) → IsReadTo links bytes old number rest
+    → rest ≢ [] → IsBad old rest f → IsFault links bytes (fault_at f (number + 1))
+first_bad links bytes old number rest (Own Line) s more bad = inr (first_bad_at links bytes old number rest IsBadLine None (number + 1) s more (omega arith) bad)
+first_bad links bytes old number rest (Own Address) s more bad = first_bad_at links bytes old number rest IsBadAddress None (number + 1) s more (omega arith) bad
+first_bad links bytes old number rest (Own Memory) s more bad =
+    inl (number + 1, first_bad_at links bytes old number rest (λ version _ _ _ rest. IsFormed version rest) None (number + 1) s more (omega arith) bad)
+first_bad links bytes old number rest (Hop k Line) s more bad = inr (first_bad_at links bytes old number rest IsBadLine (Some k) (number + 1 + k + 1) s more (omega arith) bad)
+first_bad links bytes old number rest (Hop k Address) s more bad = first_bad_at links bytes old number rest IsBadAddress (Some k) (number + 1 + k + 1) s more (omega arith) bad
+first_bad links bytes old number rest (Hop k Memory) s more bad =
+    inl (number + 1 + k + 1, first_bad_at links bytes old number rest (λ version _ _ _ rest. IsFormed version rest) (Some k) (number + 1 + k + 1) s more (omega arith) bad)
 
 -- the lines in front of a fault are fewer than the bytes
-pub line_within : (robots : Bool) (bytes : List ℕ) (old : Reading) (number : ℕ) (rest : List ℕ) (lines : ℕ) → IsReadTo robots bytes old number rest
+pub line_within : (links : LinkRules) (bytes : List ℕ) (old : Reading) (number : ℕ) (rest : List ℕ) (lines : ℕ) → IsReadTo links bytes old number rest
     → lines ≤ length rest → number + 1 + lines ≤ length bytes
-line_within robots bytes old number rest lines s le = let was = s.within in omega (arith, was, le)
+line_within links bytes old number rest lines s le = let was = s.within in omega (arith, was, le)
 
--- where nothing is left, all is read
-pub all_read : (robots : Bool) (bytes : List ℕ) (old : Reading) (number : ℕ) (rest : List ℕ) → (s : IsReadTo robots bytes old number rest)
-    → rest ≡ [] → IsRecord robots bytes s.above
-all_read robots bytes old number rest s empty = record { version = old.version; text = s.text; begins = s.begins; all = rw empty at s.front }
+-- if nothing is left, all is read
+pub all_read : (links : LinkRules) (bytes : List ℕ) (old : Reading) (number : ℕ) (rest : List ℕ) → (s : IsReadTo links bytes old number rest)
+    → rest ≡ [] → IsRecord links bytes s.above
+all_read links bytes old number rest s empty = record { version = old.version; text = s.text; begins = s.begins; all = rw empty at s.front }
 
 -- a text that was found empty, or wasn't
 pub is_empty : (xs : List ℕ) → (length xs == 0) ≡ true → xs ≡ []

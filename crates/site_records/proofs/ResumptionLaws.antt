@@ -1,4 +1,4 @@
--- A fetcher that is asked for what a record doesn't state.
+-- A fetcher that requests what a record doesn't state.
 use Rattle.std.proofs.Common.{◌≡◌, ◌≤◌, ℕ, ◌++◌, ◌∙◌, List, [], ◌∷◌, All, Option, Some, None, MatchOption, Result, Ok, Err, OnOk, OnErr, refl, sym, ap, subst, inl, inr, length, take, drop, arith}
 use Rattle.std.specs.Map.{lookup}
 use Rattle.std.specs.Str.{bytes_eq}
@@ -31,7 +31,7 @@ spared_more {answers} {rules} {since} {old} {new} ask h u (inr e) =
       unstated = subst (All (IsUnstated answers rules)) (sym (drop-append-le since old (ask ∷ []) h.within)) (All-push (IsUnstated answers rules) (drop since old) ask h.unstated u);
     })
 
--- where a call's error is given, and where its value is
+-- if a call's error is given, and if its value is
 pub on_err : {T E P : Type 0} (r : Result T E) → P → OnErr r P
 on_err (Ok x) p = tt
 on_err (Err e) p = p
@@ -45,7 +45,7 @@ pub before_stays : {since : ℕ} {old new : List Ask} (ask : Ask) → since ≤ 
 before_stays {since} ask le (inl e) = ap (take since) e
 before_stays {since} {old} {new} ask le (inr e) = ap (take since) e ∙ take-append-le since old (ask ∷ []) le
 
--- the ask that is pushed stands behind the others
+-- the ask that is pushed is after the others
 pub logged : {F : Type 0} {r now : Resuming F} {new : List Ask} {x y : Ask} → r ≡ now → new ≡ r.asks ++ x ∷ [] → x ≡ y → new ≡ now.asks ++ y ∷ []
 logged {F} {r} {now} {new} {x} {y} view put is = put ∙ ap (λ (a : Ask). r.asks ++ a ∷ []) is ∙ ap (λ (r : Resuming F). r.asks ++ y ∷ []) view
 
@@ -56,7 +56,7 @@ same_site {F} {S} site log r inner asks is before =
     let with : S → List Ask → Resumption S = λ s l. record { answers = r.recorded.answers; rules = r.recorded.rules; inner = s; before = l } in
     ap (λ s. with s (take r.since (log inner))) is ∙ ap (with (site r.inner)) before
 
--- an answer that is stated, and one of the fetcher where none is
+-- an answer that is stated, and one of the fetcher if none is
 pub says_stated : {S : Type 0} (says : S → List ℕ → Outcome → BodyValue → Type 0) (site : Resumption S) (at : List ℕ) (a : Answer BodyValue)
     → lookup (bytes_eq at) site.answers ≡ Some a → SaysOr says site at a.outcome a.body
 says_stated says site at a is = subst (λ o. MatchOption o (says site.inner at a.outcome a.body) (λ (b : Answer BodyValue). (a.outcome ≡ b.outcome) × (a.body ≡ b.body))) (sym is) (refl, refl)
@@ -100,7 +100,7 @@ rules_only_or : {S : Type 0} (rules : S → List ℕ → RuleSetValue → Type 0
 rules_only_or rules site x of None are only r h = only r h
 rules_only_or rules site x of (Some stated) are only r h = h ∙ only stated (are stated refl)
 
--- answers of a steady site, and the site behind them, are that site
+-- answers of a steady site, and the site after them, are that site
 pub resumed_is_steady : {S : Type 0} (says : S → List ℕ → Outcome → BodyValue → Type 0) (rules : S → List ℕ → RuleSetValue → Type 0) (site : Resumption S) (answers : SiteAnswers)
     → AreAnswers says rules site.inner answers → AreOf says rules site.inner site.answers site.rules → AreAnswers (SaysOr says) (RulesOr rules) site answers
 resumed_is_steady says rules site answers steady are = record {

@@ -1,4 +1,4 @@
--- A line says one thing, so that it is known where a text ends within an entry.
+-- A line says one thing, so it is known where a text ends within an entry.
 use Rattle.std.proofs.Common.{◌≡◌, ℕ, zero, suc, ◌≤◌, ◌<◌, ◌∙◌, true, IsTrue, List, [], ◌∷◌, Option, Some, None, refl, sym, ap, subst, inl, inr, length, arith}
 use Rattle.std.specs.Prelude.{◌↔◌, ◌-◌, nat_le, codes, if◌then◌else◌, option_map, slice_get}
 use Rattle.std.specs.Str.{bytes_eq}
@@ -75,7 +75,7 @@ without_form version text line behind is none (inr (s, after, b, runs)) =
     let (lines, rests) = same_line text b.line line after behind b.is_line is in
     none s (subst (λ l. HasForm version l s) lines b.form)
 
--- one whose line has a form does where what the line counts runs out
+-- one whose line has a form does if what the line counts runs out
 pub with_form : (version : Version) (text line behind : List ℕ) (s : Statement) (P : Type 0) → IsLine text line behind → HasForm version line s → P ↔ RunsOut s behind → P ↔ IsTornEntry version text
 with_form version text line behind s P is form iff = (
   (λ p. inr (s, behind, record { line = line; is_line = is; form = form }, iff.0 p)),

@@ -42,12 +42,13 @@ use Rattle.fetcher.proofs.FaultLaws.{has_row}
 use Rattle.site_records.specs.WrittenEntries.{line_of_three, counted_entry, worded_entry, chain_line, told_head, is_short, hop_entry, note_text, note_entry, has_short_heads, IsToldOf, IsNote}
 use Rattle.site_records.proofs.FormLaws.{own_digits, and_parts}
 use Rattle.site_records.proofs.OneEntryLaws.{one_page, one_hop_told, IsOneEntry, one_entry, IsOneHop, one_hop, HopsRun, hops_run}
+use Rattle.html_links.specs.declared.rules.LinkRules.{LinkRules}
 
 -- the byte is visible: neither a line feed nor a space
 abbrev pub IsVisible : ℕ → Type 0
 IsVisible b = (33 ≤ b) × (b ≤ 126)
 
--- the byte may stand in a line
+-- the byte may be in a line
 abbrev pub IsPlain : ℕ → Type 0
 IsPlain b = (32 ≤ b) × (b ≤ 126)
 
@@ -57,7 +58,7 @@ no_feed b v = ne_eqb b 10 (λ e. let low = v.0 in omega arith)
 no_space : (b : ℕ) → IsVisible b → (b == 32) ≡ false
 no_space b v = ne_eqb b 32 (λ e. let low = v.0 in omega arith)
 
--- the first byte that passes stands behind those that don't
+-- the first byte that passes comes after those that don't
 first_place_is : (p : ℕ → Bool) (line behind : List ℕ) (end : ℕ) → All (λ b. p b ≡ false) line → p end ≡ true → position_or_len p (line ++ end ∷ behind) ≡ length line
 first_place_is p [] behind end clear is = ap (λ b. cond (not b) (1 + position_or_len p behind) 0) is
 first_place_is p (b ∷ line) behind end clear is =
@@ -143,7 +144,7 @@ page_visible =
     All-cons IsVisible 112 (97 ∷ 103 ∷ 101 ∷ []) (omega arith, omega arith) (All-cons IsVisible 97 (103 ∷ 101 ∷ []) (omega arith, omega arith)
     (All-cons IsVisible 103 (101 ∷ []) (omega arith, omega arith) (All-cons IsVisible 101 [] (omega arith, omega arith) (All-nil IsVisible))))
 
--- bytes and a line feed behind a line
+-- bytes and a line feed after a line
 pub has_bytes : (bytes after : List ℕ) → HasBytes (bytes ++ 10 ∷ after) (length bytes) bytes after
 has_bytes bytes after =
     let long = length-append bytes (10 ∷ after) in
@@ -169,14 +170,14 @@ line_is line behind plain = record {
 }
 
 -- the answer of a response
-abbrev pub answer_of : Bool → AddressText → ResponseParts → Answer BodyValue
-answer_of robots at r = record { outcome = digest_of robots at r; body = body_of r.head r.body }
+abbrev pub answer_of : LinkRules → AddressText → ResponseParts → Answer BodyValue
+answer_of links at r = record { outcome = digest_of links at r; body = body_of r.head r.body }
 
--- what is written of a page is one entry, which states the answer of its response, whatever stands behind it
-page_is_one : (version : Version) (robots : Bool) (at : AddressText) (r : ResponseParts) (after : List ℕ) → IsAddress at → CanBeGiven r → length (head_text r) ≤ MAX_HEADS
+-- what is written of a page is one entry, which states the answer of its response, whatever follows it
+page_is_one : (version : Version) (links : LinkRules) (at : AddressText) (r : ResponseParts) (after : List ℕ) → IsAddress at → CanBeGiven r → length (head_text r) ≤ MAX_HEADS
     → length (response_text r) < 2 ^ 64 - 1
-    → IsOneEntry version robots (counted_entry (codes "page") at (response_text r) ++ after) (answered at (answer_of robots at r)) after
-page_is_one version robots at r after is given short small =
+    → IsOneEntry version links (counted_entry (codes "page") at (response_text r) ++ after) (answered at (answer_of links at r)) after
+page_is_one version links at r after is given short small =
     let bytes = response_text r in
     let n = length bytes in
     let behind = bytes ++ 10 ∷ after in
@@ -184,29 +185,29 @@ page_is_one version robots at r after is given short small =
     let digits = digits_visible (decimal n) (decimal_is_IsNumeral n (omega (arith, small))).0.1 in
     let plain = plain_line (codes "page") at (decimal n) page_visible (address_visible at is) digits in
     let same = named_is at is in
-    subst (λ t. IsOneEntry version robots t (answered at (answer_of robots at r)) after) (sym (entry_text (codes "page") bytes after at))
-    (one_entry version robots (line ++ 10 ∷ behind) line behind (page at n) (answered at (answer_of robots at r)) after (line_is line behind plain)
+    subst (λ t. IsOneEntry version links t (answered at (answer_of links at r)) after) (sym (entry_text (codes "page") bytes after at))
+    (one_entry version links (line ++ 10 ∷ behind) line behind (page at n) (answered at (answer_of links at r)) after (line_is line behind plain)
     (IsUtf8-from_ascii line (ascii_line line plain), (decimal n, three_fields (codes "page") at (decimal n) page_visible (address_visible at is) digits, length_is n small), refl)
     (subst (λ r. IsOk r) (sym is.either) refl) tt (
       bytes,
-      answer_of robots at r,
+      answer_of links at r,
       has_bytes bytes after,
       inl (record {
         response = r;
         begins = ([], written_reads_back r given short);
-        outcome = ap (λ a. digest_of robots a r) (sym same);
+        outcome = ap (λ a. digest_of links a r) (sym same);
         body = refl;
       }),
-      ap (λ a. answered a (answer_of robots at r)) (sym same),
+      ap (λ a. answered a (answer_of links at r)) (sym same),
     )
     (λ f rest other. only same f rest other))
   where
-    only : named at ≡ at → (f : Entry) (rest : List ℕ) → States robots (page at (length (response_text r))) (response_text r ++ 10 ∷ after) f rest
-        → (f ≡ answered at (answer_of robots at r)) × (rest ≡ after)
+    only : named at ≡ at → (f : Entry) (rest : List ℕ) → States links (page at (length (response_text r))) (response_text r ++ 10 ∷ after) f rest
+        → (f ≡ answered at (answer_of links at r)) × (rest ≡ after)
     only same f rest (bytes, a, has, read, stated) =
-        let (answer, rests) = one_page robots (named at) (response_text r ++ 10 ∷ after) (length (response_text r)) (response_text r) after bytes rest r a
+        let (answer, rests) = one_page links (named at) (response_text r ++ 10 ∷ after) (length (response_text r)) (response_text r) after bytes rest r a
         (has_bytes (response_text r) after) ([], written_reads_back r given short) has read in
-        (stated ∙ ap (λ b. answered (named at) b) answer ∙ ap (λ t. answered t (answer_of robots t r)) same, rests)
+        (stated ∙ ap (λ b. answered (named at) b) answer ∙ ap (λ t. answered t (answer_of links t r)) same, rests)
 
 -- ---- an entry of a fault
 
@@ -228,16 +229,16 @@ pub word_visible : (kind : FaultKind) → All IsVisible (word_of kind)
 unfolding word_of is_visible
 word_visible kind = all_visible (get_or words (place_of kind) []) (AllPass-from_list_all is_visible words words_visible (place_of kind) [] (has_row kind))
 
--- what is written of a fault is one entry, whatever stands behind it
-fault_is_one : (version : Version) (robots : Bool) (at : AddressText) (kind : FaultKind) (after : List ℕ) → IsAddress at
-    → IsOneEntry version robots (worded_entry (codes "fault") kind at ++ after) (answered at (no_response kind)) after
-fault_is_one version robots at kind after is =
+-- what is written of a fault is one entry, whatever follows it
+fault_is_one : (version : Version) (links : LinkRules) (at : AddressText) (kind : FaultKind) (after : List ℕ) → IsAddress at
+    → IsOneEntry version links (worded_entry (codes "fault") kind at ++ after) (answered at (no_response kind)) after
+fault_is_one version links at kind after is =
     let line = line_of_three (codes "fault") (word_of kind) at in
     let word = all_visible (codes "fault") refl in
     let plain = plain_line (codes "fault") (word_of kind) at word (word_visible kind) (address_visible at is) in
     let same = named_is at is in
-    subst (λ t. IsOneEntry version robots t (answered at (no_response kind)) after) (sym (append_assoc line (10 ∷ []) after))
-    (one_entry version robots (line ++ 10 ∷ after) line after (fault kind at) (answered at (no_response kind)) after (line_is line after plain)
+    subst (λ t. IsOneEntry version links t (answered at (no_response kind)) after) (sym (append_assoc line (10 ∷ []) after))
+    (one_entry version links (line ++ 10 ∷ after) line after (fault kind at) (answered at (no_response kind)) after (line_is line after plain)
     (IsUtf8-from_ascii line (ascii_line line plain), three_fields (codes "fault") (word_of kind) at word (word_visible kind) (address_visible at is), refl)
     (subst (λ r. IsOk r) (sym is.either) refl) tt (refl, ap (λ a. answered a (no_response kind)) (sym same))
     (λ f rest other. (other.1 ∙ ap (λ a. answered a (no_response kind)) same, other.0)))
@@ -255,7 +256,7 @@ small_response r given short =
 pub short_head : (told : Told) → is_short told ≡ true → length (told_head told) ≤ MAX_HEADS
 short_head told h = leb-true (length (told_head told)) MAX_HEADS h
 
--- what is written of a hop is one, and no other, whatever stands behind it
+-- what is written of a hop is one, and no other, whatever follows it
 told_is_one : (at : AddressText) (told : Told) (after : List ℕ) → IsToldOf at told → is_short told ≡ true → IsOneHop (hop_entry (at, told) ++ after) (at, told) after
 told_is_one at (told.Whole r) after h few =
     let short = short_head (told.Whole r) few in
@@ -281,7 +282,7 @@ told_is_one at (told.Fault kind) after h few =
     (IsUtf8-from_ascii line (ascii_line line plain), three_fields (codes "hopfault") (word_of kind) at word (word_visible kind) (address_visible at h))
     (subst (λ r. IsOk r) (sym h.either) refl) (sym (named_is at h)) (refl, refl) (λ other rest tells. (tells.1, tells.0)))
 
--- what is written of hops is these, behind others
+-- what is written of hops is these, after others
 hops_follow : (text : List ℕ) (above hops : List HopValue) (after : List ℕ) → All (λ (h : HopValue). IsToldOf h.0 h.1) hops → list_all (λ (h : HopValue). is_short h.1) hops ≡ true
     → AreHopsOf text above (flat_map hop_entry hops ++ after) → AreHopsOf text (above ++ hops) after
 hops_follow text above [] after told short are = subst (λ l. AreHopsOf text l after) (sym (append-nil above)) are
@@ -325,11 +326,11 @@ root_path of is =
     let own : of ++ codes "/" ≡ of ++ path_query_of (of ++ codes "/") = split ∙ ap (λ o. o ++ path_query_of (of ++ codes "/")) is.origin in
     sym (append_cancel_left of (codes "/") (path_query_of (of ++ codes "/")) own)
 
--- what is written of a chain is one entry, whatever stands behind it
-chain_is_one : (robots : Bool) (of : OriginText) (hops : List HopValue) (after : List ℕ) → IsOrigin of → IsAdmitted of hops → All (λ (h : HopValue). IsToldOf h.0 h.1) hops
+-- what is written of a chain is one entry, whatever follows it
+chain_is_one : (links : LinkRules) (of : OriginText) (hops : List HopValue) (after : List ℕ) → IsOrigin of → IsAdmitted of hops → All (λ (h : HopValue). IsToldOf h.0 h.1) hops
     → list_all (λ (h : HopValue). is_short h.1) hops ≡ true
-    → IsOneEntry Second robots ((chain_line of (length hops) ++ flat_map hop_entry hops) ++ after) (chained of hops) after
-chain_is_one robots of hops after is admitted told short =
+    → IsOneEntry Second links ((chain_line of (length hops) ++ flat_map hop_entry hops) ++ after) (chained of hops) after
+chain_is_one links of hops after is admitted told short =
     let n = length hops in
     let root = of ++ codes "/" in
     let count = hop_count max_redirects (robots_file of) hops admitted in
@@ -344,14 +345,14 @@ chain_is_one robots of hops after is admitted told short =
     let whole : (chain_line of n ++ flat_map hop_entry hops) ++ after ≡ line ++ 10 ∷ behind =
     append_assoc (chain_line of n) (flat_map hop_entry hops) after ∙ append_assoc line (10 ∷ []) behind in
     let origin : origin_of (named root) ≡ of = ap origin_of same ∙ is.origin in
-    subst (λ t. IsOneEntry Second robots t (chained of hops) after) (sym whole)
-    (one_entry Second robots (line ++ 10 ∷ behind) line behind (chain root n) (chained of hops) after (line_is line behind plain)
+    subst (λ t. IsOneEntry Second links t (chained of hops) after) (sym whole)
+    (one_entry Second links (line ++ 10 ∷ behind) line behind (chain root n) (chained of hops) after (line_is line behind plain)
     (IsUtf8-from_ascii line (ascii_line line plain), (decimal n, three_fields (codes "chain") root (decimal n) word at digits, length_is n few, count), refl)
     (subst (λ r. IsOk r) (sym is.address.either) refl) (ap path_query_of same ∙ root_path of is)
     (hops, hops_follow behind [] hops after told short no_hops, refl, subst (λ o. IsAdmitted o hops) (sym origin) admitted, ap (λ o. chained o hops) (sym origin))
     (λ f rest other. only origin f rest other))
   where
-    only : origin_of (named (of ++ codes "/")) ≡ of → (f : Entry) (rest : List ℕ) → States robots (chain (of ++ codes "/") (length hops)) (flat_map hop_entry hops ++ after) f rest
+    only : origin_of (named (of ++ codes "/")) ≡ of → (f : Entry) (rest : List ℕ) → States links (chain (of ++ codes "/") (length hops)) (flat_map hop_entry hops ++ after) f rest
         → (f ≡ chained of hops) × (rest ≡ after)
     only origin f rest (others, are, long, _, stated) =
         let (same, rests) = only_hops hops others after rest told short long (hops_run (flat_map hop_entry hops ++ after) others rest are) in
@@ -359,13 +360,13 @@ chain_is_one robots of hops after is admitted told short =
 
 -- ---- an entry of any note
 
--- what is written of a note is its entry and no other, whatever stands behind it
-pub note_is_one : (robots : Bool) (note : Noted) (after : List ℕ) → IsNote note → has_short_heads note ≡ true → IsOneEntry Second robots (note_text note ++ after) (note_entry robots note) after
-note_is_one robots (noted.Page at (told.Whole r)) after h short =
+-- what is written of a note is its entry and no other, whatever follows it
+pub note_is_one : (links : LinkRules) (note : Noted) (after : List ℕ) → IsNote note → has_short_heads note ≡ true → IsOneEntry Second links (note_text note ++ after) (note_entry links note) after
+note_is_one links (noted.Page at (told.Whole r)) after h short =
     let few = short_head (told.Whole r) short in
-    page_is_one Second robots at r after h.0 h.1 few (small_response r h.1 few)
-note_is_one robots (noted.Page at (told.Fault kind)) after h short = fault_is_one Second robots at kind after h
-note_is_one robots (noted.Chain c) after h short = chain_is_one robots c.of c.hops after h.0 h.1 h.2 short
+    page_is_one Second links at r after h.0 h.1 few (small_response r h.1 few)
+note_is_one links (noted.Page at (told.Fault kind)) after h short = fault_is_one Second links at kind after h
+note_is_one links (noted.Chain c) after h short = chain_is_one links c.of c.hops after h.0 h.1 h.2 short
 
-pub note_is_entry : (robots : Bool) (note : Noted) (after : List ℕ) → IsNote note → has_short_heads note ≡ true → IsEntry Second robots (note_text note ++ after) (note_entry robots note) after
-note_is_entry robots note after h short = (note_is_one robots note after h short).0
+pub note_is_entry : (links : LinkRules) (note : Noted) (after : List ℕ) → IsNote note → has_short_heads note ≡ true → IsEntry Second links (note_text note ++ after) (note_entry links note) after
+note_is_entry links note after h short = (note_is_one links note after h short).0

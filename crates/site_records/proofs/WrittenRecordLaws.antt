@@ -1,4 +1,4 @@
--- A record that is written is read again as just the notes that it is written of, and so is a front of it that ends behind some of them.
+-- A record that is written is read again as exactly the notes it is written of, and so is a front of it that ends after some of them.
 use Rattle.std.proofs.Common.{◌≡◌, ℕ, ◌++◌, ◌∙◌, Bool, true, false, ◌||◌, cond, List, [], ◌∷◌, None, refl, sym, subst, append_assoc, append-nil}
 use Rattle.std.specs.Prelude.{All, filter, flat_map, map}
 use Rattle.std.specs.List.{list_any}
@@ -18,6 +18,7 @@ use Rattle.site_records.specs.Records.{answers_of, rules_of, IsFront, none, next
 use Rattle.site_records.specs.WrittenEntries.{note_text, note_entry, has_short_heads, IsNote}
 use Rattle.site_records.specs.WrittenRecords.{is_page_of, is_chain_of, is_repeated, firsts_behind, written_notes, record_text, record_entries}
 use Rattle.site_records.proofs.WrittenEntryLaws.{note_is_entry}
+use Rattle.html_links.specs.declared.rules.LinkRules.{LinkRules}
 
 -- ---- what is repeated
 
@@ -71,53 +72,53 @@ other_way a b h = by (bytes_eq b a) refl
         let same = (bytes_eq-Decides a b).1 (sym ((bytes_eq-Decides b a).0 e)) in
         absurd cc
 
-no_answer : (robots : Bool) (above : List Noted) (at : AddressText) → list_any (is_page_of at) above ≡ false → lookup (bytes_eq at) (answers_of (map (note_entry robots) above)) ≡ None
-no_answer robots [] at h = refl
-no_answer robots (Page other told ∷ above) at h =
+no_answer : (links : LinkRules) (above : List Noted) (at : AddressText) → list_any (is_page_of at) above ≡ false → lookup (bytes_eq at) (answers_of (map (note_entry links) above)) ≡ None
+no_answer links [] at h = refl
+no_answer links (Page other told ∷ above) at h =
     let (here, more) = or_parts (bytes_eq other at) (list_any (is_page_of at) above) h in
-    rw (other_way other at here) (no_answer robots above at more)
-no_answer robots (Chain c ∷ above) at h = no_answer robots above at h
+    rw (other_way other at here) (no_answer links above at more)
+no_answer links (Chain c ∷ above) at h = no_answer links above at h
 
-no_rules : (robots : Bool) (above : List Noted) (of : OriginText) → list_any (is_chain_of of) above ≡ false → lookup (bytes_eq of) (rules_of (map (note_entry robots) above)) ≡ None
-no_rules robots [] of h = refl
-no_rules robots (Page at told ∷ above) of h = no_rules robots above of h
-no_rules robots (Chain c ∷ above) of h =
+no_rules : (links : LinkRules) (above : List Noted) (of : OriginText) → list_any (is_chain_of of) above ≡ false → lookup (bytes_eq of) (rules_of (map (note_entry links) above)) ≡ None
+no_rules links [] of h = refl
+no_rules links (Page at told ∷ above) of h = no_rules links above of h
+no_rules links (Chain c ∷ above) of h =
     let (here, more) = or_parts (bytes_eq c.of of) (list_any (is_chain_of of) above) h in
-    rw (other_way c.of of here) (no_rules robots above of more)
+    rw (other_way c.of of here) (no_rules links above of more)
 
-new_entry : (robots : Bool) (above : List Noted) (n : Noted) → is_repeated above n ≡ false
-    → IsNew (answers_of (map (note_entry robots) above)) (rules_of (map (note_entry robots) above)) (note_entry robots n)
-new_entry robots above (Page at told) h = no_answer robots above at h
-new_entry robots above (Chain c) h = no_rules robots above c.of h
+new_entry : (links : LinkRules) (above : List Noted) (n : Noted) → is_repeated above n ≡ false
+    → IsNew (answers_of (map (note_entry links) above)) (rules_of (map (note_entry links) above)) (note_entry links n)
+new_entry links above (Page at told) h = no_answer links above at h
+new_entry links above (Chain c) h = no_rules links above c.of h
 
 -- ---- the notes of a record
 
 abbrev pub AreShort : List Noted → Type 0
 AreShort notes = All (λ n. has_short_heads n ≡ true) notes
 
--- what is written of notes are their entries, behind others
-pub notes_follow : (robots : Bool) (text : List ℕ) (above notes : List Noted) (rest : List ℕ) → All IsNote notes → AreShort notes → AreFresh above notes
-    → IsFront Second robots text (map (note_entry robots) above) (flat_map note_text notes ++ rest) → IsFront Second robots text (map (note_entry robots) (above ++ notes)) rest
-notes_follow robots text above [] rest are short fresh front = subst (λ l. IsFront Second robots text (map (note_entry robots) l) rest) (sym (append-nil above)) front
-notes_follow robots text above (n ∷ notes) rest are short fresh front =
+-- what is written of notes are their entries, after others
+pub notes_follow : (links : LinkRules) (text : List ℕ) (above notes : List Noted) (rest : List ℕ) → All IsNote notes → AreShort notes → AreFresh above notes
+    → IsFront Second links text (map (note_entry links) above) (flat_map note_text notes ++ rest) → IsFront Second links text (map (note_entry links) (above ++ notes)) rest
+notes_follow links text above [] rest are short fresh front = subst (λ l. IsFront Second links text (map (note_entry links) l) rest) (sym (append-nil above)) front
+notes_follow links text above (n ∷ notes) rest are short fresh front =
     let behind = flat_map note_text notes ++ rest in
-    let begins = subst (λ t. IsFront Second robots text (map (note_entry robots) above) t) (append_assoc (note_text n) (flat_map note_text notes) rest) front in
-    let is = note_is_entry robots n behind (All-head IsNote n notes are) (All-head (λ n. has_short_heads n ≡ true) n notes short) in
-    let longer = next (map (note_entry robots) above) (note_text n ++ behind) (note_entry robots n) behind begins is (new_entry robots above n fresh.0) in
-    let pushed = subst (λ l. IsFront Second robots text l behind) (sym (map-append (note_entry robots) above (n ∷ []))) longer in
-    subst (λ l. IsFront Second robots text (map (note_entry robots) l) rest) (append_assoc above (n ∷ []) notes)
-    (notes_follow robots text (above ++ n ∷ []) notes rest (All-tail IsNote n notes are) (All-tail (λ n. has_short_heads n ≡ true) n notes short) fresh.1 pushed)
+    let begins = subst (λ t. IsFront Second links text (map (note_entry links) above) t) (append_assoc (note_text n) (flat_map note_text notes) rest) front in
+    let is = note_is_entry links n behind (All-head IsNote n notes are) (All-head (λ n. has_short_heads n ≡ true) n notes short) in
+    let longer = next (map (note_entry links) above) (note_text n ++ behind) (note_entry links n) behind begins is (new_entry links above n fresh.0) in
+    let pushed = subst (λ l. IsFront Second links text l behind) (sym (map-append (note_entry links) above (n ∷ []))) longer in
+    subst (λ l. IsFront Second links text (map (note_entry links) l) rest) (append_assoc above (n ∷ []) notes)
+    (notes_follow links text (above ++ n ∷ []) notes rest (All-tail IsNote n notes are) (All-tail (λ n. has_short_heads n ≡ true) n notes short) fresh.1 pushed)
 
 -- what is written is a record of just the notes that it is written of
-pub written_record_reads_back : (robots : Bool) (notes : List Noted) → All IsNote (written_notes notes) → IsRecord robots (record_text notes) (record_entries robots notes)
-written_record_reads_back robots notes are =
+pub written_record_reads_back : (links : LinkRules) (notes : List Noted) → All IsNote (written_notes notes) → IsRecord links (record_text notes) (record_entries links notes)
+written_record_reads_back links notes are =
     let text = flat_map note_text (written_notes notes) in
     record {
       version = Second;
       text = text;
       begins = refl;
-      all = notes_follow robots text [] (written_notes notes) [] are (filter_passes has_short_heads (firsts_behind [] notes)) (firsts_fresh [] [] notes (λ x h. h))
-          (subst (λ t. IsFront Second robots text [] t) (sym (append-nil text)) none);
+      all = notes_follow links text [] (written_notes notes) [] are (filter_passes has_short_heads (firsts_behind [] notes)) (firsts_fresh [] [] notes (λ x h. h))
+          (subst (λ t. IsFront Second links text [] t) (sym (append-nil text)) none);
     }
 
 -- the notes that are written have short heads, and none repeats another

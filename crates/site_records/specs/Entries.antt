@@ -1,5 +1,5 @@
--- What one entry of a record states: its line, and the bytes behind it (RFC 9112, section 2; RFC 9309, section 2.3).
-use Rattle.std.specs.Prelude.{◌≡◌, ◌≢◌, ◌<◌, ⊤, ℕ, ◌+◌, ◌++◌, length, Option, ◌⊎◌, ◌==◌, Bool, false, true, List, [], ◌∷◌, Some, IsSome, None, take, drop, slice_get, codes}
+-- What one entry of a record states: its line, and the bytes after it (RFC 9112, section 2; RFC 9309, section 2.3).
+use Rattle.std.specs.Prelude.{◌≡◌, ◌≢◌, ◌<◌, ⊤, ℕ, ◌+◌, ◌++◌, length, Option, ◌⊎◌, ◌==◌, false, true, List, [], ◌∷◌, Some, IsSome, None, take, drop, slice_get, codes}
 use Rattle.std.specs.List.{position}
 use Rattle.std.specs.Map.{lookup}
 use Rattle.std.specs.Str.{bytes_eq}
@@ -24,6 +24,7 @@ use Rattle.answer_notes.specs.declared.told.Told.TheVariants as told
 use Rattle.site_records.specs.declared.version.Version.{Version}
 use Rattle.site_inputs.specs.Names.{recorded as named, IsRecorded as IsNamed}
 use Rattle.site_records.specs.EntryLines.{Statement, page, fault, file, free, closed, chain, HasForm, text_of, HopStatement, hop, hopfault, HasHopForm, hop_text}
+use Rattle.html_links.specs.declared.rules.LinkRules.{LinkRules}
 
 -- what an entry states
 pub data Entry : Type 0 where
@@ -31,7 +32,7 @@ pub data Entry : Type 0 where
   answered : AddressText → Answer BodyValue → Entry
   -- the origin has these rules
   ruled : OriginText → RuleSetValue → Entry
-  -- the robots file of the origin, and the redirects behind it, have these answers
+  -- the robots file of the origin, and the redirects after it, have these answers
   chained : OriginText → List HopValue → Entry
 
 -- how many lines an entry has: its own, and one for each hop
@@ -47,10 +48,10 @@ abbrev pub no_response : FaultKind → Answer BodyValue
 no_response kind = record { outcome = Fault kind; body = no_body }
 
 -- the bytes begin with a response, and the answer is its digest
-pub record IsDigest (robots : Bool) (at : AddressText) (bytes : List ℕ) (a : Answer BodyValue) : Type 0 where
+pub record IsDigest (links : LinkRules) (at : AddressText) (bytes : List ℕ) (a : Answer BodyValue) : Type 0 where
   pub response : ResponseParts
   pub begins : BeginsWithResponse response bytes
-  pub outcome : a.outcome ≡ digest_of robots at response
+  pub outcome : a.outcome ≡ digest_of links at response
   pub body : a.body ≡ body_of response.head response.body
 
 -- the bytes have a fault for which no response is read of them, and the answer is this fault
@@ -63,19 +64,19 @@ pub record IsRefusal (bytes : List ℕ) (a : Answer BodyValue) : Type 0 where
   pub answer : a ≡ no_response kind
 
 -- what bytes answer as the response for an address
-abbrev pub IsReadAs : Bool → AddressText → List ℕ → Answer BodyValue → Type 0
-IsReadAs robots at bytes a = IsDigest robots at bytes a ⊎ IsRefusal bytes a
+abbrev pub IsReadAs : LinkRules → AddressText → List ℕ → Answer BodyValue → Type 0
+IsReadAs links at bytes a = IsDigest links at bytes a ⊎ IsRefusal bytes a
 
 -- ---- the text of an entry
 
--- the text has a first line, and this stands behind its line feed
+-- the text has a first line, and this follows its line feed
 pub record IsLine (text line behind : List ℕ) : Type 0 where
   pub place : ℕ
   pub first : position (λ b. b == 10) text ≡ Some place
   pub line_is : line ≡ take place text
   pub behind_is : behind ≡ drop (place + 1) text
 
--- the text begins with so many bytes and a line feed, and this stands behind it
+-- the text begins with this many bytes and a line feed, and this follows it
 pub record HasBytes (text : List ℕ) (n : ℕ) (bytes after : List ℕ) : Type 0 where
   pub ends : slice_get text n ≡ Some 10
   pub bytes_are : bytes ≡ take n text
@@ -83,12 +84,12 @@ pub record HasBytes (text : List ℕ) (n : ℕ) (bytes after : List ℕ) : Type 
 
 -- ---- the hops of a chain
 
--- what bytes tell as the response for a hop: a response that they begin with, or the fault for which none is read of them
+-- what bytes contain as the response for a hop: a response that they begin with, or the fault by which none is read
 abbrev pub IsToldIn : List ℕ → Told → Type 0
 IsToldIn bytes (told.Whole response) = BeginsWithResponse response bytes
 IsToldIn bytes (told.Fault kind) = (f : ReadFault) × IsTextFault f × IsReadFault standard f bytes × (kind_of_fault f ≡ Some kind)
 
--- a line that says this of a hop and what is behind it tell this, and after follows
+-- a line that says this of a hop and what follows it contain this, and then `after` follows
 abbrev pub TellsHop : HopStatement → List ℕ → Told → List ℕ → Type 0
 TellsHop (hop text n) behind said after = (bytes : List ℕ) × HasBytes behind n bytes after × IsToldIn bytes said
 TellsHop (hopfault kind text) behind said after = (after ≡ behind) × (said ≡ told.Fault kind)
@@ -110,7 +111,7 @@ pub data AreHopsOf (text : List ℕ) : List HopValue → List ℕ → Type 0 whe
   more_hops : (hops : List HopValue) (rest : List ℕ) (h : HopValue) (after : List ℕ) → AreHopsOf text hops rest → IsHop rest h after
       → AreHopsOf text (hops ++ h ∷ []) after
 
--- where a chain leads from this address on: behind its last hop to where this redirects
+-- where a chain leads from this address on: after its last hop, the target of its redirect
 abbrev pub due : Option AddressText → List HopValue → Option AddressText
 due from [] = from
 due from (h ∷ hops) = due (target_told h.0 h.1) hops
@@ -124,23 +125,23 @@ AreLed from (h ∷ hops) = (from ≡ Some h.0) × AreLed (target_told h.0 h.1) h
 abbrev pub chain_start : OriginText → Option AddressText
 chain_start of = Some (robots_file of)
 
--- so many hops of an origin's chain stand there, each where the chain leads, and after follows
+-- this many hops of an origin's chain are there, each where the chain leads, and `after` follows
 pub record IsBegun (of : OriginText) (text : List ℕ) (hops : List HopValue) (after : List ℕ) : Type 0 where
   pub are : AreHopsOf text hops after
   pub led : AreLed (chain_start of) hops
 
 -- ---- what a line states
 
--- a line that says this and what is behind it state the entry, and after follows
-abbrev pub States : Bool → Statement → List ℕ → Entry → List ℕ → Type 0
-States robots (page text n) behind e after =
-    (bytes : List ℕ) × (a : Answer BodyValue) × HasBytes behind n bytes after × IsReadAs robots (named text) bytes a × (e ≡ answered (named text) a)
-States robots (fault kind text) behind e after = (after ≡ behind) × (e ≡ answered (named text) (no_response kind))
-States robots (file text n) behind e after =
+-- a line that says this and what follows it state the entry, and then `after` follows
+abbrev pub States : LinkRules → Statement → List ℕ → Entry → List ℕ → Type 0
+States links (page text n) behind e after =
+    (bytes : List ℕ) × (a : Answer BodyValue) × HasBytes behind n bytes after × IsReadAs links (named text) bytes a × (e ≡ answered (named text) a)
+States links (fault kind text) behind e after = (after ≡ behind) × (e ≡ answered (named text) (no_response kind))
+States links (file text n) behind e after =
     (bytes : List ℕ) × HasBytes behind n bytes after × (e ≡ ruled (origin_of (named text)) (rules_in bytes))
-States robots (free text) behind e after = (after ≡ behind) × (e ≡ ruled (origin_of (named text)) (record { closed = false; rules = [] }))
-States robots (closed text) behind e after = (after ≡ behind) × (e ≡ ruled (origin_of (named text)) (record { closed = true; rules = [] }))
-States robots (chain text n) behind e after =
+States links (free text) behind e after = (after ≡ behind) × (e ≡ ruled (origin_of (named text)) (record { closed = false; rules = [] }))
+States links (closed text) behind e after = (after ≡ behind) × (e ≡ ruled (origin_of (named text)) (record { closed = true; rules = [] }))
+States links (chain text n) behind e after =
     (hops : List HopValue) × AreHopsOf behind hops after × (length hops ≡ n) × IsAdmitted (origin_of (named text)) hops × (e ≡ chained (origin_of (named text)) hops)
 
 -- the address of rules is its origin's `/`, without a query
@@ -150,7 +151,7 @@ IsAtRoot (fault kind text) = Unit {0}
 IsAtRoot s = path_query_of (named (text_of s)) ≡ codes "/"
 
 -- the text begins with an entry of this version that states this, and after follows
-pub record IsEntry (version : Version) (robots : Bool) (text : List ℕ) (e : Entry) (after : List ℕ) : Type 0 where
+pub record IsEntry (version : Version) (links : LinkRules) (text : List ℕ) (e : Entry) (after : List ℕ) : Type 0 where
   pub line : List ℕ
   pub behind : List ℕ
   pub says : Statement
@@ -158,7 +159,7 @@ pub record IsEntry (version : Version) (robots : Bool) (text : List ℕ) (e : En
   pub form : HasForm version line says
   pub is_named : IsNamed (text_of says)
   pub at_root : IsAtRoot says
-  pub states : States robots says behind e after
+  pub states : States links says behind e after
 
 -- ---- what is stated once more
 
@@ -176,13 +177,13 @@ IsRepeated answers rules s = IsSome (lookup (bytes_eq (origin_of (named (text_of
 
 -- ---- what is wrong with an entry
 
--- the bytes that a line counts are there, and a line feed behind them
+-- the bytes that a line counts are there, and a line feed after them
 abbrev pub HasItsBytes : Statement → List ℕ → Type 0
 HasItsBytes (page text n) behind = slice_get behind n ≡ Some 10
 HasItsBytes (file text n) behind = slice_get behind n ≡ Some 10
 HasItsBytes s behind = Unit {0}
 
--- the text begins with a line of this version that says this, and behind follows
+-- the text begins with a line of this version that says this, and `behind` follows
 pub record Begins (version : Version) (text : List ℕ) (s : Statement) (behind : List ℕ) : Type 0 where
   pub line : List ℕ
   pub is_line : IsLine text line behind
@@ -205,18 +206,18 @@ IsMisplaced answers rules s behind = ¬ IsAtRoot s ⊎ (IsRepeated answers rules
 
 -- ---- what is wrong with a hop
 
--- the text begins with a line that says this of a hop, and behind follows
+-- the text begins with a line that says this of a hop, and `behind` follows
 pub record BeginsHop (text : List ℕ) (s : HopStatement) (behind : List ℕ) : Type 0 where
   pub line : List ℕ
   pub is_line : IsLine text line behind
   pub form : HasHopForm line s
 
--- the bytes that a hop's line counts are there, and a line feed behind them
+-- the bytes that a hop's line counts are there, and a line feed after them
 abbrev pub HasHopBytes : HopStatement → List ℕ → Type 0
 HasHopBytes (hop text n) behind = slice_get behind n ≡ Some 10
 HasHopBytes (hopfault kind text) behind = ⊤
 
--- where a chain leads to this address, the text begins with no hop's line, or with one of another address or whose bytes aren't there
+-- if a chain leads to this address, the text begins with no hop's line, or with one of another address or whose bytes aren't there
 abbrev pub IsBadHopLine : Option AddressText → List ℕ → Type 0
 IsBadHopLine lead text =
     ((s : HopStatement) (behind : List ℕ) → ¬ BeginsHop text s behind)
@@ -226,7 +227,7 @@ IsBadHopLine lead text =
 abbrev pub IsBadHopAddress : List ℕ → Type 0
 IsBadHopAddress text = (s : HopStatement) × (behind : List ℕ) × BeginsHop text s behind × ¬ IsNamed (hop_text s)
 
--- of so many hops of an origin's chain those in front of this place are good, and what follows is bad so where the chain leads
+-- of this many hops of an origin's chain those before this place are good, and what follows is bad like this where the chain leads
 abbrev pub IsBadRow : OriginText → ℕ → List ℕ → ℕ → (Option AddressText → List ℕ → Type 0) → Type 0
 IsBadRow of n behind k IsBad =
     (hops : List HopValue) × (rest : List ℕ) × IsBegun of behind hops rest

@@ -10,7 +10,7 @@ use Rattle.answer_notes.specs.RobotsAnswers.{max_redirects}
 use Rattle.site_records.specs.declared.version.Version.{Version}
 use Rattle.site_records.specs.declared.version.Version.TheVariants.{First, Second}
 
--- what a line may say; an address is the text that stands there
+-- what a line may say; an address is its text
 pub data Statement : Type 0 where
   -- the response of this address has this many bytes
   page : List ℕ → ℕ → Statement
@@ -22,7 +22,7 @@ pub data Statement : Type 0 where
   free : List ℕ → Statement
   -- nothing is allowed there
   closed : List ℕ → Statement
-  -- the robots file of the address's origin was asked for, and so many hops follow: the file's answer, and one for each redirect that was followed
+  -- the robots file of the address's origin was requested, and this many hops follow: the file's answer, and one for each redirect followed
   chain : List ℕ → ℕ → Statement
 
 -- one or more decimal digits
@@ -78,7 +78,7 @@ text_of (chain text n) = text
 
 -- ---- the lines of hops
 
--- what the line of a hop may say; an address is the text that stands there
+-- what the line of a hop may say; an address is its text
 pub data HopStatement : Type 0 where
   -- the response of this address has this many bytes
   hop : List ℕ → ℕ → HopStatement

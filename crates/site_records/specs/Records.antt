@@ -1,5 +1,5 @@
 -- What the bytes of a record say together, and the first fault.
-use Rattle.std.specs.Prelude.{◌≡◌, ◌≢◌, ℕ, ◌+◌, ◌⊎◌, Bool, Option, Some, None, List, [], ◌∷◌, ◌++◌, unwrap_or, codes}
+use Rattle.std.specs.Prelude.{◌≡◌, ◌≢◌, ℕ, ◌+◌, ◌⊎◌, Option, Some, None, List, [], ◌∷◌, ◌++◌, unwrap_or, codes}
 use Rattle.std.specs.Map.{lookup}
 use Rattle.std.specs.Str.{bytes_eq}
 use Rattle.kept_bodies.specs.Bodies.{BodyValue, no_body}
@@ -16,6 +16,7 @@ use Rattle.answer_notes.specs.HopChains.{rules_of_hops}
 use Rattle.site_records.specs.declared.version.Version.{Version}
 use Rattle.site_records.specs.declared.version.Version.TheVariants.{First, Second}
 use Rattle.site_records.specs.Entries.{Entry, answered, ruled, chained, lines_of, IsEntry, IsNew, IsBadLine, IsBadAddress, IsFormed}
+use Rattle.html_links.specs.declared.rules.LinkRules.{LinkRules}
 
 -- ---- what is stated
 
@@ -66,17 +67,17 @@ version_line First = codes "wgetr-record 1" ++ 10 ∷ []
 version_line Second = codes "wgetr-record 2" ++ 10 ∷ []
 
 -- the text is these entries, each about an address or an origin that those before it don't name, and then a rest
-pub data IsFront (version : Version) (robots : Bool) (text : List ℕ) : List Entry → List ℕ → Type 0 where
-  none : IsFront version robots text [] text
-  next : (said : List Entry) (rest : List ℕ) (e : Entry) (after : List ℕ) → IsFront version robots text said rest
-      → IsEntry version robots rest e after → IsNew (answers_of said) (rules_of said) e → IsFront version robots text (said ++ e ∷ []) after
+pub data IsFront (version : Version) (links : LinkRules) (text : List ℕ) : List Entry → List ℕ → Type 0 where
+  none : IsFront version links text [] text
+  next : (said : List Entry) (rest : List ℕ) (e : Entry) (after : List ℕ) → IsFront version links text said rest
+      → IsEntry version links rest e after → IsNew (answers_of said) (rules_of said) e → IsFront version links text (said ++ e ∷ []) after
 
--- the bytes are a record of these entries: the first line of a version, and nothing but its entries behind it
-pub record IsRecord (robots : Bool) (bytes : List ℕ) (said : List Entry) : Type 0 where
+-- the bytes are a record of these entries: the first line of a version, and nothing but its entries after it
+pub record IsRecord (links : LinkRules) (bytes : List ℕ) (said : List Entry) : Type 0 where
   pub version : Version
   pub text : List ℕ
   pub begins : bytes ≡ version_line version ++ text
-  pub all : IsFront version robots text said []
+  pub all : IsFront version links text said []
 
 -- ---- the first fault
 
@@ -85,19 +86,19 @@ abbrev pub line_count : List Entry → ℕ
 line_count [] = 0
 line_count (e ∷ more) = lines_of e + line_count more
 
--- how many lines behind its own line the bad line of an entry stands: none, or that of the hop at this place
+-- how many lines the bad line of an entry is after its own line: none, or that of the hop at this place
 abbrev pub lines_ahead : Option ℕ → ℕ
 lines_ahead None = 0
 lines_ahead (Some k) = k + 1
 
--- behind the good entries above it an entry is bad so, in its own line or in a hop, and this is the number of that line
-pub record FirstBad (robots : Bool) (bytes : List ℕ) (number : ℕ) (IsBad : Version → List (AddressText × Answer BodyValue) → List (OriginText × RuleSetValue) → Option ℕ → List ℕ → Type 0) : Type 0 where
+-- after the good entries above it an entry is bad like this, in its own line or in a hop, and this is the number of that line
+pub record FirstBad (links : LinkRules) (bytes : List ℕ) (number : ℕ) (IsBad : Version → List (AddressText × Answer BodyValue) → List (OriginText × RuleSetValue) → Option ℕ → List ℕ → Type 0) : Type 0 where
   pub version : Version
   pub text : List ℕ
   pub begins : bytes ≡ version_line version ++ text
   pub above : List Entry
   pub rest : List ℕ
-  pub front : IsFront version robots text above rest
+  pub front : IsFront version links text above rest
   pub more : rest ≢ []
   pub place : Option ℕ
   pub count : number ≡ line_count above + 2 + lines_ahead place
@@ -107,8 +108,8 @@ pub record FirstBad (robots : Bool) (bytes : List ℕ) (number : ℕ) (IsBad : V
 abbrev pub HasVersion : List ℕ → Type 0
 HasVersion bytes = (version : Version) × (text : List ℕ) × (bytes ≡ version_line version ++ text)
 
--- what a fault says of the bytes: the first line, or a line of the first entry that is bad; memory may run out over an entry whose line has its form, or behind the last entry
-abbrev pub IsFault : Bool → List ℕ → InputFault → Type 0
-IsFault robots bytes (Line n) = ((n ≡ 1) × ¬ HasVersion bytes) ⊎ FirstBad robots bytes n IsBadLine
-IsFault robots bytes (Address n) = FirstBad robots bytes n IsBadAddress
-IsFault robots bytes Memory = ((n : ℕ) × FirstBad robots bytes n (λ version _ _ _ rest. IsFormed version rest)) ⊎ ((said : List Entry) × IsRecord robots bytes said)
+-- what a fault says of the bytes: the first line, or a line of the first entry that is bad; memory may run out in an entry whose line has its form, or after the last entry
+abbrev pub IsFault : LinkRules → List ℕ → InputFault → Type 0
+IsFault links bytes (Line n) = ((n ≡ 1) × ¬ HasVersion bytes) ⊎ FirstBad links bytes n IsBadLine
+IsFault links bytes (Address n) = FirstBad links bytes n IsBadAddress
+IsFault links bytes Memory = ((n : ℕ) × FirstBad links bytes n (λ version _ _ _ rest. IsFormed version rest)) ⊎ ((said : List Entry) × IsRecord links bytes said)

@@ -14,12 +14,13 @@ use Rattle.answer_notes.specs.declared.told.Told.TheVariants.{Whole, Fault}
 use Rattle.answer_notes.specs.declared.noted.Noted.{Noted}
 use Rattle.answer_notes.specs.declared.noted.Noted.TheVariants.{Page, Chain}
 use Rattle.site_records.specs.Entries.{Entry, answered, chained}
+use Rattle.html_links.specs.declared.rules.LinkRules.{LinkRules}
 
 -- a line of three fields
 abbrev pub line_of_three : List ℕ → List ℕ → List ℕ → List ℕ
 line_of_three a b c = a ++ (32 ∷ (b ++ (32 ∷ c)))
 
--- a line with bytes behind it
+-- a line with bytes after it
 abbrev pub counted_entry : List ℕ → AddressText → List ℕ → List ℕ
 counted_entry word at bytes = line_of_three word at (decimal (length bytes)) ++ (10 ∷ (bytes ++ (10 ∷ [])))
 
@@ -31,7 +32,7 @@ worded_entry word kind at = line_of_three word (word_of kind) at ++ (10 ∷ [])
 abbrev pub chain_line : OriginText → ℕ → List ℕ
 chain_line of n = line_of_three (codes "chain") (of ++ codes "/") (decimal n) ++ (10 ∷ [])
 
--- ---- what was told of an address
+-- ---- what was received for an address
 
 -- the head that is written of it: that of a response
 abbrev pub told_head : Told → List ℕ
@@ -63,14 +64,14 @@ abbrev pub has_short_heads : Noted → Bool
 has_short_heads (Page at told) = is_short told
 has_short_heads (Chain c) = list_all (λ (h : HopValue). is_short h.1) c.hops
 
--- the text of a note that is left out where a head of it is too long
+-- the text of a note, which is left out if a head of it is too long
 abbrev pub written_note : Noted → List ℕ
 written_note note = if has_short_heads note then note_text note else []
 
 -- the entry that a note is
-abbrev pub note_entry : Bool → Noted → Entry
-note_entry robots (Page at told) = answered at (record { outcome = outcome_told robots at told; body = body_told told })
-note_entry robots (Chain c) = chained c.of c.hops
+abbrev pub note_entry : LinkRules → Noted → Entry
+note_entry links (Page at told) = answered at (record { outcome = outcome_told links at told; body = body_told told })
+note_entry links (Chain c) = chained c.of c.hops
 
 -- ---- what notes are made of
 

@@ -9,6 +9,7 @@ use Rattle.site_records.specs.declared.version.Version.TheVariants.{Second}
 use Rattle.site_records.specs.Entries.{Entry}
 use Rattle.site_records.specs.Records.{version_line}
 use Rattle.site_records.specs.WrittenEntries.{note_text, has_short_heads, note_entry}
+use Rattle.html_links.specs.declared.rules.LinkRules.{LinkRules}
 
 -- the note is of this address
 abbrev pub is_page_of : AddressText → Noted → Bool
@@ -25,7 +26,7 @@ abbrev pub is_repeated : List Noted → Noted → Bool
 is_repeated above (Page at told) = list_any (is_page_of at) above
 is_repeated above (Chain c) = list_any (is_chain_of c.of) above
 
--- those notes that none before them repeat, behind others
+-- those notes that none before them repeat, after others
 abbrev pub firsts_behind : List Noted → List Noted → List Noted
 firsts_behind above [] = []
 firsts_behind above (note ∷ notes) = (if is_repeated above note then [] else note ∷ []) ++ firsts_behind (above ++ note ∷ []) notes
@@ -39,8 +40,8 @@ abbrev pub record_text : List Noted → List ℕ
 record_text notes = version_line Second ++ flat_map note_text (written_notes notes)
 
 -- the entries that it is read as
-abbrev pub record_entries : Bool → List Noted → List Entry
-record_entries robots notes = map (note_entry robots) (written_notes notes)
+abbrev pub record_entries : LinkRules → List Noted → List Entry
+record_entries links notes = map (note_entry links) (written_notes notes)
 
 -- notes in several parts, in their order
 abbrev pub all_noted : List (Bor (List Noted)) → List Noted

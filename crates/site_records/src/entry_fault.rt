@@ -7,7 +7,7 @@ use std::alloc::{AllocError, AllocFailed};
 pub(crate) enum EntryFault {
     /// This, in its own line.
     Own(InputLineFault),
-    /// This, in the line of the hop that stands behind so many others of its chain.
+    /// This, in the line of the hop that has this many others of its chain before it.
     Hop(usize, InputLineFault),
 }
 

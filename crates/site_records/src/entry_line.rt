@@ -27,12 +27,12 @@ pub(crate) enum EntryLine<'a> {
     Free(&'a str),
     /// Nothing is allowed there.
     Closed(&'a str),
-    /// The robots file of the address's origin was asked for, and so many hops follow.
+    /// The robots file of the address's origin was requested, and this many hops follow.
     Chain(&'a str, usize),
 }
 
 impl<'a> EntryLine<'a> {
-    /// What a line says, or none where it has no form.
+    /// What a line says, or none if it has no form.
     pub(crate) fn of(line: &'a str) -> Option<EntryLine<'a>>
         ensures { MatchOption result ((s : Statement) → ¬ IsForm (fields line.now) s) (λ s. IsForm (fields line.now) (said s)) }
     {
@@ -126,7 +126,7 @@ fn is_length(text: &str) -> bool
     !digits.is_empty() && all_digits(digits) && (digits[0] != b'0' || digits.len() == 1)
 }
 
-// The number that decimal digits without leading zeros write, or the greatest number where it is
+// The number that decimal digits without leading zeros write, or the greatest number if it is
 // greater.
 pub(crate) fn length_of(text: &str) -> Option<usize>
     ensures { result ≡ length_of text.now }

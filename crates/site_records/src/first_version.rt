@@ -1,4 +1,4 @@
-//! The chains that stand in notes for what version 1 says of an origin's robots file: one hop each, with the same rules.
+//! The chains that notes have for what version 1 says of an origin's robots file: one hop each, with the same rules.
 ghost use Rattle.std.specs.Prelude.{◌≡◌, ◌≤◌, ◌||◌, ◌==◌, ◌++◌, [], false, length, None, IfOk, if◌then◌else◌, take};
 ghost use Rattle.robots_rules.specs.Groups.{rules_in};
 ghost use Rattle.response_reader.specs.Response.{CanBeGiven};
@@ -16,7 +16,7 @@ use std::alloc::{AllocError, Global};
 /// (RFC 9309, section 2.5).
 const KEPT_FILE: usize = 512_001;
 
-// The chain of one answer for an origin's robots file, which redirects nowhere. The error is want of memory.
+// The chain of one answer for an origin's robots file, without a redirect. Fails only if memory runs out.
 fn chain_of(alloc: Global, of: &Origin, told: Told) -> Result<Hops, AllocError>
     requires { target_told (robots_file of.now) told ≡ None }
     ensures of { IfOk result (λ hops. hops.of ≡ of.now) }
@@ -27,7 +27,7 @@ fn chain_of(alloc: Global, of: &Origin, told: Told) -> Result<Hops, AllocError>
     Ok(Hops::new(of.try_clone()?, hops))
 }
 
-/// The chain whose answer is a robots file. The error is want of memory.
+/// The chain whose answer is a robots file. Fails only if memory runs out.
 pub(crate) fn file_chain(alloc: Global, of: &Origin, file: &[u8]) -> Result<Hops, AllocError>
     ensures of { IfOk result (λ hops. hops.of ≡ of.now) }
     ensures rules { IfOk result (λ hops. rules_of_hops hops.hops ≡ rules_in file.now) }
@@ -45,8 +45,8 @@ pub(crate) fn file_chain(alloc: Global, of: &Origin, file: &[u8]) -> Result<Hops
     chain_of(alloc, of, Told::Whole(Given::new(response)))
 }
 
-/// The chain by which everything is allowed, as there is no robots file (RFC 9309, section 2.3.1.3), or by which nothing is, as the
-/// file isn't to be had (section 2.3.1.4). The error is want of memory.
+/// The chain that allows everything because there is no robots file (RFC 9309, section 2.3.1.3), or nothing because the file
+/// isn't available (section 2.3.1.4). Fails only if memory runs out.
 pub(crate) fn bare_chain(alloc: Global, of: &Origin, allowed: bool) -> Result<Hops, AllocError>
     ensures of { IfOk result (λ hops. hops.of ≡ of.now) }
     ensures rules { IfOk result (λ hops. rules_of_hops hops.hops ≡ (if allowed then all_allowed else none_allowed)) }

@@ -17,7 +17,7 @@ pub(crate) enum HopLine<'a> {
 }
 
 impl<'a> HopLine<'a> {
-    /// What a line says of a hop, or none where it has no such form.
+    /// What a line says of a hop, or none if it has no such form.
     pub(crate) fn of(line: &'a str) -> Option<HopLine<'a>>
         ensures { MatchOption result ((s : HopStatement) → ¬ IsHopForm (fields line.now) s) (λ s. IsHopForm (fields line.now) (said_hop s)) }
     {

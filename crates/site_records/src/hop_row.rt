@@ -1,4 +1,4 @@
-//! The hops of a chain, as a record tells them (RFC 9309, section 2.3.1.2).
+//! The hops of a chain, as a record lists them (RFC 9309, section 2.3.1.2).
 ghost use Rattle.std.specs.Prelude.{◌≡◌, ◌≤◌, ℕ, List, Some, IfOk, MatchResult, length};
 ghost use Rattle.answer_notes.specs.HopChains.{IsAdmitted};
 ghost use Rattle.site_records.specs.EntryLines.{IsHopCount};
@@ -17,7 +17,7 @@ use response_reader::{SliceWire, read_response};
 use site_inputs::{InputLineFault, read_recorded};
 use std::alloc::{AllocError, Global};
 
-// What these bytes tell as a response.
+// What these bytes contain as a response.
 pub(crate) fn told_of(alloc: Global, bytes: &[u8]) -> Result<Told, AllocError>
     ensures { IfOk result (IsToldIn bytes.now) }
 {
@@ -31,7 +31,7 @@ pub(crate) fn told_of(alloc: Global, bytes: &[u8]) -> Result<Told, AllocError>
     }
 }
 
-// The address that a text names, where a chain leads there.
+// The address that a text names, if a chain leads there.
 fn read_due(alloc: Global, next: &Option<Address>, text: &str) -> Result<Address, InputLineFault>
     ensures { NamesDue next.now text.now result }
 {
@@ -45,7 +45,7 @@ fn read_due(alloc: Global, next: &Option<Address>, text: &str) -> Result<Address
     Ok(at)
 }
 
-// Takes the line of a hop, with what is behind it, where a chain leads to its address.
+// Takes the line of a hop, with what follows it, if a chain leads to its address.
 fn take_hop<'a>(
     alloc: Global,
     next: &Option<Address>,
@@ -70,7 +70,7 @@ fn take_hop<'a>(
     }
 }
 
-// Takes the hop that a text begins with, where a chain leads to its address.
+// Takes the hop that a text begins with, if a chain leads to its address.
 fn read_hop<'a>(
     alloc: Global,
     next: &Option<Address>,
@@ -87,7 +87,7 @@ fn read_hop<'a>(
     take_hop(alloc, next, line, behind)
 }
 
-/// So many hops, where the chain leads behind them, and what follows them in the text.
+/// This many hops, where the chain leads after them, and what follows them in the text.
 #[derive(Drop)]
 struct Row<'a> {
     hops: Vec<(Address, Told)>,

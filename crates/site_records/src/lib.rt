@@ -1,6 +1,6 @@
 //! Records of responses: reads one as a site, which answers what was recorded, and writes one of what
 //! was noted. This crate knows the format of records and nothing of connections; what a response
-//! answers is `response_answer`'s. The meaning is written in `specs/`. Its tests stand in `site_tests`.
+//! answers is `response_answer`'s. The meaning is written in `specs/`. Its tests are in `site_tests`.
 #![tactic(auto)]
 
 mod entry_fault;

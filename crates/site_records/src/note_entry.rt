@@ -33,7 +33,7 @@ fn counted_line(alloc: Global, word: &str, text: &str, count: usize) -> Result<V
     Ok(format!(in alloc; "{word} {text} {count}\n")?.into_bytes())
 }
 
-// The head that is written of what was told, unless it is too long to be read again.
+// The head that is written of what was received, unless it is too long to be read again.
 fn short_head(alloc: Global, told: &Told) -> Result<Option<Vec<u8>>, AllocError>
     ensures { IfOk result (λ head. MatchOption head (is_short told.now ≡ false) (λ h. (h.items ≡ told_head told.now) × (is_short told.now ≡ true))) }
 {
@@ -70,7 +70,7 @@ fn push_whole<'a>(
     pieces.push_lent(b"\n")
 }
 
-// Adds what was told of an address, under the word of a response or that of a fault; nothing where it couldn't be read again.
+// Adds what was received for an address, under the word of a response or of a fault; nothing if it couldn't be read again.
 fn push_told<'a>(
     alloc: Global,
     pieces: &mut Pieces<'a>,
@@ -131,7 +131,7 @@ fn chain_line(alloc: Global, chain: &Hops) -> Result<Vec<u8>, AllocError>
     counted_line(alloc, "chain", root.as_str(), chain.hops().len())
 }
 
-// Adds a chain; nothing where a hop of it couldn't be read again.
+// Adds a chain; nothing if a hop of it couldn't be read again.
 fn push_chain<'a>(alloc: Global, pieces: &mut Pieces<'a>, chain: &'a Hops) -> Result<(), AllocError>
     ensures text { OnOk result (pieces.new ≡ pieces.old ++ written_note (Chain chain.now)) }
     ensures note { OnOk result (has_short_heads (Chain chain.now) ≡ true → IsNote (Chain chain.now)) }
@@ -146,8 +146,8 @@ fn push_chain<'a>(alloc: Global, pieces: &mut Pieces<'a>, chain: &'a Hops) -> Re
     push_hops(alloc, pieces, hops)
 }
 
-/// Adds the entry of a note to a text; nothing where a head of it, written, has more than 65,536 bytes and so couldn't be read
-/// again. Bodies are lent. The error is want of memory; then a front of the entry may have been added.
+/// Adds the entry of a note to a text; nothing if a head of it is written with more than 65,536 bytes and so couldn't be read
+/// again. Bodies are lent. Fails only if memory runs out; then a front of the entry may have been added.
 pub fn push_note<'a>(
     alloc: Global,
     pieces: &mut Pieces<'a>,

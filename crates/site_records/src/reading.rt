@@ -20,6 +20,7 @@ use crate::version::Version;
 use address::{Address, Origin};
 use answer_notes::{Hops, Noted, Told};
 use fetcher::{Answer, Body, FaultKind};
+use html_links::LinkRules;
 use indexmap::IndexMap;
 use site_inputs::{InputLineFault, KeptRules, read_recorded, read_recorded_origin};
 use std::alloc::{AllocError, Global};
@@ -27,7 +28,7 @@ use std::alloc::{AllocError, Global};
 /// What the entries read so far state.
 pub(crate) struct Reading {
     pub(crate) alloc: Global,
-    pub(crate) robots: bool,
+    pub(crate) links: LinkRules,
     pub(crate) version: Version,
     pub(crate) keeps_notes: bool,
     pub(crate) notes: Vec<Noted>,
@@ -35,12 +36,12 @@ pub(crate) struct Reading {
     pub(crate) rules: IndexMap<Origin, KeptRules>,
 }
 
-// By hand: who drops one proves a call, and nothing of what it holds.
+// Written by hand: a user that drops one proves a call, and nothing about its fields.
 impl Drop for Reading {
     fn drop(self) {
         let Reading {
             alloc: _alloc,
-            robots: _robots,
+            links: _links,
             version: _version,
             keeps_notes: _keeps_notes,
             notes: _notes,
@@ -52,8 +53,8 @@ impl Drop for Reading {
 
 impl Reading {
     // Before the first entry.
-    pub(crate) fn new(alloc: Global, robots: bool, version: Version, keeps_notes: bool) -> Self
-        ensures robots { result.robots ≡ robots }
+    pub(crate) fn new(alloc: Global, links: LinkRules, version: Version, keeps_notes: bool) -> Self
+        ensures links { result.links ≡ links }
         ensures version { result.version ≡ version }
         ensures keeps_notes { result.keeps_notes ≡ keeps_notes }
         ensures notes { result.notes.items ≡ [] }
@@ -62,7 +63,7 @@ impl Reading {
     {
         Reading {
             alloc,
-            robots,
+            links,
             version,
             keeps_notes,
             notes: Vec::new(alloc),
@@ -93,7 +94,7 @@ impl Reading {
         Ok(origin)
     }
 
-    // Keeps a note behind the others, where notes are kept. The error is want of memory.
+    // Keeps a note after the others, if notes are kept. Fails only if memory runs out.
     fn note(&mut self, note: Noted) -> Result<(), AllocError>
         ensures kept { self.new ≡ record self.old { notes = self.new.notes } }
         ensures notes { OnOk result (self.new.notes.items ≡ (if self.old.keeps_notes then self.old.notes.items ++ note ∷ [] else self.old.notes.items)) }
@@ -106,13 +107,13 @@ impl Reading {
         Ok(())
     }
 
-    // Keeps the answer that is told of an address for which none is kept. The error is want of memory.
+    // Keeps the answer that was received for an address that has none yet. Fails only if memory runs out.
     fn answer(&mut self, at: &Address, told: &Told) -> Result<(), AllocError>
         requires { lookup (bytes_eq at.now) self.old.answers.entries ≡ None }
         ensures kept { self.new ≡ record self.old { answers = self.new.answers } }
-        ensures answers { OnOk result (self.new.answers.entries ≡ self.old.answers.entries ++ answers_of (note_entry self.old.robots (Page at.now told.now) ∷ [])) }
+        ensures answers { OnOk result (self.new.answers.entries ≡ self.old.answers.entries ++ answers_of (note_entry self.old.links (Page at.now told.now) ∷ [])) }
     {
-        let answer = told.answer(self.alloc, at, self.robots)?;
+        let answer = told.answer(self.alloc, at, self.links)?;
         self.answers.insert(at.try_clone()?, answer)?;
         Ok(())
     }
@@ -126,7 +127,7 @@ impl Reading {
         self.note(Noted::Page(at, told))
     }
 
-    // Keeps the rules at the end of an origin's chain, where none are kept, and a note of the chain. The error is want of memory.
+    // Keeps the rules at the end of the chain of an origin without any, and a note of it. Fails only if memory runs out.
     fn keep_chain(&mut self, origin: Origin, hops: Hops) -> Result<(), AllocError>
         requires vacant { lookup (bytes_eq origin) self.old.rules.entries ≡ None }
         requires of { hops.of ≡ origin }
@@ -226,7 +227,7 @@ impl Reading {
         Ok(Taken { lines, after })
     }
 
-    // Takes what a line says, with what is behind it.
+    // Takes what a line says, with what follows it.
     fn add<'a>(&mut self, line: EntryLine<'_>, behind: &'a [u8]) -> Result<Taken<'a>, EntryFault>
         requires { IsCounted (said line) }
         ensures { TakesEntry self.old (said line.entry) behind.now result self.new }
@@ -270,7 +271,7 @@ impl Reading {
             rules,
             notes,
             alloc: _,
-            robots: _,
+            links: _,
             version: _,
             keeps_notes: _,
         } = self;

@@ -5,6 +5,7 @@ use crate::version::version_of;
 use address::{Address, Origin};
 use answer_notes::Noted;
 use fetcher::{Answer, Ask, Body, Fetcher, NOT_FOUND, Outcome};
+use html_links::LinkRules;
 use indexmap::IndexMap;
 use robots_rules::RuleSet;
 use site_inputs::{InputFault, KeptRules};
@@ -29,7 +30,7 @@ pub struct RecordedSite {
     asks: Vec<Ask>,
 }
 
-// By hand: who drops one proves a call, and nothing of what it holds.
+// Written by hand: a user that drops one proves a call, and nothing about its fields.
 impl Drop for RecordedSite {
     fn drop(self) {
         let RecordedSite {
@@ -60,40 +61,44 @@ impl RecordedSite {
 
     /// Reads a record. Each `page` entry states the answer of an address by its response, each
     /// `fault` entry that there was none, and each `robots`, `rules` and `chain` entry the rules of an
-    /// origin. Where `robots` says so, a page that asks that its links aren't followed has no edges. The
+    /// origin. Of the links of a page those are edges that `links` takes. The
     /// error names the first bad line, or says that memory ran out.
-    pub fn read(alloc: Global, bytes: &[u8], robots: bool) -> Result<RecordedSite, InputFault>
-        ensures record { IfOk result (λ m. (said : List Entry) × IsRecord robots bytes.now said × (m ≡ record { answers = answers_of said; rules = rules_of said; notes = []; asks = [] })) }
-        ensures fault { IfErr result (λ f. IsFault robots bytes.now f) }
+    pub fn read(alloc: Global, bytes: &[u8], links: LinkRules) -> Result<RecordedSite, InputFault>
+        ensures record { IfOk result (λ m. (said : List Entry) × IsRecord links bytes.now said × (m ≡ record { answers = answers_of said; rules = rules_of said; notes = []; asks = [] })) }
+        ensures fault { IfErr result (λ f. IsFault links bytes.now f) }
     {
-        RecordedSite::read_as(alloc, bytes, robots, false)
+        RecordedSite::read_as(alloc, bytes, links, false)
     }
 
     /// The same, with a note of each entry in their order, so that the record can be written again with
     /// what is noted later. Bodies of pages are held twice, by the answers and by the notes.
-    pub fn read_noted(alloc: Global, bytes: &[u8], robots: bool) -> Result<RecordedSite, InputFault>
-        ensures record { IfOk result (λ m. (said : List Entry) × IsRecord robots bytes.now said
-            × (m ≡ record { answers = answers_of said; rules = rules_of said; notes = m.notes; asks = [] }) × SayJust robots m.notes said) }
-        ensures fault { IfErr result (λ f. IsFault robots bytes.now f) }
+    pub fn read_noted(
+        alloc: Global,
+        bytes: &[u8],
+        links: LinkRules,
+    ) -> Result<RecordedSite, InputFault>
+        ensures record { IfOk result (λ m. (said : List Entry) × IsRecord links bytes.now said
+            × (m ≡ record { answers = answers_of said; rules = rules_of said; notes = m.notes; asks = [] }) × SayJust links m.notes said) }
+        ensures fault { IfErr result (λ f. IsFault links bytes.now f) }
     {
-        RecordedSite::read_as(alloc, bytes, robots, true)
+        RecordedSite::read_as(alloc, bytes, links, true)
     }
 
     // Reads a record, with or without notes.
     fn read_as(
         alloc: Global,
         bytes: &[u8],
-        robots: bool,
+        links: LinkRules,
         keeps_notes: bool,
     ) -> Result<RecordedSite, InputFault>
-        ensures record { IfOk result (λ m. (said : List Entry) × IsRecord robots bytes.now said
-            × (m ≡ record { answers = answers_of said; rules = rules_of said; notes = m.notes; asks = [] }) × HasNotes keeps_notes robots m.notes said) }
-        ensures fault { IfErr result (λ f. IsFault robots bytes.now f) }
+        ensures record { IfOk result (λ m. (said : List Entry) × IsRecord links bytes.now said
+            × (m ≡ record { answers = answers_of said; rules = rules_of said; notes = m.notes; asks = [] }) × HasNotes keeps_notes links m.notes said) }
+        ensures fault { IfErr result (λ f. IsFault links bytes.now f) }
     {
         let Some((version, mut rest)) = version_of(bytes) else {
             return Err(InputFault::Line(1));
         };
-        let mut reading = Reading::new(alloc, robots, version, keeps_notes);
+        let mut reading = Reading::new(alloc, links, version, keeps_notes);
         let mut number = 1;
         'entries: while !rest.is_empty() {
             match reading.read_entry(rest) {
@@ -122,7 +127,7 @@ impl RecordedSite {
         })
     }
 
-    /// An equal site, with the same asks, which shares what the record states, or an error where
+    /// An equal site, with the same asks, which shares what the record states, or an error if
     /// memory ran out.
     pub fn try_clone(&self) -> Result<RecordedSite, AllocError>
         ensures { IfOk result (λ copy. copy ≡ self.now) }
@@ -141,7 +146,7 @@ impl RecordedSite {
         self.stated.answers.len() + self.stated.rules.len()
     }
 
-    /// What the entries of the record tell, in their order, where it was read so; else none. What version
+    /// What the entries of the record say, in their order, if it was read to keep them; else none. What version
     /// 1 says of an origin's rules is a chain of one hop: a robots file is status 200 with its first
     /// 512,001 bytes, `rules all` status 404, `rules none` the fault Device.
     pub fn notes(&self) -> &[Noted]
@@ -150,7 +155,7 @@ impl RecordedSite {
         self.stated.notes.as_slice()
     }
 
-    /// What the record states of an address, with a copy of its body; none where it states nothing. The error is want of memory.
+    /// What the record states of an address, with a copy of its body; none if it states nothing. Fails only if memory runs out.
     pub fn stated_answer(&self, at: &Address) -> Result<Option<Answer<Body>>, AllocError>
         ensures { IfOk result (λ a. a ≡ lookup (bytes_eq at.now) self.now.answers) }
     {
@@ -160,7 +165,7 @@ impl RecordedSite {
         }
     }
 
-    /// What the record states of an origin; none where it states nothing. The error is want of memory.
+    /// What the record states of an origin; none if it states nothing. Fails only if memory runs out.
     pub fn stated_rules(&self, of: &Origin) -> Result<Option<RuleSet>, AllocError>
         ensures { IfOk result (λ r. r ≡ lookup (bytes_eq of.now) self.now.rules) }
     {
@@ -213,15 +218,15 @@ impl Fetcher for RecordedSite {
 
     ghost log = { λ m. m.asks };
 
-    /// Asks for the page of an address. The answer is what the record says of it, with a copy of its
+    /// Requests the page of an address. The answer is what the record says of it, with a copy of its
     /// body; the ask is logged first, and the record stays what it is.
     fn ask(&mut self, at: &Address) -> Result<Answer<Body>, AllocError> {
         self.asks.push(Ask::Page(at.try_clone()?))?;
         self.answer(at)
     }
 
-    /// Asks for the robots rules of an origin. They are those that the record states, and allow
-    /// everything where it states none; the ask is logged first, and the record stays what it is.
+    /// Requests the robots rules of an origin. They are those that the record states, and allow
+    /// everything if it states none; the ask is logged first, and the record stays what it is.
     fn ask_robots(&mut self, of: &Origin) -> Result<RuleSet, AllocError> {
         self.asks.push(Ask::Rules(of.try_clone()?))?;
         self.rule_set(of)

@@ -1,4 +1,4 @@
-//! A site that a fetcher asks for what a record doesn't say.
+//! A site for which a fetcher requests what a record doesn't say.
 ghost use Rattle.std.specs.Prelude.{◌≡◌, ◌++◌, ◌∷◌, List, [], IfOk, OnOk, OnErr, drop, take, length, All};
 ghost use Rattle.fetcher.specs.Logs.{GainedAtMost};
 ghost use Rattle.fetcher.specs.declared.fetcher.Ask.TheVariants as ask;
@@ -42,7 +42,7 @@ impl<F: Fetcher<Body = Body>> Resumed<F> {
         ensures asks { result.asks ≡ [] }
         ensures since { result.since ≡ length (F.log inner) }
 
-        // Where the fetcher's site is steady and the record's answers are that site's, this is that site.
+        // If the fetcher's site is steady and the record's answers are that site's, this is that site.
         ensures steady { (answers : SiteAnswers) → AreAnswers F.says F.rules (F.site inner) answers
             → AreOf F.says F.rules (F.site inner) recorded.answers recorded.rules
             → AreAnswers (SaysOr F.says) (RulesOr F.rules)

@@ -1,4 +1,4 @@
-//! Entries within which a text ends, as one does that was cut.
+//! Entries within which a text ends, for example because it was cut.
 ghost use Rattle.std.specs.Prelude.{◌↔◌, IsTrue};
 ghost use Rattle.site_records.specs.Fronts.{IsTornEntry, IsTornRow, RunsOut, RunsOutIn};
 ghost use Rattle.site_records.specs.inner.Said.{said, said_hop};
@@ -21,7 +21,7 @@ pub(crate) fn is_torn(version: Version, text: &[u8]) -> bool
     line.is_of(version) && runs_out(&line, behind)
 }
 
-// Whether what a line counts goes beyond the end of what is behind it.
+// Whether what a line counts goes beyond the end of what follows it.
 fn runs_out(line: &EntryLine<'_>, behind: &[u8]) -> bool
     ensures { IsTrue result ↔ RunsOut (said line.now) behind.now }
 {

@@ -7,7 +7,7 @@ ghost use Rattle.site_records.specs.Records.{version_line, HasVersion};
 pub(crate) enum Version {
     /// `robots` and `rules`: the file of an origin, or its rules.
     First,
-    /// `chain`: what was answered for an origin's robots file and behind its redirects.
+    /// `chain`: what was answered for an origin's robots file and after its redirects.
     Second,
 }
 
@@ -17,7 +17,7 @@ const VERSION_LINE: &[u8] = b"wgetr-record 1\n";
 /// The first line of a record of version 2.
 pub(crate) const SECOND_VERSION_LINE: &[u8] = b"wgetr-record 2\n";
 
-// The version of a record, and what stands behind its first line; none where that names no version.
+// The version of a record, and what follows its first line; none if that names no version.
 pub(crate) fn version_of(bytes: &[u8]) -> Option<(Version, &[u8])>
     ensures { MatchOption result (¬ HasVersion bytes.now) (λ found. bytes.now ≡ version_line found.0 ++ found.1.now) }
 {

@@ -1,5 +1,6 @@
 //! A record that is written, of version 2.
-ghost use Rattle.std.specs.Prelude.{◌≡◌, ◌++◌, ◌∷◌, [], Bool, List, not, IfOk, OnOk, Err};
+ghost use Rattle.std.specs.Prelude.{◌≡◌, ◌++◌, ◌∷◌, [], List, not, IfOk, OnOk, Err};
+ghost use Rattle.html_links.specs.declared.rules.LinkRules.{LinkRules};
 ghost use Rattle.std.specs.Io.KnownBytes.{Appends};
 ghost use Rattle.streams.specs.Streams.{AppendsFront};
 ghost use Rattle.answer_notes.specs.declared.noted.Noted.{Noted};
@@ -36,7 +37,7 @@ impl<'a> Named<'a> {
         }
     }
 
-    // Adds that of one more note, and tells whether none of the notes so far has it. The error is want of memory.
+    // Adds that of one more note, and returns whether none of the notes so far has it. Fails only if memory runs out.
     fn add(&mut self, note: &'a Noted) -> Result<bool, AllocError>
         ensures { IfOk result (λ is_new. (notes : List Noted) → AreDraftsNamed self.old notes
             → AreDraftsNamed self.new (notes ++ note.now ∷ []) × (is_new ≡ not (is_repeated notes note.now))) }
@@ -48,7 +49,7 @@ impl<'a> Named<'a> {
     }
 }
 
-// Adds one more note, unless one before it is of the same address or origin. The error is want of memory.
+// Adds one more note, unless one before it is of the same address or origin. Fails only if memory runs out.
 fn add_note<'a>(
     alloc: Global,
     text: &mut Pieces<'a>,
@@ -63,7 +64,7 @@ fn add_note<'a>(
     Ok(())
 }
 
-// Adds more notes. The error is want of memory.
+// Adds more notes. Fails only if memory runs out.
 fn add_notes<'a>(
     alloc: Global,
     text: &mut Pieces<'a>,
@@ -78,7 +79,7 @@ fn add_notes<'a>(
     Ok(())
 }
 
-// Adds the notes of each part. The error is want of memory.
+// Adds the notes of each part. Fails only if memory runs out.
 fn add_parts<'a>(
     alloc: Global,
     text: &mut Pieces<'a>,
@@ -93,7 +94,7 @@ fn add_parts<'a>(
     Ok(())
 }
 
-// Adds the first line of a record, and these notes. The error is want of memory.
+// Adds the first line of a record, and these notes. Fails only if memory runs out.
 fn add_record<'a>(
     alloc: Global,
     text: &mut Pieces<'a>,
@@ -105,7 +106,7 @@ fn add_record<'a>(
     add_parts(alloc, text, &mut Named::new(alloc), notes)
 }
 
-// The text of the record of these notes. The error is want of memory.
+// The text of the record of these notes. Fails only if memory runs out.
 fn text_of<'a>(alloc: Global, notes: &[&'a [Noted]]) -> Result<Pieces<'a>, AllocError>
     ensures { IfOk result (λ text. (named : Named) × IsDraft text named (all_noted notes.now)) }
 {
@@ -115,8 +116,8 @@ fn text_of<'a>(alloc: Global, notes: &[&'a [Noted]]) -> Result<Pieces<'a>, Alloc
 }
 
 /// Writes a record of version 2, and flushes it: the notes of all parts in their order. Of several notes of one address, or of one
-/// origin, the first counts; it is left out where a head of it, written, has more than 65,536 bytes, which couldn't be read again.
-/// Bodies are not copied. Memory is wanted only before the first byte is written; where the writer fails a front of the record may
+/// origin, the first counts; it is left out if a head of it is written with more than 65,536 bytes and so couldn't be read again.
+/// Bodies are not copied. Memory is needed only before the first byte is written; if the writer fails, a front of the record may
 /// be written.
 pub fn write_record<W: Write>(
     alloc: Global,
@@ -127,12 +128,12 @@ pub fn write_record<W: Write>(
     ensures device { result ≡ Err RecordFault.Device → AppendsFront (W.contents writer.old) (W.contents writer.new) (record_text (all_noted notes.now)) }
     ensures memory { result ≡ Err RecordFault.Memory → writer.new ≡ writer.old }
 
-    // It is read again, with or without robots rules, as just what the notes say.
-    ensures reads { OnOk result ((robots : Bool) → IsRecord robots (record_text (all_noted notes.now)) (record_entries robots (all_noted notes.now))) }
+    // It is read again, with or without robots rules, as exactly what the notes say.
+    ensures reads { OnOk result ((links : LinkRules) → IsRecord links (record_text (all_noted notes.now)) (record_entries links (all_noted notes.now))) }
     // And as nothing else.
-    ensures one { OnOk result ((robots : Bool) (said : List Entry) → IsRecord robots (record_text (all_noted notes.now)) said → said ≡ record_entries robots (all_noted notes.now)) }
-    // Cut anywhere behind its first line it is the entries of the first of these notes, and a front of the next one's.
-    ensures cut { OnOk result ((robots : Bool) → IsReadCut robots (written_notes (all_noted notes.now))) }
+    ensures one { OnOk result ((links : LinkRules) (said : List Entry) → IsRecord links (record_text (all_noted notes.now)) said → said ≡ record_entries links (all_noted notes.now)) }
+    // Cut anywhere after its first line, it is the entries of the first of these notes, and a front of the next one's.
+    ensures cut { OnOk result ((links : LinkRules) → IsReadCut links (written_notes (all_noted notes.now))) }
 {
     let text = text_of(alloc, notes)?;
     text.write(writer)?;

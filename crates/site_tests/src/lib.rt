@@ -1,5 +1,5 @@
 //! What no run of the program shows of the reader of responses, such as that nothing is read after a read that failed, of the
-//! scanner of links, and of pages whose links change: tests alone. What is read of texts is in `tests/texts`. They stand above the crates that they are of, so none
+//! scanner of links, and of pages whose links change: tests alone. What is read of texts is in `tests/texts`. They are above the crates that they are of, so none
 //! is proved once more with them.
 #![tactic(auto)]
 

@@ -48,7 +48,7 @@ module _ (by_proxy : Bool) (base : Option AddressText) (lines : List (List ℕ))
       ∙ ap (λ (xs : List AddressText). starts_of_lines by_proxy base lines ++ xs) (sym one)
       ∙ sym (flat_map-append (λ (l : List ℕ). unwrap_or (starts_of_line by_proxy base l) []) lines (line ∷ []))
 
--- behind as many lines as a list may have a line is empty
+-- after as many lines as a list may have a line is empty
 pub few_push : (lines : List (List ℕ)) (line : List ℕ) → (MAX_LINES ≤ length lines → line ≡ []) → All (λ l. l ≡ []) (drop MAX_LINES lines) → All (λ l. l ≡ []) (drop MAX_LINES (lines ++ line ∷ []))
 few_push lines line empty few = elim (cases_lt (length lines) MAX_LINES) [
   | inl small ↦ (λ k d lt. absurd (omega (arith, lt, small, length-drop MAX_LINES (lines ++ line ∷ []), length-append lines (line ∷ []))))

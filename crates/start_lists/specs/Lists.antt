@@ -33,7 +33,7 @@ unless_robots (Some address) = if is_robots_file address then None else Some add
 
 -- ---- lists
 
--- the lines of a text: what stands between its line feeds
+-- the lines of a text: what is between its line feeds
 abbrev pub lines_of : List ℕ → List (List ℕ)
 lines_of text = slice_split (λ byte. byte == 10) text
 
@@ -65,7 +65,7 @@ AreGood by_proxy base lines = All (λ line. IsSome (starts_of_line by_proxy base
 abbrev pub starts_of_lines : Bool → Option AddressText → List (List ℕ) → List AddressText
 starts_of_lines by_proxy base lines = flat_map (λ line. unwrap_or (starts_of_line by_proxy base line) []) lines
 
--- these are the starts of a list: no line of it is bad, and behind the last that it may have there are empty ones alone
+-- these are the starts of a list: no line of it is bad, and after the last that it may have there are only empty ones
 pub record IsList (by_proxy : Bool) (base : Option AddressText) (text : List ℕ) (starts : List AddressText) : Type 0 where
   pub good : AreGood by_proxy base (lines_of text)
   pub few : All (λ line. line ≡ []) (drop MAX_LINES (lines_of text))

@@ -10,7 +10,7 @@ use Rattle.start_lists.specs.declared.fault.ListFault.{ListFault}
 use Rattle.start_lists.specs.declared.fault.ListFault.TheVariants as fault
 use Rattle.start_lists.specs.declared.words.FileOfStarts.{FileOfStarts}
 
--- a text, as its bytes
+-- the bytes of a text
 abbrev pub Text : Type 0
 Text = List ℕ
 

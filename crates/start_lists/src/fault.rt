@@ -56,7 +56,7 @@ pub fn list_text(alloc: Global, fault: ListFault) -> Result<String, AllocError>
 /// Why there are no starts.
 #[derive(Clone, Copy, Debug, PartialEq, Eq)]
 pub enum NoStarts {
-    /// The words are refused, or ask for something else.
+    /// The words are refused, or request something else.
     Words(LineFault),
     /// The file that they name gives none.
     List(ListFault),

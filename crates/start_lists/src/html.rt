@@ -73,7 +73,7 @@ fn starts_of_scan(
 }
 
 /// The starts that the links of HTML name, in the order of the document. Links that are relative to nothing are passed over, and so
-/// are those that name no address. The error is want of memory.
+/// are those that name no address. Fails only if memory runs out.
 pub fn starts_of_html(
     alloc: Global,
     body: &[u8],

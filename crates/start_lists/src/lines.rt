@@ -156,7 +156,7 @@ pub fn starts_of_list(
             return Err(ListFault::Long);
         }
         if let Err(fault) = push_line(alloc, &mut starts, by_proxy, base, line) {
-            // By a call, since what an exit lets go is proved anew at each exit.
+            // By a call, since what an exit drops is proved anew at each exit.
             drop(starts);
             return Err(fault.at(number));
         }

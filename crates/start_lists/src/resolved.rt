@@ -18,7 +18,7 @@ fn read_absolute(alloc: Global, by_proxy: bool, text: &str) -> Result<Address, A
     }
 }
 
-// What an absolute URL names. The error is want of memory.
+// What an absolute URL names. Fails only if memory runs out.
 fn absolute(alloc: Global, by_proxy: bool, text: &str) -> Result<Option<Address>, AllocError>
     ensures { IfOk result (λ found. found ≡ address_or_none (read_start by_proxy text.now)) }
 {
@@ -29,7 +29,7 @@ fn absolute(alloc: Global, by_proxy: bool, text: &str) -> Result<Option<Address>
     }
 }
 
-// What a text names below a base. The error is want of memory.
+// What a text names below a base. Fails only if memory runs out.
 fn below(base: &Address, text: &str) -> Result<Option<Address>, AllocError>
     ensures { IfOk result (λ found. found ≡ address_or_none (join_address base.now text.now)) }
 {
@@ -40,7 +40,7 @@ fn below(base: &Address, text: &str) -> Result<Option<Address>, AllocError>
     }
 }
 
-/// What a text names. The error is want of memory.
+/// What a text names. Fails only if memory runs out.
 #[tactic(auto, unfolding(crate::specs::Lists::resolved))]
 pub(crate) fn resolved(
     alloc: Global,

@@ -60,7 +60,7 @@ fn has_input(source: Source) -> bool
 }
 
 /// How the file of starts that is said is read, by where the site is and whether there is a proxy. The error is that its base is no
-/// address, that standard input is to be both the file and the site, or want of memory.
+/// address, that standard input is to be both the file and the site, or that memory ran out.
 pub fn file_of(
     alloc: Global,
     said: StartList,

@@ -1,5 +1,4 @@
 -- What a site may answer whose bodies are kept in parts.
-use Rattle.std.specs.Prelude.{Bool}
 use Rattle.address.specs.Address.{AddressText, OriginText}
 use Rattle.robots_rules.specs.Access.{RuleSetValue}
 use Rattle.http_fetcher.specs.Meanings.{MayRule}
@@ -9,14 +8,15 @@ use Rattle.part_keeper.specs.declared.part.Part.{Part}
 use Rattle.response_reader.specs.Limits.{Limited}
 use Rattle.retries.specs.Keeping.{StandsForAnswer}
 use Rattle.tcp_fetcher.specs.TcpFetching.{TcpFetching}
+use Rattle.html_links.specs.declared.rules.LinkRules.{LinkRules}
 
--- whether robots rules are honoured, and how long an answer may be
+-- which links of pages are taken, and how long an answer may be
 abbrev pub PartsSite : Type 0
-PartsSite = Bool × Limited
+PartsSite = LinkRules × Limited
 
 -- what a fetcher asks
 abbrev pub parts_site : TcpFetching → PartsSite
-parts_site f = (f.robots, f.limits)
+parts_site f = (f.links, f.limits)
 
 -- the outcome, with this part, is an answer that the site may give
 abbrev pub MayAnswerIn : PartsSite → AddressText → Outcome → Part → Type 0

@@ -6,11 +6,12 @@ use Rattle.http_fetcher.specs.Fetching.{Fetching}
 use Rattle.tcp_connect.specs.Connecting.{Connecting}
 use Rattle.pacing.specs.Retries.{Retried}
 use Rattle.response_reader.specs.Limits.{Limited}
+use Rattle.html_links.specs.declared.rules.LinkRules.{LinkRules}
 
--- whether it honours robots rules, whether it keeps connections, how many may then be open to a server, what it sends, when it asks
+-- which links of pages it takes, whether it keeps connections, how many may then be open to a server, what it sends, when it asks
 -- again, how long an answer may be whose body goes to a keeper, what was requested of it, in order, and the fetcher that asks once for it
 pub record TcpFetching : Type 0 where
-  pub robots : Bool
+  pub links : LinkRules
   pub keeps : Bool
   pub most : Option ℕ
   pub sends : Option Sending

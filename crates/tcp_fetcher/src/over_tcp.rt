@@ -1,4 +1,4 @@
-//! What asks over TCP for one worker, and again where that is worth it.
+//! What asks over TCP for one worker, and again if that is worth it.
 ghost use Rattle.std.specs.Prelude.{◌≡◌, ◌<◌, ◌++◌, ◌∷◌, [], IfOk, OnErr, OnOk};
 ghost use Rattle.fetcher.specs.Logs.{GainedAtMost};
 ghost use Rattle.fetcher.specs.declared.fetcher.Ask.TheVariants as ask;
@@ -14,6 +14,7 @@ use crate::watched_tcp::WatchedTcp;
 use address::{Address, Origin};
 use answer_notes::{Hops, Telling, Told};
 use fetcher::{Answer, Ask, Body, Fetcher};
+use html_links::LinkRules;
 use http_fetcher::HttpFetcher;
 use kept_bodies::Keeper;
 use pacing::{Manner, Retries};
@@ -31,7 +32,7 @@ use std::sync::Wait;
 use std::time::Clock;
 use tcp_connect::{Hosts, Kept};
 
-/// Asks over TCP, again after answers and faults that are worth it, and shows on the terminal what comes of it.
+/// Asks over TCP, again after answers and faults that are worth it, and shows on the terminal what results.
 pub struct OverTcp<'a, R: Net + Wait + Clock + Eprint> {
     alloc: Global,
     // Asks once.
@@ -44,7 +45,7 @@ pub struct OverTcp<'a, R: Net + Wait + Clock + Eprint> {
     asks: Vec<Ask>,
 }
 
-// By hand: who drops one proves a call, and nothing of what it holds.
+// Written by hand: a user that drops one proves a call, and nothing about its fields.
 impl<'a, R: Net + Wait + Clock + Eprint> Drop for OverTcp<'a, R> {
     fn drop(self) {
         let OverTcp {
@@ -65,7 +66,7 @@ impl<'a, R: Net + Wait + Clock + Eprint> Model for OverTcp<'a, R> {
 
     ghost Value = { TcpFetching };
 
-    ghost view = { λ f. record { robots = f.inner.robots; keeps = f.inner.keeps; most = f.inner.connect.most; sends = f.inner.sends; retries = retries_by f.retries; limits = limited f.limits; asks = f.asks.items; single = f.inner } };
+    ghost view = { λ f. record { links = f.inner.links; keeps = f.inner.keeps; most = f.inner.connect.most; sends = f.inner.sends; retries = retries_by f.retries; limits = limited f.limits; asks = f.asks.items; single = f.inner } };
 }
 
 impl<'a, R: Net + Wait + Clock + Eprint> OverTcp<'a, R> {
@@ -73,9 +74,9 @@ impl<'a, R: Net + Wait + Clock + Eprint> OverTcp<'a, R> {
     ghost use Rattle.pacing.specs.Retries.{retries_by};
     ghost use Rattle.response_reader.specs.Limits.{limits_of};
 
-    /// By this handle, with what the run knows of hosts and keeps of connections, and the line that counts what comes. Where robots
-    /// rules are honoured, a page that asks that its links aren't followed has none. Connections are kept among those of the run
-    /// where it is said how many to a server may stand at a time; else each question has one of its own. These
+    /// By this handle, with what the run knows of hosts and keeps of connections, and the line that counts what comes. Of the
+    /// links of pages those are edges that `links` takes. Connections are kept among those of the run
+    /// if it is said how many to a server may be open at a time; else each question has one of its own. These
     /// proxies are asked in place of servers, and of https no server is. Each request says this. Servers are treated so, and requests made again so. Takes no memory.
     pub fn new(
         rt: &'a R,
@@ -83,14 +84,14 @@ impl<'a, R: Net + Wait + Clock + Eprint> OverTcp<'a, R> {
         hosts: &'a Hosts,
         kept: &'a Kept<R::Stream>,
         progress: &'a Progress<'a, R>,
-        robots: bool,
+        links: LinkRules,
         most: Option<u32>,
         proxies: Proxies,
         sends: Sending,
         manner: Manner,
         retries: Retries,
     ) -> OverTcp<'a, R>
-        ensures robots { result.robots ≡ robots }
+        ensures links { result.links ≡ links }
         ensures keeps { result.keeps ≡ is_some most }
         ensures most { result.most ≡ most }
         ensures sends { result.sends ≡ Some sends }
@@ -101,7 +102,7 @@ impl<'a, R: Net + Wait + Clock + Eprint> OverTcp<'a, R> {
         let limits = Limits::of_body(manner.body_limit);
         let crawl_delay = manner.crawl_delay;
         let connect = WatchedTcp::new(rt, alloc, hosts, kept, progress, most, proxies, manner);
-        let fetcher = HttpFetcher::new(alloc, connect, robots).sending(sends);
+        let fetcher = HttpFetcher::new(alloc, connect, links).sending(sends);
         OverTcp {
             alloc,
             inner: match most {
@@ -129,13 +130,13 @@ impl<'a, R: Net + Wait + Clock + Eprint> OverTcp<'a, R> {
         Ok(())
     }
 
-    // What is told last of an origin's robots file, whose delay holds from then on if that is honoured.
+    // What is received last of an origin's robots file, whose delay holds from then on if that is honoured.
     fn spaced_hops(&mut self, of: &Origin) -> Result<Hops, AllocError>
-        ensures site { self.new.robots ≡ self.old.robots }
+        ensures site { self.new.links ≡ self.old.links }
         ensures of { IfOk result (λ found. found.of ≡ of.now) }
-        ensures told { IfOk result (λ found. MayRule self.old.robots of.now (rules_of_hops found.hops)) }
+        ensures told { IfOk result (λ found. MayRule self.old.links of.now (rules_of_hops found.hops)) }
         ensures asks { self.new.asks ≡ self.old.asks }
-        ensures tries { IfOk result (λ found. IsLastOf (λ f. f.asks) (λ f found. MayRule f.robots of.now (rules_of_hops found.hops))
+        ensures tries { IfOk result (λ found. IsLastOf (λ f. f.asks) (λ f found. MayRule f.links of.now (rules_of_hops found.hops))
             (λ found. is_worth_hops self.old.retries found.hops) (ask.Rules of.now) self.old.retries.most self.old.single self.new.single found) }
         ensures retries { self.new.retries ≡ self.old.retries }
         ensures limits { self.new.limits ≡ self.old.limits }
@@ -145,14 +146,14 @@ impl<'a, R: Net + Wait + Clock + Eprint> OverTcp<'a, R> {
         Ok(hops)
     }
 
-    // The rules by what is told last of an origin's robots file, whose delay holds from then on.
+    // The rules by what is received last of an origin's robots file, whose delay holds from then on.
     fn spaced_rules(&mut self, of: &Origin) -> Result<RuleSet, AllocError>
-        ensures site { self.new.robots ≡ self.old.robots }
-        ensures told { IfOk result (λ r. MayRule self.old.robots of.now r) }
+        ensures site { self.new.links ≡ self.old.links }
+        ensures told { IfOk result (λ r. MayRule self.old.links of.now r) }
         ensures asks { self.new.asks ≡ self.old.asks }
         ensures once { self.old.retries.most ≡ 0 → OnOk result (self.new.single.asks ≡ self.old.single.asks ++ ask.Rules of.now ∷ []) }
         ensures tries { IfOk result (λ r. (found : ChainValue) × (r ≡ rules_of_hops found.hops)
-            × IsLastOf (λ f. f.asks) (λ f found. MayRule f.robots of.now (rules_of_hops found.hops)) (λ found. is_worth_hops self.old.retries found.hops) (ask.Rules of.now) self.old.retries.most self.old.single self.new.single found) }
+            × IsLastOf (λ f. f.asks) (λ f found. MayRule f.links of.now (rules_of_hops found.hops)) (λ found. is_worth_hops self.old.retries found.hops) (ask.Rules of.now) self.old.retries.most self.old.single self.new.single found) }
         ensures retries { self.new.retries ≡ self.old.retries }
         ensures limits { self.new.limits ≡ self.old.limits }
     {
@@ -160,14 +161,14 @@ impl<'a, R: Net + Wait + Clock + Eprint> OverTcp<'a, R> {
         hops.rules(self.alloc)
     }
 
-    // Asks for a page, whose body goes to the sink's keeper while it arrives.
+    // Requests a page, whose body goes to the sink's keeper while it arrives.
     pub(crate) fn ask_into<K: Keeper>(
         &mut self,
         sink: &mut PageSink<K>,
         at: &Address,
     ) -> Result<Answer<K::Kept>, AllocError>
-        ensures site { self.new.robots ≡ self.old.robots }
-        ensures told { IfOk result (StandsForAnswer K.holds self.old.limits self.old.robots at.now) }
+        ensures site { self.new.links ≡ self.old.links }
+        ensures told { IfOk result (StandsForAnswer K.holds self.old.limits self.old.links at.now) }
         ensures asked { OnOk result (self.new.asks ≡ self.old.asks ++ ask.Page at.now ∷ []) }
         ensures refused { OnErr result (GainedAtMost self.old.asks self.new.asks (ask.Page at.now)) }
         ensures tries { IfOk result (IsLastOf asks_of (MayKeep K.holds self.old.limits at.now) (is_worth_answer self.old.retries) (ask.Page at.now) self.old.retries.most self.old.single self.new.single) }
@@ -180,13 +181,13 @@ impl<'a, R: Net + Wait + Clock + Eprint> OverTcp<'a, R> {
 }
 
 impl<'a, R: Net + Wait + Clock + Eprint> Fetcher for OverTcp<'a, R> {
-    ghost use Rattle.std.specs.Prelude.{Bool};
+    ghost use Rattle.html_links.specs.declared.rules.LinkRules.{LinkRules};
 
     type Body = Body;
 
-    ghost Site = { Bool };
+    ghost Site = { LinkRules };
 
-    ghost site = { λ f. f.robots };
+    ghost site = { λ f. f.links };
 
     ghost says = { MayAnswer };
 
@@ -195,14 +196,14 @@ impl<'a, R: Net + Wait + Clock + Eprint> Fetcher for OverTcp<'a, R> {
     ghost log = { λ f. f.asks };
 
     fn ask(&mut self, at: &Address) -> Result<Answer<Body>, AllocError>
-        ensures site { self.new.robots ≡ self.old.robots }
-        ensures told { IfOk result (λ a. MayAnswer self.old.robots at.now a.outcome a.body) }
+        ensures site { self.new.links ≡ self.old.links }
+        ensures told { IfOk result (λ a. MayAnswer self.old.links at.now a.outcome a.body) }
         ensures asked { OnOk result (self.new.asks ≡ self.old.asks ++ ask.Page at.now ∷ []) }
         ensures refused { OnErr result (GainedAtMost self.old.asks self.new.asks (ask.Page at.now)) }
-        // The network is asked once, or again where that is worth it; what is told last is the answer.
+        // The network is asked once, or again if that is worth it; what is received last is the answer.
         ensures once { self.old.retries.most ≡ 0 → OnOk result (self.new.single.asks ≡ self.old.single.asks ++ ask.Page at.now ∷ []) }
-        ensures tries { 0 < self.old.retries.most → IfOk result (λ a. (t : Told) × (a.outcome ≡ outcome_told self.old.robots at.now t) × (a.body ≡ body_told t)
-            × IsLastOf (λ f. f.asks) (λ f t. MayAnswer f.robots at.now (outcome_told f.robots at.now t) (body_told t)) (is_worth self.old.retries) (ask.Page at.now) self.old.retries.most self.old.single self.new.single t) }
+        ensures tries { 0 < self.old.retries.most → IfOk result (λ a. (t : Told) × (a.outcome ≡ outcome_told self.old.links at.now t) × (a.body ≡ body_told t)
+            × IsLastOf (λ f. f.asks) (λ f t. MayAnswer f.links at.now (outcome_told f.links at.now t) (body_told t)) (is_worth self.old.retries) (ask.Page at.now) self.old.retries.most self.old.single self.new.single t) }
         ensures retries { self.new.retries ≡ self.old.retries }
         ensures limits { self.new.limits ≡ self.old.limits }
     {
@@ -211,13 +212,13 @@ impl<'a, R: Net + Wait + Clock + Eprint> Fetcher for OverTcp<'a, R> {
     }
 
     fn ask_robots(&mut self, of: &Origin) -> Result<RuleSet, AllocError>
-        ensures site { self.new.robots ≡ self.old.robots }
-        ensures told { IfOk result (λ r. MayRule self.old.robots of.now r) }
+        ensures site { self.new.links ≡ self.old.links }
+        ensures told { IfOk result (λ r. MayRule self.old.links of.now r) }
         ensures asked { OnOk result (self.new.asks ≡ self.old.asks ++ ask.Rules of.now ∷ []) }
         ensures refused { OnErr result (GainedAtMost self.old.asks self.new.asks (ask.Rules of.now)) }
         ensures once { self.old.retries.most ≡ 0 → OnOk result (self.new.single.asks ≡ self.old.single.asks ++ ask.Rules of.now ∷ []) }
         ensures tries { 0 < self.old.retries.most → IfOk result (λ r. (found : ChainValue) × (r ≡ rules_of_hops found.hops)
-            × IsLastOf (λ f. f.asks) (λ f found. MayRule f.robots of.now (rules_of_hops found.hops)) (λ found. is_worth_hops self.old.retries found.hops) (ask.Rules of.now) self.old.retries.most self.old.single self.new.single found) }
+            × IsLastOf (λ f. f.asks) (λ f found. MayRule f.links of.now (rules_of_hops found.hops)) (λ found. is_worth_hops self.old.retries found.hops) (ask.Rules of.now) self.old.retries.most self.old.single self.new.single found) }
         ensures retries { self.new.retries ≡ self.old.retries }
         ensures limits { self.new.limits ≡ self.old.limits }
     {
@@ -234,19 +235,19 @@ impl<'a, R: Net + Wait + Clock + Eprint> Fetcher for OverTcp<'a, R> {
 }
 
 impl<'a, R: Net + Wait + Clock + Eprint> Telling for OverTcp<'a, R> {
-    ghost honours = { λ f. f.robots };
+    ghost links = { λ f. f.links };
 
-    fn honours_robots(&self) -> bool {
-        self.inner.honours_robots()
+    fn link_rules(&self) -> LinkRules {
+        self.inner.link_rules()
     }
 
     fn ask_told(&mut self, at: &Address) -> Result<Told, AllocError>
-        ensures site { self.new.robots ≡ self.old.robots }
-        ensures honours { self.new.robots ≡ self.old.robots }
-        ensures told { IfOk result (λ t. MayAnswer self.old.robots at.now (outcome_told self.old.robots at.now t) (body_told t)) }
+        ensures site { self.new.links ≡ self.old.links }
+        ensures links { self.new.links ≡ self.old.links }
+        ensures told { IfOk result (λ t. MayAnswer self.old.links at.now (outcome_told self.old.links at.now t) (body_told t)) }
         ensures asked { OnOk result (self.new.asks ≡ self.old.asks ++ ask.Page at.now ∷ []) }
         ensures refused { OnErr result (GainedAtMost self.old.asks self.new.asks (ask.Page at.now)) }
-        ensures tries { IfOk result (λ t. IsLastOf (λ f. f.asks) (λ f t. MayAnswer f.robots at.now (outcome_told f.robots at.now t) (body_told t))
+        ensures tries { IfOk result (λ t. IsLastOf (λ f. f.asks) (λ f t. MayAnswer f.links at.now (outcome_told f.links at.now t) (body_told t))
             (is_worth self.old.retries) (ask.Page at.now) self.old.retries.most self.old.single self.new.single t) }
         ensures retries { self.new.retries ≡ self.old.retries }
         ensures limits { self.new.limits ≡ self.old.limits }
@@ -256,13 +257,13 @@ impl<'a, R: Net + Wait + Clock + Eprint> Telling for OverTcp<'a, R> {
     }
 
     fn ask_hops(&mut self, of: &Origin) -> Result<Hops, AllocError>
-        ensures site { self.new.robots ≡ self.old.robots }
-        ensures honours { self.new.robots ≡ self.old.robots }
+        ensures site { self.new.links ≡ self.old.links }
+        ensures links { self.new.links ≡ self.old.links }
         ensures of { IfOk result (λ found. found.of ≡ of.now) }
-        ensures told { IfOk result (λ found. MayRule self.old.robots of.now (rules_of_hops found.hops)) }
+        ensures told { IfOk result (λ found. MayRule self.old.links of.now (rules_of_hops found.hops)) }
         ensures asked { OnOk result (self.new.asks ≡ self.old.asks ++ ask.Rules of.now ∷ []) }
         ensures refused { OnErr result (GainedAtMost self.old.asks self.new.asks (ask.Rules of.now)) }
-        ensures tries { IfOk result (λ found. IsLastOf (λ f. f.asks) (λ f found. MayRule f.robots of.now (rules_of_hops found.hops))
+        ensures tries { IfOk result (λ found. IsLastOf (λ f. f.asks) (λ f found. MayRule f.links of.now (rules_of_hops found.hops))
             (λ found. is_worth_hops self.old.retries found.hops) (ask.Rules of.now) self.old.retries.most self.old.single self.new.single found) }
         ensures retries { self.new.retries ≡ self.old.retries }
         ensures limits { self.new.limits ≡ self.old.limits }

@@ -39,7 +39,7 @@ where
     parts: &'a PartsDir<R::File>,
 }
 
-// By hand: who drops one proves a call, and nothing of what it holds.
+// Written by hand: a user that drops one proves a call, and nothing about its fields.
 impl<'a, R: Net + Wait + Clock + Eprint + Files> Drop for PartsOverTcp<'a, R>
 where
     R::File: Close + Lock,
@@ -142,7 +142,7 @@ where
         ensures told { IfOk result (λ a. MayAnswerIn (parts_site self.old) at.now a.outcome a.body) }
         ensures asked { OnOk result (self.new.asks ≡ self.old.asks ++ ask.Page at.now ∷ []) }
         ensures refused { OnErr result (GainedAtMost self.old.asks self.new.asks (ask.Page at.now)) }
-        // The network is asked once, or again if that is worth it; what is told last is the answer.
+        // The network is asked once, or again if that is worth it; what is received last is the answer.
         ensures tries { IfOk result (IsLastOf asks_of (MayKeep holds_part self.old.limits at.now) (is_worth_answer self.old.retries) (ask.Page at.now) self.old.retries.most self.old.single self.new.single) }
         ensures retries { self.new.retries ≡ self.old.retries }
     {

@@ -29,7 +29,7 @@ pub(crate) struct WatchedTcpWire<'a, R: Net + Wait + Clock> {
     inner: WatchedWire<TcpWire<Connection<'a, R>>>,
 }
 
-// By hand: who drops one proves a call, and nothing of what it holds.
+// Written by hand: a user that drops one proves a call, and nothing about its fields.
 impl<'a, R: Net + Wait + Clock> Drop for WatchedTcpWire<'a, R> {
     fn drop(self) {
         let WatchedTcpWire { inner: _inner } = self;
@@ -44,7 +44,7 @@ impl<'a, R: Net + Wait + Clock + Eprint> Model for WatchedTcp<'a, R> {
     ghost view = { λ c. c.inner };
 }
 
-// Contracts see how many calls answered an error, and whether one lost the connection.
+// Contracts see how many calls returned an error, and whether one lost the connection.
 impl<'a, R: Net + Wait + Clock> Model for WatchedTcpWire<'a, R> {
     ghost use Rattle.std.specs.Prelude.{ℕ, Bool};
 
@@ -56,7 +56,7 @@ impl<'a, R: Net + Wait + Clock> Model for WatchedTcpWire<'a, R> {
 impl<'a, R: Net + Wait + Clock + Eprint> WatchedTcp<'a, R> {
     ghost use Rattle.std.specs.Prelude.{◌≡◌};
 
-    // Connections are kept where it is said how many to a server may stand at a time. Takes no memory.
+    // Connections are kept if it is said how many to a server may be open at a time. Takes no memory.
     pub(crate) fn new(
         rt: &'a R,
         alloc: Global,

@@ -1,4 +1,4 @@
--- Names of several lists of which none stands twice, and how a search in order finds that one is absent.
+-- Names of several lists of which none occurs twice, and how a search in order finds that one is absent.
 use Rattle.std.proofs.Common.{◌≡◌, ℕ, ◌+◌, ◌<◌, inl, inr, true, false, List, [], ◌∷◌, ◌++◌, length, get_or, map, zero, suc, Result, Ok, Err, refl, sym, ap, ◌∙◌, subst, arith}
 use Rattle.std.specs.Prelude.{All, Contains, IsPermutation}
 use Rattle.std.specs.List.{AllZip}
@@ -51,7 +51,7 @@ module _ {X : Type 0} (key : X → Text) where
       not_less _ _ (nat_list_cmp_total.antisymm (key (get_or xs (k + 1) d)) (key (get_or xs k d)))
       (ap (λ (x : Text). is_lt (slice_cmp nat_cmp x (key (get_or xs (k + 1) d)))) (sym at) ∙ ap (λ (x : Text). is_lt (slice_cmp nat_cmp (get_or (map key xs) k (key d)) x)) (sym next) ∙ below)
 
-  -- what a binary search in order doesn't find stands nowhere
+  -- what a binary search in order doesn't find is nowhere
   pub absent_named : (xs : List X) (u : Text) (r : Result ℕ ℕ) → is_ok r ≡ false → IsAscending (map key xs)
       → IsBinarySearchResult (λ (x : X). slice_cmp nat_cmp (key x) u) xs r → (d : X) → ¬ Contains (map key xs) u
   absent_named xs u (Ok i) missed up found d among = absurd (false≢true (sym missed))
@@ -125,7 +125,7 @@ module _ {F : Type 0} where
   rules_once seat seats order once apart = subst IsOnce (sym (map-append (λ (note : RulesNote). note.origin) seat.notes.rules.items (rules_notes seats)))
       (once_both (origins seat.notes.rules.items) (origins (rules_notes seats)) (once_ascending (origins seat.notes.rules.items) order.rules) once apart)
 
-  -- where what each of the seats noted is apart from the names, all that they noted is
+  -- if what each of the seats noted is apart from the names, all that they noted is
   pub pages_apart_each : {B : Type 0} (names : List Text) (seats : List (Seat F B)) → ((k : ℕ) (d : Seat F B) → k < length seats → AreNotedApart names (addresses (get_or seats k d).notes.pages.items))
       → AreNotedApart names (addresses (page_notes seats))
   pages_apart_each names [] all = apart_none names
@@ -185,7 +185,7 @@ module _ {F : Type 0} where
   moved_rules (s ∷ ss) [] all = absurd all
   moved_rules (s ∷ ss) (t ∷ ts) all = IsPermutation-append s.notes.rules.items t.notes.rules.items (rules_notes ss) (rules_notes ts) all.0.rules (moved_rules ss ts all.1)
 
-  -- what stands once in order stood once before
+  -- what occurs once in order occurred once before
   pub pages_once_before : {B : Type 0} (ss ts : List (Seat F B)) → AllZip IsOrdered ss ts → IsOnce (addresses (page_notes ts)) → IsOnce (addresses (page_notes ss))
   pages_once_before {B = B} ss ts all once =
       once_permutation _ _ (IsPermutation-sym _ _ (IsPermutation-map (λ (note : PageNote B). note.address) (page_notes ss) (page_notes ts) (moved_pages ss ts all))) once

@@ -1,4 +1,4 @@
--- What the comparison of notes with the table goes by.
+-- What the comparison of notes with the table rests on.
 use Rattle.std.proofs.Common.{◌≡◌, ◌≢◌, ℕ, ◌+◌, ◌<◌, ◌≤◌, inl, inr, true, false, List, [], ◌∷◌, length, get_or, map, zero, suc, Some, None, Option, Result, Ok, Err, refl, sym, ap, ◌∙◌, subst, arith}
 use Rattle.std.specs.Prelude.{All, Contains, IsSome}
 use Rattle.std.specs.List.{filter_map}
@@ -25,7 +25,7 @@ use Rattle.harvest.specs.Entries.{recorded_addresses, ruled_origins}
 use Rattle.harvest.proofs.GatherLaws.{recorded_held, ruled_asked}
 use Rattle.address.specs.AddressOrder.{IsBefore, IsAscending}
 
--- what a binary search by a name finds stands there
+-- what a binary search by a name finds is there
 pub found_named : {X : Type 0} (key : X → Text) (xs : List X) (u : Text) (r : Result ℕ ℕ) → is_ok r ≡ true → IsSearchInRange r (length xs)
     → IsBinarySearchResult (λ (x : X). slice_cmp nat_cmp (key x) u) xs r → (x : X) → Contains (map key xs) u
 found_named key xs u (Ok i) ok within found d =
@@ -33,7 +33,7 @@ found_named key xs u (Ok i) ok within found d =
     (i, omega (arith, long, within), get_or-map key xs i d u within ∙ exact_bytes (key (get_or xs i d)) u (found d))
 found_named key xs u (Err i) ok within found d = cc
 
--- an address whose outcome stands in the table is among the records
+-- an address whose outcome is in the table is among the records
 pub recorded_among : (entries : List (Text × Slot)) (u : Text) → IsSome (slot_outcome (lookup entries u)) → Contains (recorded_addresses (filter_map record_of entries)) u
 recorded_among [] u some = absurd (false≢true some)
 recorded_among (entry ∷ entries) u some = elim (compare_texts entry.0 u) [
@@ -49,7 +49,7 @@ recorded_among (entry ∷ entries) u some = elim (compare_texts entry.0 u) [
     later None is among = rw is among
     later (Some x) is among = rw is (contains_tail entry.0 u (recorded_addresses (filter_map record_of entries)) among)
 
--- an origin whose rules stand in the table is among the known ones
+-- an origin whose rules are in the table is among the known ones
 pub ruled_among : (origins : List (Text × OriginRules)) (o : Text) → IsSome (known_rules_in (lookup origins o)) → Contains (ruled_origins (filter_map ruled_of origins)) o
 ruled_among [] o some = absurd (false≢true some)
 ruled_among (origin ∷ origins) o some = elim (compare_texts origin.0 o) [
@@ -65,7 +65,7 @@ ruled_among (origin ∷ origins) o some = elim (compare_texts origin.0 o) [
     later None is among = rw is among
     later (Some x) is among = rw is (contains_tail origin.0 o (ruled_origins (filter_map ruled_of origins)) among)
 
--- an address among the records has an outcome in the table, where no address is held twice
+-- an address among the records has an outcome in the table, if no address is held twice
 pub stands_recorded : (entries : List (Text × Slot)) (u : Text) → IsOnce (keys entries) → Contains (recorded_addresses (filter_map record_of entries)) u → IsSome (slot_outcome (lookup entries u))
 stands_recorded [] u once (k, lt, is) = absurd (omega (arith, lt))
 stands_recorded (entry ∷ entries) u once among = elim (compare_texts entry.0 u) [
@@ -84,7 +84,7 @@ stands_recorded (entry ∷ entries) u once among = elim (compare_texts entry.0 u
       | inr rest ↦ others rest
     ]
 
--- an origin among the known ones has rules in the table, where no origin is asked for twice
+-- an origin among the known ones has rules in the table, if no origin's are requested twice
 pub stands_ruled : (origins : List (Text × OriginRules)) (o : Text) → IsOnce (keys origins) → Contains (ruled_origins (filter_map ruled_of origins)) o → IsSome (known_rules_in (lookup origins o))
 stands_ruled [] o once (k, lt, is) = absurd (omega (arith, lt))
 stands_ruled (origin ∷ origins) o once among = elim (compare_texts origin.0 o) [
@@ -103,7 +103,7 @@ stands_ruled (origin ∷ origins) o once among = elim (compare_texts origin.0 o)
       | inr rest ↦ others rest
     ]
 
--- one name more that stands among others
+-- one name more that is among others
 pub more_among : (first : Text) (names others : List Text) → Contains others first → ((u : Text) → Contains names u → Contains others u) → (u : Text) → Contains (first ∷ names) u → Contains others u
 more_among first names others here later u among = elim (contains_cases first u names among) [
   | inl is ↦ subst (λ (w : Text). Contains others w) is here
@@ -120,7 +120,7 @@ less_lt Greater h = cc
 is_before_trans : (u v w : Text) → IsBefore u v → IsBefore v w → IsBefore u w
 is_before_trans u v w a b = ap is_lt (nat_list_cmp_total.trans u v w (less_lt _ a) (less_lt _ b))
 
--- no name stands before itself
+-- no name is before itself
 pub not_before_self : (u : Text) → IsBefore u u → ⊥
 not_before_self u h = go (slice_cmp nat_cmp u u) (nat_list_cmp_total.antisymm u u) h
   where
@@ -129,7 +129,7 @@ not_before_self u h = go (slice_cmp nat_cmp u u) (nat_list_cmp_total.antisymm u 
     go Equal e h = cc
     go Greater e h = cc
 
--- each name stands before the next one
+-- each name is before the next one
 abbrev AreSteps : List Text → Type 0
 AreSteps names = (j : ℕ) → j + 1 < length names → IsBefore (get_or names j []) (get_or names (j + 1) [])
 
@@ -144,12 +144,12 @@ before_all u (v ∷ names) steps =
     let next : IsBefore u v = steps zero (omega arith) in
     All-cons (IsBefore u) v names next (All-weaker (IsBefore v) (IsBefore u) (λ w h. is_before_trans u v w next h) names (before_all v names (steps_tail u (v ∷ names) steps)))
 
--- names each of which stands before the next one ascend
+-- names each of which is before the next one ascend
 pub ascending_steps : (names : List Text) → AreSteps names → IsAscending names
 ascending_steps [] steps = λ i j d lt lj. absurd (omega arith)
 ascending_steps (u ∷ names) steps = AllPairs-cons IsBefore u names (before_all u names steps) (ascending_steps names (steps_tail u names steps))
 
--- names that ascend stand once
+-- names that ascend occur once
 pub once_ascending : (names : List Text) → IsAscending names → IsOnce names
 once_ascending [] up = tt
 once_ascending (u ∷ names) up = (
@@ -157,7 +157,7 @@ once_ascending (u ∷ names) up = (
   once_ascending names (λ i j d lt lj. up (suc i) (suc j) d (omega arith) (omega arith)),
 )
 
--- names that stand once differ from their neighbours
+-- names that occur once differ from their neighbours
 steps_differ : (names : List Text) → IsOnce names → (j : ℕ) → j + 1 < length names → get_or names j [] ≢ get_or names (j + 1) []
 steps_differ [] once j lt = absurd (omega (arith, lt))
 steps_differ (u ∷ names) once zero lt = λ same_name. once.0 (zero, omega (arith, lt), get_or_default names 0 u [] (omega (arith, lt)) ∙ sym same_name)
@@ -165,7 +165,7 @@ steps_differ (u ∷ names) once (suc j) lt =
     let e : suc j + 1 ≡ suc (j + 1) = omega arith in
     subst (λ (n : ℕ). get_or names j [] ≢ get_or (u ∷ names) n []) (sym e) (steps_differ names once.1 j (omega (arith, lt)))
 
--- of two names that differ one stands before the other
+-- of two names that differ one is before the other
 before_other : (u v : Text) → is_lt (slice_cmp nat_cmp v u) ≡ false → u ≢ v → IsBefore u v
 before_other u v behind apart = go (slice_cmp nat_cmp u v) refl
   where
@@ -174,7 +174,7 @@ before_other u v behind apart = go (slice_cmp nat_cmp u v) refl
     go Equal e = absurd (apart (exact_bytes u v e))
     go Greater e = absurd (false≢true (sym behind ∙ ap is_lt (nat_list_cmp_total.antisymm v u ∙ ap ordering_reverse e)))
 
--- names in order ascend where none stands twice
+-- names in order ascend if none occurs twice
 pub ascending_sorted : {X : Type 0} (key : X → Text) (xs : List X) → IsSortedBy (λ (x y : X). is_lt (slice_cmp nat_cmp (key x) (key y))) xs → IsOnce (map key xs) → IsAscending (map key xs)
 ascending_sorted key [] sorted once = ascending_steps [] (λ j lt. absurd (omega (arith, lt)))
 ascending_sorted {X} key (x ∷ xs) sorted once = ascending_steps (map key (x ∷ xs)) go
@@ -202,7 +202,7 @@ pub ascends_whole : {X : Type 0} (key : X → Text) (xs : List X) (k : ℕ) → 
     → ((j : ℕ) → j + 1 < k → IsBefore (get_or (map key xs) j []) (get_or (map key xs) (j + 1) [])) → IsAscending (map key xs)
 ascends_whole key xs k whole up = ascending_steps (map key xs) (λ j lt. up j (let long : length (map key xs) ≡ length xs = length-map xs key in omega (arith, long, whole, lt)))
 
--- names of which one doesn't stand before the next don't ascend
+-- names of which one isn't before the next don't ascend
 pub not_ascending : {X : Type 0} (key : X → Text) (xs : List X) (i k : ℕ) (p q : X) → i + 1 ≡ k → k < length xs → p ≡ get_or xs i p → q ≡ get_or xs k q
     → is_lt (slice_cmp nat_cmp (key p) (key q)) ≡ false → ¬ IsAscending (map key xs)
 not_ascending key xs i k p q next in_xs p_is q_is behind up =

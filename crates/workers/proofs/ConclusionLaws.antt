@@ -31,7 +31,7 @@ use Rattle.harvest.proofs.OrderLaws.{Apart, Apart-from_once, Apart-IsPermutation
 
 -- ---- the workers that lines name
 
--- where there is no line none names a worker
+-- if there is no line none names a worker
 pub by_nobody : (workers : ℕ) (trace : List Event) → trace ≡ [] → AreByCrew workers trace
 by_nobody workers trace none = subst (λ (lines : List Event). AreByCrew workers lines) (sym none) (All-nil (λ (event : Event). IfSome (worker_of event) (λ worker. worker < workers)))
 
@@ -43,7 +43,7 @@ by_one trace = All-weaker (λ (event : Event). IfSome (worker_of event) (λ work
     some None h = tt
     some (Some worker) h = omega (arith, h)
 
--- ---- orders of texts that stand once
+-- ---- orders of texts that occur once
 
 map_self : (us : List Text) → map (λ (u : Text). u) us ≡ us
 map_self [] = refl
@@ -60,7 +60,7 @@ pub once_permutation : (us vs : List Text) → IsPermutation us vs → IsOnce us
 once_permutation us vs moved once =
     once_apart vs (Apart-IsPermutation (λ (u : Text). u) us vs moved (Apart-from_once (λ (u : Text). u) us (subst IsOnce (sym (map_self us)) once)))
 
--- notes that agree with the table do so in whatever order they stand
+-- notes that agree with the table do so in whatever order they are
 pub agrees_moved : {B : Type 0} (s : State) (pages pages' : List (PageNote B)) (sets sets' : List RulesNote) → IsPermutation pages pages' → IsPermutation sets sets' → Agrees s pages sets → Agrees s pages' sets'
 agrees_moved {B = B} s pages pages' sets sets' moved moved_sets agrees =
     let named : IsPermutation (addresses pages) (addresses pages') = IsPermutation-map (λ (note : PageNote B). note.address) _ _ moved in
@@ -98,7 +98,7 @@ module _ {B : Type 0} (may_say : Text → Outcome → B → Type 0) (may_rule : 
     origins = once_permutation (origins sets) (origins_asked asks) (IsPermutation-sym _ _ noted.rules) once_origins;
   }
 
-  -- an address that was asked for has a note, with all that is known of notes
+  -- an address that was requested has a note, with all that is known of notes
   page_noted : (asks : List Ask) (notes : List (PageNote B)) (sets : List RulesNote) → AreNoted may_say may_rule plan asks notes sets → (P : PageNote B → Type 0) → All P notes
       → (u : Text) → Contains (pages_asked asks) u → (note : PageNote B) × (note.address ≡ u) × P note
   page_noted asks notes sets noted P all u among = found_note (λ (note : PageNote B). note.address) P notes u all (Contains-permutation _ _ u noted.pages among)
@@ -107,7 +107,7 @@ module _ {B : Type 0} (may_say : Text → Outcome → B → Type 0) (may_rule : 
       → (o : Text) → Contains (origins_asked asks) o → (note : RulesNote) × (note.origin ≡ o) × P note
   rules_noted asks notes sets noted P all o among = found_note (λ (note : RulesNote). note.origin) P sets o all (Contains-permutation _ _ o noted.rules among)
 
-  -- what stands in the table is recorded or was given up
+  -- what is in the table is recorded or was given up
   stands_as : (s : State) (u : Text) (told : Option Outcome) → MatchOption told (IsGivenUp s u) (λ x. (answers s).outcome u ≡ Some x) → IsSome ((answers s).outcome u) ⊎ IsGivenUp s u
   stands_as s u None lost = inr lost
   stands_as s u (Some x) recorded = inl (ap is_some recorded)

@@ -60,7 +60,7 @@ pub written : {X : Type 0} (n : ℕ) (new rest : List X) → length new ≡ n �
 written n new rest is = take-append-le n new rest (omega arith) ∙ take_all n new (omega arith)
 
 module _ {F B : Type 0} (m : Meaning F B) (plan : Plan) where
-  -- ---- fetchers of which nothing was asked
+  -- ---- fetchers of which nothing was requested
 
   same_gained : (asks : List Ask) → gained asks asks ≡ []
   same_gained asks = gained_is asks asks [] (sym (append-nil asks))
@@ -212,7 +212,7 @@ module _ {F B : Type 0} (m : Meaning F B) (plan : Plan) where
         (fits_extend (SomeSays m old new) (SomeRules m old new) whole (answers h.state) (crew_fits m old new whole fit) b.retrieved.told)
         (sound_replay (policy plan) h.trace h.state plan.starts_in_range b.retrieved.replay).few many
 
--- ---- where there is no memory to bring the notes together
+-- ---- if there is no memory to bring the notes together
 
 module _ {F B : Type 0} (m : Meaning F B) (plan : Plan) where
   pub bare_later : (old new : List F) (ss ts us : List (Seat F B)) → fetchers_of ss ≡ old → new ≡ fetchers_of us → AllZip IsOrdered ts us → AllGo m plan ss ts → AreLater m old new
@@ -233,7 +233,7 @@ pub account_own : {F B : Type 0} (m : Meaning F B) (old new : List F) (noted : N
     → (trace : List Event) → AreNotedBy notes.pages.items notes.rules.items trace → AreOwn m 0 old new trace
 account_own {B = B} m old new noted notes account is = subst (λ (n : Noted B). IsOwnAccount m old new n) is account
 
--- ---- what a retrieval comes to, beside its fetchers
+-- ---- what a retrieval results in, beside its fetchers
 
 module _ {F B : Type 0} (m : Meaning F B) (plan : Plan) (old new : List F) where
   -- it retrieved all
@@ -284,7 +284,7 @@ module _ {F B : Type 0} (m : Meaning F B) (plan : Plan) (old new : List F) where
     crowded_told (Ok h) ok many = absurd (never_retrieved m plan old new whole fit h ok many)
     crowded_told (Err halt) ok many = refl
 
--- ---- what it came to, with its fetchers
+-- ---- what it resulted in, with its fetchers
 
 module _ {F B : Type 0} (result : Result (Retrieved F B) (Stopped F B)) (r : Result (Harvested B) (Halt B)) (new : List F) where
   -- the harvest is the same, and so are the fetchers

@@ -36,7 +36,7 @@ nil_right (x ∷ xs) ys e = cc
 fresh : {X : Type 0} (old more new : List X) → new ≡ old ++ more → old ≡ [] → new ≡ more
 fresh {X = X} old more new is none = is ∙ ap (λ (xs : List X). xs ++ more) none
 
--- what is noted stands among the names
+-- what is noted is among the names
 named_all : {X : Type 0} (key : X → Text) (xs : List X) → All (λ x. Contains (map key xs) (key x)) xs
 named_all key xs k d lt = (k, omega (arith, length-map xs key), get_or-map key xs k d (key (get_or xs k d)) lt)
 

@@ -28,7 +28,7 @@ by_place key worker xs u i n once within here by k d lt named =
     let at : k ≡ i = Apart-from_once key xs once k i d lt within (named ∙ sym (here d)) in
     subst (λ (j : ℕ). worker (get_or xs j d) ≡ n) (sym at) (by d)
 
--- a text stands among others, or doesn't
+-- a text is among others, or isn't
 among_or_not : (u : Text) (us : List Text) → Contains us u ⊎ (¬ Contains us u)
 among_or_not u [] = inr (λ among. let (k, lt, is) = among in absurd (omega (arith, lt)))
 among_or_not u (v ∷ us) = elim (compare_texts v u) [
@@ -42,7 +42,7 @@ among_or_not u (v ∷ us) = elim (compare_texts v u) [
   ]
 ]
 
--- texts that stand once, are all among others, and are as many: each of the others is among them
+-- texts that occur once, are all among others, and are as many: each of the others is among them
 pub all_among : (us ks : List Text) → IsOnce us → ((u : Text) → Contains us u → Contains ks u) → length ks ≤ length us → (u : Text) → Contains ks u → Contains us u
 all_among us ks once within few u there = elim (among_or_not u us) [
   | inl among ↦ among
@@ -58,7 +58,7 @@ told_some : (told known : Option Outcome) (A : Type 0) → MatchOption told A (�
 told_some None known A h some = absurd (false≢true some)
 told_some (Some x) known A h some = ap is_some h
 
--- where of each note something was told that stands in the table, and no more is recorded than was noted, all that is recorded was noted
+-- if of each note something was received that is in the table, and no more is recorded than was noted, all that is recorded was noted
 pub recorded_noted : {B : Type 0} (s : State) (notes : List (PageNote B)) → IsOnce (addresses notes) → All (StandsPage s) notes → All (λ (note : PageNote B). IsSome note.told) notes
     → length (filter_map record_of s.entries) ≤ length notes → (u : Text) → IsSome ((answers s).outcome u) → Contains (addresses notes) u
 recorded_noted {B = B} s notes once stand told few u some =

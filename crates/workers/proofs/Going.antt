@@ -32,7 +32,7 @@ was_logged old new a (inr is) other = is
 pub noted_after : {X : Type 0} (old mid new : List X) (x : X) → new ≡ mid ++ x ∷ [] → mid ≡ old → new ≡ old ++ x ∷ []
 noted_after {X = X} old mid new x more same = more ∙ ap (λ (xs : List X). xs ++ x ∷ []) same
 
--- what a note of a page has, where it has an outcome, was told
+-- what a note of a page has, if it has an outcome, was received
 told_cases : {B : Type 0} (says : Text → Outcome → B → Type 0) (plan : Plan) (u : Text) (told : Option Outcome) (kept : Option B) (x : Outcome) (body : B) → says u x body
     → MatchOption told (kept ≡ None) (λ y. (y ≡ x) × (kept ≡ body_of plan u y body)) → MatchOption told (kept ≡ None) (λ y. (b : B) × says u y b × (kept ≡ body_of plan u y b))
 told_cases says plan u None kept x body said is = is
@@ -84,7 +84,7 @@ module _ {F B : Type 0} (m : Meaning F B) (plan : Plan) (worker : ℕ) where
     own_sets = All-nil (λ (note : RulesNote). note.worker ≡ worker);
   }
 
-  -- a page was asked for, and noted
+  -- a page was requested, and noted
   pub goes_page : (f g : F) (n n' : Notes B) (note : PageNote B) → m.site g ≡ m.site f → m.log g ≡ m.log f ++ ask.Page note.address ∷ []
       → n'.pages.items ≡ n.pages.items ++ note ∷ [] → n'.rules.items ≡ n.rules.items → IsToldPage (m.says (m.site f)) plan note → note.worker ≡ worker → Goes m plan worker (f, n) (g, n')
   goes_page f g n n' note same_site logged noted same_sets told own = record {
@@ -103,7 +103,7 @@ module _ {F B : Type 0} (m : Meaning F B) (plan : Plan) (worker : ℕ) where
     own_sets = All-nil (λ (note : RulesNote). note.worker ≡ worker);
   }
 
-  -- an origin's rules were asked for, and noted
+  -- an origin's rules were requested, and noted
   pub goes_rules : (f g : F) (n n' : Notes B) (note : RulesNote) → m.site g ≡ m.site f → m.log g ≡ m.log f ++ ask.Rules note.origin ∷ []
       → n'.pages.items ≡ n.pages.items → n'.rules.items ≡ n.rules.items ++ note ∷ [] → IsToldRules (m.rules (m.site f)) note → note.worker ≡ worker → Goes m plan worker (f, n) (g, n')
   goes_rules f g n n' note same_site logged same_pages noted told own = record {

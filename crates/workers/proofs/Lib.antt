@@ -17,3 +17,4 @@ pub mod FoundLaws
 pub mod CrewLaws
 pub mod CrewEnds
 pub mod MoveLaws
+pub mod QuotaLaws

@@ -12,12 +12,12 @@ pub piece_moved : {X : Type 0} (done piece rest left new all : List X) → left 
 piece_moved {X = X} done piece rest left new all cut is whole =
     ap (λ (xs : List X). xs ++ rest) is ∙ append_assoc done piece rest ∙ ap (λ (xs : List X). done ++ xs) (sym cut) ∙ whole
 
--- where there is room for the whole, there is for the next piece
+-- if there is room for the whole, there is for the next piece
 pub piece_fits : {X : Type 0} (done piece rest left all : List X) (room : ℕ) → left ≡ piece ++ rest → done ++ left ≡ all → length all ≤ room → length done + length piece ≤ room
 piece_fits done piece rest left all room cut whole within =
     omega (arith, within, ap length whole, ap length cut, length-append done left, length-append piece rest)
 
--- where nothing is left, the whole was moved
+-- if nothing is left, the whole was moved
 pub all_moved : {X : Type 0} (done left all : List X) → left ≡ [] → done ++ left ≡ all → done ≡ all
 all_moved {X = X} done left all none whole = sym (append-nil done) ∙ ap (λ (xs : List X). done ++ xs) (sym none) ∙ whole
 
@@ -39,11 +39,11 @@ all_counted {X = X} xs i f done all end whole =
     let none : drop i xs ≡ [] = none_left (drop i xs) (omega (arith, end, length-drop i xs)) in
     omega (arith, whole, ap (λ (ys : List X). length (flat_map f ys)) none)
 
--- where nothing is listed, and the next one adds nothing, nothing is listed
+-- if nothing is listed, and the next one adds nothing, nothing is listed
 pub none_added : {X Y : Type 0} (xs new : List X) (x : X) (f : X → List Y) → new ≡ xs ++ x ∷ [] → f x ≡ [] → flat_map f xs ≡ [] → flat_map f new ≡ []
 none_added xs new x f is empty none = rw (is, flat_map-append f xs (x ∷ []), none, empty) refl
 
--- the next one's part stands behind the others'
+-- the next one's part is after the others'
 pub one_added : {X Y : Type 0} (xs new : List X) (x : X) (f : X → Y) → new ≡ xs ++ x ∷ [] → map f new ≡ map f xs ++ f x ∷ []
 one_added xs new x f is = rw is (map-append f xs (x ∷ []))
 

@@ -1,4 +1,4 @@
--- From what was noted and concluded to what was retrieved, or where the retrieval stopped.
+-- From what was noted and concluded to what was retrieved, or was until the stop.
 use Rattle.std.proofs.Common.{◌≡◌, ℕ, inl, inr, true, false, Bool, ◌&&◌, List, [], ◌∷◌, Some, None, Option, Result, Ok, Err, refl, sym, ap, ◌∙◌, subst}
 use Rattle.std.specs.Prelude.{All, Contains, IsSome, MatchOption, IfSome, IfOk, IfErr, IsOk, IsErr, if◌then◌else◌}
 use Rattle.std.specs.List.{filter_map, AllZip}
@@ -65,7 +65,7 @@ body_is true body found h = cc
 body_is false body found h = cc
 
 module _ {B : Type 0} (may_say : Text → Outcome → B → Type 0) (may_rule : Text → RuleSetValue → Type 0) (plan : Plan) where
-  -- a body is noted just where the page is kept
+  -- a body is noted exactly if the page is kept
   pub has_body : (note : PageNote B) → IsToldPage may_say plan note → HasBody plan note
   has_body note h = go note.told h
     where
@@ -236,7 +236,7 @@ module _ {F B : Type 0} (m : Meaning F B) where
   some_rule (f ∷ fs) (g ∷ gs) whole fit o r (inl (among, said)) = (All-head (λ (f : F). Fits (m.says (m.site f)) (m.rules (m.site f)) whole) f fs fit).rules o r said
   some_rule (f ∷ fs) (g ∷ gs) whole fit o r (inr h) = some_rule fs gs whole (All-tail (λ (f : F). Fits (m.says (m.site f)) (m.rules (m.site f)) whole) f fs fit) o r h
 
-  -- where the site of each fits, so does what some of them say
+  -- if the site of each fits, so does what some of them say
   pub crew_fits : (fs gs : List F) (whole : Answers) → AllFit m fs whole → Fits (SomeSays m fs gs) (SomeRules m fs gs) whole
   crew_fits fs gs whole fit = record { outcomes = some_say fs gs whole fit; rules = some_rule fs gs whole fit }
 

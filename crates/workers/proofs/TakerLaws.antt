@@ -52,13 +52,13 @@ module _ {X : Type 0} (key : X → Text) (worker : X → ℕ) where
     λ all. eq-eqb (worker (get_or xs i x)) n (all i x within (here x)),
   )
 
-  -- where nothing has this name there is nothing to say
+  -- if nothing has this name there is nothing to say
   pub by_none : (xs : List X) (u : Text) (n : ℕ) → ¬ Contains (map key xs) u → All (λ x. key x ≡ u → worker x ≡ n) xs
   by_none xs u n none k d lt same =
       let long : length (map key xs) ≡ length xs = length-map xs key in
       absurd (none (k, omega (arith, long, lt), get_or-map key xs k d u lt ∙ same))
 
-  -- what is noted under a name is noted by the worker of that name, and by who noted all
+  -- what is noted under a name is noted by the worker of that name, and by the one that noted all
   pub worker_is : (xs : List X) (u : Text) (w n : ℕ) → Contains (map key xs) u → All (λ x. key x ≡ u → worker x ≡ w) xs → All (λ x. worker x ≡ n) xs → w ≡ n
   worker_is [] u w n (k, lt, is) by own = absurd (omega (arith, lt))
   worker_is (x ∷ xs) u w n (k, lt, is) by own =
@@ -115,11 +115,11 @@ noted_moved {B = B} xs ys zs ws (line.Stop cause) moved moved' h = tt
 pub all_moved_by : {B : Type 0} (xs ys : List (PageNote B)) (zs ws : List RulesNote) (trace : List Event) → IsPermutation xs ys → IsPermutation zs ws → AreNotedBy xs zs trace → AreNotedBy ys ws trace
 all_moved_by xs ys zs ws trace moved moved' noted = All-weaker (IsNotedBy xs zs) (IsNotedBy ys ws) (λ event h. noted_moved xs ys zs ws event moved moved' h) trace noted
 
--- where there is no line none says who took anything
+-- if there is no line none says who took anything
 pub noted_by_none : {B : Type 0} (notes : List (PageNote B)) (sets : List RulesNote) (trace : List Event) → trace ≡ [] → AreNotedBy notes sets trace
 noted_by_none notes sets trace none = subst (λ (lines : List Event). AreNotedBy notes sets lines) (sym none) (All-nil (IsNotedBy notes sets))
 
--- a worker that is alone took all that it was asked for
+-- a worker that is alone took all that was requested of it
 only_own : (asks : List Ask) (event : Event) → IfSome (worker_of event) (λ worker. worker ≡ only_worker) → IsOwn 0 asks event
 only_own asks (line.Opened u) h = tt
 only_own asks (line.Page w u) h = λ among. h
@@ -138,7 +138,7 @@ module _ {F B : Type 0} (m : Meaning F B) where
   own_nothing n (f ∷ fs) [] = tt
   own_nothing n (f ∷ fs) (g ∷ gs) = (All-nil (IsOwn n (gained (m.log f) (m.log g))), own_nothing (suc n) fs gs)
 
-  -- where there is no line each took what it was asked for
+  -- if there is no line each took what was requested of it
   pub own_none : (old new : List F) (trace : List Event) → trace ≡ [] → AreOwn m 0 old new trace
   own_none old new trace none = subst (λ (lines : List Event). AreOwn m 0 old new lines) (sym none) (own_nothing 0 old new)
 

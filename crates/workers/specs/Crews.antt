@@ -1,4 +1,4 @@
--- Several fetchers together: what they were asked for in the course of a retrieval, and what they may have answered.
+-- Several fetchers together: what was requested of them in the course of a retrieval, and what they may have answered.
 use Rattle.std.specs.Prelude.{◌≡◌, ◌⊎◌, ℕ, List, [], ◌∷◌, ◌++◌, All, Contains}
 use Rattle.std.specs.List.{AllZip}
 use Rattle.robots_rules.specs.Access.{RuleSetValue}
@@ -18,7 +18,7 @@ module _ {F B : Type 0} (m : Meaning F B) where
     pub site_is : m.site new ≡ m.site old
     pub log_is : m.log new ≡ m.log old ++ gained (m.log old) (m.log new)
 
-  -- the fetchers stand in their order, each after some asks
+  -- the fetchers are in their order, each after some asks
   abbrev pub AreLater : List F → List F → Type 0
   AreLater old new = AllZip IsLater old new
 
@@ -28,14 +28,14 @@ module _ {F B : Type 0} (m : Meaning F B) where
   all_gained (old ∷ olds) [] = []
   all_gained (old ∷ olds) (new ∷ news) = gained (m.log old) (m.log new) ++ all_gained olds news
 
-  -- some fetcher that was asked for the address may say this of it
+  -- some fetcher that was to request the address may say this of it
   abbrev pub SomeSays : List F → List F → Text → Outcome → B → Type 0
   SomeSays [] news u x body = ⊥
   SomeSays (old ∷ olds) [] u x body = ⊥
   SomeSays (old ∷ olds) (new ∷ news) u x body =
       (Contains (gained (m.log old) (m.log new)) (ask.Page u) × m.says (m.site old) u x body) ⊎ SomeSays olds news u x body
 
-  -- some fetcher that was asked for the origin's rules may say that they are these
+  -- some fetcher that was to request the origin's rules may say that they are these
   abbrev pub SomeRules : List F → List F → Text → RuleSetValue → Type 0
   SomeRules [] news o set = ⊥
   SomeRules (old ∷ olds) [] o set = ⊥

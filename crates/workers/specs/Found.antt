@@ -1,4 +1,4 @@
--- What a retrieval found, by the answers that were recorded alone: with no word of the events that led there.
+-- What a retrieval found, by the answers that were recorded alone, without mention of the events that led there.
 use Rattle.std.specs.Prelude.{◌≡◌, ◌≢◌, ◌↔◌, ℕ, List, Contains, IsSome, All, Any, AllPairs}
 use Rattle.follow_filters.specs.declared.plan.Plan.{Plan}
 use Rattle.robots_rules.specs.Access.{RuleSetValue}
@@ -11,12 +11,12 @@ use Rattle.frontier_core.specs.Plans.{policy}
 use Rattle.harvest.specs.declared.entry.Entry.{Entry}
 use Rattle.workers.specs.Asks.{IsTold}
 
--- nothing is asked for twice
+-- nothing is requested twice
 abbrev pub AreMadeOnce : List Ask → Type 0
 AreMadeOnce asks = AllPairs (λ one other. one ≢ other) asks
 
 -- These asks were made, and this is recorded of them: the pages are those that are wanted by what is recorded, the rules those
--- of the origins that need them, each asked for once. Each outcome and rule set is one that the site may have answered.
+-- of the origins that need them, each requested once. Each outcome and rule set is one that the site may have answered.
 pub record AreAsked {B : Type 0} (may_say : Text → Outcome → B → Type 0) (may_rule : Text → RuleSetValue → Type 0) (plan : Plan) (asks : List Ask) (m : Answers) : Type 0 where
   pub once : AreMadeOnce asks
   pub wanted : (u : Text) → Contains asks (ask.Page u) ↔ IsWanted (policy plan) m u

@@ -5,4 +5,5 @@ pub mod OneWorker
 pub mod Crews
 pub mod Takers
 pub mod Found
+pub mod Quotas
 pub mod inner

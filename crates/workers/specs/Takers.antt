@@ -1,4 +1,4 @@
--- Who took what, by the lines of a trace: the worker whose fetcher was asked for it.
+-- Who took what, by the lines of a trace: the worker whose fetcher was to request it.
 use Rattle.std.specs.Prelude.{◌≡◌, ℕ, suc, List, [], ◌∷◌, All, Contains}
 use Rattle.fetcher.specs.declared.fetcher.Ask.{Ask}
 use Rattle.fetcher.specs.declared.fetcher.Fetcher.{Ghosts as Meaning}
@@ -6,7 +6,7 @@ use Rattle.frontier_core.specs.declared.event.Event.{Event}
 use Rattle.frontier_core.specs.declared.event.Event.TheVariants as line
 use Rattle.workers.specs.Asks.{gained, pages_asked, origins_asked}
 
--- where the line says that a worker took what is among these asks, its number is n
+-- if the line says that a worker took what is among these asks, its number is n
 abbrev pub IsOwn : ℕ → List Ask → Event → Type 0
 IsOwn n asks (line.Opened start) = Unit {0}
 IsOwn n asks (line.Page worker address) = Contains (pages_asked asks) address → worker ≡ n
@@ -20,7 +20,7 @@ IsOwn n asks (line.AbandonRules worker origin) = Unit {0}
 IsOwn n asks (line.Stop cause) = Unit {0}
 
 module _ {F B : Type 0} (m : Meaning F B) where
-  -- by the lines each fetcher was asked for what its own worker took; the workers' numbers count from n, in the fetchers' order
+  -- by the lines each fetcher was to request what its own worker took; the numbers count from n, in the fetchers' order
   abbrev pub AreOwn : ℕ → List F → List F → List Event → Type 0
   AreOwn n [] news trace = Unit {0}
   AreOwn n (old ∷ olds) [] trace = Unit {0}

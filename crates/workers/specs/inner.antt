@@ -1,5 +1,6 @@
 -- Definitions that proofs alone need: no public clause cites them.
 pub mod Turns
+pub mod Lefts
 pub mod Notes
 pub mod Seats
 pub mod Apart

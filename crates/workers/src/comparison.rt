@@ -1,4 +1,4 @@
-//! The comparison of what the workers noted with what stands in the table.
+//! The comparison of what the workers noted with what is in the table.
 ghost use Rattle.std.specs.Prelude.{◌≡◌, ◌↔◌, ◌≤◌, ℕ, false, List, All, Contains, IsSome, IsTrue, IsPermutation, length, map};
 ghost use Rattle.std.specs.List.{filter_map};
 ghost use Rattle.frontier_core.specs.Readers.{record_of};
@@ -24,7 +24,7 @@ pub fn sort_and_ascend<T: Named>(things: &mut Vec<T>) -> bool
     ascend(things)
 }
 
-/// The same, where there is memory by the sort that keeps runs: notes come worker by worker in order of discovery, and links of
+/// The same, if there is memory by the sort that keeps runs: notes come worker by worker in order of discovery, and links of
 /// a site mostly ascend, so that few names are compared.
 pub fn order_and_ascend<T: Named>(things: &mut Vec<T>) -> bool
     ensures permutation { IsPermutation things.old.items things.new.items }
@@ -37,7 +37,7 @@ pub fn order_and_ascend<T: Named>(things: &mut Vec<T>) -> bool
     }
 }
 
-// Whether each name stands before the next one.
+// Whether each name is before the next one.
 fn ascend<T: Named>(things: &[T]) -> bool
     ensures { IsTrue result ↔ IsAscending (map T.text_of things.now) }
 {
@@ -50,7 +50,7 @@ fn ascend<T: Named>(things: &[T]) -> bool
     true
 }
 
-// Whether what was noted of a page stands in the table.
+// Whether what was noted of a page is in the table.
 fn page_stands<B>(frontier: &Frontier, note: &PageNote<B>) -> bool
     ensures { IsTrue result ↔ StandsPage frontier.now.state note.now }
 {
@@ -63,7 +63,7 @@ fn page_stands<B>(frontier: &Frontier, note: &PageNote<B>) -> bool
     }
 }
 
-// Whether what was noted of an origin stands in the table.
+// Whether what was noted of an origin is in the table.
 fn rules_stand(frontier: &Frontier, note: &RulesNote) -> bool
     ensures { IsTrue result ↔ StandsRules frontier.now.state note.now }
 {
@@ -76,7 +76,7 @@ fn rules_stand(frontier: &Frontier, note: &RulesNote) -> bool
     }
 }
 
-// Whether all that was noted of pages stands in the table.
+// Whether all that was noted of pages is in the table.
 fn pages_stand<B>(frontier: &Frontier, notes: &[PageNote<B>]) -> bool
     ensures { IsTrue result ↔ All (StandsPage frontier.now.state) notes.now }
 {
@@ -88,7 +88,7 @@ fn pages_stand<B>(frontier: &Frontier, notes: &[PageNote<B>]) -> bool
     true
 }
 
-// Whether all that was noted of origins stands in the table.
+// Whether all that was noted of origins is in the table.
 fn all_rules_stand(frontier: &Frontier, notes: &[RulesNote]) -> bool
     ensures { IsTrue result ↔ All (StandsRules frontier.now.state) notes.now }
 {
@@ -134,7 +134,7 @@ fn records_are_noted<B>(frontier: &Frontier, notes: &[PageNote<B>]) -> bool
     true
 }
 
-// Whether something was told of each page.
+// Whether something was received of each page.
 fn are_told<B>(notes: &[PageNote<B>]) -> bool
     ensures { IsTrue result → All (λ note. IsSome note.told) notes.now }
 {
@@ -161,7 +161,7 @@ fn are_no_more<B>(frontier: &Frontier, notes: &[PageNote<B>]) -> bool
     true
 }
 
-// Whether what is recorded was noted, in notes that are in address order and stand in the table. Where each note stands for
+// Whether what is recorded was noted, in notes that are in address order and are in the table. If each note is for
 // a record of its own, and there are no more records than notes, each record has its note, and none is looked for.
 fn all_are_noted<B>(frontier: &Frontier, notes: &[PageNote<B>]) -> bool
     requires once { IsOnce (addresses notes.now) }
@@ -191,7 +191,7 @@ fn known_rules_are_noted(frontier: &Frontier, notes: &[RulesNote]) -> bool
     true
 }
 
-/// Whether notes agree with the table. Where they do they are left in the order of addresses and origins. Takes memory for a while, and does without where there is none.
+/// Whether notes agree with the table. If they do they are left in the order of addresses and origins. Takes memory for a while, and does without if there is none.
 pub fn agree<B>(frontier: &Frontier, notes: &mut Notes<B>) -> bool
     ensures pages { IsPermutation notes.old.pages.items notes.new.pages.items }
     ensures rules { IsPermutation notes.old.rules.items notes.new.rules.items }

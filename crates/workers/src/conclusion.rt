@@ -1,12 +1,13 @@
 //! What is concluded from the notes of all workers and the frontier that they left.
 ghost use Rattle.std.specs.Prelude.{◌≡◌, ◌≢◌, ◌⊎◌, ◌↔◌, ◌++◌, ◌∷◌, [], ℕ, List, All, Contains, IfOk, IfErr, OnOk, map};
-ghost use Rattle.std.specs.List.{filter_map};
+ghost use Rattle.std.specs.List.{filter_map, sum_by};
 ghost use Rattle.frontier_core.specs.Machine.{answers, IsQuiet};
 ghost use Rattle.frontier_core.specs.Invariants.{IsComplete, IsOverfull};
 ghost use Rattle.frontier_core.specs.Plans.{policy};
 ghost use Rattle.frontier_core.specs.Routes.{HasTooMany};
 ghost use Rattle.frontier_core.specs.Tables.{IsOnce};
-ghost use Rattle.workers.specs.inner.Concluded.{HasBody, IsConcluded, IsBorneOut, IsBare, IsBelied, IsUnexplained};
+ghost use Rattle.workers.specs.Quotas.{IsPassed, KeepsTo, page_len};
+ghost use Rattle.workers.specs.inner.Concluded.{HasBody, IsConcluded, IsBorneOut, IsBare, IsBelied, IsMiscounted, IsUnexplained};
 ghost use Rattle.workers.specs.OneWorker.{AreByCrew};
 ghost use Rattle.workers.specs.inner.Takers.{AreNotedBy};
 ghost use Rattle.workers.specs.inner.Noted.{page_of};
@@ -15,13 +16,14 @@ use crate::comparison::agree;
 use crate::crew_trace::{are_by_crew, are_taken_by};
 use crate::followed::are_followed;
 use crate::note::{Notes, PageNote};
+use crate::quota::{Quota, are_passed};
 use crate::retrieval::{Halt, finish};
 use follow_filters::Plan;
 use frontier_core::{Cause, Frontier};
 use harvest::{Harvest, KeptPage};
 use std::alloc::{AllocError, Global};
 
-// How a frontier was left: quiet, or stopped for a cause that is borne out; as Mismatch otherwise.
+// How a frontier was left: quiet, or stopped for a cause that is borne out; Mismatch otherwise.
 fn end_of(frontier: &Frontier) -> Result<(), Cause>
     ensures quiet { OnOk result (IsQuiet frontier.now.state × IsComplete (policy frontier.now.plan) frontier.now.state) }
     ensures stopped { IfErr result (λ cause. cause ≢ Cause.Mismatch → frontier.now.state.cause ≡ Some cause) }
@@ -41,11 +43,44 @@ fn end_of(frontier: &Frontier) -> Result<(), Cause>
         }
         Some(Cause::Memory) => Err(Cause::Memory),
         Some(Cause::Mismatch) => Err(Cause::Mismatch),
+        Some(Cause::Quota) => Err(Cause::Quota),
         None => Err(Cause::Mismatch),
     }
 }
 
-// Keeps the page of a note, where it has a body.
+// How a frontier was left with these pages: as `end_of` says, if they have more bytes than the quota exactly if it stopped for
+// that; else Mismatch.
+fn end_with<B, Q: Quota<B>>(
+    frontier: &Frontier,
+    quota: &Q,
+    pages: &[KeptPage<B>],
+) -> Result<(), Cause>
+    ensures quiet { OnOk result (IsQuiet frontier.now.state × IsComplete (policy frontier.now.plan) frontier.now.state) }
+    ensures stopped { IfErr result (λ cause. cause ≢ Cause.Mismatch → frontier.now.state.cause ≡ Some cause) }
+    ensures full { result ≡ Err Cause.Full → HasTooMany (policy frontier.now.plan) (answers frontier.now.state) × IsOverfull (policy frontier.now.plan) frontier.now.state }
+    ensures within { OnOk result (¬ IsPassed (Q.most quota.now) (sum_by (page_len Q.len_of) pages.now)) }
+    ensures beyond { result ≡ Err Cause.Quota → IsPassed (Q.most quota.now) (sum_by (page_len Q.len_of) pages.now) }
+    ensures mismatch { result ≡ Err Cause.Mismatch → IsUnexplained frontier.now ⊎ IsMiscounted (Q.most quota.now) frontier.now (sum_by (page_len Q.len_of) pages.now) }
+{
+    let ended = end_of(frontier);
+    match ended {
+        Ok(()) => {
+            if are_passed(quota, pages) {
+                return Err(Cause::Mismatch);
+            }
+            Ok(())
+        }
+        Err(Cause::Quota) => {
+            if are_passed(quota, pages) {
+                return Err(Cause::Quota);
+            }
+            Err(Cause::Mismatch)
+        }
+        Err(cause) => Err(cause),
+    }
+}
+
+// Keeps the page of a note, if it has a body.
 fn keep_page<B: Drop>(pages: &mut Vec<KeptPage<B>>, note: PageNote<B>) -> Result<(), AllocError>
     ensures { OnOk result (pages.new.items ≡ pages.old.items ++ filter_map page_of (note ∷ [])) }
 {
@@ -113,9 +148,10 @@ fn kept_pages<B: Drop>(
 }
 
 /// What a crew of so many workers retrieved, at its end or until it stopped, by its notes and its frontier.
-pub fn conclude<B: Drop>(
+pub fn conclude<B: Drop, Q: Quota<B>>(
     alloc: Global,
     plan: &Plan,
+    quota: &Q,
     workers: usize,
     frontier: Frontier,
     notes: Notes<B>,
@@ -128,13 +164,17 @@ pub fn conclude<B: Drop>(
     ensures numbered { IfOk result (λ h. AreByCrew workers h.trace) × IfErr result (λ halt. halt.cause ≢ Cause.Mismatch → AreByCrew workers halt.harvest.trace) }
     ensures own { IfOk result (λ h. AreNotedBy notes.pages.items notes.rules.items h.trace)
         × IfErr result (λ halt. halt.cause ≢ Cause.Mismatch → AreNotedBy notes.pages.items notes.rules.items halt.harvest.trace) }
-    ensures mismatch { IfErr result (λ halt. halt.cause ≡ Cause.Mismatch → IsBelied plan.now workers frontier notes.pages.items notes.rules.items ⊎ IsUnexplained frontier) }
+    ensures quota { KeepsTo (Q.most quota.now) Q.len_of result }
+    ensures mismatch { IfErr result (λ halt. halt.cause ≡ Cause.Mismatch → IsBelied plan.now workers frontier notes.pages.items notes.rules.items
+        ⊎ (IsUnexplained frontier ⊎ IsMiscounted (Q.most quota.now) frontier (sum_by Q.len_of halt.harvest.bodies))) }
 {
-    let ended = end_of(&frontier);
     match kept_pages(alloc, plan, workers, &frontier, notes) {
-        Ok(pages) => finish(alloc, frontier, pages, ended),
+        Ok(pages) => {
+            let ended = end_with(&frontier, quota, &pages);
+            finish(alloc, frontier, pages, ended)
+        }
         Err(halt) => {
-            // By a call, since what an exit lets go is proved anew at each exit.
+            // By a call, since what an exit drops is proved anew at each exit.
             drop(frontier);
             Err(halt)
         }

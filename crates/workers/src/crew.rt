@@ -2,6 +2,7 @@
 ghost use Rattle.std.specs.Prelude.{◌≡◌, vec_len};
 ghost use Rattle.workers.specs.inner.Seats.{AllGo, SeatGoes};
 
+use crate::quota::{Meter, Quota};
 use crate::worker::{Seat, work_at};
 use fetcher::Fetcher;
 use follow_filters::Plan;
@@ -10,12 +11,13 @@ use std::alloc::Global;
 use std::sync::Wait;
 use std::thread::{Threads, for_each_mut};
 
-// Has a worker at each of these seats work, each in a thread of its own where one can be made.
-fn work_all_at<F: Fetcher + Send, R: Threads + Wait + Sync>(
+// Has a worker at each of these seats work, each in a thread of its own if one can be made.
+fn work_all_at<F: Fetcher + Send, Q: Quota<F::Body> + Sync, R: Threads + Wait + Sync>(
     rt: &R,
     alloc: Global,
     lock: &FrontierLock,
     plan: &Plan,
+    meter: &Meter<'_, Q>,
     seats: &mut [Seat<F, F::Body>],
 )
 where
@@ -25,16 +27,17 @@ where
     let threads = seats.len().max(1);
     let work = move |_: usize, seat: &mut Seat<F, F::Body>|
         ensures { SeatGoes F.Fetcher plan.entry.now seat.entry.now seat.exit.now }
-    { work_at(rt, alloc, lock, plan, seat) };
+    { work_at(rt, alloc, lock, plan, meter, seat) };
     for_each_mut(rt, seats, threads, &work);
 }
 
 /// Has a worker at each seat work until all are done.
-pub fn run_crew<F: Fetcher + Send, R: Threads + Wait + Sync>(
+pub fn run_crew<F: Fetcher + Send, Q: Quota<F::Body> + Sync, R: Threads + Wait + Sync>(
     rt: &R,
     alloc: Global,
     lock: &FrontierLock,
     plan: &Plan,
+    quota: &Q,
     mut seats: Vec<Seat<F, F::Body>>,
 ) -> Vec<Seat<F, F::Body>>
 where
@@ -42,6 +45,7 @@ where
     ensures went { AllGo F.Fetcher plan.now seats.items result.items }
     ensures len { vec_len result ≡ vec_len seats }
 {
-    work_all_at(rt, alloc, lock, plan, &mut seats);
+    let meter = Meter::new(quota);
+    work_all_at(rt, alloc, lock, plan, &meter, &mut seats);
     seats
 }

@@ -8,6 +8,7 @@ ghost use Rattle.workers.specs.Crews.{AreLater, all_gained, SomeSays, SomeRules,
 ghost use Rattle.workers.specs.Found.{AreMadeOnce, AreAsked, AreFound};
 ghost use Rattle.workers.specs.inner.Answered.{IsRetrievedBy, IsStoppedBy, IsAccount, IsOwnAccount};
 ghost use Rattle.workers.specs.OneWorker.{AreByCrew};
+ghost use Rattle.workers.specs.Quotas.{KeepsTo};
 ghost use Rattle.workers.specs.Retrieval.{IsRetrieved, IsStopped};
 ghost use Rattle.workers.specs.Sites.{IsCompleteFor};
 ghost use Rattle.workers.specs.Takers.{AreOwn};
@@ -16,6 +17,7 @@ use crate::conclusion::conclude;
 use crate::crew::run_crew;
 use crate::note::Notes;
 use crate::once::is_once_in_place;
+use crate::quota::{NoQuota, Quota};
 use crate::retrieval::{Halt, open, retrieve_noting};
 use crate::seats::{Left, leave_all, leave_bare, note_room, seat_all};
 use crate::worker::Seat;
@@ -43,48 +45,52 @@ pub struct Retrieved<F, B> {
 pub struct Stopped<F, B> {
     /// Why it stopped.
     pub cause: Cause,
-    /// What it had found until then; empty where there was no memory for more, or where a check of the workers failed.
+    /// What it had found until then; empty if there was no memory for more, or if a check of the workers failed.
     pub harvest: Harvest<B>,
     /// The fetchers, in their order.
     pub fetchers: Vec<F>,
 }
 
 // The retrieval with one fetcher: it needs no other thread, and no lock.
-fn ask_alone<F: Fetcher>(
+fn ask_alone<F: Fetcher, Q: Quota<F::Body>>(
     alloc: Global,
     plan: &Plan,
+    quota: &Q,
     fetchers: &mut [F],
     waiting: Option<&AtomicUsize>,
 ) -> Result<Harvest<F::Body>, Halt<F::Body>>
     requires { length fetchers.old ≡ 1 }
     ensures ok { IfOk result (λ h. IsRetrievedBy F.Fetcher plan.now fetchers.old fetchers.new h) }
     ensures err { IfErr result (λ halt. IsStoppedBy F.Fetcher plan.now fetchers.old fetchers.new halt.cause halt.harvest) }
+    ensures quota { KeepsTo (Q.most quota.now) Q.len_of result }
     ensures mismatch { IfErr result (λ halt. halt.cause ≢ Cause.Mismatch) }
     ensures numbered { IfOk result (λ h. AreByCrew 1 h.trace) × IfErr result (λ halt. halt.cause ≢ Cause.Mismatch → AreByCrew 1 halt.harvest.trace) }
     ensures own { IfOk result (λ h. AreOwn F.Fetcher 0 fetchers.old fetchers.new h.trace) × IfErr result (λ halt. halt.cause ≢ Cause.Mismatch → AreOwn F.Fetcher 0 fetchers.old fetchers.new halt.harvest.trace) }
 {
     if let [fetcher] = fetchers {
-        return retrieve_noting(alloc, plan, fetcher, waiting);
+        return retrieve_noting(alloc, plan, quota, fetcher, waiting);
     }
     unreachable!()
 }
 
 // The same, with the fetcher that is handed back.
-fn retrieve_alone<F: Fetcher>(
+fn retrieve_alone<F: Fetcher, Q: Quota<F::Body>>(
     alloc: Global,
     plan: &Plan,
+    quota: &Q,
     mut fetchers: Vec<F>,
     waiting: Option<&AtomicUsize>,
 ) -> (Result<Harvest<F::Body>, Halt<F::Body>>, Vec<F>)
     requires { vec_len fetchers ≡ 1 }
     ensures ok { IfOk result.0 (λ h. IsRetrievedBy F.Fetcher plan.now fetchers.items result.1.items h) }
     ensures err { IfErr result.0 (λ halt. IsStoppedBy F.Fetcher plan.now fetchers.items result.1.items halt.cause halt.harvest) }
+    ensures quota { KeepsTo (Q.most quota.now) Q.len_of result.0 }
     ensures mismatch { IfErr result.0 (λ halt. halt.cause ≢ Cause.Mismatch) }
     ensures numbered { IfOk result.0 (λ h. AreByCrew 1 h.trace) × IfErr result.0 (λ halt. halt.cause ≢ Cause.Mismatch → AreByCrew 1 halt.harvest.trace) }
     ensures own { IfOk result.0 (λ h. AreOwn F.Fetcher 0 fetchers.items result.1.items h.trace)
         × IfErr result.0 (λ halt. halt.cause ≢ Cause.Mismatch → AreOwn F.Fetcher 0 fetchers.items result.1.items halt.harvest.trace) }
 {
-    let retrieved = ask_alone(alloc, plan, &mut fetchers, waiting);
+    let retrieved = ask_alone(alloc, plan, quota, &mut fetchers, waiting);
     (retrieved, fetchers)
 }
 
@@ -105,7 +111,7 @@ impl<F: Drop, B: Drop> Room<F, B> {
     {
         let seats = Vec::with_capacity(alloc, count)?;
         let fetchers = Vec::with_capacity(alloc, count)?;
-        // Made last: at each exit behind it all that a frontier holds would be dropped, and each is proved.
+        // Made last: at each exit after it all that a frontier holds would be dropped, and each is proved.
         let frontier = open(alloc, plan)?;
         Ok(Room {
             frontier,
@@ -115,7 +121,7 @@ impl<F: Drop, B: Drop> Room<F, B> {
     }
 }
 
-// Who worked, and what was noted; only whether anything was asked for twice where there was no memory for more.
+// Who worked, and what was noted; only whether anything was requested twice if there was no memory for more.
 #[derive(Drop)]
 struct Worked<F, B> {
     fetchers: Vec<F>,
@@ -126,18 +132,19 @@ struct Worked<F, B> {
 #[derive(Drop)]
 enum Noted<B> {
     All(Notes<B>),
-    // There was no memory to bring them together; nothing was asked for twice.
+    // There was no memory to bring them together; nothing was requested twice.
     Once,
-    // There was no memory to bring them together; something was asked for twice.
+    // There was no memory to bring them together; something was requested twice.
     Twice,
 }
 
 // Seats the fetchers, has them work, and takes the seats apart.
-fn work_all<F: Fetcher + Send, R: Threads + Wait + Sync>(
+fn work_all<F: Fetcher + Send, Q: Quota<F::Body> + Sync, R: Threads + Wait + Sync>(
     rt: &R,
     alloc: Global,
     lock: &FrontierLock,
     plan: &Plan,
+    quota: &Q,
     fetchers: Vec<F>,
     seats: Vec<Seat<F, F::Body>>,
     room: Vec<F>,
@@ -152,7 +159,7 @@ where
     ensures own { IsOwnAccount F.Fetcher fetchers.items result.fetchers.items result.noted }
 {
     let seats = seat_all(alloc, fetchers, seats);
-    let mut seats = run_crew(rt, alloc, lock, plan, seats);
+    let mut seats = run_crew(rt, alloc, lock, plan, quota, seats);
     match note_room(alloc, &seats) {
         Ok(notes) => {
             let Left { fetchers, notes } = leave_all(seats, room, notes);
@@ -179,10 +186,11 @@ where
 }
 
 // The retrieval with several fetchers.
-fn retrieve_together<F: Fetcher + Send, R: Threads + Wait + Sync>(
+fn retrieve_together<F: Fetcher + Send, Q: Quota<F::Body> + Sync, R: Threads + Wait + Sync>(
     rt: &R,
     alloc: Global,
     plan: &Plan,
+    quota: &Q,
     fetchers: Vec<F>,
     waiting: Option<&AtomicUsize>,
 ) -> (Result<Harvest<F::Body>, Halt<F::Body>>, Vec<F>)
@@ -191,6 +199,7 @@ where
     requires most { vec_len fetchers ≤ 64 }
     ensures ok { IfOk result.0 (λ h. IsRetrievedBy F.Fetcher plan.now fetchers.items result.1.items h) }
     ensures err { IfErr result.0 (λ halt. IsStoppedBy F.Fetcher plan.now fetchers.items result.1.items halt.cause halt.harvest) }
+    ensures quota { KeepsTo (Q.most quota.now) Q.len_of result.0 }
     ensures numbered { IfOk result.0 (λ h. AreByCrew (vec_len fetchers) h.trace) × IfErr result.0 (λ halt. halt.cause ≢ Cause.Mismatch → AreByCrew (vec_len fetchers) halt.harvest.trace) }
     ensures own { IfOk result.0 (λ h. AreOwn F.Fetcher 0 fetchers.items result.1.items h.trace)
         × IfErr result.0 (λ halt. halt.cause ≢ Cause.Mismatch → AreOwn F.Fetcher 0 fetchers.items result.1.items halt.harvest.trace) }
@@ -205,10 +214,13 @@ where
         fetchers: back,
     } = room;
     let lock = FrontierLock::watched(frontier, waiting);
-    let Worked { fetchers, noted } = work_all(rt, alloc, &lock, plan, fetchers, seats, back);
+    let Worked { fetchers, noted } = work_all(rt, alloc, &lock, plan, quota, fetchers, seats, back);
     let frontier = lock.into_frontier();
     match noted {
-        Noted::All(notes) => (conclude(alloc, plan, workers, frontier, notes), fetchers),
+        Noted::All(notes) => (
+            conclude(alloc, plan, quota, workers, frontier, notes),
+            fetchers,
+        ),
         Noted::Once => {
             drop(frontier);
             (Err(Halt::empty(alloc)), fetchers)
@@ -221,10 +233,11 @@ where
 }
 
 // The retrieval with one fetcher or with several.
-fn retrieve_with<F: Fetcher + Send, R: Threads + Wait + Sync>(
+fn retrieve_with<F: Fetcher + Send, Q: Quota<F::Body> + Sync, R: Threads + Wait + Sync>(
     rt: &R,
     alloc: Global,
     plan: &Plan,
+    quota: &Q,
     fetchers: Vec<F>,
     waiting: Option<&AtomicUsize>,
 ) -> (Result<Harvest<F::Body>, Halt<F::Body>>, Vec<F>)
@@ -233,23 +246,25 @@ where
     requires most { vec_len fetchers ≤ 64 }
     ensures ok { IfOk result.0 (λ h. IsRetrievedBy F.Fetcher plan.now fetchers.items result.1.items h) }
     ensures err { IfErr result.0 (λ halt. IsStoppedBy F.Fetcher plan.now fetchers.items result.1.items halt.cause halt.harvest) }
+    ensures quota { KeepsTo (Q.most quota.now) Q.len_of result.0 }
     ensures one { vec_len fetchers ≡ 1 → IfErr result.0 (λ halt. halt.cause ≢ Cause.Mismatch) }
     ensures numbered { IfOk result.0 (λ h. AreByCrew (vec_len fetchers) h.trace) × IfErr result.0 (λ halt. halt.cause ≢ Cause.Mismatch → AreByCrew (vec_len fetchers) halt.harvest.trace) }
     ensures own { IfOk result.0 (λ h. AreOwn F.Fetcher 0 fetchers.items result.1.items h.trace)
         × IfErr result.0 (λ halt. halt.cause ≢ Cause.Mismatch → AreOwn F.Fetcher 0 fetchers.items result.1.items halt.harvest.trace) }
 {
     if fetchers.len() == 1 {
-        return retrieve_alone(alloc, plan, fetchers, waiting);
+        return retrieve_alone(alloc, plan, quota, fetchers, waiting);
     }
-    retrieve_together(rt, alloc, plan, fetchers, waiting)
+    retrieve_together(rt, alloc, plan, quota, fetchers, waiting)
 }
 
-/// Retrieves as [`retrieve`] does, and gives what that came to beside the fetchers, which come back in their order whatever it
-/// is. How many addresses wait is noted there, where a place is given for who looks on.
-pub fn retrieve_shown<F: Fetcher + Send, R: Threads + Wait + Sync>(
+/// Retrieves as [`retrieve`] does, and gives the result beside the fetchers, which come back in their order whatever it
+/// is. How many addresses wait is noted there, if a place is given for an observer.
+pub fn retrieve_shown<F: Fetcher + Send, Q: Quota<F::Body> + Sync, R: Threads + Wait + Sync>(
     rt: &R,
     alloc: Global,
     plan: &Plan,
+    quota: &Q,
     fetchers: Vec<F>,
     waiting: Option<&AtomicUsize>,
 ) -> (Result<Harvest<F::Body>, Halt<F::Body>>, Vec<F>)
@@ -262,6 +277,7 @@ where
         plan.now (all_gained F.Fetcher fetchers.items result.1.items)) }
     ensures err { IfErr result.0 (λ halt. halt.cause ≢ Cause.Mismatch → IsStopped (SomeSays F.Fetcher fetchers.items result.1.items)
         (SomeRules F.Fetcher fetchers.items result.1.items) plan.now (all_gained F.Fetcher fetchers.items result.1.items) halt.cause halt.harvest) }
+    ensures quota { KeepsTo (Q.most quota.now) Q.len_of result.0 }
 
     // What was found, by the answers alone.
     ensures finds { IfOk result.0 (λ h. (m : Answers) × AreAsked (SomeSays F.Fetcher fetchers.items result.1.items) (SomeRules F.Fetcher fetchers.items result.1.items)
@@ -278,10 +294,10 @@ where
     ensures full_site { (whole : Answers) → AllFit F.Fetcher fetchers.items whole → IfErr result.0 (λ halt. halt.cause ≡ Cause.Full → HasTooMany (policy plan.now) whole) }
     ensures crowded_site { (whole : Answers) → AllFit F.Fetcher fetchers.items whole → HasTooMany (policy plan.now) whole → IsErr result.0 }
 {
-    retrieve_with(rt, alloc, plan, fetchers, waiting)
+    retrieve_with(rt, alloc, plan, quota, fetchers, waiting)
 }
 
-// What a retrieval came to, with its fetchers.
+// What a retrieval resulted in, with its fetchers.
 fn with_fetchers<F: Drop, B: Drop>(
     retrieved: Result<Harvest<B>, Halt<B>>,
     fetchers: Vec<F>,
@@ -302,13 +318,13 @@ fn with_fetchers<F: Drop, B: Drop>(
     }
 }
 
-/// Asks for what the plan wants, with one worker for each fetcher, until nothing is left to do. The fetchers come back in their
+/// Requests what the plan wants, with one worker for each fetcher, until nothing is left to do. The fetchers come back in their
 /// order, and the site of each is what it was. What they were asked, all together, and what some of them said is what
 /// [`retrieve_in_order`] says of one.
 ///
 /// The lines of the trace name these workers alone, which are counted from 0, in the order of their fetchers, and each fetcher
-/// was asked for what its own worker took. It stops as Mismatch where a check of what the workers noted fails; then nothing more
-/// is said, and with one fetcher that never comes.
+/// was to request what its own worker took. It stops with Mismatch if a check of what the workers noted fails; then nothing more
+/// is said, and with one fetcher that never happens.
 pub fn retrieve<F: Fetcher + Send, R: Threads + Wait + Sync>(
     rt: &R,
     alloc: Global,
@@ -331,6 +347,7 @@ where
     ensures once { IfErr result (λ s. s.cause ≢ Cause.Mismatch → AreMadeOnce (all_gained F.Fetcher fetchers.items s.fetchers.items)) }
     ensures full { IfErr result (λ s. s.cause ≡ Cause.Full → HasTooMany (policy plan.now) (answers s.harvest.state) × IsOverfull (policy plan.now) s.harvest.state) }
     ensures one { vec_len fetchers ≡ 1 → IfErr result (λ s. s.cause ≢ Cause.Mismatch) }
+    ensures unlimited { IfErr result (λ s. s.cause ≢ Cause.Quota) }
     ensures numbered { IfOk result (λ r. AreByCrew (vec_len fetchers) r.harvest.trace) × IfErr result (λ s. s.cause ≢ Cause.Mismatch → AreByCrew (vec_len fetchers) s.harvest.trace) }
     ensures own { IfOk result (λ r. AreOwn F.Fetcher 0 fetchers.items r.fetchers.items r.harvest.trace)
         × IfErr result (λ s. s.cause ≢ Cause.Mismatch → AreOwn F.Fetcher 0 fetchers.items s.fetchers.items s.harvest.trace) }
@@ -340,6 +357,6 @@ where
     ensures full_site { (whole : Answers) → AllFit F.Fetcher fetchers.items whole → IfErr result (λ s. s.cause ≡ Cause.Full → HasTooMany (policy plan.now) whole) }
     ensures crowded_site { (whole : Answers) → AllFit F.Fetcher fetchers.items whole → HasTooMany (policy plan.now) whole → IsErr result }
 {
-    let (retrieved, fetchers) = retrieve_shown(rt, alloc, plan, fetchers, None);
+    let (retrieved, fetchers) = retrieve_shown(rt, alloc, plan, &NoQuota, fetchers, None);
     with_fetchers(retrieved, fetchers)
 }

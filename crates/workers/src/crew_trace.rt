@@ -35,7 +35,7 @@ fn is_by_crew(event: &Event, workers: usize) -> bool
     }
 }
 
-/// Whether the lines name no worker but the first so many, which are counted from 0.
+/// Whether the lines name no worker except the first so many, which are counted from 0.
 pub fn are_by_crew(trace: &[Event], workers: usize) -> bool
     ensures { IsTrue result ↔ AreByCrew workers trace.now }
 {
@@ -47,7 +47,7 @@ pub fn are_by_crew(trace: &[Event], workers: usize) -> bool
     true
 }
 
-// Whether the page was noted by this worker, where it was noted, in notes that are in address order.
+// Whether the page was noted by this worker, if it was noted, in notes that are in address order.
 fn is_page_by<B>(notes: &[PageNote<B>], worker: u32, address: &Address) -> bool
     requires { IsAscending (addresses notes.now) }
     ensures { IsTrue result ↔ All (λ note. note.address ≡ address.now → note.worker ≡ worker) notes.now }
@@ -58,7 +58,7 @@ fn is_page_by<B>(notes: &[PageNote<B>], worker: u32, address: &Address) -> bool
     }
 }
 
-// Whether the origin's rules were noted by this worker, where they were noted, in notes that are in origin order.
+// Whether the origin's rules were noted by this worker, if they were noted, in notes that are in origin order.
 fn are_rules_by(notes: &[RulesNote], worker: u32, origin: &Origin) -> bool
     requires { IsAscending (origins notes.now) }
     ensures { IsTrue result ↔ All (λ note. note.origin ≡ origin.now → note.worker ≡ worker) notes.now }
@@ -69,7 +69,7 @@ fn are_rules_by(notes: &[RulesNote], worker: u32, origin: &Origin) -> bool
     }
 }
 
-// Whether what a line says that a worker took was noted by that worker, where it was noted.
+// Whether what a line says that a worker took was noted by that worker, if it was noted.
 fn is_noted_by<B>(event: &Event, notes: &Notes<B>) -> bool
     requires { AreInOrder notes.now }
     ensures { IsTrue result ↔ IsNotedBy notes.now.pages.items notes.now.rules.items event.now }
@@ -88,7 +88,7 @@ fn is_noted_by<B>(event: &Event, notes: &Notes<B>) -> bool
     }
 }
 
-// Whether by the lines each noted it who took it, in notes that are in the order of addresses and origins.
+// Whether by the lines each thing was noted by who took it, in notes that are in the order of addresses and origins.
 fn are_noted_by<B>(trace: &[Event], notes: &Notes<B>) -> bool
     requires { AreInOrder notes.now }
     ensures { IsTrue result ↔ AreNotedBy notes.now.pages.items notes.now.rules.items trace.now }
@@ -101,8 +101,8 @@ fn are_noted_by<B>(trace: &[Event], notes: &Notes<B>) -> bool
     true
 }
 
-/// Whether by the lines each noted it who took it, in notes that are in the order of addresses and origins. Where it is known
-/// already that it is so, nothing is looked for. Takes no memory.
+/// Whether by the lines each thing was noted by who took it, in notes that are in the order of addresses and origins. If it
+/// is known already that it is so, nothing is looked for. Takes no memory.
 pub fn are_taken_by<B>(is_followed: bool, trace: &[Event], notes: &Notes<B>) -> bool
     requires order { AreInOrder notes.now }
     requires followed { IsTrue is_followed → AreNotedBy notes.now.pages.items notes.now.rules.items trace.now }

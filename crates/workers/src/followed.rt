@@ -121,7 +121,7 @@ fn is_next<B>(event: &Event, notes: &Notes<B>, places: &mut Places) -> bool
     }
 }
 
-/// Whether by the lines each worker took what it noted in the order of its notes, which stand worker by worker. Takes no memory.
+/// Whether by the lines each worker took what it noted in the order of its notes, which are worker by worker. Takes no memory.
 pub fn are_followed<B>(trace: &[Event], notes: &Notes<B>) -> bool
     ensures { IsTrue result → IsOnce (addresses notes.now.pages.items) → IsOnce (origins notes.now.rules.items) → AreNotedBy notes.now.pages.items notes.now.rules.items trace.now }
 {

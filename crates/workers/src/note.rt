@@ -7,25 +7,25 @@ use harvest::Named;
 use robots_rules::RuleSet;
 use std::alloc::Global;
 
-/// A page that was asked for.
+/// A page that was requested.
 #[derive(Drop)]
 pub struct PageNote<B> {
-    /// Who asked for it.
+    /// Who requested it.
     pub worker: u32,
     pub address: Address,
-    /// What was answered, where the frontier took it.
+    /// What was answered, if the frontier took it.
     pub told: Option<Outcome>,
-    /// The body, where the page is kept.
+    /// The body, if the page is kept.
     pub body: Option<B>,
 }
 
-/// Robots rules that were asked for.
+/// Robots rules that were requested.
 #[derive(Drop)]
 pub struct RulesNote {
-    /// Who asked for them.
+    /// Who requested them.
     pub worker: u32,
     pub origin: Origin,
-    /// The rules, where the frontier took them.
+    /// The rules, if the frontier took them.
     pub told: Option<RuleSet>,
 }
 

@@ -1,5 +1,5 @@
-//! Whether several workers asked for nothing twice, found without memory: each worker's notes are put in order where they
-//! stand, and what one noted is looked for among what each later one noted.
+//! Whether several workers requested nothing twice, found without memory: each worker's notes are put in order in
+//! place, and what one noted is looked for among what each later one noted.
 ghost use Rattle.std.specs.Prelude.{◌≡◌, IsTrue, All, IsPermutation};
 ghost use Rattle.std.specs.List.{AllZip};
 ghost use Rattle.frontier_core.specs.Tables.{IsOnce};

@@ -5,6 +5,7 @@ ghost use Rattle.workers.specs.inner.Notes.{Goes, body_of};
 ghost use Rattle.workers.specs.inner.Seats.{SeatGoes};
 
 use crate::note::{Notes, PageNote, RulesNote};
+use crate::quota::{Meter, Quota};
 use address::{Address, Origin};
 use fetcher::{Answer, Fetcher, Outcome};
 use follow_filters::Plan;
@@ -45,7 +46,7 @@ fn make_rules_room<B>(notes: &mut Notes<B>, origin: &Origin) -> Result<Origin, A
     origin.try_clone()
 }
 
-// The body, where the page is kept.
+// The body, if the page is kept.
 fn keep_body<B: Drop>(plan: &Plan, address: &Address, outcome: &Outcome, body: B) -> Option<B>
     ensures { result ≡ body_of plan.now address.now outcome.now body }
 {
@@ -94,7 +95,7 @@ fn refuse<R: Wait>(rt: &R, lock: &FrontierLock<'_>, refused: Refused) -> Cause {
     cause
 }
 
-// Hands an answer over. Where it isn't taken the frontier stops.
+// Hands an answer over. If it isn't taken the frontier stops.
 fn give<R: Wait>(rt: &R, lock: &FrontierLock<'_>, done: Done) -> bool {
     match lock.give(rt, done) {
         Ok(()) => true,
@@ -105,7 +106,7 @@ fn give<R: Wait>(rt: &R, lock: &FrontierLock<'_>, done: Done) -> bool {
     }
 }
 
-// What was told of a page: the outcome, a copy for the frontier, and the body where the page is kept.
+// What was received of a page: the outcome, a copy for the frontier, and the body if the page is kept.
 #[derive(Drop)]
 struct ToldPage<B> {
     outcome: Outcome,
@@ -113,7 +114,7 @@ struct ToldPage<B> {
     body: Option<B>,
 }
 
-// What an answer tells of a page.
+// What an answer contains of a page.
 fn told_of<B: Drop>(
     plan: &Plan,
     address: &Address,
@@ -132,7 +133,7 @@ fn told_of<B: Drop>(
     })
 }
 
-// The note of a page that was asked for, where nothing of it was handed over.
+// The note of a page that was requested, if nothing of it was handed over.
 fn untold_page<B>(worker: u32, address: Address) -> PageNote<B>
     ensures { result ≡ record { worker = worker; address = address; told = None; body = None } }
 {
@@ -144,11 +145,27 @@ fn untold_page<B>(worker: u32, address: Address) -> PageNote<B>
     }
 }
 
+// Counts the body of a page, if it is kept. If it passes the quota the frontier stops, before what was received is recorded:
+// so no permit is given once what is recorded passes it.
+fn count<B, Q: Quota<B>, R: Wait>(
+    rt: &R,
+    lock: &FrontierLock<'_>,
+    meter: &Meter<'_, Q>,
+    body: &Option<B>,
+) {
+    if let Some(body) = body {
+        if meter.passes(body) {
+            lock.halt(rt, None, Cause::Quota);
+        }
+    }
+}
+
 // Hands the answer of a page over, and gives the note of it with what the worker is to do next.
-fn hand_over<B: Drop, R: Wait>(
+fn hand_over<B: Drop, Q: Quota<B>, R: Wait>(
     rt: &R,
     lock: &FrontierLock<'_>,
     plan: &Plan,
+    meter: &Meter<'_, Q>,
     worker: u32,
     address: Address,
     permit: Permit,
@@ -167,6 +184,7 @@ fn hand_over<B: Drop, R: Wait>(
         copy,
         body,
     } = told;
+    count(rt, lock, meter, &body);
     let next = match lock.give_and_take(rt, worker, Done::Page(permit, copy)) {
         Ok(next) => next,
         Err(refused) => {
@@ -183,12 +201,13 @@ fn hand_over<B: Drop, R: Wait>(
     (note, next)
 }
 
-// Asks for the page of a permit with the lock free, hands the outcome over, and notes what was asked for. Gives what the worker
+// Requests the page of a permit with the lock free, hands the outcome over, and notes what was requested. Gives what the worker
 // is to do next.
-fn serve<F: Fetcher, R: Wait>(
+fn serve<F: Fetcher, Q: Quota<F::Body>, R: Wait>(
     rt: &R,
     lock: &FrontierLock<'_>,
     plan: &Plan,
+    meter: &Meter<'_, Q>,
     worker: u32,
     fetcher: &mut F,
     notes: &mut Notes<F::Body>,
@@ -208,12 +227,12 @@ fn serve<F: Fetcher, R: Wait>(
         notes.pages.push_reserved(untold_page(worker, address));
         return stopped;
     };
-    let (note, next) = hand_over(rt, lock, plan, worker, address, permit, answer);
+    let (note, next) = hand_over(rt, lock, plan, meter, worker, address, permit, answer);
     notes.pages.push_reserved(note);
     next
 }
 
-// The note of an origin's rules that were asked for, where none were handed over.
+// The note of an origin's rules that were requested, if none were handed over.
 fn untold_rules(worker: u32, origin: Origin) -> RulesNote
     ensures { result ≡ record { worker = worker; origin = origin; told = None } }
 {
@@ -252,7 +271,7 @@ fn hand_rules_over<R: Wait>(
     }
 }
 
-// Asks for the robots rules of a permit's origin with the lock free, hands them over, and notes what was asked for. Whatever
+// Requests the robots rules of a permit's origin with the lock free, hands them over, and notes what was requested. Whatever
 // the plan is.
 fn serve_rules<F: Fetcher, R: Wait>(
     rt: &R,
@@ -282,7 +301,7 @@ fn serve_rules<F: Fetcher, R: Wait>(
     notes.rules.push_reserved(note);
 }
 
-// Offers the edges of one due address. Where they are refused the frontier stops.
+// Offers the edges of one due address. If they are refused the frontier stops.
 fn spread<R: Wait>(rt: &R, lock: &FrontierLock<'_>) {
     match lock.spread(rt) {
         Ok(()) => {}
@@ -292,11 +311,12 @@ fn spread<R: Wait>(rt: &R, lock: &FrontierLock<'_>) {
 }
 
 // Takes work and does it, until none is left or the frontier stopped.
-fn work<F: Fetcher, R: Wait>(
+fn work<F: Fetcher, Q: Quota<F::Body>, R: Wait>(
     rt: &R,
     alloc: Global,
     lock: &FrontierLock<'_>,
     plan: &Plan,
+    meter: &Meter<'_, Q>,
     worker: u32,
     fetcher: &mut F,
     notes: &mut Notes<F::Body>,
@@ -317,18 +337,19 @@ fn work<F: Fetcher, R: Wait>(
                 serve_rules(rt, alloc, lock, worker, fetcher, notes, permit);
                 next(rt, lock, worker)
             }
-            Work::Page(permit) => serve(rt, lock, plan, worker, fetcher, notes, permit),
+            Work::Page(permit) => serve(rt, lock, plan, meter, worker, fetcher, notes, permit),
         };
     }
     unreachable!()
 }
 
 /// Has the worker of a seat work, under the seat's number.
-pub fn work_at<F: Fetcher, R: Wait>(
+pub fn work_at<F: Fetcher, Q: Quota<F::Body>, R: Wait>(
     rt: &R,
     alloc: Global,
     lock: &FrontierLock<'_>,
     plan: &Plan,
+    meter: &Meter<'_, Q>,
     seat: &mut Seat<F, F::Body>,
 )
     ensures { SeatGoes F.Fetcher plan.now seat.old seat.new }
@@ -338,6 +359,7 @@ pub fn work_at<F: Fetcher, R: Wait>(
         alloc,
         lock,
         plan,
+        meter,
         seat.number,
         &mut seat.fetcher,
         &mut seat.notes,

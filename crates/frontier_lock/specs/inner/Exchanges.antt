@@ -10,19 +10,19 @@ use Rattle.frontier_core.specs.declared.work.Work.TheVariants.{Stopped}
 use Rattle.frontier_lock.specs.declared.lock.Done.{Done}
 use Rattle.frontier_lock.specs.inner.Steps.{Records}
 
--- a due address is spread in part, as one more address is led to than may be held, and the frontier stops
+-- a due address is spread in part, since one more address is led to than may be held, and the frontier stops
 abbrev pub StopsFull : Traced → Traced → Type 0
 StopsFull old new = (mid : Traced) × SpreadsPart old mid × IsOverfull (policy mid.plan) mid.state × Stops mid why.Full new
 
--- a due address is spread not at all for want of memory, or in part with room for more addresses, and the frontier stops
+-- memory ran out, so a due address is spread not at all, or in part with room for more addresses, and the frontier stops
 abbrev pub StopsShort : Traced → Traced → Type 0
 StopsShort old new = (mid : Traced) × ((mid ≡ old) ⊎ (SpreadsPart old mid × (length mid.state.entries < mid.plan.max_urls))) × Stops mid why.Memory new
 
--- the edges of a due address are offered, if there is one; where they are refused the frontier stops
+-- the edges of a due address are offered, if there is one; if they are refused the frontier stops
 abbrev pub OffersOrStops : Traced → Traced → Type 0
 OffersOrStops old new = Spreads old new ⊎ (StopsFull old new ⊎ StopsShort old new)
 
--- the worker takes work; where there is no memory for it the frontier stops
+-- the worker takes work; if there is no memory for it the frontier stops
 abbrev pub TakesOrStops : Traced → ℕ → Work → Traced → Type 0
 TakesOrStops old worker work new = TakesWork old worker work new ⊎ ((work ≡ Stopped why.Memory) × Stops old why.Memory new)
 

@@ -13,7 +13,7 @@ abbrev pub Records : Traced → Done → Traced → Type 0
 Records old (done.Page permit outcome) new = Makes old (Answer permit.worker permit.address outcome) new
 Records old (done.Rules permit rules) new = Makes old (Rule permit.worker permit.origin rules) new
 
--- the permit is out no more and the frontier stops; where there is none, or a stray one, it only stops
+-- the permit is out no more and the frontier stops; if there is none, or a stray one, it only stops
 abbrev pub GivesPermitUp : Traced → Option Held → Cause → Traced → Type 0
 GivesPermitUp old None cause new = Stops old cause new
 GivesPermitUp old (Some (held.Page permit)) cause new =

@@ -1,4 +1,4 @@
--- Where a worker may be asleep, and that what is called makes at most one step.
+-- When a worker may be asleep, and that what is called makes at most one step.
 use Rattle.std.specs.Prelude.{◌≡◌, ℕ}
 use Rattle.std.specs.Borrow.{MutBor}
 use Rattle.std.specs.Fn.{Once}
@@ -7,15 +7,15 @@ use Rattle.frontier_core.specs.Traced.{Traced, Makes}
 use Rattle.frontier_core.specs.Taken.{TakesWork}
 use Rattle.frontier_core.specs.declared.work.Work.TheVariants.{Busy}
 
--- a worker that asked would be told that others are at work, upon which it sleeps
+-- a worker that asked would learn that others are at work, upon which it sleeps
 abbrev pub IsSleptAt : Traced → Type 0
 IsSleptAt frontier = (worker : ℕ) × TakesWork frontier worker Busy frontier
 
--- where no step of the frontier was made, nothing changed
+-- if no step of the frontier was made, nothing changed
 pub record MakesAtMostOne (old new : Traced) : Type 0 where
   pub same : ((action : Action) → ¬ Makes old action new) → new ≡ old
 
--- a call at the frontier old and at what it is told may give this answer, and leave the frontier new
+-- a call at the frontier old with this input may give this answer, and leave the frontier new
 pub record IsMadeBy {F A R : Type 0} (g : Once F (MutBor Traced × (A × Unit {0})) (R × (MutBor Traced × Unit {0}))) (f : F) (told : A) (old : Traced) (answer : R) (new : Traced) : Type 0 where
   pub shown : MutBor Traced
   pub shows : shown.now ≡ old

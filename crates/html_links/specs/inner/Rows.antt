@@ -7,7 +7,7 @@ use Rattle.html_links.specs.declared.asked.AskedName.{AskedName}
 
 -- a row by its names
 abbrev pub named : declared.Row → Row
-named r = record { element = r.0.now; attribute = asked_name r.1; form = r.2 }
+named r = record { number = r.0; element = r.1.now; attribute = asked_name r.2; form = r.3 }
 
 -- whether a name begins with that byte
 abbrev pub begins_with : ℕ → List ℕ → Bool

@@ -7,7 +7,7 @@ use Rattle.answer_notes.specs.declared.told.Told.{Told}
 use Rattle.http_fetcher.specs.declared.chain.Hop.{Hop}
 use Rattle.http_fetcher.specs.declared.chain.Hop.TheVariants.{Next, Last}
 
--- what was told of an address says this where so many more redirects may be followed: where to go on, or these rules
+-- what was received for an address says this if so many more redirects may be followed: the next address, or rules
 abbrev pub IsHopTold : AddressText → Told → ℕ → Hop → Type 0
 IsHopTold at told left (Next next) = (0 < left) × (target_told at told ≡ Some next)
 IsHopTold at told left (Last rules) = EndsChain left (target_told at told) × (rules ≡ rules_told told)

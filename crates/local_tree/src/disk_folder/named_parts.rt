@@ -1,25 +1,62 @@
 //! Bodies that a keeper has put on the disk, and that a folder gives their names.
 ghost use Rattle.std.specs.Prelude.{◌≡◌, ℕ, IfErr, OnOk, ⊤, length, map, string_bytes};
+ghost use Rattle.local_tree.specs.Changes.{IsHalfShelvedAsBy};
 ghost use Rattle.local_tree.specs.Folders.{CountsRefusedPut, untold};
 ghost use Rattle.local_tree.specs.Shelves.{AreNamedBy, IsHalfShelvedBy, MakesOnePut};
 
-use super::{DiskFolder, find_place};
+use super::{DiskFolder, find_place, look_for_file, path_below};
+use crate::body_change::{BodyChange, ChangeFault};
 use crate::folder::FolderFault;
 use crate::shelf::{HasKind, Shelf};
 use crate::site_files::WriteFault;
 use harvest::Harvest;
 use kept_bodies::BodyKind;
 use part_keeper::{Part, Standing, part_path};
-use std::fs::Files;
+use std::alloc::Global;
+use std::fs::{File, Files};
 use std::io;
-use std::io::{Error, ErrorKind};
+use std::io::{Error, ErrorKind, Read};
 use streams::{Close, Lock};
 
 impl HasKind for Part {
     ghost kind_of = { λ part. part.kind };
 
+    // How many bytes came.
+    ghost len_of = { λ part. part.len };
+
     fn kind_of(&self) -> BodyKind {
         self.kind
+    }
+
+    fn len_of(&self) -> u64 {
+        self.len
+    }
+}
+
+// The bytes of the file at a path, which are to be so many.
+fn read_whole<R: Files>(rt: &R, alloc: Global, path: &str, len: u64) -> io::Result<Vec<u8>> {
+    let mut bytes = Vec::new(alloc);
+    let mut file = File::open(rt, path)?;
+    file.read_to_end(&mut bytes)?;
+    if bytes.len() as u64 == len {
+        Ok(bytes)
+    } else {
+        Err(Error::from(ErrorKind::Other))
+    }
+}
+
+// What is to be in place of a body, as an answer with the system's errors.
+fn changed<C: BodyChange>(
+    alloc: Global,
+    place: usize,
+    kind: BodyKind,
+    body: &[u8],
+    change: &C,
+) -> io::Result<Option<Vec<u8>>> {
+    match change.change(alloc, place, kind, body) {
+        Ok(other) => Ok(other),
+        Err(ChangeFault::Memory) => Err(Error::from(ErrorKind::OutOfMemory)),
+        Err(ChangeFault::Left) => Err(Error::from(ErrorKind::InvalidData)),
     }
 }
 
@@ -28,6 +65,82 @@ where
     R::File: Close + Lock,
 {
     ghost use Rattle.std.specs.Prelude.{◌≡◌};
+
+    // What is to be in place of the body of this part, which has this name.
+    fn changed_body<C: BodyChange>(
+        &self,
+        place: usize,
+        name: &str,
+        part: &Part,
+        change: &C,
+    ) -> io::Result<Option<Vec<u8>>> {
+        let path = path_below(self.alloc, self.prefix.as_str(), name)?;
+        look_for_file(self.rt, path.as_str())?;
+        let body = read_whole(self.rt, self.alloc, path.as_str(), part.len)?;
+        changed(self.alloc, place, part.kind, body.as_slice(), change)
+    }
+
+    // Has the file of this name, which has a part, have what is to be in place of the body. If that fails it stays as it is.
+    fn change_file<C: BodyChange>(
+        &mut self,
+        place: usize,
+        name: &str,
+        part: &Part,
+        change: &C,
+    ) -> io::Result<()>
+        ensures { self.new ≡ self.old }
+    {
+        match self.changed_body(place, name, part, change)? {
+            Some(other) => self.write(name, other.as_slice()),
+            None => Ok(()),
+        }
+    }
+
+    // The same, if bodies of that kind have links. Whether the file has that then; if not, the error is kept.
+    fn is_changed<C: BodyChange>(
+        &mut self,
+        place: usize,
+        name: &str,
+        part: &Part,
+        change: &C,
+    ) -> bool
+        ensures { self.new ≡ self.old }
+    {
+        if part.kind == BodyKind::Other {
+            return true;
+        }
+        match self.change_file(place, name, part, change) {
+            Ok(()) => true,
+            Err(error) => {
+                self.error = Some(error);
+                false
+            }
+        }
+    }
+
+    /// As `put_changed_kept`, but a directory in which changed bodies are written stays until [`DiskFolder::end_puts`].
+    pub fn put_changed<C: BodyChange>(
+        &mut self,
+        place: usize,
+        name: &str,
+        part: &Part,
+        change: &C,
+    ) -> Result<bool, FolderFault>
+        ensures { CountsRefusedPut self.old.failed self.new.failed result }
+    {
+        let put = self.put_part(name, part);
+        match self.count(put) {
+            Ok(()) => Ok(self.is_changed(place, name, part, change)),
+            Err(fault) => Err(fault),
+        }
+    }
+
+    /// Removes the directory in which bodies were written.
+    pub fn end_puts(&mut self)
+        ensures { self.new ≡ self.old }
+    {
+        self.remove_own();
+    }
 
     // Gives the file of a part below this directory a name.
     fn move_part(&mut self, dir: &str, name: &str, part: &Part) -> io::Result<()>
@@ -150,6 +263,20 @@ where
         let put = self.put_part(name, kept);
         self.count(put)
     }
+
+    /// Renames the part, and then has the file have what is to be in place of its body, which takes room for one body.
+    fn put_changed_kept<C: BodyChange>(
+        &mut self,
+        _alloc: Global,
+        place: usize,
+        name: &str,
+        kept: &Part,
+        change: &C,
+    ) -> Result<bool, FolderFault> {
+        let put = self.put_changed(place, name, kept, change);
+        self.end_puts();
+        put
+    }
 }
 
 /// What gives parts their names, one at a time.
@@ -159,6 +286,17 @@ pub trait NamesParts {
 
     /// Gives this name to the file of a part.
     fn put_part(&mut self, name: &str, part: &Part) -> Result<(), FolderFault>
+        ensures { CountsRefusedPut (failed self.old) (failed self.new) result };
+
+    /// The same, and then the file has what is to be in place of its body, which is that of the page at this place. Whether it does:
+    /// if not, it has the body as it came.
+    fn put_changed_part<C: BodyChange>(
+        &mut self,
+        place: usize,
+        name: &str,
+        part: &Part,
+        change: &C,
+    ) -> Result<bool, FolderFault>
         ensures { CountsRefusedPut (failed self.old) (failed self.new) result };
 }
 
@@ -193,4 +331,68 @@ pub fn put_parts<D: NamesParts>(
         return Err(WriteFault::Device(names.len().saturating_sub(lost)));
     }
     Ok(())
+}
+
+// How many parts got no name so far, and whether each file has what is to be in place of its body.
+#[derive(Clone, Copy)]
+struct SoFar {
+    lost: usize,
+    are_all: bool,
+}
+
+// Puts a part, and has its file have what is to be in place of its body. Gives what is so then.
+fn put_changed_one<D: NamesParts, C: BodyChange>(
+    folder: &mut D,
+    place: usize,
+    name: &str,
+    part: &Part,
+    change: &C,
+    so_far: SoFar,
+) -> SoFar
+    ensures { MakesOnePut so_far.lost (D.failed folder.old) (D.failed folder.new) result.lost }
+{
+    let SoFar { lost, are_all } = so_far;
+    match folder.put_changed_part(place, name, part, change) {
+        Ok(is_changed) => SoFar {
+            lost,
+            are_all: are_all && is_changed,
+        },
+        Err(_) => SoFar {
+            lost: lost.saturating_add(1),
+            are_all,
+        },
+    }
+}
+
+/// The same as [`put_parts`], but each file has what is to be in place of its body. Whether all have that which got their names.
+pub fn put_changed_parts<D: NamesParts, C: BodyChange>(
+    folder: &mut D,
+    names: &[String],
+    harvest: &Harvest<Part>,
+    change: &C,
+) -> Result<bool, WriteFault>
+    requires { length names.now ≡ length harvest.now.kept }
+    // As of a folder that tells no files.
+    ensures torn { IfErr result (IsHalfShelvedAsBy (C.becomes change.now) (λ part body. ⊤) (map string_bytes names.now) harvest.now.bodies (untold (D.failed folder.old)) (untold (D.failed folder.new))) }
+    ensures named { IfErr result (AreNamedBy (length names.now) (D.failed folder.old) (D.failed folder.new)) }
+    ensures quiet { OnOk result (D.failed folder.new ≡ D.failed folder.old) }
+{
+    let mut so_far = SoFar {
+        lost: 0,
+        are_all: true,
+    };
+    for (i, name) in names.iter().enumerate() {
+        so_far = put_changed_one(
+            folder,
+            i,
+            name.as_str(),
+            harvest.kept_body(i),
+            change,
+            so_far,
+        );
+    }
+    if so_far.lost > 0 {
+        return Err(WriteFault::Device(names.len().saturating_sub(so_far.lost)));
+    }
+    Ok(so_far.are_all)
 }

@@ -5,6 +5,7 @@ use Rattle.clap.specs.declared.error.ErrorKind.{ErrorKind}
 use Rattle.clap.specs.declared.error.ErrorKind.TheVariants.{OutOfMemory}
 use Rattle.address.specs.Address.{is_robots_file}
 use Rattle.address.specs.declared.fault.AddressFault.{AddressFault}
+use Rattle.html_links.specs.declared.rules.RowSet.{RowSet}
 use Rattle.options.specs.declared.fault.LineFault.{LineFault}
 use Rattle.options.specs.declared.fault.LineFault.TheVariants as fault
 use Rattle.options.specs.Asked.{is_asking, without_kind, words_refused}
@@ -13,7 +14,7 @@ use Rattle.options.specs.Manners.{manner_of}
 use Rattle.pacing.specs.Retries.{Retried}
 use Rattle.options.specs.Retries.{retries_of}
 use Rattle.options.specs.Naming.{Naming, naming_of}
-use Rattle.options.specs.Order.{Counts, Ordered, are_good, counts_of, proxies_of, patterns_of, directories_of, domains_of, expressions_of, fields_of, start_of, started_at, found_or}
+use Rattle.options.specs.Order.{Counts, Ordered, are_good, counts_of, proxies_of, patterns_of, directories_of, domains_of, expressions_of, rows_taken, fields_of, start_of, started_at, found_or}
 use Rattle.requests.specs.Fields.{Sent}
 use Rattle.requests.specs.Proxies.{Proxies}
 
@@ -46,23 +47,24 @@ pub record Settles (found : List Row) (counts : Counts) (proxies : Proxies) (nam
 abbrev pub Both : Type 0
 Both = List (List ℕ) × List (List ℕ)
 
--- what follows from the lists of names, directories and hosts and from expressions, or the fault of the first that is bad
-abbrev pub filtered : List Row → (Both → Both → Both → Both → Result Ordered LineFault) → Result Ordered LineFault
+-- what follows from the lists of names, directories and hosts and from expressions and what is taken, or the fault of the first that is bad
+abbrev pub filtered : List Row → (Both → Both → Both → Both → RowSet → Result Ordered LineFault) → Result Ordered LineFault
 filtered found next =
     found_or (patterns_of found) fault.Pattern (λ patterns.
     found_or (directories_of found) fault.Directory (λ directories.
     found_or (domains_of found) fault.Domain (λ domains.
-    found_or (expressions_of found) (fault.Expression 0) (λ expressions. next patterns directories domains expressions))))
+    found_or (expressions_of found) (fault.Expression 0) (λ expressions.
+    found_or (rows_taken found) fault.Tags (λ taken. next patterns directories domains expressions taken)))))
 
 -- the options filter nothing, for this fault
 abbrev pub FailsToFilter : List Row → LineFault → Type 0
-FailsToFilter found why = (next : Both → Both → Both → Both → Result Ordered LineFault) → filtered found next ≡ Err (without_kind why)
+FailsToFilter found why = (next : Both → Both → Both → Both → RowSet → Result Ordered LineFault) → filtered found next ≡ Err (without_kind why)
 
--- what is wrong with words that ask for nothing
+-- what is wrong with words that request nothing
 abbrev pub unasked : ErrorKind → LineFault
 unasked kind = if is_asking kind then words_refused else fault.Words kind
 
--- memory ran out, or the kind of what is wrong with words that ask for nothing
+-- memory ran out, or the kind of what is wrong with words that request nothing
 abbrev pub fault_of_kind : ErrorKind → LineFault
 fault_of_kind OutOfMemory = fault.Memory
 fault_of_kind kind = unasked kind

@@ -1,7 +1,8 @@
-//! Questions over connections: where one is refused memory, the connection that it was given is ended or kept all the same.
+//! Questions over connections: if one is refused memory, the connection that it was given is ended or kept all the same.
 use crate::growth::common::address;
 use address::{Address, Origin};
 use fetcher::Fetcher;
+use html_links::LinkRules;
 use http_fetcher::{Connect, ConnectFault, HttpFetcher};
 use memory_connect::{MemoryConnect, StoredAnswer};
 use std::alloc::{AllocError, Global};
@@ -116,7 +117,7 @@ fn try_origin(rt: &impl Abort, alloc: Global) -> Origin {
     }
 }
 
-/// Asks for each address, and what is refused once more; and for the rules of the origin.
+/// Requests each address, and what is refused once more; and the rules of the origin.
 fn ask_all<C: Connect>(fetcher: &mut HttpFetcher<C>, all: &[Address], of: &Origin) -> bool {
     for at in all {
         if fetcher.ask(at).is_err() && fetcher.ask(at).is_err() {
@@ -141,9 +142,9 @@ fn fetcher_of<C: Connect>(
     besides: Besides,
 ) -> HttpFetcher<Counted<C>> {
     match besides {
-        Besides::Nothing => HttpFetcher::new(alloc, counted, true),
-        Besides::Records => HttpFetcher::recording(alloc, counted, true),
-        Besides::Keeps => HttpFetcher::new(alloc, counted, true).keeping(),
+        Besides::Nothing => HttpFetcher::new(alloc, counted, LinkRules::all(true)),
+        Besides::Records => HttpFetcher::recording(alloc, counted, LinkRules::all(true)),
+        Besides::Keeps => HttpFetcher::new(alloc, counted, LinkRules::all(true)).keeping(),
     }
 }
 
@@ -173,7 +174,7 @@ fn try_addresses(rt: &impl Abort, alloc: Global) -> Result<Vec<Address>, AllocEr
     Ok(all)
 }
 
-/// What is asked for.
+/// What is requested.
 fn addresses(rt: &impl Abort, alloc: Global) -> Vec<Address> {
     match try_addresses(rt, alloc) {
         Ok(all) => all,

@@ -10,10 +10,10 @@ use robots_rules::{RuleSet, parse};
 use std::alloc::{AllocError, Global};
 use std::process::Abort;
 
-/// What is held once the start is spread, and the start's edges but the first.
+/// What is held once the start is spread, and the start's edges except the first.
 const HELD: &str = "http://h/ http://h/a http://h/p/b http://h/c";
 
-/// How that stands once the rules are known.
+/// The states of these once the rules are known.
 const STANDS: &str = "answered waiting refused waiting";
 
 /// The outcome of the start, with a link to each of the others.
@@ -36,7 +36,7 @@ fn page(rt: &impl Abort, alloc: Global) -> Outcome {
     }
 }
 
-/// Rules that refuse what stands below `/p/`.
+/// Rules that refuse what is below `/p/`.
 fn rules(rt: &impl Abort, alloc: Global) -> RuleSet {
     let file = b"User-agent: *\nDisallow: /p/\n";
     match parse(alloc, file) {
@@ -57,7 +57,7 @@ fn lines(frontier: &Frontier) -> usize {
     frontier.trace().len()
 }
 
-/// What the worker is told to do. Where that was refused, nothing happened.
+/// What the worker is to do. If that was refused, nothing happened.
 fn taken(rt: &impl Abort, frontier: &mut Frontier) -> Work {
     let before = lines(frontier);
     match frontier.take(0) {
@@ -175,7 +175,7 @@ fn last_spread(frontier: &Frontier, is_part: bool) -> Option<usize> {
     }
 }
 
-/// Whether a refused spread, before which the trace had so many lines, left nothing changed, or told how many edges it went
+/// Whether a refused spread, before which the trace had so many lines, left nothing changed, or said how many edges it went
 /// through, whose targets are held.
 fn is_left(frontier: &Frontier, before: usize) -> bool {
     if lines(frontier) == before {
@@ -189,7 +189,7 @@ fn is_left(frontier: &Frontier, before: usize) -> bool {
     }
 }
 
-/// The worker is told that something is due.
+/// The worker learns that something is due.
 fn hear_due(rt: &impl Abort, frontier: &mut Frontier) {
     match taken(rt, frontier) {
         Work::Spread => {}
@@ -211,7 +211,7 @@ fn is_spread(rt: &impl Abort, frontier: &mut Frontier) -> bool {
     }
 }
 
-/// The word for how an address stands.
+/// The word for the state of an address.
 fn word_of(condition: Condition) -> &'static str {
     match condition {
         Condition::Waiting => "waiting",
@@ -221,7 +221,7 @@ fn word_of(condition: Condition) -> &'static str {
     }
 }
 
-/// Whether the addresses stand as they are to.
+/// Whether the addresses have the states that they are to have.
 fn stands(frontier: &Frontier) -> bool {
     let mut words = STANDS.split(' ');
     for (_, _, condition) in frontier.entries() {
@@ -232,7 +232,7 @@ fn stands(frontier: &Frontier) -> bool {
     words.next().is_none()
 }
 
-/// The start is asked for and spread, and then its origin's rules are asked for.
+/// The start is requested and spread, and then its origin's rules are requested.
 fn go_through(rt: &impl Abort, alloc: Global, other: &mut Frontier, frontier: &mut Frontier) {
     let outcome = page(rt, alloc);
     let rules = rules(rt, alloc);

@@ -30,11 +30,11 @@ use Rattle.retriever.specs.declared.fault.Fault.{Fault}
 use Rattle.retriever.specs.declared.fault.Fault.TheVariants as fault
 use Rattle.retriever.specs.Parts.{shown_of}
 
--- whatever body the site may give of an address is of the kind that is told
+-- whatever body the site may give of an address is of the kind that is given
 abbrev pub HasKinds : (Text → Outcome → BodyValue → Type 0) → RecordedAnswers → Type 0
 HasKinds may_say told = (u : Text) (x : Outcome) (body : BodyValue) → may_say u x body → body.kind ≡ kind_at told u
 
--- the retrieval of a site comes to this text and this status
+-- the retrieval of a site results in this text and this status
 pub record IsOutputOf (order : Order) (site : RecordedAnswers) (text : List ℕ) (status : ℕ) : Type 0 where
   pub shown : List Event
   pub finish : Finish
@@ -42,21 +42,21 @@ pub record IsOutputOf (order : Order) (site : RecordedAnswers) (text : List ℕ)
   pub text_is : text ≡ trace_text shown ++ finish_text finish
   pub status_is : status ≡ finish_status finish
 
--- what the reader has left tells a site, and its retrieval comes to this text and this status
+-- what the reader has left describes a site, and its retrieval results in this text and this status
 abbrev pub IsOutput : (List ℕ → RecordedAnswers → Type 0) → Order → Option (List ℕ) → List ℕ → ℕ → Type 0
 IsOutput IsOf order known text status = (site : RecordedAnswers) × TellsSite IsOf known site × IsOutputOf order site text status
 
--- what the order and the reader come to instead of a retrieval: a site on the network isn't one that an input tells
+-- what the order and the reader result in instead of a retrieval: a site on the network isn't one that an input describes
 abbrev pub IsUnfit : Order → Option (List ℕ) → Fault → Type 0
 IsUnfit order known wrong =
-    ((order.source ≡ source.Live) × (wrong ≡ fault.NoSite)) ⊎ ((order.source ≢ source.Live) × TellsFault (IsWrongBy order.source order.plan.robots) known wrong)
+    ((order.source ≡ source.Live) × (wrong ≡ fault.NoSite)) ⊎ ((order.source ≢ source.Live) × TellsFault (IsWrongBy order.source order.links) known wrong)
 
--- the writer gained the text, behind which the run has this status unless more is told, or the writer failed
+-- the writer gained the text, after which the run has this status unless more is written, or the writer failed
 abbrev pub IsToldAs : {E : Type 0} → Option (List ℕ) → Option (List ℕ) → Result ℕ E → List ℕ → ℕ → Type 0
 IsToldAs old new (Ok status) text wanted = (status ≡ wanted) × Appends old new text
 IsToldAs old new (Err failed) text wanted = AppendsFront old new text
 
--- the status of a run that has nothing more to tell
+-- the status of a run that has nothing more to write
 abbrev pub status_told : {E : Type 0} → Result ℕ E → ℕ
 status_told (Ok status) = status
 status_told (Err failed) = 1
@@ -66,14 +66,15 @@ abbrev pub is_borne_out : Cause → Bool
 is_borne_out cause.Full = true
 is_borne_out cause.Memory = true
 is_borne_out cause.Mismatch = false
+is_borne_out cause.Quota = true
 
 -- what is said of a harvest beside its contents: the entries, the records and the kept pages say what its state holds,
 -- which is sound
 abbrev pub IsRead : {B : Type 0} → Harvested B → Type 0
 IsRead h = AreEntries h × AreRecords h × ArePages h × IfSome h.plan (λ plan. IsSound (policy plan) h.state)
 
--- what is told of a retrieval: its report, in which the kept pages have their names by these rules, and the status of its records, of a
--- harvest that was read, or the cause for which it stopped; before either what is shown of its trace, which is nothing where a
+-- what is written of a retrieval: its report, in which the kept pages have their names by these rules, and the status of its records, of a
+-- harvest that was read, or the cause for which it stopped; before either what is shown of its trace, which is nothing if a
 -- check failed
 abbrev pub IsRetrievalTold : PageNames → Bool → Result (Harvested BodyValue) (Halt BodyValue) → List ℕ → ℕ → Type 0
 IsRetrievalTold naming is_shown (Ok h) text status =

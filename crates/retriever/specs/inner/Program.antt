@@ -15,7 +15,7 @@ abbrev pub all_streams : {R E : Type 0} → (R → Option (List ℕ)) → R → 
 all_streams remaining reader outputs = record { reader = reader; remaining = remaining reader; outputs = outputs }
 
 -- What becomes of the words: those that order a site on the network are retrieved live, and others run. No byte of the
--- reader is read but of words for an input, and a person is told of words that order nothing.
+-- reader is read except of words for an input, and for words that order nothing something is written for a person.
 pub record Starts {R E : Type 0} (Lives : List (List ℕ) → Type 0) (before after : Streams R E) (status : ℕ) (words : List (List ℕ)) : Type 0 where
   pub runs : ¬ AreForLive words → Runs words before.remaining before.outputs.written after.outputs.written status
   pub lives : AreForLive words → Lives words

@@ -23,19 +23,19 @@ use Rattle.site_records.specs.Records.{answers_of, rules_of}
 use Rattle.site_records.specs.WrittenEntries.{note_entry}
 use Rattle.site_records.specs.inner.RecordNotes.{AddsNote}
 
--- the entry is kept behind the others
+-- the entry is kept after the others
 pub record Keeps (old : Reading) (e : Entry) (new : Reading) : Type 0 where
   pub answers : new.answers.entries ≡ old.answers.entries ++ answers_of (e ∷ [])
   pub rules : new.rules.entries ≡ old.rules.entries ++ rules_of (e ∷ [])
-  pub robots : new.robots ≡ old.robots
+  pub links : new.links ≡ old.links
   pub version : new.version ≡ old.version
   pub keeps_notes : new.keeps_notes ≡ old.keeps_notes
-  pub noted : AddsNote old.keeps_notes old.robots old.notes.items e new.notes.items
+  pub noted : AddsNote old.keeps_notes old.links old.notes.items e new.notes.items
   pub is_new : IsNew old.answers.entries old.rules.entries e
 
--- the entry that the note is written as is kept behind the others
+-- the entry that the note is written as is kept after the others
 abbrev pub KeepsNote : Reading → Noted → Reading → Type 0
-KeepsNote old note new = Keeps old (note_entry old.robots note) new
+KeepsNote old note new = Keeps old (note_entry old.links note) new
 
 -- the text names no address, or one for which an answer is kept
 abbrev pub IsStated : List (AddressText × Answer BodyValue) → List ℕ → InputLineFault → Type 0
@@ -61,12 +61,12 @@ NamesUnruled rules text result =
     (λ of. IsNamed text × (path_query_of (named text) ≡ codes "/") × (origin_of (named text) ≡ of) × (lookup (bytes_eq of) rules ≡ None))
     (λ f. IsRuled rules text f)
 
--- the line, and what is behind it, are taken as this entry
+-- the line, and what follows it, are taken as this entry
 pub record Adds (old : Reading) (s : Statement) (behind : List ℕ) (after : List ℕ) (new : Reading) : Type 0 where
   pub entry : Entry
   pub is_named : IsNamed (text_of s)
   pub at_root : IsAtRoot s
-  pub states : States old.robots s behind entry after
+  pub states : States old.links s behind entry after
   pub keeps : Keeps old entry new
 
 -- what is wrong with a line that says this
@@ -77,20 +77,20 @@ IsWrong old s behind Memory = Unit {0}
 
 -- ---- the hops of a chain
 
--- what is wrong with a line that says this of a hop, where the chain leads to this address
+-- what is wrong with a line that says this of a hop, if the chain leads to this address
 abbrev pub IsWrongHop : Option AddressText → HopStatement → List ℕ → InputLineFault → Type 0
 IsWrongHop lead s behind Line = IsNamed (hop_text s) × ((lead ≢ Some (named (hop_text s))) ⊎ ¬ HasHopBytes s behind)
 IsWrongHop lead s behind Address = ¬ IsNamed (hop_text s)
 IsWrongHop lead s behind Memory = ⊤
 
--- the line of a hop, and what is behind it, are taken as this hop, to which the chain leads
+-- the line of a hop, and what follows it, are taken as this hop, to which the chain leads
 pub record AddsHop (lead : Option AddressText) (s : HopStatement) (behind : List ℕ) (h : HopValue) (after : List ℕ) : Type 0 where
   pub is_named : IsNamed (hop_text s)
   pub at : h.0 ≡ named (hop_text s)
   pub led : lead ≡ Some h.0
   pub tells : TellsHop s behind h.1 after
 
--- what is wrong with the hop that the text begins with, where the chain leads to this address
+-- what is wrong with the hop that the text begins with, if the chain leads to this address
 abbrev pub IsBadHop : InputLineFault → Option AddressText → List ℕ → Type 0
 IsBadHop Line lead text = IsBadHopLine lead text
 IsBadHop Address lead text = IsBadHopAddress text
@@ -124,7 +124,7 @@ IsWrongAt old s behind (Own f) = IsWrong old s behind f
 IsWrongAt old s behind (Hop k f) =
     IsNamed (text_of s) × IsAtRoot s × ¬ IsRepeated old.answers.entries old.rules.entries s × IsBadBehind s behind k (IsBadHop f)
 
--- the line, and what is behind it, are taken as an entry of so many lines
+-- the line, and what follows it, are taken as an entry of this many lines
 pub record AddsLines (old : Reading) (s : Statement) (behind : List ℕ) (taken : Taken) (new : Reading) : Type 0 where
   pub adds : Adds old s behind taken.after.now new
   pub lines : taken.lines ≡ lines_of adds.entry
@@ -133,7 +133,7 @@ pub record AddsLines (old : Reading) (s : Statement) (behind : List ℕ) (taken 
 abbrev pub TakesEntry : Reading → Statement → List ℕ → Result Taken EntryFault → Reading → Type 0
 TakesEntry old s behind result new = MatchResult result (λ taken. AddsLines old s behind taken new) (λ f. IsWrongAt old s behind f)
 
--- how many lines behind an entry's own line a fault of it stands
+-- how many lines a fault of an entry is after the entry's own line
 abbrev pub lines_to : EntryFault → ℕ
 lines_to (Own f) = 0
 lines_to (Hop k f) = k + 1
@@ -157,7 +157,7 @@ IsBad old text (Hop k Memory) = IsFormed old.version text
 -- the text begins with this entry, which is kept and has so many lines, and after follows
 pub record Reads (old : Reading) (text : List ℕ) (lines : ℕ) (after : List ℕ) (new : Reading) : Type 0 where
   pub entry : Entry
-  pub is : IsEntry old.version old.robots text entry after
+  pub is : IsEntry old.version old.links text entry after
   pub lines_are : lines ≡ lines_of entry
   pub keeps : Keeps old entry new
 

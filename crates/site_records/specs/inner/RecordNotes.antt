@@ -3,8 +3,9 @@ use Rattle.std.specs.Prelude.{◌≡◌, Bool, true, false, List, [], ◌∷◌,
 use Rattle.answer_notes.specs.declared.noted.Noted.{Noted}
 use Rattle.site_records.specs.Entries.{Entry}
 use Rattle.site_records.specs.RecordNotes.{SayJust}
+use Rattle.html_links.specs.declared.rules.LinkRules.{LinkRules}
 
--- where notes are kept one that says just this stands behind the others, else nothing is added
-abbrev pub AddsNote : Bool → Bool → List Noted → Entry → List Noted → Type 0
-AddsNote true robots old e new = (note : Noted) × (new ≡ old ++ note ∷ []) × SayJust robots (note ∷ []) (e ∷ [])
-AddsNote false robots old e new = new ≡ old
+-- if notes are kept, one that says exactly this is after the others, else nothing is added
+abbrev pub AddsNote : Bool → LinkRules → List Noted → Entry → List Noted → Type 0
+AddsNote true links old e new = (note : Noted) × (new ≡ old ++ note ∷ []) × SayJust links (note ∷ []) (e ∷ [])
+AddsNote false links old e new = new ≡ old

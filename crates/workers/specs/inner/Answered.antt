@@ -27,20 +27,20 @@ module _ {F B : Type 0} (m : Meaning F B) where
     pub retrieved : IsRetrieved (SomeSays m old new) (SomeRules m old new) plan (all_gained m old new) h
     pub entries : AreEntries h
 
-  -- the fetchers came back in their order; where no check failed, what was found until the stop is there, or there was no memory for it
+  -- the fetchers came back in their order; if no check failed, what was found until the stop is there, or there was no memory for it
   pub record IsStoppedBy (plan : Plan) (old new : List F) (cause : Cause) (h : Harvested B) : Type 0 where
     pub later : AreLater m old new
     pub stopped : cause ≢ why.Mismatch → IsStopped (SomeSays m old new) (SomeRules m old new) plan (all_gained m old new) cause h
     pub full : cause ≡ why.Full → HasTooMany (policy plan) (answers h.state) × IsOverfull (policy plan) h.state
 
-  -- what is known of the notes: all of them, or that nothing was asked for twice
+  -- what is known of the notes: all of them, or that nothing was requested twice
   abbrev pub IsAccount : Plan → List F → List F → Noted B → Type 0
   IsAccount plan old new (known.All notes) =
       AreNoted (SomeSays m old new) (SomeRules m old new) plan (all_gained m old new) notes.pages.items notes.rules.items
   IsAccount plan old new known.Once = AreOnce (all_gained m old new)
   IsAccount plan old new known.Twice = Unit {0}
 
-  -- where the notes are known, and by some lines each noted it who took it, each fetcher was asked for what its own worker took
+  -- if the notes are known, and by some lines each was noted by its taker, each fetcher was to request what its worker took
   abbrev pub IsOwnAccount : List F → List F → Noted B → Type 0
   IsOwnAccount old new (known.All notes) = (trace : List Event) → AreNotedBy notes.pages.items notes.rules.items trace → AreOwn m 0 old new trace
   IsOwnAccount old new known.Once = Unit {0}

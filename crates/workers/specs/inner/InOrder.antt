@@ -1,4 +1,4 @@
--- What the retrieval with one fetcher comes to.
+-- What the retrieval with one fetcher results in.
 use Rattle.std.specs.Prelude.{◌≡◌, ◌≢◌, ◌≤◌, ℕ, List, length, Result, IfOk, IfErr}
 use Rattle.follow_filters.specs.declared.plan.Plan.{Plan}
 use Rattle.robots_rules.specs.Access.{RuleSetValue}

@@ -20,15 +20,15 @@ pub record AreNoted {B : Type 0} (may_say : Text → Outcome → B → Type 0) (
   pub told : All (IsToldPage may_say plan) notes
   pub ruled : All (IsToldRules may_rule) sets
 
--- what was noted of a page stands in the table: its outcome is recorded, or it was given up
+-- what was noted of a page is in the table: its outcome is recorded, or it was given up
 abbrev pub StandsPage : {B : Type 0} → State → PageNote B → Type 0
 StandsPage s note = MatchOption note.told (IsGivenUp s note.address) (λ x. (answers s).outcome note.address ≡ Some x)
 
--- what was noted of an origin stands in the table: its rules are known, or they were given up
+-- what was noted of an origin is in the table: its rules are known, or they were given up
 abbrev pub StandsRules : State → RulesNote → Type 0
 StandsRules s note = MatchOption note.told (AreRulesGivenUp s note.origin) (λ rules. (answers s).rules note.origin ≡ Some rules)
 
--- The notes agree with the table: nothing was asked for twice, what was noted stands in the table, and what is recorded there
+-- The notes agree with the table: nothing was requested twice, what was noted is in the table, and what is recorded there
 -- was noted.
 pub record Agrees {B : Type 0} (s : State) (pages : List (PageNote B)) (sets : List RulesNote) : Type 0 where
   pub once : IsOnce (addresses pages)
@@ -38,7 +38,7 @@ pub record Agrees {B : Type 0} (s : State) (pages : List (PageNote B)) (sets : L
   pub recorded : (u : Text) → IsSome ((answers s).outcome u) → Contains (addresses pages) u
   pub ruled : (o : Text) → IsSome ((answers s).rules o) → Contains (origins sets) o
 
--- the page that is kept of a note, where it has a body
+-- the page that is kept of a note, if it has a body
 abbrev pub page_with : {B : Type 0} → Text → Option B → Option (KeptPage B)
 page_with u None = None
 page_with u (Some body) = Some (record { address = u; body = body })

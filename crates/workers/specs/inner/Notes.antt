@@ -17,7 +17,7 @@ use Rattle.workers.specs.declared.note.Notes.{Notes}
 abbrev pub body_of : {B : Type 0} → Plan → Text → Outcome → B → Option B
 body_of plan u x body = if keeps_of plan u && is_success x then Some body else None
 
--- what was noted of a page is what may be said of it: the outcome goes with some body, which is noted where
+-- what was noted of a page is what may be said of it: the outcome goes with some body, which is noted if
 -- the page is kept
 abbrev pub IsToldPage : {B : Type 0} → (Text → Outcome → B → Type 0) → Plan → PageNote B → Type 0
 IsToldPage {B = B} may_say plan note = MatchOption note.told (note.body ≡ None) (λ x. (body : B) × may_say note.address x body × (note.body ≡ body_of plan note.address x body))
@@ -33,7 +33,7 @@ addresses notes = map (λ note. note.address) notes
 abbrev pub origins : List RulesNote → List Text
 origins notes = map (λ note. note.origin) notes
 
--- What a worker does with its fetcher and its notes, which stand in a pair before it and behind it: the site stays what it is;
+-- What a worker does with its fetcher and its notes, which are in a pair before it and after it: the site stays what it is;
 -- each ask that the log gains has its note, in order, under the worker's number, and what was noted of an answer is what the
 -- site may give.
 pub record Goes {F B : Type 0} (m : Meaning F B) (plan : Plan) (worker : ℕ) (old new : F × Notes B) : Type 0 where

@@ -5,7 +5,7 @@ use Rattle.frontier_core.specs.declared.event.Event.TheVariants as line
 use Rattle.workers.specs.declared.note.PageNote.{PageNote}
 use Rattle.workers.specs.declared.note.RulesNote.{RulesNote}
 
--- where the line says that a worker took what is noted, that worker noted it
+-- if the line says that a worker took what is noted, that worker noted it
 abbrev pub IsNotedBy : {B : Type 0} → List (PageNote B) → List RulesNote → Event → Type 0
 IsNotedBy notes sets (line.Opened start) = Unit {0}
 IsNotedBy notes sets (line.Page worker address) = All (λ note. note.address ≡ address → note.worker ≡ worker) notes
@@ -18,6 +18,6 @@ IsNotedBy notes sets (line.Abandon worker address) = Unit {0}
 IsNotedBy notes sets (line.AbandonRules worker origin) = Unit {0}
 IsNotedBy notes sets (line.Stop cause) = Unit {0}
 
--- by the lines each noted it who took it
+-- by the lines each thing was noted by the worker that took it
 abbrev pub AreNotedBy : {B : Type 0} → List (PageNote B) → List RulesNote → List Event → Type 0
 AreNotedBy notes sets trace = All (IsNotedBy notes sets) trace

@@ -1,4 +1,4 @@
--- The outcome beside the address stands there.
+-- The outcome beside the address is there.
 use Rattle.std.proofs.Common.{subst}
 use Rattle.std.specs.Prelude.{IsTrue}
 use Rattle.harvest.proofs.PlaceLaws.{place_here}

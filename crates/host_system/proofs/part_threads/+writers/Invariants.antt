@@ -1,4 +1,4 @@
--- A closure stands between a call and the one for a writer less.
+-- A closure is between a call and the one for a writer less.
 use Rattle.std.proofs.Common.{◌+◌, ◌*◌}
 use Rattle.host_system.proofs.part_threads.+writers.Given as goal
 

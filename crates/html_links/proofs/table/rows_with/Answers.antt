@@ -6,9 +6,9 @@ use Rattle.html_links.specs.declared.table.Form.TheVariants as form
 use Rattle.html_links.proofs.table.rows_with.Goals as goal
 
 rows_of_i : rows_with 105 link_table
-    ≡ row (codes "img") (codes "src") form.Shown ∷ row (codes "img") (codes "srcset") form.Set ∷ row (codes "img") (codes "longdesc") form.Link ∷ row (codes "img") (codes "lowsrc") form.Shown
-    ∷ row (codes "iframe") (codes "src") form.Shown ∷ row (codes "input") (codes "src") form.Button
-    ∷ row (codes "image") (codes "href") form.Shown ∷ row (codes "image") (codes "xlink:href") form.Shown ∷ []
+    ≡ row 9 (codes "img") (codes "src") form.Shown ∷ row 10 (codes "img") (codes "srcset") form.Set ∷ row 11 (codes "img") (codes "longdesc") form.Link ∷ row 12 (codes "img") (codes "lowsrc") form.Shown
+    ∷ row 13 (codes "iframe") (codes "src") form.Shown ∷ row 14 (codes "input") (codes "src") form.Button
+    ∷ row 15 (codes "image") (codes "href") form.Shown ∷ row 16 (codes "image") (codes "xlink:href") form.Shown ∷ []
 unfolding link_table
 rows_of_i = refl
 

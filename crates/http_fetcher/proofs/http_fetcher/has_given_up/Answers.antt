@@ -5,4 +5,4 @@ use Rattle.http_fetcher.proofs.GivenUpLemmas.{given_up_by_status}
 use Rattle.http_fetcher.proofs.http_fetcher.has_given_up.Goals as goal
 
 pub returns-in-Whole : goal.returns-in-Whole
-returns-in-Whole c = λ robots at. rw c.in-Whole.is (ap (λ (r : ResponseParts). r.head.status == 408) c.response.ensures.value ∙ sym (given_up_by_status robots at c.in-Whole.given))
+returns-in-Whole c = λ links at. rw c.in-Whole.is (ap (λ (r : ResponseParts). r.head.status == 408) c.response.ensures.value ∙ sym (given_up_by_status links at c.in-Whole.given))

@@ -28,7 +28,7 @@ returns-in-Err-start c =
     let lists = c.in-Ok-read_filters.ensures in
     let f = c.in-Ok-read_filters.filters in
     ⊎_elim
-    (λ fails. inl (bad-start found _ _ _ _ _ _ c.in-Some.level (f.names.given, f.names.excluded) (f.places.given, f.places.excluded) (f.hosts.given, f.hosts.excluded) (f.sought.accepted, f.sought.rejected) c.in-Err-start.fault c.in-Ok.ensures level lists.0 lists.1 lists.2 lists.3 fails ∙ ap Err (sym fails.0)))
+    (λ fails. inl (bad-start found _ _ _ _ _ _ c.in-Some.level (f.names.given, f.names.excluded) (f.places.given, f.places.excluded) (f.hosts.given, f.hosts.excluded) (f.sought.accepted, f.sought.rejected) f.rows c.in-Err-start.fault c.in-Ok.ensures level lists.0 lists.1 lists.2 lists.3 lists.4 fails ∙ ap Err (sym fails.0)))
     (λ memory. inr memory)
     c.in-Err-start.ensures
 
@@ -38,5 +38,5 @@ returns c =
     let level : level_of found ≡ Some c.in-Some.level = sym c.in-Some.ensures.value in
     let lists = c.in-Ok-read_filters.ensures in
     let f = c.in-Ok-read_filters.filters in
-    good-order found _ _ _ _ _ _ c.in-Some.level (f.names.given, f.names.excluded) (f.places.given, f.places.excluded) (f.hosts.given, f.hosts.excluded) (f.sought.accepted, f.sought.rejected) c.in-Ok-start.page c.in-Ok.ensures level lists.0 lists.1 lists.2 lists.3 c.in-Ok-start.ensures.0
+    good-order found _ _ _ _ _ _ c.in-Some.level (f.names.given, f.names.excluded) (f.places.given, f.places.excluded) (f.hosts.given, f.hosts.excluded) (f.sought.accepted, f.sought.rejected) f.rows c.in-Ok-start.page c.in-Ok.ensures level lists.0 lists.1 lists.2 lists.3 lists.4 c.in-Ok-start.ensures.0
     ∙ ap Ok (sym c.filled.ensures)

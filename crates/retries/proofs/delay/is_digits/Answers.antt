@@ -1,4 +1,4 @@
--- There is a digit where the text isn't empty.
+-- There is a digit if the text isn't empty.
 use Rattle.std.proofs.Common.{◌∙◌, Bool, length, arith, ap, sym, lt-ltb}
 use Rattle.std.specs.Prelude.{◌&&◌}
 use Rattle.std.proofs.lemmas.Bool.{eqb-false}

@@ -1,4 +1,4 @@
--- The answer is made of what is told last.
+-- The answer is made of what is received last.
 use Rattle.std.proofs.Common.{◌∙◌, ap}
 use Rattle.answer_notes.specs.Tellings.{outcome_told}
 use Rattle.retries.proofs.TryLaws.{if_ok_both}
@@ -7,4 +7,4 @@ use Rattle.retries.proofs.retrying.answer.Goals as goal
 pub returns-clause-tries : goal.returns-clause-tries
 returns-clause-tries g c =
     if_ok_both c.into_answer.result _ _ _ c.into_answer.ensures.outcome c.into_answer.ensures.body
-    (λ a o b. (c.in_ok-told.told, o ∙ ap (λ h. outcome_told h c.args.at.now c.in_ok-told.told) (c.honours_robots.ensures ∙ c.in_ok-told.ensures.honours), b, c.in_ok-told.ensures.tries))
+    (λ a o b. (c.in_ok-told.told, o ∙ ap (λ h. outcome_told h c.args.at.now c.in_ok-told.told) (c.link_rules.ensures ∙ c.in_ok-told.ensures.links), b, c.in_ok-told.ensures.tries))

@@ -1,4 +1,4 @@
--- The rules are those of the hops that are told last.
+-- The rules are those of the hops that are received last.
 use Rattle.retries.proofs.TryLaws.{if_ok_map}
 use Rattle.retries.proofs.retrying.rules_of.Goals as goal
 

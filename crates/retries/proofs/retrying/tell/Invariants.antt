@@ -10,7 +10,7 @@ use Rattle.retries.proofs.retrying.tell.Given as goal
 abbrev pub invariant-loop-made : goal.invariant-loop-made
 invariant-loop-made g l = record {
   site : g.F.Fetcher.site l.inner ≡ g.F.Fetcher.site l.fn.inner;
-  honours : g.F.Telling.honours l.inner ≡ g.F.Telling.honours l.fn.inner;
-  told : g.F.Fetcher.says (g.F.Fetcher.site l.fn.inner) l.at (outcome_told (g.F.Telling.honours l.fn.inner) l.at l.told) (body_told l.told);
-  tries : TriesSoFar g.F.Fetcher.log (λ f t. g.F.Fetcher.says (g.F.Fetcher.site f) l.at (outcome_told (g.F.Telling.honours f) l.at t) (body_told t)) (is_worth (retries_by l.retries)) (ask.Page l.at) l.made l.fn.inner l.inner l.told;
+  links : g.F.Telling.links l.inner ≡ g.F.Telling.links l.fn.inner;
+  told : g.F.Fetcher.says (g.F.Fetcher.site l.fn.inner) l.at (outcome_told (g.F.Telling.links l.fn.inner) l.at l.told) (body_told l.told);
+  tries : TriesSoFar g.F.Fetcher.log (λ f t. g.F.Fetcher.says (g.F.Fetcher.site f) l.at (outcome_told (g.F.Telling.links f) l.at t) (body_told t)) (is_worth (retries_by l.retries)) (ask.Page l.at) l.made l.fn.inner l.inner l.told;
 }

@@ -10,7 +10,7 @@ use Rattle.retries.proofs.retrying.tell_hops.Goals as goal
 pub loop-made-init : goal.loop-made-init
 loop-made-init g c = record {
   site = c.in_ok-hops.ensures.site;
-  honours = c.in_ok-hops.ensures.honours;
+  links = c.in_ok-hops.ensures.links;
   of = c.in_ok-hops.ensures.of;
   told = c.in_ok-hops.ensures.told;
   tries = first g.F.Fetcher.log (λ f found. g.F.Fetcher.rules (g.F.Fetcher.site f) c.args.of.now (rules_of_hops found.hops)) (λ found. is_worth_hops (retries_by c.args.retries.now) found.hops) (ask.Rules c.args.of.now) c.args.inner.now c.ask_hops.new.self c.in_ok-hops.hops (c.in_ok-hops.ensures.asked, c.in_ok-hops.ensures.told);
@@ -21,7 +21,7 @@ loop-made-preserved g c =
     let inv = c.loop-made.invariant in
     record {
       site = c.in_ok-hops-2.ensures.site ∙ inv.site;
-      honours = c.in_ok-hops-2.ensures.honours ∙ inv.honours;
+      links = c.in_ok-hops-2.ensures.links ∙ inv.links;
       of = c.in_ok-hops-2.ensures.of;
       told = subst (λ s. g.F.Fetcher.rules s c.args.of.now (rules_of_hops c.in_ok-hops-2.hops.hops)) inv.site c.in_ok-hops-2.ensures.told;
       tries = goes_on g.F.Fetcher.log (λ f found. g.F.Fetcher.rules (g.F.Fetcher.site f) c.args.of.now (rules_of_hops found.hops)) (λ found. is_worth_hops (retries_by c.args.retries.now) found.hops) (ask.Rules c.args.of.now) c.loop-made.made c.args.inner.now c.loop-made.inner c.ask_hops-in-loop-made.new.self c.loop-made.hops c.in_ok-hops-2.hops
@@ -31,7 +31,7 @@ loop-made-preserved g c =
 pub returns-then-not-is_worth_hops : goal.returns-then-not-is_worth_hops
 returns-then-not-is_worth_hops g c = record {
   site = c.loop-made.invariant.site;
-  honours = c.loop-made.invariant.honours;
+  links = c.loop-made.invariant.links;
   of = c.loop-made.invariant.of;
   told = c.loop-made.invariant.told;
   tries = stops g.F.Fetcher.log (λ f found. g.F.Fetcher.rules (g.F.Fetcher.site f) c.args.of.now (rules_of_hops found.hops)) (λ found. is_worth_hops (retries_by c.args.retries.now) found.hops) (ask.Rules c.args.of.now) c.loop-made.made c.args.retries.now.most c.args.inner.now c.loop-made.inner c.loop-made.hops
@@ -41,7 +41,7 @@ returns-then-not-is_worth_hops g c = record {
 pub returns : goal.returns
 returns g c = record {
   site = c.loop-made.invariant.site;
-  honours = c.loop-made.invariant.honours;
+  links = c.loop-made.invariant.links;
   of = c.loop-made.invariant.of;
   told = c.loop-made.invariant.told;
   tries = ends g.F.Fetcher.log (λ f found. g.F.Fetcher.rules (g.F.Fetcher.site f) c.args.of.now (rules_of_hops found.hops)) (λ found. is_worth_hops (retries_by c.args.retries.now) found.hops) (ask.Rules c.args.of.now) c.loop-made.made c.args.retries.now.most c.args.inner.now c.loop-made.inner c.loop-made.hops

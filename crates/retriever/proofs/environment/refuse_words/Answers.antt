@@ -1,4 +1,4 @@
--- The words are those behind the program's name.
+-- The words are those after the program's name.
 use Rattle.std.proofs.Common.{◌∙◌, map, ap}
 use Rattle.retriever.proofs.environment.refuse_words.Goals as goal
 

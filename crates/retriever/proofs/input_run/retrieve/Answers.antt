@@ -5,6 +5,7 @@ use Rattle.frontier_core.specs.declared.event.Cause.TheVariants as why
 use Rattle.workers.specs.OneWorker.{AreByCrew}
 use Rattle.retriever.specs.Site.{whole_of}
 use Rattle.workers.proofs.ServingLaws.{crew_fits}
+use Rattle.workers.proofs.QuotaLaws.{unlimited}
 use Rattle.retriever.proofs.EndLaws.{copies_fit, copies_kinds, crew_kinds, told_finishes}
 use Rattle.retriever.proofs.input_run.retrieve.Goals as goal
 
@@ -20,4 +21,4 @@ returns g c = λ told fits has.
     let have = copies_kinds F told c.args.site.now c.args.order.now.workers copies c.in_ok-copies.ensures.equal has in
     let left = c.retrieve_shown-retrieved.result.1.items in
     told_finishes c.args.order.now _ _ told _ r _ (crew_fits F copies left whole fit) (crew_kinds F told copies left have) crew.ok (crew.whole_site whole fit) crew.err
-    (crew.full_site whole fit) (λ one. crew.one (c.in_ok-copies.ensures.count ∙ one)) by c.told_of-told.ensures
+    (crew.full_site whole fit) (λ one. crew.one (c.in_ok-copies.ensures.count ∙ one)) (unlimited _ r crew.quota) by c.told_of-told.ensures

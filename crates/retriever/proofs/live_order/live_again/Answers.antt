@@ -1,4 +1,4 @@
--- The fetchers are the system's, each behind the record, and the folder is its, too.
+-- The fetchers are the system's, each with the record before it, and the folder is its, too.
 use Rattle.std.proofs.Common.{ℕ, List, refl, subst}
 use Rattle.std.proofs.lemmas.Result.{err_from_is_err_and}
 use Rattle.local_tree.specs.Folders.{holding}

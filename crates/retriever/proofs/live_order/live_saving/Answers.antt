@@ -1,4 +1,4 @@
--- The fetchers, the folder and the record's writer are the system's, each fetcher behind the record, whose notes are saved first.
+-- The fetchers, the folder and the record's writer are the system's. Before each fetcher is the record, whose notes are saved first.
 use Rattle.std.proofs.Common.{ℕ, List, inl, refl, subst}
 use Rattle.std.proofs.lemmas.Result.{err_from_is_err_and}
 use Rattle.answer_notes.specs.declared.noted.Noted.{Noted}

@@ -1,4 +1,4 @@
--- Each of the system's fetchers is behind the record.
+-- Each of the system's fetchers has the record before it.
 use Rattle.std.proofs.Common.{◌≡◌, ◌∙◌, ℕ, sym, subst}
 use Rattle.std.specs.Prelude.{IfOk, vec_len}
 use Rattle.std.proofs.lemmas.Result.{IfOk-from_err}
@@ -9,7 +9,7 @@ use Rattle.retriever.proofs.live_order.resumed_of.Goals as goal
 
 pub returns : goal.returns
 returns g c =
-    let m = means g.S.System c.args.system.now g.S.Fetcher.Fetcher g.S.Recorder.Fetcher g.S.Recorder.Recording.noted (kept_as g.S.Body.HasKind.kind_of g.S.Folder.Shelf.holds) g.S.Folder.Folder g.S.Record.Write in
+    let m = means g.S.System c.args.system.now g.S.Fetcher.Fetcher g.S.Recorder.Fetcher g.S.Recorder.Recording.noted (kept_as g.S.Body.HasKind.kind_of g.S.Body.HasKind.len_of g.S.Folder.Shelf.holds) g.S.Folder.Folder g.S.Record.Write in
     let fetchers = c.in_ok-fetchers.fetchers in
     let given = c.in_ok-fetchers.ensures in
     record {

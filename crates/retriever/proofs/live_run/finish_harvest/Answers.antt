@@ -1,8 +1,9 @@
--- What is put has the names, and what is told the text, of the harvest.
+-- What is put has the names, and what is written the text, of the harvest.
 use Rattle.std.proofs.Common.{◌∙◌, ℕ, List, String, Global, inr, map, string_bytes, subst}
 use Rattle.report.specs.ExitStatus.{exit_status}
 use Rattle.local_tree.specs.Folders.{holding}
 use Rattle.retriever.specs.Keeping.{kept_as}
+use Rattle.retriever.specs.Mirrored.{kept_as_named}
 use Rattle.retriever.specs.inner.Parts.{IsToldAs}
 use Rattle.retriever.specs.inner.Puts.{IsPutAndTold}
 use Rattle.retriever.proofs.live_run.finish_harvest.Goals as goal
@@ -12,7 +13,7 @@ returns-in-Ok g c =
     let telling = c.in-Ok.telling in
     let given = c.in-Ok.ensures in
     let h = c.args.harvest.now in
-    let keeps = kept_as g.B.HasKind.kind_of g.D.Shelf.holds in
+    let keeps = kept_as g.B.HasKind.kind_of g.B.HasKind.len_of g.D.Shelf.holds in
     let old = holding g.D.Folder.files g.D.Folder.failed c.args.folder.now in
     let new = holding g.D.Folder.files g.D.Folder.failed c.put_and_tell.new.folder in
     let is_told = IsToldAs (g.W.Write.contents c.args.writer.now) (g.W.Write.contents c.put_and_tell.new.writer) c.put_and_tell.result in
@@ -21,6 +22,6 @@ returns-in-Ok g c =
       given.read,
       map string_bytes telling.names.items,
       given.naming,
-      subst (λ (text : List ℕ). IsPutAndTold keeps is_told (map string_bytes telling.names.items) h.bodies (text, wanted) old new) (c.as_str.ensures.value ∙ given.text)
-          (subst (λ (names : List (String Global)). IsPutAndTold keeps is_told (map string_bytes names) h.bodies (c.as_str.result.now, wanted) old new) c.as_slice.ensures.value c.put_and_tell.ensures),
+      subst (λ (text : List ℕ). IsPutAndTold c.args.converts keeps is_told (kept_as_named h (map string_bytes telling.names.items)) h.bodies (text, wanted) old new) (c.as_str.ensures.value ∙ given.text)
+          (subst (λ (names : List (String Global)). IsPutAndTold c.args.converts keeps is_told (kept_as_named h (map string_bytes names)) h.bodies (c.as_str.result.now, wanted) old new) c.as_slice.ensures.value c.put_and_tell.ensures),
     )

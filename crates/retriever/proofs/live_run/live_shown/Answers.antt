@@ -1,6 +1,7 @@
--- What the crew retrieved is put and told.
-use Rattle.std.proofs.Common.{◌∙◌}
+-- What the crew retrieved is put and written.
+use Rattle.std.proofs.Common.{◌∙◌, subst}
 use Rattle.local_tree.specs.Folders.{holding}
+use Rattle.workers.specs.Quotas.{KeepsTo}
 use Rattle.retriever.specs.Found.{crew_of, outside}
 use Rattle.retriever.specs.Keeping.{kept_as}
 use Rattle.retriever.specs.inner.Parts.{IsToldAs}
@@ -12,17 +13,17 @@ returns g c =
     let F = g.F.Fetcher in
     let D = g.D.Folder in
     let W = g.W.Write in
-    let keeps = kept_as g.F.Body.HasKind.kind_of g.D.Shelf.holds in
+    let keeps = kept_as g.F.Body.HasKind.kind_of g.F.Body.HasKind.len_of g.D.Shelf.holds in
     let r = c.retrieve_shown-retrieved.result.0 in
     let news = c.retrieve_shown-retrieved.result.1.items in
     let known = c.retrieve_shown-retrieved.ensures in
     let olds = c.args.fetchers.items in
     let crew = crew_of F keeps olds news in
     let by = of_crew crew r c.args.fetchers.len c.args.fetchers.ok.0 known.numbered known.own in
-    let ends = crew_ends crew c.args.order.now r (holding D.files D.failed c.args.folder.now) (holding D.files D.failed c.finish.new.folder)
-    (IsToldAs (W.contents c.args.writer.now) (W.contents c.finish.new.writer) c.finish.result)
-    known.ok known.err known.full (λ is. known.one (c.args.fetchers.ok.0 ∙ is)) by c.finish.ensures in
+    let ends = crew_ends crew c.args.order.now r (holding D.files D.failed c.args.folder.now) (holding D.files D.failed c.finish-told.new.folder)
+    (IsToldAs (W.contents c.args.writer.now) (W.contents c.finish-told.new.writer) c.finish-told.result)
+    known.ok known.err known.full (λ is. known.one (c.args.fetchers.ok.0 ∙ is)) by (subst (λ most. KeepsTo most g.F.Body.HasKind.len_of r) c.of-quota.ensures known.quota) c.finish-told.ensures in
     record {
       lives = lives_from F keeps c.args.order.now olds news (outside (holding D.files D.failed c.args.folder.now) (W.contents c.args.writer.now))
-          (outside (holding D.files D.failed c.finish.new.folder) (W.contents c.finish.new.writer)) c.finish.result c.status_told-status.result known.fetchers c.status_told-status.ensures ends;
+          (outside (holding D.files D.failed c.finish-told.new.folder) (W.contents c.finish-told.new.writer)) c.finish-told.result c.status_told-status.result known.fetchers c.status_told-status.ensures ends;
     }

@@ -1,4 +1,4 @@
--- The second text stands behind the first, or a front of the first was written.
+-- The second text follows the first, or a front of the first was written.
 use Rattle.std.proofs.Common.{ℕ, List, subst}
 use Rattle.std.specs.Io.KnownBytes.{Appends}
 use Rattle.retriever.specs.inner.Parts.{IsToldAs}

@@ -1,4 +1,4 @@
--- The line stands behind the text.
+-- The line follows the text.
 use Rattle.std.proofs.Common.{◌∙◌, ◌++◌, ℕ, List, inl, subst}
 use Rattle.retriever.specs.inner.Parts.{IsToldAs}
 use Rattle.retriever.proofs.live_run.tell_torn.Goals as goal

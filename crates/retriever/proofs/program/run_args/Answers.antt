@@ -1,4 +1,4 @@
--- The arguments are those that were given; want of memory before them ends the program with its line.
+-- The arguments are those that were given; if memory runs out before them, the program ends with its line.
 use Rattle.std.proofs.Common.{inr, ◌∙◌, ap, refl}
 use Rattle.retriever.specs.Program.{words_behind}
 use Rattle.retriever.proofs.ProgramLaws.{starts_as, starts_memory}

@@ -1,4 +1,4 @@
--- Words that order something are run or retrieved, others have their fault told.
+-- Words that order something are run or retrieved; of others the fault is reported.
 use Rattle.std.proofs.Common.{inr, refl}
 use Rattle.retriever.proofs.ProgramLaws.{starts_order, starts_wrong}
 use Rattle.retriever.proofs.program.run_texts.Goals as goal

@@ -1,4 +1,4 @@
--- The words are those behind the name; want of memory before them ends the program with its line.
+-- The words are those after the name; if memory runs out before them, the program ends with its line.
 use Rattle.std.proofs.Common.{inr, ◌∙◌, ℕ, List, Bor, map, ap, refl}
 use Rattle.retriever.proofs.ProgramLaws.{starts_as, starts_memory}
 use Rattle.retriever.proofs.program.run_words.Goals as goal

@@ -1,10 +1,11 @@
--- What the crew retrieved is put and told, and what its fetchers noted is saved.
+-- What the crew retrieved is put and written, and what its fetchers noted is saved.
 use Rattle.std.proofs.Common.{◌∙◌, ◌++◌, List, subst}
 use Rattle.std.specs.List.{flat_map}
 use Rattle.local_tree.specs.Folders.{holding}
+use Rattle.workers.specs.Quotas.{KeepsTo}
 use Rattle.site_records.specs.WrittenRecords.{record_text}
 use Rattle.retriever.specs.Found.{crew_of}
-use Rattle.retriever.specs.Keeping.{in_memory}
+use Rattle.retriever.specs.Keeping.{in_memory, len_in}
 use Rattle.retriever.specs.inner.Parts.{IsToldAs}
 use Rattle.retriever.specs.Saving.{IsSaved}
 use Rattle.retriever.proofs.LiveLaws.{crew_ends, of_crew}
@@ -24,7 +25,7 @@ returns g c =
     let (shown, ending, ends, written) = crew_ends crew c.args.order.now r
     (holding D.files D.failed c.args.folder.now) (holding D.files D.failed c.finish-told.new.folder)
     (IsToldAs (g.W.Write.contents c.args.writer.now) (g.W.Write.contents c.finish-told.new.writer) c.finish-told.result)
-    known.ok known.err known.full (λ is. known.one (c.args.fetchers.ok.0 ∙ is)) by c.finish-told.ensures in
+    known.ok known.err known.full (λ is. known.one (c.args.fetchers.ok.0 ∙ is)) by (subst (λ most. KeepsTo most len_in r) c.of-quota.ensures known.quota) c.finish-told.ensures in
     record {
       left = news;
       later = known.fetchers;

@@ -1,4 +1,4 @@
--- Each turn puts one fetcher behind the record; at the end none is left.
+-- Each turn puts the record before one fetcher; at the end none is left.
 use Rattle.std.proofs.Common.{◌≡◌, ◌∙◌, ◌++◌, [], ◌∷◌, length, map, sym, ap, subst}
 use Rattle.std.proofs.lemmas.List.{length-map}
 use Rattle.std.proofs.lemmas.Result.{IfOk-from_err}

@@ -1,4 +1,4 @@
--- Nothing is told of a record that is whole.
+-- Nothing is written of a record that is whole.
 use Rattle.std.proofs.Common.{inl, refl}
 use Rattle.std.proofs.KnownBytes.{Appends-nil}
 use Rattle.retriever.proofs.saved_run.tell_saving.Goals as goal

@@ -1,4 +1,4 @@
--- It stands behind what was told, or only a front of that was.
+-- It follows what was written, or only a front of that was.
 use Rattle.std.proofs.Common.{◌≡◌, inr, refl}
 use Rattle.std.specs.Io.KnownBytes.{Appends}
 use Rattle.streams.specs.Streams.{AppendsFront}

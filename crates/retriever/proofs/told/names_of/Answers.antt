@@ -1,5 +1,5 @@
 -- The names are by the kinds of the bodies, or without.
-use Rattle.std.proofs.Common.{◌∙◌, ap, map, string_bytes}
+use Rattle.std.proofs.Common.{◌∙◌, map, string_bytes}
 use Rattle.std.proofs.lemmas.Result.{IfOk-from_err}
 use Rattle.retriever.proofs.KindLaws.{ended_are, plain_are}
 use Rattle.retriever.proofs.told.names_of.Goals as goal

@@ -1,4 +1,4 @@
--- The names are those that the report states, and its text stands behind what is shown.
+-- The names are those that the report states, and its text follows what is shown.
 use Rattle.std.proofs.Common.{refl}
 use Rattle.std.proofs.lemmas.Result.{IfOk-from_err}
 use Rattle.retriever.proofs.told.telling_of.Goals as goal

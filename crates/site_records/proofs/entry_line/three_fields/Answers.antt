@@ -1,4 +1,4 @@
--- A fourth field stands behind the third.
+-- A fourth field comes after the third.
 use Rattle.std.proofs.Common.{◌==◌}
 use Rattle.site_inputs.proofs.Splits.{slice_split-first_part}
 use Rattle.site_records.proofs.entry_line.three_fields.Goals as goal

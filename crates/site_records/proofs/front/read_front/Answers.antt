@@ -15,9 +15,9 @@ entries-init c =
     let b = c.in-Some.rest-is in
     let is : c.args.bytes.now ≡ version_line c.in-Some.version ++ c.in-Some.rest.now = first_of (assumption h, search (rules, h), grind (arith, h, a, b)) in
     record {
-      read = starts c.args.robots c.args.bytes.now c.new-reading.result c.in-Some.rest.now
+      read = starts c.args.links c.args.bytes.now c.new-reading.result c.in-Some.rest.now
           (subst (λ v. c.args.bytes.now ≡ version_line v ++ c.in-Some.rest.now) (sym c.new-reading.ensures.version) is)
-          c.new-reading.ensures.answers c.new-reading.ensures.rules c.new-reading.ensures.robots c.new-reading.ensures.notes;
+          c.new-reading.ensures.answers c.new-reading.ensures.rules c.new-reading.ensures.links c.new-reading.ensures.notes;
       keeps = c.new-reading.ensures.keeps_notes;
     }
 
@@ -42,7 +42,7 @@ pub returns-clause-front : goal.returns-clause-front
 returns-clause-front c =
     let s = c.entries.invariant.read in
     let within = s.within in
-    let none : c.entries.reading.notes.items ≡ [] = subst (λ b. HasNotes b c.args.robots c.entries.reading.notes.items s.above) c.entries.invariant.keeps s.noted in
+    let none : c.entries.reading.notes.items ≡ [] = subst (λ b. HasNotes b c.args.links c.entries.reading.notes.items s.above) c.entries.invariant.keeps s.noted in
     let answers = s.answers in
     let rules = s.rules in
     let is = c.in_ok-site.ensures in

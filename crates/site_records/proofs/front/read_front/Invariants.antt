@@ -5,7 +5,7 @@ use Rattle.site_records.proofs.front.read_front.Given as goal
 
 abbrev pub invariant-entries : goal.invariant-entries
 invariant-entries l = record {
-  read : IsReadTo l.robots l.bytes l.reading l.number l.rest;
+  read : IsReadTo l.fn.links l.bytes l.reading l.number l.rest;
   keeps : l.reading.keeps_notes ≡ false;
 }
 

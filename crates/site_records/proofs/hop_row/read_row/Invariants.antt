@@ -1,4 +1,4 @@
--- The hops so far stand in front of the rest, each where the chain leads.
+-- The hops so far come before the rest, each where the chain leads.
 use Rattle.std.proofs.Common.{◌≡◌, ◌≤◌, ◌-◌, length}
 use Rattle.site_records.specs.Entries.{IsBegun, chain_start, due}
 use Rattle.site_records.proofs.hop_row.read_row.Given as goal

@@ -1,4 +1,4 @@
--- The pieces are an entry with the hops behind its line; of a chain with a long head nothing is said.
+-- The pieces are an entry with the hops after its line; of a chain with a long head nothing is said.
 use Rattle.std.proofs.Common.{◌≡◌, ◌++◌, ◌∙◌, true, sym, ap}
 use Rattle.std.specs.Prelude.{flat_map}
 use Rattle.std.specs.List.{list_all}

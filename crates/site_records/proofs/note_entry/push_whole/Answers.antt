@@ -1,4 +1,4 @@
--- The pieces are an entry with the response behind its line.
+-- The pieces are an entry with the response after its line.
 use Rattle.std.proofs.Common.{◌+◌, length, ◌++◌, ◌∷◌, [], ◌∙◌, refl, ap}
 use Rattle.std.specs.Prelude.{decimal}
 use Rattle.response_reader.specs.Response.{ResponseParts}

@@ -1,4 +1,4 @@
--- The note is added where none before it repeats it.
+-- The note is added if none before it repeats it.
 use Rattle.std.proofs.Common.{refl}
 use Rattle.site_records.proofs.DraftLaws.{draft_grows}
 use Rattle.site_records.proofs.written_record.add_note.Goals as goal

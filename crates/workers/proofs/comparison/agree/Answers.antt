@@ -1,4 +1,4 @@
--- What stands in the table does so in whatever order.
+-- What is in the table is there in whatever order.
 use Rattle.std.proofs.Common.{refl}
 use Rattle.std.proofs.lemmas.Bool.{false≢true}
 use Rattle.std.proofs.lemmas.List.Sorted.{All-permutation, IsPermutation-refl}

@@ -4,7 +4,7 @@ use Rattle.harvest.specs.Entries.{ruled_origins}
 use Rattle.workers.specs.inner.Notes.{origins}
 use Rattle.workers.proofs.comparison.known_rules_are_noted.Given as goal
 
--- where what is left was noted, all was; and what is left is some of it
+-- if what is left was noted, all was; and what is left is some of it
 abbrev pub invariant-rules : goal.invariant-rules
 invariant-rules l = record {
   all : ((o : List ℕ) → Contains (ruled_origins l.rules) o → Contains (origins l.notes) o)

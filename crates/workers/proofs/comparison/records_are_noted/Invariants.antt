@@ -4,7 +4,7 @@ use Rattle.harvest.specs.Entries.{recorded_addresses}
 use Rattle.workers.specs.inner.Notes.{addresses}
 use Rattle.workers.proofs.comparison.records_are_noted.Given as goal
 
--- where what is left was noted, all was; and what is left is some of it
+-- if what is left was noted, all was; and what is left is some of it
 abbrev pub invariant-records : goal.invariant-records
 invariant-records g l = record {
   all : ((u : List ℕ) → Contains (recorded_addresses l.records) u → Contains (addresses l.notes) u)

@@ -1,4 +1,4 @@
--- What is in order and stands once ascends.
+-- What is in order and occurs once ascends.
 use Rattle.std.proofs.Common.{rules}
 use Rattle.std.specs.Cmp.Lexicographic.{slice_cmp, nat_list_cmp_total}
 use Rattle.std.specs.List.Sorted.{IsSortedBy}

@@ -3,6 +3,7 @@ use Rattle.std.proofs.lemmas.Bool.{false≢true}
 use Rattle.frontier_core.specs.declared.event.Cause.{Cause}
 use Rattle.frontier_core.specs.declared.event.Cause.TheVariants as why
 use Rattle.workers.proofs.ConclusionLaws.{not_full}
+use Rattle.workers.proofs.QuotaLaws.{memory_not_quota, quota_not_full, quota_not_mismatch}
 use Rattle.workers.proofs.StopLaws.{ok_not_err, err_same, memory_not_full, memory_not_mismatch}
 use Rattle.workers.proofs.conclusion.end_of.Goals as goal
 
@@ -28,6 +29,17 @@ returns-in-Some-Memory c =
       mismatch = ((λ other. absurd (memory_not_mismatch (err_same _ _ _ refl other))), λ unexplained. absurd (unexplained.supplied is));
     }
 
+pub returns-in-Some-Quota : goal.returns-in-Some-Quota
+returns-in-Some-Quota c =
+    let is : c.args.frontier.now.state.cause ≡ Some why.Quota = sym c.cause.ensures ∙ (c.in-Some-Quota.is ∙ ap (λ (cause : Cause). Some cause) c.in-Some-Quota.field-0-is) in
+    record {
+      quiet = tt;
+      stopped = λ _. is;
+      full = λ full. absurd (quota_not_full (err_same _ _ _ refl full));
+      memory = ((λ memory. absurd (memory_not_quota (sym (err_same _ _ _ refl memory)))), λ memory. (let other : Some why.Quota ≡ Some why.Memory = sym is ∙ memory in cc));
+      mismatch = ((λ other. absurd (quota_not_mismatch (err_same _ _ _ refl other))), λ unexplained. absurd (unexplained.unspent is));
+    }
+
 pub returns-in-Some-Mismatch : goal.returns-in-Some-Mismatch
 returns-in-Some-Mismatch c =
     let is : c.args.frontier.now.state.cause ≡ Some why.Mismatch = sym c.cause.ensures ∙ (c.in-Some-Mismatch.is ∙ ap (λ (cause : Cause). Some cause) c.in-Some-Mismatch.field-0-is) in
@@ -41,6 +53,7 @@ returns-in-Some-Mismatch c =
           unquiet = λ quiet. false≢true (c.if-is_quiet.ensures.quiet.1 quiet);
           supplied = λ memory. (let other : Some why.Mismatch ≡ Some why.Memory = sym is ∙ memory in cc);
           unborne = λ full. (let other : Some why.Mismatch ≡ Some why.Full = sym is ∙ full in cc);
+          unspent = λ spent. (let other : Some why.Mismatch ≡ Some why.Quota = sym is ∙ spent in cc);
         }),
         λ _. refl,
       );
@@ -59,6 +72,7 @@ returns-in-None c =
           unquiet = λ quiet. false≢true (c.if-is_quiet.ensures.quiet.1 quiet);
           supplied = λ memory. (let other : None ≡ Some why.Memory = sym is ∙ memory in cc);
           unborne = λ full. (let other : None ≡ Some why.Full = sym is ∙ full in cc);
+          unspent = λ spent. (let other : None ≡ Some why.Quota = sym is ∙ spent in cc);
         }),
         λ _. refl,
       );

@@ -12,6 +12,7 @@ use Rattle.workers.specs.Retrieval.{IsRetrieved, IsStopped}
 use Rattle.workers.specs.Sites.{IsCompleteFor}
 use Rattle.workers.specs.Takers.{AreOwn}
 use Rattle.workers.proofs.CrewEnds.{ok_with, err_with, both_with, is_err_with}
+use Rattle.workers.proofs.QuotaLaws.{unlimited}
 use Rattle.workers.proofs.crew_retrieval.retrieve.Goals as goal
 
 pub returns-clause-fetchers : goal.returns-clause-fetchers
@@ -96,3 +97,8 @@ pub returns-clause-crowded_site : goal.returns-clause-crowded_site
 returns-clause-crowded_site g c whole fit many =
     let shown = c.retrieve_shown-retrieved in
     is_err_with c.with_fetchers.result shown.result.0 shown.result.1.items c.with_fetchers.ensures.ok (shown.ensures.crowded_site whole fit many)
+
+pub returns-clause-unlimited : goal.returns-clause-unlimited
+returns-clause-unlimited g c =
+    let shown = c.retrieve_shown-retrieved in
+    err_with (λ fs cause h. cause ≢ why.Quota) c.with_fetchers.result shown.result.0 shown.result.1.items c.with_fetchers.ensures.err (unlimited _ shown.result.0 shown.ensures.quota)

@@ -1,4 +1,4 @@
-use Rattle.std.proofs.Common.{◌≡◌, ◌≢◌, ℕ, rules, arith, subst}
+use Rattle.std.proofs.Common.{◌≡◌, ◌≢◌, ◌∙◌, ℕ, rules, arith, subst, sym}
 use Rattle.std.specs.Prelude.{IfOk, IfErr}
 use Rattle.frontier_core.specs.declared.event.Cause.TheVariants as why
 use Rattle.workers.specs.OneWorker.{AreByCrew}
@@ -8,6 +8,7 @@ use Rattle.workers.proofs.ConclusionLaws.{by_nobody, if_ok, if_err}
 use Rattle.workers.proofs.TakerLaws.{own_none}
 use Rattle.workers.specs.Crews.{SomeSays}
 use Rattle.workers.proofs.CrewEnds.{stopped_empty, stopped_wrong, later_self, none_once, account_all, account_once, account_own, all_retrieved, all_stopped}
+use Rattle.workers.proofs.QuotaLaws.{keeps_nothing, memory_not_quota, quota_not_mismatch}
 use Rattle.workers.proofs.ServingLaws.{all_has_body}
 use Rattle.workers.proofs.crew_retrieval.retrieve_together.Goals as goal
 
@@ -118,3 +119,18 @@ returns-in-Once-clause-ok g c = tt
 
 pub returns-in-Twice-clause-ok : goal.returns-in-Twice-clause-ok
 returns-in-Twice-clause-ok g c = tt
+
+pub returns-in_default-clause-quota : goal.returns-in_default-clause-quota
+returns-in_default-clause-quota g c =
+    keeps_nothing (g.Q.Quota.most c.args.quota.now) g.Q.Quota.len_of c.empty.result (λ is. memory_not_quota (sym c.empty.ensures.memory ∙ is))
+
+pub returns-in-All-clause-quota : goal.returns-in-All-clause-quota
+returns-in-All-clause-quota g c = c.conclude.ensures.quota
+
+pub returns-in-Once-clause-quota : goal.returns-in-Once-clause-quota
+returns-in-Once-clause-quota g c =
+    keeps_nothing (g.Q.Quota.most c.args.quota.now) g.Q.Quota.len_of c.empty-in-Once.result (λ is. memory_not_quota (sym c.empty-in-Once.ensures.memory ∙ is))
+
+pub returns-in-Twice-clause-quota : goal.returns-in-Twice-clause-quota
+returns-in-Twice-clause-quota g c =
+    keeps_nothing (g.Q.Quota.most c.args.quota.now) g.Q.Quota.len_of c.mismatch.result (λ is. quota_not_mismatch (sym is ∙ c.mismatch.ensures))

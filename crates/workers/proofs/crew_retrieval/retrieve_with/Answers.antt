@@ -12,6 +12,7 @@ returns-then-len-eq1 g c =
     record {
       ok = alone.ok;
       err = alone.err;
+      quota = alone.quota;
       one = λ _. alone.mismatch;
       numbered = (
         subst (λ (n : ℕ). IfOk c.retrieve_alone.result.0 (λ h. AreByCrew n h.trace)) one alone.numbered.0,
@@ -26,6 +27,7 @@ returns g c =
     record {
       ok = together.ok;
       err = together.err;
+      quota = together.quota;
       one = λ one. absurd (c.if-len-eq1.false (c.len.ensures ∙ one));
       numbered = together.numbered;
       own = together.own;

@@ -1,4 +1,4 @@
--- What is found is the only note of its name; where nothing is found there is none.
+-- What is found is the only note of its name; if nothing is found there is none.
 use Rattle.std.proofs.Common.{ℕ, Result, rules, None, ap, subst, refl}
 use Rattle.std.specs.Cmp.Lexicographic.{slice_cmp}
 use Rattle.std.specs.List.Sorted.{IsBinarySearchResult}

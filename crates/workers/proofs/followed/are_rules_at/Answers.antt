@@ -1,4 +1,4 @@
--- What stands at the place is the only note of its name.
+-- What is at the place is the only note of its name.
 use Rattle.std.proofs.Common.{◌≡◌, ◌<◌, ◌∙◌, true, length, sym, ap, arith, rules}
 use Rattle.std.specs.Str.{bytes_eq}
 use Rattle.std.proofs.lemmas.List.{get_or_default}

@@ -1,4 +1,4 @@
--- A permit that is given up was asked for.
+-- A permit that is given up was requested.
 use Rattle.std.proofs.Common.{refl}
 use Rattle.std.proofs.lemmas.Bool.{false≢true}
 use Rattle.workers.proofs.turn.serve_rules.Goals as goal

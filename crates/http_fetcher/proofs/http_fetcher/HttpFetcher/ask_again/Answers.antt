@@ -9,7 +9,7 @@ pub returns-then-not-self : goal.returns-then-not-self
 returns-then-not-self g c =
     rw (sym c.self.view_is) (record {
       asks = refl;
-      robots = refl;
+      links = refl;
       keeps = refl;
       sends = refl;
       is_recording = refl;
@@ -26,7 +26,7 @@ pub returns-in_default : goal.returns-in_default
 returns-in_default g c =
     rw (sym c.self.view_is) (record {
       asks = refl;
-      robots = refl;
+      links = refl;
       keeps = refl;
       sends = refl;
       is_recording = refl;
@@ -46,7 +46,7 @@ returns-then-has_given_up g c =
     let closed = c.close.ensures in
     rw (sym c.self.view_is) (record {
       asks = ap (λ (f : Fetching _). f.asks) now;
-      robots = ap (λ (f : Fetching _). f.robots) now;
+      links = ap (λ (f : Fetching _). f.links) now;
       keeps = ap (λ (f : Fetching _). f.keeps) now;
       sends = ap (λ (f : Fetching _). f.sends) now;
       is_recording = ap (λ (f : Fetching _). f.is_recording) now;
@@ -61,8 +61,8 @@ returns-then-has_given_up g c =
           c.in-Some.wire,
           c.in-Some.ensures.given,
           inr (
-            answer_told c.self.inside.robots c.args.at.now c.in-Ok-Some.heard.told,
-            sym (c.has_given_up.ensures c.self.inside.robots c.args.at.now) ∙ c.if-has_given_up.true,
+            answer_told c.self.inside.links c.args.at.now c.in-Ok-Some.heard.told,
+            sym (c.has_given_up.ensures c.self.inside.links c.args.at.now) ∙ c.if-has_given_up.true,
             rw c.in-Ok-Some.field-0-is at c.in-Ok-Some.ensures.told,
           ),
         ),
@@ -78,7 +78,7 @@ returns-else-has_given_up g c =
     let same = c.told_again.ensures.same in
     rw (sym c.self.view_is) (record {
       asks = put.asks ∙ ap (λ (f : Fetching _). f.asks) same;
-      robots = put.robots ∙ ap (λ (f : Fetching _). f.robots) same;
+      links = put.links ∙ ap (λ (f : Fetching _). f.links) same;
       keeps = put.keeps ∙ ap (λ (f : Fetching _). f.keeps) same;
       sends = put.sends ∙ ap (λ (f : Fetching _). f.sends) same;
       is_recording = put.is_recording ∙ ap (λ (f : Fetching _). f.is_recording) same;
@@ -91,10 +91,10 @@ returns-else-has_given_up g c =
         put.made ∙ ap (λ (f : Fetching _). g.C.Connect.made f.connect) same ∙ c.take.ensures.made,
         put.taken ∙ ap (λ (f : Fetching _). g.C.Connect.taken f.connect) same ∙ c.in-Some.ensures.taken,
         keeps,
-        sym (c.has_given_up.ensures c.self.inside.robots c.args.at.now) ∙ c.if-has_given_up.false,
+        sym (c.has_given_up.ensures c.self.inside.links c.args.at.now) ∙ c.if-has_given_up.false,
         (c.in-Some.wire, c.in-Some.ensures.given, rw c.in-Ok-Some.field-0-is at c.in-Ok-Some.ensures.told),
       );
-      stands = stands_by g.C.Connect g.C.Wire.Wire standard _ _ _ (record { at = c.args.at.now; robots = c.self.inside.robots; keeps = c.self.inside.keeps; sends = c.self.inside.sends; limits = standard })
+      stands = stands_by g.C.Connect g.C.Wire.Wire standard _ _ _ (record { at = c.args.at.now; links = c.self.inside.links; keeps = c.self.inside.keeps; sends = c.self.inside.sends; limits = standard })
           _ c.in-Ok-Some.heard.serves c.in-Some.wire c.told_again.new.wire c.requires c.take.ensures.stands
           (rw same at put.stands) (rw c.in-Ok-Some.field-0-is at c.in-Ok-Some.ensures.serves);
     })
@@ -106,7 +106,7 @@ returns-in-Ok-None g c =
     let closed = c.close-in-Ok-None.ensures in
     rw (sym c.self.view_is) (record {
       asks = ap (λ (f : Fetching _). f.asks) now;
-      robots = ap (λ (f : Fetching _). f.robots) now;
+      links = ap (λ (f : Fetching _). f.links) now;
       keeps = ap (λ (f : Fetching _). f.keeps) now;
       sends = ap (λ (f : Fetching _). f.sends) now;
       is_recording = ap (λ (f : Fetching _). f.is_recording) now;
@@ -129,7 +129,7 @@ returns-in-Err g c =
     let closed = c.close-in-Err.ensures in
     rw (sym c.self.view_is) (record {
       asks = ap (λ (f : Fetching _). f.asks) now;
-      robots = ap (λ (f : Fetching _). f.robots) now;
+      links = ap (λ (f : Fetching _). f.links) now;
       keeps = ap (λ (f : Fetching _). f.keeps) now;
       sends = ap (λ (f : Fetching _). f.sends) now;
       is_recording = ap (λ (f : Fetching _). f.is_recording) now;

@@ -1,4 +1,4 @@
--- Behind the exchange the notes alone change.
+-- After the exchange the notes alone change.
 use Rattle.std.proofs.Common.{◌≡◌, ◌∙◌, ◌≤◌, ◌+◌, ◌++◌, [], ◌∷◌, inl, refl, sym, ap, subst, le-add_right}
 use Rattle.std.proofs.lemmas.Result.{err_from_is_err_and}
 use Rattle.response_reader.specs.Wire.{counted}
@@ -15,7 +15,7 @@ returns-in_err-name g c =
     let p = err_from_is_err_and c.from_residual.result c.from_residual.ensures.1 in
     rw p.1 (record {
       asks = refl;
-      robots = refl;
+      links = refl;
       keeps = refl;
       sends = refl;
       is_recording = refl;
@@ -33,7 +33,7 @@ returns-in_err-told g c =
     let after = c.exchange.ensures in
     rw p.1 (record {
       asks = after.asks;
-      robots = after.robots;
+      links = after.links;
       keeps = after.keeps;
       sends = after.sends;
       is_recording = after.is_recording;
@@ -51,7 +51,7 @@ returns-in_err-answer g c =
     let after = c.in_ok-told.ensures in
     rw p.1 (record {
       asks = after.asks;
-      robots = after.robots;
+      links = after.links;
       keeps = after.keeps;
       sends = after.sends;
       is_recording = after.is_recording;
@@ -69,7 +69,7 @@ returns-in_err-push g c =
     let after = c.in_ok-told.ensures in
     rw p.1 (record {
       asks = ap (λ (f : Fetching _). f.asks) c.self.view_is ∙ after.asks;
-      robots = ap (λ (f : Fetching _). f.robots) c.self.view_is ∙ after.robots;
+      links = ap (λ (f : Fetching _). f.links) c.self.view_is ∙ after.links;
       keeps = ap (λ (f : Fetching _). f.keeps) c.self.view_is ∙ after.keeps;
       sends = ap (λ (f : Fetching _). f.sends) c.self.view_is ∙ after.sends;
       is_recording = ap (λ (f : Fetching _). f.is_recording) c.self.view_is ∙ after.is_recording;
@@ -85,23 +85,23 @@ pub returns : goal.returns
 returns g c =
     let after = c.in_ok-told.ensures in
     let told = c.in_ok-told.told in
-    let robots : c.self.inside.robots ≡ c.args.self.now.robots = ap (λ (f : Fetching _). f.robots) c.self.view_is ∙ after.robots in
+    let links : c.self.inside.links ≡ c.args.self.now.links = ap (λ (f : Fetching _). f.links) c.self.view_is ∙ after.links in
     record {
       asks = ap (λ (f : Fetching _). f.asks) c.self.view_is ∙ after.asks;
-      robots = robots;
+      links = links;
       keeps = ap (λ (f : Fetching _). f.keeps) c.self.view_is ∙ after.keeps;
       sends = ap (λ (f : Fetching _). f.sends) c.self.view_is ∙ after.sends;
       is_recording = ap (λ (f : Fetching _). f.is_recording) c.self.view_is ∙ after.is_recording;
       one = λ none. subst (λ (f : Fetching _). g.C.Connect.made f.connect ≡ counted (g.C.Connect.made c.args.self.now.connect) 1) (sym c.self.view_is) (after.one none);
       most = subst (λ (f : Fetching _). g.C.Connect.made f.connect ≤ g.C.Connect.made c.args.self.now.connect + 1) (sym c.self.view_is) after.most;
-      told = told_by_answer g.C.Connect g.C.Wire.Wire standard c.args.self.now _ _ c.args.at.now told c.in_ok-answer.answer c.self.view_is after.robots
+      told = told_by_answer g.C.Connect g.C.Wire.Wire standard c.args.self.now _ _ c.args.at.now told c.in_ok-answer.answer c.self.view_is after.links
           c.in_ok-answer.ensures.outcome c.in_ok-answer.ensures.body after.told;
       stands = subst (λ (f : Fetching _). StandsBy g.C.Connect g.C.Wire.Wire standard c.args.self.now f c.args.at.now) (sym c.self.view_is) after.stands;
       noted = (
         told,
         c.in_ok-push.ensures.items ∙ ap (λ (at : AddressText). c.self.inside.notes.items ++ Page at told ∷ []) c.in_ok-name.ensures
             ∙ ap (λ ns. ns ++ Page c.args.at.now told ∷ []) (ap (λ (f : Fetching _). f.notes) c.self.view_is ∙ after.notes),
-        c.in_ok-answer.ensures.outcome ∙ ap (λ b. outcome_told b c.args.at.now told) robots,
+        c.in_ok-answer.ensures.outcome ∙ ap (λ b. outcome_told b c.args.at.now told) links,
         c.in_ok-answer.ensures.body,
       );
       unnoted = tt;

@@ -15,7 +15,7 @@ returns-in-Ok-told_over g c =
     put.made ∙ ap (λ (f : Fetching _). g.C.Connect.made f.connect) same ∙ c.connect.ensures.made in
     rw (sym c.self.view_is) (record {
       asks = put.asks ∙ ap (λ (f : Fetching _). f.asks) same;
-      robots = put.robots ∙ ap (λ (f : Fetching _). f.robots) same;
+      links = put.links ∙ ap (λ (f : Fetching _). f.links) same;
       keeps = put.keeps ∙ ap (λ (f : Fetching _). f.keeps) same;
       sends = put.sends ∙ ap (λ (f : Fetching _). f.sends) same;
       is_recording = put.is_recording ∙ ap (λ (f : Fetching _). f.is_recording) same;
@@ -24,7 +24,7 @@ returns-in-Ok-told_over g c =
       most = one_made _ _ one;
       taken = put.taken ∙ ap (λ (f : Fetching _). g.C.Connect.taken f.connect) same ∙ c.connect.ensures.taken;
       told = rw (sym c.requires) (inr (c.in-Ok.wire, c.in-Ok.ensures.given, c.in-Ok-told_over.ensures.told));
-      stands = stands_by g.C.Connect g.C.Wire.Wire standard _ _ _ (record { at = c.args.at.now; robots = c.self.inside.robots; keeps = c.self.inside.keeps; sends = c.self.inside.sends; limits = standard })
+      stands = stands_by g.C.Connect g.C.Wire.Wire standard _ _ _ (record { at = c.args.at.now; links = c.self.inside.links; keeps = c.self.inside.keeps; sends = c.self.inside.sends; limits = standard })
           _ c.in-Ok-told_over.heard.serves c.in-Ok.wire c.told_over.new.wire c.requires c.in-Ok.ensures.stands
           (rw same at put.stands) c.in-Ok-told_over.ensures.serves;
     })
@@ -37,7 +37,7 @@ returns-in-Err g c =
     closed.made ∙ ap (λ (f : Fetching _). g.C.Connect.made f.connect) now ∙ c.connect.ensures.made in
     rw (sym c.self.view_is) (record {
       asks = ap (λ (f : Fetching _). f.asks) now;
-      robots = ap (λ (f : Fetching _). f.robots) now;
+      links = ap (λ (f : Fetching _). f.links) now;
       keeps = ap (λ (f : Fetching _). f.keeps) now;
       sends = ap (λ (f : Fetching _). f.sends) now;
       is_recording = ap (λ (f : Fetching _). f.is_recording) now;
@@ -53,7 +53,7 @@ pub returns-in-Err-Failed : goal.returns-in-Err-Failed
 returns-in-Err-Failed g c =
     rw (sym c.self.view_is) (record {
       asks = refl;
-      robots = refl;
+      links = refl;
       keeps = refl;
       sends = refl;
       is_recording = refl;
@@ -69,7 +69,7 @@ pub returns-in-Err-Memory : goal.returns-in-Err-Memory
 returns-in-Err-Memory g c =
     rw (sym c.self.view_is) (record {
       asks = refl;
-      robots = refl;
+      links = refl;
       keeps = refl;
       sends = refl;
       is_recording = refl;

@@ -1,4 +1,4 @@
--- The ask is logged, and then told of.
+-- The ask is logged, and then answered.
 use Rattle.std.proofs.Common.{◌≡◌, ◌∙◌, ◌++◌, [], ◌∷◌, inl, inr, refl, sym, ap, le-add_right}
 use Rattle.std.proofs.lemmas.Result.{err_from_is_err_and}
 use Rattle.address.specs.Address.{AddressText}
@@ -14,7 +14,7 @@ returns-in_err-try_clone g c =
       asked = tt;
       refused = inl refl;
       first = inl refl;
-      robots = refl;
+      links = refl;
       keeps = refl;
       sends = refl;
       one = λ none. tt;
@@ -33,7 +33,7 @@ returns-in_err-push g c =
       asked = tt;
       refused = inl c.in_err-push.ensures.items;
       first = inl refl;
-      robots = refl;
+      links = refl;
       keeps = refl;
       sends = refl;
       one = λ none. tt;
@@ -55,7 +55,7 @@ returns g c =
       asked = on_ok _ asked;
       refused = on_err _ (inr asked);
       first = on_err _ (inr asked);
-      robots = after.robots ∙ ap (λ (f : Fetching _). f.robots) c.self.view_is;
+      links = after.links ∙ ap (λ (f : Fetching _). f.links) c.self.view_is;
       keeps = after.keeps ∙ ap (λ (f : Fetching _). f.keeps) c.self.view_is;
       sends = after.sends ∙ ap (λ (f : Fetching _). f.sends) c.self.view_is;
       one = rw (sym c.self.view_is) after.one;

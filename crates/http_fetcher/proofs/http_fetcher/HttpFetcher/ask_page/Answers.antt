@@ -1,4 +1,4 @@
--- Behind the exchange the fetcher stays as it is.
+-- After the exchange the fetcher stays as it is.
 use Rattle.std.proofs.Common.{◌≡◌, refl, subst}
 use Rattle.std.proofs.lemmas.Result.{err_from_is_err_and}
 use Rattle.answer_notes.specs.Tellings.{outcome_told}
@@ -13,7 +13,7 @@ returns-in_err-told g c =
     let after = c.exchange.ensures in
     rw p.1 (record {
       asks = after.asks;
-      robots = after.robots;
+      links = after.links;
       keeps = after.keeps;
       sends = after.sends;
       is_recording = after.is_recording;
@@ -30,7 +30,7 @@ returns-in_err-answer g c =
     let after = c.in_ok-told.ensures in
     rw p.1 (record {
       asks = after.asks;
-      robots = after.robots;
+      links = after.links;
       keeps = after.keeps;
       sends = after.sends;
       is_recording = after.is_recording;
@@ -46,7 +46,7 @@ returns g c =
     let after = c.in_ok-told.ensures in
     record {
       asks = after.asks;
-      robots = after.robots;
+      links = after.links;
       keeps = after.keeps;
       sends = after.sends;
       is_recording = after.is_recording;
@@ -54,8 +54,8 @@ returns g c =
       one = after.one;
       most = after.most;
       told = told_by_answer g.C.Connect g.C.Wire.Wire standard c.args.self.now c.exchange.new.self c.exchange.new.self c.args.at.now c.in_ok-told.told c.in_ok-answer.answer
-          refl after.robots
-          (subst (λ (f : Fetching _). c.in_ok-answer.answer.outcome ≡ outcome_told f.robots c.args.at.now c.in_ok-told.told) c.self.view_is c.in_ok-answer.ensures.outcome)
+          refl after.links
+          (subst (λ (f : Fetching _). c.in_ok-answer.answer.outcome ≡ outcome_told f.links c.args.at.now c.in_ok-told.told) c.self.view_is c.in_ok-answer.ensures.outcome)
           c.in_ok-answer.ensures.body after.told;
       stands = after.stands;
     }

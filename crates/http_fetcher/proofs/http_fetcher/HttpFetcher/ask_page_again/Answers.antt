@@ -9,7 +9,7 @@ pub returns-then-not-self : goal.returns-then-not-self
 returns-then-not-self g c =
     rw (sym c.self.view_is) (record {
       asks = refl;
-      robots = refl;
+      links = refl;
       keeps = refl;
       sends = refl;
       is_recording = refl;
@@ -26,7 +26,7 @@ pub returns-in_default : goal.returns-in_default
 returns-in_default g c =
     rw (sym c.self.view_is) (record {
       asks = refl;
-      robots = refl;
+      links = refl;
       keeps = refl;
       sends = refl;
       is_recording = refl;
@@ -47,7 +47,7 @@ returns-then-says_given_up g c =
     let closed = c.close.ensures in
     rw (sym c.self.view_is) (record {
       asks = ap (λ (f : Fetching _). f.asks) now;
-      robots = ap (λ (f : Fetching _). f.robots) now;
+      links = ap (λ (f : Fetching _). f.links) now;
       keeps = ap (λ (f : Fetching _). f.keeps) now;
       sends = ap (λ (f : Fetching _). f.sends) now;
       is_recording = ap (λ (f : Fetching _). f.is_recording) now;
@@ -80,7 +80,7 @@ returns-else-says_given_up g c =
     let same = c.page_again.ensures.same in
     rw (sym c.self.view_is) (record {
       asks = put.asks ∙ ap (λ (f : Fetching _). f.asks) same;
-      robots = put.robots ∙ ap (λ (f : Fetching _). f.robots) same;
+      links = put.links ∙ ap (λ (f : Fetching _). f.links) same;
       keeps = put.keeps ∙ ap (λ (f : Fetching _). f.keeps) same;
       sends = put.sends ∙ ap (λ (f : Fetching _). f.sends) same;
       is_recording = put.is_recording ∙ ap (λ (f : Fetching _). f.is_recording) same;
@@ -100,7 +100,7 @@ returns-else-says_given_up g c =
           (c.in-Some.wire, c.in-Some.ensures.given, said.2),
         ),
       );
-      stands = stands_by g.C.Connect g.C.Wire.Wire (limited c.args.limits) _ _ _ (record { at = c.args.at.now; robots = c.self.inside.robots; keeps = c.self.inside.keeps; sends = c.self.inside.sends; limits = limited c.args.limits })
+      stands = stands_by g.C.Connect g.C.Wire.Wire (limited c.args.limits) _ _ _ (record { at = c.args.at.now; links = c.self.inside.links; keeps = c.self.inside.keeps; sends = c.self.inside.sends; limits = limited c.args.limits })
           _ c.in-Ok-Some.heard.serves c.in-Some.wire c.page_again.new.wire c.requires c.take.ensures.stands
           (rw same at put.stands) (rw c.in-Ok-Some.field-0-is at c.in-Ok-Some.ensures.serves);
     })
@@ -112,7 +112,7 @@ returns-in-Ok-None g c =
     let closed = c.close-in-Ok-None.ensures in
     rw (sym c.self.view_is) (record {
       asks = ap (λ (f : Fetching _). f.asks) now;
-      robots = ap (λ (f : Fetching _). f.robots) now;
+      links = ap (λ (f : Fetching _). f.links) now;
       keeps = ap (λ (f : Fetching _). f.keeps) now;
       sends = ap (λ (f : Fetching _). f.sends) now;
       is_recording = ap (λ (f : Fetching _). f.is_recording) now;
@@ -135,7 +135,7 @@ returns-in-Err g c =
     let closed = c.close-in-Err.ensures in
     rw (sym c.self.view_is) (record {
       asks = ap (λ (f : Fetching _). f.asks) now;
-      robots = ap (λ (f : Fetching _). f.robots) now;
+      links = ap (λ (f : Fetching _). f.links) now;
       keeps = ap (λ (f : Fetching _). f.keeps) now;
       sends = ap (λ (f : Fetching _). f.sends) now;
       is_recording = ap (λ (f : Fetching _). f.is_recording) now;

@@ -19,7 +19,7 @@ returns-in-Ok-page_over g c =
     put.made ∙ ap (λ (f : Fetching _). g.C.Connect.made f.connect) same ∙ c.connect.ensures.made in
     rw (sym c.self.view_is) (record {
       asks = put.asks ∙ ap (λ (f : Fetching _). f.asks) same;
-      robots = put.robots ∙ ap (λ (f : Fetching _). f.robots) same;
+      links = put.links ∙ ap (λ (f : Fetching _). f.links) same;
       keeps = put.keeps ∙ ap (λ (f : Fetching _). f.keeps) same;
       sends = put.sends ∙ ap (λ (f : Fetching _). f.sends) same;
       is_recording = put.is_recording ∙ ap (λ (f : Fetching _). f.is_recording) same;
@@ -28,7 +28,7 @@ returns-in-Ok-page_over g c =
       most = one_made _ _ one;
       taken = put.taken ∙ ap (λ (f : Fetching _). g.C.Connect.taken f.connect) same ∙ c.connect.ensures.taken;
       told = (said.0, said.1, rw (sym c.requires) (inr (c.in-Ok.wire, c.in-Ok.ensures.given, said.2)));
-      stands = stands_by g.C.Connect g.C.Wire.Wire (limited c.args.limits) _ _ _ (record { at = c.args.at.now; robots = c.self.inside.robots; keeps = c.self.inside.keeps; sends = c.self.inside.sends; limits = limited c.args.limits })
+      stands = stands_by g.C.Connect g.C.Wire.Wire (limited c.args.limits) _ _ _ (record { at = c.args.at.now; links = c.self.inside.links; keeps = c.self.inside.keeps; sends = c.self.inside.sends; limits = limited c.args.limits })
           _ c.in-Ok-page_over.heard.serves c.in-Ok.wire c.page_over.new.wire c.requires c.in-Ok.ensures.stands
           (rw same at put.stands) c.in-Ok-page_over.ensures.serves;
     })
@@ -41,7 +41,7 @@ returns-in-Err g c =
     closed.made ∙ ap (λ (f : Fetching _). g.C.Connect.made f.connect) now ∙ c.connect.ensures.made in
     rw (sym c.self.view_is) (record {
       asks = ap (λ (f : Fetching _). f.asks) now;
-      robots = ap (λ (f : Fetching _). f.robots) now;
+      links = ap (λ (f : Fetching _). f.links) now;
       keeps = ap (λ (f : Fetching _). f.keeps) now;
       sends = ap (λ (f : Fetching _). f.sends) now;
       is_recording = ap (λ (f : Fetching _). f.is_recording) now;
@@ -57,7 +57,7 @@ pub returns-in-Err-Failed : goal.returns-in-Err-Failed
 returns-in-Err-Failed g c =
     rw (sym c.self.view_is) (record {
       asks = refl;
-      robots = refl;
+      links = refl;
       keeps = refl;
       sends = refl;
       is_recording = refl;
@@ -74,7 +74,7 @@ pub returns-in-Err-Memory : goal.returns-in-Err-Memory
 returns-in-Err-Memory g c =
     rw (sym c.self.view_is) (record {
       asks = refl;
-      robots = refl;
+      links = refl;
       keeps = refl;
       sends = refl;
       is_recording = refl;

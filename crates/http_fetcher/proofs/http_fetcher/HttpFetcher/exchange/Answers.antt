@@ -14,7 +14,7 @@ returns-in_err-origin g c =
     let p = err_from_is_err_and c.from_residual.result c.from_residual.ensures.1 in
     rw p.1 (record {
       asks = refl;
-      robots = refl;
+      links = refl;
       keeps = refl;
       sends = refl;
       is_recording = refl;
@@ -31,7 +31,7 @@ returns-in_err-told g c =
     let after = c.ask_again.ensures in
     rw p.1 (record {
       asks = after.asks;
-      robots = after.robots;
+      links = after.links;
       keeps = after.keeps;
       sends = after.sends;
       is_recording = after.is_recording;
@@ -48,7 +48,7 @@ returns-in-Some g c =
     let told = rw c.in-Some.is at after.told in
     record {
       asks = after.asks;
-      robots = after.robots;
+      links = after.links;
       keeps = after.keeps;
       sends = after.sends;
       is_recording = after.is_recording;
@@ -68,7 +68,7 @@ returns g c =
     let new = c.ask_anew.new.self in
     record {
       asks = after.asks ∙ before.asks;
-      robots = after.robots ∙ before.robots;
+      links = after.links ∙ before.links;
       keeps = after.keeps ∙ before.keeps;
       sends = after.sends ∙ before.sends;
       is_recording = after.is_recording ∙ before.is_recording;
@@ -76,8 +76,8 @@ returns g c =
       one = λ none. subst (λ n. OnOk c.ask_anew.result (g.C.Connect.made new.connect ≡ counted n 1)) before.made after.one;
       most = subst (λ n. g.C.Connect.made new.connect ≤ n + 1) before.made after.most;
       told = if_ok_on c.ask_anew.result _ _ _ after.one after.told
-          (λ one t told. subst (λ b. IsToldByTries g.C.Connect g.C.Wire.Wire standard old new c.args.at.now (answer_told b c.args.at.now t)) before.robots
-          (told_second g.C.Connect g.C.Wire.Wire standard old mid new c.args.at.now (answer_told mid.robots c.args.at.now t) before.made before.refused before.robots before.keeps before.sends
+          (λ one t told. subst (λ b. IsToldByTries g.C.Connect g.C.Wire.Wire standard old new c.args.at.now (answer_told b c.args.at.now t)) before.links
+          (told_second g.C.Connect g.C.Wire.Wire standard old mid new c.args.at.now (answer_told mid.links c.args.at.now t) before.made before.refused before.links before.keeps before.sends
           (rw c.in-None.is at before.gives) (rw c.in-None.is at before.silent) after.taken one told));
-      stands = stands_twice g.C.Connect g.C.Wire.Wire standard old mid new c.args.at.now before.robots before.keeps before.sends before.stands after.stands;
+      stands = stands_twice g.C.Connect g.C.Wire.Wire standard old mid new c.args.at.now before.links before.keeps before.sends before.stands after.stands;
     }

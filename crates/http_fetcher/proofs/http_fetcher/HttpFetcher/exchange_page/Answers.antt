@@ -16,7 +16,7 @@ returns-in_err-origin g c =
     let p = err_from_is_err_and c.from_residual.result c.from_residual.ensures.1 in
     rw p.1 (record {
       asks = refl;
-      robots = refl;
+      links = refl;
       keeps = refl;
       sends = refl;
       is_recording = refl;
@@ -34,7 +34,7 @@ returns-in-Some g c =
     let told = rw c.in-Some.is at after.told in
     record {
       asks = after.asks;
-      robots = after.robots;
+      links = after.links;
       keeps = after.keeps;
       sends = after.sends;
       is_recording = after.is_recording;
@@ -55,7 +55,7 @@ returns g c =
     let new = c.ask_page_anew.new.self in
     record {
       asks = after.asks ∙ before.asks;
-      robots = after.robots ∙ before.robots;
+      links = after.links ∙ before.links;
       keeps = after.keeps ∙ before.keeps;
       sends = after.sends ∙ before.sends;
       is_recording = after.is_recording ∙ before.is_recording;
@@ -65,10 +65,10 @@ returns g c =
       told = if_ok_on c.ask_page_anew.result _ _ _ after.one after.told (λ one a told. (
         told.0,
         told.1,
-        told_second g.C.Connect g.C.Wire.Wire (limited c.args.limits) old mid new c.args.at.now told.0 before.made before.refused before.robots before.keeps before.sends
+        told_second g.C.Connect g.C.Wire.Wire (limited c.args.limits) old mid new c.args.at.now told.0 before.made before.refused before.links before.keeps before.sends
             (rw c.in-None.is at before.gives) (rw c.in-None.is at before.silent) after.taken one told.2,
       ));
-      stands = stands_twice g.C.Connect g.C.Wire.Wire (limited c.args.limits) old mid new c.args.at.now before.robots before.keeps before.sends before.stands after.stands;
+      stands = stands_twice g.C.Connect g.C.Wire.Wire (limited c.args.limits) old mid new c.args.at.now before.links before.keeps before.sends before.stands after.stands;
       may = if_ok_map c.ask_page_anew.result _ _ after.told (λ a told.
-          (told.0, told.1, subst (λ b. MayAnswerWithin (limited c.args.limits) b c.args.at.now told.0.outcome told.0.body) before.robots (may_answer_anew g.C.Connect g.C.Wire.Wire (limited c.args.limits) mid new c.args.at.now told.0 told.2)));
+          (told.0, told.1, subst (λ b. MayAnswerWithin (limited c.args.limits) b c.args.at.now told.0.outcome told.0.body) before.links (may_answer_anew g.C.Connect g.C.Wire.Wire (limited c.args.limits) mid new c.args.at.now told.0 told.2)));
     }

@@ -18,7 +18,7 @@ hops-preserved g c =
     let some : 0 < c.hops.left = tells.0 in
     record {
       asks = c.in_ok-told.ensures.asks ∙ c.hops.invariant.asks;
-      robots = c.in_ok-told.ensures.robots ∙ c.hops.invariant.robots;
+      links = c.in_ok-told.ensures.links ∙ c.hops.invariant.links;
       keeps = c.in_ok-told.ensures.keeps ∙ c.hops.invariant.keeps;
       sends = c.in_ok-told.ensures.sends ∙ c.hops.invariant.sends;
       is_recording = c.in_ok-told.ensures.is_recording ∙ c.hops.invariant.is_recording;
@@ -27,10 +27,10 @@ hops-preserved g c =
       left = let was = c.hops.invariant.left in omega arith;
       count = λ none. one_more _ _ _ c.hops.hops.items _ (c.hops.at, c.in_ok-told.told) (c.hops.invariant.count none) (c.in_ok-told.ensures.one (c.hops.invariant.keeps ∙ none)) c.in_ok-push-in-Next.ensures.items;
       few = let was = c.hops.invariant.few in let most = c.in_ok-told.ensures.most in omega arith;
-      stands = stands_more g.C.Connect g.C.Wire.Wire standard c.args.self.now c.hops.self c.exchange.new.self c.hops.at c.hops.invariant.robots c.hops.invariant.keeps c.hops.invariant.sends c.hops.invariant.stands c.in_ok-told.ensures.stands;
+      stands = stands_more g.C.Connect g.C.Wire.Wire standard c.args.self.now c.hops.self c.exchange.new.self c.hops.at c.hops.invariant.links c.hops.invariant.keeps c.hops.invariant.sends c.hops.invariant.stands c.in_ok-told.ensures.stands;
       chain = λ r chain. c.hops.invariant.chain r (chain_goes_on _ c.hops.left (c.hops.left - 1) _ _ r _ _
-          (given_by g.C.Connect g.C.Wire.Wire standard c.args.self.now c.hops.self c.exchange.new.self c.hops.at (answer_told c.hops.self.robots c.hops.at c.in_ok-told.told) c.hops.invariant.robots c.hops.invariant.keeps c.hops.invariant.sends c.in_ok-told.ensures.told)
-          (tells_says c.hops.self.robots c.hops.at c.in_ok-told.told c.hops.left (Next c.in-Next.next) tells) (omega arith) chain);
+          (given_by g.C.Connect g.C.Wire.Wire standard c.args.self.now c.hops.self c.exchange.new.self c.hops.at (answer_told c.hops.self.links c.hops.at c.in_ok-told.told) c.hops.invariant.links c.hops.invariant.keeps c.hops.invariant.sends c.in_ok-told.ensures.told)
+          (tells_says c.hops.self.links c.hops.at c.in_ok-told.told c.hops.left (Next c.in-Next.next) tells) (omega arith) chain);
       admitted = λ tail are. subst (λ l. IsAdmitted c.args.of.now l)
           (sym (ap (λ l. l ++ tail) c.in_ok-push-in-Next.ensures.items ∙ append_assoc c.hops.hops.items ((c.hops.at, c.in_ok-told.told) ∷ []) tail))
           (c.hops.invariant.admitted ((c.hops.at, c.in_ok-told.told) ∷ tail) (hop_goes_on c.hops.left (c.hops.left - 1) c.hops.at c.in-Next.next c.in_ok-told.told tail tells.1 (omega arith) are));
@@ -50,13 +50,13 @@ returns-in-Last g c =
     let after = c.in_ok-told.ensures in
     record {
       asks = after.asks ∙ was.asks;
-      robots = after.robots ∙ was.robots;
+      links = after.links ∙ was.links;
       keeps = after.keeps ∙ was.keeps;
       sends = after.sends ∙ was.sends;
       is_recording = after.is_recording ∙ was.is_recording;
       notes = after.notes ∙ was.notes;
       few = few_more _ _ _ _ _ was.few after.most;
-      stands = stands_more g.C.Connect g.C.Wire.Wire standard c.args.self.now c.hops.self c.exchange.new.self c.hops.at was.robots was.keeps was.sends was.stands after.stands;
+      stands = stands_more g.C.Connect g.C.Wire.Wire standard c.args.self.now c.hops.self c.exchange.new.self c.hops.at was.links was.keeps was.sends was.stands after.stands;
       count = λ none. (
         c.hops.hops.items ++ (c.hops.at, c.in_ok-told.told) ∷ [],
         was.admitted ((c.hops.at, c.in_ok-told.told) ∷ []) (hop_ends c.hops.left c.hops.at c.in_ok-told.told tells.0),
@@ -67,8 +67,8 @@ returns-in-Last g c =
       of = c.new.ensures.of ∙ was.origin;
       rules = tells.1 ∙ sym (ap rules_of_hops (c.new.ensures.hops ∙ c.in_ok-push-in-Last.ensures.items) ∙ rules_behind c.hops.hops.items (c.hops.at, c.in_ok-told.told) []);
       chain = was.chain _ (chain_ends _ c.hops.left _ _ _ _
-          (given_by g.C.Connect g.C.Wire.Wire standard c.args.self.now c.hops.self c.exchange.new.self c.hops.at (answer_told c.hops.self.robots c.hops.at c.in_ok-told.told) was.robots was.keeps was.sends after.told)
-          (tells_says c.hops.self.robots c.hops.at c.in_ok-told.told c.hops.left (Last c.in-Last.rules) tells));
+          (given_by g.C.Connect g.C.Wire.Wire standard c.args.self.now c.hops.self c.exchange.new.self c.hops.at (answer_told c.hops.self.links c.hops.at c.in_ok-told.told) was.links was.keeps was.sends after.told)
+          (tells_says c.hops.self.links c.hops.at c.in_ok-told.told c.hops.left (Last c.in-Last.rules) tells));
     }
 
 pub returns-in_err-origin : goal.returns-in_err-origin
@@ -76,7 +76,7 @@ returns-in_err-origin g c =
     let p = err_from_is_err_and c.from_residual.result c.from_residual.ensures.1 in
     rw p.1 (record {
       asks = refl;
-      robots = refl;
+      links = refl;
       keeps = refl;
       sends = refl;
       is_recording = refl;
@@ -95,7 +95,7 @@ returns-in_err-at g c =
     let p = err_from_is_err_and c.from_residual-in_err-at.result c.from_residual-in_err-at.ensures.1 in
     rw p.1 (record {
       asks = refl;
-      robots = refl;
+      links = refl;
       keeps = refl;
       sends = refl;
       is_recording = refl;
@@ -116,13 +116,13 @@ returns-in_err-told g c =
     let after = c.exchange.ensures in
     rw p.1 (record {
       asks = after.asks ∙ was.asks;
-      robots = after.robots ∙ was.robots;
+      links = after.links ∙ was.links;
       keeps = after.keeps ∙ was.keeps;
       sends = after.sends ∙ was.sends;
       is_recording = after.is_recording ∙ was.is_recording;
       notes = after.notes ∙ was.notes;
       few = few_more _ _ _ _ _ was.few after.most;
-      stands = stands_more g.C.Connect g.C.Wire.Wire standard c.args.self.now c.hops.self c.exchange.new.self c.hops.at was.robots was.keeps was.sends was.stands after.stands;
+      stands = stands_more g.C.Connect g.C.Wire.Wire standard c.args.self.now c.hops.self c.exchange.new.self c.hops.at was.links was.keeps was.sends was.stands after.stands;
       count = λ none. tt;
       hops = λ none. tt;
       of = tt;
@@ -137,13 +137,13 @@ returns-in_err-rules g c =
     let after = c.in_ok-told.ensures in
     rw p.1 (record {
       asks = after.asks ∙ was.asks;
-      robots = after.robots ∙ was.robots;
+      links = after.links ∙ was.links;
       keeps = after.keeps ∙ was.keeps;
       sends = after.sends ∙ was.sends;
       is_recording = after.is_recording ∙ was.is_recording;
       notes = after.notes ∙ was.notes;
       few = few_more _ _ _ _ _ was.few after.most;
-      stands = stands_more g.C.Connect g.C.Wire.Wire standard c.args.self.now c.hops.self c.exchange.new.self c.hops.at was.robots was.keeps was.sends was.stands after.stands;
+      stands = stands_more g.C.Connect g.C.Wire.Wire standard c.args.self.now c.hops.self c.exchange.new.self c.hops.at was.links was.keeps was.sends was.stands after.stands;
       count = λ none. tt;
       hops = λ none. tt;
       of = tt;
@@ -158,13 +158,13 @@ returns-in_err-push-in-Last g c =
     let after = c.in_ok-told.ensures in
     rw p.1 (record {
       asks = after.asks ∙ was.asks;
-      robots = after.robots ∙ was.robots;
+      links = after.links ∙ was.links;
       keeps = after.keeps ∙ was.keeps;
       sends = after.sends ∙ was.sends;
       is_recording = after.is_recording ∙ was.is_recording;
       notes = after.notes ∙ was.notes;
       few = few_more _ _ _ _ _ was.few after.most;
-      stands = stands_more g.C.Connect g.C.Wire.Wire standard c.args.self.now c.hops.self c.exchange.new.self c.hops.at was.robots was.keeps was.sends was.stands after.stands;
+      stands = stands_more g.C.Connect g.C.Wire.Wire standard c.args.self.now c.hops.self c.exchange.new.self c.hops.at was.links was.keeps was.sends was.stands after.stands;
       count = λ none. tt;
       hops = λ none. tt;
       of = tt;
@@ -179,13 +179,13 @@ returns-in_err-push-in-Next g c =
     let after = c.in_ok-told.ensures in
     rw p.1 (record {
       asks = after.asks ∙ was.asks;
-      robots = after.robots ∙ was.robots;
+      links = after.links ∙ was.links;
       keeps = after.keeps ∙ was.keeps;
       sends = after.sends ∙ was.sends;
       is_recording = after.is_recording ∙ was.is_recording;
       notes = after.notes ∙ was.notes;
       few = few_more _ _ _ _ _ was.few after.most;
-      stands = stands_more g.C.Connect g.C.Wire.Wire standard c.args.self.now c.hops.self c.exchange.new.self c.hops.at was.robots was.keeps was.sends was.stands after.stands;
+      stands = stands_more g.C.Connect g.C.Wire.Wire standard c.args.self.now c.hops.self c.exchange.new.self c.hops.at was.links was.keeps was.sends was.stands after.stands;
       count = λ none. tt;
       hops = λ none. tt;
       of = tt;

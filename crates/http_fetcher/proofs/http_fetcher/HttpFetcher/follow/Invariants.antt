@@ -12,7 +12,7 @@ abbrev pub invariant-hops : goal.invariant-hops
 invariant-hops g l =
     let Told = IsGiven g.C.Connect g.C.Wire.Wire standard l.fn.self in record {
       asks : l.self.asks ≡ l.fn.self.asks;
-      robots : l.self.robots ≡ l.fn.self.robots;
+      links : l.self.links ≡ l.fn.self.links;
       keeps : l.self.keeps ≡ l.fn.self.keeps;
       sends : l.self.sends ≡ l.fn.self.sends;
       is_recording : l.self.is_recording ≡ l.fn.self.is_recording;

@@ -1,4 +1,4 @@
--- The answer stands for that of the response which the sink took, or for the fault of the bytes.
+-- The answer represents that of the response which the sink took, or the fault of the bytes.
 use Rattle.std.proofs.Common.{◌≡◌, Err, ap, inl, inr, refl, subst}
 use Rattle.kept_bodies.specs.Bodies.{no_body}
 use Rattle.fetcher.specs.declared.outcome.Outcome.TheVariants.{Fault}
@@ -13,7 +13,7 @@ returns-in_ok-answer-in-Ok-clause-told g c =
     let (r, rest, is, step) = all.2 in
     let sunk = step c.begin.ensures in
     let answer = c.in_ok-answer-in-Ok.answer in
-    let says = subst (λ (f : Fetching _). answer.outcome ≡ digest_of f.robots c.args.at.now r) c.self.view_is (c.in_ok-answer-in-Ok.ensures.outcome r.head r.body sunk) in (
+    let says = subst (λ (f : Fetching _). answer.outcome ≡ digest_of f.links c.args.at.now r) c.self.view_is (c.in_ok-answer-in-Ok.ensures.outcome r.head r.body sunk) in (
       record { outcome = answer.outcome; body = body_of r.head r.body },
       (refl, c.in_ok-answer-in-Ok.ensures.body r.head r.body sunk),
       (all.0, all.1, inl (r, (rest, is), says, refl)),

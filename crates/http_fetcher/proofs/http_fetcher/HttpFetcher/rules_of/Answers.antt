@@ -1,4 +1,4 @@
--- Behind the hops the notes alone change, where they are taken.
+-- After the hops the notes alone change, if they are taken.
 use Rattle.std.proofs.Common.{◌≡◌, ◌∙◌, ◌≤◌, ◌+◌, ◌++◌, [], ◌∷◌, sym, ap, subst}
 use Rattle.std.proofs.lemmas.Result.{err_from_is_err_and}
 use Rattle.address.specs.Address.{OriginText}
@@ -16,7 +16,7 @@ returns-in_err-hops g c =
     let after = c.follow.ensures in
     rw p.1 (record {
       asks = after.asks;
-      robots = after.robots;
+      links = after.links;
       keeps = after.keeps;
       sends = after.sends;
       is_recording = after.is_recording;
@@ -34,7 +34,7 @@ returns-in_err-push g c =
     let after = c.in_ok-hops.ensures in
     rw p.1 (record {
       asks = ap (λ (f : Fetching _). f.asks) c.self.view_is ∙ after.asks;
-      robots = ap (λ (f : Fetching _). f.robots) c.self.view_is ∙ after.robots;
+      links = ap (λ (f : Fetching _). f.links) c.self.view_is ∙ after.links;
       keeps = ap (λ (f : Fetching _). f.keeps) c.self.view_is ∙ after.keeps;
       sends = ap (λ (f : Fetching _). f.sends) c.self.view_is ∙ after.sends;
       is_recording = ap (λ (f : Fetching _). f.is_recording) c.self.view_is ∙ after.is_recording;
@@ -53,7 +53,7 @@ returns g c =
     elim c.if-self.branch [
       | then-self+in_ok-push w ↦ rw w.self-is (record {
         asks = ap (λ (f : Fetching _). f.asks) c.self.view_is ∙ after.asks;
-        robots = ap (λ (f : Fetching _). f.robots) c.self.view_is ∙ after.robots;
+        links = ap (λ (f : Fetching _). f.links) c.self.view_is ∙ after.links;
         keeps = ap (λ (f : Fetching _). f.keeps) c.self.view_is ∙ after.keeps;
         sends = ap (λ (f : Fetching _). f.sends) c.self.view_is ∙ after.sends;
         is_recording = recording;
@@ -71,7 +71,7 @@ returns g c =
       })
       | else-self w ↦ rw w.self-is (record {
         asks = after.asks;
-        robots = after.robots;
+        links = after.links;
         keeps = after.keeps;
         sends = after.sends;
         is_recording = after.is_recording;

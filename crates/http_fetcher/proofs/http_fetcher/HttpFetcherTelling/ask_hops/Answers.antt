@@ -1,4 +1,4 @@
--- The ask is logged, and then told of.
+-- The ask is logged, and then answered.
 use Rattle.std.proofs.Common.{◌≡◌, ◌∙◌, ◌++◌, [], ◌∷◌, false, inl, inr, refl, sym, ap, le-add_right}
 use Rattle.std.proofs.lemmas.Result.{err_from_is_err_and}
 use Rattle.address.specs.Address.{OriginText}
@@ -22,7 +22,7 @@ returns-in_err-try_clone g c =
       asked = tt;
       refused = inl refl;
       first = inl refl;
-      honours = refl;
+      links = refl;
       keeps = refl;
       sends = refl;
       of = tt;
@@ -42,7 +42,7 @@ returns-in_err-push g c =
       asked = tt;
       refused = inl c.in_err-push.ensures.items;
       first = inl refl;
-      honours = refl;
+      links = refl;
       keeps = refl;
       sends = refl;
       of = tt;
@@ -64,7 +64,7 @@ returns-in_err-hops g c =
       asked = tt;
       refused = inr asked;
       first = inr asked;
-      honours = after.robots ∙ ap (λ (f : Fetching _). f.robots) c.self.view_is;
+      links = after.links ∙ ap (λ (f : Fetching _). f.links) c.self.view_is;
       keeps = after.keeps ∙ ap (λ (f : Fetching _). f.keeps) c.self.view_is;
       sends = after.sends ∙ ap (λ (f : Fetching _). f.sends) c.self.view_is;
       of = tt;
@@ -85,7 +85,7 @@ returns g c =
       asked = asked;
       refused = tt;
       first = tt;
-      honours = after.robots ∙ ap (λ (f : Fetching _). f.robots) c.self.view_is;
+      links = after.links ∙ ap (λ (f : Fetching _). f.links) c.self.view_is;
       keeps = after.keeps ∙ ap (λ (f : Fetching _). f.keeps) c.self.view_is;
       sends = after.sends ∙ ap (λ (f : Fetching _). f.sends) c.self.view_is;
       of = after.of;
@@ -93,7 +93,7 @@ returns g c =
       stands = rw (sym c.self.view_is) after.stands;
       count = rw (sym c.self.view_is) after.hops;
       chain = rw (sym c.self.view_is, sym after.rules) after.chain;
-      may = rw (sym c.self.view_is, sym after.rules) (may_rule g.C.Connect g.C.Wire.Wire standard (record { connect = c.self.inside.connect; robots = c.self.inside.robots; keeps = c.self.inside.keeps; sends = c.self.inside.sends; asks = []; is_recording = false; notes = [] }) _ _ _ after.chain);
+      may = rw (sym c.self.view_is, sym after.rules) (may_rule g.C.Connect g.C.Wire.Wire standard (record { connect = c.self.inside.connect; links = c.self.inside.links; keeps = c.self.inside.keeps; sends = c.self.inside.sends; asks = []; is_recording = false; notes = [] }) _ _ _ after.chain);
       is_recording = after.is_recording ∙ ap (λ (f : Fetching _). f.is_recording) c.self.view_is;
       notes = after.notes ∙ ap (λ (f : Fetching _). f.notes) c.self.view_is;
     }

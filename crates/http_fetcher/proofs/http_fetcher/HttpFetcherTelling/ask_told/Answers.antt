@@ -1,4 +1,4 @@
--- The ask is logged, and then told of.
+-- The ask is logged, and then answered.
 use Rattle.std.proofs.Common.{◌≡◌, ◌∙◌, ◌++◌, [], ◌∷◌, inl, inr, refl, sym, ap, le-add_right}
 use Rattle.std.proofs.lemmas.Result.{err_from_is_err_and}
 use Rattle.response_answer.proofs.DigestLemmas.{if_ok_map}
@@ -17,7 +17,7 @@ returns-in_err-try_clone g c =
       asked = tt;
       refused = inl refl;
       first = inl refl;
-      honours = refl;
+      links = refl;
       keeps = refl;
       sends = refl;
       one = λ none. tt;
@@ -36,7 +36,7 @@ returns-in_err-push g c =
       asked = tt;
       refused = inl c.in_err-push.ensures.items;
       first = inl refl;
-      honours = refl;
+      links = refl;
       keeps = refl;
       sends = refl;
       one = λ none. tt;
@@ -58,7 +58,7 @@ returns g c =
       asked = on_ok _ asked;
       refused = on_err _ (inr asked);
       first = on_err _ (inr asked);
-      honours = after.robots ∙ ap (λ (f : Fetching _). f.robots) c.self.view_is;
+      links = after.links ∙ ap (λ (f : Fetching _). f.links) c.self.view_is;
       keeps = after.keeps ∙ ap (λ (f : Fetching _). f.keeps) c.self.view_is;
       sends = after.sends ∙ ap (λ (f : Fetching _). f.sends) c.self.view_is;
       one = rw (sym c.self.view_is) after.one;
@@ -66,7 +66,7 @@ returns g c =
       told = rw (sym c.self.view_is) after.told;
       stands = rw (sym c.self.view_is) after.stands;
       may = if_ok_map c.exchange.result _ _ after.told
-          (λ t told. may_answer g.C.Connect g.C.Wire.Wire standard c.args.self.now c.exchange.new.self c.args.at.now (answer_told c.args.self.now.robots c.args.at.now t) (rw (sym c.self.view_is) told));
+          (λ t told. may_answer g.C.Connect g.C.Wire.Wire standard c.args.self.now c.exchange.new.self c.args.at.now (answer_told c.args.self.now.links c.args.at.now t) (rw (sym c.self.view_is) told));
       is_recording = after.is_recording ∙ ap (λ (f : Fetching _). f.is_recording) c.self.view_is;
       notes = after.notes ∙ ap (λ (f : Fetching _). f.notes) c.self.view_is;
     }

@@ -1,4 +1,4 @@
--- Each exit has asked for the page at most, and the note that is handed over says the answer.
+-- Each exit has requested the page at most, and the note that is handed over says the answer.
 use Rattle.std.proofs.Common.{◌∙◌, ◌++◌, ◌∷◌, [], refl, ap, inl, inr}
 use Rattle.std.proofs.lemmas.Result.{IfOk-from_err}
 use Rattle.fetcher.specs.declared.fetcher.Ask.TheVariants as ask
@@ -13,7 +13,7 @@ returns-in_err-name g c =
     let failed = c.from_residual.ensures.0 in
     record {
       site = refl;
-      honours = refl;
+      links = refl;
       is_recording = refl;
       told = IfOk-from_err _ _ failed;
       asked = IfOk-from_err _ _ failed;
@@ -29,7 +29,7 @@ returns-in_err-told g c =
     let view = c.self.view_is in
     record {
       site = c.ask_told.ensures.site ∙ ap (λ (f : Journaling _ _). g.F.Fetcher.site f.inner) view;
-      honours = c.ask_told.ensures.honours ∙ ap (λ (f : Journaling _ _). g.F.Telling.honours f.inner) view;
+      links = c.ask_told.ensures.links ∙ ap (λ (f : Journaling _ _). g.F.Telling.links f.inner) view;
       is_recording = ap (λ (f : Journaling _ _). f.is_recording) view;
       told = IfOk-from_err _ _ failed;
       asked = IfOk-from_err _ _ failed;
@@ -45,7 +45,7 @@ returns-in_err-answer g c =
     let view = c.self.view_is in
     record {
       site = c.ask_told.ensures.site ∙ ap (λ (f : Journaling _ _). g.F.Fetcher.site f.inner) view;
-      honours = c.ask_told.ensures.honours ∙ ap (λ (f : Journaling _ _). g.F.Telling.honours f.inner) view;
+      links = c.ask_told.ensures.links ∙ ap (λ (f : Journaling _ _). g.F.Telling.links f.inner) view;
       is_recording = ap (λ (f : Journaling _ _). f.is_recording) view;
       told = IfOk-from_err _ _ failed;
       asked = IfOk-from_err _ _ failed;
@@ -62,7 +62,7 @@ returns-in_err-hand g c =
     let inner = c.hand.ensures.inner in
     record {
       site = ap g.F.Fetcher.site inner ∙ c.ask_told.ensures.site ∙ ap (λ (f : Journaling _ _). g.F.Fetcher.site f.inner) view;
-      honours = ap g.F.Telling.honours inner ∙ c.ask_told.ensures.honours ∙ ap (λ (f : Journaling _ _). g.F.Telling.honours f.inner) view;
+      links = ap g.F.Telling.links inner ∙ c.ask_told.ensures.links ∙ ap (λ (f : Journaling _ _). g.F.Telling.links f.inner) view;
       is_recording = c.hand.ensures.is_recording ∙ ap (λ (f : Journaling _ _). f.is_recording) view;
       told = IfOk-from_err _ _ failed;
       asked = IfOk-from_err _ _ failed;
@@ -82,19 +82,19 @@ returns g c =
     let told = c.in_ok-told.told in
     let answer = c.in_ok-answer.ensures in
     let site = ap (λ (f : Journaling _ _). g.F.Fetcher.site f.inner) view in
-    let honours = c.ask_told.ensures.honours ∙ ap (λ (f : Journaling _ _). g.F.Telling.honours f.inner) view in
-    let robots = c.honours_robots.ensures ∙ honours in
+    let same = c.ask_told.ensures.links ∙ ap (λ (f : Journaling _ _). g.F.Telling.links f.inner) view in
+    let links = c.link_rules.ensures ∙ same in
     record {
       site = ap g.F.Fetcher.site inner ∙ c.ask_told.ensures.site ∙ site;
-      honours = ap g.F.Telling.honours inner ∙ honours;
+      links = ap g.F.Telling.links inner ∙ same;
       is_recording = c.hand.ensures.is_recording ∙ ap (λ (f : Journaling _ _). f.is_recording) view;
-      told = says_told g.F.Fetcher.says told c.in_ok-answer.answer site (c.honours_robots.ensures ∙ c.ask_told.ensures.honours) answer.outcome answer.body c.in_ok-told.ensures.told;
+      told = says_told g.F.Fetcher.says told c.in_ok-answer.answer site (c.link_rules.ensures ∙ c.ask_told.ensures.links) answer.outcome answer.body c.in_ok-told.ensures.told;
       asked = ap g.F.Fetcher.log inner ∙ c.in_ok-told.ensures.asked ∙ ap (λ (f : Journaling _ _). g.F.Fetcher.log f.inner ++ ask.Page c.args.at.now ∷ []) view;
       refused = tt;
       handed = (
         told,
         is_handed g.J.Journal.contents c.args.self.now c.hand.new.self (ap (λ (f : Journaling _ _). f.journal) view) (ap (λ (f : Journaling _ _). f.kept) view) (ap (λ at. Page at told) c.in_ok-name.ensures) c.in_ok-hand.ensures.ok,
-        answer.outcome ∙ ap (λ r. outcome_told r c.args.at.now told) robots,
+        answer.outcome ∙ ap (λ r. outcome_told r c.args.at.now told) links,
         answer.body,
       );
       unkept = tt;

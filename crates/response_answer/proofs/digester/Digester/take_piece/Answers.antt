@@ -1,4 +1,4 @@
--- What is kept grows by the piece where the status is one of success.
+-- What is kept grows by the piece if the status is one of success.
 use Rattle.std.proofs.Common.{◌≡◌, ◌∙◌, ◌++◌, ℕ, List, Some, true, false, sym, ap, subst}
 use Rattle.fetcher.specs.Statuses.{is_successful}
 use Rattle.response_answer.specs.Digesting.{Digesting, HasTaken}

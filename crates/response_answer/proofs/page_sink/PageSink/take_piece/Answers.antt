@@ -1,4 +1,4 @@
--- What the keeper has grows by the piece where the status is one of success.
+-- What the keeper has grows by the piece if the status is one of success.
 use Rattle.std.proofs.Common.{◌≡◌, ◌∙◌, ◌++◌, ℕ, List, Some, true, false, sym, subst}
 use Rattle.fetcher.specs.Statuses.{is_successful}
 use Rattle.response_answer.specs.Sinking.{Sinking, HasSunk}

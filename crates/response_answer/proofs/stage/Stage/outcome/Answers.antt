@@ -9,9 +9,9 @@ use Rattle.response_answer.proofs.stage.Stage.outcome.Goals as goal
 
 pub returns-in-Page : goal.returns-in-Page
 returns-in-Page c = λ h body is.
-    let robots = c.args.robots in
+    let rules = c.args.rules in
     let at = c.args.at.now in
     let stage : IsStageOf h body (Page c.in-Page.status c.in-Page.scanner c.in-Page.field-2) = subst (λ (s : Stage). IsStageOf h body s) c.in-Page.is is in
     let found = c.in-Ok.ensures.ok (syntax_of h) (scanned_front body) stage.4 in
-    page_digest robots at h body c.in-Page.status c.in_ok-page_edges-in-Page.field-0 stage.0 stage.2 (stage.3 at)
-    (c.in_ok-page_edges-in-Page.ensures ∙ ap (page_edges robots at) found)
+    page_digest rules at h body c.in-Page.status c.in_ok-page_edges-in-Page.field-0 stage.0 stage.2 (stage.3 at)
+    (c.in_ok-page_edges-in-Page.ensures ∙ ap (page_edges rules at) found)

@@ -1,4 +1,4 @@
--- A scanner that was fed stands for the longer front, as far as it is looked through.
+-- A scanner that was fed represents the longer front, as far as it is looked through.
 use Rattle.std.proofs.Common.{◌∙◌, subst}
 use Rattle.html_links.specs.Scanning.{StandsFor}
 use Rattle.css_links.specs.Scanning.{StandsFor as StandsForSheet}

@@ -1,4 +1,4 @@
--- The rules at the end of a chain go behind the others.
+-- The rules at the end of a chain go after the others.
 use Rattle.std.proofs.Common.{◌+◌, sym, ap}
 use Rattle.std.proofs.lemmas.Result.{err_from_is_err_and}
 use Rattle.site_records.specs.EntryLines.{chain}
@@ -28,4 +28,4 @@ returns c =
     let (are, long, same, admitted) = c.in_ok-hops.ensures in
     let hops = c.in_ok-hops.hops in
     takes c.args.self.now c.keep_chain.new.self (chain c.args.text.now c.args.count) c.args.behind.now _ (chained hops.of hops.hops) named root
-    (chain_states c.args.self.now.robots c.args.text.now c.args.count c.args.behind.now c.in_ok-hops.after.now c.in_ok-origin.origin hops are long admitted same is) c.in_ok-keep_chain.ensures (ap (λ n. n + 1) (sym long))
+    (chain_states c.args.self.now.links c.args.text.now c.args.count c.args.behind.now c.in_ok-hops.after.now c.in_ok-origin.origin hops are long admitted same is) c.in_ok-keep_chain.ensures (ap (λ n. n + 1) (sym long))

@@ -1,4 +1,4 @@
--- A fault goes behind the other answers.
+-- A fault goes after the other answers.
 use Rattle.std.proofs.Common.{refl}
 use Rattle.std.proofs.lemmas.Result.{err_from_is_err_and}
 use Rattle.answer_notes.specs.declared.told.Told.TheVariants.{Fault}
@@ -21,5 +21,5 @@ returns-in_err-keep c =
 pub returns : goal.returns
 returns c =
     let (named, same, _) = c.in_ok-at.ensures in
-    takes c.args.self.now c.keep.new.self (fault c.args.kind c.args.text.now) c.args.behind.now _ (note_entry c.args.self.now.robots (Page c.in_ok-at.at (Fault c.args.kind))) named tt
-    (fault_states c.args.self.now.robots c.args.kind c.args.text.now c.args.behind.now c.in_ok-at.at same) c.in_ok-keep.ensures refl
+    takes c.args.self.now c.keep.new.self (fault c.args.kind c.args.text.now) c.args.behind.now _ (note_entry c.args.self.now.links (Page c.in_ok-at.at (Fault c.args.kind))) named tt
+    (fault_states c.args.self.now.links c.args.kind c.args.text.now c.args.behind.now c.in_ok-at.at same) c.in_ok-keep.ensures refl

@@ -1,4 +1,4 @@
--- A page's answer goes behind the others.
+-- A page's answer goes after the others.
 use Rattle.std.proofs.Common.{refl, arith, rules}
 use Rattle.std.proofs.lemmas.Result.{err_from_is_err_and}
 use Rattle.answer_notes.specs.declared.noted.Noted.TheVariants.{Page}
@@ -36,6 +36,6 @@ returns c =
     let (named, same, _) = c.in_ok-at.ensures in
     let at = c.in_ok-at.at in
     let told = c.in_ok-told.told in
-    takes c.args.self.now c.keep.new.self (page c.args.text.now c.args.count) c.args.behind.now _ (note_entry c.args.self.now.robots (Page at told)) named tt
-    (page_states c.args.self.now.robots c.args.text.now c.args.count c.args.behind.now c.in-Some.bytes.now c.in-Some.after.now at _ has (read_as_told c.args.self.now.robots at c.in-Some.bytes.now told c.in_ok-told.ensures) same)
+    takes c.args.self.now c.keep.new.self (page c.args.text.now c.args.count) c.args.behind.now _ (note_entry c.args.self.now.links (Page at told)) named tt
+    (page_states c.args.self.now.links c.args.text.now c.args.count c.args.behind.now c.in-Some.bytes.now c.in-Some.after.now at _ has (read_as_told c.args.self.now.links at c.in-Some.bytes.now told c.in_ok-told.ensures) same)
     c.in_ok-keep.ensures refl

@@ -1,4 +1,4 @@
--- The rules of a robots file go behind the others.
+-- The rules of a robots file go after the others.
 use Rattle.std.proofs.Common.{refl, arith, rules}
 use Rattle.std.proofs.lemmas.Result.{err_from_is_err_and}
 use Rattle.site_records.specs.EntryLines.{file}
@@ -35,5 +35,5 @@ returns c =
     let (named, root, is, _) = c.in_ok-origin.ensures in
     let hops = c.in_ok-hops.hops in
     takes c.args.self.now c.keep_chain.new.self (file c.args.text.now c.args.count) c.args.behind.now _ (ruled hops.of (rules_of_hops hops.hops)) named root
-    (file_states c.args.self.now.robots c.args.text.now c.args.count c.args.behind.now c.in-Some.bytes.now c.in-Some.after.now c.in_ok-origin.origin hops.of _ has c.in_ok-hops.ensures.rules c.in_ok-hops.ensures.of is)
+    (file_states c.args.self.now.links c.args.text.now c.args.count c.args.behind.now c.in-Some.bytes.now c.in-Some.after.now c.in_ok-origin.origin hops.of _ has c.in_ok-hops.ensures.rules c.in_ok-hops.ensures.of is)
     (keeps_rules c.args.self.now c.keep_chain.new.self hops c.in_ok-keep_chain.ensures) refl

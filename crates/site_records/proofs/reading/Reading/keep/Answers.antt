@@ -1,4 +1,4 @@
--- The answer goes behind the others, and its note.
+-- The answer goes after the others, and its note.
 use Rattle.std.proofs.lemmas.Result.{on_ok_weaker, IfOk-from_err}
 use Rattle.site_records.proofs.NoteLaws.{keeps_page}
 use Rattle.site_records.proofs.reading.Reading.keep.Goals as goal

@@ -1,4 +1,4 @@
--- The rules go behind the others, and the chain's note.
+-- The rules go after the others, and the chain's note.
 use Rattle.std.proofs.Common.{◌++◌, ◌∷◌, ◌∙◌, [], sym, ap}
 use Rattle.std.specs.Map.{lookup}
 use Rattle.std.specs.Str.{bytes_eq}
@@ -16,5 +16,5 @@ returns c =
     on_ok_weaker c.note.result
     (λ items. keeps_chain c.args.self.now c.note.new.self c.args.hops (ap (λ k. lookup (bytes_eq k) was.entries) c.requires.of ∙ c.requires.vacant)
     (ap (λ (r : Reading). r.rules.entries) kept ∙ rw c.new.ensures at c.in_ok-insert.ensures.entries ∙ put ∙ (λ i. was.entries ++ (sym c.requires.of i, c.in_ok-rules.ensures i) ∷ []))
-    (ap (λ (r : Reading). r.answers.entries) kept) (ap (λ (r : Reading). r.robots) kept) (ap (λ (r : Reading). r.version) kept) (ap (λ (r : Reading). r.keeps_notes) kept) items)
+    (ap (λ (r : Reading). r.answers.entries) kept) (ap (λ (r : Reading). r.links) kept) (ap (λ (r : Reading). r.version) kept) (ap (λ (r : Reading). r.keeps_notes) kept) items)
     c.note.ensures.notes

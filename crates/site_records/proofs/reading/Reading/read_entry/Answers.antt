@@ -1,4 +1,4 @@
--- The entry is what its first line says, with what is behind it.
+-- The entry is what its first line says, with what follows it.
 use Rattle.std.proofs.Common.{◌∙◌, inl, sym, arith, rules}
 use Rattle.std.specs.Str.{IsUtf8}
 use Rattle.site_records.specs.Entries.{IsLine}

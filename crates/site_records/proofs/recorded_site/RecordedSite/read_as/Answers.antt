@@ -1,4 +1,4 @@
--- The loop keeps the entries so far, and ends at the first bad one or behind the last.
+-- The loop keeps the entries so far, and ends at the first bad one or after the last.
 use Rattle.std.proofs.Common.{◌≡◌, ◌++◌, ◌∙◌, refl, sym, ap, subst, inl, inr, arith, rules}
 use Rattle.std.proofs.lemmas.Result.{err_from_is_err_and}
 use Rattle.site_records.specs.RecordSites.{RecordValue}
@@ -14,9 +14,9 @@ entries-init c =
     let b = c.in-Some.rest-is in
     let is : c.args.bytes.now ≡ version_line c.in-Some.version ++ c.in-Some.rest.now = first_of (assumption h, search (rules, h), grind (arith, h, a, b)) in
     record {
-      read = starts c.args.robots c.args.bytes.now c.new-reading.result c.in-Some.rest.now
+      read = starts c.args.links c.args.bytes.now c.new-reading.result c.in-Some.rest.now
           (subst (λ v. c.args.bytes.now ≡ version_line v ++ c.in-Some.rest.now) (sym c.new-reading.ensures.version) is)
-          c.new-reading.ensures.answers c.new-reading.ensures.rules c.new-reading.ensures.robots c.new-reading.ensures.notes;
+          c.new-reading.ensures.answers c.new-reading.ensures.rules c.new-reading.ensures.links c.new-reading.ensures.notes;
       keeps = c.new-reading.ensures.keeps_notes;
     }
 
@@ -57,9 +57,9 @@ returns-clause-record c =
     let is = c.in_ok-of.ensures in
     let above = c.entries.invariant.read.above in
     let notes = ap (λ (m : RecordValue). m.notes) is in
-    let kept = subst (λ b. HasNotes b c.args.robots c.entries.reading.notes.items above) c.entries.invariant.keeps c.entries.invariant.read.noted in (
+    let kept = subst (λ b. HasNotes b c.args.links c.entries.reading.notes.items above) c.entries.invariant.keeps c.entries.invariant.read.noted in (
       above,
       all_read _ _ _ _ _ c.entries.invariant.read (is_empty c.entries.rest.now (sym c.is_empty.ensures ∙ c.entries-test.false)),
       cc,
-      subst (λ l. HasNotes c.args.keeps_notes c.args.robots l above) (sym notes) kept,
+      subst (λ l. HasNotes c.args.keeps_notes c.args.links l above) (sym notes) kept,
     )

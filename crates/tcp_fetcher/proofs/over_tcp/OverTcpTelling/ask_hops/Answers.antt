@@ -1,4 +1,4 @@
--- What is told is what the fetcher that asks once is told last.
+-- What is received is what the fetcher that asks once received last.
 use Rattle.tcp_fetcher.proofs.over_tcp.OverTcpTelling.ask_hops.Goals as goal
 
 pub returns-clause-tries : goal.returns-clause-tries

@@ -1,4 +1,4 @@
--- What is answered stands for what the fetcher below it may be answered.
+-- What is answered represents what the fetcher below it may be answered.
 use Rattle.tcp_fetcher.proofs.parts_over_tcp.PartsOverTcpFetcher.ask.Goals as goal
 
 pub returns-clause-told : goal.returns-clause-told

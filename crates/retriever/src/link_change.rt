@@ -1,0 +1,57 @@
+//! What the files of a run have in place of the bodies of its pages, if links lead from file to file.
+ghost use Rattle.std.specs.Prelude.{◌≡◌, length, map, string_bytes};
+ghost use Rattle.retriever.specs.Mirrored.{kept_as_named};
+
+use kept_bodies::BodyKind;
+use local_tree::{BodyChange, ChangeFault};
+use run_mirror::{Anew, RunMirror};
+use std::alloc::Global;
+use std::marker::Model;
+use workers::Harvest;
+
+/// What becomes of the links of a harvest's kept pages.
+#[derive(Drop)]
+pub(crate) struct LinkChange<'a> {
+    mirror: RunMirror<'a>,
+}
+
+// Contracts see what was kept.
+impl<'a> Model for LinkChange<'a> {
+    ghost use Rattle.run_mirror.specs.Mirrors.{Kept};
+
+    ghost Value = { Kept };
+
+    ghost view = { λ change. change.mirror };
+}
+
+impl<'a> LinkChange<'a> {
+    /// That of the pages of this harvest, which have these names. Takes no memory.
+    pub(crate) fn of<B: Drop>(harvest: &'a Harvest<B>, names: &'a [String]) -> LinkChange<'a>
+        requires { length names.now ≡ length harvest.now.kept }
+        ensures { result ≡ kept_as_named harvest.now (map string_bytes names.now) }
+    {
+        LinkChange {
+            mirror: RunMirror::new(harvest.kept(), names, harvest.records()),
+        }
+    }
+}
+
+impl<'a> BodyChange for LinkChange<'a> {
+    ghost use Rattle.retriever.specs.Mirrored.{links_become};
+
+    ghost becomes = { links_become };
+
+    fn change(
+        &self,
+        alloc: Global,
+        place: usize,
+        kind: BodyKind,
+        body: &[u8],
+    ) -> Result<Option<Vec<u8>>, ChangeFault> {
+        match self.mirror.body_at(alloc, place, kind, body)? {
+            Anew::Same => Ok(None),
+            Anew::Changed(other) => Ok(Some(other)),
+            Anew::Left => Err(ChangeFault::Left),
+        }
+    }
+}
