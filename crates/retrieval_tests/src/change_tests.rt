@@ -12,7 +12,7 @@ use workers::retrieve_in_order;
 
 /// Five pages: `h/a`, `h/b`, `h/c`, `h/d` and `h/index.html`, which come before `h/a` as a start.
 const MAP: &[u8] =
-    b"page 200 http://h/\nlink /a\nlink /b\nlink /c\nlink /d\npage 200 http://h/a\npage 200 http://h/b\npage 200 http://h/c\npage 200 http://h/d\n";
+    b"page 200 http://h/\nlink http://h/a\nlink http://h/b\nlink http://h/c\nlink http://h/d\npage 200 http://h/a\npage 200 http://h/b\npage 200 http://h/c\npage 200 http://h/d\n";
 
 /// A body of two bytes becomes its place's digit, except for that at place 1, which stays, and that at place 2, which can't be changed.
 #[derive(Drop)]
