@@ -1,4 +1,4 @@
--- What the environment sets is said before what is typed, as the option of its name says it.
+-- What the environment sets is said before what is typed, in the way the option of its name says it.
 use Rattle.std.proofs.Common.{◌≡◌, ◌∷◌, List, None, Some, codes, refl}
 use Rattle.clap.specs.Walk.{Text}
 use Rattle.options.specs.declared.said.Saying.TheVariants as saying

@@ -14,7 +14,7 @@ pub flat_map-map : {X : Type 0} (f : List ℕ → List ℕ) (now : X → List �
 flat_map-map f now [] = refl
 flat_map-map f now (x ∷ xs) = ap (λ rest. f (now x) ++ rest) (flat_map-map f now xs)
 
--- the element at a place of a list, and what is behind it
+-- the element at a place of a list, and what is after it
 ahead : {X : Type 0} {Y : Type 0} (f : X → Y) (xs : List X) (i : ℕ) (d : X) → i < length xs → map f (drop i xs) ≡ f (get_or xs i d) ∷ map f (drop (i + 1) xs)
 ahead f xs i d below = ap (map f) (drop_more xs i d below)
 

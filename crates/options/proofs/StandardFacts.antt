@@ -1,14 +1,14 @@
 -- The limits of an order, its usual numbers and the forms of the options are the documented ones.
-use Rattle.std.proofs.Common.{◌≡◌, ◌∷◌, [], Bool, true, Option, Some, None, bytes_eq, codes, map, refl}
+use Rattle.std.proofs.Common.{◌≡◌, ◌∷◌, ◌||◌, [], Bool, true, Option, Some, None, bytes_eq, codes, is_some, map, refl}
 use Rattle.std.specs.List.{list_all}
 use Rattle.std.specs.Option.{option_eq}
 use Rattle.clap.specs.Walk.{Text}
 use Rattle.clap.specs.declared.error.ErrorKind.TheVariants.{DisplayHelp, DisplayVersion}
 use Rattle.options.specs.Advice.{Help, Version, told_of_kind}
-use Rattle.options.specs.Help.{value_name}
+use Rattle.options.specs.Help.{says_of, value_name}
 use Rattle.options.specs.Meant.{is_one_of, meant}
 use Rattle.options.specs.Said.{heard, long_meaning, sayings, value_meaning}
-use Rattle.options.specs.Table.{instead, own, table, wget}
+use Rattle.options.specs.Table.{instead, own, summaries, table, wget}
 use Rattle.options.specs.Written.{first_unread}
 use Rattle.options.specs.declared.order.TheConstants.{DEFAULT_MAX_URLS, DEFAULT_PER_HOST, DEFAULT_WORKERS, MAX_WORKERS}
 use Rattle.options.specs.declared.table.Instead.{Instead}
@@ -29,7 +29,7 @@ usual_requests = refl
 usual_addresses : DEFAULT_MAX_URLS ≡ 100000
 usual_addresses = refl
 
--- the short form, the name, and what its value is called where it has one
+-- the short form, the name, and what its value is called if it has one
 abbrev forms_of : Row Text → Text × Text × Option Text
 forms_of row = (row.short, row.name, value_name row.kind)
 
@@ -58,14 +58,22 @@ forms : map forms_of table ≡ (codes "r", codes "recursive", None) ∷ (codes "
     ∷ (codes "P", codes "directory-prefix", Some (codes "DIR")) ∷ (codes "nd", codes "no-directories", None)
     ∷ (codes "x", codes "force-directories", None) ∷ (codes "nH", codes "no-host-directories", None) ∷ ([], codes "protocol-directories", None)
     ∷ ([], codes "cut-dirs", Some (codes "N")) ∷ ([], codes "default-page", Some (codes "NAME")) ∷ (codes "E", codes "adjust-extension", None)
-    ∷ ([], codes "html-extension", None) ∷ ([], codes "restrict-file-names", Some (codes "MODES")) ∷ (codes "q", codes "quiet", None)
+    ∷ ([], codes "html-extension", None) ∷ ([], codes "restrict-file-names", Some (codes "MODES")) ∷ (codes "k", codes "convert-links", None) ∷ (codes "q", codes "quiet", None)
     ∷ (codes "o", codes "output-file", Some (codes "FILE")) ∷ (codes "a", codes "append-output", Some (codes "FILE")) ∷ ([], codes "trace", None)
     ∷ ([], codes "save", Some (codes "FILE")) ∷ (codes "nv", codes "no-verbose", None) ∷ ([], codes "no-cookies", None) ∷ ([], codes "no-hsts", None)
     ∷ ([], codes "no-config", None) ∷ ([], codes "no-netrc", None) ∷ ([], codes "unlink", None) ∷ ([], codes "no-remove-listing", None)
     ∷ ([], codes "show-progress", None) ∷ ([], codes "no-xattr", None) ∷ ([], codes "no-strict-comments", None) ∷ ([], codes "no-follow-ftp", None)
-    ∷ ([], codes "progress", Some (codes "TYPE")) ∷ ([], codes "compression", Some (codes "none")) ∷ []
+    ∷ ([], codes "progress", Some (codes "TYPE")) ∷ ([], codes "compression", Some (codes "none")) ∷ ([], codes "regex-type", Some (codes "TYPE")) ∷ []
 unfolding table
 forms = refl
+
+-- the help has a line for each option, except for the one that is a letter before others
+abbrev is_said : Row Text → Bool
+is_said row = bytes_eq row.name (codes "n") || is_some (says_of row.name summaries)
+
+each_is_said : list_all is_said table ≡ true
+unfolding table summaries
+each_is_said = refl
 
 -- ---- what is done in place of Wget's options
 
@@ -83,7 +91,7 @@ each_is_wgets : list_all (λ row. is_one_of wget row.form) instead ≡ true
 unfolding instead wget
 each_is_wgets = refl
 
--- ---- help and version are answered by what they ask for
+-- ---- help and version are answered by what they request
 
 -- `-h` and `--help`
 help_is_answered : told_of_kind DisplayHelp ≡ Help

@@ -95,7 +95,7 @@ commanded-step key value commands i d b below is =
 pub commanded-end : (key value : Text) (commands : List (Command (Bor (List ℕ)))) (i : ℕ) → length commands ≤ i → commanded key value (map command_in (drop i commands)) ≡ meaning.Unknown
 commanded-end key value commands i past = at_drop_all (λ rest. commanded key value (map command_in rest)) commands i past
 
--- the letter of the option at a place, or those behind it
+-- the letter of the option at a place, or those after it
 pub letter_in-step : (letters : Text) (rows : List (Row (Bor (List ℕ)))) (i : ℕ) (d : Row (Bor (List ℕ))) → i < length rows
     → letter_in letters (map row_in (drop i rows))
     ≡ (if length (row_in (get_or rows i d)).short == 1 then letter_or (row_in (get_or rows i d)) (after_front (row_in (get_or rows i d)).short letters) (letter_in letters (map row_in (drop (i + 1) rows)))
@@ -105,7 +105,7 @@ letter_in-step letters rows i d below = at_drop_more (λ rest. letter_in letters
 pub letter_in-end : (letters : Text) (rows : List (Row (Bor (List ℕ)))) (i : ℕ) → length rows ≤ i → letter_in letters (map row_in (drop i rows)) ≡ letter.Is meaning.Unknown
 letter_in-end letters rows i past = at_drop_all (λ rest. letter_in letters (map row_in rest)) rows i past
 
--- the rest behind a letter
+-- the rest after a letter
 behind_letter : (short : Text) (c : ℕ) (t rest : Text) → (length short == 1) ≡ true → after_front short (c ∷ t) ≡ Some rest → rest ≡ t
 behind_letter [] c t rest one e = let no : false ≡ true = one in cc
 behind_letter (l ∷ []) c t rest one e = go (l == c) refl
@@ -153,7 +153,7 @@ pub heard-is : (word letters : Text) (is : Meaning Text) → (length letters == 
 heard-is word [] is some e = let bad : (0 == 0) ≡ false = some in absurd (grind (arith, nat_tests))
 heard-is word (c ∷ t) is some e = ap (λ l. heard_letter word l (heard_letters word t)) (sym e)
 
--- what letters ask for of which the first one is an option that is on or off
+-- what letters request if the first one is an option that is on or off
 pub wishes-goes : (letters name value rest : Text) → (length letters == 0) ≡ false → letter.Goes name value rest ≡ letter_in letters table → wish_in letters ≡ wish_in rest
 wishes-goes [] name value rest some e = let bad : (0 == 0) ≡ false = some in absurd (grind (arith, nat_tests))
 wishes-goes (c ∷ t) name value rest some e =
@@ -166,7 +166,7 @@ wishes-is (c ∷ t) meaning.Unknown some e = ap (λ l. wish_after (c ∷ t) l (w
 wishes-is (c ∷ t) (meaning.Means name value) some e = ap (λ l. wish_after (c ∷ t) l (wish_in t)) (sym e)
 wishes-is (c ∷ t) (meaning.Waits name) some e = ap (λ l. wish_after (c ∷ t) l (wish_in t)) (sym e)
 
--- the letters behind a letter are fewer
+-- the letters after a letter are fewer
 pub fewer : (letters name value rest : Text) → (length letters == 0) ≡ false → letter.Goes name value rest ≡ letter_in letters table → length rest < length letters
 fewer [] name value rest some e = let bad : (0 == 0) ≡ false = some in absurd (grind (arith, nat_tests))
 fewer (c ∷ t) name value rest some e = let same = letter_in-rest c t name value rest table (sym e) in rw same (omega arith)

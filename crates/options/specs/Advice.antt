@@ -1,4 +1,4 @@
--- What a person is told of words that are refused.
+-- What a person reads about words that are refused.
 use Rattle.std.specs.Prelude.{ℕ, List, [], Option, Some, None, ◌++◌, codes, option_map}
 use Rattle.std.specs.List.{flat_map}
 use Rattle.std.specs.Option.{option_map_or}
@@ -13,7 +13,7 @@ use Rattle.options.specs.declared.fault.LineFault.{LineFault}
 use Rattle.options.specs.declared.fault.LineFault.TheVariants as line
 use Rattle.options.specs.Hints.{hint_on}
 
--- what a person is told: the help, name and version, or what is wrong and what is accepted in its place
+-- what a person reads: the help, name and version, or what is wrong and what is accepted instead
 pub data Told : Type 0 where
   Help : Told
   Version : Told
@@ -30,7 +30,7 @@ abbrev pub accepted_start : List ℕ
 accepted_start =
     codes "START is an address in full, as http://example.org/path?query, with at most 8192 bytes and a host of at most 255 (see wgetr --help)"
 
--- ---- what is told
+-- ---- what is read
 
 -- as a proxy
 abbrev pub accepted_proxy : List ℕ
@@ -50,7 +50,7 @@ accepted_field =
 abbrev pub accepted_way : List ℕ
 accepted_way = codes "a proxy at localhost, 127.0.0.1 or [::1] is taken, and another one with --trust-proxy (see wgetr --help)"
 
--- what is wrong with a start that is no address; nothing where memory ran out
+-- what is wrong with a start that is no address; nothing if memory ran out
 abbrev pub wrong_start : AddressFault → Option (List ℕ)
 wrong_start refused.TooLong = Some (codes "START is too long")
 wrong_start refused.NotUrl = Some (codes "START is no URL")
@@ -58,12 +58,12 @@ wrong_start refused.NotHttp = Some (codes "START isn't an http address, and an h
 wrong_start refused.UserInfo = Some (codes "START has a user name with a colon, or it and the password are too long")
 wrong_start refused.Memory = None
 
--- of words that ask for something: for the version, or for help
+-- of words that request something: the version or the help
 abbrev pub told_of_asked : ErrorKind → Told
 told_of_asked DisplayVersion = Version
 told_of_asked other = Help
 
--- of words for which the parser has this short text; it has none of words that ask for something
+-- of words for which the parser has this short text; it has none for words that request something
 abbrev pub told_of_text : ErrorKind → Option (List ℕ) → Told
 told_of_text why None = told_of_asked why
 told_of_text why (Some wrong) = Correction wrong accepted_words
@@ -72,7 +72,7 @@ told_of_text why (Some wrong) = Correction wrong accepted_words
 abbrev pub told_of_kind : ErrorKind → Told
 told_of_kind why = told_of_text why (kind_text why)
 
--- of words that are no order; nothing where memory ran out
+-- of words that are no order; nothing if memory ran out
 abbrev pub told_on : LineFault → Option Told
 told_on (line.Words why) = Some (told_of_kind why)
 told_on line.NoProxy = Some (Correction (codes "the value of --https-proxy, --http-proxy or their variable is no proxy") accepted_proxy)
@@ -108,7 +108,7 @@ told_on line.Memory = None
 abbrev pub version_text : List ℕ
 version_text = codes "wgetr " ++ VERSION.now ++ codes "\n"
 
--- a word behind a space
+-- a word after a space
 abbrev pub word_text : List ℕ → List ℕ
 word_text word = codes " " ++ word
 
@@ -117,13 +117,13 @@ abbrev pub correction_text : List (List ℕ) → List ℕ → List ℕ → List 
 correction_text words wrong hint accepted =
     codes "wgetr: " ++ wrong ++ hint ++ codes ", in:" ++ flat_map word_text words ++ codes "\n" ++ accepted ++ codes "\n"
 
--- the lines of what is told of these words, with what was likely meant
+-- the lines on these words, with what was likely meant
 abbrev pub told_lines : List (List ℕ) → List ℕ → Told → List ℕ
 told_lines words hint Help = help_text
 told_lines words hint Version = version_text
 told_lines words hint (Correction wrong accepted) = correction_text words wrong hint accepted
 
--- the lines on words that are no order, none where memory ran out
+-- the lines on words that are no order, none if memory ran out
 abbrev pub advice_text : List (List ℕ) → LineFault → List ℕ
 advice_text words wrong = option_map_or (told_lines words (hint_on wrong words)) (told_on wrong) []
 

@@ -1,4 +1,4 @@
--- Words that ask for something in place of a retrieval: for the help, or for name and version.
+-- Words that request something instead of a retrieval: the help, or name and version.
 use Rattle.std.specs.Prelude.{Bool, true, false, [], ◌∷◌, Option, Some, None, bytes_eq, codes, nat_eq, option_and_then, if◌then◌else◌}
 use Rattle.std.specs.List.{starts_with}
 use Rattle.clap.specs.Walk.{Text}
@@ -17,12 +17,12 @@ use Rattle.options.specs.Table.{table}
 
 -- ---- a word that asks
 
--- what a long form asks for
+-- what a long form requests
 abbrev pub wish_of_form : Text → Option Wish
 wish_of_form form =
     if bytes_eq form (codes "--help") then Some wish.Help else (if bytes_eq form (codes "--version") then Some wish.Version else None)
 
--- what the first of these letters asks for
+-- what the first of these letters requests
 abbrev pub wish_of_letter : Text → Option Wish
 wish_of_letter letters =
     if starts_with nat_eq letters (codes "h") then Some wish.Help
@@ -34,7 +34,7 @@ wish_after letters (letter.Goes name value rest) more = more
 wish_after letters (letter.Is meaning.Unknown) more = wish_of_letter letters
 wish_after letters (letter.Is other) more = None
 
--- what the letters after a dash ask for
+-- what the letters after a dash request
 abbrev pub wish_in : Text → Option Wish
 wish_in [] = None
 wish_in (first ∷ rest) = wish_after (first ∷ rest) (letter_in (first ∷ rest) table) (wish_in rest)
@@ -43,7 +43,7 @@ abbrev pub wish_or : Option Wish → Text → Option Wish
 wish_or None word = option_and_then wish_in (without_dash word)
 wish_or (Some wish) word = Some wish
 
--- what a word asks for that isn't read, if it asks
+-- what a word requests that isn't read, if anything
 unfoldable pub wish_of : Text → Option Wish
 wish_of word = wish_or (wish_of_form (meant word)) word
 
@@ -59,12 +59,12 @@ is_asking kind.DisplayHelp = true
 is_asking kind.DisplayVersion = true
 is_asking other = false
 
--- the words ask for something, and nothing is wrong with them
+-- the words request something, and nothing is wrong with them
 abbrev pub asks : LineFault → Bool
 asks (fault.Words why) = is_asking why
 asks other = false
 
--- the fault under which words ask for this
+-- the fault of words that request this
 abbrev pub wish_fault : Wish → LineFault
 wish_fault wish.Help = fault.Words kind.DisplayHelp
 wish_fault wish.Version = fault.Words kind.DisplayVersion
@@ -77,7 +77,7 @@ refusal_by (Some wish) = wish_fault wish
 abbrev pub refusal_of : Text → LineFault
 refusal_of word = refusal_by (wish_of word)
 
--- the fault, but for the kind of refused words and the place in an expression; words that ask keep their kind
+-- the fault, except for the kind of refused words and the place in an expression; a request keeps its kind
 abbrev pub without_kind : LineFault → LineFault
 without_kind (fault.Words why) = if is_asking why then fault.Words why else words_refused
 without_kind (fault.Expression at) = fault.Expression 0

@@ -11,7 +11,7 @@ use Rattle.follow_filters.specs.Lists.{read_list}
 abbrev pub is_set : Text → List Row → Bool
 is_set id found = option_eq bytes_eq (first_of id found) (Some (codes "true"))
 
--- the limit that the option asks for, 5 where it isn't given; none where it is no level
+-- the limit that the option sets, 5 if it isn't given; none if it is no level
 unfoldable pub level_of : List Row → Option Limit
 level_of found = option_map_or read_level (first_of (codes "level") found) (Some (AtMost 5))
 
@@ -22,7 +22,7 @@ abbrev pub number_within : ℕ → Option ℕ → Option ℕ
 number_within most None = None
 number_within most (Some n) = if nat_lt 0 n && nat_le n most then Some n else None
 
--- the number that an option gives, or the default where it isn't given; none where it is no number from 1 to the most
+-- the number that an option gives, or the default if it isn't given; none if it is no number from 1 to the most
 unfoldable pub number_given : Text → ℕ → ℕ → List Row → Option ℕ
 number_given id most default found = option_map_or (λ text. number_within most (number_in text)) (first_of id found) (Some default)
 

@@ -25,7 +25,7 @@ use Rattle.requests.specs.Fields.{bad_line}
 
 -- ---- forms of options
 
--- what stands before an equals sign
+-- what is before an equals sign
 abbrev pub form_of : Text → Text
 form_of word = before_first (λ byte. byte == 61) word
 
@@ -35,7 +35,7 @@ is_known (meaning.Means name value) = true
 is_known (meaning.Waits name) = true
 is_known meaning.Unknown = false
 
--- the form of an option of Wget; behind a short one others, or its value, may stand
+-- the form of an option of Wget; a short one may be followed by others, or by its value
 abbrev pub is_form_of : Text → Text → Bool
 is_form_of form option = bytes_eq form option || (nat_lt (length option) 4 && starts_with nat_eq form option)
 
@@ -75,7 +75,7 @@ near_text form (Some name) = codes ": " ++ form ++ codes " (did you mean --" ++ 
 unfoldable pub name_hint : Text → Text → Text
 name_hint form name = near_text form (nearest name table)
 
--- forms, each behind a space
+-- forms, each after a space
 abbrev pub forms_text : List Text → Text
 forms_text forms = flat_map (λ form. codes " " ++ form) forms
 
@@ -106,7 +106,7 @@ abbrev pub foreign_with : Text → Option Text → Text
 foreign_with form None = codes ": " ++ form ++ codes " (an option of Wget that wgetr doesn't have)"
 foreign_with form (Some advice) = codes ": " ++ form ++ codes " (an option of Wget that wgetr doesn't have: " ++ advice ++ codes ")"
 
--- of a form that stands for this one of Wget's
+-- of a form that means this one of Wget's
 unfoldable pub foreign_text : Text → Text → Text
 foreign_text form whole = foreign_with form (advice_in whole instead)
 
@@ -114,7 +114,7 @@ foreign_text form whole = foreign_with form (advice_in whole instead)
 unfoldable pub is_own : Text → Bool
 is_own form = option_map_or (λ name. is_known (named name None table)) (long_name form) false
 
--- of a form: nothing where an option has it
+-- of a form: nothing if an option has it
 unfoldable pub form_hint : Text → Text
 form_hint form =
     if is_own (meant form) then [] else (if list_any (is_form_of (meant form)) wget then foreign_text form (meant form) else long_hint form (long_name form))
@@ -139,7 +139,7 @@ abbrev pub address_text : Result Text AddressFault → Text
 address_text (Err why) = []
 address_text (Ok address) = codes " (did you mean " ++ address ++ codes "?)"
 
--- of a start that is no address: it would be one behind `http://`
+-- of a start that is no address: it would be one after `http://`
 abbrev pub scheme_hint : Text → Text
 scheme_hint start = if has_scheme start then [] else address_text (read_address (codes "http://" ++ start))
 
@@ -177,7 +177,7 @@ header_hint words = lines_hint_on (value_from (codes "header") true None (saying
 
 -- ---- what is said of expressions
 
--- where one goes wrong: so many bytes before it are good
+-- the place at which one goes wrong: this many bytes before it are good
 abbrev pub place_hint : ℕ → Text
 place_hint at = codes ", at offset " ++ decimal at
 

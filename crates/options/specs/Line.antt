@@ -21,7 +21,7 @@ letter_of (letter ∷ another ∷ rest) = None
 abbrev pub number_rule : ℕ → Rule → Rule
 number_rule most rule = record rule { parser = Some (value.Signed (pos 1) (pos most)) }
 
--- the rule with what stands behind an option: a flag has no value
+-- the rule with the option's value: a flag has none
 abbrev pub with_kind : Kind Text → Rule → Rule
 with_kind kind.Flag rule = record rule { action = Some SetTrue }
 with_kind kind.Holds rule = record rule { action = Some SetTrue }
@@ -31,7 +31,7 @@ with_kind (kind.List name) rule = rule
 with_kind (kind.Usual name usual) rule = rule
 with_kind (kind.Number most usual) rule = number_rule most rule
 
--- the rule with a short form, where there is one
+-- the rule with a short form, if there is one
 abbrev pub with_letter : Option ℕ → Rule → Rule
 with_letter None rule = rule
 with_letter (Some letter) rule = record rule { short = Some letter }
@@ -48,7 +48,7 @@ option_rule row = with_long row (with_letter (letter_of row.short) (with_kind ro
 abbrev pub start_rule : Rule
 start_rule = record (new_rule (codes "start")) { required = true }
 
--- the words come without the program's name, and one of them may ask for its version
+-- the words come without the program's name, and one of them may request its version
 abbrev pub no_options : App
 no_options = on_top (λ s. record s { no_binary_name = true; has_version = true }) (new_app (codes "wgetr"))
 
@@ -64,6 +64,6 @@ line = fold with_rule no_options line_rules
 unfoldable pub rows : List Text → List Found
 rows words = matches_of line words
 
--- why the words are refused: none where they are taken
+-- why the words are refused: none if they are accepted
 unfoldable pub refusals : List Text → Kinds
 refusals words = fault_of line words

@@ -7,7 +7,7 @@ use Rattle.options.specs.declared.meant.Begun.{Begun}
 use Rattle.options.specs.declared.meant.Begun.TheVariants as begun
 use Rattle.options.specs.Table.{own, wget}
 
--- the text behind a dash
+-- the text after a dash
 abbrev pub without_dash : Text → Option Text
 without_dash text = strip_byte 45 text
 
@@ -38,7 +38,7 @@ begun_of [] = begun.Nothing
 begun_of (form ∷ []) = begun.One form
 begun_of (form ∷ another ∷ more) = begun.Several
 
--- the only one of these forms that begins with the front, which stays as it is where there is none, or several
+-- the only one of these forms that begins with the front, which stays as it is if there is none, or several
 abbrev pub only_of : Text → Begun Text → Text
 only_of front (begun.One form) = form
 only_of front other = front

@@ -57,7 +57,7 @@ page_by (Some name) = if is_file_name name then Some (Some name) else None
 
 -- ---- characters
 
--- a mode, as it is written
+-- a mode as it is written
 unfoldable pub read_mode : Text → Option Mode
 read_mode text =
     if bytes_eq text (codes "unix") then Some mode.Unix
@@ -81,7 +81,7 @@ abbrev pub with_modes : CharRules → List Mode → CharRules
 with_modes chars [] = chars
 with_modes chars (mode ∷ modes) = with_modes (with_mode chars mode) modes
 
--- the characters that the options ask for; nothing if a mode isn't known
+-- the characters that the options choose; nothing if a mode isn't known
 unfoldable pub chars_of : List Row → Option CharRules
 chars_of found = option_map (with_modes usual_chars) (list_of read_mode (codes "restrict-file-names") found)
 

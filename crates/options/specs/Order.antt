@@ -30,7 +30,7 @@ use Rattle.options.specs.Manners.{manner_of, quota_by}
 use Rattle.pacing.specs.Retries.{Retried, retries_by}
 use Rattle.options.specs.Retries.{retries_of}
 use Rattle.options.specs.Naming.{Naming, naming_by, naming_of}
-use Rattle.options.specs.Sought.{expressions_by}
+use Rattle.options.specs.Sought.{expressions_by, is_type}
 use Rattle.requests.specs.Fields.{Sent, login_of as login_value_of, read_fields}
 use Rattle.requests.specs.declared.fields.FieldsFault.{FieldsFault}
 use Rattle.requests.specs.declared.fields.FieldsFault.TheVariants as unsent
@@ -43,14 +43,14 @@ use Rattle.options.specs.Written.{SayTheSame, first_unread, others_in, starts_in
 
 -- ---- words that `clap` takes and that are refused all the same
 
--- an encoding of bodies isn't asked for: `--compression` isn't given, or its value is `none`
+-- no encoding of bodies is requested: `--compression` isn't given, or its value is `none`
 abbrev pub is_plain_value : Option Text → Bool
 is_plain_value None = true
 is_plain_value (Some value) = bytes_eq value (codes "none")
 
--- `--compression` has a value that it may have
+-- `--compression` and `--regex-type` have values that they may have
 unfoldable pub are_good : List Row → Bool
-are_good found = is_plain_value (first_of (codes "compression") found)
+are_good found = is_plain_value (first_of (codes "compression") found) && is_type (first_of (codes "regex-type") found)
 
 -- ---- the order
 
@@ -85,6 +85,7 @@ pub record Ordered : Type 0 where
   pub log : Option (Text × Bool)
   pub prefix : List ℕ
   pub names : Naming
+  pub converts : Bool
   pub fields : Sent
   pub manner : Mannered
   pub retries : Retried
@@ -98,7 +99,7 @@ abbrev pub found_or : {X Y : Type 0} → Option X → LineFault → (X → Resul
 found_or None unless next = Err unless
 found_or (Some x) unless next = next x
 
--- both values, where both were found
+-- both values, if both were found
 abbrev pub both : {X Y : Type 0} → Option X → Option Y → Option (X × Y)
 both None second = None
 both (Some x) None = None
@@ -124,7 +125,7 @@ pub record Counts : Type 0 where
   pub max_urls : ℕ
   pub quota : Option ℕ
 
--- these numbers, the usual ones where they aren't given
+-- these numbers, the usual ones if they aren't given
 unfoldable pub counts_of : List Row → Option Counts
 counts_of found =
     option_and_then (λ w. option_and_then (λ p. option_and_then (λ u. option_map (λ q. record { workers = w; per_host = p; max_urls = u; quota = q })
@@ -190,7 +191,7 @@ abbrev pub proxied_by : {Y : Type 0} → Result Proxies LineFault → (Proxies �
 proxied_by (Err why) next = Err why
 proxied_by (Ok proxies) next = next proxies
 
--- a start; https is one where a proxy for it is given
+-- a start; https is accepted if a proxy for it is given
 abbrev pub read_start : Bool → Text → Result (List ℕ) AddressFault
 read_start false text = read_address text
 read_start true text = read_either text
@@ -257,7 +258,7 @@ abbrev pub fielded_by : {Y : Type 0} → Result Sent LineFault → (Sent → Res
 fielded_by (Err why) next = Err why
 fielded_by (Ok fields) next = next fields
 
--- the start, or why it is no address; `http` is its scheme where it has none, and user and password are left out
+-- the start, or why it is no address; `http` is its scheme if it has none, and user and password are left out
 unfoldable pub start_of : List Row → Result (List ℕ) AddressFault
 start_of found =
     read_start (is_some (proxy_value (codes "https-proxy") found)) (typed (unwrap_or (first_of (codes "start") found) []))
@@ -267,7 +268,7 @@ abbrev pub started_at : {Y : Type 0} → Result (List ℕ) AddressFault → (Lis
 started_at (Err why) next = Err (fault.Start why)
 started_at (Ok start) next = if is_robots_file start then Err fault.StartIsRobots else next start
 
--- where the site is: a map before a record, and the network where neither is asked for
+-- where the site is: a map before a record, and the network if neither is chosen
 abbrev pub source_of : List Row → Source
 source_of found = if is_set (codes "map") found then Map else (if is_set (codes "record") found then Recorded else Live)
 
@@ -275,11 +276,11 @@ source_of found = if is_set (codes "map") found then Map else (if is_set (codes 
 abbrev pub honours_robots : List Row → Bool
 honours_robots found = is_set (codes "recursive") found && not (is_set (codes "no-robots") found)
 
--- the limit of the level, or no hop where links aren't followed
+-- the limit of the level, or no hop if links aren't followed
 abbrev pub limit_within : Limit → List Row → Limit
 limit_within level found = if is_set (codes "recursive") found then level else AtMost 0
 
--- the folder that a value names, `.` where it is empty or isn't given
+-- the folder that a value names, `.` if it is empty or isn't given
 abbrev pub folder_of : Option Text → Text
 folder_of None = codes "."
 folder_of (Some path) = if length path == 0 then codes "." else path
@@ -288,7 +289,7 @@ folder_of (Some path) = if length path == 0 then codes "." else path
 abbrev pub prefix_of : List Row → Text
 prefix_of found = folder_of (first_of (codes "directory-prefix") found)
 
--- the file that takes what is told, and whether it keeps what it has
+-- the file that takes the text of the run, and whether it keeps what it has
 unfoldable pub log_of : List Row → Option (Text × Bool)
 log_of found = option_map (λ path. (path, is_some (first_of (codes "append-output") found))) (first_of (codes "output-file") found)
 
@@ -325,6 +326,7 @@ ordered found counts proxies names fields manner retries level patterns director
   log = log_of found;
   prefix = prefix_of found;
   names = names;
+  converts = is_set (codes "convert-links") found;
   fields = fields;
   manner = manner;
   retries = retries;
@@ -428,7 +430,7 @@ read_or None result = result
 read_or (Some word) result = Err (refusal_of word)
 
 -- what is ordered by what is said, or the lowest fault, that of the first start before those of others: each word is read, and the first that
--- isn't may ask for the help
+-- isn't may request the help
 unfoldable pub order_said : List (Saying Text) → Result Ordered LineFault
 order_said said =
     read_or (first_unread said) (logged (starts_in said) (guarded (with_others (others_in said) (order_of_written (written said)))))
@@ -479,6 +481,7 @@ ordered_by order = record {
   log = option_map log_by order.log;
   prefix = order.prefix;
   names = naming_by order.names;
+  converts = order.converts;
   fields = order.fields;
   manner = mannered order.manner;
   retries = retries_by order.retries;
@@ -488,7 +491,7 @@ ordered_by order = record {
   save = order.save;
 }
 
--- how many connections to a server may stand at a time, where they are kept
+-- how many connections to a server may be open at a time, if they are kept
 abbrev pub kept_of : Order → Option ℕ
 kept_of order = if order.keeps_connections then Some order.plan.per_host else None
 

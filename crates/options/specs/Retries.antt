@@ -8,7 +8,7 @@ use Rattle.pacing.specs.Spans.{span_in}
 use Rattle.options.specs.Given.{is_set, list_of}
 use Rattle.options.specs.declared.retries.Status.{Status}
 
--- how often a request is made again where it is made so often; 0 is no limit, which is the greatest number
+-- how often a request is repeated if it is made this often; 0 is no limit, which is the greatest number
 abbrev pub again_of : ℕ → ℕ
 again_of tries = if tries == 0 then 2 ^ 32 - 1 else tries - 1
 

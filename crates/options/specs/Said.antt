@@ -62,7 +62,7 @@ held other = meaning.Unknown
 
 -- ---- options by their forms
 
--- an option whose value stands beside it, or comes with the next word
+-- an option whose value is beside it, or comes with the next word
 abbrev pub valued : Text → Option Text → Meaning Text
 valued name None = meaning.Waits name
 valued name (Some value) = meaning.Means name value
@@ -81,7 +81,7 @@ is_switch kind.Holds = true
 is_switch (kind.Opposite other) = true
 is_switch other = false
 
--- the one name is the other one behind `no-`
+-- the one name is `no-` and then the other one
 abbrev pub is_no : Text → Text → Bool
 is_no one other = option_eq bytes_eq (after_front (codes "no-") one) (Some other)
 
@@ -109,7 +109,7 @@ long_meaning form value = option_map_or (λ name. named name value table) (long_
 abbrev pub is_negative : Text → Row Text → Bool
 is_negative text row = not (length text == 0) && option_eq bytes_eq (after_front (codes "n") row.short) (Some text)
 
--- what stands behind `-n`: one letter, of an option of two
+-- what is after `-n`: one letter, of an option of two
 abbrev pub negative : Text → List (Row Text) → Meaning Text
 negative text [] = meaning.Unknown
 negative text (row ∷ rows) = if is_negative text row then meaning_of row.name row.kind true None else negative text rows
@@ -145,7 +145,7 @@ command_by key (Some value) = commanded (plain (trimmed key)) (trimmed value) co
 unfoldable pub command_meaning : Text → Meaning Text
 command_meaning text = command_by (name_and_value text).0 (name_and_value text).1
 
--- an option of this name with its value: a command and the letter behind `-n` are other options
+-- an option of this name with its value: a command and the letter after `-n` are other options
 unfoldable pub value_meaning : Text → Text → Meaning Text
 value_meaning name value =
     if bytes_eq name (codes "execute") then command_meaning value
@@ -200,12 +200,12 @@ abbrev pub heard_letter : Text → Letter Text → Hearing → Hearing
 heard_letter word (letter.Goes name value rest) more = record more { said = saying.Says name value ∷ more.said }
 heard_letter word (letter.Is meaning) more = heard_as word meaning
 
--- the letters behind a dash, of this word
+-- the letters after a dash, in this word
 abbrev pub heard_letters : Text → Text → Hearing
 heard_letters word [] = record { said = []; state = state.Free }
 heard_letters word (first ∷ rest) = heard_letter word (letter_in (first ∷ rest) table) (heard_letters word rest)
 
--- a word that is no long form: letters behind a dash, or a start
+-- a word that is no long form: letters after a dash, or a start
 abbrev pub heard_short : Text → Option Text → Hearing
 heard_short word None = record { said = saying.Starts word ∷ []; state = state.Free }
 heard_short word (Some letters) =
@@ -215,17 +215,17 @@ abbrev pub heard_by : Text → Option Text → Hearing
 heard_by word None = heard_short word (without_dash word)
 heard_by word (Some name) = heard_as word (long_meaning (name_and_value word).0 (name_and_value word).1)
 
--- a word where neither a value is waited for nor the options have ended
+-- a word if no value is expected and the options haven't ended
 unfoldable pub heard : Text → Hearing
 heard word = heard_by word (long_name word)
 
--- a word, as the words before it have it read: `--` ends the options
+-- a word, read as the words before it require: `--` ends the options
 abbrev pub heard_in : State Text → Text → Hearing
 heard_in state.Ended word = record { said = saying.Starts word ∷ []; state = state.Ended }
 heard_in (state.Waits name) word = record { said = saying_of word (value_meaning name word) ∷ []; state = state.Free }
 heard_in state.Free word = if bytes_eq word (codes "--") then record { said = []; state = state.Ended } else heard word
 
--- what the end of the words says: an option whose value lacks isn't read
+-- what the end of the words says: an option without its value isn't read
 abbrev pub at_end : State Text → List (Saying Text)
 at_end (state.Waits name) = saying.Unread name ∷ []
 at_end other = []

@@ -1,5 +1,5 @@
 -- Expressions that are looked for in addresses, as they are typed (GNU Wget manual, section Types of Files).
-use Rattle.std.specs.Prelude.{Bool, List, [], ◌∷◌, ◌++◌, Option, Some, None, codes, option_map, if◌then◌else◌}
+use Rattle.std.specs.Prelude.{Bool, true, false, List, [], ◌∷◌, ◌++◌, ◌&&◌, ◌||◌, Option, Some, None, bytes_eq, codes, option_map, if◌then◌else◌}
 use Rattle.clap.specs.Walk.{Text}
 use Rattle.expressions.specs.Expressions.{read_element}
 
@@ -11,3 +11,8 @@ cased ignores_case text = if ignores_case then codes "(?i)" ++ text else text
 abbrev pub expressions_by : Bool → Option Text → Option (List Text)
 expressions_by ignores_case None = Some []
 expressions_by ignores_case (Some text) = option_map (λ expression. expression ∷ []) (read_element (cased ignores_case text))
+
+-- the value of `--regex-type` is one that it may have, or it isn't given
+abbrev pub is_type : Option Text → Bool
+is_type None = true
+is_type (Some value) = bytes_eq value (codes "posix") || bytes_eq value (codes "pcre")

@@ -10,7 +10,7 @@ use Rattle.url.specs.Parts.{Parts, has_credentials, text_between}
 use Rattle.address.specs.declared.address.TheConstants.{MAX_ADDRESS}
 use Rattle.requests.specs.Fields.{login_of}
 
--- what stands before a path, a query, a fragment
+-- what is before a path, a query, a fragment
 abbrev pub before_path : Text → Text
 before_path text = before_first (λ byte. byte == 47) text
 
@@ -24,7 +24,7 @@ before_fragment text = before_first (λ byte. byte == 35) text
 abbrev pub are_digits : Text → Bool
 are_digits text = not (length text == 0) && list_all is_ascii_digit text
 
--- a host and its port: behind a scheme there are no digits
+-- a host and its port: after a scheme there are no digits
 abbrev pub is_pair : Text → Text → Bool
 is_pair host port = not (length host == 0) && are_digits port
 
@@ -34,7 +34,7 @@ is_bare front =
     if list_any (λ byte. byte == 58) front
     then is_pair (before_first (λ byte. byte == 58) front) (after_first (λ byte. byte == 58) front) else not (length front == 0)
 
--- a host stands at the beginning, where else a scheme or a slash stands
+-- a host is at the beginning, where otherwise a scheme or a slash is
 abbrev pub lacks_scheme : Text → Bool
 lacks_scheme text = is_bare (before_fragment (before_query (before_path text)))
 

@@ -2,6 +2,8 @@
 -- as lists.
 use Rattle.std.specs.Prelude.{List, map}
 use Rattle.clap.specs.Walk.{Text}
+use Rattle.options.specs.declared.summary.Summary.{Summary}
+use Rattle.options.specs.declared.summary.TheConstants.{SUMMARY}
 use Rattle.options.specs.declared.table.Command.{Command}
 use Rattle.options.specs.declared.table.Instead.{Instead}
 use Rattle.options.specs.declared.table.Kind.{Kind}
@@ -9,7 +11,7 @@ use Rattle.options.specs.declared.table.Kind.TheVariants as kind
 use Rattle.options.specs.declared.table.Row.{Row}
 use Rattle.options.specs.declared.table.TheConstants.{COMMANDS, INSTEAD, OWN, TABLE, WGET}
 
--- what stands behind an option, its texts read so
+-- what follows an option, with its texts read this way
 abbrev pub kind_by : {T : Type 0} → (T → Text) → Kind T → Kind Text
 kind_by read kind.Flag = kind.Flag
 kind_by read kind.Holds = kind.Holds
@@ -22,11 +24,19 @@ kind_by read (kind.Number most usual) = kind.Number most usual
 -- an option, its texts read so
 abbrev pub row_by : {T : Type 0} → (T → Text) → Row T → Row Text
 row_by read row =
-    record { short = read row.short; name = read row.name; kind = kind_by read row.kind; heading = read row.heading; says = read row.says }
+    record { short = read row.short; name = read row.name; kind = kind_by read row.kind; heading = read row.heading }
 
 -- the options
 unfoldable pub table : List (Row Text)
 table = map (row_by (λ text. text.now)) TABLE
+
+-- what an option does, its texts read so
+abbrev pub summary_by : {T : Type 0} → (T → Text) → Summary T → Summary Text
+summary_by read summary = record { name = read summary.name; says = read summary.says }
+
+-- what the options do
+unfoldable pub summaries : List (Summary Text)
+summaries = map (summary_by (λ text. text.now)) SUMMARY
 
 -- the forms of Wget's options
 unfoldable pub wget : List Text

@@ -19,7 +19,7 @@ is_list other = false
 abbrev pub joint : Text → Text
 joint name = if bytes_eq name (codes "header") then 0 ∷ [] else codes ","
 
--- a value behind an earlier one: it takes its place, unless both are lists with elements, which this joins
+-- a value after an earlier one: it replaces it, unless both are lists with elements, which this joins
 abbrev pub added : Text → Bool → Option Text → Text → Text
 added between adds None value = value
 added between adds (Some earlier) value =
@@ -29,7 +29,7 @@ added between adds (Some earlier) value =
 abbrev pub says_also : Text → Text → Bool
 says_also said name = bytes_eq said name || (bytes_eq said (codes "append-output") && bytes_eq name (codes "output-file"))
 
--- the value of an option of this name behind what was said before
+-- the value of an option of this name after what was said before
 abbrev pub value_after : Text → Bool → Option Text → Saying Text → Option Text
 value_after name adds before (saying.Says said value) = if says_also said name then Some (added (joint name) adds before value) else before
 value_after name adds before other = before

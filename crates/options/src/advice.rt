@@ -1,5 +1,5 @@
-//! What is said to a person of words that are refused: what is wrong, what was likely meant and what is accepted, or the help or
-//! the version that they ask for.
+//! What a person reads about words that are refused: what is wrong, what was likely meant and what is accepted; or the help, or
+//! the version, if they request it.
 ghost use Rattle.std.specs.Prelude.{◌≡◌, ◌++◌, IfOk, OnOk, codes, map, option_map, string_bytes};
 ghost use Rattle.std.specs.List.{flat_map};
 ghost use Rattle.options.specs.Advice.{advice_text, correction_text, no_text_advice, wrong_start, told_of_asked, told_of_kind, told_on, told_lines, word_text};
@@ -12,12 +12,12 @@ use address::AddressFault;
 use clap::error::ErrorKind;
 use std::alloc::{AllocError, Global};
 
-/// What a person is told.
+/// What a person is to read.
 #[derive(Clone, Copy)]
 pub(crate) enum Advice {
-    /// The help, which was asked for.
+    /// The help, which was requested.
     Help,
-    /// Name and version, which were asked for.
+    /// Name and version, which were requested.
     Version,
     /// What is wrong with the words, and what is accepted in its place.
     Correction(&'static str, &'static str),
@@ -54,7 +54,7 @@ fn wrong_start(refused: AddressFault) -> Option<&'static str>
     }
 }
 
-// What is said of words that ask for something: for the version, or for help.
+// The advice on words that request something: the version or the help.
 fn asked_advice(kind: ErrorKind) -> Advice
     ensures { told_by result ≡ told_of_asked kind }
 {
@@ -64,7 +64,7 @@ fn asked_advice(kind: ErrorKind) -> Advice
     }
 }
 
-// What is said of words that the parser refuses: its own short text. It has none of words that ask for something.
+// The advice on words that the parser refuses: its own short text. It has none for words that request something.
 fn kind_advice(kind: ErrorKind) -> Advice
     ensures { told_by result ≡ told_of_kind kind }
 {
@@ -74,7 +74,7 @@ fn kind_advice(kind: ErrorKind) -> Advice
     }
 }
 
-// What is said of words that are no order; nothing of want of memory.
+// The advice on words that are no order; nothing if memory ran out.
 fn advice_on(wrong: LineFault) -> Option<Advice>
     ensures { option_map told_by result ≡ told_on wrong }
 {
@@ -141,7 +141,7 @@ fn advice_on(wrong: LineFault) -> Option<Advice>
     }
 }
 
-// Adds these words, each behind a space.
+// Adds these words, each after a space.
 fn push_words(text: &mut String, words: &[&str]) -> Result<(), AllocError>
     ensures ok { OnOk result (string_bytes text.new ≡ string_bytes text.old ++ flat_map (λ word. word_text word.now) words.now) }
 {
@@ -181,8 +181,8 @@ fn said(alloc: Global, advice: Advice, hint: &str, words: &[&str]) -> Result<Str
     }
 }
 
-/// What a person is told of these words, which are refused for this fault: what is wrong with them and what was likely meant, and
-/// a line on what is accepted; or the help, or name and version, where they ask for it. Empty where memory ran out.
+/// The text for a person whose words are refused for this fault: what is wrong with them, what was likely meant, and a line on
+/// what is accepted; or the help, or name and version, if they request it. Empty if memory ran out.
 pub fn advice_text(alloc: Global, fault: LineFault, words: &[&str]) -> Result<String, AllocError>
     ensures { IfOk result (λ text. string_bytes text ≡ advice_text (map (λ word. word.now) words.now) fault) }
 {
@@ -192,7 +192,7 @@ pub fn advice_text(alloc: Global, fault: LineFault, words: &[&str]) -> Result<St
     }
 }
 
-/// What a person is told where a word isn't UTF-8, beside these words.
+/// The text for a person if a word isn't UTF-8; these are the other words.
 pub fn no_text_advice(alloc: Global, words: &[&str]) -> Result<String, AllocError>
     ensures { IfOk result (λ text. string_bytes text ≡ no_text_advice (map (λ word. word.now) words.now)) }
 {

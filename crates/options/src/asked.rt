@@ -1,4 +1,4 @@
-//! Words that ask for something in place of a retrieval: for the help, or for name and version.
+//! Words that request something instead of a retrieval: the help, or name and version.
 ghost use Rattle.std.specs.Prelude.{◌≡◌, None};
 ghost use Rattle.options.specs.Asked.{is_asking, wish_after, wish_fault, wish_in, wish_of, wish_of_form, wish_of_letter, without_kind};
 ghost use Rattle.options.specs.inner.Said.{meaning_in};
@@ -10,7 +10,7 @@ use crate::said::{Letter, Meaning, letter_in};
 use crate::table::option_rows;
 use clap::error::ErrorKind;
 
-/// What is asked for.
+/// What is requested.
 #[derive(Clone, Copy)]
 pub(crate) enum Wish {
     Help,
@@ -27,7 +27,7 @@ pub(crate) fn is_asking(kind: ErrorKind) -> bool
     }
 }
 
-/// The fault under which words ask for this.
+/// The fault of words that request this.
 pub(crate) fn wish_fault(wish: Wish) -> LineFault
     ensures value { result ≡ wish_fault wish }
     ensures kept { without_kind result ≡ wish_fault wish }
@@ -38,7 +38,7 @@ pub(crate) fn wish_fault(wish: Wish) -> LineFault
     }
 }
 
-// What a long form asks for.
+// What a long form requests.
 fn wish_of_form(form: &str) -> Option<Wish>
     ensures { result ≡ wish_of_form form.now }
 {
@@ -51,7 +51,7 @@ fn wish_of_form(form: &str) -> Option<Wish>
     None
 }
 
-// What the first of these letters asks for.
+// What the first of these letters requests.
 fn wish_of_letter(letters: &str) -> Option<Wish>
     ensures { result ≡ wish_of_letter letters.now }
 {
@@ -64,7 +64,7 @@ fn wish_of_letter(letters: &str) -> Option<Wish>
     None
 }
 
-// What letters ask for of which the first one ends the word with this meaning.
+// What letters request if the first one ends the word with this meaning.
 fn wish_by(meaning: Meaning<&str>, letters: &str) -> Option<Wish>
     ensures { result ≡ wish_after letters.now (Is (meaning_in meaning.entry)) None }
 {
@@ -74,7 +74,7 @@ fn wish_by(meaning: Meaning<&str>, letters: &str) -> Option<Wish>
     }
 }
 
-// What the letters after a dash ask for: the first that is no option's may ask.
+// What the letters after a dash request: the first one that is no option's may request something.
 fn wish_in(letters: &str) -> Option<Wish>
     ensures { result ≡ wish_in letters.entry.now }
 {
@@ -88,7 +88,7 @@ fn wish_in(letters: &str) -> Option<Wish>
     None
 }
 
-/// What a word asks for that isn't read, if it asks.
+/// What a word requests that isn't read, if anything.
 #[tactic(auto, unfolding(crate::specs::Asked::wish_of))]
 pub(crate) fn wish_of(word: &str) -> Option<Wish>
     ensures { result ≡ wish_of word.now }

@@ -3,10 +3,10 @@ use crate::asked::is_asking;
 use address::AddressFault;
 use clap::error::ErrorKind;
 
-/// Why words are no order, or what they ask for. Of several faults the lowest in this order is named, want of memory aside.
+/// Why words are no order, or what they request. Of several faults the lowest in this order is named, except `Memory`.
 #[derive(Clone, Copy, PartialEq, Eq, Debug)]
 pub enum LineFault {
-    /// An option is unknown, is given twice, lacks its value or has a value out of its range; the
+    /// An option is unknown, is given twice, has no value or one that is out of its range; the
     /// start is missing or there are two. The kind is `clap`'s.
     Words(ErrorKind),
     /// What an option or a variable of a proxy names is no proxy: it is the origin of no http address.
@@ -48,7 +48,7 @@ impl LineFault {
     ghost use Rattle.std.specs.Prelude.{◌≡◌};
     ghost use Rattle.options.specs.Asked.{asks};
 
-    /// Whether the words ask for the help, or for name and version, and nothing is wrong with them. Takes no memory.
+    /// Whether the words request the help, or name and version, and nothing is wrong with them. Takes no memory.
     pub fn asks(&self) -> bool
         ensures { result ≡ asks self.now }
     {

@@ -43,7 +43,7 @@ fn within(most: u32, number: Option<u32>) -> Option<u32>
     }
 }
 
-/// The number that an option gives, from 1 to the most, or the default where it isn't given.
+/// The number that an option gives, from 1 to the most, or the default if it isn't given.
 #[tactic(auto, unfolding(crate::specs::Given::number_given))]
 pub(crate) fn number(matches: &ArgMatches, id: &str, most: u32, default: u32) -> Option<u32>
     requires { (0 < default) × (default ≤ most) }
@@ -56,7 +56,7 @@ pub(crate) fn number(matches: &ArgMatches, id: &str, most: u32, default: u32) ->
     }
 }
 
-/// The limit that the level asks for, 5 hops where it isn't given.
+/// The limit that the level sets, 5 hops if it isn't given.
 #[tactic(auto, unfolding(crate::specs::Given::level_of))]
 pub(crate) fn level(matches: &ArgMatches) -> Option<Limit>
     ensures value { result ≡ level_of (rows_of (found_of matches.now)) }

@@ -4,6 +4,7 @@ ghost use Rattle.std.specs.Fmt.{decimal};
 ghost use Rattle.options.specs.Help.{help_text, in_columns, left_text, row_text, rows_text, short_text, usual_text, value_name, value_text};
 ghost use Rattle.options.specs.inner.Table.{kind_in, row_in};
 
+use crate::summary::summary_of;
 use crate::table::{Kind, Row, option_rows};
 use std::alloc::{AllocError, Global};
 
@@ -54,7 +55,7 @@ fn short_text(alloc: Global, short: &str) -> Result<String, AllocError>
     format!(in alloc; "  -{short},")
 }
 
-// The name of what stands behind an option.
+// The name of an option's value.
 fn value_name(kind: &Kind<&'static str>) -> Option<&'static str>
     ensures { option_map (λ name. name.now) result ≡ value_name (kind_in kind.now) }
 {
@@ -66,7 +67,7 @@ fn value_name(kind: &Kind<&'static str>) -> Option<&'static str>
     }
 }
 
-// Adds what stands behind an option.
+// Adds the value of an option.
 fn push_value(text: &mut String, name: Option<&str>) -> Result<(), AllocError>
     ensures ok { OnOk result (string_bytes text.new ≡ string_bytes text.old ++ value_text (option_map (λ name. name.now) name.entry)) }
 {
@@ -79,7 +80,7 @@ fn push_value(text: &mut String, name: Option<&str>) -> Result<(), AllocError>
     }
 }
 
-// Adds the forms of an option, the short one as it is shown, with what stands behind it.
+// Adds the forms of an option, the short one as it is shown, and then its value.
 fn push_forms(text: &mut String, short: &str, row: &Row<&'static str>) -> Result<(), AllocError>
     ensures ok { OnOk result (string_bytes text.new ≡ string_bytes text.old ++ in_columns 7 short.now ++ codes "--" ++ (row_in row.now).name
         ++ value_text (value_name (row_in row.now).kind)) }
@@ -90,7 +91,7 @@ fn push_forms(text: &mut String, short: &str, row: &Row<&'static str>) -> Result
     push_value(text, value_name(&row.kind))
 }
 
-// The forms of an option, with what stands behind it.
+// The forms of an option, and then its value.
 fn left_text(alloc: Global, row: &Row<&'static str>) -> Result<String, AllocError>
     ensures { IfOk result (λ text. string_bytes text ≡ left_text (row_in row.now)) }
 {
@@ -100,7 +101,7 @@ fn left_text(alloc: Global, row: &Row<&'static str>) -> Result<String, AllocErro
     Ok(text)
 }
 
-// What counts where an option isn't given, and its range.
+// The default of an option, and its range.
 fn usual_text(alloc: Global, kind: &Kind<&'static str>) -> Result<String, AllocError>
     ensures { IfOk result (λ text. string_bytes text ≡ usual_text (kind_in kind.now)) }
 {
@@ -112,40 +113,41 @@ fn usual_text(alloc: Global, kind: &Kind<&'static str>) -> Result<String, AllocE
     }
 }
 
-// The range of a number, and what counts where it isn't given.
+// The range of a number, and its default.
 fn range_text(alloc: Global, most: u32, usual: u32) -> Result<String, AllocError>
     ensures { IfOk result (λ text. string_bytes text ≡ codes ", 1 to " ++ decimal most ++ codes " (" ++ decimal usual ++ codes ")") }
 {
     format!(in alloc; ", 1 to {most} ({usual})")
 }
 
-// Adds the line of an option, behind its heading, with its forms and what counts where it isn't given.
+// Adds the line of an option, after its heading, with its forms and its default.
 fn push_line(
     text: &mut String,
     row: &Row<&'static str>,
     left: &str,
+    says: &str,
     usual: &str,
 ) -> Result<(), AllocError>
-    ensures ok { OnOk result (string_bytes text.new ≡ string_bytes text.old ++ ((row_in row.now).heading ++ in_columns 35 left.now ++ (row_in row.now).says
+    ensures ok { OnOk result (string_bytes text.new ≡ string_bytes text.old ++ ((row_in row.now).heading ++ in_columns 35 left.now ++ says.now
         ++ usual.now ++ codes "\n")) }
 {
     text.push_str(row.heading)?;
     push_column(text, left, 35)?;
-    text.push_str(row.says)?;
+    text.push_str(says)?;
     text.push_str(usual)?;
     text.push_str("\n")
 }
 
-// Adds the line of an option, behind its heading.
+// Adds the line of an option, after its heading.
 fn push_row(alloc: Global, text: &mut String, row: &Row<&'static str>) -> Result<(), AllocError>
     ensures ok { OnOk result (string_bytes text.new ≡ string_bytes text.old ++ row_text (row_in row.now)) }
 {
-    if row.says.is_empty() {
+    let Some(says) = summary_of(row.name) else {
         return Ok(());
-    }
+    };
     let left = left_text(alloc, row)?;
     let usual = usual_text(alloc, &row.kind)?;
-    push_line(text, row, left.as_str(), usual.as_str())
+    push_line(text, row, left.as_str(), says, usual.as_str())
 }
 
 // Adds the lines of these options.

@@ -18,7 +18,7 @@ use requests::bad_line;
 use std::alloc::{AllocError, Global};
 use strsim::osa_distance;
 
-// What stands before an equals sign.
+// What is before an equals sign.
 fn form_of(word: &str) -> &str
     ensures { result.now ≡ form_of word.now }
 {
@@ -128,7 +128,7 @@ fn name_hint(alloc: Global, form: &str, name: &str) -> Result<String, AllocError
     near_text(alloc, form, nearest(alloc, name, option_rows())?)
 }
 
-// Adds these forms, each behind a space.
+// Adds these forms, each after a space.
 fn push_forms(text: &mut String, forms: &[&'static str]) -> Result<(), AllocError>
     ensures ok { OnOk result (string_bytes text.new ≡ string_bytes text.old ++ forms_text (map (λ form. form.now) forms.now)) }
 {
@@ -208,7 +208,7 @@ fn foreign_with(alloc: Global, form: &str, advice: Option<&str>) -> Result<Strin
     }
 }
 
-// What is said of a form that stands for this one of Wget's.
+// The hint on a form that means this one of Wget's.
 fn foreign_text(alloc: Global, form: &str, whole: &str) -> Result<String, AllocError>
     ensures { IfOk result (λ text. string_bytes text ≡ foreign_text form.now whole.now) }
 {
@@ -225,7 +225,7 @@ fn is_own(form: &str) -> bool
     }
 }
 
-// What is said of a form: nothing where an option has it.
+// The hint on a form: none if an option has it.
 fn form_hint(alloc: Global, form: &str) -> Result<String, AllocError>
     ensures { IfOk result (λ text. string_bytes text ≡ form_hint form.now) }
 {
@@ -281,7 +281,7 @@ fn address_text(alloc: Global, meant: Result<Address, AddressFault>) -> Result<S
     }
 }
 
-// What is said of a start that is no address: it would be one behind `http://`.
+// The hint on a start that is no address: it would be one after `http://`.
 fn scheme_hint(alloc: Global, start: &str) -> Result<String, AllocError>
     ensures { IfOk result (λ text. string_bytes text ≡ scheme_hint start.now) }
 {
@@ -364,14 +364,14 @@ fn header_hint(alloc: Global, words: &[&str]) -> Result<String, AllocError>
     }
 }
 
-// Where an expression goes wrong: so many bytes before it are good.
+// The place at which an expression goes wrong: this many bytes before it are good.
 fn place_hint(alloc: Global, at: usize) -> Result<String, AllocError>
     ensures { IfOk result (λ text. string_bytes text ≡ place_hint at) }
 {
     format!(in alloc; ", at offset {at}")
 }
 
-/// What was likely meant by words that are no order, as ` (did you mean http://h/?)`; empty where nothing is known of it.
+/// What was likely meant by words that are no order, for example ` (did you mean http://h/?)`; empty if nothing is known.
 pub(crate) fn hint_on(alloc: Global, fault: LineFault, words: &[&str]) -> Result<String, AllocError>
     ensures { IfOk result (λ text. string_bytes text ≡ hint_on fault (map (λ word. word.now) words.now)) }
 {

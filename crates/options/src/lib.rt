@@ -1,6 +1,6 @@
-//! The command line of the retriever: words in, an order or the lowest fault out, and what a person is told of it. What words say
-//! is stated in `specs/Said.antt`, what of it counts in `specs/Written.antt`, what an order is in `specs/Order.antt`, what is told
-//! in `specs/Advice.antt` and `specs/Hints.antt`. Its tests stand in `site_tests`.
+//! The command line of the retriever: words in, an order or the lowest fault out, and what a person then reads. What words say
+//! is defined in `specs/Said.antt`, what of it counts in `specs/Written.antt`, what an order is in `specs/Order.antt`, what a
+//! person reads in `specs/Advice.antt` and `specs/Hints.antt`. Its tests are in `site_tests`.
 #![tactic(auto)]
 
 mod advice;
@@ -24,6 +24,7 @@ mod retries;
 mod said;
 mod sought;
 mod start;
+mod summary;
 mod table;
 mod trust;
 mod written;

@@ -28,7 +28,7 @@ fn number<'a>(alloc: Global, name: &'a str, most: u32) -> Arg<'a>
     Arg::new(alloc, name).value_parser(value_parser!(u32).range(1..=i64::from(most)))
 }
 
-// The argument of this name with what stands behind it.
+// The argument of this name with its value.
 fn of_kind<'a>(alloc: Global, name: &'a str, kind: &Kind<&'static str>) -> Arg<'a>
     ensures rule { rule_of result ≡ with_kind (kind_in kind.now) (new_rule name.entry.now) }
     ensures own { result.global ≡ false }
@@ -42,7 +42,7 @@ fn of_kind<'a>(alloc: Global, name: &'a str, kind: &Kind<&'static str>) -> Arg<'
     }
 }
 
-// The argument with its short form, where it has one.
+// The argument with its short form, if it has one.
 fn with_letter<'a>(arg: Arg<'a>, letter: Option<char>) -> Arg<'a>
     ensures rule { rule_of result ≡ with_letter letter (rule_of arg.entry) }
     ensures own { result.global ≡ arg.entry.global }
@@ -60,7 +60,7 @@ fn long_form<'a>(name: &'a str, short: &str) -> Option<&'a str>
     if name == short { None } else { Some(name) }
 }
 
-// The argument with its long form, where it has one.
+// The argument with its long form, if it has one.
 fn with_long<'a>(arg: Arg<'a>, name: Option<&'a str>) -> Arg<'a>
     ensures rule { rule_of result ≡ with_long_form (option_map (λ name. name.now) name.entry) (rule_of arg.entry) }
     ensures own { result.global ≡ arg.entry.global }

@@ -16,7 +16,7 @@ pub(crate) enum Begun<T> {
     Several,
 }
 
-/// The text behind a dash.
+/// The text after a dash.
 pub(crate) fn without_dash(text: &str) -> Option<&str>
     ensures { option_map (λ rest. rest.now) result ≡ without_dash text.now }
 {
@@ -87,7 +87,7 @@ fn beginning(
     Ok(found)
 }
 
-/// The forms of Wget's that begin with a front, or, where there are none, those of our own.
+/// The forms of Wget's that begin with a front or, if there are none, those of our own.
 #[tactic(auto, unfolding(crate::specs::Meant::fronts))]
 pub(crate) fn fronts(alloc: Global, front: &str) -> Result<Vec<&'static str>, AllocError>
     ensures { IfOk result (λ found. map (λ form. form.now) found.items ≡ fronts front.now) }

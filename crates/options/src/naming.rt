@@ -33,7 +33,7 @@ pub(crate) enum Mode {
     Uppercase,
 }
 
-// A mode, as it is written.
+// A mode as it is written.
 #[tactic(auto, unfolding(crate::specs::Naming::read_mode))]
 fn mode_of(text: &str) -> Option<Mode>
     ensures { result ≡ read_mode text.now }
@@ -89,7 +89,7 @@ fn with_modes(modes: &[Mode]) -> CharRules
     chars
 }
 
-// The characters that the options ask for.
+// The characters that the options choose.
 #[tactic(auto, unfolding(crate::specs::Naming::chars_of))]
 fn chars(alloc: Global, matches: &ArgMatches) -> Result<CharRules, LineFault>
     ensures { MatchResult result

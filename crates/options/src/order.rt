@@ -15,27 +15,27 @@ use std::marker::Model;
 /// The most workers of a retrieval.
 pub const MAX_WORKERS: u32 = 64;
 
-/// The workers where their number isn't given.
+/// The number of workers if none is given.
 pub(crate) const DEFAULT_WORKERS: u32 = 4;
 
-/// The requests out to an origin at a time where their number isn't given.
+/// The number of requests at a time to one origin if none is given.
 pub(crate) const DEFAULT_PER_HOST: u32 = 2;
 
-/// The addresses that may be held where their number isn't given.
+/// The number of addresses that may be held if none is given.
 pub(crate) const DEFAULT_MAX_URLS: u32 = 100_000;
 
 /// Where the site is.
 #[derive(Clone, Copy, PartialEq, Eq, Debug)]
 pub enum Source {
-    /// A map of it stands on standard input.
+    /// A map of it is on standard input.
     Map,
-    /// A record of it stands on standard input.
+    /// A record of it is on standard input.
     Recorded,
     /// On the network.
     Live,
 }
 
-/// The folder below which files are put, as `.`.
+/// The folder in which files are put, such as `.`.
 #[derive(Drop)]
 pub struct Prefix {
     path: String,
@@ -60,7 +60,7 @@ impl Prefix {
         })
     }
 
-    /// The path of the folder, as it was given; `.` where it was empty or none was. Takes no memory.
+    /// The path of the folder as it was given; `.` if it was empty or none was. Takes no memory.
     pub fn as_str(&self) -> &str
         ensures { result.now ≡ self.now }
     {
@@ -68,7 +68,7 @@ impl Prefix {
     }
 }
 
-/// A file that an option names, as `site.record`.
+/// A file that an option names, such as `site.record`.
 #[derive(Drop)]
 pub struct FilePath {
     path: String,
@@ -93,7 +93,7 @@ impl FilePath {
         })
     }
 
-    /// The path of the file, as it was given. Takes no memory.
+    /// The path of the file as it was given. Takes no memory.
     pub fn as_str(&self) -> &str
         ensures { result.now ≡ self.now }
     {
@@ -101,7 +101,7 @@ impl FilePath {
     }
 }
 
-/// A file that takes what is told in place of standard output and standard error.
+/// A file that takes what would go to standard output and standard error.
 #[derive(Drop)]
 pub struct Log {
     /// Which file; `-` is standard output.
@@ -127,14 +127,16 @@ pub struct Order {
     pub quota: Option<u64>,
     /// Whether the trace is shown before the report.
     pub trace: bool,
-    /// Whether nothing is told.
+    /// Whether nothing is written to standard output and standard error.
     pub quiet: bool,
-    /// The file that takes what is told.
+    /// The file that takes that text instead.
     pub log: Option<Log>,
     /// The folder below which files are put.
     pub prefix: Prefix,
     /// How files are named.
     pub names: PageNames,
+    /// Whether the links of files lead from file to file.
+    pub converts: bool,
     /// What requests say besides their addresses.
     pub fields: Fields,
     /// How servers are treated.
@@ -145,9 +147,9 @@ pub struct Order {
     pub proxies: Proxies,
     /// Whether the proxy for https may be on another machine.
     pub trusts_proxy: bool,
-    /// The record whose answers aren't asked for again.
+    /// The record whose answers aren't requested again.
     pub resume: Option<FilePath>,
-    /// The record that is written of what was told.
+    /// The record that is written of what was answered.
     pub save: Option<FilePath>,
     pub ghost some_workers: { 0 < workers },
     pub ghost workers_in_range: { workers ≤ MAX_WORKERS },
@@ -267,6 +269,7 @@ impl Order {
             log,
             prefix,
             names,
+            converts,
             fields,
             manner,
             retries,
@@ -287,6 +290,7 @@ impl Order {
             log,
             prefix,
             names,
+            converts,
             fields,
             manner,
             retries,
@@ -313,6 +317,7 @@ impl Order {
             log,
             prefix,
             names,
+            converts,
             fields,
             manner,
             retries,
@@ -333,6 +338,7 @@ impl Order {
             log,
             prefix,
             names,
+            converts,
             fields,
             manner,
             retries,
@@ -343,7 +349,7 @@ impl Order {
         }
     }
 
-    /// The file that takes what is told. Takes no memory.
+    /// The file that takes the text of the run. Takes no memory.
     pub fn into_log(self) -> Option<Log>
         ensures { result ≡ self.log }
     {
@@ -351,7 +357,7 @@ impl Order {
         log
     }
 
-    /// How many connections to a server may stand at a time, where they are kept: as many as there are requests to it.
+    /// How many connections to a server may be open at a time, if they are kept: as many as the requests to it.
     pub fn kept(&self) -> Option<u32>
         ensures { result ≡ kept_of self.now }
     {

@@ -35,7 +35,7 @@ use crate::order::{
 use crate::others::with_others;
 use crate::retries::retries;
 use crate::said::{Saying, sayings};
-use crate::sought::{Sought, read_sought};
+use crate::sought::{Sought, is_type, read_sought};
 use crate::trust::guarded;
 use crate::written::{first_unread, starts, written};
 use address::{Address, AddressFault, Origin};
@@ -74,7 +74,7 @@ struct Settings {
     retries: Retries,
 }
 
-// The folder below which files are put, the records that are resumed and saved, and the file that takes what is told.
+// The folder for the files, the records that are resumed and saved, and the file that takes the text of the run.
 #[derive(Drop)]
 struct Paths {
     prefix: Prefix,
@@ -109,13 +109,13 @@ fn is_plain_value(value: Option<&str>) -> bool
     }
 }
 
-// What is wrong with words that `clap` takes: an encoding of bodies is asked for.
+// What is wrong with words that `clap` takes: an encoding of bodies is asked for, or a kind of expressions that isn't known.
 #[tactic(auto, unfolding(crate::specs::Order::are_good))]
 fn word_fault(matches: &ArgMatches) -> Option<LineFault>
     ensures good { is_none result ≡ are_good (rows_of (found_of matches.now)) }
     ensures refused { IfSome result (λ f. f ≡ words_refused) }
 {
-    if is_plain_value(given(matches, "compression")) {
+    if is_plain_value(given(matches, "compression")) && is_type(given(matches, "regex-type")) {
         None
     } else {
         Some(LineFault::Words(ErrorKind::InvalidValue))
@@ -135,7 +135,7 @@ fn read_counts(matches: &ArgMatches) -> Option<Counts>
     })
 }
 
-// The elements of two options' lists; `bad` where one is bad.
+// The elements of two options' lists; `bad` if one is bad.
 fn read_lists<T: Element>(
     alloc: Global,
     matches: &ArgMatches,
@@ -194,8 +194,8 @@ fn domains(alloc: Global, matches: &ArgMatches) -> Result<Lists<Domain>, LineFau
     )
 }
 
-// The lists and expressions, or the fault of the first that is bad. Here and in `order_of_matches` an exit lets go of what was read by calls, since
-// what it lets go itself is proved anew at each exit.
+// The lists and expressions, or the fault of the first that is bad. Here and in `order_of_matches` an exit drops what was read by explicit calls:
+// an implicit drop is proved anew at each exit.
 fn read_filters(alloc: Global, matches: &ArgMatches) -> Result<Filters, LineFault>
     ensures { MatchResult result
         (λ l. (patterns_of (rows_of (found_of matches.now)) ≡ Some (l.names.given, l.names.excluded))
@@ -281,7 +281,7 @@ pub(crate) fn read_page(alloc: Global, by_proxy: bool, text: &str) -> Result<Add
     page_of(read_typed(alloc, by_proxy, text))
 }
 
-// A start. Https is one where a proxy is given.
+// A start. Https is accepted if a proxy is given.
 fn read_by(alloc: Global, by_proxy: bool, text: &str) -> Result<Address, AddressFault>
     ensures { address.Gives result (read_start by_proxy text.now) }
 {
@@ -466,7 +466,7 @@ fn fault_of(error: &Error) -> LineFault
     }
 }
 
-// What is wrong with words that ask for nothing, whatever `clap` says of them.
+// What is wrong with words that request nothing, whatever `clap` says of them.
 fn unasked(kind: ErrorKind) -> LineFault
     ensures value { result ≡ unasked kind }
     ensures refused { without_kind result ≡ words_refused }
@@ -764,6 +764,7 @@ fn filled(
         log: paths.log,
         prefix: paths.prefix,
         names: naming,
+        converts: is_set(matches, "convert-links"),
         fields,
         manner,
         retries,
@@ -774,7 +775,7 @@ fn filled(
     }
 }
 
-// The limit of the level, or no hop where links aren't followed.
+// The limit of the level, or no hop if links aren't followed.
 fn limit_within(matches: &ArgMatches, level: Limit) -> Limit
     requires { is_in_range level ≡ true }
     ensures value { result ≡ limit_within level (rows_of (found_of matches.now)) }
@@ -820,7 +821,7 @@ fn file(alloc: Global, matches: &ArgMatches, id: &str) -> Result<Option<FilePath
     }
 }
 
-// The file that takes what is told.
+// The file that takes the text of the run.
 #[tactic(auto, unfolding(crate::specs::Order::log_of))]
 fn log(alloc: Global, matches: &ArgMatches) -> Result<Option<Log>, AllocError>
     ensures { IfOk result (λ log. option_map log_by log ≡ log_of (rows_of (found_of matches.now))) }
@@ -861,7 +862,7 @@ fn read_written(alloc: Global, words: &[String]) -> Result<Order, LineFault>
     }
 }
 
-// What is wrong with a word that isn't read, for which `clap` alone gives this kind: of a word that it takes it says that START lacks.
+// What is wrong with a word that isn't read if `clap` alone gives this kind: of a word that it accepts it says that START is missing.
 fn unread_kind(kind: ErrorKind) -> LineFault
     ensures { (without_kind result ≡ words_refused) ⊎ (result ≡ fault.Memory) }
 {
@@ -887,7 +888,7 @@ fn kind_alone(alloc: Global, word: &str) -> Result<ErrorKind, AllocError> {
     Ok(kind_of_words(alloc, words.as_slice()))
 }
 
-// What is wrong with a word that isn't read, or what it asks for.
+// What is wrong with a word that isn't read, or what it requests.
 fn unread_fault(alloc: Global, word: &str) -> LineFault
     ensures { (without_kind result ≡ refusal_of word.now) ⊎ (result ≡ fault.Memory) }
 {
@@ -976,7 +977,7 @@ fn read_said(alloc: Global, said: &[Saying<&str>]) -> Result<Order, LineFault>
 }
 
 /// Reads the words of a command line, without the program's name. Of several faults the lowest is named, in the order of
-/// `LineFault`, want of memory aside. An option may be given several times, and the last counts: words that say the same of each
+/// `LineFault`, except `Memory`. An option may be given several times, and the last counts: words that say the same of each
 /// option last order the same, in whatever order they say it.
 pub fn read_order(alloc: Global, words: &[&str]) -> Result<Order, LineFault>
     ensures answers { AnswersOrder result (order_of (map (λ w. w.now) words.now)) }

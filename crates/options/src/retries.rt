@@ -83,7 +83,7 @@ fn statuses(alloc: Global, matches: &ArgMatches) -> Result<Vec<u16>, LineFault>
     }
 }
 
-// How often a request is made again where it is made so often.
+// How often a request is repeated if it is made this often.
 fn again_of(tries: u32) -> u32
     ensures { result ≡ again_of tries }
 {

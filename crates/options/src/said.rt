@@ -36,7 +36,7 @@ pub(crate) enum Meaning<T> {
     Unknown,
 }
 
-/// What a letter behind a dash means.
+/// What a letter after a dash means.
 #[derive(Clone, Copy)]
 pub(crate) enum Letter<T> {
     /// The option of this name has this value, `on` or `off`, and these letters follow.
@@ -119,7 +119,7 @@ fn held<'a>(meaning: Meaning<&'a str>) -> Meaning<&'a str>
     }
 }
 
-// An option whose value stands beside it, or comes with the next word.
+// An option whose value is beside it, or comes with the next word.
 fn valued<'a>(name: &'a str, value: Option<&'a str>) -> Meaning<&'a str>
     ensures { meaning_in result ≡ valued name.entry.now (option_map (λ value. value.now) value.entry) }
 {
@@ -158,7 +158,7 @@ fn is_switch(kind: &Kind<&'static str>) -> bool
     }
 }
 
-// Whether the one name is the other one behind `no-`.
+// Whether the one name is `no-` and then the other one.
 fn is_no(one: &str, other: &str) -> bool
     ensures { result ≡ is_no one.now other.now }
 {
@@ -214,7 +214,7 @@ fn is_negative(text: &str, row: &Row<&'static str>) -> bool
     !text.is_empty() && after_front("n", row.short) == Some(text)
 }
 
-// What stands behind `-n`: one letter, of an option of two.
+// What is after `-n`: one letter, of an option of two.
 fn negative<'a>(text: &str, rows: &[Row<&'static str>]) -> Meaning<&'a str>
     ensures { meaning_in result ≡ negative text.now (map row_in rows.now) }
 {
@@ -258,7 +258,7 @@ fn commanded<'a>(key: &[u8], value: &'a str, commands: &[Command<&'static str>])
     Meaning::Unknown
 }
 
-// What stands before the first `=`, and what stands behind it if there is one.
+// What is before the first `=`, and what is after it if there is one.
 fn split_value(text: &str) -> (&str, Option<&str>)
     ensures { (result.0.now, option_map (λ value. value.now) result.1) ≡ name_and_value text.entry.now }
 {
@@ -280,7 +280,7 @@ fn command_meaning(alloc: Global, text: &str) -> Result<Meaning<&str>, AllocErro
     Ok(commanded(key.as_slice(), trimmed(value), commands()))
 }
 
-// An option of this name with its value: a command and the letter behind `-n` are other options.
+// An option of this name with its value: a command and the letter after `-n` are other options.
 fn value_meaning<'a>(
     alloc: Global,
     name: &'a str,
@@ -372,7 +372,7 @@ pub(crate) fn letter_in<'a>(letters: &'a str, rows: &[Row<&'static str>]) -> Let
     Letter::Is(Meaning::Unknown)
 }
 
-// Adds what the letters behind a dash say, of this word. Answers how the next is read.
+// Adds what the letters after a dash say, in this word. Returns how the next word is read.
 fn hear_letters<'a>(
     alloc: Global,
     said: &mut Vec<Saying<&'a str>>,
@@ -413,7 +413,7 @@ fn hear_short<'a>(
     }
 }
 
-// Adds what a word says where neither a value is waited for nor the options have ended.
+// Adds what a word says if no value is expected and the options haven't ended.
 fn hear<'a>(
     alloc: Global,
     said: &mut Vec<Saying<&'a str>>,
@@ -431,7 +431,7 @@ fn hear<'a>(
     }
 }
 
-// Adds what a word says, as the words before it have it read.
+// Adds what a word says, read as the words before it require.
 fn hear_in<'a>(
     alloc: Global,
     said: &mut Vec<Saying<&'a str>>,
@@ -456,7 +456,7 @@ fn hear_in<'a>(
     }
 }
 
-// Adds what the end of the words says: an option whose value lacks isn't read.
+// Adds what the end of the words says: an option without its value isn't read.
 fn hear_end<'a>(said: &mut Vec<Saying<&'a str>>, state: State<&'a str>) -> Result<(), AllocError>
     ensures { OnOk result (map saying_in said.new.items ≡ map saying_in said.old.items ++ at_end (state_in state.entry)) }
 {

@@ -4,7 +4,7 @@ ghost use Rattle.clap.specs.Words.{found_of, rows_of};
 ghost use Rattle.expressions.specs.Expressions.{IsFaultOf, read_element};
 ghost use Rattle.options.specs.Asked.{without_kind};
 ghost use Rattle.options.specs.Order.{expressions_of};
-ghost use Rattle.options.specs.Sought.{cased, expressions_by};
+ghost use Rattle.options.specs.Sought.{cased, expressions_by, is_type};
 ghost use Rattle.options.specs.declared.fault.LineFault.TheVariants as fault;
 ghost use Rattle.options.specs.inner.Sought.{IsFaultOfValue};
 
@@ -23,6 +23,16 @@ const ANY_CASE: &str = "(?i)";
 pub(crate) struct Sought {
     pub(crate) accepted: Elements<Expression>,
     pub(crate) rejected: Elements<Expression>,
+}
+
+/// Whether the value is one that `--regex-type` may have.
+pub(crate) fn is_type(value: Option<&str>) -> bool
+    ensures { result ≡ is_type (option_map (λ s. s.now) value.entry) }
+{
+    match value {
+        Some(value) => value == "posix" || value == "pcre",
+        None => true,
+    }
 }
 
 // The text that is read for an expression.

@@ -6,7 +6,7 @@ ghost use Rattle.options.specs.Start.{are_digits, before_fragment, before_path, 
 
 use std::alloc::{AllocError, Global};
 
-// What stands before a path.
+// What is before a path.
 fn before_path(text: &str) -> &str
     ensures { result.now ≡ before_path text.entry.now }
 {
@@ -16,7 +16,7 @@ fn before_path(text: &str) -> &str
     }
 }
 
-// What stands before a query.
+// What is before a query.
 fn before_query(text: &str) -> &str
     ensures { result.now ≡ before_query text.entry.now }
 {
@@ -26,7 +26,7 @@ fn before_query(text: &str) -> &str
     }
 }
 
-// What stands before a fragment.
+// What is before a fragment.
 fn before_fragment(text: &str) -> &str
     ensures { result.now ≡ before_fragment text.entry.now }
 {
@@ -74,7 +74,7 @@ fn lacks_scheme(text: &str) -> bool
     is_bare(before_fragment(before_query(before_path(text))))
 }
 
-/// A START with its scheme, which is `http` where it has none.
+/// A START with its scheme, which is `http` if it has none.
 #[tactic(auto, unfolding(crate::specs::Start::with_scheme))]
 pub fn with_scheme(alloc: Global, text: &str) -> Result<String, AllocError>
     ensures { IfOk result (λ full. string_bytes full ≡ with_scheme text.now) }

@@ -1,4 +1,4 @@
-//! The table of options, a row for each: the command that `clap` reads, the help and what is told of refused words are made
+//! The table of options, a row for each: the command that `clap` reads, the help and the advice on refused words are made
 //! of it; and the forms of Wget's options, among which fronts are read, and the commands of wgetrc (GNU Wget manual, chapters
 //! Invoking and Startup File).
 ghost use Rattle.std.specs.Prelude.{◌≡◌, map};
@@ -8,11 +8,11 @@ ghost use Rattle.options.specs.inner.Table.{command_in, instead_in, row_in};
 use crate::order::{DEFAULT_MAX_URLS, DEFAULT_PER_HOST, DEFAULT_WORKERS, MAX_WORKERS};
 use follow_filters::{MAX_PER_HOST, MAX_URLS};
 
-/// What stands behind an option.
+/// What follows an option.
 pub(crate) enum Kind<T> {
     /// Nothing: the option is on or off.
     Flag,
-    /// Nothing, and what it asks for is so already: it is taken, and its opposite isn't.
+    /// No value, and what it requests is so already: it is accepted, and its opposite isn't.
     Holds,
     /// Nothing: it is the opposite of the option of this name, and the two are one option.
     Opposite(T),
@@ -20,650 +20,572 @@ pub(crate) enum Kind<T> {
     Value(T),
     /// A list of this name in the help: several of them add up, and an empty one clears what was before it.
     List(T),
-    /// A value of this name, and the one that counts where the option isn't given.
+    /// A value of this name, and its default.
     Usual(T, T),
-    /// A whole number from 1 to the first of these, and the one that counts where the option isn't given.
+    /// A whole number from 1 to the first of these, and its default.
     Number(u32, u32),
 }
 
 /// An option. The type of its texts is a parameter, since definitions can cite a constant of such a type, and none with a
 /// reference of its own.
 pub(crate) struct Row<T> {
-    /// Its short form, as `l`, or nothing. One of two letters, as `np`, is the first letter's option with the second as its
-    /// value.
+    /// Its short form, such as `l`, or nothing. One of two letters (`np`) is the first letter's option with the second
+    /// as its value.
     pub short: T,
-    /// The name by which its value is found, and its long form, as `level`; a name that is the short form is no long form.
+    /// The name by which its value is found, and its long form (`level`); a name that is the short form is no long form.
     pub name: T,
     pub kind: Kind<T>,
-    /// What stands above it in the help, where it is the first of a group.
+    /// What is above it in the help, if it is the first of a group.
     pub heading: T,
-    /// What it does, for a person.
-    pub says: T,
 }
 
-/// The options.
-const TABLE: [Row<&str>; 88] = [
+/// The options. What each does is in `summary.rt`: a constant's proof takes time for each pair of a text and a byte in it.
+const TABLE: [Row<&str>; 90] = [
     Row {
         short: "r",
         name: "recursive",
         kind: Kind::Flag,
         heading: "\nWhat is followed:\n",
-        says: "follow links",
     },
     Row {
         short: "l",
         name: "level",
         kind: Kind::Usual("N", "5"),
         heading: "",
-        says: "at most N hops; 0 and inf are no limit",
     },
     Row {
         short: "p",
         name: "page-requisites",
         kind: Kind::Flag,
         heading: "",
-        says: "also what pages show, as pictures and styles",
     },
     Row {
         short: "",
         name: "span-requisites",
         kind: Kind::Flag,
         heading: "",
-        says: "what pages show, from other hosts too",
     },
     Row {
         short: "n",
         name: "n",
         kind: Kind::Value("p"),
         heading: "",
-        says: "",
     },
     Row {
         short: "np",
         name: "no-parent",
         kind: Kind::Flag,
         heading: "",
-        says: "only the directory of START and below",
     },
     Row {
         short: "H",
         name: "span-hosts",
         kind: Kind::Flag,
         heading: "",
-        says: "other hosts too",
     },
     Row {
         short: "D",
         name: "domains",
         kind: Kind::List("LIST"),
         heading: "",
-        says: "only hosts of these domains",
     },
     Row {
         short: "",
         name: "exclude-domains",
         kind: Kind::List("LIST"),
         heading: "",
-        says: "no hosts of these domains",
     },
     Row {
         short: "I",
         name: "include-directories",
         kind: Kind::List("LIST"),
         heading: "",
-        says: "only these directories and what is below",
     },
     Row {
         short: "X",
         name: "exclude-directories",
         kind: Kind::List("LIST"),
         heading: "",
-        says: "not these directories",
     },
     Row {
         short: "A",
         name: "accept",
         kind: Kind::List("LIST"),
         heading: "",
-        says: "only names with these suffixes or patterns",
     },
     Row {
         short: "R",
         name: "reject",
         kind: Kind::List("LIST"),
         heading: "",
-        says: "no names with these suffixes or patterns",
     },
     Row {
         short: "",
         name: "accept-regex",
         kind: Kind::Value("REGEX"),
         heading: "",
-        says: "only addresses in which REGEX is found",
     },
     Row {
         short: "",
         name: "reject-regex",
         kind: Kind::Value("REGEX"),
         heading: "",
-        says: "no addresses in which REGEX is found",
     },
     Row {
         short: "",
         name: "ignore-case",
         kind: Kind::Flag,
         heading: "",
-        says: "letters of all these in either case",
     },
     Row {
         short: "e",
         name: "execute",
         kind: Kind::Value("COMMAND"),
         heading: "\nHow it is asked for:\n",
-        says: "as a line of wgetrc: robots=off, reclevel=2",
     },
     Row {
         short: "",
         name: "no-robots",
         kind: Kind::Flag,
         heading: "",
-        says: "no robots files",
     },
     Row {
         short: "",
         name: "workers",
         kind: Kind::Number(MAX_WORKERS, DEFAULT_WORKERS),
         heading: "",
-        says: "N workers",
     },
     Row {
         short: "",
         name: "per-host",
         kind: Kind::Number(MAX_PER_HOST, DEFAULT_PER_HOST),
         heading: "",
-        says: "N requests at a time to a server",
     },
     Row {
         short: "",
         name: "no-http-keep-alive",
         kind: Kind::Flag,
         heading: "",
-        says: "a connection of its own for each request",
     },
     Row {
         short: "U",
         name: "user-agent",
         kind: Kind::Value("AGENT"),
         heading: "",
-        says: "the name that servers receive; empty for none",
     },
     Row {
         short: "",
         name: "header",
         kind: Kind::List("LINE"),
         heading: "",
-        says: "send this field, as \"Accept-Language: en\"",
     },
     Row {
         short: "",
         name: "referer",
         kind: Kind::Value("URL"),
         heading: "",
-        says: "send it as the page that led here",
     },
     Row {
         short: "",
         name: "no-cache",
         kind: Kind::Flag,
         heading: "",
-        says: "no answers that caches kept",
     },
     Row {
         short: "",
         name: "user",
         kind: Kind::Value("USER"),
         heading: "",
-        says: "the user name for the servers of STARTs",
     },
     Row {
         short: "",
         name: "password",
         kind: Kind::Value("PASSWORD"),
         heading: "",
-        says: "its password",
     },
     Row {
         short: "",
         name: "http-user",
         kind: Kind::Value("USER"),
         heading: "",
-        says: "likewise, before --user",
     },
     Row {
         short: "",
         name: "http-password",
         kind: Kind::Value("PASSWORD"),
         heading: "",
-        says: "likewise, before --password",
     },
     Row {
         short: "",
         name: "auth-no-challenge",
         kind: Kind::Flag,
         heading: "",
-        says: "send both with each request to these servers",
     },
     Row {
         short: "",
         name: "load-cookies",
         kind: Kind::Value("FILE"),
         heading: "",
-        says: "send the cookies of FILE to the hosts in it",
     },
     Row {
         short: "w",
         name: "wait",
         kind: Kind::Value("S"),
         heading: "",
-        says: "S seconds between requests; 2m, 3h and 1d too",
     },
     Row {
         short: "",
         name: "random-wait",
         kind: Kind::Flag,
         heading: "",
-        says: "that pause varies, from S/2 to 3S/2",
     },
     Row {
         short: "",
         name: "crawl-delay",
         kind: Kind::Flag,
         heading: "",
-        says: "pause as robots files ask, 60 s at most",
     },
     Row {
         short: "t",
         name: "tries",
         kind: Kind::Usual("N", "1"),
         heading: "",
-        says: "up to N requests; 0 and inf are no limit",
     },
     Row {
         short: "",
         name: "waitretry",
         kind: Kind::Usual("S", "10"),
         heading: "",
-        says: "pause 1, 2, .. S seconds before that",
     },
     Row {
         short: "",
         name: "retry-connrefused",
         kind: Kind::Flag,
         heading: "",
-        says: "also after refused connections",
     },
     Row {
         short: "",
         name: "retry-on-host-error",
         kind: Kind::Flag,
         heading: "",
-        says: "also after unknown hosts",
     },
     Row {
         short: "",
         name: "retry-on-http-error",
         kind: Kind::List("LIST"),
         heading: "",
-        says: "also after these statuses",
     },
     Row {
         short: "T",
         name: "timeout",
         kind: Kind::Value("S"),
         heading: "",
-        says: "S to connect and for each read; 0 is no limit",
     },
     Row {
         short: "",
         name: "connect-timeout",
         kind: Kind::Value("S"),
         heading: "",
-        says: "S to connect",
     },
     Row {
         short: "",
         name: "read-timeout",
         kind: Kind::Usual("S", "900"),
         heading: "",
-        says: "S until a server sends more",
     },
     Row {
         short: "",
         name: "answer-timeout",
         kind: Kind::Value("S"),
         heading: "",
-        says: "S for a whole answer",
     },
     Row {
         short: "",
         name: "max-body",
         kind: Kind::Usual("BYTES", "1024g"),
         heading: "",
-        says: "at most BYTES of a page; 5k, 5m, 5g",
     },
     Row {
         short: "",
         name: "limit-rate",
         kind: Kind::Value("R"),
         heading: "",
-        says: "read R bytes a second at most; 20k, 1.5m",
     },
     Row {
         short: "Q",
         name: "quota",
         kind: Kind::Value("N"),
         heading: "",
-        says: "request nothing after N bytes of bodies",
     },
     Row {
         short: "4",
         name: "inet4-only",
         kind: Kind::Flag,
         heading: "",
-        says: "only IPv4 addresses of hosts",
     },
     Row {
         short: "6",
         name: "inet6-only",
         kind: Kind::Flag,
         heading: "",
-        says: "only IPv6 addresses of hosts",
     },
     Row {
         short: "",
         name: "https-proxy",
         kind: Kind::Value("URL"),
         heading: "",
-        says: "https by a proxy, as http://127.0.0.1:3128/",
     },
     Row {
         short: "",
         name: "trust-proxy",
         kind: Kind::Flag,
         heading: "",
-        says: "https also by a proxy on another machine",
     },
     Row {
         short: "",
         name: "http-proxy",
         kind: Kind::Value("URL"),
         heading: "",
-        says: "http by a proxy, which may be anywhere",
     },
     Row {
         short: "",
         name: "without-proxy",
         kind: Kind::List("LIST"),
         heading: "",
-        says: "hosts with these suffixes by no proxy",
     },
     Row {
         short: "",
         name: "no-proxy",
         kind: Kind::Flag,
         heading: "",
-        says: "no proxy, whatever words and environment say",
     },
     Row {
         short: "",
         name: "max-urls",
         kind: Kind::Number(MAX_URLS, DEFAULT_MAX_URLS),
         heading: "",
-        says: "at most N addresses",
     },
     Row {
         short: "",
         name: "map",
         kind: Kind::Flag,
         heading: "\nWhere the site is:\n",
-        says: "the site is a map on standard input",
     },
     Row {
         short: "",
         name: "record",
         kind: Kind::Flag,
         heading: "",
-        says: "the site is a record on standard input",
     },
     Row {
         short: "",
         name: "resume",
         kind: Kind::Value("FILE"),
         heading: "",
-        says: "what this record has isn't asked for again",
     },
     Row {
         short: "i",
         name: "input-file",
         kind: Kind::Value("FILE"),
         heading: "",
-        says: "also the STARTs in FILE, a line each",
     },
     Row {
         short: "F",
         name: "force-html",
         kind: Kind::Flag,
         heading: "",
-        says: "the FILE of -i is HTML: its links are STARTs",
     },
     Row {
         short: "B",
         name: "base",
         kind: Kind::Value("URL"),
         heading: "",
-        says: "what the FILE of -i has is relative to URL",
     },
     Row {
         short: "P",
         name: "directory-prefix",
         kind: Kind::Usual("DIR", "."),
         heading: "\nWhat becomes of it:\n",
-        says: "put files below DIR",
     },
     Row {
         short: "nd",
         name: "no-directories",
         kind: Kind::Flag,
         heading: "",
-        says: "all files in DIR itself",
     },
     Row {
         short: "x",
         name: "force-directories",
         kind: Kind::Opposite("no-directories"),
         heading: "",
-        says: "a folder for each directory, without -nd",
     },
     Row {
         short: "nH",
         name: "no-host-directories",
         kind: Kind::Flag,
         heading: "",
-        says: "no folder for the host",
     },
     Row {
         short: "",
         name: "protocol-directories",
         kind: Kind::Flag,
         heading: "",
-        says: "a folder for the scheme, as http",
     },
     Row {
         short: "",
         name: "cut-dirs",
         kind: Kind::Usual("N", "0"),
         heading: "",
-        says: "leave out N directories of the path",
     },
     Row {
         short: "",
         name: "default-page",
         kind: Kind::Usual("NAME", "index.html"),
         heading: "",
-        says: "a page without a name is NAME",
     },
     Row {
         short: "E",
         name: "adjust-extension",
         kind: Kind::Flag,
         heading: "",
-        says: "HTML ends in .html, style sheets in .css",
     },
     Row {
         short: "",
         name: "html-extension",
         kind: Kind::Flag,
         heading: "",
-        says: "the same, by its older name",
     },
     Row {
         short: "",
         name: "restrict-file-names",
         kind: Kind::List("MODES"),
         heading: "",
-        says: "unix, windows, ascii, lowercase, uppercase",
+    },
+    Row {
+        short: "k",
+        name: "convert-links",
+        kind: Kind::Flag,
+        heading: "",
     },
     Row {
         short: "q",
         name: "quiet",
         kind: Kind::Flag,
         heading: "",
-        says: "tell nothing, except of refused words",
     },
     Row {
         short: "o",
         name: "output-file",
         kind: Kind::Value("FILE"),
         heading: "",
-        says: "write report and failures into FILE",
     },
     Row {
         short: "a",
         name: "append-output",
         kind: Kind::Value("FILE"),
         heading: "",
-        says: "likewise, after what FILE has",
     },
     Row {
         short: "",
         name: "trace",
         kind: Kind::Flag,
         heading: "",
-        says: "the trace before the report",
     },
     Row {
         short: "",
         name: "save",
         kind: Kind::Value("FILE"),
         heading: "",
-        says: "write what the site answered into this record",
     },
     Row {
         short: "nv",
         name: "no-verbose",
         kind: Kind::Holds,
         heading: "\nTaken, since it is so already:\n",
-        says: "a line for each file",
     },
     Row {
         short: "",
         name: "no-cookies",
         kind: Kind::Holds,
         heading: "",
-        says: "no cookies",
     },
     Row {
         short: "",
         name: "no-hsts",
         kind: Kind::Holds,
         heading: "",
-        says: "no list of hosts that want https",
     },
     Row {
         short: "",
         name: "no-config",
         kind: Kind::Holds,
         heading: "",
-        says: "no start-up files",
     },
     Row {
         short: "",
         name: "no-netrc",
         kind: Kind::Holds,
         heading: "",
-        says: "no passwords of .netrc",
     },
     Row {
         short: "",
         name: "unlink",
         kind: Kind::Holds,
         heading: "",
-        says: "a new file takes the place of an old one",
     },
     Row {
         short: "",
         name: "no-remove-listing",
         kind: Kind::Holds,
         heading: "",
-        says: "no listing of FTP is removed",
     },
     Row {
         short: "",
         name: "show-progress",
         kind: Kind::Holds,
         heading: "",
-        says: "a line of progress, on a terminal",
     },
     Row {
         short: "",
         name: "no-xattr",
         kind: Kind::Holds,
         heading: "",
-        says: "no attributes of files",
     },
     Row {
         short: "",
         name: "no-strict-comments",
         kind: Kind::Holds,
         heading: "",
-        says: "comments as browsers read them",
     },
     Row {
         short: "",
         name: "no-follow-ftp",
         kind: Kind::Holds,
         heading: "",
-        says: "no links to FTP",
     },
     Row {
         short: "",
         name: "progress",
         kind: Kind::Value("TYPE"),
         heading: "",
-        says: "of whatever type, as it is shown",
     },
     Row {
         short: "",
         name: "compression",
         kind: Kind::Value("none"),
         heading: "",
-        says: "bodies are asked for as they are",
+    },
+    Row {
+        short: "",
+        name: "regex-type",
+        kind: Kind::Value("TYPE"),
+        heading: "",
     },
 ];
 
 const ROWS: &[Row<&str>] = &TABLE;
 
-/// The options. The constant stands here alone, since what names it is proved with each of its rows.
+/// The options. Nothing else names the constant, since what names it is proved with each of its rows.
 pub(crate) fn option_rows() -> &'static [Row<&'static str>]
     ensures { map row_in result.now ≡ table }
 {
@@ -671,8 +593,8 @@ pub(crate) fn option_rows() -> &'static [Row<&'static str>]
 }
 
 /// The forms of Wget's options: all long ones, in the order of their letters, and the short ones that aren't among the options
-/// above. One of two letters is the first letter's, as `nc`.
-const WGET: [&str; 255] = [
+/// above. One of two letters is the first letter's, such as `nc`.
+const WGET: [&str; 250] = [
     "--accept",
     "--accept-regex",
     "--adjust-extension",
@@ -915,16 +837,11 @@ const WGET: [&str; 255] = [
     "-b",
     "-d",
     "-v",
-    "-i",
-    "-F",
-    "-B",
     "-O",
     "-nc",
     "-c",
     "-N",
     "-S",
-    "-E",
-    "-k",
     "-K",
     "-m",
     "-L",
@@ -939,7 +856,7 @@ pub(crate) fn wget_forms() -> &'static [&'static str]
     WGETS
 }
 
-/// What to do in place of an option of Wget that isn't here. The type of its texts is a parameter, as that of a row's.
+/// What to do instead of an option of Wget that isn't here. The type of its texts is a parameter, like that of a row's.
 pub(crate) struct Instead<T> {
     /// The option's form, one of those above.
     pub form: T,
@@ -1218,12 +1135,12 @@ const INSTEAD: [Instead<&str>; 73] = [
         advice: "--save FILE writes what is received, docs/RECORDS.md",
     },
     Instead {
-        form: "--convert-links",
-        advice: "links stay as they are; a web server over the folder finds them",
+        form: "--backup-converted",
+        advice: "leave it out: a run without -k writes pages as they came",
     },
     Instead {
-        form: "-k",
-        advice: "links stay as they are; a web server over the folder finds them",
+        form: "-K",
+        advice: "leave it out: a run without -k writes pages as they came",
     },
     Instead {
         form: "--mirror",
@@ -1289,7 +1206,7 @@ pub(crate) fn own_forms() -> &'static [&'static str]
     OWNS
 }
 
-/// A command of wgetrc. The type of its texts is a parameter, as that of a row's.
+/// A command of wgetrc. The type of its texts is a parameter, like that of a row's.
 pub(crate) struct Command<T> {
     /// Its name in small letters, without `-` and `_`.
     pub name: T,
@@ -1298,7 +1215,7 @@ pub(crate) struct Command<T> {
 }
 
 /// The commands of wgetrc whose options are here.
-const COMMANDS: [Command<&str>; 71] = [
+const COMMANDS: [Command<&str>; 73] = [
     Command {
         name: "accept",
         option: "accept",
@@ -1334,6 +1251,10 @@ const COMMANDS: [Command<&str>; 71] = [
     Command {
         name: "connecttimeout",
         option: "connect-timeout",
+    },
+    Command {
+        name: "convertlinks",
+        option: "convert-links",
     },
     Command {
         name: "cookies",
@@ -1498,6 +1419,10 @@ const COMMANDS: [Command<&str>; 71] = [
     Command {
         name: "referer",
         option: "referer",
+    },
+    Command {
+        name: "regextype",
+        option: "regex-type",
     },
     Command {
         name: "reject",

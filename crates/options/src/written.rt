@@ -27,7 +27,7 @@ fn joint(name: &str) -> &'static str
     if name == "header" { "\0" } else { "," }
 }
 
-// A value behind an earlier one of an option whose values add up, joined by this, or don't.
+// A value after an earlier one, of an option whose values add up, joined by this, or don't.
 fn added(
     alloc: Global,
     between: &str,

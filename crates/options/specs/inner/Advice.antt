@@ -3,7 +3,7 @@ use Rattle.options.specs.declared.advice.Advice.{Advice}
 use Rattle.options.specs.declared.advice.Advice.TheVariants as advice
 use Rattle.options.specs.Advice.{Told, Help, Version, Correction}
 
--- what an advice tells
+-- what an advice contains
 abbrev pub told_by : Advice → Told
 told_by advice.Help = Help
 told_by advice.Version = Version

@@ -6,7 +6,7 @@ use Rattle.clap.specs.Walk.{Rule, Text}
 abbrev pub long_form : Text → Text → Option Text
 long_form name short = if bytes_eq name short then None else Some name
 
--- the rule with a long form, where there is one
+-- the rule with a long form, if there is one
 abbrev pub with_long_form : Option Text → Rule → Rule
 with_long_form None rule = rule
 with_long_form (Some name) rule = record rule { long = Some name }

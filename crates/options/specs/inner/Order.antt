@@ -58,11 +58,11 @@ filtered found next =
 abbrev pub FailsToFilter : List Row → LineFault → Type 0
 FailsToFilter found why = (next : Both → Both → Both → Both → Result Ordered LineFault) → filtered found next ≡ Err (without_kind why)
 
--- what is wrong with words that ask for nothing
+-- what is wrong with words that request nothing
 abbrev pub unasked : ErrorKind → LineFault
 unasked kind = if is_asking kind then words_refused else fault.Words kind
 
--- memory ran out, or the kind of what is wrong with words that ask for nothing
+-- memory ran out, or the kind of what is wrong with words that request nothing
 abbrev pub fault_of_kind : ErrorKind → LineFault
 fault_of_kind OutOfMemory = fault.Memory
 fault_of_kind kind = unasked kind

@@ -1,4 +1,4 @@
--- The letters that are left ask for what all do.
+-- The letters that are left request what all do.
 use Rattle.std.proofs.Common.{◌≡◌, length}
 use Rattle.std.specs.Str.{IsUtf8}
 use Rattle.options.specs.Asked.{wish_in}

@@ -1,4 +1,4 @@
--- The forms and what stands behind the option are set one after another.
+-- The forms and the option's value are set one after another.
 use Rattle.std.proofs.Common.{◌∙◌, ap}
 use Rattle.clap.specs.Words.{rule_of}
 use Rattle.options.specs.Line.{letter_of, with_letter}

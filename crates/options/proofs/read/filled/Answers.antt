@@ -17,6 +17,7 @@ returns c = rw (
   c.is_set-7.ensures,
   c.is_set-8.ensures,
   c.is_set-9.ensures,
+  c.is_set-10.ensures,
   c.requires.prefix,
   c.requires.resume,
   c.requires.save,

@@ -1,4 +1,4 @@
--- What the letters that are left say is said behind what was said.
+-- What the letters that are left say is said after what was said.
 use Rattle.std.proofs.Common.{◌≡◌, ◌++◌, length, map}
 use Rattle.std.specs.Str.{IsUtf8}
 use Rattle.options.specs.Said.{heard_letters}

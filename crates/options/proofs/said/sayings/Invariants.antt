@@ -1,4 +1,4 @@
--- What the words that are left say is said behind what was said.
+-- What the words that are left say is said after what was said.
 use Rattle.std.proofs.Common.{◌≡◌, ◌++◌, drop, map}
 use Rattle.options.specs.Said.{said_from, sayings}
 use Rattle.options.specs.inner.Said.{saying_in, state_in}

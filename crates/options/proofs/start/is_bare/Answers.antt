@@ -1,4 +1,4 @@
--- A colon stands before the port, or there is none.
+-- A colon is before the port, or there is none.
 use Rattle.std.proofs.Common.{Some, None, arith, ap, refl, sym, ◌∙◌, not}
 use Rattle.std.proofs.lemmas.Str.Pattern.{split_parts}
 use Rattle.clap.proofs.CutLemmas.{after_first-at, before_first-at, list_any-Lacks, list_any-at}
