@@ -59,7 +59,7 @@ forms : map forms_of table ≡ (codes "r", codes "recursive", None) ∷ (codes "
     ∷ (codes "x", codes "force-directories", None) ∷ (codes "nH", codes "no-host-directories", None) ∷ ([], codes "protocol-directories", None)
     ∷ ([], codes "cut-dirs", Some (codes "N")) ∷ ([], codes "default-page", Some (codes "NAME")) ∷ (codes "E", codes "adjust-extension", None)
     ∷ ([], codes "html-extension", None) ∷ ([], codes "restrict-file-names", Some (codes "MODES")) ∷ (codes "k", codes "convert-links", None) ∷ (codes "q", codes "quiet", None)
-    ∷ (codes "o", codes "output-file", Some (codes "FILE")) ∷ (codes "a", codes "append-output", Some (codes "FILE")) ∷ ([], codes "trace", None)
+    ∷ (codes "o", codes "output-file", Some (codes "FILE")) ∷ (codes "a", codes "append-output", Some (codes "FILE")) ∷ ([], codes "rejected-log", Some (codes "FILE")) ∷ ([], codes "trace", None)
     ∷ ([], codes "save", Some (codes "FILE")) ∷ (codes "nv", codes "no-verbose", None) ∷ ([], codes "no-cookies", None) ∷ ([], codes "no-hsts", None)
     ∷ ([], codes "no-config", None) ∷ ([], codes "no-netrc", None) ∷ ([], codes "unlink", None) ∷ ([], codes "no-remove-listing", None)
     ∷ ([], codes "show-progress", None) ∷ ([], codes "no-xattr", None) ∷ ([], codes "no-strict-comments", None) ∷ ([], codes "no-follow-ftp", None)

@@ -93,6 +93,7 @@ pub record Ordered : Type 0 where
   pub trusts : Bool
   pub resume : Option Text
   pub save : Option Text
+  pub rejected_log : Option Text
 
 -- the value that was found, or the fault, and what follows from it
 abbrev pub found_or : {X Y : Type 0} → Option X → LineFault → (X → Result Y LineFault) → Result Y LineFault
@@ -334,6 +335,7 @@ ordered found counts proxies names fields manner retries level patterns director
   trusts = is_set (codes "trust-proxy") found;
   resume = first_of (codes "resume") found;
   save = first_of (codes "save") found;
+  rejected_log = first_of (codes "rejected-log") found;
 }
 
 -- what the options order, or the lowest fault
@@ -489,6 +491,7 @@ ordered_by order = record {
   trusts = order.trusts_proxy;
   resume = order.resume;
   save = order.save;
+  rejected_log = order.rejected_log;
 }
 
 -- how many connections to a server may be open at a time, if they are kept

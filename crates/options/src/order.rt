@@ -151,6 +151,8 @@ pub struct Order {
     pub resume: Option<FilePath>,
     /// The record that is written of what was answered.
     pub save: Option<FilePath>,
+    /// The file that takes the log of the links that filters reject.
+    pub rejected_log: Option<FilePath>,
     pub ghost some_workers: { 0 < workers },
     pub ghost workers_in_range: { workers ≤ MAX_WORKERS },
 }
@@ -277,6 +279,7 @@ impl Order {
             trusts_proxy,
             resume,
             save,
+            rejected_log,
         } = self;
         Order {
             plan: with_starts(plan, others),
@@ -298,6 +301,7 @@ impl Order {
             trusts_proxy,
             resume,
             save,
+            rejected_log,
         }
     }
 
@@ -325,6 +329,7 @@ impl Order {
             trusts_proxy,
             resume,
             save,
+            rejected_log,
         } = self;
         Order {
             plan,
@@ -346,6 +351,7 @@ impl Order {
             trusts_proxy,
             resume,
             save,
+            rejected_log,
         }
     }
 

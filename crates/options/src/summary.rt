@@ -13,7 +13,7 @@ pub(crate) struct Summary<T> {
 }
 
 // An option that isn't here isn't in the help.
-const SUMMARY: [Summary<&str>; 89] = [
+const SUMMARY: [Summary<&str>; 90] = [
     Summary {
         name: "recursive",
         says: "follow links",
@@ -305,6 +305,10 @@ const SUMMARY: [Summary<&str>; 89] = [
     Summary {
         name: "append-output",
         says: "likewise, after what FILE has",
+    },
+    Summary {
+        name: "rejected-log",
+        says: "write links that filters reject into FILE",
     },
     Summary {
         name: "trace",

@@ -40,7 +40,7 @@ pub(crate) struct Row<T> {
 }
 
 /// The options. What each does is in `summary.rt`: a constant's proof takes time for each pair of a text and a byte in it.
-const TABLE: [Row<&str>; 90] = [
+const TABLE: [Row<&str>; 91] = [
     Row {
         short: "r",
         name: "recursive",
@@ -482,6 +482,12 @@ const TABLE: [Row<&str>; 90] = [
     Row {
         short: "a",
         name: "append-output",
+        kind: Kind::Value("FILE"),
+        heading: "",
+    },
+    Row {
+        short: "",
+        name: "rejected-log",
         kind: Kind::Value("FILE"),
         heading: "",
     },
@@ -1215,7 +1221,7 @@ pub(crate) struct Command<T> {
 }
 
 /// The commands of wgetrc whose options are here.
-const COMMANDS: [Command<&str>; 73] = [
+const COMMANDS: [Command<&str>; 74] = [
     Command {
         name: "accept",
         option: "accept",
@@ -1427,6 +1433,10 @@ const COMMANDS: [Command<&str>; 73] = [
     Command {
         name: "reject",
         option: "reject",
+    },
+    Command {
+        name: "rejectedlog",
+        option: "rejected-log",
     },
     Command {
         name: "rejectregex",

@@ -22,5 +22,6 @@ returns c = rw (
   c.requires.resume,
   c.requires.save,
   c.requires.log,
+  c.requires.rejected,
   c.new.ensures.items,
 ) refl
