@@ -4,6 +4,7 @@ use crate::disk::{Disk, Saved};
 use crate::early_run::EarlyRun;
 use crate::part_threads::PartThreads;
 use crate::parts_asking::PartsAsking;
+use crate::rejected_file::RejectedFile;
 use crate::shared_failures::SharedFailures;
 use early_names::EarlyRules;
 use live_system::{FetcherSettings, HoldFault, System};
@@ -36,6 +37,7 @@ pub struct Network<'a, R: Net + Wait + Files + Clock + Eprint> {
     parts: &'a PartsDir<R::File>,
     early: &'a EarlyRun,
     failures: &'a SharedFailures,
+    rejected: &'a RejectedFile<R::File>,
     jar: Option<Jar>,
 }
 
@@ -44,7 +46,7 @@ impl<'a, R: Net + Wait + Files + Clock + Eprint> Network<'a, R> {
     ghost use Rattle.response_reader.specs.Limits.{limits_of};
 
     /// By this handle, with what the run knows of hosts and keeps of connections, the line that counts them, where it saves, what
-    /// writes bodies that are in memory, the directory of the others and the names that they get early, what keeps why something failed, and cookies of a file. Takes
+    /// writes bodies that are in memory, the directory of the others and the names that they get early, what keeps why something failed, the file of the log of rejected links, and cookies of a file. Takes
     /// no memory.
     pub fn new(
         rt: &'a R,
@@ -57,6 +59,7 @@ impl<'a, R: Net + Wait + Files + Clock + Eprint> Network<'a, R> {
         parts: &'a PartsDir<R::File>,
         early: &'a EarlyRun,
         failures: &'a SharedFailures,
+        rejected: &'a RejectedFile<R::File>,
         jar: Option<Jar>,
     ) -> Network<'a, R> {
         Network {
@@ -70,6 +73,7 @@ impl<'a, R: Net + Wait + Files + Clock + Eprint> Network<'a, R> {
             parts,
             early,
             failures,
+            rejected,
             jar,
         }
     }
@@ -198,6 +202,10 @@ where
 
     fn tell(&self, text: &str) {
         self.failures.say(self.rt, text);
+    }
+
+    fn take_rejected(&self, log: Result<&str, AllocError>) {
+        self.rejected.take(self.rt, self.failures, log);
     }
 
     fn waiting(&self) -> Option<&AtomicUsize> {

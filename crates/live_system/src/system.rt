@@ -124,6 +124,9 @@ pub trait System {
     /// Tells a person this when the run has ended: lines, each with its end, or nothing.
     fn tell(&self, _text: &str) {}
 
+    /// Takes the log of the links that a filter rejected, whole, or that there was no memory for it. It is for the file that the words name.
+    fn take_rejected(&self, _log: Result<&str, AllocError>) {}
+
     /// Where the run notes how many addresses wait, for who looks on.
     fn waiting(&self) -> Option<&AtomicUsize> {
         None

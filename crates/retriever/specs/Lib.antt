@@ -7,6 +7,7 @@ pub mod Parts
 pub mod InputFound
 pub mod Advice
 pub mod Telling
+pub mod Rejecting
 pub mod Lists
 pub mod Cookies
 pub mod Program

@@ -9,3 +9,8 @@ use Rattle.options.specs.declared.fault.LineFault.{LineFault}
 abbrev pub telling_by : List (List ℕ) → Result Ordered LineFault → Bool × Option (List ℕ × Bool)
 telling_by words (Ok ordered) = (ordered.quiet, ordered.log)
 telling_by words (Err why) = (are_quiet words, None)
+
+-- the path of the file that takes the log of rejected links, if it is ordered
+abbrev pub rejected_by : Result Ordered LineFault → Option (List ℕ)
+rejected_by (Ok ordered) = ordered.rejected_log
+rejected_by (Err why) = None

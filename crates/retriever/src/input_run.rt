@@ -13,7 +13,9 @@ ghost use Rattle.retriever.specs.Run.{Runs};
 
 use crate::copies::{Copied, copies_of};
 use crate::fault::{Fault, fault_text};
+use crate::rejected::{hand_over, log_of};
 use crate::told::{Output, told_of};
+use live_system::System;
 use options::{Order, Source, read_order};
 use site_maps::MapSite;
 use site_records::RecordedSite;
@@ -66,7 +68,8 @@ fn retrieve<H: Threads + Wait + Sync, F: Copied>(
     );
     // They are dropped before a report is made.
     drop(copies);
-    let told = told_of(alloc, &order.names, order.trace, &retrieved);
+    let rejected = log_of(alloc, order, &retrieved);
+    let told = told_of(alloc, &order.names, order.trace, &retrieved, rejected);
     drop(retrieved);
     told
 }
@@ -167,6 +170,34 @@ pub fn run_of_order<H: Threads + Wait + Sync, R: Read, W: Write>(
 {
     match output_of(rt, alloc, order, reader) {
         Ok(output) => deliver(writer, output.text.as_bytes(), output.status),
+        Err(fault) => refuse(alloc, fault, writer),
+    }
+}
+
+/// Runs by an order likewise, and hands the log of rejected links to the system, if the order names a file for it.
+pub(crate) fn run_and_hand_over<H: Threads + Wait + Sync, S: System, R: Read, W: Write>(
+    rt: &H,
+    alloc: Global,
+    system: &S,
+    order: &Order,
+    reader: &mut R,
+    writer: &mut W,
+) -> u8
+    ensures runs { (words : List (List ℕ)) → order_of words ≡ Ok (ordered_by order.now)
+        → Runs words (R.remaining reader.old) (W.contents writer.old) (W.contents writer.new) result }
+    ensures unread { order.now.source ≡ Source.Live → reader.new ≡ reader.old }
+{
+    match output_of(rt, alloc, order, reader) {
+        Ok(output) => {
+            let Output {
+                text,
+                status,
+                rejected,
+            } = output;
+            let status = deliver(writer, text.as_bytes(), status);
+            hand_over(system, rejected);
+            status
+        }
         Err(fault) => refuse(alloc, fault, writer),
     }
 }

@@ -13,6 +13,7 @@ use crate::input_run::{MAX_INPUT, deliver};
 use crate::live_run::live_shown;
 use crate::moves::tell_moves;
 use crate::quota::tell_quota;
+use crate::rejected::{hand_over, log_of};
 use crate::resume_fault::{ResumeFault, resume_status, resume_text};
 use crate::saved_run::{live_saved, resuming};
 use early_names::EarlyRules;
@@ -116,6 +117,7 @@ where
     let (status, retrieved) = live_shown(rt, alloc, order, fetchers, folder, writer, waiting);
     tell_moves(alloc, system, &retrieved);
     tell_quota(system, &retrieved);
+    hand_over(system, log_of(alloc, order, &retrieved));
     keep_to_the_end(retrieved);
     status
 }
@@ -207,6 +209,7 @@ fn live_saving<H: Threads + Wait + Sync, S: System, W: Write>(
     );
     tell_moves(alloc, system, &retrieved);
     tell_quota(system, &retrieved);
+    hand_over(system, log_of(alloc, order, &retrieved));
     keep_to_the_end(retrieved);
     Ok(status)
 }

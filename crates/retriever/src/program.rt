@@ -13,7 +13,7 @@ ghost use Rattle.retriever.specs.Systems.{means};
 ghost use Rattle.streams.specs.Streams.{AppendsFront};
 
 use crate::fault::{Fault, fault_text};
-use crate::input_run::{deliver, refuse, run_of_order};
+use crate::input_run::{deliver, refuse, run_and_hand_over};
 use crate::live_order::live_order;
 use live_system::System;
 use options::{Order, Source, advice_text, no_text_advice, read_order};
@@ -143,8 +143,8 @@ fn run_order<H: Threads + Wait + Sync, S: System, R: Read, W: Write>(
 {
     match order.source {
         Source::Live => live_order(rt, alloc, system, order, writer),
-        Source::Map => run_of_order(rt, alloc, order, reader, writer),
-        Source::Recorded => run_of_order(rt, alloc, order, reader, writer),
+        Source::Map => run_and_hand_over(rt, alloc, system, order, reader, writer),
+        Source::Recorded => run_and_hand_over(rt, alloc, system, order, reader, writer),
     }
 }
 

@@ -26,6 +26,8 @@ use workers::{Halt, Harvest};
 pub(crate) struct Output {
     pub(crate) text: String,
     pub(crate) status: u8,
+    /// The log of the links that a filter rejected, if the order names a file for it.
+    pub(crate) rejected: Option<Result<String, AllocError>>,
 }
 
 /// The names of a harvest's kept pages, and the text that tells of it.
@@ -129,12 +131,13 @@ pub(crate) fn halt_text<B: Drop>(
     Ok(text)
 }
 
-/// What is told of what was retrieved, whose kept pages have their names by these rules.
+/// What is told of what was retrieved, whose kept pages have their names by these rules, beside this log of rejected links.
 pub(crate) fn told_of(
     alloc: Global,
     naming: &PageNames,
     is_shown: bool,
     retrieved: &Result<Harvest<Body>, Halt<Body>>,
+    rejected: Option<Result<String, AllocError>>,
 ) -> Result<Output, AllocError>
     ensures { IfOk result (λ output. IsRetrievalTold naming.now is_shown retrieved.now (string_bytes output.text) output.status) }
 {
@@ -142,11 +145,19 @@ pub(crate) fn told_of(
         Ok(harvest) => {
             let Telling { names: _, text } = telling_of(alloc, naming, is_shown, harvest)?;
             let status = exit_status(harvest);
-            Ok(Output { text, status })
+            Ok(Output {
+                text,
+                status,
+                rejected,
+            })
         }
         Err(halt) => {
             let text = halt_text(alloc, is_shown, halt)?;
-            Ok(Output { text, status: 1 })
+            Ok(Output {
+                text,
+                status: 1,
+                rejected,
+            })
         }
     }
 }
