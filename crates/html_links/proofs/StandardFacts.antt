@@ -10,7 +10,8 @@ use Rattle.html_links.specs.Contexts.{outermost, broken, left}
 use Rattle.html_links.specs.declared.context.Syntax.{Syntax}
 use Rattle.html_links.specs.declared.context.Syntax.TheVariants as syntax
 use Rattle.html_links.specs.Markup.{is_raw, start_tags}
-use Rattle.html_links.specs.References.{Reference, reference_at, referenced}
+use Rattle.html_links.specs.Names.{rows_of}
+use Rattle.html_links.specs.References.{Reference, reference_at, named_reference, referenced}
 use Rattle.html_links.specs.Asked.{is_styling}
 use Rattle.html_links.specs.Links.{Row, link_table, styling, kind_in, related, pressed, refreshed, is_robots, forbids}
 use Rattle.html_links.specs.declared.links.LinkKind.{LinkKind}
@@ -146,11 +147,23 @@ references : map reference_at (codes "amp;lt;" ∷ codes "lt;" ∷ codes "gt;x" 
 unfolding reference_at
 references = refl
 
--- what is no reference: without `;`, of another case, a surrogate, above the last character, 0, too many digits, none
-no_references : map reference_at (codes "amp" ∷ codes "AMP;" ∷ codes "#xD800;" ∷ codes "#x110000;" ∷ codes "#0;" ∷ codes "#00000065;" ∷ codes "#x0000041;" ∷ codes "#;" ∷ codes "#x;" ∷ codes "copy;" ∷ [])
-    ≡ None ∷ None ∷ None ∷ None ∷ None ∷ None ∷ None ∷ None ∷ None ∷ None ∷ []
+-- what is no reference: a surrogate, above the last character, 0, too many digits, none
+no_references : map reference_at (codes "#xD800;" ∷ codes "#x110000;" ∷ codes "#0;" ∷ codes "#00000065;" ∷ codes "#x0000041;" ∷ codes "#;" ∷ codes "#x;" ∷ [])
+    ≡ None ∷ None ∷ None ∷ None ∷ None ∷ None ∷ None ∷ []
 unfolding reference_at
 no_references = refl
+
+-- by its name: of Latin-1 with or without `;`, and others
+named_references : map named_reference (codes "eacute;.html" ∷ codes "copy x" ∷ codes "AMP" ∷ codes "frac14;" ∷ codes "thetasym;" ∷ codes "rang;" ∷ codes "apos;" ∷ [])
+    ≡ reference 233 (codes ".html") ∷ reference 169 (codes " x") ∷ reference 38 [] ∷ reference 188 [] ∷ reference 977 [] ∷ reference 10217 [] ∷ reference 39 [] ∷ []
+unfolding named_reference rows_of
+named_references = refl
+
+-- a name of which a part is another one, before `=`, without the `;` that it needs, of another case, and none
+no_named_references : map named_reference (codes "notit;" ∷ codes "copy=1" ∷ codes "hellip" ∷ codes "apos" ∷ codes "Eacut;" ∷ codes "Nbsp;" ∷ codes ";" ∷ [])
+    ≡ None ∷ None ∷ None ∷ None ∷ None ∷ None ∷ None ∷ []
+unfolding named_reference rows_of
+no_named_references = refl
 
 abbrev bare : List ℕ → List Source
 bare name = FromTag (record { name = name; attributes = [] }) ∷ []
@@ -174,7 +187,7 @@ style_sheets = refl
 -- in foreign content and XML it is the text up to the next tag, without comments, of which references are replaced, but not in CDATA
 foreign_sheets : map (start_tags (outermost syntax.Html)) (codes "<svg><style>a&lt;<!--b--><![CDATA[c&lt;]]]>d</style>e<i>" ∷ codes "<svg><style>a&am<?b>p; < c" ∷ codes "<svg><style/>a" ∷ codes "<svg><style><![CDATA[a]" ∷ [])
     ≡ (bare (codes "svg") ++ (styled (codes "a<c&lt;]d") ++ bare (codes "i"))) ∷ (bare (codes "svg") ++ styled (codes "a&amp; < c")) ∷ (bare (codes "svg") ++ bare (codes "style")) ∷ (bare (codes "svg") ++ styled (codes "a]")) ∷ []
-unfolding start_tags broken left referenced reference_at lib.Utf8.encode
+unfolding start_tags broken left referenced reference_at lib.Utf8.encode named_reference rows_of
 foreign_sheets = refl
 
 xml_sheets : map (start_tags (outermost syntax.Xml)) (codes "<style>a<b>c</style>" ∷ codes "<style>a" ∷ codes "<style/>a" ∷ [])

@@ -2,6 +2,7 @@
 ghost use Rattle.std.specs.Prelude.{◌≡◌, ◌≤◌, length};
 ghost use Rattle.html_links.specs.Pieces.{until, from, is, is_white, ends_tag_name, ends_attribute_name, ends_bare_value, is_quote};
 ghost use Rattle.std.specs.Str.{bytes_eq};
+ghost use Rattle.html_links.specs.References.{ends_name};
 ghost use Rattle.html_links.specs.inner.Spans.{ends_span};
 
 use memchr::memchr;
@@ -39,18 +40,26 @@ pub(crate) fn ends_bare_value(byte: u8) -> bool
     is_white(byte) || byte == b'>'
 }
 
+/// Whether a byte ends the name in a character reference: any but a letter or a digit.
+fn ends_name(byte: u8) -> bool
+    ensures { result ≡ ends_name byte }
+{
+    !byte.is_ascii_alphanumeric()
+}
+
 pub(crate) fn is_quote(byte: u8) -> bool
     ensures { result ≡ is_quote byte }
 {
     byte == b'"' || byte == b'\''
 }
 
-/// A part of a tag that a class of bytes ends.
+/// A part of a tag or a character reference that a class of bytes ends.
 #[derive(Clone, Copy)]
 pub(crate) enum Span {
     TagName,
     AttributeName,
     BareValue,
+    ReferenceName,
 }
 
 impl Span {
@@ -61,6 +70,7 @@ impl Span {
             Span::TagName => ends_tag_name(byte),
             Span::AttributeName => ends_attribute_name(byte),
             Span::BareValue => ends_bare_value(byte),
+            Span::ReferenceName => ends_name(byte),
         }
     }
 

@@ -1,11 +1,13 @@
--- The bytes that end a part of a tag (HTML Standard, sections 13.2.5.8, 13.2.5.33 and 13.2.5.38).
+-- The bytes that end a part of a tag or a character reference (HTML Standard, sections 13.2.5.8, 13.2.5.33, 13.2.5.38 and 13.2.5.73).
 use Rattle.std.specs.Prelude.{ℕ, Bool}
 use Rattle.html_links.specs.Pieces.{ends_tag_name, ends_attribute_name, ends_bare_value}
+use Rattle.html_links.specs.References.{ends_name}
 use Rattle.html_links.specs.declared.bytes.Span.{Span}
-use Rattle.html_links.specs.declared.bytes.Span.TheVariants.{TagName, AttributeName, BareValue}
+use Rattle.html_links.specs.declared.bytes.Span.TheVariants.{TagName, AttributeName, BareValue, ReferenceName}
 
 -- whether that byte ends the part
 abbrev pub ends_span : Span → ℕ → Bool
 ends_span TagName byte = ends_tag_name byte
 ends_span AttributeName byte = ends_attribute_name byte
 ends_span BareValue byte = ends_bare_value byte
+ends_span ReferenceName byte = ends_name byte
