@@ -538,7 +538,7 @@ homes_of (start ∷ starts) logins = home_of start (first_login logins) ∷ home
 -- what is sent with each request: secret fields and credentials go to the origins of the starts alone, and those of a proxy to it
 abbrev pub sending_of : Order → Sending
 sending_of order =
-    record { sent = order.fields; homes = homes_of (order.plan.start ∷ order.plan.others) order.logins.items; jar = None; proxies = order.proxies }
+    record { sent = order.fields; homes = homes_of (order.plan.start ∷ order.plan.others) order.logins.items; jar = None; proxies = order.proxies; condition = None }
 
 -- the result is the expected order, or the expected fault, unless memory ran out
 abbrev pub AnswersOrder : Result Order LineFault → Result Ordered LineFault → Type 0
