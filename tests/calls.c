@@ -5,7 +5,7 @@
 // file's name, the host or the address.
 //
 // CALLS_PLAN has plans with a comma between two, each `CALL NAME WHAT`, for the calls fsync, fdatasync, close, flock, fstat (a statx of
-// an open file), rename, recv, send, read, write, connect and getaddrinfo. NAME is the last part of the name of the file (of rename that which it had),
+// an open file), futimens, rename, recv, send, read, write, connect and getaddrinfo. NAME is the last part of the name of the file (of rename that which it had),
 // or the host; * is any. WHAT is
 //   E..            the call fails with this error: EIO, or ENOSPC; a close closes all the same
 //   EINTR          the first such call is interrupted
@@ -154,6 +154,11 @@ int statx(int dir, const char *path, int flags, unsigned mask, struct statx *fou
     if (!failed && plan && !strcmp(plan, "long"))
         found->stx_size += 1u << 31;
     return failed;
+}
+
+int futimens(int file, const struct timespec times[2])
+{
+    return is_file_failed("futimens", file) ? -1 : NEXT(futimens)(file, times);
 }
 
 int rename(const char *from, const char *to)

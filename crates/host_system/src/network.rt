@@ -86,7 +86,7 @@ impl<'a, R: Net + Wait + Files + Clock + Eprint> Network<'a, R> {
 
     // What asks over TCP for one worker, with these settings, and with the cookies of the run.
     fn over_tcp(&self, settings: FetcherSettings) -> Result<OverTcp<'a, R>, AllocError>
-        ensures { IfOk result (λ fetcher. (fetcher.links ≡ settings.links) × (fetcher.keeps ≡ is_some settings.kept) × (fetcher.most ≡ settings.kept) × (fetcher.sends ≡ Some (record settings.sends { jar = self.now.jar })) × (fetcher.retries ≡ settings.retries) × (fetcher.limits ≡ limits_of settings.manner.body_limit)) }
+        ensures { IfOk result (λ fetcher. (fetcher.links ≡ settings.links) × (fetcher.keeps ≡ is_some settings.kept) × (fetcher.most ≡ settings.kept) × (fetcher.sends ≡ Some (record settings.sends { jar = self.now.jar })) × (fetcher.retries ≡ settings.retries) × (fetcher.limits ≡ limits_of settings.manner.body_limit) × (fetcher.takes_times ≡ settings.takes_times)) }
     {
         let jar = self.jar()?;
         let FetcherSettings {
@@ -97,6 +97,7 @@ impl<'a, R: Net + Wait + Files + Clock + Eprint> Network<'a, R> {
             sends,
             manner,
             retries,
+            takes_times,
         } = settings;
         Ok(OverTcp::new(
             self.rt,
@@ -110,6 +111,7 @@ impl<'a, R: Net + Wait + Files + Clock + Eprint> Network<'a, R> {
             sends.with_jar(jar),
             manner,
             retries,
+            takes_times,
         ))
     }
 
@@ -138,7 +140,7 @@ where
 
     // The fetcher of one worker that has bodies kept in parts.
     fn parts_asking(&self, settings: FetcherSettings) -> Result<PartsAsking<'a, R>, AllocError>
-        ensures { IfOk result (λ asking. (asking.inner.links ≡ settings.links) × (asking.inner.keeps ≡ is_some settings.kept) × (asking.inner.most ≡ settings.kept) × (asking.inner.sends ≡ Some (record settings.sends { jar = self.now.jar })) × (asking.inner.retries ≡ settings.retries) × (asking.inner.limits ≡ limits_of settings.manner.body_limit)) }
+        ensures { IfOk result (λ asking. (asking.inner.links ≡ settings.links) × (asking.inner.keeps ≡ is_some settings.kept) × (asking.inner.most ≡ settings.kept) × (asking.inner.sends ≡ Some (record settings.sends { jar = self.now.jar })) × (asking.inner.retries ≡ settings.retries) × (asking.inner.limits ≡ limits_of settings.manner.body_limit) × (asking.inner.takes_times ≡ settings.takes_times)) }
     {
         let fetcher = self.over_tcp(settings)?;
         let kept = self.early.rules(self.rt);
@@ -174,7 +176,7 @@ where
 
     type Record = Saved<'a, R>;
 
-    ghost makes = { λ network settings fetcher. (fetcher.inner.links ≡ settings.links) × (fetcher.inner.keeps ≡ is_some settings.kept) × (fetcher.inner.most ≡ settings.kept) × (fetcher.inner.sends ≡ Some (record settings.sends { jar = network.jar })) × (fetcher.inner.retries ≡ settings.retries) × (fetcher.inner.limits ≡ limits_of settings.manner.body_limit) };
+    ghost makes = { λ network settings fetcher. (fetcher.inner.links ≡ settings.links) × (fetcher.inner.keeps ≡ is_some settings.kept) × (fetcher.inner.most ≡ settings.kept) × (fetcher.inner.sends ≡ Some (record settings.sends { jar = network.jar })) × (fetcher.inner.retries ≡ settings.retries) × (fetcher.inner.limits ≡ limits_of settings.manner.body_limit) × (fetcher.inner.takes_times ≡ settings.takes_times) };
 
     ghost makes_recorder = { λ network settings fetcher. (fetcher.inner.inner.links ≡ settings.links) × (fetcher.inner.inner.keeps ≡ is_some settings.kept) × (fetcher.inner.inner.most ≡ settings.kept) × (fetcher.inner.inner.sends ≡ Some (record settings.sends { jar = network.jar })) × (fetcher.inner.inner.retries ≡ settings.retries) × (fetcher.inner.inner.limits ≡ limits_of settings.manner.body_limit) × (fetcher.inner.is_recording ≡ settings.is_recording) };
 

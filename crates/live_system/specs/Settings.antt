@@ -7,7 +7,7 @@ use Rattle.requests.specs.Requests.{Sending}
 use Rattle.html_links.specs.declared.rules.LinkRules.{LinkRules}
 
 -- which links of pages are taken, whether answers are noted, how many connections to a server are kept, the proxies,
--- what each request says, how servers are treated, and when a request is made again
+-- what each request says, how servers are treated, when a request is made again, and whether files get the times of their pages
 pub record Settings : Type 0 where
   pub links : LinkRules
   pub is_recording : Bool
@@ -16,3 +16,4 @@ pub record Settings : Type 0 where
   pub sends : Sending
   pub manner : Manner
   pub retries : Retried
+  pub takes_times : Bool

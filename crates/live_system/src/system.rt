@@ -41,6 +41,8 @@ pub struct FetcherSettings {
     pub manner: Manner,
     /// When a request is made again.
     pub retries: Retries,
+    /// Whether the file of a page gets the time at which that changed, if the server says it.
+    pub takes_times: bool,
 }
 
 // Contracts see what is said, and nothing of how it is kept.
@@ -50,7 +52,7 @@ impl Model for FetcherSettings {
 
     ghost Value = { Settings };
 
-    ghost view = { λ s. record { links = s.links; is_recording = s.is_recording; kept = s.kept; proxies = s.proxies; sends = s.sends; manner = s.manner; retries = retries_by s.retries } };
+    ghost view = { λ s. record { links = s.links; is_recording = s.is_recording; kept = s.kept; proxies = s.proxies; sends = s.sends; manner = s.manner; retries = retries_by s.retries; takes_times = s.takes_times } };
 }
 
 /// Makes a live run's fetchers, its folder and its records.

@@ -15,6 +15,7 @@ use std::alloc::{AllocError, Global};
 use std::fs::Files;
 use std::io::{Error, ErrorKind};
 use std::marker::Model;
+use std::time::SystemTime;
 use std::{fs, io, mem};
 use streams::{Close, Lock};
 
@@ -178,11 +179,17 @@ fn look_for_file<R: Files>(rt: &R, path: &str) -> io::Result<()> {
 }
 
 // Writes a file under another name, and gives it its own when it is whole.
-fn put_by_way_of<R: Files>(rt: &R, part: &str, path: &str, bytes: &[u8]) -> io::Result<()>
+fn put_by_way_of<R: Files>(
+    rt: &R,
+    part: &str,
+    path: &str,
+    bytes: &[u8],
+    modified: Option<SystemTime>,
+) -> io::Result<()>
 where
     R::File: Close,
 {
-    write_new(rt, part, bytes)?;
+    write_new(rt, part, bytes, modified)?;
     rt.rename(part, path)
 }
 
@@ -397,8 +404,8 @@ where
         }
     }
 
-    // Writes the file and gives it its name.
-    fn write(&mut self, name: &str, bytes: &[u8]) -> io::Result<()>
+    // Writes the file, which has this time if there is one, and gives it its name.
+    fn write(&mut self, name: &str, bytes: &[u8], modified: Option<SystemTime>) -> io::Result<()>
         ensures { self.new ≡ self.old }
     {
         let path = find_place(
@@ -409,7 +416,7 @@ where
             name,
         )?;
         let part = self.own_part()?;
-        let put = put_by_way_of(self.rt, part.as_str(), path.as_str(), bytes);
+        let put = put_by_way_of(self.rt, part.as_str(), path.as_str(), bytes, modified);
         if put.is_err() {
             // A part that stays is removed before the next file.
             let _ = self.rt.remove_file(part.as_str());
@@ -437,7 +444,7 @@ where
     fn put_by_part(&mut self, name: &str, bytes: &[u8]) -> Result<(), FolderFault>
         ensures counted { CountsRefusedPut self.old.failed self.new.failed result }
     {
-        let put = self.write(name, bytes);
+        let put = self.write(name, bytes, None);
         self.count(put)
     }
 

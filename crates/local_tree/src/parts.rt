@@ -1,8 +1,9 @@
 //! Parts: files that are written under other names, and get their own when they are whole.
 use std::alloc::Global;
-use std::fs::{File, Files};
+use std::fs::{File, FileTimes, Files, OpenFile};
 use std::io;
 use std::io::{ErrorKind, Write};
+use std::time::SystemTime;
 use streams::Close;
 
 /// A file that is made ready before its turn.
@@ -32,7 +33,7 @@ impl<'a> Part<'a> {
     where
         R::File: Close,
     {
-        self.is_ready = write_new(rt, self.path.as_str(), self.bytes).is_ok();
+        self.is_ready = write_new(rt, self.path.as_str(), self.bytes, None).is_ok();
     }
 
     // Whether it is whole, and that of the file at this place.
@@ -109,12 +110,22 @@ fn create_new<R: Files>(rt: &R, path: &str) -> io::Result<R::File> {
     }
 }
 
-/// Writes a new file and closes it: some disks say only then that there is no room for what they took.
-pub(crate) fn write_new<R: Files>(rt: &R, path: &str, bytes: &[u8]) -> io::Result<()>
+/// Writes a new file, which has this time if there is one, and closes it: some disks say only then that there is no room for what they
+/// took.
+pub(crate) fn write_new<R: Files>(
+    rt: &R,
+    path: &str,
+    bytes: &[u8],
+    modified: Option<SystemTime>,
+) -> io::Result<()>
 where
     R::File: Close,
 {
     let mut file = create_new(rt, path)?;
     file.write_all(bytes)?;
+    if let Some(time) = modified {
+        // A disk without times keeps the bytes all the same.
+        let _ = file.set_times(FileTimes::new().set_modified(time));
+    }
     file.close()
 }

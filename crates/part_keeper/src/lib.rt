@@ -2,14 +2,16 @@
 //! only who names files knows paths. What a disk holds isn't proved; that a part has as many bytes as came is.
 #![tactic(auto)]
 
+mod file_time;
 mod own_dir;
 mod part;
 mod part_counter;
 mod part_keeper;
 mod parts_dir;
 
+pub use file_time::time_of;
 pub use own_dir::{OwnDir, make_own_dir};
 pub use part::{Part, Standing, part_path};
 pub use part_counter::PartCounter;
 pub use part_keeper::PartKeeper;
-pub use parts_dir::PartsDir;
+pub use parts_dir::{PartsDir, lacks_descriptor};

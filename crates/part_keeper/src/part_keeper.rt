@@ -5,9 +5,10 @@ use crate::part::{Part, Standing, part_path};
 use crate::parts_dir::{PartsDir, WorkerDir, lacks_descriptor};
 use kept_bodies::{BodyKind, Keeper};
 use std::alloc::{AllocError, Global};
-use std::fs::{File, Files};
+use std::fs::{File, FileTimes, Files, OpenFile};
 use std::io::{Error, Write};
 use std::sync::Wait;
+use std::time::{Duration, SystemTime, UNIX_EPOCH};
 use std::{io, mem};
 use streams::{Close, Lock};
 
@@ -50,6 +51,12 @@ impl<'a, R: Files> Drop for PartKeeper<'a, R> {
     }
 }
 
+// Has the file at a path say that it was changed at this time.
+fn set_time<R: Files>(rt: &R, path: &str, time: SystemTime) -> io::Result<()> {
+    let file = File::open(rt, path)?;
+    file.set_times(FileTimes::new().set_modified(time))
+}
+
 impl<'a, R: Files + Wait> PartKeeper<'a, R>
 where
     R::File: Close + Lock,
@@ -67,6 +74,23 @@ where
             file: None,
             len: 0,
             error: None,
+        }
+    }
+
+    /// Has the file of a part, which has no name yet, say that its page changed at this time, in seconds since 1970. If there is no
+    /// file there is nothing to do. After an error, which is the system's, it says when it was written.
+    pub fn date(&self, part: &Part, seconds: u64) -> io::Result<()> {
+        let Some(time) = UNIX_EPOCH.checked_add(Duration::from_secs(seconds)) else {
+            return Ok(());
+        };
+        let path = part_path(self.alloc, self.dir.as_str(), part.worker, part.number)?;
+        match part.standing {
+            Standing::Whole => set_time(self.rt, path.as_str(), time),
+            Standing::Waiting => {
+                self.parts.date_late(self.rt, path.as_str(), time);
+                Ok(())
+            }
+            Standing::Named | Standing::Lost | Standing::Absent => Ok(()),
         }
     }
 

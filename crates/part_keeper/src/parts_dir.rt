@@ -2,9 +2,10 @@
 use crate::own_dir::{OwnDir, make_own_dir};
 use crate::part::{Part, Standing};
 use std::alloc::{AllocError, Global};
-use std::fs::{File, Files};
+use std::fs::{File, FileTimes, Files, OpenFile};
 use std::io::{ErrorKind, Write};
 use std::sync::{Mutex, Wait};
+use std::time::SystemTime;
 use std::{fs, io, mem};
 use streams::{Close, Lock};
 
@@ -14,7 +15,7 @@ const ENFILE: i32 = 23;
 const EMFILE: i32 = 24;
 
 /// Whether the system's error says that there is no descriptor.
-pub(crate) fn lacks_descriptor(error: &io::Error) -> bool {
+pub fn lacks_descriptor(error: &io::Error) -> bool {
     match error.raw_os_error() {
         Some(number) => number == ENFILE || number == EMFILE,
         None => false,
@@ -26,6 +27,8 @@ pub(crate) fn lacks_descriptor(error: &io::Error) -> bool {
 struct Late {
     path: String,
     bytes: Vec<u8>,
+    // When its page changed, if that is known.
+    modified: Option<SystemTime>,
 }
 
 // What a run has of its directory.
@@ -81,15 +84,20 @@ fn find_folder<R: Files>(rt: &R, folder: &str) -> io::Result<bool> {
 }
 
 // Makes the file of a part and writes it.
-fn write_part<R: Files>(rt: &R, path: &str, bytes: &[u8]) -> io::Result<()>
+fn write_part<R: Files>(rt: &R, late: &Late) -> io::Result<()>
 where
     R::File: Close,
 {
+    let path = late.path.as_str();
     let mut file = File::create_new(rt, path)?;
-    if let Err(error) = file.write_all(bytes) {
+    if let Err(error) = file.write_all(late.bytes.as_slice()) {
         drop(file);
         let _ = rt.remove_file(path);
         return Err(error);
+    }
+    if let Some(time) = late.modified {
+        // A disk without times keeps the body all the same.
+        let _ = file.set_times(FileTimes::new().set_modified(time));
     }
     file.close()
 }
@@ -162,6 +170,15 @@ fn push_late<F: Drop>(made: &mut Made<F>, late: Late) -> Result<(), AllocError> 
     Ok(())
 }
 
+// The page of the body that is to be written later at this path changed at this time.
+fn date_late<F: Drop>(made: &mut Made<F>, path: &str, time: SystemTime) {
+    for late in &mut made.late {
+        if late.path.as_str() == path {
+            late.modified = Some(time);
+        }
+    }
+}
+
 // A part was lost for this reason. Gives its number among those.
 fn lose<F: Drop>(made: &mut Made<F>, error: io::Error) -> Result<usize, AllocError> {
     let number = made.lost.len();
@@ -230,7 +247,17 @@ impl<F: Lock + Close + Drop> PartsDir<F> {
         path: String,
         bytes: Vec<u8>,
     ) -> Result<(), AllocError> {
-        push_late(&mut self.made.lock(rt), Late { path, bytes })
+        let late = Late {
+            path,
+            bytes,
+            modified: None,
+        };
+        push_late(&mut self.made.lock(rt), late)
+    }
+
+    // The page of the body that is to be written at this path changed at this time.
+    pub(crate) fn date_late<R: Wait>(&self, rt: &R, path: &str, time: SystemTime) {
+        date_late(&mut self.made.lock(rt), path, time);
     }
 
     // A part was lost for this reason. Gives its number among those.
@@ -261,7 +288,7 @@ impl<F: Lock + Close + Drop> PartsDir<F> {
 
     // Writes one of them, unless there is no descriptor.
     fn write_or_put_off<R: Files<File = F> + Wait>(&self, rt: &R, late: Late) {
-        match write_part(rt, late.path.as_str(), late.bytes.as_slice()) {
+        match write_part(rt, &late) {
             Err(error) if lacks_descriptor(&error) => {
                 let _ = push_late(&mut self.made.lock(rt), late);
             }

@@ -4,3 +4,4 @@ pub mod CutLemmas
 pub mod FieldsLemmas
 pub mod SendingLemmas
 pub mod JarLemmas
+pub mod ConditionLemmas

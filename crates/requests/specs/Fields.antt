@@ -104,13 +104,14 @@ last_named name before [] = before
 last_named name before (first ∷ later) = last_named name (if is_named first.name name then Some first.value else before) later
 
 -- what is sent: a host in place of the address's, if one is given, the lines to each server, and to the origins of the starts alone those that
--- are secret, and credentials, unless an `Authorization` is among the lines; whether a `Cookie` is
+-- are secret, and credentials, unless an `Authorization` is among the lines; whether a `Cookie` is, and whether a condition is
 pub record Sent : Type 0 where
   pub host : Option Text
   pub common : Text
   pub secret : Text
   pub signs : Bool
   pub has_cookie : Bool
+  pub has_condition : Bool
   pub login : Option Text
 
 abbrev pub sent : Option Text → List Field → Sent
@@ -120,6 +121,7 @@ sent login fields = record {
   secret = lines_text true fields;
   signs = is_among (codes "authorization") fields;
   has_cookie = is_among (codes "cookie") fields;
+  has_condition = is_among (codes "if-none-match") fields || is_among (codes "if-modified-since") fields;
   login = login;
 }
 

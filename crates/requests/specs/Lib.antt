@@ -1,4 +1,5 @@
 pub mod Lines
 pub mod Fields
+pub mod Conditions
 pub mod Requests
 pub mod Proxies

@@ -5,6 +5,7 @@ use Rattle.address.specs.Address.{AddressText, OriginText, authority_of, host_of
 use Rattle.cookie_files.specs.Lines.{Cookie}
 use Rattle.cookie_files.specs.Matches.{Goes, asked_of, sent, some_value}
 use Rattle.response_reader.specs.Request.{target_by}
+use Rattle.requests.specs.Conditions.{Condition, IsSendable, condition_at, condition_lines}
 use Rattle.requests.specs.Fields.{Sent}
 use Rattle.requests.specs.Lines.{Text}
 use Rattle.requests.specs.Proxies.{Proxies, Proxy, proxy_for}
@@ -25,12 +26,13 @@ pub record Jar : Type 0 where
   pub cookies : List Cookie
   pub time : ℕ
 
--- what a run sends, the origins of its starts, the cookies of a file if there is one, and the proxies
+-- what a run sends, the origins of its starts, the cookies of a file if there is one, the proxies, and the condition of the next request
 pub record Sending : Type 0 where
   pub sent : Sent
   pub homes : List Home
   pub jar : Option Jar
   pub proxies : Proxies
+  pub condition : Option Condition
 
 -- the host and port of the address, or what is sent in their place
 abbrev pub host_by : Option Text → AddressText → Text
@@ -98,6 +100,21 @@ IsThere jar at cookie = Contains jar.cookies cookie × Goes (asked_of at) jar.ti
 abbrev pub GoWhereNamed : Sending → AddressText → Type 0
 GoWhereNamed sending at = (cookie : Cookie) → Contains (cookies_for sending at) cookie → (jar : Jar) × (sending.jar ≡ Some jar) × IsThere jar at cookie
 
+-- ---- conditions
+
+-- that of a request for the address, unless a line has another
+abbrev pub condition_for : Sending → AddressText → Option Condition
+condition_for sending at = if sending.sent.has_condition then None else condition_at sending.condition at
+
+-- it is of this very page, and its values may be sent
+pub record IsOf (at : AddressText) (condition : Condition) : Type 0 where
+  pub page : condition.at ≡ at
+  pub sendable : IsSendable condition
+
+-- a request has no condition of another page
+abbrev pub HasNoOther : Sending → AddressText → Type 0
+HasNoOther sending at = (condition : Condition) → condition_for sending at ≡ Some condition → IsOf at condition
+
 -- ---- proxies
 
 -- the proxy that is asked for an address, if one is
@@ -129,6 +146,6 @@ front_of sending keeps at =
     codes "GET " ++ (target_at (proxy_at sending at) at ++ (codes " HTTP/1.1\r\nHost: " ++ (host_by sending.sent.host at
     ++ (codes "\r\n" ++ (sending.sent.common ++ (login_line (login_for sending at) ++ (secret_for sending at ++ (proxy_line (proxy_at sending at) ++ closing keeps))))))))
 
--- the same with the cookies of a file, in one head
+-- the same with the cookies of a file and the condition, in one head
 abbrev pub request_of : Sending → Bool → AddressText → Text
-request_of sending keeps at = front_of sending keeps at ++ (cookie_line (some_value (cookies_for sending at)) ++ codes "\r\n")
+request_of sending keeps at = front_of sending keeps at ++ (cookie_line (some_value (cookies_for sending at)) ++ (condition_lines (condition_for sending at) ++ codes "\r\n"))

@@ -1,5 +1,5 @@
 //! What a run says in its requests besides the host: its own fields, and those that a person adds or puts in their place.
-ghost use Rattle.std.specs.Prelude.{◌≡◌, ◌⊎◌, ◌<◌, ◌≤◌, ◌+◌, ◌++◌, ◌∷◌, [], codes, Err, IfOk, None, Ok, OnOk, Some, MatchOption, MatchResult, length, nat_le, option_map, string_bytes, unwrap_or};
+ghost use Rattle.std.specs.Prelude.{◌≡◌, ◌⊎◌, ◌||◌, ◌<◌, ◌≤◌, ◌+◌, ◌++◌, ◌∷◌, [], codes, Err, IfOk, None, Ok, OnOk, Some, MatchOption, MatchResult, length, nat_le, option_map, string_bytes, unwrap_or};
 ghost use Rattle.std.specs.List.{slice_split};
 ghost use Rattle.requests.specs.Lines.{is_clean, line_of};
 ghost use Rattle.requests.specs.Fields.{accept_fields, agent_fields, bad_line, bytes_sent, cache_fields, field, first_text, fitting, goes, is_among, is_bad_line, is_nul, is_value, last_named, lines_text, own_fields, read_fields, read_lines, referer_fields, sent, sent_with, some_field};
@@ -61,6 +61,8 @@ pub struct Fields {
     signs: bool,
     // Whether a `Cookie` is.
     has_cookie: bool,
+    // Whether an `If-None-Match` or an `If-Modified-Since` is among all lines.
+    has_condition: bool,
     login: Option<Login>,
 }
 
@@ -72,9 +74,9 @@ impl Model for Fields {
 
     ghost Value = { Sent };
 
-    ghost view = { λ f. record { host = option_map string_bytes f.host; common = string_bytes f.common; secret = string_bytes f.secret; signs = f.signs; has_cookie = f.has_cookie; login = f.login } };
+    ghost view = { λ f. record { host = option_map string_bytes f.host; common = string_bytes f.common; secret = string_bytes f.secret; signs = f.signs; has_cookie = f.has_cookie; has_condition = f.has_condition; login = f.login } };
 
-    ghost invariant = { λ f. bytes_sent (record { host = option_map string_bytes f.host; common = string_bytes f.common; secret = string_bytes f.secret; signs = f.signs; has_cookie = f.has_cookie; login = f.login }) ≤ MAX_SENT };
+    ghost invariant = { λ f. bytes_sent (record { host = option_map string_bytes f.host; common = string_bytes f.common; secret = string_bytes f.secret; signs = f.signs; has_cookie = f.has_cookie; has_condition = f.has_condition; login = f.login }) ≤ MAX_SENT };
 }
 
 // Adds a field of these texts.
@@ -307,6 +309,13 @@ fn size_of(value: &Option<String>) -> usize
     }
 }
 
+// Whether one of these fields is a condition.
+fn has_condition(fields: &[Field]) -> bool
+    ensures { result ≡ (is_among (codes "if-none-match") fields.now || is_among (codes "if-modified-since") fields.now) }
+{
+    is_among("if-none-match", fields) || is_among("if-modified-since", fields)
+}
+
 // Whether so many bytes of host, common and secret lines aren't too many.
 fn fits(host: usize, common: usize, secret: usize) -> bool
     ensures { result ≡ nat_le (host + (common + secret)) MAX_SENT }
@@ -330,6 +339,7 @@ fn sent(alloc: Global, login: Option<Login>, fields: &[Field]) -> Result<Fields,
             secret,
             signs: is_among("authorization", fields),
             has_cookie: is_among("cookie", fields),
+            has_condition: has_condition(fields),
             login,
         })
     } else {
@@ -451,6 +461,13 @@ impl Fields {
         self.has_cookie
     }
 
+    /// Whether an `If-None-Match` or an `If-Modified-Since` is among all lines. Takes no memory.
+    pub(crate) fn has_condition(&self) -> bool
+        ensures { result ≡ self.now.has_condition }
+    {
+        self.has_condition
+    }
+
     /// The credentials for the origins of starts, if there are any. Takes no memory.
     pub(crate) fn login(&self) -> Option<&Login>
         ensures { option_map (λ l. l.now) result ≡ self.now.login }
@@ -471,6 +488,7 @@ impl Fields {
             secret: self.secret.clone()?,
             signs: self.signs,
             has_cookie: self.has_cookie,
+            has_condition: self.has_condition,
             login: copy_of(&self.login)?,
         })
     }

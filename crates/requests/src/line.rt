@@ -68,7 +68,8 @@ fn is_control(byte: u8) -> bool
     byte < 32 || byte == 127
 }
 
-fn has_control(text: &[u8]) -> bool
+/// Whether bytes have a control byte.
+pub(crate) fn has_control(text: &[u8]) -> bool
     ensures { result ≡ list_any is_control text.now }
 {
     text.iter().any(|byte| is_control(*byte))

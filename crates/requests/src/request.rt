@@ -1,12 +1,15 @@
 //! The request for one address, with what a run says besides (RFC 9112, sections 3 and 9.6).
 ghost use Rattle.std.specs.Prelude.{◌≡◌, ◌<◌, ◌++◌, ℕ, [], Err, IfErr, IfOk, OnErr, OnOk, Some, codes, option_map};
 ghost use Rattle.std.specs.Io.KnownBytes.{Appends, Keeps};
+ghost use Rattle.cookie_files.specs.Matches.{some_value};
 ghost use Rattle.response_reader.specs.Request.{SendsFront};
 ghost use Rattle.response_reader.specs.Wire.{HasRisen};
 ghost use Rattle.response_reader.specs.inner.Request.{WritesGiveUp};
 ghost use Rattle.response_reader.specs.inner.Wire.{GoesOn, tally};
-ghost use Rattle.requests.specs.Requests.{GoWhereNamed, closing, cookie_line, front_of, host_by, login_line, proxy_at, proxy_line, proxy_login_line, request_of, secret_for, target_at};
+ghost use Rattle.requests.specs.Conditions.{condition_lines, since_line, tag_line};
+ghost use Rattle.requests.specs.Requests.{GoWhereNamed, HasNoOther, closing, cookie_line, cookies_for, front_of, host_by, login_line, proxy_at, proxy_line, proxy_login_line, request_of, secret_for, target_at};
 
+use crate::condition::Condition;
 use crate::login::Login;
 use crate::proxies::Proxy;
 use crate::sending::Sending;
@@ -27,9 +30,8 @@ pub enum SendFault {
 }
 
 /// Writes the request for an address: a GET of its path and query, or to a proxy of the whole address, with what the run says. Its
-/// secret lines are there if the address is at an origin of a start, cookies of a file if they go there, and a proxy's credentials
-/// if that is asked. It asks to close the connection
-/// unless that is kept. The text is put together in memory, and goes out in one write if that is taken whole. After a fault a front of
+/// secret lines are there if the address is at an origin of a start, cookies of a file if they go there, a condition if it is of
+/// this address, and a proxy's credentials if that is asked. It asks to close the connection unless that is kept. The text is put together in memory, and goes out in one write if that is taken whole. After a fault a front of
 /// it was written, and the wire isn't to be used again.
 pub fn write_request<W: Wire>(
     wire: &mut W,
@@ -44,41 +46,46 @@ pub fn write_request<W: Wire>(
     ensures memory { result ≡ Err SendFault.Memory → Keeps (W.outgoing wire.old) (W.outgoing wire.new) }
     ensures read { Keeps (W.incoming wire.old) (W.incoming wire.new) }
     ensures cookies { GoWhereNamed sending.now at.now }
+    ensures condition { HasNoOther sending.now at.now }
 {
-    match request_text(alloc, sending, keeps, at) {
+    let condition = sending.condition_for(at);
+    match request_text(alloc, sending, keeps, at, condition) {
         Ok(text) => write_text(wire, text.as_slice()),
         Err(_) => Err(SendFault::Memory),
     }
 }
 
-// The whole text of a request.
+// The whole text of a request with this condition, if there is one.
 fn request_text(
     alloc: Global,
     sending: &Sending,
     keeps: bool,
     at: &Address,
+    condition: Option<&Condition>,
 ) -> Result<Vec<u8>, AllocError>
-    ensures { IfOk result (λ text. text.items ≡ request_of sending.now keeps at.now) }
+    ensures { IfOk result (λ text. text.items ≡ front_of sending.now keeps at.now ++ (cookie_line (some_value (cookies_for sending.now at.now)) ++ (condition_lines (option_map (λ c. c.now) condition.entry) ++ codes "\r\n"))) }
 {
     match sending.cookie_for(alloc, at)? {
-        Some(value) => text_with(alloc, sending, keeps, at, Some(value.as_slice())),
-        None => text_with(alloc, sending, keeps, at, None),
+        Some(value) => text_with(alloc, sending, keeps, at, Some(value.as_slice()), condition),
+        None => text_with(alloc, sending, keeps, at, None, condition),
     }
 }
 
-// The text of a request with these cookies, if there are any.
+// The text of a request with these cookies and this condition, if there are any.
 fn text_with(
     alloc: Global,
     sending: &Sending,
     keeps: bool,
     at: &Address,
     cookie: Option<&[u8]>,
+    condition: Option<&Condition>,
 ) -> Result<Vec<u8>, AllocError>
-    ensures { IfOk result (λ text. text.items ≡ front_of sending.now keeps at.now ++ (cookie_line (option_map (λ c. c.now) cookie.entry) ++ codes "\r\n")) }
+    ensures { IfOk result (λ text. text.items ≡ front_of sending.now keeps at.now ++ (cookie_line (option_map (λ c. c.now) cookie.entry) ++ (condition_lines (option_map (λ c. c.now) condition.entry) ++ codes "\r\n"))) }
 {
     let mut text = Vec::with_capacity(alloc, COMMON_REQUEST)?;
     put_request(&mut text, sending, keeps, at)?;
     put_cookie(&mut text, cookie)?;
+    put_condition(&mut text, condition)?;
     put(&mut text, b"\r\n")?;
     Ok(text)
 }
@@ -91,6 +98,46 @@ fn put_cookie(text: &mut Vec<u8>, cookie: Option<&[u8]>) -> Result<(), AllocErro
         put(text, b"Cookie: ")?;
         put(text, value)?;
         put(text, b"\r\n")?;
+    }
+    Ok(())
+}
+
+// Adds the line of a field that begins so and has this value.
+fn put_line(text: &mut Vec<u8>, front: &[u8], value: &[u8]) -> Result<(), AllocError>
+    ensures { OnOk result (text.new.items ≡ text.old.items ++ (front.now ++ (value.now ++ codes "\r\n"))) }
+{
+    put(text, front)?;
+    put(text, value)?;
+    put(text, b"\r\n")
+}
+
+// Adds the line of this tag, if there is one.
+fn put_tag(text: &mut Vec<u8>, tag: Option<&[u8]>) -> Result<(), AllocError>
+    ensures { OnOk result (text.new.items ≡ text.old.items ++ tag_line (option_map (λ t. t.now) tag.entry)) }
+{
+    match tag {
+        Some(value) => put_line(text, b"If-None-Match: ", value),
+        None => Ok(()),
+    }
+}
+
+// Adds the line of this date, if there is one.
+fn put_since(text: &mut Vec<u8>, date: Option<&[u8]>) -> Result<(), AllocError>
+    ensures { OnOk result (text.new.items ≡ text.old.items ++ since_line (option_map (λ d. d.now) date.entry)) }
+{
+    match date {
+        Some(value) => put_line(text, b"If-Modified-Since: ", value),
+        None => Ok(()),
+    }
+}
+
+// Adds the lines of this condition, if there is one.
+fn put_condition(text: &mut Vec<u8>, condition: Option<&Condition>) -> Result<(), AllocError>
+    ensures { OnOk result (text.new.items ≡ text.old.items ++ condition_lines (option_map (λ c. c.now) condition.entry)) }
+{
+    if let Some(condition) = condition {
+        put_tag(text, condition.tag())?;
+        put_since(text, condition.since())?;
     }
     Ok(())
 }

@@ -1,9 +1,11 @@
 //! What a run sends, and which origins are those of its starts.
-ghost use Rattle.std.specs.Prelude.{◌≡◌, IfOk, None, option_map};
+ghost use Rattle.std.specs.Prelude.{◌≡◌, IfOk, MatchOption, None, bytes_eq, option_map};
 ghost use Rattle.cookie_files.specs.Matches.{some_value};
 ghost use Rattle.std.specs.List.{list_any};
-ghost use Rattle.requests.specs.Requests.{cookies_for, cookies_in, has_login, is_home, login_at, login_for, login_here, or_login, proxy_at};
+ghost use Rattle.requests.specs.Conditions.{condition_at};
+ghost use Rattle.requests.specs.Requests.{IsOf, condition_for, cookies_for, cookies_in, has_login, is_home, login_at, login_for, login_here, or_login, proxy_at};
 
+use crate::condition::Condition;
 use crate::fields::Fields;
 use crate::home::Home;
 use crate::jar::Jar;
@@ -14,7 +16,7 @@ use std::alloc::{AllocError, Global};
 use std::marker::Model;
 
 /// What is sent with each request of a run: its fields, of which the secret ones go to the origins of its starts alone, cookies of
-/// a file, which go where that says, and to a proxy its credentials.
+/// a file, which go where that says, to a proxy its credentials, and a condition with the request for its page.
 #[derive(Drop)]
 pub struct Sending {
     fields: Fields,
@@ -23,6 +25,7 @@ pub struct Sending {
     has_logins: bool,
     jar: Option<Jar>,
     proxies: Proxies,
+    condition: Option<Condition>,
 }
 
 impl Model for Sending {
@@ -32,7 +35,7 @@ impl Model for Sending {
 
     ghost Value = { Sending };
 
-    ghost view = { λ s. record { sent = s.fields; homes = s.homes.items; jar = s.jar; proxies = s.proxies } };
+    ghost view = { λ s. record { sent = s.fields; homes = s.homes.items; jar = s.jar; proxies = s.proxies; condition = s.condition } };
 
     ghost invariant = { λ s. s.has_logins ≡ list_any has_login s.homes.items };
 }
@@ -66,6 +69,17 @@ fn has_logins(homes: &[Home]) -> bool
     homes.iter().any(|home| home.has_login())
 }
 
+// A condition, if it is of the page at this address.
+fn condition_at<'a>(condition: &'a Option<Condition>, at: &Address) -> Option<&'a Condition>
+    ensures value { option_map (λ c. c.now) result ≡ condition_at condition.entry.now at.now }
+    ensures of { MatchOption result (Unit {0}) (λ c. IsOf at.now c.now) }
+{
+    match condition {
+        Some(condition) if condition.is_of(at) => Some(condition),
+        _ => None,
+    }
+}
+
 impl Sending {
     /// These fields, by a run whose starts are at these origins, and which has these proxies. Takes no memory.
     pub fn new(fields: Fields, homes: Vec<Home>, proxies: Proxies) -> Sending
@@ -73,6 +87,7 @@ impl Sending {
         ensures homes { result.homes ≡ homes.items }
         ensures jar { result.jar ≡ None }
         ensures proxies { result.proxies ≡ proxies }
+        ensures condition { result.condition ≡ None }
     {
         let has_logins = has_logins(homes.as_slice());
         Sending {
@@ -81,6 +96,7 @@ impl Sending {
             has_logins,
             jar: None,
             proxies,
+            condition: None,
         }
     }
 
@@ -94,6 +110,7 @@ impl Sending {
             has_logins,
             jar: _jar,
             proxies,
+            condition,
         } = self;
         Sending {
             fields,
@@ -101,7 +118,15 @@ impl Sending {
             has_logins,
             jar,
             proxies,
+            condition,
         }
+    }
+
+    /// From here on the request for the page of this condition has it, and no other request has one.
+    pub fn set_condition(&mut self, condition: Option<Condition>)
+        ensures { self.new ≡ record self.old { condition = condition } }
+    {
+        self.condition = condition;
     }
 
     /// The fields.
@@ -158,6 +183,17 @@ impl Sending {
             Some(login) => { if self.is_home(at) { Some(login) } else { None } }
             None => None,
         }
+    }
+
+    /// The condition of a request for an address, unless a line of a person's has another. Takes no memory.
+    pub(crate) fn condition_for(&self, at: &Address) -> Option<&Condition>
+        ensures value { option_map (λ c. c.now) result ≡ condition_for self.entry.now at.now }
+        ensures of { MatchOption result (Unit {0}) (λ c. IsOf at.now c.now) }
+    {
+        if self.fields.has_condition() {
+            return None;
+        }
+        condition_at(&self.condition, at)
     }
 
     /// What the `Cookie` field for an address says, unless a line of a person's has others. Takes memory only if there are any.

@@ -70,6 +70,8 @@ impl Digester {
             coded: head.coded,
             location: &head.location,
             retry_after: &head.retry_after,
+            last_modified: &head.last_modified,
+            etag: &head.etag,
         };
         self.stage = Stage::of(self.alloc, &fields)?;
         self.kind = kind_of(&fields);

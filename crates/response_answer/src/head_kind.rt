@@ -18,6 +18,8 @@ pub(crate) struct HeadKind<'a> {
     pub coded: bool,
     pub location: &'a Option<Vec<u8>>,
     pub retry_after: &'a Option<Vec<u8>>,
+    pub last_modified: &'a Option<Vec<u8>>,
+    pub etag: &'a Option<Vec<u8>>,
 }
 
 /// Whether the body after this head is a page of HTML, in which links are looked for.

@@ -31,6 +31,9 @@ pub struct PageSink<K: Keeper> {
     kind: BodyKind,
     // How long the server wants to be left alone, in the words of its head.
     retry_after: Option<Vec<u8>>,
+    // When the page changed, and the tag of its version, in the words of its head.
+    last_modified: Option<Vec<u8>>,
+    etag: Option<Vec<u8>>,
     keeper: K,
     failed: bool,
 }
@@ -41,7 +44,17 @@ impl<K: Keeper> Model for PageSink<K> {
 
     ghost Value = { Sinking K };
 
-    ghost view = { λ s. record { stage = s.stage; kind = s.kind; retry_after = option_map vec_items s.retry_after; keeper = s.keeper; failed = s.failed } };
+    ghost view = { λ s. record { stage = s.stage; kind = s.kind; retry_after = option_map vec_items s.retry_after; last_modified = option_map vec_items s.last_modified; etag = option_map vec_items s.etag; keeper = s.keeper; failed = s.failed } };
+}
+
+// The bytes of a field's value, if there is one.
+fn bytes_of(value: &Option<Vec<u8>>) -> Option<&[u8]>
+    ensures { option_map (λ bytes. bytes.now) result ≡ option_map vec_items value.now }
+{
+    match value {
+        Some(value) => Some(value.as_slice()),
+        None => None,
+    }
 }
 
 // A copy of a field's value, if there is one. The error is out of memory.
@@ -62,6 +75,8 @@ impl<K: Keeper> PageSink<K> {
             stage: Stage::Fresh,
             kind: BodyKind::Other,
             retry_after: None,
+            last_modified: None,
+            etag: None,
             keeper,
             failed: false,
         }
@@ -79,10 +94,22 @@ impl<K: Keeper> PageSink<K> {
     pub fn retry_after(&self) -> Option<&[u8]>
         ensures { option_map (λ value. value.now) result ≡ self.now.retry_after }
     {
-        match &self.retry_after {
-            Some(value) => Some(value.as_slice()),
-            None => None,
-        }
+        bytes_of(&self.retry_after)
+    }
+
+    /// The value of the `Last-Modified` of the response that was taken last (RFC 9110, section 8.8.2), if it has one, under the same
+    /// conditions.
+    pub fn last_modified(&self) -> Option<&[u8]>
+        ensures { option_map (λ value. value.now) result ≡ self.now.last_modified }
+    {
+        bytes_of(&self.last_modified)
+    }
+
+    /// The value of its `ETag` (RFC 9110, section 8.8.3), likewise.
+    pub fn etag(&self) -> Option<&[u8]>
+        ensures { option_map (λ value. value.now) result ≡ self.now.etag }
+    {
+        bytes_of(&self.etag)
     }
 
     /// Begins a response.
@@ -91,6 +118,8 @@ impl<K: Keeper> PageSink<K> {
     {
         self.stage = Stage::Fresh;
         self.retry_after = None;
+        self.last_modified = None;
+        self.etag = None;
         self.failed = false;
         self.keeper.begin();
     }
@@ -100,6 +129,8 @@ impl<K: Keeper> PageSink<K> {
         ensures stage { OnOk result (IsStageOf (head_parts head.now) [] self.new.stage) }
         ensures kind { OnOk result (self.new.kind ≡ kind_of (head_parts head.now)) }
         ensures retry_after { OnOk result (self.new.retry_after ≡ (head_parts head.now).retry_after) }
+        ensures last_modified { OnOk result (self.new.last_modified ≡ (head_parts head.now).last_modified) }
+        ensures etag { OnOk result (self.new.etag ≡ (head_parts head.now).etag) }
         ensures keeper { self.new.keeper ≡ self.old.keeper }
         ensures failed { self.new.failed ≡ self.old.failed }
     {
@@ -109,10 +140,14 @@ impl<K: Keeper> PageSink<K> {
             coded: head.coded,
             location: &head.location,
             retry_after: &head.retry_after,
+            last_modified: &head.last_modified,
+            etag: &head.etag,
         };
         self.stage = Stage::of(self.alloc, &fields)?;
         self.kind = kind_of(&fields);
         self.retry_after = copy_of(self.alloc, &head.retry_after)?;
+        self.last_modified = copy_of(self.alloc, &head.last_modified)?;
+        self.etag = copy_of(self.alloc, &head.etag)?;
         Ok(())
     }
 
@@ -133,6 +168,8 @@ impl<K: Keeper> PageSink<K> {
         ensures body { IfOk result (λ kept. (h : HeadParts) (body : List ℕ) → HasSunk K.begun self.old (Some h) body → K.holds kept (body_of h body)) }
         ensures stage { self.new.stage ≡ self.old.stage }
         ensures retry_after { self.new.retry_after ≡ self.old.retry_after }
+        ensures last_modified { self.new.last_modified ≡ self.old.last_modified }
+        ensures etag { self.new.etag ≡ self.old.etag }
     {
         if self.stage.keeps_body() {
             self.keeper.finish(self.kind)
@@ -146,8 +183,12 @@ impl<K: Keeper> PageSink<K> {
         ensures outcome { IfOk result (λ a. a.outcome ≡ outcome.Fault kind) }
         ensures body { IfOk result (λ a. K.holds a.body no_body) }
         ensures retry_after { self.new.retry_after ≡ None }
+        ensures last_modified { self.new.last_modified ≡ None }
+        ensures etag { self.new.etag ≡ None }
     {
         self.retry_after = None;
+        self.last_modified = None;
+        self.etag = None;
         let body = self.keeper.empty()?;
         Ok(Answer {
             outcome: Outcome::Fault(kind),
@@ -164,6 +205,8 @@ impl<K: Keeper> PageSink<K> {
         ensures body { IfOk result (λ a. (h : HeadParts) (body : List ℕ) → HasSunk K.begun self.old (Some h) body
             → K.holds a.body (body_of h body)) }
         ensures retry_after { self.new.retry_after ≡ self.old.retry_after }
+        ensures last_modified { self.new.last_modified ≡ self.old.last_modified }
+        ensures etag { self.new.etag ≡ self.old.etag }
         ensures failed { self.old.failed ≡ true → IfOk result (λ _. ⊥) }
     {
         if self.failed {

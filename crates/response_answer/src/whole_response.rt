@@ -85,6 +85,8 @@ fn head_of<'a>(response: &'a Response) -> HeadKind<'a>
         coded: response.coded,
         location: &response.location,
         retry_after: &response.retry_after,
+        last_modified: &response.last_modified,
+        etag: &response.etag,
     }
 }
 

@@ -67,6 +67,8 @@ fn push_fields(text: &mut Vec<u8>, response: &Response) -> Result<(), AllocError
     push_coding(text, response.coded)?;
     push_value(text, b"Location", &response.location)?;
     push_value(text, b"Retry-After", &response.retry_after)?;
+    push_value(text, b"Last-Modified", &response.last_modified)?;
+    push_value(text, b"ETag", &response.etag)?;
     push_len(text, response.status, response.body.len())
 }
 

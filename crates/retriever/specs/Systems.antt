@@ -45,7 +45,7 @@ means gives system fetchers recorders noted keeps folders records =
 -- how the fetchers of an order make their requests, with notes or without
 abbrev pub settings_of : Order → Bool → Settings
 settings_of order is_recording =
-    record { links = order.links; is_recording = is_recording; kept = kept_of order; proxies = order.proxies; sends = sending_of order; manner = order.manner; retries = retries_by order.retries }
+    record { links = order.links; is_recording = is_recording; kept = kept_of order; proxies = order.proxies; sends = sending_of order; manner = order.manner; retries = retries_by order.retries; takes_times = order.takes_times }
 
 -- the bytes are a record, which says this; if it is saved again its notes say the same
 abbrev pub IsRecordRead : Bool → LinkRules → List ℕ → RecordValue → Type 0

@@ -49,6 +49,7 @@ fn settings_of(
         sends: order.sending(alloc)?,
         manner: order.manner,
         retries: order.retries.try_clone()?,
+        takes_times: order.takes_times,
     })
 }
 

@@ -23,7 +23,7 @@ abbrev head_of : ℕ → ℕ → ℕ → ResponseHead
 head_of a b c = record { blank = []; minor = 1; digits = a ∷ b ∷ c ∷ []; reason = Some []; line_end = crlf; fields = []; last = crlf }
 
 abbrev pub bare : ℕ → List ℕ → ResponseParts
-bare status body = record { head = record { status = status; content_type = None; coded = false; location = None; retry_after = None }; body = body }
+bare status body = record { head = record { status = status; content_type = None; coded = false; location = None; retry_after = None; last_modified = None; etag = None }; body = body }
 
 bare_head : (a b c : ℕ) → list_all is_ascii_digit (a ∷ b ∷ c ∷ []) ≡ true → IsResponseHead (head_of a b c)
 bare_head a b c all = record {

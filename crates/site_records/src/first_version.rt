@@ -40,6 +40,8 @@ pub(crate) fn file_chain(alloc: Global, of: &Origin, file: &[u8]) -> Result<Hops
         coded: false,
         location: None,
         retry_after: None,
+        last_modified: None,
+        etag: None,
         body,
     };
     chain_of(alloc, of, Told::Whole(Given::new(response)))
@@ -60,6 +62,8 @@ pub(crate) fn bare_chain(alloc: Global, of: &Origin, allowed: bool) -> Result<Ho
         coded: false,
         location: None,
         retry_after: None,
+        last_modified: None,
+        etag: None,
         body: Vec::new(alloc),
     };
     chain_of(alloc, of, Told::Whole(Given::new(response)))

@@ -9,7 +9,8 @@ use Rattle.response_reader.specs.Limits.{Limited}
 use Rattle.html_links.specs.declared.rules.LinkRules.{LinkRules}
 
 -- which links of pages it takes, whether it keeps connections, how many may then be open to a server, what it sends, when it asks
--- again, how long an answer may be whose body goes to a keeper, what was requested of it, in order, and the fetcher that asks once for it
+-- again, how long an answer may be whose body goes to a keeper, whether files get the times of their pages, what was requested of it, in
+-- order, and the fetcher that asks once for it
 pub record TcpFetching : Type 0 where
   pub links : LinkRules
   pub keeps : Bool
@@ -17,5 +18,6 @@ pub record TcpFetching : Type 0 where
   pub sends : Option Sending
   pub retries : Retried
   pub limits : Limited
+  pub takes_times : Bool
   pub asks : List Ask
   pub single : Fetching Connecting

@@ -40,6 +40,8 @@ pub struct OverTcp<'a, R: Net + Wait + Clock + Eprint> {
     retries: Retries,
     // How long an answer may be whose body goes to a keeper.
     limits: Limits,
+    // Whether the file of such a body gets the time at which its page changed.
+    takes_times: bool,
     // Whether robots files may lengthen the pauses between requests.
     crawl_delay: bool,
     asks: Vec<Ask>,
@@ -53,6 +55,7 @@ impl<'a, R: Net + Wait + Clock + Eprint> Drop for OverTcp<'a, R> {
             inner: _inner,
             retries: _retries,
             limits: _limits,
+            takes_times: _takes_times,
             crawl_delay: _crawl_delay,
             asks: _asks,
         } = self;
@@ -66,7 +69,7 @@ impl<'a, R: Net + Wait + Clock + Eprint> Model for OverTcp<'a, R> {
 
     ghost Value = { TcpFetching };
 
-    ghost view = { λ f. record { links = f.inner.links; keeps = f.inner.keeps; most = f.inner.connect.most; sends = f.inner.sends; retries = retries_by f.retries; limits = limited f.limits; asks = f.asks.items; single = f.inner } };
+    ghost view = { λ f. record { links = f.inner.links; keeps = f.inner.keeps; most = f.inner.connect.most; sends = f.inner.sends; retries = retries_by f.retries; limits = limited f.limits; takes_times = f.takes_times; asks = f.asks.items; single = f.inner } };
 }
 
 impl<'a, R: Net + Wait + Clock + Eprint> OverTcp<'a, R> {
@@ -77,7 +80,8 @@ impl<'a, R: Net + Wait + Clock + Eprint> OverTcp<'a, R> {
     /// By this handle, with what the run knows of hosts and keeps of connections, and the line that counts what comes. Of the
     /// links of pages those are edges that `links` takes. Connections are kept among those of the run
     /// if it is said how many to a server may be open at a time; else each question has one of its own. These
-    /// proxies are asked in place of servers, and of https no server is. Each request says this. Servers are treated so, and requests made again so. Takes no memory.
+    /// proxies are asked in place of servers, and of https no server is. Each request says this. Servers are treated so, and requests made again so. Files get the
+    /// times of their pages if that is said. Takes no memory.
     pub fn new(
         rt: &'a R,
         alloc: Global,
@@ -90,6 +94,7 @@ impl<'a, R: Net + Wait + Clock + Eprint> OverTcp<'a, R> {
         sends: Sending,
         manner: Manner,
         retries: Retries,
+        takes_times: bool,
     ) -> OverTcp<'a, R>
         ensures links { result.links ≡ links }
         ensures keeps { result.keeps ≡ is_some most }
@@ -97,6 +102,7 @@ impl<'a, R: Net + Wait + Clock + Eprint> OverTcp<'a, R> {
         ensures sends { result.sends ≡ Some sends }
         ensures retries { result.retries ≡ retries_by retries }
         ensures limits { result.limits ≡ limits_of manner.body_limit }
+        ensures takes_times { result.takes_times ≡ takes_times }
         ensures asks { result.asks ≡ [] }
     {
         let limits = Limits::of_body(manner.body_limit);
@@ -111,9 +117,17 @@ impl<'a, R: Net + Wait + Clock + Eprint> OverTcp<'a, R> {
             },
             retries,
             limits,
+            takes_times,
             crawl_delay,
             asks: Vec::new(alloc),
         }
+    }
+
+    // Whether the file of a page gets the time at which that changed.
+    pub(crate) fn takes_times(&self) -> bool
+        ensures { result ≡ self.now.takes_times }
+    {
+        self.takes_times
     }
 
     /// Why the last connection was lost, if it was.
@@ -174,6 +188,7 @@ impl<'a, R: Net + Wait + Clock + Eprint> OverTcp<'a, R> {
         ensures tries { IfOk result (IsLastOf asks_of (MayKeep K.holds self.old.limits at.now) (is_worth_answer self.old.retries) (ask.Page at.now) self.old.retries.most self.old.single self.new.single) }
         ensures retries { self.new.retries ≡ self.old.retries }
         ensures limits { self.new.limits ≡ self.old.limits }
+        ensures takes_times { self.new.takes_times ≡ self.old.takes_times }
     {
         self.asks.push(Ask::Page(at.try_clone()?))?;
         retries::ask_into(&mut self.inner, sink, &self.retries, at, self.limits)

@@ -1,17 +1,17 @@
 //! What asks over TCP for one worker, and has the bodies kept in files while they arrive.
-ghost use Rattle.std.specs.Prelude.{◌≡◌, ◌++◌, ◌∷◌, [], IfOk, OnErr, OnOk};
+ghost use Rattle.std.specs.Prelude.{◌≡◌, ◌++◌, ◌∷◌, [], IfOk, OnErr, OnOk, option_map};
 ghost use Rattle.fetcher.specs.Logs.{GainedAtMost};
 ghost use Rattle.fetcher.specs.declared.fetcher.Ask.TheVariants as ask;
 ghost use Rattle.part_keeper.specs.Parts.{holds_part};
 ghost use Rattle.retries.specs.Keeping.{MayKeep, asks_of, is_worth_answer};
 ghost use Rattle.retries.specs.Tries.{IsLastOf};
-ghost use Rattle.tcp_fetcher.specs.PartsFetching.{MayAnswerIn, MayRuleIn, PartsSite, parts_site};
+ghost use Rattle.tcp_fetcher.specs.PartsFetching.{MayAnswerIn, MayRuleIn, PartsSite, parts_site, time_said};
 
 use crate::over_tcp::OverTcp;
 use address::{Address, Origin};
 use early_names::EarlyRules;
 use fetcher::{Answer, Ask, Fetcher};
-use part_keeper::{Part, PartCounter, PartKeeper, PartsDir};
+use part_keeper::{Part, PartCounter, PartKeeper, PartsDir, lacks_descriptor, time_of};
 use response_answer::PageSink;
 use robots_rules::RuleSet;
 use run_failures::LossKind;
@@ -95,9 +95,39 @@ where
         }
     }
 
+    // Has the file of an answer, which is of the response that was taken last, say when its page changed, if that response says so. If
+    // it needs a descriptor, connections that wait are ended. What the system refuses is left: the file says when it was written.
+    fn date(&self, answer: &Result<Answer<Part>, AllocError>) {
+        let Ok(answer) = answer else {
+            return;
+        };
+        let Some(seconds) = time_said(self.inner.takes_times(), self.sink.last_modified()) else {
+            return;
+        };
+        let keeper = self.sink.keeper();
+        match keeper.date(&answer.body, seconds) {
+            Err(error) if lacks_descriptor(&error) => {
+                self.kept.end_waiting(self.rt);
+                let _ = keeper.date(&answer.body, seconds);
+            }
+            _ => {}
+        }
+    }
+
     /// Why the last connection was lost, if it was.
     pub fn loss(&self) -> Option<LossKind> {
         self.inner.loss()
+    }
+}
+
+// The time that the file of a page gets whose response says this, if it gets one.
+fn time_said(takes_times: bool, last_modified: Option<&[u8]>) -> Option<u64>
+    ensures { result ≡ time_said takes_times (option_map (λ value. value.now) last_modified.entry) }
+{
+    if takes_times {
+        time_of(last_modified?)
+    } else {
+        None
     }
 }
 
@@ -145,11 +175,13 @@ where
         // The network is asked once, or again if that is worth it; what is received last is the answer.
         ensures tries { IfOk result (IsLastOf asks_of (MayKeep holds_part self.old.limits at.now) (is_worth_answer self.old.retries) (ask.Page at.now) self.old.retries.most self.old.single self.new.single) }
         ensures retries { self.new.retries ≡ self.old.retries }
+        ensures takes_times { self.new.takes_times ≡ self.old.takes_times }
     {
         if !keeps(&self.rules, at) {
             return self.inner.ask_into(&mut self.passing, at);
         }
         let answer = self.inner.ask_into(&mut self.sink, at);
+        self.date(&answer);
         write_late(self.rt, self.kept, self.parts);
         answer
     }

@@ -13,9 +13,10 @@ use harvest::Harvest;
 use kept_bodies::BodyKind;
 use part_keeper::{Part, Standing, part_path};
 use std::alloc::Global;
-use std::fs::{File, Files};
+use std::fs::{File, Files, OpenFile};
 use std::io;
 use std::io::{Error, ErrorKind, Read};
+use std::time::SystemTime;
 use streams::{Close, Lock};
 
 impl HasKind for Part {
@@ -33,13 +34,31 @@ impl HasKind for Part {
     }
 }
 
-// The bytes of the file at a path, which are to be so many.
-fn read_whole<R: Files>(rt: &R, alloc: Global, path: &str, len: u64) -> io::Result<Vec<u8>> {
+// The bytes of a file, and when it was changed, if the system says it.
+#[derive(Drop)]
+struct Dated {
+    bytes: Vec<u8>,
+    modified: Option<SystemTime>,
+}
+
+// When an open file was changed, if the system says it.
+fn time_of<F: OpenFile>(file: &F) -> Option<SystemTime> {
+    match file.metadata() {
+        Ok(found) => found.modified().ok(),
+        Err(_) => None,
+    }
+}
+
+// What is in the file at a path, whose bytes are to be so many.
+fn read_whole<R: Files>(rt: &R, alloc: Global, path: &str, len: u64) -> io::Result<Dated> {
     let mut bytes = Vec::new(alloc);
     let mut file = File::open(rt, path)?;
     file.read_to_end(&mut bytes)?;
     if bytes.len() as u64 == len {
-        Ok(bytes)
+        Ok(Dated {
+            bytes,
+            modified: time_of(&file),
+        })
     } else {
         Err(Error::from(ErrorKind::Other))
     }
@@ -66,18 +85,22 @@ where
 {
     ghost use Rattle.std.specs.Prelude.{◌≡◌};
 
-    // What is to be in place of the body of this part, which has this name.
+    // What is to be in place of the body of this part, which has this name, with the time of its file.
     fn changed_body<C: BodyChange>(
         &self,
         place: usize,
         name: &str,
         part: &Part,
         change: &C,
-    ) -> io::Result<Option<Vec<u8>>> {
+    ) -> io::Result<Option<Dated>> {
         let path = path_below(self.alloc, self.prefix.as_str(), name)?;
         look_for_file(self.rt, path.as_str())?;
-        let body = read_whole(self.rt, self.alloc, path.as_str(), part.len)?;
-        changed(self.alloc, place, part.kind, body.as_slice(), change)
+        let Dated { bytes, modified } = read_whole(self.rt, self.alloc, path.as_str(), part.len)?;
+        let other = changed(self.alloc, place, part.kind, bytes.as_slice(), change)?;
+        Ok(match other {
+            Some(bytes) => Some(Dated { bytes, modified }),
+            None => None,
+        })
     }
 
     // Has the file of this name, which has a part, have what is to be in place of the body. If that fails it stays as it is.
@@ -91,7 +114,7 @@ where
         ensures { self.new ≡ self.old }
     {
         match self.changed_body(place, name, part, change)? {
-            Some(other) => self.write(name, other.as_slice()),
+            Some(other) => self.write(name, other.bytes.as_slice(), other.modified),
             None => Ok(()),
         }
     }
@@ -241,7 +264,7 @@ where
             Standing::Named => self.put_named(name, part),
             Standing::Lost => Err(Error::from(ErrorKind::Other)),
             Standing::Absent => {
-                let put = self.write(name, &[]);
+                let put = self.write(name, &[], None);
                 self.remove_own();
                 put
             }

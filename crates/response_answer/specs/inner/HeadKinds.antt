@@ -11,4 +11,6 @@ kind_parts k = record {
   coded = k.coded;
   location = option_map vec_items k.location.now;
   retry_after = option_map vec_items k.retry_after.now;
+  last_modified = option_map vec_items k.last_modified.now;
+  etag = option_map vec_items k.etag.now;
 }
