@@ -223,10 +223,10 @@ where
         }
     }
 
-    fn hold(&self, path: &str, is_resumed: bool) -> Result<(), HoldFault> {
+    fn hold(&self, path: &str, resumed: Option<&str>) -> Result<(), HoldFault> {
         match self
             .saving
-            .hold(self.rt, self.rt, self.alloc, path, is_resumed)
+            .hold(self.rt, self.rt, self.alloc, path, resumed)
         {
             Ok(()) => Ok(()),
             Err(Held::Refused) => Err(HoldFault::Refused),

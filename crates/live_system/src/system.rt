@@ -107,9 +107,9 @@ pub trait System {
     fn folder(&self, path: &str) -> Result<Self::Folder, AllocError>
         ensures { IfOk result (opens self.now path.now) };
 
-    /// Holds the place at which a run saves, before anything is read or requested, so that no other saves there. It says whether
-    /// the run goes on from the file at this path. Why a path is refused is reported to a person.
-    fn hold(&self, _path: &str, _is_resumed: bool) -> Result<(), HoldFault>
+    /// Holds the place at which a run saves, before anything is read or requested, so that no other saves there; `_resumed` is the
+    /// file that the run goes on from, if there is one. Why a path is refused is reported to a person.
+    fn hold(&self, _path: &str, _resumed: Option<&str>) -> Result<(), HoldFault>
         ensures { result ≡ Err HoldFault.Refused → refuses self.now _path.now }
     {
         Ok(())

@@ -3,6 +3,7 @@ use crate::disk_journal::DiskJournal;
 use crate::held_journal::{HeldJournal, look_for_file};
 use crate::journal_fault::JournalFault;
 use crate::saved_file::can_be_made;
+use answer_notes::{Noted, Told};
 use html_links::LinkRules;
 use site_inputs::InputFault;
 use site_records::{RecordFault, RecordFront, RecordedSite, read_front, write_record};
@@ -34,8 +35,16 @@ pub enum HoldFault {
 /// Where a run saves its answers: nowhere, until it holds the file of a record. All its workers share it.
 pub struct Saving<D: Files> {
     journal: OnceLock<DiskJournal<D>>,
-    // What the journal had that is resumed, until it is taken: a record, or nothing if there was no journal.
-    left: Mutex<Option<Vec<u8>>>,
+    // What the journal had that is resumed, until it is taken.
+    left: Mutex<Option<Left>>,
+}
+
+// What an earlier run left in a journal: a record, or nothing if there was no journal.
+#[derive(Drop)]
+struct Left {
+    text: Vec<u8>,
+    // Whether it is the journal of the file that is resumed, and not of another that is saved to.
+    is_beside: bool,
 }
 
 // Written by hand: a user that drops one proves a call, and nothing about its fields.
@@ -182,15 +191,31 @@ fn refuse_other<R: Eprint, D: Files>(
     rt: &R,
     disk: &D,
     saved: &str,
-    is_resumed: bool,
+    resumed: Option<&str>,
 ) -> Result<(), HoldFault> {
-    if is_file(rt, disk, saved)? && !is_resumed {
+    if is_file(rt, disk, saved)? && resumed != Some(saved) {
         let _ = eprintln!(rt;
             "{saved}: is there; resume it by --resume {saved}, remove it, or save to another file"
         );
         return Err(HoldFault::Refused);
     }
     Ok(())
+}
+
+// Refuses a journal that has answers if the run goes on from nothing, and reports this to a person.
+fn refuse_left<R: Eprint>(
+    rt: &R,
+    path: &str,
+    saved: &str,
+    front: &RecordFront,
+) -> Result<(), HoldFault> {
+    if front.site.entry_count() == 0 {
+        return Ok(());
+    }
+    let _ = eprintln!(rt;
+        "{path}: has answers of a run that was stopped; resume them by --resume {saved}, or by the file that it resumed, or remove it"
+    );
+    Err(HoldFault::Refused)
 }
 
 // Refuses a path at which no record can be made, and reports this to a person.
@@ -247,9 +272,49 @@ fn left_beside<R: Eprint, D: Files>(
     }
 }
 
-// The record of a record's answers and of those of a journal that it doesn't have. If one of both is no record it is handed
-// out as it is, so that its line is reported.
+// Whether a note says that no response was received.
+fn is_fault(note: &Noted) -> bool {
+    match note {
+        Noted::Page(_, told) => matches!(told, Told::Fault(_)),
+        // A fault ends a chain.
+        Noted::Chain(chain) => matches!(chain.hops(), [.., (_, Told::Fault(_))]),
+    }
+}
+
+// Adds those of these notes that are faults, or those that aren't, each as a part of its own.
+fn push_notes<'a>(
+    parts: &mut Vec<&'a [Noted]>,
+    notes: &'a [Noted],
+    are_faults: bool,
+) -> Result<(), AllocError> {
+    for (at, note) in notes.iter().enumerate() {
+        if is_fault(note) == are_faults {
+            parts.push(&notes[at..=at])?;
+        }
+    }
+    Ok(())
+}
+
+// The notes of a record and of what was received after it, in the order in which the first of an address counts: a fault gives way
+// to what was received later.
+fn parts_of<'a>(
+    alloc: Global,
+    record: &'a [Noted],
+    later: &'a [Noted],
+) -> Result<Vec<&'a [Noted]>, AllocError> {
+    let mut parts = Vec::new(alloc);
+    push_notes(&mut parts, record, false)?;
+    parts.push(later)?;
+    push_notes(&mut parts, record, true)?;
+    Ok(parts)
+}
+
+// The record of a record's answers and of those of a journal that it doesn't have, or has as faults. If one of both is no record it
+// is handed out as it is, so that its line is reported.
 fn joined(alloc: Global, record: Vec<u8>, journal: Vec<u8>) -> Result<Vec<u8>, ReadFault> {
+    if journal.is_empty() {
+        return Ok(record);
+    }
     let Ok(first) = RecordedSite::read_noted(alloc, record.as_slice(), LinkRules::all(false)) else {
         return Ok(record);
     };
@@ -258,11 +323,39 @@ fn joined(alloc: Global, record: Vec<u8>, journal: Vec<u8>) -> Result<Vec<u8>, R
         return Ok(journal);
     };
     drop(journal);
+    let parts = parts_of(alloc, first.notes(), more.notes())?;
     let mut text = Vec::new(alloc);
-    match write_record(alloc, &mut text, &[first.notes(), more.notes()]) {
+    match write_record(alloc, &mut text, parts.as_slice()) {
         Ok(()) => Ok(text),
         Err(RecordFault::Device | RecordFault::Memory) => Err(ReadFault::Memory),
     }
+}
+
+// The record at a path, of at most so many bytes, and what the journal beside it has. If one of both is missing it is the other.
+fn read_with<D: Files>(
+    disk: &D,
+    alloc: Global,
+    path: &str,
+    limit: usize,
+    journal: Vec<u8>,
+) -> Result<Vec<u8>, ReadFault> {
+    match read_at(disk, alloc, path, limit)? {
+        Some(record) => joined(alloc, record, journal),
+        None if journal.is_empty() => Err(ReadFault::Failed),
+        None => Ok(journal),
+    }
+}
+
+// The same of a record that isn't saved to.
+fn read_beside<R: Eprint, D: Files>(
+    rt: &R,
+    disk: &D,
+    alloc: Global,
+    path: &str,
+    limit: usize,
+) -> Result<Vec<u8>, ReadFault> {
+    let journal = left_beside(rt, disk, alloc, path)?;
+    read_with(disk, alloc, path, limit, journal)
 }
 
 impl From<AllocError> for HoldFault {
@@ -286,7 +379,8 @@ impl<D: Files> Saving<D> {
     }
 
     /// Holds the file of a record, so that no other run saves there, and begins its journal. Answers that are left in the journal
-    /// stay there. The run is refused if it doesn't resume these, or a file that is there, and if the file is a link, a folder or a
+    /// stay there. `resumed` is the file that the run goes on from, if there is one: this, or another, and then what the journal has
+    /// is resumed too. The run is refused if it would lose that, or a file that is there, and if the file is a link, a folder or a
     /// device. If the journal can't be opened, that is reported, and the run goes on without it, unless no file can be made there
     /// at all. To be called once, before anything is requested.
     pub fn hold<R: Wait + Clock + Eprint>(
@@ -295,14 +389,14 @@ impl<D: Files> Saving<D> {
         disk: &D,
         alloc: Global,
         saved: &str,
-        is_resumed: bool,
+        resumed: Option<&str>,
     ) -> Result<(), HoldFault>
     where
         D::File: Lock,
     {
-        refuse_other(rt, disk, saved, is_resumed)?;
+        refuse_other(rt, disk, saved, resumed)?;
         match HeldJournal::open(disk, alloc, saved) {
-            Ok(held) => self.begin(rt, alloc, held, saved, is_resumed),
+            Ok(held) => self.begin(rt, alloc, held, saved, resumed),
             Err(JournalFault::Memory) => Err(HoldFault::Memory),
             Err(JournalFault::Held) => {
                 let _ = eprintln!(rt; "{saved}: another run saves there");
@@ -325,9 +419,9 @@ impl<D: Files> Saving<D> {
         alloc: Global,
         mut held: HeldJournal<D>,
         saved: &str,
-        is_resumed: bool,
+        resumed: Option<&str>,
     ) -> Result<(), HoldFault> {
-        let whole = self.take_left(rt, alloc, &mut held, saved, is_resumed)?;
+        let whole = self.take_left(rt, alloc, &mut held, saved, resumed)?;
         let journal = held.begin(rt, alloc, whole);
         if !journal.is_open(rt) {
             journal.tell_closed(rt);
@@ -343,28 +437,25 @@ impl<D: Files> Saving<D> {
         alloc: Global,
         held: &mut HeldJournal<D>,
         saved: &str,
-        is_resumed: bool,
+        resumed: Option<&str>,
     ) -> Result<u64, HoldFault> {
         let mut text = text_of(rt, alloc, held)?;
         let front = front_of(rt, alloc, held.path(), text.as_slice())?;
-        if front.site.entry_count() > 0 && !is_resumed {
-            let path = held.path();
-            let _ = eprintln!(rt;
-                "{path}: has answers of a run that was stopped; resume them by --resume {saved}, or remove it"
-            );
-            return Err(HoldFault::Refused);
+        let Some(from) = resumed else {
+            refuse_left(rt, held.path(), saved, &front)?;
+            return Ok(front.len as u64);
+        };
+        if !held.is_new() {
+            cut_to(rt, alloc, held.path(), &mut text, &front)?;
         }
-        if is_resumed {
-            if !held.is_new() {
-                cut_to(rt, alloc, held.path(), &mut text, &front)?;
-            }
-            *self.left.lock(rt) = Some(text);
-        }
+        let is_beside = from == saved;
+        *self.left.lock(rt) = Some(Left { text, is_beside });
         Ok(front.len as u64)
     }
 
-    /// The record at a path, of at most so many bytes, with what the journal beside it has: of two answers of one address, or of
-    /// one origin, that of the record. If one of both is missing it is the other. What of the journal is taken is reported.
+    /// The record at a path, of at most so many bytes, with what the journal beside it has, and then the journal that is held: of
+    /// two answers of one address, or of one origin, the first that is no fault. If the record or the journal beside it is missing it
+    /// is the other. What of journals is taken is reported.
     pub fn read<R: Wait + Eprint>(
         &self,
         rt: &R,
@@ -374,15 +465,18 @@ impl<D: Files> Saving<D> {
         limit: usize,
     ) -> Result<Vec<u8>, ReadFault> {
         let left = self.left.lock(rt).take();
-        let journal = match left {
-            Some(left) => left,
-            None => left_beside(rt, disk, alloc, path)?,
-        };
-        match read_at(disk, alloc, path, limit)? {
-            Some(record) if journal.is_empty() => Ok(record),
-            Some(record) => joined(alloc, record, journal),
-            None if journal.is_empty() => Err(ReadFault::Failed),
-            None => Ok(journal),
+        match left {
+            Some(
+                Left {
+                    text,
+                    is_beside: true,
+                },
+            ) => read_with(disk, alloc, path, limit, text),
+            Some(Left { text, .. }) => {
+                let record = read_beside(rt, disk, alloc, path, limit)?;
+                joined(alloc, record, text)
+            }
+            None => read_beside(rt, disk, alloc, path, limit),
         }
     }
 

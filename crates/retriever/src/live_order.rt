@@ -7,7 +7,7 @@ ghost use Rattle.retriever.specs.Keeping.{kept_as};
 ghost use Rattle.retriever.specs.Live.{Lives};
 ghost use Rattle.retriever.specs.Resuming.{IsUnresumed};
 ghost use Rattle.retriever.specs.Systems.{IsNotRead, IsNotResumed, IsRecordRead, IsResumed, LivesAgain, LivesBy, LivesIn, LivesPlainly, LivesSaving, LivesWith, means, settings_of};
-ghost use Rattle.retriever.specs.inner.Systems.{AreResuming, goes_on_from, is_plain};
+ghost use Rattle.retriever.specs.inner.Systems.{AreResuming, is_plain};
 
 use crate::input_run::{MAX_INPUT, deliver};
 use crate::live_run::live_shown;
@@ -281,16 +281,6 @@ fn live_with<H: Threads + Wait + Sync, S: System, W: Write>(
     }
 }
 
-// Whether the order goes on from this file.
-fn goes_on_from(order: &Order, path: &str) -> bool
-    ensures { result ≡ goes_on_from order.now.resume path.now }
-{
-    match &order.resume {
-        Some(from) => from.as_str() == path,
-        None => false,
-    }
-}
-
 // Holds the place where the order saves, if it does.
 fn hold<S: System>(system: &S, order: &Order) -> Result<(), ResumeFault>
     ensures { IfErr result (IsNotResumed (means S.System system.now S.Fetcher.Fetcher S.Recorder.Fetcher S.Recorder.noted (kept_as S.Body.kind_of S.Body.len_of S.Folder.holds) S.Folder.Folder S.Record.Write) order.now) }
@@ -298,8 +288,11 @@ fn hold<S: System>(system: &S, order: &Order) -> Result<(), ResumeFault>
     let Some(path) = &order.save else {
         return Ok(());
     };
-    let is_resumed = goes_on_from(order, path.as_str());
-    match system.hold(path.as_str(), is_resumed) {
+    let resumed = match &order.resume {
+        Some(from) => Some(from.as_str()),
+        None => None,
+    };
+    match system.hold(path.as_str(), resumed) {
         Ok(()) => Ok(()),
         Err(HoldFault::Refused) => Err(ResumeFault::Refused),
         Err(HoldFault::Memory) => Err(ResumeFault::Read(ReadFault::Memory)),

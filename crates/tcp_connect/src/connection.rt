@@ -1,5 +1,5 @@
 //! Connections that remember whether they failed, end when an answer takes too long, and are read no faster than a rate.
-ghost use Rattle.std.specs.Prelude.{◌<◌};
+ghost use Rattle.std.specs.Prelude.{◌<◌, ◌≡◌};
 ghost use Rattle.std.specs.Io.{ReadsAtMost};
 
 use crate::flow::wait_flow;
@@ -9,12 +9,13 @@ use address::Origin;
 use pacing::Manner;
 use std::io;
 use std::io::{Error, ErrorKind, Read, Write};
+use std::marker::Model;
 use std::net::{Net, OpenStream};
 use std::sync::Wait;
 use std::time::{Clock, Duration, Instant};
 
 /// A connection of the system's to an origin, until when it may be read, whether a read or a write of it failed, and its place
-/// among those that are kept, where it has one.
+/// among those that are kept, where it has one. Contracts see the origin that it was made for.
 pub struct Connection<'a, R: Net + Wait + Clock> {
     rt: &'a R,
     hosts: &'a Hosts,
@@ -26,16 +27,23 @@ pub struct Connection<'a, R: Net + Wait + Clock> {
     // How many bytes a second may be read by all workers, where there is a limit.
     rate: Option<u64>,
     failed: bool,
-    // None without memory for it.
-    of: Option<Origin>,
+    of: Origin,
     place: Option<Taken<'a, R::Stream>>,
+}
+
+impl<'a, R: Net + Wait + Clock> Model for Connection<'a, R> {
+    ghost use Rattle.address.specs.Address.{OriginText};
+
+    ghost Value = { OriginText };
+
+    ghost view = { λ c. c.of };
 }
 
 // By hand: a place can't be dropped.
 impl<'a, R: Net + Wait + Clock> Drop for Connection<'a, R> {
     fn drop(self) {
         let Connection {
-            rt: _rt,
+            rt,
             hosts: _hosts,
             stream: _stream,
             until: _until,
@@ -46,7 +54,7 @@ impl<'a, R: Net + Wait + Clock> Drop for Connection<'a, R> {
             place,
         } = self;
         match place {
-            Some(place) => place.forget(),
+            Some(place) => place.leave(rt),
             None => {}
         }
     }
@@ -77,10 +85,12 @@ impl<'a, R: Net + Wait + Clock> Connection<'a, R> {
         rt: &'a R,
         hosts: &'a Hosts,
         stream: R::Stream,
-        of: Option<Origin>,
+        of: Origin,
         place: Option<Taken<'a, R::Stream>>,
         manner: &Manner,
-    ) -> Connection<'a, R> {
+    ) -> Connection<'a, R>
+        ensures { result ≡ of }
+    {
         Connection {
             rt,
             hosts,
@@ -95,12 +105,16 @@ impl<'a, R: Net + Wait + Clock> Connection<'a, R> {
     }
 
     // The origin that it was made for.
-    pub(crate) fn of(&self) -> Option<&Origin> {
-        self.of.as_ref()
+    pub(crate) fn of(&self) -> &Origin
+        ensures { result.now ≡ self.now }
+    {
+        &self.of
     }
 
-    // The connection again, where none of its calls failed, and its place.
-    pub(crate) fn into_parts(self) -> (Option<R::Stream>, Option<Taken<'a, R::Stream>>) {
+    // The origin that it was made for, the connection again, where none of its calls failed, and its place.
+    pub(crate) fn into_parts(self) -> (Origin, Option<R::Stream>, Option<Taken<'a, R::Stream>>)
+        ensures { result.0 ≡ self.entry }
+    {
         let Connection {
             rt: _rt,
             hosts: _hosts,
@@ -109,11 +123,11 @@ impl<'a, R: Net + Wait + Clock> Connection<'a, R> {
             read_limit: _read_limit,
             rate: _rate,
             failed,
-            of: _of,
+            of,
             place,
         } = self;
         let sound = if failed { None } else { Some(stream) };
-        (sound, place)
+        (of, sound, place)
     }
 
     // Reads, no longer than there is time for it.

@@ -1,5 +1,5 @@
 //! The connections of a run that are kept to be used again (RFC 9112, section 9.3), and how many stand.
-ghost use Rattle.std.specs.Prelude.{◌≡◌, ◌⊎◌, [], Some, IfOk, MatchOption, string_bytes};
+ghost use Rattle.std.specs.Prelude.{◌≡◌, ◌⊎◌, [], Some, IfOk, IfSome, MatchOption, string_bytes};
 ghost use Rattle.std.specs.List.{flat_map};
 ghost use Rattle.run_failures.specs.Unasked.{unasked_line, with_origin};
 ghost use Rattle.tcp_connect.specs.Standing.{waits, EndsFirst, Leaves, TakesKept, EntersKept, PutsKept};
@@ -18,7 +18,7 @@ use std::time::{Clock, Instant};
 /// The most seconds that one waits.
 const IDLE_SECONDS: u64 = 5;
 
-// One that waits to be used again, to which origin, and since when.
+// One that waits to be used again, the origin that it was made for, and since when.
 #[derive(Drop)]
 pub(crate) struct Waiting<S: Drop> {
     pub(crate) of: Origin,
@@ -130,7 +130,7 @@ impl<S: Drop> Drop for Kept<S> {
 }
 
 // The place of a connection that is in use. It can't be dropped: whoever ends the connection leaves it, or keeps the connection
-// there.
+// there, and there is no third way.
 pub(crate) struct Taken<'k, S: Drop> {
     kept: &'k Kept<S>,
     number: u64,
@@ -148,27 +148,18 @@ impl<'k, S: Drop> Taken<'k, S> {
         kept.pooled.lock(rt).leave(number);
     }
 
-    // Puts the connection, which is to this origin, down to wait. Both come back if it isn't kept.
+    // Puts the connection down to wait. Both come back if it isn't kept.
     pub(crate) fn put<R: Wait>(
         self,
         rt: &R,
-        of: &Origin,
         waiting: Waiting<S>,
     ) -> Option<(Taken<'k, S>, Waiting<S>)> {
         let Taken { kept, number } = self;
-        let back = kept.pooled.lock(rt).put(of, number, waiting);
+        let back = put_among(&mut kept.pooled.lock(rt), number, waiting);
         match back {
             Some(waiting) => Some((Taken { kept, number }, waiting)),
             None => None,
         }
-    }
-
-    // For a connection that is dropped and not ended, as no fetcher does.
-    pub(crate) fn forget(self) {
-        let Taken {
-            kept: _kept,
-            number: _number,
-        } = self;
     }
 }
 
@@ -186,17 +177,23 @@ impl<S: Drop> Kept<S> {
         text_among(&mut self.pooled.lock(rt))
     }
 
-    // The one to this origin that was put down last, which is in use from now on.
+    // The one to this origin that was put down last, which is in use from now on. What is under the lock no clause can name, so the
+    // origin is compared once more.
     pub(crate) fn take<'k, R: Wait>(
         &'k self,
         rt: &R,
         of: &Origin,
-    ) -> Option<(Taken<'k, S>, Waiting<S>)> {
+    ) -> Option<(Taken<'k, S>, Waiting<S>)>
+        ensures { IfSome result (λ taken. taken.1.of ≡ of.now) }
+    {
         let taken = self.pooled.lock(rt).take(of);
-        match taken {
-            Some((number, waiting)) => Some((Taken { kept: self, number }, waiting)),
-            None => None,
+        let (number, waiting) = taken?;
+        let place = Taken { kept: self, number };
+        if waiting.of == *of {
+            return Some((place, waiting));
         }
+        place.leave(rt);
+        None
     }
 
     // A place for a new connection to an origin, of which so many may stand, and one that has to go for it.
@@ -279,6 +276,20 @@ fn oldest_among<W: Drop>(pooled: &mut Pooled<W>) -> Option<W>
     ensures unasked { pooled.new.unasked ≡ pooled.old.unasked }
 {
     pooled.standing.take_oldest()
+}
+
+// Puts one down to wait, under the origin that it was made for. It comes back if there is no place for it.
+fn put_among<S: Drop>(
+    pooled: &mut Pooled<Waiting<S>>,
+    number: u64,
+    waiting: Waiting<S>,
+) -> Option<Waiting<S>>
+    ensures { PutsKept waiting.of number waiting pooled.old result pooled.new }
+{
+    let Ok(of) = waiting.of.try_clone() else {
+        return Some(waiting);
+    };
+    pooled.put(&of, number, waiting)
 }
 
 // The lines on the origins of which none is kept any more.

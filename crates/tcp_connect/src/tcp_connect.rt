@@ -1,5 +1,5 @@
 //! Connections over TCP.
-ghost use Rattle.std.specs.Prelude.{◌≡◌, ◌++◌, ⊤, None, Some, codes, option_map};
+ghost use Rattle.std.specs.Prelude.{◌≡◌, ◌++◌, ⊤, IfOk, IfSome, None, Some, codes, option_map};
 ghost use Rattle.address.specs.Address.{host_of, scheme_of};
 ghost use Rattle.requests.specs.Proxies.{proxy_for};
 ghost use Rattle.tcp_connect.specs.Connecting.{server_by, server_itself};
@@ -343,10 +343,13 @@ impl<'a, R: Net + Wait + Clock> TcpConnect<'a, R> {
     }
 
     // A connection to an origin that waits, not too long, and from which nothing can be read. Others are ended.
-    fn next_kept(&self, kept: &'a Kept<R::Stream>, of: &Origin) -> Option<Connection<'a, R>> {
+    fn next_kept(&self, kept: &'a Kept<R::Stream>, of: &Origin) -> Option<Connection<'a, R>>
+        ensures { IfSome result (λ connection. connection ≡ of.now) }
+    {
         for _ in 0..MOST {
-            let (place, Waiting { since, stream, .. }) = kept.take(self.rt, of)?;
-            if kept.is_quiet(self.rt, of, &stream) && is_fresh(self.rt, &since) {
+            let (place, waiting) = kept.take(self.rt, of)?;
+            let Waiting { of, since, stream } = waiting;
+            if kept.is_quiet(self.rt, &of, &stream) && is_fresh(self.rt, &since) {
                 return Some(self.connection(stream, of, Some(place)));
             }
             drop(stream);
@@ -382,25 +385,21 @@ impl<'a, R: Net + Wait + Clock> TcpConnect<'a, R> {
         }
     }
 
-    // Keeps a connection to an origin from now on. If it isn't kept it is ended, and its place comes back.
+    // Keeps a connection from now on that was made for an origin. If it isn't kept it is ended, and its place comes back.
     fn keep(
         &self,
-        of: &Origin,
+        of: Origin,
         place: Taken<'a, R::Stream>,
         stream: R::Stream,
     ) -> Option<Taken<'a, R::Stream>> {
-        if !place.kept().is_quiet(self.rt, of, &stream) {
+        if !place.kept().is_quiet(self.rt, &of, &stream) {
             return Some(place);
         }
-        let (Ok(since), Ok(copy)) = (Instant::now(self.rt), of.try_clone()) else {
+        let Ok(since) = Instant::now(self.rt) else {
             return Some(place);
         };
-        let waiting = Waiting {
-            of: copy,
-            since,
-            stream,
-        };
-        match place.put(self.rt, of, waiting) {
+        let waiting = Waiting { of, since, stream };
+        match place.put(self.rt, waiting) {
             Some((place, _ended)) => Some(place),
             None => None,
         }
@@ -410,10 +409,11 @@ impl<'a, R: Net + Wait + Clock> TcpConnect<'a, R> {
     fn connection(
         &self,
         stream: R::Stream,
-        of: &Origin,
+        of: Origin,
         place: Option<Taken<'a, R::Stream>>,
-    ) -> Connection<'a, R> {
-        let of = of.try_clone().ok();
+    ) -> Connection<'a, R>
+        ensures { result ≡ of }
+    {
         Connection::new(self.rt, self.hosts, stream, of, place, &self.manner)
     }
 
@@ -459,13 +459,15 @@ impl<'a, R: Net + Wait + Clock> TcpConnect<'a, R> {
     }
 
     // A connection to an origin whose turn has come, in a place of its own where connections are kept.
-    fn make(&mut self, of: &Origin) -> Result<TcpWire<Connection<'a, R>>, OpenFault>
-        ensures { self.new ≡ self.old }
+    fn make(&mut self, of: &Origin) -> Result<Connection<'a, R>, OpenFault>
+        ensures same { self.new ≡ self.old }
+        ensures of { IfOk result (λ connection. connection ≡ of.now) }
     {
+        let copy = of.try_clone()?;
         self.begin(of)?;
         let place = self.enter(of)?;
         match self.wait_for(of) {
-            Ok(stream) => Ok(TcpWire::new(self.connection(stream, of, place))),
+            Ok(stream) => Ok(self.connection(stream, copy, place)),
             Err(fault) => {
                 self.leave(place);
                 Err(fault)
@@ -475,8 +477,8 @@ impl<'a, R: Net + Wait + Clock> TcpConnect<'a, R> {
 
     // If bytes that nobody had requested came with a response, no connection to its origin is kept from now on.
     fn judge(&self, connection: &Connection<'a, R>, has_unasked: bool) {
-        if let (true, Some(kept), Some(of)) = (has_unasked, self.kept(), connection.of()) {
-            kept.refuse(self.rt, of);
+        if let (true, Some(kept)) = (has_unasked, self.kept()) {
+            kept.refuse(self.rt, connection.of());
         }
     }
 
@@ -492,8 +494,8 @@ impl<'a, R: Net + Wait + Clock> TcpConnect<'a, R> {
         self.hosts.note_end();
     }
 
-    // Keeps a connection to an origin in its place, or ends it: one that failed isn't kept.
-    fn put_down(&mut self, of: &Origin, stream: Option<R::Stream>, place: Taken<'a, R::Stream>)
+    // Keeps a connection that was made for an origin in its place, or ends it: one that failed isn't kept.
+    fn put_down(&mut self, of: Origin, stream: Option<R::Stream>, place: Taken<'a, R::Stream>)
         ensures { self.new ≡ self.old }
     {
         self.end_stale(place.kept());
@@ -516,7 +518,7 @@ impl<'a, R: Net + Wait + Clock> TcpConnect<'a, R> {
         let has_unasked = wire.has_unasked();
         let connection = wire.into_stream();
         self.judge(&connection, has_unasked);
-        let (stream, place) = connection.into_parts();
+        let (_of, stream, place) = connection.into_parts();
         self.end_parts(stream, place);
     }
 
@@ -554,7 +556,7 @@ impl<'a, R: Net + Wait + Clock> Connect for TcpConnect<'a, R> {
         self.made = self.made.saturating_add(1);
         self.loss = None;
         match self.make(of) {
-            Ok(wire) => Ok(wire),
+            Ok(connection) => Ok(TcpWire::new(connection)),
             Err(unmade) => {
                 self.loss = unmade.loss();
                 let fault = unmade.told();
@@ -576,9 +578,9 @@ impl<'a, R: Net + Wait + Clock> Connect for TcpConnect<'a, R> {
         Some(TcpWire::new(connection))
     }
 
-    // One that failed, or that has no place, isn't kept.
-    fn give_back(&mut self, of: &Origin, wire: TcpWire<Connection<'a, R>>) {
-        let (stream, place) = wire.into_stream().into_parts();
+    // One that failed, or that has no place, isn't kept. It is kept for the origin that it was made for.
+    fn give_back(&mut self, _of: &Origin, wire: TcpWire<Connection<'a, R>>) {
+        let (of, stream, place) = wire.into_stream().into_parts();
         match place {
             Some(place) => self.put_down(of, stream, place),
             None => self.end_parts(stream, None),
