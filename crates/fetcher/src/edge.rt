@@ -78,11 +78,13 @@ impl Model for Edges {
 }
 
 impl Edges {
-    /// The edges of a list, to be shared from now on. The error is that memory is wanting.
-    pub fn new(items: Vec<Edge>) -> Result<Self, AllocError>
+    /// The edges of a list, to be shared from now on. Room that the list doesn't need is given back, as it may be held for long.
+    /// The error is that memory is wanting.
+    pub fn new(mut items: Vec<Edge>) -> Result<Self, AllocError>
         ensures { IfOk result (λ edges. edges ≡ items.items) }
     {
         let alloc = *items.allocator();
+        items.shrink_to_fit();
         Ok(Edges {
             items: Arc::new(alloc, items)?,
         })
