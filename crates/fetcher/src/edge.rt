@@ -1,5 +1,5 @@
 //! The edges of an outcome: where a page or a redirect leads (GNU Wget manual, Recursive Download).
-ghost use Rattle.std.specs.Prelude.{◌≡◌, ◌↔◌, IfOk, IsTrue};
+ghost use Rattle.std.specs.Prelude.{◌≡◌, ◌↔◌, IfOk, IfSome, IsTrue, slice_get};
 
 use address::Address;
 use std::alloc::AllocError;
@@ -78,11 +78,13 @@ impl Model for Edges {
 }
 
 impl Edges {
-    /// The edges of a list, to be shared from now on. The error is that memory is wanting.
-    pub fn new(items: Vec<Edge>) -> Result<Self, AllocError>
+    /// The edges of a list, to be shared from now on. Room that the list doesn't need is given back, as it may be held for long.
+    /// The error is that memory is wanting.
+    pub fn new(mut items: Vec<Edge>) -> Result<Self, AllocError>
         ensures { IfOk result (λ edges. edges ≡ items.items) }
     {
         let alloc = *items.allocator();
+        items.shrink_to_fit();
         Ok(Edges {
             items: Arc::new(alloc, items)?,
         })
@@ -93,6 +95,25 @@ impl Edges {
         ensures { result.now ≡ self.now }
     {
         self.items.as_slice()
+    }
+
+    /// Whether copies share the list. No clause says when, as contracts don't count copies.
+    pub(crate) fn are_shared(&self) -> bool {
+        Arc::strong_count(&self.items) > 1
+    }
+
+    /// Puts an equal address in the place of the target of edge k, counted from 0: then both share one text, and that of
+    /// the old target is let go. If copies share the edges nothing happens. Takes no memory.
+    pub fn share_text(&mut self, k: usize, address: &Address)
+        requires { IfSome (slice_get self.old k) (λ edge. edge.target ≡ address.now) }
+        ensures { self.new ≡ self.old }
+    {
+        let Some(items) = Arc::get_mut(&mut self.items) else {
+            return;
+        };
+        if let Some(edge) = items.get_mut(k) {
+            share_text(&mut edge.target, address);
+        }
     }
 
     /// Whether both have the same edges in the same order. Takes no memory.
@@ -118,6 +139,16 @@ impl fmt::Debug for Edges {
         f.debug_struct("Edges")
             .field("items", &self.as_slice())
             .finish()
+    }
+}
+
+/// Puts an equal address in the place of a target: then both share one text. Takes no memory.
+pub(crate) fn share_text(target: &mut Address, address: &Address)
+    requires { target.old ≡ address.now }
+    ensures { target.new ≡ target.old }
+{
+    if let Ok(copy) = address.try_clone() {
+        *target = copy;
     }
 }
 

@@ -1,5 +1,5 @@
 //! Outcomes: what became of an address that was asked for.
-use crate::edge::{EdgeKind, Edges};
+use crate::edge::{EdgeKind, Edges, share_text};
 use crate::fault_kind::FaultKind;
 use address::Address;
 use std::alloc::AllocError;
@@ -19,7 +19,7 @@ pub enum Outcome {
 }
 
 impl Outcome {
-    ghost use Rattle.std.specs.Prelude.{◌≡◌, ◌↔◌, ◌<◌, IfOk, IsTrue, Some, length, slice_get};
+    ghost use Rattle.std.specs.Prelude.{◌≡◌, ◌↔◌, ◌<◌, IfOk, IfSome, IsTrue, Some, length, slice_get};
     ghost use Rattle.fetcher.specs.Outcomes.{edges, has_edge, is_fault};
 
     /// Whether both are equal: kind, status, edges in their order, target, fault. Takes no memory.
@@ -93,6 +93,32 @@ impl Outcome {
             }
             Outcome::Moved(_, target) => (target, EdgeKind::Redirect),
             Outcome::Leaf(_) | Outcome::Fault(_) => unreachable!(),
+        }
+    }
+
+    /// Whether a target can share the text of an equal address: there is an edge, and copies don't share the edges.
+    pub fn can_share_texts(&self) -> bool {
+        match self {
+            Outcome::Page(_, links) => !links.as_slice().is_empty() && !links.are_shared(),
+            Outcome::Moved(_, _) => true,
+            Outcome::Leaf(_) | Outcome::Fault(_) => false,
+        }
+    }
+
+    /// Puts an equal address in the place of the target of edge k, counted from 0: then both share one text. If copies share
+    /// the edges of a page nothing happens. Takes no memory.
+    pub fn share_text(&mut self, k: usize, address: &Address)
+        requires { IfSome (slice_get (edges self.old) k) (λ edge. edge.target ≡ address.now) }
+        ensures { self.new ≡ self.old }
+    {
+        match self {
+            Outcome::Page(_, links) => links.share_text(k, address),
+            Outcome::Moved(_, target) => {
+                if k == 0 {
+                    share_text(target, address);
+                }
+            }
+            Outcome::Leaf(_) | Outcome::Fault(_) => {}
         }
     }
 }
