@@ -255,6 +255,18 @@ impl<'a> FrontierLock<'a> {
         self.step(rt, |core, ()| offer(core), ())
     }
 
+    /// Has the edges of an outcome share the texts of the addresses that are held, like `Frontier::share_texts`.
+    /// Takes no lock if none can.
+    pub fn share_texts<R: Wait>(&self, rt: &R, outcome: &mut Outcome)
+        ensures { outcome.new ≡ outcome.old }
+    {
+        if !outcome.can_share_texts() {
+            return;
+        }
+        let core = self.core.lock(rt);
+        core.share_texts(outcome);
+    }
+
     /// Hands an answer over, like `Frontier::answer` and `Frontier::robots_answer`. If it isn't taken, that is, if the
     /// permit is stray, the permit and the answer are handed back.
     pub fn give<R: Wait>(&self, rt: &R, done: Done) -> Result<(), Refused>

@@ -114,8 +114,11 @@ struct ToldPage<B> {
     body: Option<B>,
 }
 
-// What an answer contains of a page.
-fn told_of<B: Drop>(
+// What an answer contains of a page. Before its outcome is copied its edges take the texts of held addresses: a list
+// with one owner alone can be written to.
+fn told_of<B: Drop, R: Wait>(
+    rt: &R,
+    lock: &FrontierLock<'_>,
     plan: &Plan,
     address: &Address,
     answer: Answer<B>,
@@ -123,7 +126,8 @@ fn told_of<B: Drop>(
     ensures outcome { IfOk result (λ told. told.outcome ≡ answer.outcome) }
     ensures body { IfOk result (λ told. told.body ≡ body_of plan.now address.now answer.outcome answer.body) }
 {
-    let Answer { outcome, body } = answer;
+    let Answer { mut outcome, body } = answer;
+    lock.share_texts(rt, &mut outcome);
     let copy = outcome.try_clone()?;
     let body = keep_body(plan, address, &outcome, body);
     Ok(ToldPage {
@@ -175,7 +179,7 @@ fn hand_over<B: Drop, Q: Quota<B>, R: Wait>(
     ensures address { result.0.address ≡ address }
     ensures told { MatchOption result.0.told (result.0.body ≡ None) (λ x. (x ≡ answer.outcome) × (result.0.body ≡ body_of plan.now result.0.address x answer.body)) }
 {
-    let Ok(told) = told_of(plan, &address, answer) else {
+    let Ok(told) = told_of(rt, lock, plan, &address, answer) else {
         let stopped = halt(rt, lock, Some(Held::Page(permit)), Cause::Memory);
         return (untold_page(worker, address), stopped);
     };

@@ -29,6 +29,21 @@ impl Board {
         self.entries.find(address)
     }
 
+    /// Each edge of the outcome whose target is held shares the text of the table's address from now on.
+    pub fn share_texts(&self, outcome: &mut Outcome)
+        ensures { outcome.new ≡ outcome.old }
+    {
+        if !outcome.can_share_texts() {
+            return;
+        }
+        for k in 0..outcome.edge_count() {
+            let (target, _) = outcome.edge(k);
+            if let Some(i) = self.find(target) {
+                outcome.share_text(k, self.address_at(i));
+            }
+        }
+    }
+
     /// The number of an address that is due.
     pub fn find_due(&self) -> Option<usize>
         ensures found { IfSome result (λ i. (i < length self.now.entries) × ((d : ℕ) × IsDue self.now (key_numbered self.now.entries i) d)) }
