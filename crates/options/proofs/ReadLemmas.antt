@@ -21,7 +21,7 @@ use Rattle.options.specs.Manners.{manner_of}
 use Rattle.pacing.specs.Retries.{Retried}
 use Rattle.options.specs.Retries.{retries_of}
 use Rattle.options.specs.Naming.{Naming, naming_of}
-use Rattle.options.specs.Order.{Counts, proxies_of, start_of, started_at, are_good, counts_of, patterns_of, directories_of, domains_of, expressions_of, rows_taken, fields_of, login_by, login_of, password_of, user_of, order_of_rows, order_of_written, are_taken, AnswersOrder, ordered}
+use Rattle.options.specs.Order.{Counts, proxies_of, start_of, started_at, are_good, counts_of, patterns_of, directories_of, domains_of, expressions_of, rows_taken, fields_of, login_by, login_of, password_of, user_of, order_of_rows, order_of_written, are_taken, AnswersOrder, AnswersRows, Ordered, ordered}
 use Rattle.html_links.specs.declared.rules.RowSet.{RowSet}
 use Rattle.requests.specs.Fields.{Sent}
 use Rattle.requests.specs.Proxies.{Proxies}
@@ -145,8 +145,14 @@ started found read (Err f) gives page =
     page
 
 -- what a parse that succeeds answers
-pub answers-taken : (words : List Text) (found : List Row) (r : Result Order LineFault) → refusals words ≡ [] → found ≡ rows words → AnswersOrder r (order_of_rows found) → AnswersOrder r (order_of_written words)
-answers-taken words found r none same says = subst (AnswersOrder r) (sym (order_of_written-taken words found none same)) says
+pub answers-taken : (words : List Text) (found : List Row) (r : Result Order LineFault) → refusals words ≡ [] → found ≡ rows words → AnswersRows found r (order_of_rows found) → AnswersRows (rows words) r (order_of_written words)
+answers-taken words found r none same says =
+    subst (λ (f : List Row). AnswersRows f r (order_of_written words)) same (subst (AnswersRows found r) (sym (order_of_written-taken words found none same)) says)
+
+-- what is answered without expressions is answered with them
+pub answers-more : (found : List Row) (r : Result Order LineFault) (expected : Result Ordered LineFault) → AnswersOrder r expected → AnswersRows found r expected
+answers-more found (Ok order) expected is = is
+answers-more found (Err f) expected is = ⊎_elim (λ refused. inl refused) (λ memory. inr (inl memory)) is
 
 -- the fault of a kind
 fault_kind : (kind : ErrorKind) → (without_kind (fault_of_kind kind) ≡ words_refused) ⊎ (kind ≡ kinds.OutOfMemory)

@@ -96,6 +96,9 @@ told_on line.Domain =
 told_on (line.Expression at) =
     Some (Correction (codes "the value of --accept-regex or --reject-regex is no expression")
     (codes "an expression is looked for in addresses, as [?]C= or [.]pdf$ (see wgetr --help)"))
+told_on line.LargeExpression =
+    Some (Correction (codes "the value of --accept-regex or --reject-regex is too large")
+    (codes "an expression has at most 1024 states, some for each character and repetition (see wgetr --help)"))
 told_on line.Tags =
     Some (Correction (codes "an element of --follow-tags or --ignore-tags is none with a link")
     (codes "an element is a name, as a, or a name and an attribute with a link, as img/srcset (see wgetr --help)"))

@@ -33,7 +33,7 @@ use Rattle.options.specs.Manners.{manner_of, quota_by}
 use Rattle.pacing.specs.Retries.{Retried, retries_by}
 use Rattle.options.specs.Retries.{retries_of}
 use Rattle.options.specs.Naming.{Naming, naming_by, naming_of}
-use Rattle.options.specs.Sought.{expressions_by, is_type}
+use Rattle.options.specs.Sought.{IsUnsaid, expressions_by, is_type}
 use Rattle.requests.specs.Fields.{Sent, login_of as login_value_of, read_fields}
 use Rattle.requests.specs.declared.fields.FieldsFault.{FieldsFault}
 use Rattle.requests.specs.declared.fields.FieldsFault.TheVariants as unsent
@@ -186,6 +186,10 @@ unfoldable pub expressions_of : List Row → Option (List (List ℕ) × List (Li
 expressions_of found =
     both (expressions_by (is_set (codes "ignore-case") found) (unless_empty (first_of (codes "accept-regex") found)))
     (expressions_by (is_set (codes "ignore-case") found) (unless_empty (first_of (codes "reject-regex") found)))
+
+-- an expression is looked for in addresses
+unfoldable pub seeks : List Row → Bool
+seeks found = is_some (unless_empty (first_of (codes "accept-regex") found)) || is_some (unless_empty (first_of (codes "reject-regex") found))
 
 -- the value that names a proxy by this option, unless none is to be asked; an empty one names none
 abbrev pub proxy_value : Text → List Row → Option Text
@@ -544,3 +548,16 @@ sending_of order =
 abbrev pub AnswersOrder : Result Order LineFault → Result Ordered LineFault → Type 0
 AnswersOrder result expected =
     MatchResult result (λ order. expected ≡ Ok (ordered_by order)) (λ f. (expected ≡ Err (without_kind f)) ⊎ (f ≡ fault.Memory))
+
+-- the same of what is found for each option, unless an expression would cost too much
+abbrev pub AnswersRows : List Row → Result Order LineFault → Result Ordered LineFault → Type 0
+AnswersRows found result expected =
+    MatchResult result (λ order. expected ≡ Ok (ordered_by order)) (λ f. (expected ≡ Err (without_kind f)) ⊎ IsUnsaid (seeks found) f)
+
+-- the words look for an expression in addresses
+abbrev pub seeks_in : List Text → Bool
+seeks_in words = seeks (rows (written (sayings words)))
+
+-- the result is what the words order, or the lowest fault, unless memory ran out or an expression would cost too much
+abbrev pub AnswersWords : List Text → Result Order LineFault → Type 0
+AnswersWords words result = AnswersRows (rows (written (sayings words))) result (order_of words)

@@ -128,6 +128,10 @@ fn advice_on(wrong: LineFault) -> Option<Advice>
             "the value of --accept-regex or --reject-regex is no expression",
             "an expression is looked for in addresses, as [?]C= or [.]pdf$ (see wgetr --help)",
         )),
+        LineFault::LargeExpression => Some(Advice::Correction(
+            "the value of --accept-regex or --reject-regex is too large",
+            "an expression has at most 1024 states, some for each character and repetition (see wgetr --help)",
+        )),
         LineFault::Tags => Some(Advice::Correction(
             "an element of --follow-tags or --ignore-tags is none with a link",
             "an element is a name, as a, or a name and an attribute with a link, as img/srcset (see wgetr --help)",

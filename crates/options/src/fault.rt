@@ -3,7 +3,7 @@ use crate::asked::is_asking;
 use address::AddressFault;
 use clap::error::ErrorKind;
 
-/// Why words are no order, or what they request. Of several faults the lowest in this order is named, except `Memory`.
+/// Why words are no order, or what they request. Of several faults the lowest in this order is named, except `Memory`: how much of it there is, and how large an expression, no clause says.
 #[derive(Clone, Copy, PartialEq, Eq, Debug)]
 pub enum LineFault {
     /// An option is unknown, is given twice, has no value or one that is out of its range; the
@@ -34,6 +34,8 @@ pub enum LineFault {
     Domain,
     /// The value of `--accept-regex` or `--reject-regex` is no expression, from this byte on.
     Expression(usize),
+    /// An expression would cost too much: more than 1,024 states, or groups that are nested too deep.
+    LargeExpression,
     /// A name in `--follow-tags` or `--ignore-tags` has an attribute that has no link.
     Tags,
     /// The start is no address.

@@ -14,7 +14,9 @@ ghost use Rattle.options.specs.Given.{level_of, list_of};
 ghost use Rattle.pacing.specs.Manners.{mannered};
 ghost use Rattle.pacing.specs.Retries.{retries_by};
 ghost use Rattle.options.specs.Naming.{naming_by};
-ghost use Rattle.options.specs.Order.{AnswersOrder, OrdersBySayings, order_of, order_of_rows, order_of_written, order_said, are_good, is_plain_value, both, counts_of, patterns_of, directories_of, domains_of, expressions_of, fields_fault, fields_of, fields_with, logged, login_by, login_of, login_with, password_of, said_or, start_of, source_of, user_of, honours_robots, limit_within, links_of, ordered, ordered_by, folder_of, guarded, prefix_of, log_by, log_of, both_proxies, proxies_of, proxy_at, proxy_by, proxy_value, read_start, root_origin, rows_taken, taken_if, unless_empty, with_others};
+ghost use Rattle.options.specs.Line.{rows};
+ghost use Rattle.options.specs.Sought.{IsUnsaid};
+ghost use Rattle.options.specs.Order.{AnswersOrder, AnswersRows, AnswersWords, OrdersBySayings, order_of_rows, order_of_written, order_said, are_good, is_plain_value, both, counts_of, patterns_of, directories_of, domains_of, expressions_of, fields_fault, fields_of, fields_with, logged, login_by, login_of, login_with, password_of, said_or, start_of, source_of, user_of, honours_robots, limit_within, links_of, ordered, ordered_by, folder_of, guarded, prefix_of, seeks, log_by, log_of, both_proxies, proxies_of, proxy_at, proxy_by, proxy_value, read_start, root_origin, rows_taken, taken_if, unless_empty, with_others};
 ghost use Rattle.options.specs.Asked.{refusal_of, without_kind, words_refused};
 ghost use Rattle.options.specs.inner.Said.{saying_in};
 ghost use Rattle.options.specs.inner.Order.{StartsAt, FailsToStart, FailsToFilter, IsNoStart, Settles, fault_of_kind, unasked};
@@ -224,7 +226,7 @@ fn read_filters(alloc: Global, matches: &ArgMatches) -> Result<Filters, LineFaul
         × (domains_of (rows_of (found_of matches.now)) ≡ Some (l.hosts.given, l.hosts.excluded))
         × (expressions_of (rows_of (found_of matches.now)) ≡ Some (l.sought.accepted, l.sought.rejected))
         × (rows_taken (rows_of (found_of matches.now)) ≡ Some l.rows))
-        (λ f. FailsToFilter (rows_of (found_of matches.now)) f ⊎ (f ≡ fault.Memory)) }
+        (λ f. FailsToFilter (rows_of (found_of matches.now)) f ⊎ IsUnsaid (seeks (rows_of (found_of matches.now))) f) }
 {
     let names = match patterns(alloc, matches) {
         Ok(names) => names,
@@ -695,7 +697,7 @@ fn read_settings(alloc: Global, matches: &ArgMatches) -> Result<Settings, LineFa
 
 // The order of what is found for each option, or the lowest fault.
 fn order_of_matches(alloc: Global, matches: &ArgMatches) -> Result<Order, LineFault>
-    ensures { AnswersOrder result (order_of_rows (rows_of (found_of matches.now))) }
+    ensures { AnswersRows (rows_of (found_of matches.now)) result (order_of_rows (rows_of (found_of matches.now))) }
 {
     let settings = match read_settings(alloc, matches) {
         Ok(settings) => settings,
@@ -904,7 +906,7 @@ fn read_paths(alloc: Global, matches: &ArgMatches) -> Result<Paths, AllocError>
 
 // Reads words that are written out.
 fn read_written(alloc: Global, words: &[String]) -> Result<Order, LineFault>
-    ensures { AnswersOrder result (order_of_written (map string_bytes words.now)) }
+    ensures { AnswersRows (rows (map string_bytes words.now)) result (order_of_written (map string_bytes words.now)) }
 {
     match parse(alloc, words) {
         Ok(matches) => order_of_matches(alloc, &matches),
@@ -953,7 +955,7 @@ fn unread_fault(alloc: Global, word: &str) -> LineFault
 
 // Reads what is said by words, with the first start alone.
 fn read_first(alloc: Global, said: &[Saying<&str>]) -> Result<Order, LineFault>
-    ensures { AnswersOrder result (order_of_written (written (map saying_in said.now))) }
+    ensures { AnswersRows (rows (written (map saying_in said.now))) result (order_of_written (written (map saying_in said.now))) }
 {
     let Ok(words) = written(alloc, said) else {
         return Err(LineFault::Memory);
@@ -1008,7 +1010,7 @@ fn with_starts(alloc: Global, order: Order, starts: &[&str]) -> Result<Order, Li
 
 // Reads what is said by words.
 fn read_said(alloc: Global, said: &[Saying<&str>]) -> Result<Order, LineFault>
-    ensures { AnswersOrder result (order_said (map saying_in said.now)) }
+    ensures { AnswersRows (rows (written (map saying_in said.now))) result (order_said (map saying_in said.now)) }
 {
     if let Some(word) = first_unread(said) {
         return Err(unread_fault(alloc, word));
@@ -1027,10 +1029,10 @@ fn read_said(alloc: Global, said: &[Saying<&str>]) -> Result<Order, LineFault>
 }
 
 /// Reads the words of a command line, without the program's name. Of several faults the lowest is named, in the order of
-/// `LineFault`, except `Memory`. An option may be given several times, and the last counts: words that say the same of each
+/// `LineFault`, except `Memory` and `LargeExpression`. An option may be given several times, and the last counts: words that say the same of each
 /// option last order the same, in whatever order they say it.
 pub fn read_order(alloc: Global, words: &[&str]) -> Result<Order, LineFault>
-    ensures answers { AnswersOrder result (order_of (map (λ w. w.now) words.now)) }
+    ensures answers { AnswersWords (map (λ w. w.now) words.now) result }
     ensures last { OrdersBySayings (map (λ w. w.now) words.now) }
 {
     match sayings(alloc, words) {

@@ -1,10 +1,10 @@
 //! The expressions that are looked for in addresses (GNU Wget manual, section Types of Files).
-ghost use Rattle.std.specs.Prelude.{◌≡◌, ◌⊎◌, ◌∷◌, [], IfOk, MatchResult, Some, None, codes, option_map, string_bytes};
+ghost use Rattle.std.specs.Prelude.{◌≡◌, ◌⊎◌, ◌∷◌, [], IfOk, MatchResult, Some, None, codes, is_some, option_map, string_bytes, true};
 ghost use Rattle.clap.specs.Words.{found_of, rows_of};
 ghost use Rattle.expressions.specs.Expressions.{IsFaultOf, read_element};
 ghost use Rattle.options.specs.Asked.{without_kind};
-ghost use Rattle.options.specs.Order.{expressions_of};
-ghost use Rattle.options.specs.Sought.{cased, expressions_by, is_type};
+ghost use Rattle.options.specs.Order.{expressions_of, seeks};
+ghost use Rattle.options.specs.Sought.{IsUnsaid, cased, expressions_by, is_type};
 ghost use Rattle.options.specs.declared.fault.LineFault.TheVariants as fault;
 ghost use Rattle.options.specs.inner.Sought.{IsFaultOfValue};
 
@@ -45,7 +45,7 @@ fn cased(alloc: Global, ignores_case: bool, text: &str) -> Result<String, AllocE
     String::from_str(alloc, text)
 }
 
-// Why a value is no expression, by why what was read for it is none: the place is one in the value. For one that is too large there is no memory.
+// Why a value is no expression, by why what was read for it is none: the place is one in the value.
 fn fault_by(read: &str, why: ExpressionFault, ignores_case: bool) -> LineFault
     requires { IsFaultOf read.now why }
     ensures { IsFaultOfValue (read_element read.now) result }
@@ -55,7 +55,8 @@ fn fault_by(read: &str, why: ExpressionFault, ignores_case: bool) -> LineFault
     let front = if ignores_case { ANY_CASE.len() } else { 0 };
     match why {
         ExpressionFault::Bad(at) => LineFault::Expression(at.saturating_sub(front)),
-        ExpressionFault::Large | ExpressionFault::Memory => LineFault::Memory,
+        ExpressionFault::Large => LineFault::LargeExpression,
+        ExpressionFault::Memory => LineFault::Memory,
     }
 }
 
@@ -66,7 +67,7 @@ fn read_text(
     text: &str,
 ) -> Result<Elements<Expression>, LineFault>
     ensures { MatchResult result (λ es. expressions_by ignores_case (Some text.now) ≡ Some es)
-        (λ f. ((without_kind f ≡ fault.Expression 0) × (expressions_by ignores_case (Some text.now) ≡ None)) ⊎ (f ≡ fault.Memory)) }
+        (λ f. ((without_kind f ≡ fault.Expression 0) × (expressions_by ignores_case (Some text.now) ≡ None)) ⊎ IsUnsaid true f) }
 {
     let Ok(text) = cased(alloc, ignores_case, text) else {
         return Err(LineFault::Memory);
@@ -95,7 +96,7 @@ fn read_value(
     value: Option<&str>,
 ) -> Result<Elements<Expression>, LineFault>
     ensures { MatchResult result (λ es. expressions_by ignores_case (option_map (λ s. s.now) value.entry) ≡ Some es)
-        (λ f. ((without_kind f ≡ fault.Expression 0) × (expressions_by ignores_case (option_map (λ s. s.now) value.entry) ≡ None)) ⊎ (f ≡ fault.Memory)) }
+        (λ f. ((without_kind f ≡ fault.Expression 0) × (expressions_by ignores_case (option_map (λ s. s.now) value.entry) ≡ None)) ⊎ IsUnsaid (is_some (option_map (λ s. s.now) value.entry)) f) }
 {
     match value {
         Some(text) => read_text(alloc, ignores_case, text),
@@ -104,10 +105,10 @@ fn read_value(
 }
 
 /// The expressions of `--accept-regex` and `--reject-regex`. The fault is that of the first that is none.
-#[tactic(auto, unfolding(crate::specs::Order::expressions_of))]
+#[tactic(auto, unfolding(crate::specs::Order::expressions_of, crate::specs::Order::seeks))]
 pub(crate) fn read_sought(alloc: Global, matches: &ArgMatches) -> Result<Sought, LineFault>
     ensures { MatchResult result (λ s. expressions_of (rows_of (found_of matches.now)) ≡ Some (s.accepted, s.rejected))
-        (λ f. ((without_kind f ≡ fault.Expression 0) × (expressions_of (rows_of (found_of matches.now)) ≡ None)) ⊎ (f ≡ fault.Memory)) }
+        (λ f. ((without_kind f ≡ fault.Expression 0) × (expressions_of (rows_of (found_of matches.now)) ≡ None)) ⊎ IsUnsaid (seeks (rows_of (found_of matches.now))) f) }
 {
     let ignores_case = is_set(matches, "ignore-case");
     let accepted = read_value(

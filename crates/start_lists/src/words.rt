@@ -1,7 +1,7 @@
 //! How the file that words name is read, and words with its starts before them.
 ghost use Rattle.std.specs.Prelude.{◌≡◌, ◌⊎◌, ◌++◌, ◌∷◌, Err, IfOk, MatchResult, Ok, OnOk, drop, map, option_map, string_bytes};
 ghost use Rattle.options.specs.Listed.{list_said};
-ghost use Rattle.options.specs.Order.{AnswersOrder, order_of};
+ghost use Rattle.options.specs.Order.{AnswersWords};
 ghost use Rattle.start_lists.specs.Words.{base_by, file_of, file_read, has_input, is_input, stand_in};
 ghost use Rattle.start_lists.specs.declared.fault.ListFault.TheVariants as fault;
 
@@ -107,7 +107,7 @@ fn texts_without<'a>(alloc: Global, words: &[&'a str]) -> Result<Vec<&'a str>, A
 
 /// What words order with a start that takes the place of those of a file.
 pub fn order_without(alloc: Global, words: &[&str]) -> Result<Order, LineFault>
-    ensures { AnswersOrder result (order_of (stand_in ∷ map (λ word. word.now) words.now)) }
+    ensures { AnswersWords (stand_in ∷ map (λ word. word.now) words.now) result }
 {
     match texts_without(alloc, words) {
         Ok(all) => read_order(alloc, all.as_slice()),
@@ -133,7 +133,7 @@ fn texts_with<'a>(
 
 /// What words order with these starts before them.
 pub fn order_with(alloc: Global, starts: &[Address], words: &[&str]) -> Result<Order, LineFault>
-    ensures { AnswersOrder result (order_of (starts.now ++ map (λ word. word.now) words.now)) }
+    ensures { AnswersWords (starts.now ++ map (λ word. word.now) words.now) result }
 {
     match texts_with(alloc, starts, words) {
         Ok(all) => read_order(alloc, all.as_slice()),

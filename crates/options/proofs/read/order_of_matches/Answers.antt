@@ -6,7 +6,7 @@ use Rattle.options.proofs.ReadLemmas.{bad-level, bad-filters, bad-start, good-or
 use Rattle.options.proofs.read.order_of_matches.Goals as goal
 
 pub returns-in-Err : goal.returns-in-Err
-returns-in-Err c = c.in-Err.ensures
+returns-in-Err c = ⊎_elim (λ fails. inl fails) (λ memory. inr (inl memory)) c.in-Err.ensures
 
 pub returns-in_default : goal.returns-in_default
 returns-in_default c =
@@ -18,7 +18,7 @@ returns-in-Err-read_filters c =
     let level : level_of found ≡ Some c.in-Some.level = sym c.in-Some.ensures.value in
     ⊎_elim
     (λ fails. inl (bad-filters found _ _ _ _ _ _ c.in-Some.level c.in-Err-read_filters.fault c.in-Ok.ensures level fails))
-    (λ memory. inr memory)
+    (λ unsaid. inr unsaid)
     c.in-Err-read_filters.ensures
 
 pub returns-in-Err-start : goal.returns-in-Err-start
@@ -29,7 +29,7 @@ returns-in-Err-start c =
     let f = c.in-Ok-read_filters.filters in
     ⊎_elim
     (λ fails. inl (bad-start found _ _ _ _ _ _ c.in-Some.level (f.names.given, f.names.excluded) (f.places.given, f.places.excluded) (f.hosts.given, f.hosts.excluded) (f.sought.accepted, f.sought.rejected) f.rows c.in-Err-start.fault c.in-Ok.ensures level lists.0 lists.1 lists.2 lists.3 lists.4 fails ∙ ap Err (sym fails.0)))
-    (λ memory. inr memory)
+    (λ memory. inr (inl memory))
     c.in-Err-start.ensures
 
 pub returns : goal.returns

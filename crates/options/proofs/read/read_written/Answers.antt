@@ -1,4 +1,4 @@
-use Rattle.std.proofs.Common.{map, string_bytes}
+use Rattle.std.proofs.Common.{inl, inr, map, string_bytes, ⊎_elim}
 use Rattle.clap.specs.Words.{found_of, rows_of, kind_of}
 use Rattle.options.proofs.ReadLemmas.{answers-taken, answers-refused}
 use Rattle.options.proofs.read.read_written.Goals as goal
@@ -9,4 +9,7 @@ returns-in-Ok c =
 
 pub returns-in-Err : goal.returns-in-Err
 returns-in-Err c =
-    answers-refused (map string_bytes c.args.words.now) (kind_of c.in-Err.error) c.fault_of.result c.fault_of.ensures c.in-Err.ensures
+    ⊎_elim
+    (λ refused. inl refused)
+    (λ memory. inr (inl memory))
+    (answers-refused (map string_bytes c.args.words.now) (kind_of c.in-Err.error) c.fault_of.result c.fault_of.ensures c.in-Err.ensures)
