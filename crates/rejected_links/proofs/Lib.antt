@@ -1,0 +1,5 @@
+pub mod ListLaws
+pub mod LineOrder
+pub mod LineLaws
+pub mod PathLaws
+pub mod FoundLaws

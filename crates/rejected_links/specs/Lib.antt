@@ -1,0 +1,4 @@
+pub mod Reasons
+pub mod Lines
+pub mod Rejections
+pub mod inner
