@@ -1,7 +1,8 @@
 -- Where a link leads: from its page on the web (URL Standard, section 4.4), and from the page's file in the mirror (RFC 3986,
 -- sections 4.1 to 4.4).
-use Rattle.std.specs.Prelude.{ℕ, ◌+◌, zero, suc, Bool, true, false, ◌==◌, List, [], ◌∷◌, Option, Some, None, Result, Ok, Err, if◌then◌else◌}
-use Rattle.std.specs.Option.{option_or, option_and_then}
+use Rattle.std.specs.Prelude.{ℕ, ◌+◌, zero, suc, Bool, true, false, not, ◌==◌, ◌&&◌, ◌||◌, List, [], ◌∷◌, Option, Some, None, Result, Ok, Err, if◌then◌else◌, codes}
+use Rattle.std.specs.Option.{is_some, option_or, option_and_then}
+use Rattle.std.specs.Char.{to_ascii_lowercase}
 use Rattle.percent_encoding.specs.Percent.{percent_encode}
 use Rattle.address.specs.Address.{AddressText, join_address}
 use Rattle.address.specs.declared.fault.AddressFault.{AddressFault}
@@ -69,6 +70,18 @@ abbrev pub has_scheme : List ℕ → Bool
 has_scheme [] = false
 has_scheme (b ∷ bs) = if b == 58 then true else if b == 47 then false else has_scheme bs
 
+-- ---- whole addresses
+
+-- these bytes are at its front, its letters in any case
+abbrev pub begins_as : List ℕ → List ℕ → Bool
+begins_as [] text = true
+begins_as (x ∷ xs) [] = false
+begins_as (x ∷ xs) (b ∷ bs) = if to_ascii_lowercase b == x then begins_as xs bs else false
+
+-- it has a scheme and a host of its own
+abbrev pub is_whole : List ℕ → Bool
+is_whole text = begins_as (codes "http://") text || begins_as (codes "https://") text
+
 -- ---- from the page
 
 -- the address, if the text names one
@@ -92,14 +105,23 @@ is_left Sheet text = begins_mark text
 is_left Set text = false
 is_left Refresh text = false
 
+-- a text with a host of its own stays, if nothing was kept of the address
+abbrev pub stays : Page → List ℕ → AddressText → Bool
+stays page text address = is_whole text && not (is_some (landed page address))
+
+-- that address, unless the text stays
+abbrev pub unless_stays : Page → List ℕ → Option AddressText → Option AddressText
+unless_stays page text None = None
+unless_stays page text (Some address) = if stays page text address then None else Some address
+
 -- the file of that name, or the address if there is none
 abbrev pub at_end : Option (List ℕ) → AddressText → List ℕ → Destination
 at_end (Some name) address fragment = File name fragment
 at_end None address fragment = Web address fragment
 
--- the address that a text names, if it may change
+-- the address that a text names, if the text may change
 abbrev pub address_in : Page → List ℕ → Option AddressText
-address_in page text = if is_left page.form text then None else named (join_address page.base text)
+address_in page text = if is_left page.form text then None else unless_stays page text (named (join_address page.base text))
 
 -- where a text leads that names this address, or none
 abbrev pub destination_by : Page → Option AddressText → List ℕ → Destination

@@ -19,6 +19,7 @@ mod fragment;
 mod link_tests;
 mod links;
 mod mirror;
+mod whole;
 
 pub use crate::form::Form;
 pub use crate::links::{Links, MAX_REDIRECTS};

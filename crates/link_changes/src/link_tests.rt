@@ -50,6 +50,9 @@ h/a http://h/d/ Value b?x=1 d/b%3Fx%3D1
 h/a http://h/d/ Value c http://h/d/c
 h/d/a http://h/d/a Value mailto:a@b -
 h/d/a http://h/d/a Value https://h/d/b?x=1 -
+h/d/a http://h/d/a Value HTTP://h/./c -
+h/d/a http://h/d/a Value Http://h/d/b?x=1#f b%3Fx%3D1#f
+h/d/a http://h/d/a Value http:c http://h/d/c
 h/d/a http://h/d/a Value http://[ -
 h/d/b?x=1 http://h/d/b?x=1 Value #x -
 h/d/b?x=1 http://h/d/b?x=1 Value #<é #%3C%C3%A9

@@ -1,13 +1,14 @@
 //! What the links of one page become.
 ghost use Rattle.std.specs.Prelude.{◌≡◌, ◌≤◌, ◌++◌, ℕ, true, List, [], IfOk, Option, Some, None, option_map, string_bytes};
 ghost use Rattle.address.specs.Address.{join_address, IsAddress};
-ghost use Rattle.link_changes.specs.Leading.{page_of, named, landed, landed_within, address_in, destination, at_end, fragment_of, is_left};
+ghost use Rattle.link_changes.specs.Leading.{page_of, named, landed, landed_within, address_in, destination, at_end, fragment_of, is_left, stays};
 ghost use Rattle.link_changes.specs.Changing as spec;
 ghost use Rattle.link_changes.specs.Changing.{text_at, way_to, changed_text, to_other, or_same, LeadsTo, IsMirror, holds_all, can_hold};
 
 use crate::form::{Form, fits};
 use crate::fragment::{begins_mark, is_own, push_fragment};
 use crate::mirror::Mirror;
+use crate::whole::is_whole;
 use address::{Address, AddressFault};
 use css_links::Change;
 use std::alloc::{AllocError, Global};
@@ -145,14 +146,30 @@ impl<'a, M: Mirror> Links<'a, M> {
         }
     }
 
-    // The same, if the text may change.
+    // Whether a text stays that names this address: it has a host of its own, and nothing was kept of the address.
+    fn stays(&self, text: &str, address: &Address) -> bool
+        ensures { result ≡ stays (page_of M.name_of M.target_of self.now) text.now address.now }
+    {
+        is_whole(text.as_bytes()) && self.landed(address).is_none()
+    }
+
+    // The address that a text names, if the text may change.
     fn address_in(&self, text: &str) -> Result<Option<Address>, AllocError>
         ensures { IfOk result (λ address. address ≡ address_in (page_of M.name_of M.target_of self.now) text.now) }
     {
         if is_left(self.form, text) {
             return Ok(None);
         }
-        Ok(self.named(text)?)
+        match self.named(text)? {
+            Some(address) => {
+                if self.stays(text, &address) {
+                    Ok(None)
+                } else {
+                    Ok(Some(address))
+                }
+            },
+            None => Ok(None),
+        }
     }
 
     /// What a link of that text becomes; nothing, if it stays. Its time is that of [`Address::join`], of at most [`MAX_REDIRECTS`]
