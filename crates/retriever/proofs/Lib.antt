@@ -12,5 +12,6 @@ pub mod PartLaws
 pub mod DeliveryLaws
 pub mod ProgramLaws
 pub mod LiveLaws
+pub mod LogLaws
 pub mod SavingLaws
 pub mod ResumeLaws

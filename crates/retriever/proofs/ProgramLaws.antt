@@ -3,7 +3,8 @@ use Rattle.std.proofs.Common.{◌≡◌, ◌≢◌, ◌∙◌, ℕ, Bool, true, 
 use Rattle.std.specs.Prelude.{Result, Ok, Err, OnOk, OnErr}
 use Rattle.std.specs.Io.KnownBytes.{Appends}
 use Rattle.std.proofs.KnownBytes.{Appends-nil}
-use Rattle.options.specs.Order.{Ordered, order_of, ordered_by}
+use Rattle.options.specs.Order.{Ordered, order_of, ordered_by, seeks_in}
+use Rattle.options.specs.Sought.{IsUnsaid}
 use Rattle.options.specs.declared.fault.LineFault.{LineFault}
 use Rattle.options.specs.declared.fault.LineFault.TheVariants as line
 use Rattle.options.specs.declared.order.Order.{Order}
@@ -12,7 +13,7 @@ use Rattle.options.specs.declared.order.Source.TheVariants as source
 use Rattle.retriever.specs.Advice.{said_of}
 use Rattle.retriever.specs.Order.{IsRefused}
 use Rattle.retriever.specs.Parts.{IsFaultDelivered}
-use Rattle.retriever.specs.Program.{Outputs, IsExplained, IsFaultTold}
+use Rattle.retriever.specs.Program.{Outputs, IsExplained, IsFaultTold, IsQuietFor, IsUndone}
 use Rattle.retriever.specs.inner.Program.{Streams, Starts}
 use Rattle.retriever.specs.Run.{Runs}
 use Rattle.streams.specs.Streams.{AppendsFront}
@@ -29,10 +30,24 @@ pub wrote : {F : Type 0} (r : Result (Unit {0}) F) (old new : Option (List ℕ))
 wrote (Ok x) old new text ok err = record { front = text; rest = []; parts = sym (append-nil text); appended = ok }
 wrote (Err e) old new text ok err = err
 
--- words that order something can only be refused because memory ran out
-only_memory : (words : List (List ℕ)) (ordered : Ordered) (wrong : LineFault) → order_of words ≡ Ok ordered → IsRefused words (fault.Line wrong) → wrong ≡ line.Memory
-only_memory words ordered wrong says (inl e) = cc
-only_memory words ordered wrong says (inr e) = e
+-- words that order something can only be refused because memory ran out or an expression would cost too much
+only_unsaid : (words : List (List ℕ)) (ordered : Ordered) (wrong : LineFault) → order_of words ≡ Ok ordered → IsRefused words (fault.Line wrong) → IsUnsaid (seeks_in words) wrong
+only_unsaid words ordered wrong says (inl e) = cc
+only_unsaid words ordered wrong says (inr e) = e
+
+-- what is delivered of such a fault
+undone : (words : List (List ℕ)) (wrong : LineFault) (before after : Option (List ℕ)) (status : ℕ) → IsUnsaid (seeks_in words) wrong → IsFaultDelivered before after (fault.Line wrong) status
+    → IsUndone words before after status
+undone words wrong before after status (inl memory) delivered = inl (subst (λ (w : LineFault). IsFaultDelivered before after (fault.Line w) status) memory delivered)
+undone words wrong before after status (inr (large, seeks)) delivered = inr (seeks, subst (λ (w : LineFault). IsFaultDelivered before after (fault.Line w) status) large delivered)
+
+-- what is written of it to a person
+quiet_for : {E : Type 0} (words : List (List ℕ)) (wrong : LineFault) (before after : Outputs E) (status : ℕ) → IsUnsaid (seeks_in words) wrong → IsExplained words (fault.Line wrong) before after status
+    → (said_of words (fault.Line wrong) ≡ [] → after.errors ≡ before.errors) → IsQuietFor words before after
+quiet_for words wrong before after status (inl memory) told quiet = inl (quiet (ap (λ (w : LineFault). said_of words (fault.Line w)) memory))
+quiet_for words wrong before after status (inr (large, seeks)) (inl told) quiet =
+    inr (seeks, subst (λ (w : LineFault). AppendsFront before.told after.told (said_of words (fault.Line w))) large told.1)
+quiet_for words wrong before after status (inr (large, seeks)) (inr told) quiet = inl told.1
 
 -- whether a source is the network
 abbrev is_network : Source → Bool
@@ -61,8 +76,8 @@ runs_memory words known old new status refusal = runs_refused words known old ne
 
 pub told_memory : {E : Type 0} (words : List (List ℕ)) (before after : Outputs E) (status : ℕ) → after.errors ≡ before.errors → IsFaultDelivered before.written after.written fault.Memory status
     → IsFaultTold words before after status
-told_memory words before after status same (inl delivered) = (fault.Line line.Memory, inr refl, inr (delivered, same))
-told_memory words before after status same (inr delivered) = (fault.Line line.Memory, inr refl, inr (delivered, same))
+told_memory words before after status same (inl delivered) = (fault.Line line.Memory, inr (inl refl), inr (delivered, same))
+told_memory words before after status same (inr delivered) = (fault.Line line.Memory, inr (inl refl), inr (delivered, same))
 
 -- words whose fault is explained are refused
 refusal_of : {E : Type 0} (words : List (List ℕ)) (wrong : Fault) (before after : Outputs E) (status : ℕ) → IsExplained words wrong before after status
@@ -81,7 +96,7 @@ module _ {R E : Type 0} (Lives : List (List ℕ) → Type 0) (before after : Str
     lives = λ live. lives;
     unread = λ no. unread;
     told = λ no none. told_memory words before.outputs after.outputs status quiet refusal;
-    quiet = λ either. quiet;
+    quiet = λ either. inl quiet;
   }
 
   -- the same of equal words
@@ -100,12 +115,12 @@ module _ {R E : Type 0} (Lives : List (List ℕ) → Type 0) (before after : Str
         lives (sym (ap (λ (o : Ordered). o.source) same) ∙ is);
     unread = λ no. unread (is_live order.source (λ not. no (order, (says, not))));
     told = λ no none. absurd (none (ordered_by order, says, is_live order.source (λ not. no (order, (says, not)))));
-    quiet = λ either. quiet;
+    quiet = λ either. inl quiet;
   }
 
   -- words that order nothing, or for which there is no memory
   pub starts_wrong : after.reader ≡ before.reader → (words : List (List ℕ)) (wrong : LineFault) → IsRefused words (fault.Line wrong)
-      → (IsFaultDelivered before.outputs.written after.outputs.written fault.Memory status → Lives words) → IsExplained words (fault.Line wrong) before.outputs after.outputs status
+      → (IsUndone words before.outputs.written after.outputs.written status → Lives words) → IsExplained words (fault.Line wrong) before.outputs after.outputs status
       → (said_of words (fault.Line wrong) ≡ [] → after.outputs.errors ≡ before.outputs.errors) → Starts Lives before after status words
   starts_wrong unread words wrong refused lives told quiet =
       let refusal = refusal_of words (fault.Line wrong) before.outputs after.outputs status told in record {
@@ -113,11 +128,11 @@ module _ {R E : Type 0} (Lives : List (List ℕ) → Type 0) (before after : Str
             runs_refused words before.remaining before.outputs.written after.outputs.written (fault.Line wrong) status (ends_refused words before.remaining (fault.Line wrong) refused) refusal;
         lives = λ live.
             let (ordered, says, is) = live in
-            lives (subst (λ (w : LineFault). IsFaultDelivered before.outputs.written after.outputs.written (fault.Line w) status) (only_memory words ordered wrong says refused) refusal);
+            lives (undone words wrong before.outputs.written after.outputs.written status (only_unsaid words ordered wrong says refused) refusal);
         unread = λ no. unread;
         told = λ no none. (fault.Line wrong, refused, told);
         quiet = λ either. elim either [
-          | inl input ↦ (let (order, ordered) = input in quiet (ap (λ (w : LineFault). said_of words (fault.Line w)) (only_memory words (ordered_by order) wrong ordered.0 refused)))
-          | inr live ↦ (let (ordered, says, is) = live in quiet (ap (λ (w : LineFault). said_of words (fault.Line w)) (only_memory words ordered wrong says refused)))
+          | inl input ↦ (let (order, ordered) = input in quiet_for words wrong before.outputs after.outputs status (only_unsaid words (ordered_by order) wrong ordered.0 refused) told quiet)
+          | inr live ↦ (let (ordered, says, is) = live in quiet_for words wrong before.outputs after.outputs status (only_unsaid words ordered wrong says refused) told quiet)
         ];
       }

@@ -37,39 +37,59 @@ ends_memory words known = let (input, is) = some_input known in (input, is, tt)
 comes_refused : (words : List (List ℕ)) (input : List ℕ) (wrong : Fault) → IsRefused words wrong → Comes words input wrong
 comes_refused words input (fault.Line line.Memory) refused = tt
 comes_refused words input (fault.Line (line.Words kind)) (inl e) = e
-comes_refused words input (fault.Line (line.Words kind)) (inr e) = cc
+comes_refused words input (fault.Line (line.Words kind)) (inr (inl e)) = cc
+comes_refused words input (fault.Line (line.Words kind)) (inr (inr e)) = (let large = e.0 in cc)
 comes_refused words input (fault.Line line.NoProxy) (inl e) = e
-comes_refused words input (fault.Line line.NoProxy) (inr e) = cc
+comes_refused words input (fault.Line line.NoProxy) (inr (inl e)) = cc
+comes_refused words input (fault.Line line.NoProxy) (inr (inr e)) = (let large = e.0 in cc)
 comes_refused words input (fault.Line line.ProxyUser) (inl e) = e
-comes_refused words input (fault.Line line.ProxyUser) (inr e) = cc
+comes_refused words input (fault.Line line.ProxyUser) (inr (inl e)) = cc
+comes_refused words input (fault.Line line.ProxyUser) (inr (inr e)) = (let large = e.0 in cc)
 comes_refused words input (fault.Line line.Login) (inl e) = e
-comes_refused words input (fault.Line line.Login) (inr e) = cc
+comes_refused words input (fault.Line line.Login) (inr (inl e)) = cc
+comes_refused words input (fault.Line line.Login) (inr (inr e)) = (let large = e.0 in cc)
 comes_refused words input (fault.Line line.Agent) (inl e) = e
-comes_refused words input (fault.Line line.Agent) (inr e) = cc
+comes_refused words input (fault.Line line.Agent) (inr (inl e)) = cc
+comes_refused words input (fault.Line line.Agent) (inr (inr e)) = (let large = e.0 in cc)
 comes_refused words input (fault.Line line.Referer) (inl e) = e
-comes_refused words input (fault.Line line.Referer) (inr e) = cc
+comes_refused words input (fault.Line line.Referer) (inr (inl e)) = cc
+comes_refused words input (fault.Line line.Referer) (inr (inr e)) = (let large = e.0 in cc)
 comes_refused words input (fault.Line line.Header) (inl e) = e
-comes_refused words input (fault.Line line.Header) (inr e) = cc
+comes_refused words input (fault.Line line.Header) (inr (inl e)) = cc
+comes_refused words input (fault.Line line.Header) (inr (inr e)) = (let large = e.0 in cc)
 comes_refused words input (fault.Line line.Fields) (inl e) = e
-comes_refused words input (fault.Line line.Fields) (inr e) = cc
+comes_refused words input (fault.Line line.Fields) (inr (inl e)) = cc
+comes_refused words input (fault.Line line.Fields) (inr (inr e)) = (let large = e.0 in cc)
 comes_refused words input (fault.Line line.FarProxy) (inl e) = e
-comes_refused words input (fault.Line line.FarProxy) (inr e) = cc
+comes_refused words input (fault.Line line.FarProxy) (inr (inl e)) = cc
+comes_refused words input (fault.Line line.FarProxy) (inr (inr e)) = (let large = e.0 in cc)
 comes_refused words input (fault.Line line.Depth) (inl e) = e
-comes_refused words input (fault.Line line.Depth) (inr e) = cc
+comes_refused words input (fault.Line line.Depth) (inr (inl e)) = cc
+comes_refused words input (fault.Line line.Depth) (inr (inr e)) = (let large = e.0 in cc)
 comes_refused words input (fault.Line line.Pattern) (inl e) = e
-comes_refused words input (fault.Line line.Pattern) (inr e) = cc
+comes_refused words input (fault.Line line.Pattern) (inr (inl e)) = cc
+comes_refused words input (fault.Line line.Pattern) (inr (inr e)) = (let large = e.0 in cc)
 comes_refused words input (fault.Line (line.Expression at)) (inl e) = e
-comes_refused words input (fault.Line (line.Expression at)) (inr e) = cc
+comes_refused words input (fault.Line (line.Expression at)) (inr (inl e)) = cc
+comes_refused words input (fault.Line (line.Expression at)) (inr (inr e)) = (let large = e.0 in cc)
+comes_refused words input (fault.Line line.LargeExpression) (inl e) = inl e
+comes_refused words input (fault.Line line.LargeExpression) (inr (inl e)) = cc
+comes_refused words input (fault.Line line.LargeExpression) (inr (inr e)) = inr e.1
 comes_refused words input (fault.Line line.Directory) (inl e) = e
-comes_refused words input (fault.Line line.Directory) (inr e) = cc
+comes_refused words input (fault.Line line.Directory) (inr (inl e)) = cc
+comes_refused words input (fault.Line line.Directory) (inr (inr e)) = (let large = e.0 in cc)
 comes_refused words input (fault.Line line.Domain) (inl e) = e
-comes_refused words input (fault.Line line.Domain) (inr e) = cc
+comes_refused words input (fault.Line line.Domain) (inr (inl e)) = cc
+comes_refused words input (fault.Line line.Domain) (inr (inr e)) = (let large = e.0 in cc)
 comes_refused words input (fault.Line line.Tags) (inl e) = e
-comes_refused words input (fault.Line line.Tags) (inr e) = cc
+comes_refused words input (fault.Line line.Tags) (inr (inl e)) = cc
+comes_refused words input (fault.Line line.Tags) (inr (inr e)) = (let large = e.0 in cc)
 comes_refused words input (fault.Line (line.Start why)) (inl e) = e
-comes_refused words input (fault.Line (line.Start why)) (inr e) = cc
+comes_refused words input (fault.Line (line.Start why)) (inr (inl e)) = cc
+comes_refused words input (fault.Line (line.Start why)) (inr (inr e)) = (let large = e.0 in cc)
 comes_refused words input (fault.Line line.StartIsRobots) (inl e) = e
-comes_refused words input (fault.Line line.StartIsRobots) (inr e) = cc
+comes_refused words input (fault.Line line.StartIsRobots) (inr (inl e)) = cc
+comes_refused words input (fault.Line line.StartIsRobots) (inr (inr e)) = (let large = e.0 in cc)
 comes_refused words input fault.NotText refused = absurd refused
 comes_refused words input fault.NoSite refused = refused
 comes_refused words input (fault.Read w) refused = absurd refused

@@ -16,4 +16,5 @@ pub mod Mirrored
 pub mod Saving
 pub mod Resuming
 pub mod Systems
+pub mod Rejecting
 pub mod inner

@@ -1,8 +1,10 @@
 -- What the program makes of its arguments, and what a person reads about them.
-use Rattle.std.specs.Prelude.{◌≡◌, ◌⊎◌, ℕ, List, Option, String, codes, drop, map, string_bytes}
+use Rattle.std.specs.Prelude.{◌≡◌, ◌⊎◌, ℕ, true, List, Option, String, codes, drop, map, string_bytes}
 use Rattle.std.specs.declared.io.ErrorKind.{ErrorKind}
 use Rattle.std.specs.declared.io.ErrorKind.TheVariants.{OutOfMemory}
 use Rattle.retriever.specs.Advice.{said_of}
+use Rattle.options.specs.Order.{seeks_in}
+use Rattle.options.specs.declared.fault.LineFault.TheVariants as line
 use Rattle.options.specs.declared.order.Order.{Order}
 use Rattle.retriever.specs.Order.{IsLiveOrder, IsRefused}
 use Rattle.retriever.specs.Parts.{IsDelivered, IsFaultDelivered}
@@ -44,7 +46,17 @@ IsFaultTold words before after status = (wrong : Fault) × IsRefused words wrong
 
 -- ---- a site on the network
 
--- the live retrieval that the words order, or the line for memory that ran out before it
+-- the line for memory that ran out before the words are carried out, or, if they look for an expression, that for one that would cost too much
+abbrev pub IsUndone : List (List ℕ) → Option (List ℕ) → Option (List ℕ) → ℕ → Type 0
+IsUndone words before after status =
+    IsFaultDelivered before after fault.Memory status ⊎ ((seeks_in words ≡ true) × IsFaultDelivered before after (fault.Line line.LargeExpression) status)
+
+-- nothing was written to a person, or, if the words look for an expression, that one would cost too much, or a front of that
+abbrev pub IsQuietFor : {E : Type 0} → List (List ℕ) → Outputs E → Outputs E → Type 0
+IsQuietFor words before after =
+    (after.errors ≡ before.errors) ⊎ ((seeks_in words ≡ true) × AppendsFront before.told after.told (said_of words (fault.Line line.LargeExpression)))
+
+-- the live retrieval that the words order, or the line for what hindered it before
 abbrev pub LivesFor : {S B F K D V : Type 0} → Means S B F K D V → Option (List ℕ) → Option (List ℕ) → ℕ → List (List ℕ) → Type 0
 LivesFor m before after status words =
-    ((order : Order) × IsLiveOrder words order × LivesIn m order before after status) ⊎ IsFaultDelivered before after fault.Memory status
+    ((order : Order) × IsLiveOrder words order × LivesIn m order before after status) ⊎ IsUndone words before after status

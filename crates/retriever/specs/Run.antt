@@ -1,5 +1,5 @@
 -- What a run of the program writes for its words and its input, and the status with which it ends.
-use Rattle.std.specs.Prelude.{◌≡◌, ◌≤◌, ◌<◌, ◌⊎◌, ℕ, List, [], ◌++◌, length, codes, Option, Err, if◌then◌else◌}
+use Rattle.std.specs.Prelude.{◌≡◌, ◌≤◌, ◌<◌, ◌⊎◌, ℕ, true, List, [], ◌++◌, length, codes, Option, Err, if◌then◌else◌}
 use Rattle.std.specs.Fmt.{decimal}
 use Rattle.std.specs.Io.KnownBytes.{Appends}
 use Rattle.address.specs.declared.fault.AddressFault.{AddressFault}
@@ -10,7 +10,7 @@ use Rattle.site_inputs.specs.declared.input_fault.InputFault.TheVariants as inpu
 use Rattle.frontier_core.specs.declared.event.Event.{Event}
 use Rattle.options.specs.Advice.{advice_text}
 use Rattle.options.specs.Asked.{asks, without_kind}
-use Rattle.options.specs.Order.{order_of}
+use Rattle.options.specs.Order.{order_of, seeks_in}
 use Rattle.options.specs.declared.fault.LineFault.{LineFault}
 use Rattle.options.specs.declared.fault.LineFault.TheVariants as line
 use Rattle.options.specs.declared.order.Order.{Order}
@@ -27,9 +27,10 @@ use Rattle.retriever.specs.declared.fault.Fault.TheVariants as fault
 use Rattle.streams.specs.declared.input.ReadFault.{ReadFault}
 use Rattle.streams.specs.declared.input.ReadFault.TheVariants as reading
 
--- the words and the input result in this fault; memory may run out at any time, and a reader may fail once the words are read
+-- the words and the input result in this fault; memory may run out at any time, how large an expression may be no clause says, and a reader may fail once the words are read
 abbrev pub Comes : List (List ℕ) → List ℕ → Fault → Type 0
 Comes words input (fault.Line line.Memory) = Unit {0}
+Comes words input (fault.Line line.LargeExpression) = (order_of words ≡ Err line.LargeExpression) ⊎ (seeks_in words ≡ true)
 Comes words input (fault.Line wrong) = order_of words ≡ Err (without_kind wrong)
 Comes words input fault.NotText = ⊥
 Comes words input fault.NoSite = AreForLive words
@@ -64,6 +65,7 @@ line_words line.FarProxy = codes "line words"
 line_words line.Depth = codes "line depth"
 line_words line.Pattern = codes "line pattern"
 line_words (line.Expression at) = codes "line pattern"
+line_words line.LargeExpression = codes "line pattern"
 line_words line.Directory = codes "line directory"
 line_words line.Domain = codes "line domain"
 line_words line.Tags = codes "line tags"

@@ -86,7 +86,9 @@ fn line_words(wrong: LineFault) -> &'static str
         | LineFault::Header
         | LineFault::Fields => "line words",
         LineFault::Depth => "line depth",
-        LineFault::Pattern | LineFault::Expression(_) => "line pattern",
+        LineFault::Pattern | LineFault::Expression(_) | LineFault::LargeExpression => {
+            "line pattern"
+        }
         LineFault::Directory => "line directory",
         LineFault::Domain => "line domain",
         LineFault::Tags => "line tags",

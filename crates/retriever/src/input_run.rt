@@ -9,12 +9,15 @@ ghost use Rattle.retriever.specs.InputFound.{TellsSite, TellsFault, FindsIn, map
 ghost use Rattle.retriever.specs.Site.{IsMapOf, IsRecordOf, IsToldBy, whole_of, with_bare_bodies};
 ghost use Rattle.retriever.specs.Parts.{IsDelivered, IsFaultDelivered};
 ghost use Rattle.retriever.specs.inner.Parts.{HasKinds, IsOutput, IsOutputOf, IsUnfit};
+ghost use Rattle.retriever.specs.Rejecting.{IfLog, IsLogOfInput, IsLogOfSite, IsLogTaken, IsLogTold};
 ghost use Rattle.retriever.specs.Run.{Runs};
 
 use crate::copies::{Copied, copies_of};
 use crate::fault::{Fault, fault_text};
+use crate::rejected::{hand_over, log_of};
 use crate::told::{Output, told_of};
 use html_links::LinkRules;
+use live_system::RejectedLog;
 use options::{Order, Source, read_order};
 use site_maps::MapSite;
 use site_records::RecordedSite;
@@ -58,7 +61,7 @@ fn retrieve<H: Threads + Wait + Sync, F: Copied>(
     site: &F,
 ) -> Result<Output, AllocError>
     ensures { (told : RecordedAnswers) → Fits (F.says (F.site site.now)) (F.rules (F.site site.now)) (whole_of told) → HasKinds (F.says (F.site site.now)) told
-        → IfOk result (λ output. IsOutputOf order.now told (string_bytes output.text) output.status) }
+        → IfOk result (λ output. IsOutputOf order.now told (string_bytes output.text) output.status × IfLog (IsLogOfSite order.now told) output.rejected) }
 {
     let copies = copies_of(alloc, site, order.workers)?;
     let (retrieved, copies) = workers::retrieve_shown(
@@ -71,7 +74,8 @@ fn retrieve<H: Threads + Wait + Sync, F: Copied>(
     );
     // They are dropped before a report is made.
     drop(copies);
-    let told = told_of(alloc, &order.names, order.trace, &retrieved);
+    let rejected = log_of(alloc, order, &retrieved);
+    let told = told_of(alloc, &order.names, order.trace, &retrieved, rejected);
     drop(retrieved);
     told
 }
@@ -84,6 +88,7 @@ fn output_of_map<H: Threads + Wait + Sync, R: Read>(
     reader: &mut R,
 ) -> Result<Output, Fault>
     ensures ok { IfOk result (λ output. IsOutput IsMapOf order.now (R.remaining reader.old) (string_bytes output.text) output.status) }
+    ensures rejected { IfOk result (λ output. IfLog (IsLogTold IsMapOf order.now (R.remaining reader.old)) output.rejected) }
     ensures err { IfErr result (TellsFault IsFaultOfMap (R.remaining reader.old)) }
 {
     let site = map_of(alloc, reader)?;
@@ -100,6 +105,7 @@ fn output_of_record<H: Threads + Wait + Sync, R: Read>(
     reader: &mut R,
 ) -> Result<Output, Fault>
     ensures ok { IfOk result (λ output. IsOutput (IsRecordOf order.now.links) order.now (R.remaining reader.old) (string_bytes output.text) output.status) }
+    ensures rejected { IfOk result (λ output. IfLog (IsLogTold (IsRecordOf order.now.links) order.now (R.remaining reader.old)) output.rejected) }
     ensures err { IfErr result (TellsFault (IsFaultOfRecord order.now.links) (R.remaining reader.old)) }
 {
     let site = record_of(alloc, reader, order.links)?;
@@ -116,6 +122,7 @@ fn output_of<H: Threads + Wait + Sync, R: Read>(
     reader: &mut R,
 ) -> Result<Output, Fault>
     ensures ok { IfOk result (λ output. IsOutput (IsToldBy order.now.source order.now.links) order.now (R.remaining reader.old) (string_bytes output.text) output.status) }
+    ensures rejected { IfOk result (λ output. IfLog (IsLogOfInput order.now (R.remaining reader.old)) output.rejected) }
     ensures err { IfErr result (IsUnfit order.now (R.remaining reader.old)) }
     ensures unread { order.now.source ≡ Source.Live → reader.new ≡ reader.old }
 {
@@ -172,6 +179,36 @@ pub fn run_of_order<H: Threads + Wait + Sync, R: Read, W: Write>(
 {
     match output_of(rt, alloc, order, reader) {
         Ok(output) => deliver(writer, output.text.as_bytes(), output.status),
+        Err(fault) => refuse(alloc, fault, writer),
+    }
+}
+
+/// Runs by an order likewise, and then hands over the log of rejected links, if the order names a file for it.
+pub(crate) fn run_and_log<H: Threads + Wait + Sync, R: Read, W: Write, L: RejectedLog>(
+    rt: &H,
+    alloc: Global,
+    order: &Order,
+    reader: &mut R,
+    writer: &mut W,
+    log: &mut L,
+) -> u8
+    ensures runs { (words : List (List ℕ)) → order_of words ≡ Ok (ordered_by order.now)
+        → Runs words (R.remaining reader.old) (W.contents writer.old) (W.contents writer.new) result }
+    ensures unread { order.now.source ≡ Source.Live → reader.new ≡ reader.old }
+    ensures logged { IsLogTaken (IsLogOfInput order.now (R.remaining reader.old)) (L.contents log.old) (L.contents log.new) }
+{
+    match output_of(rt, alloc, order, reader) {
+        Ok(output) => {
+            let Output {
+                text,
+                status,
+                rejected,
+            } = output;
+            let status = deliver(writer, text.as_bytes(), status);
+            drop(text);
+            hand_over(rejected, log);
+            status
+        }
         Err(fault) => refuse(alloc, fault, writer),
     }
 }

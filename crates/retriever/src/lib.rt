@@ -25,6 +25,7 @@ mod live_run;
 mod moves;
 mod program;
 mod quota;
+mod rejected;
 mod resume_fault;
 mod saved_run;
 mod telling;

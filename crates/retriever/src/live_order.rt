@@ -5,6 +5,7 @@ ghost use Rattle.local_tree.specs.Folders.{holding};
 ghost use Rattle.retriever.specs.Found.{outside};
 ghost use Rattle.retriever.specs.Keeping.{kept_as};
 ghost use Rattle.retriever.specs.Live.{Lives};
+ghost use Rattle.retriever.specs.Rejecting.{IsLogLive, IsLogOfCrew, IsLogTaken};
 ghost use Rattle.retriever.specs.Resuming.{IsUnresumed};
 ghost use Rattle.retriever.specs.Systems.{IsNotRead, IsNotResumed, IsRecordRead, IsResumed, LivesAgain, LivesBy, LivesIn, LivesPlainly, LivesSaving, LivesWith, means, settings_of};
 ghost use Rattle.retriever.specs.inner.Systems.{AreResuming, is_plain};
@@ -13,11 +14,12 @@ use crate::input_run::{MAX_INPUT, deliver};
 use crate::live_run::live_shown;
 use crate::moves::tell_moves;
 use crate::quota::tell_quota;
+use crate::rejected::{hand_over, log_of};
 use crate::resume_fault::{ResumeFault, resume_status, resume_text};
 use crate::saved_run::{live_saved, resuming};
 use early_names::EarlyRules;
 use fetcher::Fetcher;
-use live_system::{FetcherSettings, HoldFault, System};
+use live_system::{FetcherSettings, HoldFault, RejectedLog, System};
 use local_tree::{HasKind, Shelf};
 use options::Order;
 use site_inputs::InputFault;
@@ -97,7 +99,14 @@ fn keep_to_the_end<B: Drop>(retrieved: Result<Harvest<B>, Halt<B>>) {
 }
 
 // Retrieves the live site that the order says, by these fetchers, into a folder.
-fn live_into<H: Threads + Wait + Sync, S: System, F: Fetcher + Send, D: Shelf<F::Body>, W: Write>(
+fn live_into<
+    H: Threads + Wait + Sync,
+    S: System,
+    F: Fetcher + Send,
+    D: Shelf<F::Body>,
+    W: Write,
+    L: RejectedLog,
+>(
     rt: &H,
     alloc: Global,
     system: &S,
@@ -105,18 +114,21 @@ fn live_into<H: Threads + Wait + Sync, S: System, F: Fetcher + Send, D: Shelf<F:
     fetchers: Vec<F>,
     folder: &mut D,
     writer: &mut W,
+    log: &mut L,
 ) -> u8
 where
     F::Body: HasKind + Send,
     requires some { 0 < vec_len fetchers }
     requires most { vec_len fetchers ≤ 64 }
-    ensures { Lives F.Fetcher (kept_as F.Body.kind_of F.Body.len_of D.holds) order.now fetchers.items (outside (holding D.files D.failed folder.old) (W.contents writer.old))
+    ensures lives { Lives F.Fetcher (kept_as F.Body.kind_of F.Body.len_of D.holds) order.now fetchers.items (outside (holding D.files D.failed folder.old) (W.contents writer.old))
         (outside (holding D.files D.failed folder.new) (W.contents writer.new)) result }
+    ensures logged { IsLogTaken (IsLogOfCrew F.Fetcher order.now fetchers.items) (L.contents log.old) (L.contents log.new) }
 {
     let waiting = system.waiting();
     let (status, retrieved) = live_shown(rt, alloc, order, fetchers, folder, writer, waiting);
     tell_moves(alloc, system, &retrieved);
     tell_quota(system, &retrieved);
+    hand_over(log_of(alloc, order, &retrieved), log);
     keep_to_the_end(retrieved);
     status
 }
@@ -129,20 +141,22 @@ fn begin_naming<S: System>(alloc: Global, system: &S, order: &Order) -> Result<(
 }
 
 // Retrieves the live site that the order says, by fetchers of the system, into its folder.
-fn live_plainly<H: Threads + Wait + Sync, S: System, W: Write>(
+fn live_plainly<H: Threads + Wait + Sync, S: System, W: Write, L: RejectedLog>(
     rt: &H,
     alloc: Global,
     system: &S,
     order: &Order,
     writer: &mut W,
+    log: &mut L,
 ) -> Result<u8, AllocError>
     ensures lives { IfOk result (LivesPlainly (means S.System system.now S.Fetcher.Fetcher S.Recorder.Fetcher S.Recorder.noted (kept_as S.Body.kind_of S.Body.len_of S.Folder.holds) S.Folder.Folder S.Record.Write) order.now (W.contents writer.old) (W.contents writer.new)) }
     ensures unwritten { OnErr result (writer.new ≡ writer.old) }
+    ensures logged { IsLogTaken (IsLogLive (means S.System system.now S.Fetcher.Fetcher S.Recorder.Fetcher S.Recorder.noted (kept_as S.Body.kind_of S.Body.len_of S.Folder.holds) S.Folder.Folder S.Record.Write) order.now) (L.contents log.old) (L.contents log.new) }
 {
     begin_naming(alloc, system, order)?;
     let fetchers = fetchers_of(alloc, system, order)?;
     let mut folder = system.folder(order.prefix.as_str())?;
-    Ok(live_into(rt, alloc, system, order, fetchers, &mut folder, writer))
+    Ok(live_into(rt, alloc, system, order, fetchers, &mut folder, writer, log))
 }
 
 // Fetchers for the order's workers that ask those of the system for what the record doesn't state.
@@ -161,25 +175,27 @@ fn resumed_of<S: System>(
 }
 
 // The same by such fetchers.
-fn live_again<H: Threads + Wait + Sync, S: System, W: Write>(
+fn live_again<H: Threads + Wait + Sync, S: System, W: Write, L: RejectedLog>(
     rt: &H,
     alloc: Global,
     system: &S,
     order: &Order,
     recorded: &RecordedSite,
     writer: &mut W,
+    log: &mut L,
 ) -> Result<u8, AllocError>
     requires resumed { IsResumed (means S.System system.now S.Fetcher.Fetcher S.Recorder.Fetcher S.Recorder.noted (kept_as S.Body.kind_of S.Body.len_of S.Folder.holds) S.Folder.Folder S.Record.Write) order.now recorded.now }
     ensures lives { IfOk result (LivesAgain (means S.System system.now S.Fetcher.Fetcher S.Recorder.Fetcher S.Recorder.noted (kept_as S.Body.kind_of S.Body.len_of S.Folder.holds) S.Folder.Folder S.Record.Write) order.now (W.contents writer.old) (W.contents writer.new)) }
     ensures unwritten { OnErr result (writer.new ≡ writer.old) }
+    ensures logged { IsLogTaken (IsLogLive (means S.System system.now S.Fetcher.Fetcher S.Recorder.Fetcher S.Recorder.noted (kept_as S.Body.kind_of S.Body.len_of S.Folder.holds) S.Folder.Folder S.Record.Write) order.now) (L.contents log.old) (L.contents log.new) }
 {
     let resumed = resumed_of(alloc, system, order, recorded, false)?;
     let mut folder = system.folder(order.prefix.as_str())?;
-    Ok(live_into(rt, alloc, system, order, resumed, &mut folder, writer))
+    Ok(live_into(rt, alloc, system, order, resumed, &mut folder, writer, log))
 }
 
 // The same, and what the record says and these fetchers note is saved at the path.
-fn live_saving<H: Threads + Wait + Sync, S: System, W: Write>(
+fn live_saving<H: Threads + Wait + Sync, S: System, W: Write, L: RejectedLog>(
     rt: &H,
     alloc: Global,
     system: &S,
@@ -187,10 +203,12 @@ fn live_saving<H: Threads + Wait + Sync, S: System, W: Write>(
     recorded: &RecordedSite,
     path: &str,
     writer: &mut W,
+    log: &mut L,
 ) -> Result<u8, AllocError>
     requires resumed { IsResumed (means S.System system.now S.Fetcher.Fetcher S.Recorder.Fetcher S.Recorder.noted (kept_as S.Body.kind_of S.Body.len_of S.Folder.holds) S.Folder.Folder S.Record.Write) order.now recorded.now }
     ensures lives { IfOk result (LivesSaving (means S.System system.now S.Fetcher.Fetcher S.Recorder.Fetcher S.Recorder.noted (kept_as S.Body.kind_of S.Body.len_of S.Folder.holds) S.Folder.Folder S.Record.Write) order.now path.now (W.contents writer.old) (W.contents writer.new)) }
     ensures unwritten { OnErr result (writer.new ≡ writer.old) }
+    ensures logged { IsLogTaken (IsLogLive (means S.System system.now S.Fetcher.Fetcher S.Recorder.Fetcher S.Recorder.noted (kept_as S.Body.kind_of S.Body.len_of S.Folder.holds) S.Folder.Folder S.Record.Write) order.now) (L.contents log.old) (L.contents log.new) }
 {
     let resumed = resumed_of(alloc, system, order, recorded, true)?;
     let mut folder = system.folder(order.prefix.as_str())?;
@@ -208,6 +226,7 @@ fn live_saving<H: Threads + Wait + Sync, S: System, W: Write>(
     );
     tell_moves(alloc, system, &retrieved);
     tell_quota(system, &retrieved);
+    hand_over(log_of(alloc, order, &retrieved), log);
     keep_to_the_end(retrieved);
     Ok(status)
 }
@@ -263,21 +282,32 @@ fn resumption_of<S: System>(
 }
 
 // Retrieves with what is recorded, and saves if the order says so.
-fn live_with<H: Threads + Wait + Sync, S: System, W: Write>(
+fn live_with<H: Threads + Wait + Sync, S: System, W: Write, L: RejectedLog>(
     rt: &H,
     alloc: Global,
     system: &S,
     order: &Order,
     recorded: &RecordedSite,
     writer: &mut W,
+    log: &mut L,
 ) -> Result<u8, AllocError>
     requires resumed { IsResumed (means S.System system.now S.Fetcher.Fetcher S.Recorder.Fetcher S.Recorder.noted (kept_as S.Body.kind_of S.Body.len_of S.Folder.holds) S.Folder.Folder S.Record.Write) order.now recorded.now }
     ensures lives { IfOk result (LivesWith (means S.System system.now S.Fetcher.Fetcher S.Recorder.Fetcher S.Recorder.noted (kept_as S.Body.kind_of S.Body.len_of S.Folder.holds) S.Folder.Folder S.Record.Write) order.now.save order.now (W.contents writer.old) (W.contents writer.new)) }
     ensures unwritten { OnErr result (writer.new ≡ writer.old) }
+    ensures logged { IsLogTaken (IsLogLive (means S.System system.now S.Fetcher.Fetcher S.Recorder.Fetcher S.Recorder.noted (kept_as S.Body.kind_of S.Body.len_of S.Folder.holds) S.Folder.Folder S.Record.Write) order.now) (L.contents log.old) (L.contents log.new) }
 {
     match &order.save {
-        Some(path) => live_saving(rt, alloc, system, order, recorded, path.as_str(), writer),
-        None => live_again(rt, alloc, system, order, recorded, writer),
+        Some(path) => live_saving(
+            rt,
+            alloc,
+            system,
+            order,
+            recorded,
+            path.as_str(),
+            writer,
+            log,
+        ),
+        None => live_again(rt, alloc, system, order, recorded, writer, log),
     }
 }
 
@@ -307,23 +337,25 @@ fn is_plain(order: &Order) -> bool
 }
 
 // Retrieves as the order says. The error is why its record can't be resumed, or that memory ran out.
-fn live_in<H: Threads + Wait + Sync, S: System, W: Write>(
+fn live_in<H: Threads + Wait + Sync, S: System, W: Write, L: RejectedLog>(
     rt: &H,
     alloc: Global,
     system: &S,
     order: &Order,
     writer: &mut W,
+    log: &mut L,
 ) -> Result<u8, ResumeFault>
     ensures lives { IfOk result (LivesBy (means S.System system.now S.Fetcher.Fetcher S.Recorder.Fetcher S.Recorder.noted (kept_as S.Body.kind_of S.Body.len_of S.Folder.holds) S.Folder.Folder S.Record.Write) (order.now.resume, order.now.save) order.now (W.contents writer.old) (W.contents writer.new)) }
     ensures unresumed { IfErr result (IsNotResumed (means S.System system.now S.Fetcher.Fetcher S.Recorder.Fetcher S.Recorder.noted (kept_as S.Body.kind_of S.Body.len_of S.Folder.holds) S.Folder.Folder S.Record.Write) order.now) }
     ensures unwritten { OnErr result (writer.new ≡ writer.old) }
+    ensures logged { IsLogTaken (IsLogLive (means S.System system.now S.Fetcher.Fetcher S.Recorder.Fetcher S.Recorder.noted (kept_as S.Body.kind_of S.Body.len_of S.Folder.holds) S.Folder.Folder S.Record.Write) order.now) (L.contents log.old) (L.contents log.new) }
 {
     if is_plain(order) {
-        return Ok(live_plainly(rt, alloc, system, order, writer)?);
+        return Ok(live_plainly(rt, alloc, system, order, writer, log)?);
     }
     hold(system, order)?;
     let recorded = resumption_of(alloc, system, order)?;
-    let lived = live_with(rt, alloc, system, order, &recorded, writer);
+    let lived = live_with(rt, alloc, system, order, &recorded, writer, log);
     drop(recorded);
     Ok(lived?)
 }
@@ -341,16 +373,18 @@ fn refuse_resume<W: Write>(alloc: Global, fault: ResumeFault, writer: &mut W) ->
 /// Retrieves the live site that the order says, by fetchers of the system, into its folder: what the order resumes isn't
 /// requested again, and what it saves is saved. If a record can't be resumed, its line replaces all else, and nothing is
 /// requested or saved.
-pub(crate) fn live_order<H: Threads + Wait + Sync, S: System, W: Write>(
+pub(crate) fn live_order<H: Threads + Wait + Sync, S: System, W: Write, L: RejectedLog>(
     rt: &H,
     alloc: Global,
     system: &S,
     order: &Order,
     writer: &mut W,
+    log: &mut L,
 ) -> u8
-    ensures { LivesIn (means S.System system.now S.Fetcher.Fetcher S.Recorder.Fetcher S.Recorder.noted (kept_as S.Body.kind_of S.Body.len_of S.Folder.holds) S.Folder.Folder S.Record.Write) order.now (W.contents writer.old) (W.contents writer.new) result }
+    ensures lives { LivesIn (means S.System system.now S.Fetcher.Fetcher S.Recorder.Fetcher S.Recorder.noted (kept_as S.Body.kind_of S.Body.len_of S.Folder.holds) S.Folder.Folder S.Record.Write) order.now (W.contents writer.old) (W.contents writer.new) result }
+    ensures logged { IsLogTaken (IsLogLive (means S.System system.now S.Fetcher.Fetcher S.Recorder.Fetcher S.Recorder.noted (kept_as S.Body.kind_of S.Body.len_of S.Folder.holds) S.Folder.Folder S.Record.Write) order.now) (L.contents log.old) (L.contents log.new) }
 {
-    match live_in(rt, alloc, system, order, writer) {
+    match live_in(rt, alloc, system, order, writer, log) {
         Ok(status) => status,
         Err(fault) => refuse_resume(alloc, fault, writer),
     }

@@ -11,6 +11,7 @@ ghost use Rattle.retriever.specs.inner.Live.{IsTornTold};
 ghost use Rattle.retriever.specs.inner.Parts.{IsToldAs, status_told};
 ghost use Rattle.retriever.specs.inner.Puts.{IsHalfPutBy, IsHaltTold, IsHarvestPut, IsPutAndTold, IsPutOf, IsPutTold, IsStopPut, bare_cause, files_whole};
 ghost use Rattle.retriever.specs.Retrieved.{Stopped};
+ghost use Rattle.retriever.specs.Rejecting.{IsRetrievedBy};
 ghost use Rattle.retriever.specs.Run.{finish_text};
 
 use crate::link_change::LinkChange;
@@ -304,6 +305,7 @@ where
     requires most { vec_len fetchers ≤ 64 }
     ensures lives { Lives F.Fetcher (kept_as F.Body.kind_of F.Body.len_of D.holds) order.now fetchers.items (outside (holding D.files D.failed folder.old) (W.contents writer.old))
         (outside (holding D.files D.failed folder.new) (W.contents writer.new)) result.0 }
+    ensures retrieved { IfOk result.1 (IsRetrievedBy F.Fetcher order.now.plan fetchers.items) }
 {
     let quota = ByLength::of(order);
     let (retrieved, left) = workers::retrieve_shown(

@@ -6,16 +6,17 @@ ghost use Rattle.options.specs.Order.{order_of, ordered_by};
 ghost use Rattle.retriever.specs.Advice.{said_of};
 ghost use Rattle.retriever.specs.Order.{AreForInput, AreForLive};
 ghost use Rattle.retriever.specs.Keeping.{kept_as};
-ghost use Rattle.retriever.specs.Program.{IsExplained, IsFaultTold, LivesFor, outputs, words_behind, words_fault};
+ghost use Rattle.retriever.specs.Program.{IsExplained, IsFaultTold, IsQuietFor, LivesFor, outputs, words_behind, words_fault};
+ghost use Rattle.retriever.specs.Rejecting.{IsLogBy, IsLogFor, IsLogTaken};
 ghost use Rattle.retriever.specs.inner.Program.{Starts, all_streams};
 ghost use Rattle.retriever.specs.Run.{Runs, fault_text};
 ghost use Rattle.retriever.specs.Systems.{means};
 ghost use Rattle.streams.specs.Streams.{AppendsFront};
 
 use crate::fault::{Fault, fault_text};
-use crate::input_run::{deliver, refuse, run_of_order};
+use crate::input_run::{deliver, refuse, run_and_log};
 use crate::live_order::live_order;
-use live_system::System;
+use live_system::{RejectedLog, System};
 use options::{Order, Source, advice_text, no_text_advice, read_order};
 use std::alloc::{AllocError, Global};
 use std::env::Args;
@@ -127,29 +128,31 @@ pub(crate) fn explain<W: Write, E: Write>(
 }
 
 // Retrieves the site on the network that the words order by the system, and runs on those for an input.
-fn run_order<H: Threads + Wait + Sync, S: System, R: Read, W: Write>(
+fn run_order<H: Threads + Wait + Sync, S: System, R: Read, W: Write, L: RejectedLog>(
     rt: &H,
     alloc: Global,
     system: &S,
     order: &Order,
     reader: &mut R,
     writer: &mut W,
+    log: &mut L,
 ) -> u8
     ensures runs { order.now.source ≢ Source.Live → (words : List (List ℕ)) → order_of words ≡ Ok (ordered_by order.now)
         → Runs words (R.remaining reader.old) (W.contents writer.old) (W.contents writer.new) result }
     ensures lives { order.now.source ≡ Source.Live → (words : List (List ℕ)) → order_of words ≡ Ok (ordered_by order.now)
         → LivesFor (means S.System system.now S.Fetcher.Fetcher S.Recorder.Fetcher S.Recorder.noted (kept_as S.Body.kind_of S.Body.len_of S.Folder.holds) S.Folder.Folder S.Record.Write) (W.contents writer.old) (W.contents writer.new) result words }
     ensures unread { order.now.source ≡ Source.Live → reader.new ≡ reader.old }
+    ensures logged { IsLogTaken (IsLogBy (means S.System system.now S.Fetcher.Fetcher S.Recorder.Fetcher S.Recorder.noted (kept_as S.Body.kind_of S.Body.len_of S.Folder.holds) S.Folder.Folder S.Record.Write) order.now (R.remaining reader.old)) (L.contents log.old) (L.contents log.new) }
 {
     match order.source {
-        Source::Live => live_order(rt, alloc, system, order, writer),
-        Source::Map => run_of_order(rt, alloc, order, reader, writer),
-        Source::Recorded => run_of_order(rt, alloc, order, reader, writer),
+        Source::Live => live_order(rt, alloc, system, order, writer, log),
+        Source::Map => run_and_log(rt, alloc, order, reader, writer, log),
+        Source::Recorded => run_and_log(rt, alloc, order, reader, writer, log),
     }
 }
 
 // Runs on these words: of a site on the network by the system, of another by the input.
-fn run_texts<H: Threads + Wait + Sync, S: System, R: Read, W: Write, E: Write>(
+fn run_texts<H: Threads + Wait + Sync, S: System, R: Read, W: Write, E: Write, L: RejectedLog>(
     rt: &H,
     alloc: Global,
     system: &S,
@@ -157,14 +160,16 @@ fn run_texts<H: Threads + Wait + Sync, S: System, R: Read, W: Write, E: Write>(
     reader: &mut R,
     writer: &mut W,
     errors: &mut E,
+    log: &mut L,
 ) -> u8
-    ensures { Starts (LivesFor (means S.System system.now S.Fetcher.Fetcher S.Recorder.Fetcher S.Recorder.noted (kept_as S.Body.kind_of S.Body.len_of S.Folder.holds) S.Folder.Folder S.Record.Write) (W.contents writer.old) (W.contents writer.new) result)
+    ensures starts { Starts (LivesFor (means S.System system.now S.Fetcher.Fetcher S.Recorder.Fetcher S.Recorder.noted (kept_as S.Body.kind_of S.Body.len_of S.Folder.holds) S.Folder.Folder S.Record.Write) (W.contents writer.old) (W.contents writer.new) result)
         (all_streams R.remaining reader.old (outputs E.contents (W.contents writer.old) errors.old)) (all_streams R.remaining reader.new (outputs E.contents (W.contents writer.new) errors.new)) result
         (map (λ word. word.now) words.now) }
+    ensures logged { IsLogTaken (IsLogFor (means S.System system.now S.Fetcher.Fetcher S.Recorder.Fetcher S.Recorder.noted (kept_as S.Body.kind_of S.Body.len_of S.Folder.holds) S.Folder.Folder S.Record.Write) (R.remaining reader.old) (map (λ word. word.now) words.now)) (L.contents log.old) (L.contents log.new) }
 {
     match read_order(alloc, words) {
         Ok(order) => {
-            let status = run_order(rt, alloc, system, &order, reader, writer);
+            let status = run_order(rt, alloc, system, &order, reader, writer, log);
             drop(order);
             status
         }
@@ -173,7 +178,7 @@ fn run_texts<H: Threads + Wait + Sync, S: System, R: Read, W: Write, E: Write>(
 }
 
 // Runs on these words, the program's name first.
-fn run_words<H: Threads + Wait + Sync, S: System, R: Read, W: Write, E: Write>(
+fn run_words<H: Threads + Wait + Sync, S: System, R: Read, W: Write, E: Write, L: RejectedLog>(
     rt: &H,
     alloc: Global,
     system: &S,
@@ -181,19 +186,30 @@ fn run_words<H: Threads + Wait + Sync, S: System, R: Read, W: Write, E: Write>(
     reader: &mut R,
     writer: &mut W,
     errors: &mut E,
+    log: &mut L,
 ) -> u8
-    ensures { Starts (LivesFor (means S.System system.now S.Fetcher.Fetcher S.Recorder.Fetcher S.Recorder.noted (kept_as S.Body.kind_of S.Body.len_of S.Folder.holds) S.Folder.Folder S.Record.Write) (W.contents writer.old) (W.contents writer.new) result)
+    ensures starts { Starts (LivesFor (means S.System system.now S.Fetcher.Fetcher S.Recorder.Fetcher S.Recorder.noted (kept_as S.Body.kind_of S.Body.len_of S.Folder.holds) S.Folder.Folder S.Record.Write) (W.contents writer.old) (W.contents writer.new) result)
         (all_streams R.remaining reader.old (outputs E.contents (W.contents writer.old) errors.old)) (all_streams R.remaining reader.new (outputs E.contents (W.contents writer.new) errors.new)) result
         (words_behind all.now) }
+    ensures logged { IsLogTaken (IsLogFor (means S.System system.now S.Fetcher.Fetcher S.Recorder.Fetcher S.Recorder.noted (kept_as S.Body.kind_of S.Body.len_of S.Folder.holds) S.Folder.Folder S.Record.Write) (R.remaining reader.old) (words_behind all.now)) (L.contents log.old) (L.contents log.new) }
 {
     match texts_behind(alloc, all) {
-        Ok(words) => run_texts(rt, alloc, system, words.as_slice(), reader, writer, errors),
+        Ok(words) => run_texts(
+            rt,
+            alloc,
+            system,
+            words.as_slice(),
+            reader,
+            writer,
+            errors,
+            log,
+        ),
         Err(_) => refuse(alloc, Fault::Memory, writer),
     }
 }
 
 // Runs on the arguments of the program.
-fn run_args<H: Threads + Wait + Sync, S: System, R: Read, W: Write, E: Write>(
+fn run_args<H: Threads + Wait + Sync, S: System, R: Read, W: Write, E: Write, L: RejectedLog>(
     rt: &H,
     alloc: Global,
     system: &S,
@@ -201,13 +217,24 @@ fn run_args<H: Threads + Wait + Sync, S: System, R: Read, W: Write, E: Write>(
     reader: &mut R,
     writer: &mut W,
     errors: &mut E,
+    log: &mut L,
 ) -> u8
-    ensures { Starts (LivesFor (means S.System system.now S.Fetcher.Fetcher S.Recorder.Fetcher S.Recorder.noted (kept_as S.Body.kind_of S.Body.len_of S.Folder.holds) S.Folder.Folder S.Record.Write) (W.contents writer.old) (W.contents writer.new) result)
+    ensures starts { Starts (LivesFor (means S.System system.now S.Fetcher.Fetcher S.Recorder.Fetcher S.Recorder.noted (kept_as S.Body.kind_of S.Body.len_of S.Folder.holds) S.Folder.Folder S.Record.Write) (W.contents writer.old) (W.contents writer.new) result)
         (all_streams R.remaining reader.old (outputs E.contents (W.contents writer.old) errors.old)) (all_streams R.remaining reader.new (outputs E.contents (W.contents writer.new) errors.new)) result
         (words_behind (into_iter_items args)) }
+    ensures logged { IsLogTaken (IsLogFor (means S.System system.now S.Fetcher.Fetcher S.Recorder.Fetcher S.Recorder.noted (kept_as S.Body.kind_of S.Body.len_of S.Folder.holds) S.Folder.Folder S.Record.Write) (R.remaining reader.old) (words_behind (into_iter_items args))) (L.contents log.old) (L.contents log.new) }
 {
     match all_words(alloc, args) {
-        Ok(all) => run_words(rt, alloc, system, all.as_slice(), reader, writer, errors),
+        Ok(all) => run_words(
+            rt,
+            alloc,
+            system,
+            all.as_slice(),
+            reader,
+            writer,
+            errors,
+            log,
+        ),
         Err(_) => refuse(alloc, Fault::Memory, writer),
     }
 }
@@ -217,10 +244,18 @@ fn run_args<H: Threads + Wait + Sync, S: System, R: Read, W: Write, E: Write>(
 /// prefix. If they resume a record, that is read first, and nothing that it states is requested; a record that can't be resumed
 /// ends the run with its line. If they save one, it is done by [`live_resumed`](crate::live_resumed);
 /// `run` gets all others after that name. What is wrong with words that order nothing is written for a person to `errors`; if
-/// the writer of that fails, a front of it may be written, and nothing is written there of other words, nor if memory runs
-/// out for it: then the line says that. Arguments that can't
-/// be had, since one isn't text or memory ran out, end the program as refused words do, with no byte read. Answers the status.
-pub fn run_program<H: Threads + Wait + Sync, S: System, R: Read, W: Write, E: Write>(
+/// the writer of that fails, a front of it may be written, and nothing is written there of other words, except that an expression would cost
+/// too much, nor if memory runs out for it: then the line says that. Arguments that can't
+/// be had, since one isn't text or memory ran out, end the program as refused words do, with no byte read. If the words name a file for
+/// the log of rejected links, `log` takes that of what was found, after the report. Answers the status.
+pub fn run_program<
+    H: Threads + Wait + Sync,
+    S: System,
+    R: Read,
+    W: Write,
+    E: Write,
+    L: RejectedLog,
+>(
     rt: &H,
     alloc: Global,
     system: &S,
@@ -228,6 +263,7 @@ pub fn run_program<H: Threads + Wait + Sync, S: System, R: Read, W: Write, E: Wr
     reader: &mut R,
     writer: &mut W,
     errors: &mut E,
+    log: &mut L,
 ) -> u8
     ensures runs { IfOk args (λ all. ¬ AreForLive (words_behind (into_iter_items all))
         → Runs (words_behind (into_iter_items all)) (R.remaining reader.old) (W.contents writer.old) (W.contents writer.new) result) }
@@ -236,13 +272,16 @@ pub fn run_program<H: Threads + Wait + Sync, S: System, R: Read, W: Write, E: Wr
     ensures unread { IfOk args (λ all. ¬ AreForInput (words_behind (into_iter_items all)) → reader.new ≡ reader.old) }
     ensures told { IfOk args (λ all. ¬ AreForInput (words_behind (into_iter_items all)) → ¬ AreForLive (words_behind (into_iter_items all))
         → IsFaultTold (words_behind (into_iter_items all)) (outputs E.contents (W.contents writer.old) errors.old) (outputs E.contents (W.contents writer.new) errors.new) result) }
-    ensures quiet { IfOk args (λ all. AreForInput (words_behind (into_iter_items all)) ⊎ AreForLive (words_behind (into_iter_items all)) → errors.new ≡ errors.old) }
+    ensures quiet { IfOk args (λ all. AreForInput (words_behind (into_iter_items all)) ⊎ AreForLive (words_behind (into_iter_items all))
+        → IsQuietFor (words_behind (into_iter_items all)) (outputs E.contents (W.contents writer.old) errors.old) (outputs E.contents (W.contents writer.new) errors.new)) }
     ensures refused { IfErr args (λ error. IsExplained [] (words_fault (error_kind error)) (outputs E.contents (W.contents writer.old) errors.old)
         (outputs E.contents (W.contents writer.new) errors.new) result) }
     ensures untouched { IfErr args (λ error. reader.new ≡ reader.old) }
+    ensures logged { IfOk args (λ all. IsLogTaken (IsLogFor (means S.System system.now S.Fetcher.Fetcher S.Recorder.Fetcher S.Recorder.noted (kept_as S.Body.kind_of S.Body.len_of S.Folder.holds) S.Folder.Folder S.Record.Write) (R.remaining reader.old) (words_behind (into_iter_items all))) (L.contents log.old) (L.contents log.new)) }
+    ensures unlogged { IfErr args (λ error. log.new ≡ log.old) }
 {
     match args {
-        Ok(args) => run_args(rt, alloc, system, args, reader, writer, errors),
+        Ok(args) => run_args(rt, alloc, system, args, reader, writer, errors, log),
         Err(error) => explain(alloc, words_fault(&error), &[], writer, errors),
     }
 }

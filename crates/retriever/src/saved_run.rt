@@ -3,6 +3,7 @@ ghost use Rattle.std.specs.Prelude.{◌≡◌, ◌≢◌, ◌<◌, ◌≤◌, �
 ghost use Rattle.site_records.specs.WrittenRecords.{all_noted, record_text};
 ghost use Rattle.local_tree.specs.Folders.{holding};
 ghost use Rattle.retriever.specs.Parts.{IsDelivered};
+ghost use Rattle.retriever.specs.Rejecting.{IsRetrievedBy};
 ghost use Rattle.retriever.specs.inner.Parts.{IsToldAs};
 ghost use Rattle.retriever.specs.Saving.{IsSaved, LivesResumed, LivesSaved, notes_of, outside_saved, resumes, resuming_of, save_status, save_text, unsaved_status};
 
@@ -123,8 +124,9 @@ pub(crate) fn live_saved<
 ) -> (u8, Result<Harvest<Body>, Halt<Body>>)
     requires some { 0 < vec_len fetchers }
     requires most { vec_len fetchers ≤ 64 }
-    ensures { LivesSaved (notes_of F.Fetcher F.noted given.now) order.now fetchers.items (outside_saved (holding D.files D.failed folder.old) (W.contents writer.old) (V.contents saved.old))
+    ensures lives { LivesSaved (notes_of F.Fetcher F.noted given.now) order.now fetchers.items (outside_saved (holding D.files D.failed folder.old) (W.contents writer.old) (V.contents saved.old))
         (outside_saved (holding D.files D.failed folder.new) (W.contents writer.new) (V.contents saved.new)) result.0 }
+    ensures retrieved { IfOk result.1 (IsRetrievedBy F.Fetcher order.now.plan fetchers.items) }
 {
     let quota = ByLength::of(order);
     let (retrieved, left) = workers::retrieve_shown(

@@ -1,12 +1,12 @@
 //! Where a run writes its output: to standard output and standard error, nowhere, or into a file.
-ghost use Rattle.std.specs.Prelude.{◌≡◌, None, IfErr, IfOk, false, map, option_map};
+ghost use Rattle.std.specs.Prelude.{◌≡◌, None, IfErr, IfOk, false, map, option_map, string_bytes};
 ghost use Rattle.std.specs.Vec.Iter.{into_iter_items};
-ghost use Rattle.options.specs.Order.{log_by, order_of};
+ghost use Rattle.options.specs.Order.{log_by};
 ghost use Rattle.retriever.specs.Program.{words_behind};
-ghost use Rattle.retriever.specs.Telling.{telling_by};
+ghost use Rattle.retriever.specs.Telling.{IsRejectedPath, IsTelling};
 
 use crate::program::{all_words, texts_behind};
-use options::{LineFault, Log, are_quiet, read_order};
+use options::{LineFault, Log, Order, are_quiet, read_order};
 use std::alloc::{AllocError, Global};
 use std::env::Args;
 use std::io;
@@ -18,9 +18,13 @@ pub struct Telling {
     pub is_quiet: bool,
     /// The file that takes the report and what failed; without one they go to standard output and standard error.
     pub log: Option<Log>,
+    /// The path of the file that takes the log of rejected links.
+    pub rejected: Option<String>,
 }
 
 impl Telling {
+    ghost use Rattle.std.specs.Prelude.{◌≡◌};
+
     /// The path of that file, and whether it keeps what it has. Takes no memory.
     pub fn file(&self) -> Option<(&str, bool)> {
         match &self.log {
@@ -28,28 +32,62 @@ impl Telling {
             None => None,
         }
     }
+
+    /// The path of the file that takes the log of rejected links. Takes no memory.
+    pub fn into_rejected(self) -> Option<String>
+        ensures { result ≡ self.rejected }
+    {
+        let Telling { rejected, .. } = self;
+        rejected
+    }
 }
 
 // The output for refused words goes to standard output and standard error, or to the latter alone.
 fn standard(is_quiet: bool) -> Telling
     ensures quiet { result.is_quiet ≡ is_quiet }
     ensures log { option_map log_by result.log ≡ None }
+    ensures rejected { option_map string_bytes result.rejected ≡ None }
 {
     Telling {
         is_quiet,
         log: None,
+        rejected: None,
     }
+}
+
+// The path of the file that takes the log of rejected links.
+fn rejected_path(alloc: Global, order: &Order) -> Result<Option<String>, AllocError>
+    ensures { IfOk result (λ path. option_map string_bytes path ≡ order.now.rejected_log) }
+{
+    match &order.rejected_log {
+        Some(file) => Ok(Some(String::from_str(alloc, file.as_str())?)),
+        None => Ok(None),
+    }
+}
+
+// By an order.
+fn telling_of_order(alloc: Global, order: Order) -> Result<Telling, AllocError>
+    ensures telling { IfOk result (λ t. (t.is_quiet, option_map log_by t.log) ≡ (order.quiet, option_map log_by order.log)) }
+    ensures rejected { IfOk result (λ t. option_map string_bytes t.rejected ≡ order.rejected_log) }
+{
+    let Ok(rejected) = rejected_path(alloc, &order) else {
+        drop(order);
+        return Err(AllocError);
+    };
+    Ok(Telling {
+        is_quiet: order.quiet,
+        log: order.into_log(),
+        rejected,
+    })
 }
 
 // By these words.
 fn telling_of_words(alloc: Global, words: &[&str]) -> Result<Telling, AllocError>
-    ensures { IfOk result (λ t. (t.is_quiet, option_map log_by t.log) ≡ telling_by (map (λ word. word.now) words.now) (order_of (map (λ word. word.now) words.now))) }
+    ensures telling { IfOk result (λ t. IsTelling (map (λ word. word.now) words.now) (t.is_quiet, option_map log_by t.log)) }
+    ensures rejected { IfOk result (λ t. IsRejectedPath (map (λ word. word.now) words.now) (option_map string_bytes t.rejected)) }
 {
     match read_order(alloc, words) {
-        Ok(order) => Ok(Telling {
-            is_quiet: order.quiet,
-            log: order.into_log(),
-        }),
+        Ok(order) => telling_of_order(alloc, order),
         Err(LineFault::Memory) => Err(AllocError),
         Err(_) => Ok(standard(are_quiet(alloc, words)?)),
     }
@@ -57,7 +95,8 @@ fn telling_of_words(alloc: Global, words: &[&str]) -> Result<Telling, AllocError
 
 // By these words, the program's name first.
 fn telling_of_all(alloc: Global, all: &[String]) -> Result<Telling, AllocError>
-    ensures { IfOk result (λ t. (t.is_quiet, option_map log_by t.log) ≡ telling_by (words_behind all.now) (order_of (words_behind all.now))) }
+    ensures telling { IfOk result (λ t. IsTelling (words_behind all.now) (t.is_quiet, option_map log_by t.log)) }
+    ensures rejected { IfOk result (λ t. IsRejectedPath (words_behind all.now) (option_map string_bytes t.rejected)) }
 {
     let words = texts_behind(alloc, all)?;
     telling_of_words(alloc, words.as_slice())
@@ -67,8 +106,9 @@ fn telling_of_all(alloc: Global, all: &[String]) -> Result<Telling, AllocError>
 /// refused words goes to standard output and standard error, or to the latter alone if they say that nothing is to be printed. The
 /// error is that memory ran out.
 pub fn telling_of(alloc: Global, args: io::Result<Args>) -> Result<Telling, AllocError>
-    ensures ordered { IfOk args (λ all. IfOk result (λ t. (t.is_quiet, option_map log_by t.log) ≡ telling_by (words_behind (into_iter_items all)) (order_of (words_behind (into_iter_items all))))) }
-    ensures refused { IfErr args (λ error. IfOk result (λ t. (t.is_quiet ≡ false) × (option_map log_by t.log ≡ None))) }
+    ensures ordered { IfOk args (λ all. IfOk result (λ t. IsTelling (words_behind (into_iter_items all)) (t.is_quiet, option_map log_by t.log))) }
+    ensures rejected { IfOk args (λ all. IfOk result (λ t. IsRejectedPath (words_behind (into_iter_items all)) (option_map string_bytes t.rejected))) }
+    ensures refused { IfErr args (λ error. IfOk result (λ t. (t.is_quiet ≡ false) × (option_map log_by t.log ≡ None) × (option_map string_bytes t.rejected ≡ None))) }
 {
     match args {
         Ok(args) => {

@@ -26,6 +26,8 @@ use workers::{Halt, Harvest};
 pub(crate) struct Output {
     pub(crate) text: String,
     pub(crate) status: u8,
+    /// The log of rejected links, if there is one.
+    pub(crate) rejected: Option<Result<String, AllocError>>,
 }
 
 /// The names of a harvest's kept pages, and the text on it.
@@ -129,24 +131,34 @@ pub(crate) fn halt_text<B: Drop>(
     Ok(text)
 }
 
-/// The text on what was retrieved, whose kept pages have their names by these rules.
+/// The text on what was retrieved, whose kept pages have their names by these rules, beside this log of rejected links.
 pub(crate) fn told_of(
     alloc: Global,
     naming: &PageNames,
     is_shown: bool,
     retrieved: &Result<Harvest<Body>, Halt<Body>>,
+    rejected: Option<Result<String, AllocError>>,
 ) -> Result<Output, AllocError>
-    ensures { IfOk result (λ output. IsRetrievalTold naming.now is_shown retrieved.now (string_bytes output.text) output.status) }
+    ensures told { IfOk result (λ output. IsRetrievalTold naming.now is_shown retrieved.now (string_bytes output.text) output.status) }
+    ensures rejected { IfOk result (λ output. output.rejected ≡ rejected) }
 {
     match retrieved {
         Ok(harvest) => {
             let Telling { names: _, text } = telling_of(alloc, naming, is_shown, harvest)?;
             let status = exit_status(harvest);
-            Ok(Output { text, status })
+            Ok(Output {
+                text,
+                status,
+                rejected,
+            })
         }
         Err(halt) => {
             let text = halt_text(alloc, is_shown, halt)?;
-            Ok(Output { text, status: 1 })
+            Ok(Output {
+                text,
+                status: 1,
+                rejected,
+            })
         }
     }
 }

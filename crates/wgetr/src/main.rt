@@ -3,7 +3,8 @@
 #![tactic(auto)]
 
 use host_system::{
-    EarlyRun, Network, Output, PartThreads, PartsDir, SharedFailures, StandIns, jar_of, starts_of,
+    EarlyRun, Network, Output, PartThreads, PartsDir, RejectedFile, SharedFailures, StandIns,
+    jar_of, starts_of,
 };
 use progress::{BehindLine, Progress};
 use record_journal::Saving;
@@ -63,7 +64,7 @@ fn main(rt: HostRuntime) -> ExitCode {
         let _ = rt.stdout().write_all(b"stopped memory\n");
         return ExitCode::from(1);
     };
-    let Some(output) = Output::open(
+    let Some(mut output) = Output::open(
         &rt,
         &failures,
         rt.stdout(),
@@ -77,6 +78,11 @@ fn main(rt: HostRuntime) -> ExitCode {
     let hosts = Hosts::new(rt.alloc());
     let kept = Kept::new(rt.alloc());
     let is_shown = rt.stderr().is_terminal() && !telling.is_quiet;
+    let path = telling.into_rejected();
+    let Some(mut rejected) = RejectedFile::open(&rt, &rt, &failures, path, &mut output) else {
+        failures.tell(&rt, &mut rt.stderr());
+        return ExitCode::from(3);
+    };
     let progress = Progress::new(&rt, is_shown);
     let saving = Saving::new();
     let crew = PartThreads::new(&rt, &rt);
@@ -104,7 +110,9 @@ fn main(rt: HostRuntime) -> ExitCode {
         &mut rt.stdin(),
         &mut writer,
         &mut rt.stderr(),
+        &mut rejected,
     );
+    let status = rejected.status(status, &mut writer);
     saving.end(&rt, &rt);
     parts.remove(&rt);
     failures.say_unasked(&rt, &kept);

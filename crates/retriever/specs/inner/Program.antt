@@ -2,7 +2,7 @@
 use Rattle.std.specs.Prelude.{◌≡◌, ◌⊎◌, ℕ, List, Option}
 use Rattle.retriever.specs.Order.{AreForInput, AreForLive}
 use Rattle.retriever.specs.Run.{Runs}
-use Rattle.retriever.specs.Program.{Outputs, IsFaultTold}
+use Rattle.retriever.specs.Program.{Outputs, IsFaultTold, IsQuietFor}
 
 -- the streams of the program at one moment: its reader with what that has left, and its outputs
 pub record Streams (R E : Type 0) : Type 0 where
@@ -21,4 +21,4 @@ pub record Starts {R E : Type 0} (Lives : List (List ℕ) → Type 0) (before af
   pub lives : AreForLive words → Lives words
   pub unread : ¬ AreForInput words → after.reader ≡ before.reader
   pub told : ¬ AreForInput words → ¬ AreForLive words → IsFaultTold words before.outputs after.outputs status
-  pub quiet : AreForInput words ⊎ AreForLive words → after.outputs.errors ≡ before.outputs.errors
+  pub quiet : AreForInput words ⊎ AreForLive words → IsQuietFor words before.outputs after.outputs

@@ -7,6 +7,7 @@ use Rattle.retriever.specs.Site.{whole_of}
 use Rattle.workers.proofs.ServingLaws.{crew_fits}
 use Rattle.workers.proofs.QuotaLaws.{unlimited}
 use Rattle.retriever.proofs.EndLaws.{copies_fit, copies_kinds, crew_kinds, told_finishes}
+use Rattle.retriever.proofs.LogLaws.{output_logged}
 use Rattle.retriever.proofs.input_run.retrieve.Goals as goal
 
 pub returns : goal.returns
@@ -20,5 +21,6 @@ returns g c = λ told fits has.
     let by = subst (λ n. IfOk r (λ h. AreByCrew n h.trace) × IfErr r (λ halt. halt.cause ≢ why.Mismatch → AreByCrew n halt.harvest.trace)) c.in_ok-copies.ensures.count crew.numbered in
     let have = copies_kinds F told c.args.site.now c.args.order.now.workers copies c.in_ok-copies.ensures.equal has in
     let left = c.retrieve_shown-retrieved.result.1.items in
-    told_finishes c.args.order.now _ _ told _ r _ (crew_fits F copies left whole fit) (crew_kinds F told copies left have) crew.ok (crew.whole_site whole fit) crew.err
-    (crew.full_site whole fit) (λ one. crew.one (c.in_ok-copies.ensures.count ∙ one)) (unlimited _ r crew.quota) by c.told_of-told.ensures
+    output_logged c.args.order.now told r c.log_of-rejected.result c.told_of-told.result c.log_of-rejected.ensures crew.ok (crew.whole_site whole fit) c.told_of-told.ensures.rejected
+    (told_finishes c.args.order.now _ _ told _ r _ (crew_fits F copies left whole fit) (crew_kinds F told copies left have) crew.ok (crew.whole_site whole fit) crew.err
+    (crew.full_site whole fit) (λ one. crew.one (c.in_ok-copies.ensures.count ∙ one)) (unlimited _ r crew.quota) by c.told_of-told.ensures.told)

@@ -1,12 +1,14 @@
 -- The fetchers are the system's, each with the record before it, and the folder is its, too.
-use Rattle.std.proofs.Common.{ℕ, List, refl, subst}
+use Rattle.std.proofs.Common.{ℕ, List, false, inl, inr, refl, subst}
 use Rattle.std.proofs.lemmas.Result.{err_from_is_err_and}
 use Rattle.local_tree.specs.Folders.{holding}
 use Rattle.site_records.specs.Resumption.{Resuming}
 use Rattle.retriever.specs.Found.{outside}
 use Rattle.retriever.specs.Keeping.{in_memory}
 use Rattle.retriever.specs.Live.{Lives}
+use Rattle.retriever.specs.Rejecting.{IsLogOfCrew}
 use Rattle.retriever.specs.Saving.{resuming_means}
+use Rattle.retriever.proofs.LogLaws.{logged_more}
 use Rattle.retriever.proofs.live_order.live_again.Goals as goal
 
 pub returns : goal.returns
@@ -28,17 +30,28 @@ returns g c =
           opened = subst (λ (path : List ℕ). g.S.System.opens c.args.system.now path c.in_ok-folder.folder) c.as_str.ensures c.in_ok-folder.ensures;
         };
         left = c.live_into.new.folder;
-        lives = subst (λ (fs : List (Resuming _)). Lives (resuming_means g.S.Recorder.Fetcher) in_memory c.args.order.now fs before after c.live_into.result) those.are c.live_into.ensures;
+        lives = subst (λ (fs : List (Resuming _)). Lives (resuming_means g.S.Recorder.Fetcher) in_memory c.args.order.now fs before after c.live_into.result) those.are c.live_into.ensures.lives;
       };
       unwritten = tt;
+      logged = logged_more _ _ _ _
+          (λ text log. inr (record {
+            recorded = c.args.recorded.now;
+            resumed = c.requires.resumed;
+            is_recording = false;
+            fetchers = those.fetchers;
+            made = those.made;
+            count = those.count;
+            log = subst (λ (fs : List (Resuming _)). IsLogOfCrew (resuming_means g.S.Recorder.Fetcher) c.args.order.now fs text) those.are log;
+          }))
+          c.live_into.ensures.logged;
     }
 
 pub returns-in_err-resumed : goal.returns-in_err-resumed
 returns-in_err-resumed g c =
     let p = err_from_is_err_and c.from_residual.result c.from_residual.ensures.1 in
-    rw p.1 (record { lives = tt; unwritten = refl })
+    rw p.1 (record { lives = tt; unwritten = refl; logged = inl refl })
 
 pub returns-in_err-folder : goal.returns-in_err-folder
 returns-in_err-folder g c =
     let p = err_from_is_err_and c.from_residual-in_err-folder.result c.from_residual-in_err-folder.ensures.1 in
-    rw p.1 (record { lives = tt; unwritten = refl })
+    rw p.1 (record { lives = tt; unwritten = refl; logged = inl refl })

@@ -3,8 +3,8 @@ use Rattle.std.proofs.Common.{inr, subst}
 use Rattle.retriever.specs.Resuming.{IsUnresumed}
 use Rattle.retriever.proofs.live_order.live_order.Goals as goal
 
-pub returns-in-Err : goal.returns-in-Err
-returns-in-Err g c =
+pub returns-in-Err-clause-lives : goal.returns-in-Err-clause-lives
+returns-in-Err-clause-lives g c =
     inr (
       c.in-Err.fault,
       c.in-Err.ensures.unresumed,

@@ -1,6 +1,7 @@
 -- The fetchers and the folder are the system's.
-use Rattle.std.proofs.Common.{◌∙◌, ℕ, List, refl, subst, sym}
+use Rattle.std.proofs.Common.{◌∙◌, ℕ, List, inl, refl, subst, sym}
 use Rattle.std.proofs.lemmas.Result.{err_from_is_err_and}
+use Rattle.retriever.proofs.LogLaws.{logged_more}
 use Rattle.retriever.proofs.live_order.live_plainly.Goals as goal
 
 pub returns : goal.returns
@@ -17,22 +18,23 @@ returns g c =
           opened = subst (λ (path : List ℕ). g.S.System.opens c.args.system.now path c.in_ok-folder.folder) c.as_str.ensures c.in_ok-folder.ensures;
         };
         left = c.live_into.new.folder;
-        lives = c.live_into.ensures;
+        lives = c.live_into.ensures.lives;
       };
       unwritten = tt;
+      logged = logged_more _ _ _ _ (λ text log. inl (record { fetchers = fetchers.items; made = given.made; count = sym fetchers.ok.0 ∙ given.count; log = log })) c.live_into.ensures.logged;
     }
 
 pub returns-in_err-begin_naming : goal.returns-in_err-begin_naming
 returns-in_err-begin_naming g c =
     let p = err_from_is_err_and c.from_residual.result c.from_residual.ensures.1 in
-    rw p.1 (record { lives = tt; unwritten = refl })
+    rw p.1 (record { lives = tt; unwritten = refl; logged = inl refl })
 
 pub returns-in_err-fetchers : goal.returns-in_err-fetchers
 returns-in_err-fetchers g c =
     let p = err_from_is_err_and c.from_residual-in_err-fetchers.result c.from_residual-in_err-fetchers.ensures.1 in
-    rw p.1 (record { lives = tt; unwritten = refl })
+    rw p.1 (record { lives = tt; unwritten = refl; logged = inl refl })
 
 pub returns-in_err-folder : goal.returns-in_err-folder
 returns-in_err-folder g c =
     let p = err_from_is_err_and c.from_residual-in_err-folder.result c.from_residual-in_err-folder.ensures.1 in
-    rw p.1 (record { lives = tt; unwritten = refl })
+    rw p.1 (record { lives = tt; unwritten = refl; logged = inl refl })

@@ -6,6 +6,7 @@ use Rattle.retriever.specs.Found.{crew_of, outside}
 use Rattle.retriever.specs.Keeping.{kept_as}
 use Rattle.retriever.specs.inner.Parts.{IsToldAs}
 use Rattle.retriever.proofs.LiveLaws.{crew_ends, lives_from, of_crew}
+use Rattle.retriever.proofs.LogLaws.{retrieved_by}
 use Rattle.retriever.proofs.live_run.live_shown.Goals as goal
 
 pub returns : goal.returns
@@ -26,4 +27,5 @@ returns g c =
     record {
       lives = lives_from F keeps c.args.order.now olds news (outside (holding D.files D.failed c.args.folder.now) (W.contents c.args.writer.now))
           (outside (holding D.files D.failed c.finish-told.new.folder) (W.contents c.finish-told.new.writer)) c.finish-told.result c.status_told-status.result known.fetchers c.status_told-status.ensures ends;
+      retrieved = retrieved_by F c.args.order.now.plan olds news r known.fetchers known.ok;
     }

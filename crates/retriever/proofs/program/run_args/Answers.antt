@@ -1,12 +1,20 @@
 -- The arguments are those that were given; if memory runs out before them, the program ends with its line.
-use Rattle.std.proofs.Common.{inr, ◌∙◌, ap, refl}
+use Rattle.std.proofs.Common.{inl, inr, ◌∙◌, ap, refl}
 use Rattle.retriever.specs.Program.{words_behind}
+use Rattle.retriever.proofs.LogLaws.{logged_as}
 use Rattle.retriever.proofs.ProgramLaws.{starts_as, starts_memory}
 use Rattle.retriever.proofs.program.run_args.Goals as goal
 
-pub returns-in-Ok : goal.returns-in-Ok
-returns-in-Ok g c =
-    starts_as _ _ _ _ _ _ (ap words_behind (c.as_slice.ensures.value ∙ c.in-Ok.ensures)) c.run_words.ensures
+pub returns-in-Ok-clause-starts : goal.returns-in-Ok-clause-starts
+returns-in-Ok-clause-starts g c =
+    starts_as _ _ _ _ _ _ (ap words_behind (c.as_slice.ensures.value ∙ c.in-Ok.ensures)) c.run_words.ensures.starts
 
-pub returns-in-Err : goal.returns-in-Err
-returns-in-Err g c = starts_memory _ _ _ _ refl refl _ (inr c.refuse.ensures) c.refuse.ensures
+pub returns-in-Err-clause-starts : goal.returns-in-Err-clause-starts
+returns-in-Err-clause-starts g c = starts_memory _ _ _ _ refl refl _ (inr (inl c.refuse.ensures)) c.refuse.ensures
+
+pub returns-in-Ok-clause-logged : goal.returns-in-Ok-clause-logged
+returns-in-Ok-clause-logged g c =
+    logged_as _ _ _ _ _ _ (ap words_behind (c.as_slice.ensures.value ∙ c.in-Ok.ensures)) c.run_words.ensures.logged
+
+pub returns-in-Err-clause-logged : goal.returns-in-Err-clause-logged
+returns-in-Err-clause-logged g c = inl refl

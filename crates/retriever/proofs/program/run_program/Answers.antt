@@ -4,8 +4,8 @@ use Rattle.retriever.proofs.program.run_program.Goals as goal
 
 pub returns-in-Ok : goal.returns-in-Ok
 returns-in-Ok g c =
-    let run = c.run_args.ensures in
-    rw c.in-Ok.is (record { runs = run.runs; lives = run.lives; unread = run.unread; told = run.told; quiet = run.quiet; refused = tt; untouched = tt })
+    let run = c.run_args.ensures.starts in
+    rw c.in-Ok.is (record { runs = run.runs; lives = run.lives; unread = run.unread; told = run.told; quiet = run.quiet; refused = tt; untouched = tt; logged = c.run_args.ensures.logged; unlogged = tt })
 
 pub returns-in-Err : goal.returns-in-Err
 returns-in-Err g c =
@@ -17,4 +17,6 @@ returns-in-Err g c =
       quiet = tt;
       refused = rw (← c.words_fault.ensures) c.explain.ensures.explained;
       untouched = refl;
+      logged = tt;
+      unlogged = refl;
     })

@@ -12,7 +12,7 @@ returns-in-Ok g c =
     let lives = λ (given : List Noted) (all : List (Resuming g.row.F.Denot)). LivesSaved (notes_of (resuming_means g.F.Fetcher) (noted_within g.F.Recording.noted) given) c.args.order.now all
     (outside_saved (holding D.files D.failed c.args.folder.now) (g.W.Write.contents c.args.writer.now) (g.V.Write.contents c.args.saved.now))
     (outside_saved (holding D.files D.failed c.live_saved-status.new.folder) (g.W.Write.contents c.live_saved-status.new.writer) (g.V.Write.contents c.live_saved-status.new.saved)) c.live_saved-status.result.0 in
-    let of_record = subst (λ (given : List Noted). lives given c.in-Ok.resuming.items) c.notes.ensures c.live_saved-status.ensures in
+    let of_record = subst (λ (given : List Noted). lives given c.in-Ok.resuming.items) c.notes.ensures c.live_saved-status.ensures.lives in
     record { lives = inl (subst (λ (all : List (Resuming g.row.F.Denot)). lives c.args.recorded.now.notes all) c.in-Ok.ensures.resuming of_record) }
 
 pub returns-in-Err : goal.returns-in-Err

@@ -9,10 +9,11 @@ use Rattle.retriever.specs.Keeping.{in_memory, len_in}
 use Rattle.retriever.specs.inner.Parts.{IsToldAs}
 use Rattle.retriever.specs.Saving.{IsSaved}
 use Rattle.retriever.proofs.LiveLaws.{crew_ends, of_crew}
+use Rattle.retriever.proofs.LogLaws.{retrieved_by}
 use Rattle.retriever.proofs.saved_run.live_saved.Goals as goal
 
-pub returns : goal.returns
-returns g c =
+pub returns-clause-lives : goal.returns-clause-lives
+returns-clause-lives g c =
     let F = g.F.Fetcher in
     let D = g.D.Folder in
     let noted = g.F.Recording.noted in
@@ -37,3 +38,8 @@ returns g c =
           (record_text (c.args.given.now ++ flat_map noted left))) c.as_slice.ensures.value c.save-saving.ensures;
       written = c.tell_saving_behind.ensures _ _ _ written;
     }
+
+pub returns-clause-retrieved : goal.returns-clause-retrieved
+returns-clause-retrieved g c =
+    let known = c.retrieve_shown-retrieved.ensures in
+    retrieved_by g.F.Fetcher c.args.order.now.plan c.args.fetchers.items c.retrieve_shown-retrieved.result.1.items c.retrieve_shown-retrieved.result.0 known.fetchers known.ok
