@@ -1,2 +1,3 @@
 pub mod Places
+pub mod Unclear
 pub mod Rewriting

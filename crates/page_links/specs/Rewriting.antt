@@ -15,6 +15,7 @@ use Rattle.html_links.specs.declared.awaiting.ValueForm.{ValueForm}
 use Rattle.html_links.specs.declared.awaiting.ValueForm.TheVariants.{Address, Base, Set, Refresh, Sheet}
 use Rattle.html_links.specs.declared.links.LinkKind.{LinkKind}
 use Rattle.html_links.specs.declared.links.LinkKind.TheVariants as kind
+use Rattle.page_links.specs.Unclear.{is_unclear}
 use Rattle.page_links.specs.Places.{IsValue, CanStand, IsPlace, IsSheetText, IsSheetPlace}
 
 -- ---- links
@@ -50,12 +51,18 @@ pub record IsLinkChanged (changes : Changes) (known : ValueForm → List ℕ →
   pub text : new.text ≡ changed (changes form) old.text
   pub holds : known form old.text new.text
 
--- these links are those, each changed
+-- A link is another one that stays, since its text may not be what is written.
+pub record IsLinkLeft (old new : Link) : Type 0 where
+  pub kind : new.kind ≡ old.kind
+  pub text : new.text ≡ old.text
+  pub unclear : is_unclear old.text ≡ true
+
+-- these links are those, each changed, but for some of which the text isn't clear
 abbrev pub AreLinksChanged : Changes → (ValueForm → List ℕ → List ℕ → Type 0) → List Link → List Link → Type 0
 AreLinksChanged changes known [] [] = Unit {0}
 AreLinksChanged changes known [] (n ∷ new) = ⊥
 AreLinksChanged changes known (o ∷ old) [] = ⊥
-AreLinksChanged changes known (o ∷ old) (n ∷ new) = IsLinkChanged changes known o n × AreLinksChanged changes known old new
+AreLinksChanged changes known (o ∷ old) (n ∷ new) = (IsLinkChanged changes known o n ⊎ IsLinkLeft o n) × AreLinksChanged changes known old new
 
 -- these references are those, each changed
 abbrev pub AreReferencesChanged : Change → (List ℕ → List ℕ → Type 0) → List (List ℕ) → List (List ℕ) → Type 0

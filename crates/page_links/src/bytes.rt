@@ -46,13 +46,25 @@ pub(crate) fn split_bare(text: &[u8]) -> (&[u8], &[u8])
     (text, &[])
 }
 
-/// How many bytes of a text can't have a value that is awaited after them: white at its front, or else all up to the first `=` or `>`.
+/// How many white bytes are at the front of a text.
+fn white_len(text: &[u8]) -> usize
+    ensures { result ≤ length text.now }
+{
+    for (i, byte) in text.iter().enumerate() {
+        if !is_white(*byte) {
+            return i;
+        }
+    }
+    text.len()
+}
+
+/// How many bytes of a text can't have a value that is awaited after them: the white at its front, or else all up to the first `=` or `>`.
 pub(crate) fn run_len(text: &[u8]) -> usize
     ensures some { 1 ≤ length text.now → 1 ≤ result }
     ensures within { result ≤ length text.now }
 {
     match text {
-        [first, ..] if is_white(*first) => 1,
+        [first, others @ ..] if is_white(*first) => 1 + white_len(others),
         _ => match memchr2(b'=', b'>', text) {
             Some(at) => at + 1,
             None => text.len(),

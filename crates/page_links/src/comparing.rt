@@ -1,11 +1,12 @@
 //! Links that are those of another page, changed.
-ghost use Rattle.std.specs.Prelude.{◌≡◌, true, IfOk, option_map, string_bytes};
+ghost use Rattle.std.specs.Prelude.{◌≡◌, ◌⊎◌, true, IfOk, option_map, string_bytes};
 ghost use Rattle.css_links.specs.Rewriting.{changed};
 ghost use Rattle.html_links.specs.Scanning.{scanned};
 ghost use Rattle.html_links.specs.declared.awaiting.ValueForm.TheVariants.{Base};
-ghost use Rattle.page_links.specs.Rewriting.{may_be_in, IsLinkChanged, AreLinksChanged, AreChanged};
+ghost use Rattle.page_links.specs.Rewriting.{may_be_in, IsLinkChanged, IsLinkLeft, AreLinksChanged, AreChanged};
 
 use crate::page_change::PageChange;
+use crate::unclear::is_unclear;
 use html_links::{Found, LinkKind, Scan, ValueForm};
 use std::alloc::AllocError;
 
@@ -70,12 +71,23 @@ fn is_part_changed<P: PageChange>(changes: &P, old: &Found, new: &Found) -> Resu
     is_link_changed_in(changes, ValueForm::Set, old, new)
 }
 
-/// Whether a link is the other one, changed.
+/// Whether a link is the other one, of which the text isn't clear.
+fn is_link_left(old: &Found, new: &Found) -> bool
+    requires { new.now.kind ≡ old.now.kind }
+    ensures { result ≡ true → IsLinkLeft old.now new.now }
+{
+    new.text.as_str() == old.text.as_str() && is_unclear(old.text.as_bytes())
+}
+
+/// Whether a link is the other one, changed, or left for its text.
 fn is_link_changed<P: PageChange>(changes: &P, old: &Found, new: &Found) -> Result<bool, AllocError>
-    ensures { IfOk result (λ is. is ≡ true → IsLinkChanged (P.becomes changes.now) (P.known changes.now) old.now new.now) }
+    ensures { IfOk result (λ is. is ≡ true → IsLinkChanged (P.becomes changes.now) (P.known changes.now) old.now new.now ⊎ IsLinkLeft old.now new.now) }
 {
     if old.kind != new.kind {
         return Ok(false);
+    }
+    if is_link_left(old, new) {
+        return Ok(true);
     }
     match old.kind {
         LinkKind::Link => is_outer_changed(changes, old, new),

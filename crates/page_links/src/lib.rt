@@ -4,8 +4,8 @@
 //! texts of `style` elements. No other byte is another. Which values have links, and what the links of a page are, is said by
 //! `html_links`; what is in a value by `source_sets`, `refresh_links` and `css_links`. [`rewrite_sheet`] does the same with a style sheet.
 //!
-//! The meaning is in `specs/`: `Places` says what the place of a value is, and `Rewriting` what a page anew is (`IsAnew`) and which links
-//! it has (`AreChanged`). What was written is read again before it is given: a page whose links aren't those of the first one,
+//! The meaning is in `specs/`: `Places` says what the place of a value is, `Unclear` of which texts it isn't known that they are what is
+//! written, and `Rewriting` what a page anew is (`IsAnew`) and which links it has (`AreChanged`). What was written is read again before it is given: a page whose links aren't those of the first one,
 //! changed, isn't given.
 #![tactic(auto)]
 
@@ -16,6 +16,7 @@ mod page_change;
 mod rewriter;
 mod sheet;
 mod sheet_rewriter;
+mod unclear;
 mod value;
 mod writer;
 

@@ -6,6 +6,7 @@ ghost use Rattle.html_links.specs.declared.awaiting.ValueForm.TheVariants.{Sheet
 ghost use Rattle.page_links.specs.Rewriting.{text_anew, IsWritten};
 
 use crate::page_change::{InForm, PageChange};
+use crate::unclear::is_unclear_value;
 use html_links::{Memory, ValueForm, escape, value_text};
 use std::alloc::Global;
 
@@ -62,7 +63,12 @@ fn text_anew<P: PageChange>(
     }
 }
 
-/// A value of that form with its links changed, as it is written; nothing, if its text stays, or can't be a value.
+/// Whether a value of that form has one link, so that it may stay as it is.
+fn has_one_link(form: ValueForm) -> bool {
+    form == ValueForm::Address || form == ValueForm::Refresh
+}
+
+/// A value of that form with its links changed, as it is written; nothing, if its text stays, can't be a value, or isn't clear.
 pub(crate) fn value_anew<P: PageChange>(
     alloc: Global,
     changes: &P,
@@ -71,6 +77,9 @@ pub(crate) fn value_anew<P: PageChange>(
 ) -> Result<Option<Vec<u8>>, Memory>
     ensures { IfOk result (λ other. MatchOption other (Unit {0}) (λ other. IsWritten (P.becomes changes.now) form value.now other.items)) }
 {
+    if has_one_link(form) && is_unclear_value(alloc, value)? {
+        return Ok(None);
+    }
     let text = value_text(alloc, value)?;
     let anew = text_anew(alloc, changes, form, text.as_str())?;
     if anew.is_empty() || anew.as_slice() == text.as_bytes() {

@@ -60,8 +60,11 @@ fn lead_to(base: &Address, links: &[Found], edges: &[Edge]) -> Result<bool, Allo
     Ok(left.is_empty())
 }
 
-/// Whether what was found in a page of that address leads where the edges lead.
+/// Whether what was found in a page of that address leads where the edges lead. From a page whose links aren't to be followed none lead.
 fn gives(address: &Address, found: &Scan, edges: &[Edge]) -> Result<bool, AllocError> {
+    if found.nofollow && edges.is_empty() {
+        return Ok(true);
+    }
     let base = base_of(address, &found.base)?;
     lead_to(&base, &found.links, edges)
 }

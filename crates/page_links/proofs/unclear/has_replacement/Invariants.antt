@@ -1,0 +1,10 @@
+-- What is left decides.
+use Rattle.std.proofs.Common.{◌≡◌, length}
+use Rattle.page_links.specs.Unclear.{has_replacement}
+use Rattle.page_links.proofs.unclear.has_replacement.Given as goal
+
+abbrev pub invariant-loop-first : goal.invariant-loop-first
+invariant-loop-first l = has_replacement l.rest ≡ has_replacement l.text
+
+abbrev pub decreases-loop-first : goal.decreases-loop-first
+decreases-loop-first l = length l.rest
