@@ -315,12 +315,16 @@ fn joined(alloc: Global, record: Vec<u8>, journal: Vec<u8>) -> Result<Vec<u8>, R
     if journal.is_empty() {
         return Ok(record);
     }
-    let Ok(first) = RecordedSite::read_noted(alloc, record.as_slice(), LinkRules::all(false)) else {
-        return Ok(record);
+    let first = match RecordedSite::read_noted(alloc, record.as_slice(), LinkRules::all(false)) {
+        Ok(first) => first,
+        Err(InputFault::Memory) => return Err(ReadFault::Memory),
+        Err(_) => return Ok(record),
     };
     drop(record);
-    let Ok(more) = RecordedSite::read_noted(alloc, journal.as_slice(), LinkRules::all(false)) else {
-        return Ok(journal);
+    let more = match RecordedSite::read_noted(alloc, journal.as_slice(), LinkRules::all(false)) {
+        Ok(more) => more,
+        Err(InputFault::Memory) => return Err(ReadFault::Memory),
+        Err(_) => return Ok(journal),
     };
     drop(journal);
     let parts = parts_of(alloc, first.notes(), more.notes())?;
