@@ -36,8 +36,9 @@ logged_as IsLog old new given words same logged = subst (λ (w : List (List ℕ)
 
 -- what is taken is what the log is
 pub taken : (IsLog : List ℕ → Type 0) (log : Option (Result (String Global) AllocError)) (old new : Option (List ℕ)) → IfLog IsLog log → TakesLog log old new → IsLogTaken IsLog old new
-taken IsLog log old new is (inl same) = inl same
-taken IsLog log old new is (inr (text, same, taken)) = inr (string_bytes text, subst (IfLog IsLog) same is, taken)
+taken IsLog None old new is same = inl same
+taken IsLog (Some (Ok text)) old new is takes = inr (string_bytes text, is, takes)
+taken IsLog (Some (Err short)) old new is same = inl same
 
 -- a log that may be made is one of such a kind
 pub if_log : (IsLog IsMore : List ℕ → Type 0) (log : Option (Result (String Global) AllocError)) → ((text : List ℕ) → IsLog text → IsMore text) → IfLog IsLog log → IfLog IsMore log
