@@ -79,6 +79,13 @@ impl<'a, R: Wait, F: Write + Drop> RejectedFile<'a, R, F> {
         }
     }
 
+    // Writes it likewise, or keeps why that can't be done.
+    fn write_or_fail(&mut self, text: &str) {
+        if let Err(error) = self.write(text) {
+            self.fail(&error);
+        }
+    }
+
     // Keeps why the log couldn't be written.
     fn fail(&mut self, error: &Error) {
         self.is_lost = true;
@@ -105,9 +112,7 @@ impl<'a, R: Wait, F: Write + Drop> RejectedLog for RejectedFile<'a, R, F> {
     ghost contents = { λ _. None };
 
     fn take(&mut self, text: &str) {
-        if let Err(error) = self.write(text) {
-            self.fail(&error);
-        }
+        self.write_or_fail(text);
     }
 
     fn lose(&mut self) {

@@ -13,5 +13,6 @@ pub mod DeliveryLaws
 pub mod ProgramLaws
 pub mod LiveLaws
 pub mod LogLaws
+pub mod TellingLaws
 pub mod SavingLaws
 pub mod ResumeLaws

@@ -26,9 +26,9 @@ use Rattle.retriever.specs.inner.Parts.{IsOutputOf}
 use Rattle.retriever.specs.declared.told.Output.{Output}
 
 -- what is said of a log is said of what is taken of it
-pub logged_more : (IsLog IsMore : List ℕ → Type 0) (old new : Option (List ℕ)) → ((text : List ℕ) → IsLog text → IsMore text) → IsLogTaken IsLog old new → IsLogTaken IsMore old new
-logged_more IsLog IsMore old new more (inl same) = inl same
-logged_more IsLog IsMore old new more (inr (text, is, taken)) = inr (text, more text is, taken)
+pub logged_more : (IsLog IsMore : List ℕ → Type 0) (old new : Option (List ℕ)) → IsLogTaken IsLog old new → ((text : List ℕ) → IsLog text → IsMore text) → IsLogTaken IsMore old new
+logged_more IsLog IsMore old new (inl same) more = inl same
+logged_more IsLog IsMore old new (inr (text, is, taken)) more = inr (text, more text is, taken)
 
 -- the same of equal words
 pub logged_as : (IsLog : List (List ℕ) → List ℕ → Type 0) (old new : Option (List ℕ)) (given words : List (List ℕ)) → given ≡ words → IsLogTaken (IsLog given) old new → IsLogTaken (IsLog words) old new
@@ -36,8 +36,9 @@ logged_as IsLog old new given words same logged = subst (λ (w : List (List ℕ)
 
 -- what is taken is what the log is
 pub taken : (IsLog : List ℕ → Type 0) (log : Option (Result (String Global) AllocError)) (old new : Option (List ℕ)) → IfLog IsLog log → TakesLog log old new → IsLogTaken IsLog old new
-taken IsLog log old new is (inl same) = inl same
-taken IsLog log old new is (inr (text, same, taken)) = inr (string_bytes text, subst (IfLog IsLog) same is, taken)
+taken IsLog None old new is same = inl same
+taken IsLog (Some (Ok text)) old new is takes = inr (string_bytes text, is, takes)
+taken IsLog (Some (Err short)) old new is same = inl same
 
 -- a log that may be made is one of such a kind
 pub if_log : (IsLog IsMore : List ℕ → Type 0) (log : Option (Result (String Global) AllocError)) → ((text : List ℕ) → IsLog text → IsMore text) → IfLog IsLog log → IfLog IsMore log
@@ -63,7 +64,7 @@ of_crew m order fetchers (Err halt) retrieved text read = absurd read
 pub crew_taken : {F B : Type 0} (m : Meaning F B) (order : Order) (fetchers : List F) (r : Result (Harvested B) (Halt B)) (log : Option (Result (String Global) AllocError)) (old new : Option (List ℕ))
     → IfOk r (IsRetrievedBy m order.plan fetchers) → IfLog (IsLogOfEnd r) log → TakesLog log old new → IsLogTaken (IsLogOfCrew m order fetchers) old new
 crew_taken m order fetchers r log old new retrieved is takes =
-    logged_more (IsLogOfEnd r) (IsLogOfCrew m order fetchers) old new (of_crew m order fetchers r retrieved) (taken (IsLogOfEnd r) log old new is takes)
+    logged_more (IsLogOfEnd r) (IsLogOfCrew m order fetchers) old new (taken (IsLogOfEnd r) log old new is takes) (of_crew m order fetchers r retrieved)
 
 -- ---- of an input
 

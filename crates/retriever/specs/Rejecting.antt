@@ -108,6 +108,12 @@ IsLogOfEnd (Err halt) text = ⊥
 abbrev pub IfLog : (List ℕ → Type 0) → Option (Result (String Global) AllocError) → Type 0
 IfLog IsLog log = IfSome log (λ made. IfOk made (λ text. IsLog (string_bytes text)))
 
--- nothing is taken, or the text of this log, or a front of it
+-- the text of this log is taken, or a front of it, or nothing if there was no memory for it
+abbrev pub TakesMade : Result (String Global) AllocError → Option (List ℕ) → Option (List ℕ) → Type 0
+TakesMade (Ok text) old new = AppendsFront old new (string_bytes text)
+TakesMade (Err short) old new = new ≡ old
+
+-- the same if there is a log, and else nothing
 abbrev pub TakesLog : Option (Result (String Global) AllocError) → Option (List ℕ) → Option (List ℕ) → Type 0
-TakesLog log old new = (new ≡ old) ⊎ ((text : String Global) × (log ≡ Some (Ok text)) × AppendsFront old new (string_bytes text))
+TakesLog None old new = new ≡ old
+TakesLog (Some made) old new = TakesMade made old new

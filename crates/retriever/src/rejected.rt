@@ -1,6 +1,6 @@
 //! The log of the links that filters reject, which is handed over at the end of a run.
 ghost use Rattle.std.specs.Prelude.{IfOk, string_bytes};
-ghost use Rattle.retriever.specs.Rejecting.{IfLog, IsLogOfEnd, IsLogRead, TakesLog};
+ghost use Rattle.retriever.specs.Rejecting.{IfLog, IsLogOfEnd, IsLogRead, TakesLog, TakesMade};
 
 use live_system::RejectedLog;
 use options::Order;
@@ -35,13 +35,22 @@ pub(crate) fn log_of<B: Drop>(
     Some(log_of_harvest(alloc, harvest))
 }
 
+// Hands a log over, or that there was no memory for it.
+fn hand_made<L: RejectedLog>(made: Result<String, AllocError>, taker: &mut L)
+    ensures { TakesMade made (L.contents taker.old) (L.contents taker.new) }
+{
+    match made {
+        Ok(text) => taker.take(text.as_str()),
+        Err(_) => taker.lose(),
+    }
+}
+
 /// Hands a log over, or that there was no memory for it, if there is one.
 pub(crate) fn hand_over<L: RejectedLog>(log: Option<Result<String, AllocError>>, taker: &mut L)
     ensures { TakesLog log (L.contents taker.old) (L.contents taker.new) }
 {
     match log {
-        Some(Ok(text)) => taker.take(text.as_str()),
-        Some(Err(_)) => taker.lose(),
+        Some(made) => hand_made(made, taker),
         None => {}
     }
 }

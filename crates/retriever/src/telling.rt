@@ -1,7 +1,9 @@
 //! Where a run writes its output: to standard output and standard error, nowhere, or into a file.
-ghost use Rattle.std.specs.Prelude.{◌≡◌, None, IfErr, IfOk, false, map, option_map, string_bytes};
+ghost use Rattle.std.specs.Prelude.{◌≡◌, ◌≢◌, None, IfErr, IfOk, false, map, option_map, string_bytes};
 ghost use Rattle.std.specs.Vec.Iter.{into_iter_items};
+ghost use Rattle.options.specs.Listed.{are_quiet};
 ghost use Rattle.options.specs.Order.{log_by};
+ghost use Rattle.options.specs.declared.fault.LineFault.TheVariants as fault;
 ghost use Rattle.retriever.specs.Program.{words_behind};
 ghost use Rattle.retriever.specs.Telling.{IsRejectedPath, IsTelling};
 
@@ -81,6 +83,22 @@ fn telling_of_order(alloc: Global, order: Order) -> Result<Telling, AllocError>
     })
 }
 
+// By words that are refused for this fault.
+fn telling_of_refused(
+    alloc: Global,
+    wrong: LineFault,
+    words: &[&str],
+) -> Result<Telling, AllocError>
+    ensures memory { IfOk result (λ t. wrong ≢ fault.Memory) }
+    ensures telling { IfOk result (λ t. (t.is_quiet, option_map log_by t.log) ≡ (are_quiet (map (λ word. word.now) words.now), None)) }
+    ensures rejected { IfOk result (λ t. option_map string_bytes t.rejected ≡ None) }
+{
+    match wrong {
+        LineFault::Memory => Err(AllocError),
+        _ => Ok(standard(are_quiet(alloc, words)?)),
+    }
+}
+
 // By these words.
 fn telling_of_words(alloc: Global, words: &[&str]) -> Result<Telling, AllocError>
     ensures telling { IfOk result (λ t. IsTelling (map (λ word. word.now) words.now) (t.is_quiet, option_map log_by t.log)) }
@@ -88,8 +106,7 @@ fn telling_of_words(alloc: Global, words: &[&str]) -> Result<Telling, AllocError
 {
     match read_order(alloc, words) {
         Ok(order) => telling_of_order(alloc, order),
-        Err(LineFault::Memory) => Err(AllocError),
-        Err(_) => Ok(standard(are_quiet(alloc, words)?)),
+        Err(wrong) => telling_of_refused(alloc, wrong, words),
     }
 }
 

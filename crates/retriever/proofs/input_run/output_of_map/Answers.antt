@@ -1,6 +1,6 @@
 -- The site is the map's, and what is retrieved is what it has.
 use Rattle.site_maps.specs.Maps.{says_of}
-use Rattle.retriever.specs.Site.{with_bare_bodies}
+use Rattle.retriever.specs.Site.{IsMapOf, with_bare_bodies}
 use Rattle.retriever.proofs.EndLaws.{map_fits, map_kinds}
 use Rattle.retriever.proofs.LogLaws.{log_told}
 use Rattle.retriever.proofs.input_run.output_of_map.Goals as goal
@@ -13,4 +13,4 @@ returns-clause-ok g c =
 pub returns-clause-rejected : goal.returns-clause-rejected
 returns-clause-rejected g c =
     let site = says_of c.in_ok-site.site.answers c.in_ok-site.site.rules in
-    log_told _ _ _ _ _ c.in_ok-site.ensures.ok (c.in_ok-told.ensures (with_bare_bodies site) (map_fits site) (map_kinds site)).1
+    log_told IsMapOf c.args.order.now (g.R.Read.remaining c.args.reader.now) _ _ c.in_ok-site.ensures.ok (c.in_ok-told.ensures (with_bare_bodies site) (map_fits site) (map_kinds site)).1

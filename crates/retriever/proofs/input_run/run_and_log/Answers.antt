@@ -1,6 +1,7 @@
 -- What is delivered is the ending's text, and what is handed over is the output's log.
 use Rattle.std.proofs.Common.{inl, refl, subst, List, ℕ}
 use Rattle.retriever.specs.Parts.{IsDelivered}
+use Rattle.retriever.specs.Rejecting.{IsLogOfInput}
 use Rattle.retriever.proofs.LogLaws.{taken}
 use Rattle.retriever.proofs.RunLaws.{ends_unfit, runs_output, runs_refused}
 use Rattle.retriever.proofs.input_run.run_and_log.Goals as goal
@@ -16,7 +17,7 @@ returns-in-Ok g c =
     record {
       runs = λ words says. runs_output words known before after order _ wanted c.deliver-status.result says c.in-Ok.ensures.ok told;
       unread = c.in-Ok.ensures.unread;
-      logged = taken _ c.in-Ok.output.rejected _ _ c.in-Ok.ensures.rejected c.hand_over.ensures;
+      logged = taken (IsLogOfInput order known) c.in-Ok.output.rejected _ _ c.in-Ok.ensures.rejected c.hand_over.ensures;
     }
 
 pub returns-in-Err : goal.returns-in-Err

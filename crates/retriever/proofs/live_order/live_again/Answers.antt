@@ -33,7 +33,7 @@ returns g c =
         lives = subst (λ (fs : List (Resuming _)). Lives (resuming_means g.S.Recorder.Fetcher) in_memory c.args.order.now fs before after c.live_into.result) those.are c.live_into.ensures.lives;
       };
       unwritten = tt;
-      logged = logged_more _ _ _ _
+      logged = logged_more _ _ _ _ c.live_into.ensures.logged
           (λ text log. inr (record {
             recorded = c.args.recorded.now;
             resumed = c.requires.resumed;
@@ -42,8 +42,7 @@ returns g c =
             made = those.made;
             count = those.count;
             log = subst (λ (fs : List (Resuming _)). IsLogOfCrew (resuming_means g.S.Recorder.Fetcher) c.args.order.now fs text) those.are log;
-          }))
-          c.live_into.ensures.logged;
+          }));
     }
 
 pub returns-in_err-resumed : goal.returns-in_err-resumed

@@ -21,7 +21,7 @@ returns g c =
         lives = c.live_into.ensures.lives;
       };
       unwritten = tt;
-      logged = logged_more _ _ _ _ (λ text log. inl (record { fetchers = fetchers.items; made = given.made; count = sym fetchers.ok.0 ∙ given.count; log = log })) c.live_into.ensures.logged;
+      logged = logged_more _ _ _ _ c.live_into.ensures.logged (λ text log. inl (record { fetchers = fetchers.items; made = given.made; count = sym fetchers.ok.0 ∙ given.count; log = log }));
     }
 
 pub returns-in_err-begin_naming : goal.returns-in_err-begin_naming

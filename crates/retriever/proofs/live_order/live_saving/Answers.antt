@@ -43,6 +43,7 @@ returns-clause-logged g c =
     let those = c.in_ok-resumed.ensures.resumed in
     let order = c.args.order.now in
     logged_more _ _ _ _
+    (crew_taken (resuming_means g.S.Recorder.Fetcher) order c.in_ok-resumed.resumed.items c.live_saved-status.result.1 c.log_of.result _ _ c.live_saved-status.ensures.retrieved c.log_of.ensures c.hand_over.ensures)
     (λ text log. inr (record {
       recorded = c.args.recorded.now;
       resumed = c.requires.resumed;
@@ -52,7 +53,6 @@ returns-clause-logged g c =
       count = those.count;
       log = subst (λ (fs : List (Resuming _)). IsLogOfCrew (resuming_means g.S.Recorder.Fetcher) order fs text) those.are log;
     }))
-    (crew_taken (resuming_means g.S.Recorder.Fetcher) order c.in_ok-resumed.resumed.items c.live_saved-status.result.1 c.log_of.result _ _ c.live_saved-status.ensures.retrieved c.log_of.ensures c.hand_over.ensures)
 
 pub returns-in_err-resumed : goal.returns-in_err-resumed
 returns-in_err-resumed g c =

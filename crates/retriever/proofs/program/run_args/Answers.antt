@@ -1,6 +1,9 @@
 -- The arguments are those that were given; if memory runs out before them, the program ends with its line.
 use Rattle.std.proofs.Common.{inl, inr, ◌∙◌, ap, refl}
 use Rattle.retriever.specs.Program.{words_behind}
+use Rattle.retriever.specs.Keeping.{kept_as}
+use Rattle.retriever.specs.Rejecting.{IsLogFor}
+use Rattle.retriever.specs.Systems.{means}
 use Rattle.retriever.proofs.LogLaws.{logged_as}
 use Rattle.retriever.proofs.ProgramLaws.{starts_as, starts_memory}
 use Rattle.retriever.proofs.program.run_args.Goals as goal
@@ -14,7 +17,8 @@ returns-in-Err-clause-starts g c = starts_memory _ _ _ _ refl refl _ (inr (inl c
 
 pub returns-in-Ok-clause-logged : goal.returns-in-Ok-clause-logged
 returns-in-Ok-clause-logged g c =
-    logged_as _ _ _ _ _ _ (ap words_behind (c.as_slice.ensures.value ∙ c.in-Ok.ensures)) c.run_words.ensures.logged
+    let m = means g.S.System c.args.system.now g.S.Fetcher.Fetcher g.S.Recorder.Fetcher g.S.Recorder.Recording.noted (kept_as g.S.Body.HasKind.kind_of g.S.Body.HasKind.len_of g.S.Folder.Shelf.holds) g.S.Folder.Folder g.S.Record.Write in
+    logged_as (IsLogFor m (g.R.Read.remaining c.args.reader.now)) _ _ _ _ (ap words_behind (c.as_slice.ensures.value ∙ c.in-Ok.ensures)) c.run_words.ensures.logged
 
 pub returns-in-Err-clause-logged : goal.returns-in-Err-clause-logged
 returns-in-Err-clause-logged g c = inl refl

@@ -13,7 +13,7 @@ returns-in-Err-clause-starts g c = starts_wrong _ _ _ _ refl _ c.in-Err.wrong c.
 
 pub returns-in-Ok-clause-logged : goal.returns-in-Ok-clause-logged
 returns-in-Ok-clause-logged g c =
-    logged_more _ _ _ _ (λ text is. (c.in-Ok.order, c.in-Ok.ensures.answers, is)) c.run_order-status.ensures.logged
+    logged_more _ _ _ _ c.run_order-status.ensures.logged (λ text is. (c.in-Ok.order, c.in-Ok.ensures.answers, is))
 
 pub returns-in-Err-clause-logged : goal.returns-in-Err-clause-logged
 returns-in-Err-clause-logged g c = inl refl
