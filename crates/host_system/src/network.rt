@@ -218,6 +218,7 @@ where
                 alloc: self.alloc,
                 early: self.early,
                 failures: self.failures,
+                changes: Vec::new(self.alloc),
             }),
             Err(_) => Err(AllocError),
         }

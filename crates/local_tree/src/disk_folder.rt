@@ -19,8 +19,10 @@ use std::time::SystemTime;
 use std::{fs, io, mem};
 use streams::{Close, Lock};
 
+mod file_changes;
 mod named_parts;
 
+pub use file_changes::FileChange;
 pub use named_parts::{NamesParts, put_changed_parts, put_parts};
 
 /// How many files of a site are made ready together, at most.

@@ -4,8 +4,9 @@ ghost use Rattle.local_tree.specs.Changes.{IsHalfShelvedAsBy};
 ghost use Rattle.local_tree.specs.Folders.{CountsRefusedPut, untold};
 ghost use Rattle.local_tree.specs.Shelves.{AreNamedBy, IsHalfShelvedBy, MakesOnePut};
 
-use super::{DiskFolder, find_place, look_for_file, path_below};
-use crate::body_change::{BodyChange, ChangeFault};
+use super::{DiskFolder, find_place};
+use crate::body_change::BodyChange;
+use crate::disk_folder::file_changes::FileChange;
 use crate::folder::FolderFault;
 use crate::shelf::{HasKind, Shelf};
 use crate::site_files::WriteFault;
@@ -13,10 +14,9 @@ use harvest::Harvest;
 use kept_bodies::BodyKind;
 use part_keeper::{Part, Standing, part_path};
 use std::alloc::Global;
-use std::fs::{File, Files, OpenFile};
+use std::fs::Files;
 use std::io;
-use std::io::{Error, ErrorKind, Read};
-use std::time::SystemTime;
+use std::io::{Error, ErrorKind};
 use streams::{Close, Lock};
 
 impl HasKind for Part {
@@ -34,92 +34,79 @@ impl HasKind for Part {
     }
 }
 
-// The bytes of a file, and when it was changed, if the system says it.
-#[derive(Drop)]
-struct Dated {
-    bytes: Vec<u8>,
-    modified: Option<SystemTime>,
-}
-
-// When an open file was changed, if the system says it.
-fn time_of<F: OpenFile>(file: &F) -> Option<SystemTime> {
-    match file.metadata() {
-        Ok(found) => found.modified().ok(),
-        Err(_) => None,
-    }
-}
-
-// What is in the file at a path, whose bytes are to be so many.
-fn read_whole<R: Files>(rt: &R, alloc: Global, path: &str, len: u64) -> io::Result<Dated> {
-    let mut bytes = Vec::new(alloc);
-    let mut file = File::open(rt, path)?;
-    file.read_to_end(&mut bytes)?;
-    if bytes.len() as u64 == len {
-        Ok(Dated {
-            bytes,
-            modified: time_of(&file),
-        })
-    } else {
-        Err(Error::from(ErrorKind::Other))
-    }
-}
-
-// What is to be in place of a body, as an answer with the system's errors.
-fn changed<C: BodyChange>(
-    alloc: Global,
-    place: usize,
-    kind: BodyKind,
-    body: &[u8],
-    change: &C,
-) -> io::Result<Option<Vec<u8>>> {
-    match change.change(alloc, place, kind, body) {
-        Ok(other) => Ok(other),
-        Err(ChangeFault::Memory) => Err(Error::from(ErrorKind::OutOfMemory)),
-        Err(ChangeFault::Left) => Err(Error::from(ErrorKind::InvalidData)),
-    }
-}
-
 impl<'a, R: Files> DiskFolder<'a, R>
 where
     R::File: Close + Lock,
 {
     ghost use Rattle.std.specs.Prelude.{◌≡◌};
 
-    // What is to be in place of the body of this part, which has this name, with the time of its file.
-    fn changed_body<C: BodyChange>(
-        &self,
-        place: usize,
-        name: &str,
-        part: &Part,
-        change: &C,
-    ) -> io::Result<Option<Dated>> {
-        let path = path_below(self.alloc, self.prefix.as_str(), name)?;
-        look_for_file(self.rt, path.as_str())?;
-        let Dated { bytes, modified } = read_whole(self.rt, self.alloc, path.as_str(), part.len)?;
-        let other = changed(self.alloc, place, part.kind, bytes.as_slice(), change)?;
-        Ok(match other {
-            Some(bytes) => Some(Dated { bytes, modified }),
-            None => None,
-        })
-    }
-
-    // Has the file of this name, which has a part, have what is to be in place of the body. If that fails it stays as it is.
-    fn change_file<C: BodyChange>(
+    // What is to become of the file of a part that was put.
+    fn change_of(
         &mut self,
+        number: usize,
         place: usize,
         name: &str,
         part: &Part,
-        change: &C,
-    ) -> io::Result<()>
+    ) -> io::Result<FileChange>
         ensures { self.new ≡ self.old }
     {
-        match self.changed_body(place, name, part, change)? {
-            Some(other) => self.write(name, other.bytes.as_slice(), other.modified),
-            None => Ok(()),
+        self.make_own()?;
+        let Some(own) = &self.own else {
+            return Err(Error::from(ErrorKind::NotFound));
+        };
+        FileChange::new(
+            self.alloc,
+            self.prefix.as_str(),
+            own.path(),
+            number,
+            place,
+            name,
+            part,
+        )
+    }
+
+    /// What is to become of the file of this name, whose part was put: that of the page at this place. Those with different numbers can be
+    /// prepared at a time. None if the folder failed, or memory ran out; the error is kept.
+    pub fn new_change(
+        &mut self,
+        number: usize,
+        place: usize,
+        name: &str,
+        part: &Part,
+    ) -> Option<FileChange>
+        ensures { self.new ≡ self.old }
+    {
+        match self.change_of(number, place, name, part) {
+            Ok(file) => Some(file),
+            Err(error) => {
+                self.error = Some(error);
+                None
+            }
         }
     }
 
-    // The same, if bodies of that kind have links. Whether the file has that then; if not, the error is kept.
+    /// Has the file of a change that was prepared have what is to be in place of its body, which is prepared once more, without others
+    /// beside it, if it couldn't be. Whether the file has that then; if not, it has the body as it came, and the error is kept.
+    pub fn finish_change<C: BodyChange>(&mut self, file: &mut FileChange, change: &C) -> bool
+        ensures { self.new ≡ self.old }
+    {
+        match file.finish(self.rt, self.alloc, change) {
+            Ok(()) => true,
+            Err(error) => {
+                self.error = Some(error);
+                false
+            }
+        }
+    }
+
+    /// Keeps that there is no memory for a change.
+    pub fn note_memory(&mut self)
+        ensures { self.new ≡ self.old }
+    {
+        self.error = Some(Error::from(ErrorKind::OutOfMemory));
+    }
+
+    // Changes the file of this name, which has a part. Whether it has what is to be in place of its body then.
     fn is_changed<C: BodyChange>(
         &mut self,
         place: usize,
@@ -132,12 +119,13 @@ where
         if part.kind == BodyKind::Other {
             return true;
         }
-        match self.change_file(place, name, part, change) {
-            Ok(()) => true,
-            Err(error) => {
-                self.error = Some(error);
-                false
+        match self.new_change(0, place, name, part) {
+            Some(mut file) => {
+                let mut room = Vec::new(self.alloc);
+                file.prepare(self.rt, self.alloc, &mut room, change);
+                self.finish_change(&mut file, change)
             }
+            None => false,
         }
     }
 
@@ -288,7 +276,7 @@ where
     }
 
     /// Renames the part, and then has the file have what is to be in place of its body, which takes room for one body.
-    fn put_changed_kept<C: BodyChange>(
+    fn put_changed_kept<C: BodyChange + Sync>(
         &mut self,
         _alloc: Global,
         place: usize,
@@ -311,9 +299,9 @@ pub trait NamesParts {
     fn put_part(&mut self, name: &str, part: &Part) -> Result<(), FolderFault>
         ensures { CountsRefusedPut (failed self.old) (failed self.new) result };
 
-    /// The same, and then the file has what is to be in place of its body, which is that of the page at this place. Whether it does:
-    /// if not, it has the body as it came.
-    fn put_changed_part<C: BodyChange>(
+    /// The same, and then, at the next [`NamesParts::end_changes`] at the latest, the file has what is to be in place of its body, which
+    /// is that of the page at this place. Whether all have it that were to have it by now: each other one has the body as it came.
+    fn put_changed_part<C: BodyChange + Sync>(
         &mut self,
         place: usize,
         name: &str,
@@ -321,6 +309,10 @@ pub trait NamesParts {
         change: &C,
     ) -> Result<bool, FolderFault>
         ensures { CountsRefusedPut (failed self.old) (failed self.new) result };
+
+    /// Has all files have what is to be in place of their bodies that don't yet. Whether they do.
+    fn end_changes<C: BodyChange + Sync>(&mut self, change: &C) -> bool
+        ensures { failed self.new ≡ failed self.old };
 }
 
 // Puts a part. Gives how many got no name then, of which there were so many.
@@ -364,7 +356,7 @@ struct SoFar {
 }
 
 // Puts a part, and has its file have what is to be in place of its body. Gives what is so then.
-fn put_changed_one<D: NamesParts, C: BodyChange>(
+fn put_changed_one<D: NamesParts, C: BodyChange + Sync>(
     folder: &mut D,
     place: usize,
     name: &str,
@@ -388,7 +380,7 @@ fn put_changed_one<D: NamesParts, C: BodyChange>(
 }
 
 /// The same as [`put_parts`], but each file has what is to be in place of its body. Whether all have that which got their names.
-pub fn put_changed_parts<D: NamesParts, C: BodyChange>(
+pub fn put_changed_parts<D: NamesParts, C: BodyChange + Sync>(
     folder: &mut D,
     names: &[String],
     harvest: &Harvest<Part>,
@@ -414,8 +406,9 @@ pub fn put_changed_parts<D: NamesParts, C: BodyChange>(
             so_far,
         );
     }
+    let are_others = folder.end_changes(change);
     if so_far.lost > 0 {
         return Err(WriteFault::Device(names.len().saturating_sub(so_far.lost)));
     }
-    Ok(so_far.are_all)
+    Ok(so_far.are_all && are_others)
 }
