@@ -155,7 +155,10 @@ impl<'k, S: Drop> Taken<'k, S> {
         waiting: Waiting<S>,
     ) -> Option<(Taken<'k, S>, Waiting<S>)> {
         let Taken { kept, number } = self;
-        let back = put_among(&mut kept.pooled.lock(rt), number, waiting);
+        let Ok(of) = waiting.of.try_clone() else {
+            return Some((Taken { kept, number }, waiting));
+        };
+        let back = put_among(&mut kept.pooled.lock(rt), &of, number, waiting);
         match back {
             Some(waiting) => Some((Taken { kept, number }, waiting)),
             None => None,
@@ -278,18 +281,17 @@ fn oldest_among<W: Drop>(pooled: &mut Pooled<W>) -> Option<W>
     pooled.standing.take_oldest()
 }
 
-// Puts one down to wait, under the origin that it was made for. It comes back if there is no place for it.
+// Puts one down to wait, under this origin, which is the one that it was made for. It comes back if there is no place for it.
 fn put_among<S: Drop>(
     pooled: &mut Pooled<Waiting<S>>,
+    of: &Origin,
     number: u64,
     waiting: Waiting<S>,
 ) -> Option<Waiting<S>>
+    requires { of.now ≡ waiting.of }
     ensures { PutsKept waiting.of number waiting pooled.old result pooled.new }
 {
-    let Ok(of) = waiting.of.try_clone() else {
-        return Some(waiting);
-    };
-    pooled.put(&of, number, waiting)
+    pooled.put(of, number, waiting)
 }
 
 // The lines on the origins of which none is kept any more.
