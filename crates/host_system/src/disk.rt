@@ -35,6 +35,8 @@ pub struct Disk<'a, R: Net + Files + Wait> {
     pub(crate) alloc: Global,
     pub(crate) early: &'a EarlyRun,
     pub(crate) failures: &'a SharedFailures,
+    // Whether bodies are kept, as they came, beside files whose links change.
+    pub(crate) keeps_originals: bool,
     // Of the files that were put, those that are to have others in place of their bodies.
     pub(crate) changes: Vec<FileChange>,
 }
@@ -54,6 +56,7 @@ impl<'a, R: Net + Files + Wait> Drop for Disk<'a, R> {
             alloc: _alloc,
             early: _early,
             failures: _failures,
+            keeps_originals: _keeps_originals,
             changes: _changes,
         } = self;
     }
@@ -354,6 +357,9 @@ where
     ) -> Result<bool, WriteFault> {
         self.take_parts();
         self.take_back(names, harvest);
+        if self.keeps_originals {
+            self.inner.keep_originals(names);
+        }
         let put = put_changed_parts(self, names, harvest, change);
         self.inner.end_puts();
         put

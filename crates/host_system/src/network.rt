@@ -206,7 +206,7 @@ where
         Some(self.progress.waiting())
     }
 
-    fn folder(&self, path: &str) -> Result<Disk<'a, R>, AllocError> {
+    fn folder(&self, path: &str, keeps_originals: bool) -> Result<Disk<'a, R>, AllocError> {
         self.parts.set_folder(self.rt, path)?;
         match DiskFolder::new(self.rt, self.alloc, path) {
             Ok(inner) => Ok(Disk {
@@ -218,6 +218,7 @@ where
                 alloc: self.alloc,
                 early: self.early,
                 failures: self.failures,
+                keeps_originals,
                 changes: Vec::new(self.alloc),
             }),
             Err(_) => Err(AllocError),

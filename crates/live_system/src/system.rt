@@ -103,8 +103,9 @@ pub trait System {
     fn recorder(&self, settings: FetcherSettings) -> Result<Self::Recorder, AllocError>
         ensures { IfOk result (λ recorder. makes_recorder self.now settings recorder) };
 
-    /// The folder at a path. Nothing is made there before the first put. Fails only if memory runs out.
-    fn folder(&self, path: &str) -> Result<Self::Folder, AllocError>
+    /// The folder at a path. Nothing is made there before the first put. Of files whose links change the bodies are kept beside them, as
+    /// they came, if that is said. Fails only if memory runs out.
+    fn folder(&self, path: &str, keeps_originals: bool) -> Result<Self::Folder, AllocError>
         ensures { IfOk result (opens self.now path.now) };
 
     /// Holds the place at which a run saves, before anything is read or requested, so that no other saves there; `_resumed` is the

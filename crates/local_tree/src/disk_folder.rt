@@ -21,9 +21,11 @@ use streams::{Close, Lock};
 
 mod file_changes;
 mod named_parts;
+mod originals;
 
 pub use file_changes::FileChange;
 pub use named_parts::{NamesParts, put_changed_parts, put_parts};
+use originals::Originals;
 
 /// How many files of a site are made ready together, at most.
 const BATCH: usize = 256;
@@ -81,6 +83,7 @@ pub struct DiskFolder<'a, R: Files> {
     // Where parts are made, while files are put.
     own: Option<OwnDir<R::File>>,
     known: Known,
+    originals: Originals,
     failed: u64,
     // That of the last put that failed.
     error: Option<Error>,
@@ -355,6 +358,7 @@ where
             are_all_stuck: false,
             own: None,
             known: Known::nothing(alloc),
+            originals: Originals::None,
             failed: 0,
             error: None,
         })

@@ -155,7 +155,7 @@ fn live_plainly<H: Threads + Wait + Sync, S: System, W: Write, L: RejectedLog>(
 {
     begin_naming(alloc, system, order)?;
     let fetchers = fetchers_of(alloc, system, order)?;
-    let mut folder = system.folder(order.prefix.as_str())?;
+    let mut folder = system.folder(order.prefix.as_str(), order.backs_up)?;
     Ok(live_into(rt, alloc, system, order, fetchers, &mut folder, writer, log))
 }
 
@@ -190,7 +190,7 @@ fn live_again<H: Threads + Wait + Sync, S: System, W: Write, L: RejectedLog>(
     ensures logged { IsLogTaken (IsLogLive (means S.System system.now S.Fetcher.Fetcher S.Recorder.Fetcher S.Recorder.noted (kept_as S.Body.kind_of S.Body.len_of S.Folder.holds) S.Folder.Folder S.Record.Write) order.now) (L.contents log.old) (L.contents log.new) }
 {
     let resumed = resumed_of(alloc, system, order, recorded, false)?;
-    let mut folder = system.folder(order.prefix.as_str())?;
+    let mut folder = system.folder(order.prefix.as_str(), order.backs_up)?;
     Ok(live_into(rt, alloc, system, order, resumed, &mut folder, writer, log))
 }
 
@@ -211,7 +211,7 @@ fn live_saving<H: Threads + Wait + Sync, S: System, W: Write, L: RejectedLog>(
     ensures logged { IsLogTaken (IsLogLive (means S.System system.now S.Fetcher.Fetcher S.Recorder.Fetcher S.Recorder.noted (kept_as S.Body.kind_of S.Body.len_of S.Folder.holds) S.Folder.Folder S.Record.Write) order.now) (L.contents log.old) (L.contents log.new) }
 {
     let resumed = resumed_of(alloc, system, order, recorded, true)?;
-    let mut folder = system.folder(order.prefix.as_str())?;
+    let mut folder = system.folder(order.prefix.as_str(), order.backs_up)?;
     let mut saved = system.record(path)?;
     let (status, retrieved) = live_saved(
         rt,

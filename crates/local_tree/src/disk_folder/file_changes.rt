@@ -2,6 +2,7 @@
 //! has a thread for it, and takes it when it is whole.
 ghost use Rattle.std.specs.Prelude.{◌≤◌, IfOk, vec_len};
 
+use super::originals::ORIGINAL;
 use super::{look_for_file, path_below};
 use crate::body_change::{BodyChange, ChangeFault};
 use crate::parts::write_new;
@@ -14,6 +15,14 @@ use std::time::SystemTime;
 use std::{io, mem};
 use streams::Close;
 
+// A body that is kept as it came, beside its file.
+#[derive(Drop)]
+struct Original {
+    // Where it is prepared.
+    part: String,
+    path: String,
+}
+
 /// What becomes of one file of a page.
 #[derive(Drop)]
 pub struct FileChange {
@@ -22,6 +31,8 @@ pub struct FileChange {
     path: String,
     // Where that is prepared which takes its place.
     part: String,
+    // None if the body isn't kept.
+    original: Option<Original>,
     kind: BodyKind,
     len: u64,
     // Whether that is there, whole and closed without an error.
@@ -94,7 +105,8 @@ fn changed<C: BodyChange>(
 }
 
 impl FileChange {
-    // The change of the file of this name below a folder, prepared in a directory of the run's own, under this number.
+    // The change of the file of this name below a folder, prepared in a directory of the run's own, under this number. Its body is kept
+    // beside it if that is said.
     pub(crate) fn new(
         alloc: Global,
         folder: &str,
@@ -103,14 +115,24 @@ impl FileChange {
         place: usize,
         name: &str,
         part: &Part,
+        keeps_original: bool,
     ) -> io::Result<FileChange> {
         let path = path_below(alloc, folder, name)?;
         let prepared = format!(in alloc; "{own}/{number}")?;
+        let original = if keeps_original {
+            Some(Original {
+                part: format!(in alloc; "{prepared}{ORIGINAL}")?,
+                path: format!(in alloc; "{path}{ORIGINAL}")?,
+            })
+        } else {
+            None
+        };
         Ok(FileChange {
             place,
             name: String::from_str(alloc, name)?,
             path,
             part: prepared,
+            original,
             kind: part.kind,
             len: part.len,
             is_ready: false,
@@ -142,6 +164,9 @@ impl FileChange {
         };
         match changed(alloc, self.place, self.kind, body, change)? {
             Some(other) => {
+                if let Some(original) = &self.original {
+                    write_new(rt, original.part.as_str(), body, modified)?;
+                }
                 write_new(rt, self.part.as_str(), other.as_slice(), modified)?;
                 Ok(true)
             }
@@ -165,9 +190,25 @@ impl FileChange {
             Ok(is_ready) => self.is_ready = is_ready,
             Err(error) => {
                 self.error = Some(error);
-                let _ = rt.remove_file(self.part.as_str());
+                self.remove(rt);
             }
         }
+    }
+
+    // Takes away what was prepared.
+    fn remove<R: Files>(&self, rt: &R) {
+        if let Some(original) = &self.original {
+            let _ = rt.remove_file(original.part.as_str());
+        }
+        let _ = rt.remove_file(self.part.as_str());
+    }
+
+    // Has what was prepared take its place: the body that is kept first, so that it is nowhere missing.
+    fn put<R: Files>(&self, rt: &R) -> io::Result<()> {
+        if let Some(original) = &self.original {
+            rt.rename(original.part.as_str(), original.path.as_str())?;
+        }
+        rt.rename(self.part.as_str(), self.path.as_str())
     }
 
     // Prepares it again if there was no room for it, or no memory, which others beside it may have taken.
@@ -191,8 +232,8 @@ impl FileChange {
             return;
         }
         self.is_ready = false;
-        if let Err(error) = rt.rename(self.part.as_str(), self.path.as_str()) {
-            let _ = rt.remove_file(self.part.as_str());
+        if let Err(error) = self.put(rt) {
+            self.remove(rt);
             self.error = Some(error);
         }
     }

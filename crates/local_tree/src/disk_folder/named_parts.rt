@@ -4,6 +4,7 @@ ghost use Rattle.local_tree.specs.Changes.{IsHalfShelvedAsBy};
 ghost use Rattle.local_tree.specs.Folders.{CountsRefusedPut, untold};
 ghost use Rattle.local_tree.specs.Shelves.{AreNamedBy, IsHalfShelvedBy, MakesOnePut};
 
+use super::originals::Originals;
 use super::{DiskFolder, find_place};
 use crate::body_change::BodyChange;
 use crate::disk_folder::file_changes::FileChange;
@@ -50,6 +51,7 @@ where
     ) -> io::Result<FileChange>
         ensures { self.new ≡ self.old }
     {
+        let keeps_original = self.originals.has(name)?;
         self.make_own()?;
         let Some(own) = &self.own else {
             return Err(Error::from(ErrorKind::NotFound));
@@ -62,7 +64,16 @@ where
             place,
             name,
             part,
+            keeps_original,
         )
+    }
+
+    /// From now on the bodies of files that change are kept beside them, except in the place of files with these names, which are all
+    /// that are put.
+    pub fn keep_originals(&mut self, names: &[String])
+        ensures { self.new ≡ self.old }
+    {
+        self.originals = Originals::of(self.alloc, names);
     }
 
     /// What is to become of the file of this name, whose part was put: that of the page at this place. Those with different numbers can be
