@@ -1,5 +1,5 @@
 //! Values and texts of which it isn't known what they say: with a character reference that isn't understood, or bytes that aren't UTF-8.
-ghost use Rattle.std.specs.Prelude.{◌≡◌, ◌≤◌, length};
+ghost use Rattle.std.specs.Prelude.{◌≡◌, ◌≤◌, false, length};
 ghost use Rattle.page_links.specs.Unclear.{ends_name, begins_number, is_reference, has_reference, is_replacement, has_replacement, is_unclear};
 
 use html_links::{Memory, value_text};
