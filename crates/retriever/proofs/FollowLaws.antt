@@ -1,12 +1,12 @@
 -- A plan of some of the starts, with those of their hosts that another has, follows an edge of a page on these hosts exactly if that does, if neither
 -- spans hosts.
-use Rattle.std.proofs.Common.{◌≡◌, ◌∙◌, ℕ, Bool, true, false, not, ◌&&◌, ◌||◌, List, ◌∷◌, [], zero, suc, bytes_eq, refl, sym, ap, subst, ⊎_elim, arith}
+use Rattle.std.proofs.Common.{◌≡◌, ◌∙◌, ℕ, Bool, true, false, ◌&&◌, ◌||◌, List, ◌∷◌, [], zero, suc, refl, sym, ap, subst, ⊎_elim, arith}
 use Rattle.std.specs.Prelude.{Contains}
 use Rattle.std.specs.List.{list_any, list_all}
 use Rattle.std.proofs.lemmas.Bool.{cases_Bool, and_right, and_parts}
 use Rattle.std.proofs.lemmas.Slice.Eq.{bytes_eq-Decides}
 use Rattle.fetcher.specs.declared.edge.EdgeKind.{EdgeKind}
-use Rattle.address.specs.Address.{host_of, dir_of}
+use Rattle.address.specs.Address.{host_of}
 use Rattle.follow_filters.specs.declared.plan.Plan.{Plan}
 use Rattle.follow_filters.specs.declared.rule.Rule.{Rule}
 use Rattle.follow_filters.specs.declared.rule.Rule.TheVariants as rule

@@ -1,5 +1,5 @@
 -- Names are by the kinds of the kept bodies, if names have endings.
-use Rattle.std.proofs.Common.{◌≡◌, ◌∙◌, ◌+◌, ◌++◌, ◌<◌, ℕ, Bool, true, false, List, [], ◌∷◌, get_or, map, take, Some, refl, sym, ap, subst, length}
+use Rattle.std.proofs.Common.{◌≡◌, ◌∙◌, ◌+◌, ◌++◌, ◌<◌, ℕ, Bool, true, false, List, [], ◌∷◌, map, take, Some, refl, sym, ap, subst, length}
 use Rattle.std.specs.Prelude.{IfOk, Result, Ok, Err, slice_get}
 use Rattle.std.proofs.lemmas.List.{take_more}
 use Rattle.std.proofs.lemmas.Option.{get_or_from_slice_get}

@@ -1,5 +1,5 @@
 -- What is put and written of what a crew retrieved is the end of a live retrieval.
-use Rattle.std.proofs.Common.{◌≡◌, ◌≢◌, ◌⊎◌, ◌∙◌, ◌++◌, ℕ, inl, inr, Bool, true, false, List, [], length, map, Option, Some, refl, sym, ap, subst, append_assoc}
+use Rattle.std.proofs.Common.{◌≡◌, ◌≢◌, ◌⊎◌, ◌∙◌, ◌++◌, ℕ, inl, inr, Bool, true, false, List, [], length, Option, Some, refl, sym, ap, subst, append_assoc}
 use Rattle.std.specs.Prelude.{IfSome, IfOk, IfErr, Result, Ok, Err}
 use Rattle.std.specs.List.{AllZip, sum_by}
 use Rattle.kept_bodies.specs.declared.body_kind.BodyKind.{BodyKind}
@@ -43,7 +43,7 @@ use Rattle.retriever.specs.Retrieved.{Retrieved, Stopped}
 use Rattle.retriever.specs.Keeping.{Keeping, kinds_of}
 use Rattle.retriever.specs.Site.{AreNamesOf}
 use Rattle.retriever.specs.inner.Parts.{IsRead, IsToldAs, status_told}
-use Rattle.retriever.specs.inner.Puts.{IsHarvestPut, IsHaltTold, IsPutOf, IsStopPut}
+use Rattle.retriever.specs.inner.Puts.{IsHarvestPut, IsPutOf, IsStopPut}
 use Rattle.report.specs.Trace.{trace_text}
 use Rattle.retriever.proofs.FoundLaws.{are_lines, records_of}
 use Rattle.retriever.proofs.FrontLaws.{are_front_lines}

@@ -1,6 +1,6 @@
 -- Which log is handed over.
-use Rattle.std.proofs.Common.{◌≡◌, ◌⊎◌, ◌∙◌, ℕ, inl, inr, List, map, Option, Some, None, sym, ap, subst}
-use Rattle.std.specs.Prelude.{Result, Ok, Err, IfOk, IfSome, String, string_bytes}
+use Rattle.std.proofs.Common.{◌≡◌, ℕ, inl, inr, List, Option, Some, None, sym, subst}
+use Rattle.std.specs.Prelude.{Result, Ok, Err, IfOk, String, string_bytes}
 use Rattle.std.specs.declared.alloc.Global.{Global}
 use Rattle.std.specs.declared.alloc.AllocError.{AllocError}
 use Rattle.kept_bodies.specs.Bodies.{BodyValue}
@@ -14,7 +14,6 @@ use Rattle.harvest.specs.Harvests.{Harvested}
 use Rattle.options.specs.declared.order.Order.{Order}
 use Rattle.robots_rules.specs.Access.{RuleSetValue}
 use Rattle.site_records.specs.Records.{RecordedAnswers}
-use Rattle.streams.specs.Streams.{AppendsFront}
 use Rattle.workers.specs.Crews.{AreLater, all_gained, SomeSays, SomeRules}
 use Rattle.workers.specs.Retrieval.{IsRetrieved}
 use Rattle.workers.specs.Sites.{IsCompleteFor}
@@ -75,14 +74,14 @@ of_site order site may_say may_rule asks (Ok h) is complete text read = record {
 of_site order site may_say may_rule asks (Err halt) is complete text read = absurd read
 
 -- an output has the log that was made
-pub output_logged : (order : Order) (site : RecordedAnswers) {may_say : Text → Outcome → BodyValue → Type 0} {may_rule : Text → RuleSetValue → Type 0} {asks : List Ask} (r : Result (Harvested BodyValue) (Halt BodyValue))
+pub output_logged : (order : Order) (site : RecordedAnswers) (may_say : Text → Outcome → BodyValue → Type 0) (may_rule : Text → RuleSetValue → Type 0) (asks : List Ask) (r : Result (Harvested BodyValue) (Halt BodyValue))
     (log : Option (Result (String Global) AllocError)) (result : Result Output AllocError) → IfLog (IsLogOfEnd r) log → IfOk r (λ h. IsRetrieved may_say may_rule order.plan asks h)
     → IfOk r (λ h. IsCompleteFor (policy order.plan) (whole_of site) h.state) → IfOk result (λ output. output.rejected ≡ log)
     → IfOk result (λ output. IsOutputOf order site (string_bytes output.text) output.status)
     → IfOk result (λ output. IsOutputOf order site (string_bytes output.text) output.status × IfLog (IsLogOfSite order site) output.rejected)
-output_logged order site {may_say = may_say} {may_rule = may_rule} {asks = asks} r log (Ok output) made is complete same told =
+output_logged order site may_say may_rule asks r log (Ok output) made is complete same told =
     (told, subst (IfLog (IsLogOfSite order site)) (sym same) (if_log (IsLogOfEnd r) (IsLogOfSite order site) log (of_site order site may_say may_rule asks r is complete) made))
-output_logged order site r log (Err short) made is complete same told = tt
+output_logged order site may_say may_rule asks r log (Err short) made is complete same told = tt
 
 -- the same by what is read
 pub log_told : (IsOf : List ℕ → RecordedAnswers → Type 0) (order : Order) (known : Option (List ℕ)) (site : RecordedAnswers) (log : Option (Result (String Global) AllocError)) → TellsSite IsOf known site

@@ -1,5 +1,5 @@
 -- If hosts aren't spanned, the report of all starts is the union of those of parts that share no host.
-use Rattle.std.proofs.Common.{◌≡◌, ◌⊎◌, ◌∙◌, ℕ, Bool, true, false, ◌||◌, not, List, ◌++◌, Option, None, Some, get_or, refl, sym, ap, subst, inl, inr, ⊎_elim, arith}
+use Rattle.std.proofs.Common.{◌≡◌, ◌⊎◌, ◌∙◌, ℕ, Bool, true, ◌||◌, not, List, ◌++◌, Option, None, Some, get_or, refl, sym, ap, subst, inl, inr, ⊎_elim, arith}
 use Rattle.std.specs.Prelude.{◌&&◌, All, Contains, is_some}
 use Rattle.std.proofs.lemmas.Bool.{false≢true, cases_Bool, cases_lt}
 use Rattle.std.proofs.lemmas.List.{get_or_default}
@@ -7,7 +7,6 @@ use Rattle.std.proofs.lemmas.List.Elements.{Contains-append_left, Contains-appen
 use Rattle.address.specs.Address.{host_of}
 use Rattle.address.specs.AddressOrder.{IsBefore}
 use Rattle.address.proofs.AddressOrderLaws.{not_before_itself}
-use Rattle.fetcher.specs.declared.edge.EdgeKind.{EdgeKind}
 use Rattle.follow_filters.specs.declared.limit.Limit.{Limit}
 use Rattle.follow_filters.specs.declared.plan.Plan.{Plan}
 use Rattle.follow_filters.specs.Plans.{starts}

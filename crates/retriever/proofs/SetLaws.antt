@@ -1,7 +1,6 @@
 -- The report of a retrieval is a function of the set of starts: their order and their repeats don't count.
 use Rattle.std.proofs.Common.{◌≡◌, ◌∙◌, Bool, List, get_or, map, refl, sym, ap}
 use Rattle.std.specs.Prelude.{◌&&◌}
-use Rattle.fetcher.specs.declared.edge.EdgeKind.{EdgeKind}
 use Rattle.follow_filters.specs.declared.limit.Limit.{Limit}
 use Rattle.follow_filters.specs.declared.plan.Plan.{Plan}
 use Rattle.follow_filters.specs.Rules.{keeps_of}

@@ -1,5 +1,5 @@
 -- Where the output goes, by what the words order or why they are refused.
-use Rattle.std.proofs.Common.{◌≡◌, ◌≢◌, ◌⊎◌, ◌∙◌, ℕ, inl, inr, List, Option, None, option_map, sym, ap}
+use Rattle.std.proofs.Common.{◌≡◌, ◌≢◌, ◌⊎◌, ◌∙◌, ℕ, inl, inr, List, None, option_map, sym, ap}
 use Rattle.std.specs.Prelude.{Result, Ok, Err, IfOk, string_bytes}
 use Rattle.std.specs.declared.alloc.AllocError.{AllocError}
 use Rattle.options.specs.Asked.{without_kind}
@@ -9,12 +9,12 @@ use Rattle.options.specs.Sought.{IsUnsaid}
 use Rattle.options.specs.declared.fault.LineFault.{LineFault}
 use Rattle.options.specs.declared.fault.LineFault.TheVariants as fault
 use Rattle.options.specs.declared.order.Order.{Order}
-use Rattle.retriever.specs.Telling.{IsRejectedPath, IsTelling, rejected_by, telling_by}
+use Rattle.retriever.specs.Telling.{GoesTo, IsRejectedPath, IsTelling, rejected_by, telling_by}
 use Rattle.retriever.specs.declared.telling.Telling.{Telling}
 
 -- as ordered
 pub telling_ordered : (words : List (List ℕ)) (order : Order) (r : Result Telling AllocError) → order_of words ≡ Ok (ordered_by order)
-    → IfOk r (λ t. (t.is_quiet, option_map log_by t.log) ≡ (order.quiet, option_map log_by order.log)) → IfOk r (λ t. IsTelling words (t.is_quiet, option_map log_by t.log))
+    → IfOk r (λ t. GoesTo (t.is_quiet, option_map log_by t.log) (order.quiet, option_map log_by order.log)) → IfOk r (λ t. IsTelling words (t.is_quiet, option_map log_by t.log))
 telling_ordered words order (Ok t) says is = inl (is ∙ ap (telling_by words) (sym says))
 telling_ordered words order (Err short) says is = tt
 
@@ -25,7 +25,7 @@ path_ordered words order (Err short) says is = tt
 
 -- as that of refused words
 pub telling_refused : (words : List (List ℕ)) (wrong : LineFault) (r : Result Telling AllocError) → (order_of words ≡ Err (without_kind wrong)) ⊎ IsUnsaid (seeks_in words) wrong → IfOk r (λ t. wrong ≢ fault.Memory)
-    → IfOk r (λ t. (t.is_quiet, option_map log_by t.log) ≡ (are_quiet words, None)) → IfOk r (λ t. IsTelling words (t.is_quiet, option_map log_by t.log))
+    → IfOk r (λ t. GoesTo (t.is_quiet, option_map log_by t.log) (are_quiet words, None)) → IfOk r (λ t. IsTelling words (t.is_quiet, option_map log_by t.log))
 telling_refused words wrong (Ok t) (inl refused) other is = inl (is ∙ ap (telling_by words) (sym refused))
 telling_refused words wrong (Ok t) (inr (inl memory)) other is = absurd (other memory)
 telling_refused words wrong (Ok t) (inr (inr (large, seeks))) other is = inr (seeks, is)

@@ -1,6 +1,5 @@
 -- What the files of a run have in which links lead from file to file.
 use Rattle.std.specs.Prelude.{◌≡◌, ◌↔◌, ℕ, Bool, true, false, List, [], Some, Contains, slice_index_or}
-use Rattle.kept_bodies.specs.Bodies.{BodyValue}
 use Rattle.fetcher.specs.declared.outcome.Outcome.{Outcome}
 use Rattle.frontier_core.specs.Readers.{Recorded}
 use Rattle.frontier_core.specs.Routes.{Answers}

@@ -1,5 +1,5 @@
 -- What the parts of a run result in.
-use Rattle.std.specs.Prelude.{◌≡◌, ◌⊎◌, ◌++◌, ℕ, Bool, true, false, List, [], codes, Option}
+use Rattle.std.specs.Prelude.{◌≡◌, ◌⊎◌, ℕ, Bool, true, false, List, [], codes, Option}
 use Rattle.std.specs.Io.KnownBytes.{Appends}
 use Rattle.frontier_core.specs.declared.event.Event.{Event}
 use Rattle.retriever.specs.Run.{fault_text, fault_status}

@@ -1,6 +1,5 @@
 -- The site that an input describes, and the report of a whole site.
 use Rattle.std.specs.Prelude.{◌≡◌, ◌≤◌, ℕ, Bool, true, false, List, Some, All, Any, IsSome, IsTrue, is_some, length, map}
-use Rattle.kept_bodies.specs.Bodies.{BodyValue}
 use Rattle.kept_bodies.specs.declared.body_kind.BodyKind.{BodyKind}
 use Rattle.fetcher.specs.Sites.{SiteAnswers, bare_body}
 use Rattle.fetcher.specs.declared.edge.Edge.{Edge}

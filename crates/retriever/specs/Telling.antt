@@ -10,6 +10,10 @@ abbrev pub telling_by : List (List ℕ) → Result Ordered LineFault → Bool ×
 telling_by words (Ok ordered) = (ordered.quiet, ordered.log)
 telling_by words (Err why) = (are_quiet words, None)
 
+-- the output goes there
+abbrev pub GoesTo : Bool × Option (List ℕ × Bool) → Bool × Option (List ℕ × Bool) → Type 0
+GoesTo telling place = telling ≡ place
+
 -- the path of the file that takes the log of rejected links, if it is ordered
 abbrev pub rejected_by : Result Ordered LineFault → Option (List ℕ)
 rejected_by (Ok ordered) = ordered.rejected_log

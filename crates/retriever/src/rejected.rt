@@ -13,7 +13,8 @@ fn log_of_harvest<B: Drop>(alloc: Global, harvest: &Harvest<B>) -> Result<String
     ensures { IfOk result (λ text. IsLogRead harvest.now (string_bytes text)) }
 {
     // Named by the contract alone: what they are.
-    let _ = (harvest.entries(), harvest.records());
+    let _entries = harvest.entries();
+    let _records = harvest.records();
     rejected_log(alloc, harvest)
 }
 

@@ -5,7 +5,7 @@ ghost use Rattle.options.specs.Listed.{are_quiet};
 ghost use Rattle.options.specs.Order.{log_by};
 ghost use Rattle.options.specs.declared.fault.LineFault.TheVariants as fault;
 ghost use Rattle.retriever.specs.Program.{words_behind};
-ghost use Rattle.retriever.specs.Telling.{IsRejectedPath, IsTelling};
+ghost use Rattle.retriever.specs.Telling.{GoesTo, IsRejectedPath, IsTelling};
 
 use crate::program::{all_words, texts_behind};
 use options::{LineFault, Log, Order, are_quiet, read_order};
@@ -69,7 +69,7 @@ fn rejected_path(alloc: Global, order: &Order) -> Result<Option<String>, AllocEr
 
 // By an order.
 fn telling_of_order(alloc: Global, order: Order) -> Result<Telling, AllocError>
-    ensures telling { IfOk result (λ t. (t.is_quiet, option_map log_by t.log) ≡ (order.quiet, option_map log_by order.log)) }
+    ensures telling { IfOk result (λ t. GoesTo (t.is_quiet, option_map log_by t.log) (order.quiet, option_map log_by order.log)) }
     ensures rejected { IfOk result (λ t. option_map string_bytes t.rejected ≡ order.rejected_log) }
 {
     let Ok(rejected) = rejected_path(alloc, &order) else {
@@ -90,7 +90,7 @@ fn telling_of_refused(
     words: &[&str],
 ) -> Result<Telling, AllocError>
     ensures memory { IfOk result (λ t. wrong ≢ fault.Memory) }
-    ensures telling { IfOk result (λ t. (t.is_quiet, option_map log_by t.log) ≡ (are_quiet (map (λ word. word.now) words.now), None)) }
+    ensures telling { IfOk result (λ t. GoesTo (t.is_quiet, option_map log_by t.log) (are_quiet (map (λ word. word.now) words.now), None)) }
     ensures rejected { IfOk result (λ t. option_map string_bytes t.rejected ≡ None) }
 {
     match wrong {

@@ -1,5 +1,5 @@
 -- What proofs alone need beside `Systems`.
-use Rattle.std.specs.Prelude.{◌≡◌, ◌&&◌, ℕ, Bool, is_none, false, List, All, Option, Some, None, bytes_eq, length, map}
+use Rattle.std.specs.Prelude.{◌≡◌, ◌&&◌, ℕ, Bool, is_none, List, All, Option, length, map}
 use Rattle.options.specs.declared.order.Order.{Order}
 use Rattle.site_records.specs.RecordSites.{RecordValue}
 use Rattle.site_records.specs.Resumption.{Resuming}
