@@ -7,20 +7,20 @@ use crate::shared_failures::SharedFailures;
 use address::Address;
 use early_names::EarlyRules;
 use harvest::Harvest;
-use kept_bodies::{Body, BodyKind};
+use kept_bodies::Body;
 use local_tree::{
-    BodyChange, DiskFolder, FileChange, Folder, FolderFault, NamesParts, Shelf, WriteFault,
-    put_changed_parts, put_parts,
+    BodyChange, DiskFolder, Folder, FolderFault, NamesParts, Shelf, WriteFault, put_changed_parts,
+    put_parts,
 };
 use part_keeper::{Part, PartsDir, Standing};
 use record_journal::SavedFile;
 use std::alloc::{AllocError, Global};
 use std::fs::Files;
+use std::io;
 use std::io::{ErrorKind, Write};
 use std::net::Net;
 use std::sync::Wait;
 use std::thread::Threads;
-use std::{io, mem};
 use streams::{Close, Lock};
 use tcp_connect::Kept;
 
@@ -37,12 +37,7 @@ pub struct Disk<'a, R: Net + Files + Wait> {
     pub(crate) failures: &'a SharedFailures,
     // Whether bodies are kept, as they came, beside files whose links change.
     pub(crate) keeps_originals: bool,
-    // Of the files that were put, those that are to have others in place of their bodies.
-    pub(crate) changes: Vec<FileChange>,
 }
-
-/// How many files are changed together, at most.
-const BATCH: usize = 256;
 
 // Written by hand: a user that drops one proves a call, and nothing about its fields.
 impl<'a, R: Net + Files + Wait> Drop for Disk<'a, R> {
@@ -57,7 +52,6 @@ impl<'a, R: Net + Files + Wait> Drop for Disk<'a, R> {
             early: _early,
             failures: _failures,
             keeps_originals: _keeps_originals,
-            changes: _changes,
         } = self;
     }
 }
@@ -83,13 +77,6 @@ where
             }
         }
         Err(_) => folder.give_up(part),
-    }
-}
-
-// Has what was prepared take the places of the files.
-fn take_places<R: Files>(rt: &R, files: &mut [FileChange]) {
-    for file in files {
-        file.take_place(rt);
     }
 }
 
@@ -175,72 +162,6 @@ where
             }
         }
     }
-
-    // Ends these changes. Whether the files have then what is to be in place of their bodies.
-    fn finish_all<C: BodyChange>(&mut self, files: &mut [FileChange], change: &C) -> bool
-        ensures { self.new.inner ≡ self.old.inner }
-    {
-        let mut are_all = true;
-        for file in files {
-            if !self.inner.finish_change(file, change) {
-                self.note_unchanged(file.name());
-                are_all = false;
-            }
-        }
-        are_all
-    }
-
-    // Has the file of this name, whose part was put, changed with others. False if it can't be; the folder keeps why.
-    fn is_queued(&mut self, place: usize, name: &str, part: &Part) -> bool
-        ensures { self.new.inner ≡ self.old.inner }
-    {
-        let Some(file) = self.inner.new_change(self.changes.len(), place, name, part) else {
-            return false;
-        };
-        if self.changes.push(file).is_err() {
-            self.inner.note_memory();
-            return false;
-        }
-        true
-    }
-}
-
-impl<'a, R: Net + Files + Wait + Threads> Disk<'a, R>
-where
-    R::File: Close + Lock,
-{
-    ghost use Rattle.std.specs.Prelude.{◌≡◌};
-
-    // Changes the files that are to be changed. Whether all were.
-    fn change_files<C: BodyChange + Sync>(&mut self, change: &C) -> bool
-        ensures { self.new.inner ≡ self.old.inner }
-    {
-        let mut files = mem::replace(&mut self.changes, Vec::new(self.alloc));
-        self.crew.prepare(self.alloc, change, files.as_mut_slice());
-        // All that are ready take their places before one is prepared again, which needs room.
-        take_places(self.rt, files.as_mut_slice());
-        self.finish_all(files.as_mut_slice(), change)
-    }
-
-    // Has the file of this name changed, with others that are put before or after it. Whether all were that were to be by now.
-    fn change_later<C: BodyChange + Sync>(
-        &mut self,
-        place: usize,
-        name: &str,
-        part: &Part,
-        change: &C,
-    ) -> bool
-        ensures { self.new.inner ≡ self.old.inner }
-    {
-        if part.kind == BodyKind::Other {
-            return true;
-        }
-        if !self.is_queued(place, name, part) {
-            self.note_unchanged(name);
-            return false;
-        }
-        self.changes.len() < BATCH || self.change_files(change)
-    }
 }
 
 impl<'a, R: Net + Files + Wait + Threads> Folder for Disk<'a, R>
@@ -278,7 +199,7 @@ where
     }
 }
 
-impl<'a, R: Net + Files + Wait + Threads> NamesParts for Disk<'a, R>
+impl<'a, R: Net + Files + Wait> NamesParts for Disk<'a, R>
 where
     R::File: Close + Lock,
 {
@@ -299,14 +220,18 @@ where
         part: &Part,
         change: &C,
     ) -> Result<bool, FolderFault> {
-        match self.put_part(name, part) {
-            Ok(()) => Ok(self.change_later(place, name, part, change)),
-            Err(fault) => Err(fault),
+        let put = self.inner.put_changed(place, name, part, change);
+        match put {
+            Ok(true) => {}
+            Ok(false) => self.note_unchanged(name),
+            Err(_) => self.note_part(name, part),
         }
+        put
     }
 
-    fn end_changes<C: BodyChange + Sync>(&mut self, change: &C) -> bool {
-        self.changes.is_empty() || self.change_files(change)
+    // Each file is changed when it is put.
+    fn end_changes<C: BodyChange + Sync>(&mut self, _change: &C) -> bool {
+        true
     }
 }
 

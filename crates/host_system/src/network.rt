@@ -219,7 +219,6 @@ where
                 early: self.early,
                 failures: self.failures,
                 keeps_originals,
-                changes: Vec::new(self.alloc),
             }),
             Err(_) => Err(AllocError),
         }
