@@ -213,7 +213,7 @@ where
         put
     }
 
-    fn put_changed_part<C: BodyChange + Sync>(
+    fn put_changed_part<C: BodyChange>(
         &mut self,
         place: usize,
         name: &str,
@@ -227,11 +227,6 @@ where
             Err(_) => self.note_part(name, part),
         }
         put
-    }
-
-    // Each file is changed when it is put.
-    fn end_changes<C: BodyChange + Sync>(&mut self, _change: &C) -> bool {
-        true
     }
 }
 
@@ -254,7 +249,7 @@ where
         put_parts(self, names, harvest)
     }
 
-    fn put_changed_kept<C: BodyChange + Sync>(
+    fn put_changed_kept<C: BodyChange>(
         &mut self,
         alloc: Global,
         place: usize,
@@ -273,7 +268,7 @@ where
         put
     }
 
-    fn put_changed_harvest<C: BodyChange + Sync>(
+    fn put_changed_harvest<C: BodyChange>(
         &mut self,
         _alloc: Global,
         names: &[String],

@@ -101,7 +101,7 @@ pub trait Shelf<B: Drop>: Folder {
 
     /// Puts a file of this name below the folder, with what is to be in place of this body, which is that of the page at this place.
     /// Whether that is so: if not, the file has the body as it came. All else is as of [`Folder::put`].
-    fn put_changed_kept<C: BodyChange + Sync>(
+    fn put_changed_kept<C: BodyChange>(
         &mut self,
         alloc: Global,
         place: usize,
@@ -115,7 +115,7 @@ pub trait Shelf<B: Drop>: Folder {
 
     /// Puts the kept pages of a harvest, in their order, each under its name and with what is to be in place of its body. Whether all
     /// have that; the others have their bodies as they came. If a put fails no other is made, as of [`Shelf::put_harvest`].
-    fn put_changed_harvest<C: BodyChange + Sync>(
+    fn put_changed_harvest<C: BodyChange>(
         &mut self,
         alloc: Global,
         names: &[String],
@@ -153,7 +153,7 @@ impl<D: Folder> Shelf<Body> for D {
         self.put_site(names, harvest)
     }
 
-    fn put_changed_kept<C: BodyChange + Sync>(
+    fn put_changed_kept<C: BodyChange>(
         &mut self,
         alloc: Global,
         place: usize,

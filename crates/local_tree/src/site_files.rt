@@ -37,7 +37,7 @@ pub fn write_site<B: Drop, D: Shelf<B>>(
 
 /// The same, but each file has what is to be in place of its body. Whether all have that: each other one has the body as it came, since
 /// memory ran out, or nothing can be in its place, or the folder failed.
-pub fn write_changed_site<B: Drop, D: Shelf<B>, C: BodyChange + Sync>(
+pub fn write_changed_site<B: Drop, D: Shelf<B>, C: BodyChange>(
     alloc: Global,
     folder: &mut D,
     names: &[String],

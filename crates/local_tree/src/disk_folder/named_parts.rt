@@ -287,7 +287,7 @@ where
     }
 
     /// Renames the part, and then has the file have what is to be in place of its body, which takes room for one body.
-    fn put_changed_kept<C: BodyChange + Sync>(
+    fn put_changed_kept<C: BodyChange>(
         &mut self,
         _alloc: Global,
         place: usize,
@@ -310,9 +310,9 @@ pub trait NamesParts {
     fn put_part(&mut self, name: &str, part: &Part) -> Result<(), FolderFault>
         ensures { CountsRefusedPut (failed self.old) (failed self.new) result };
 
-    /// The same, and then, at the next [`NamesParts::end_changes`] at the latest, the file has what is to be in place of its body, which
-    /// is that of the page at this place. Whether all have it that were to have it by now: each other one has the body as it came.
-    fn put_changed_part<C: BodyChange + Sync>(
+    /// The same, and then the file has what is to be in place of its body, which is that of the page at this place. Whether it does:
+    /// if not, it has the body as it came.
+    fn put_changed_part<C: BodyChange>(
         &mut self,
         place: usize,
         name: &str,
@@ -320,10 +320,6 @@ pub trait NamesParts {
         change: &C,
     ) -> Result<bool, FolderFault>
         ensures { CountsRefusedPut (failed self.old) (failed self.new) result };
-
-    /// Has all files have what is to be in place of their bodies that don't yet. Whether they do.
-    fn end_changes<C: BodyChange + Sync>(&mut self, change: &C) -> bool
-        ensures { failed self.new ≡ failed self.old };
 }
 
 // Puts a part. Gives how many got no name then, of which there were so many.
@@ -367,7 +363,7 @@ struct SoFar {
 }
 
 // Puts a part, and has its file have what is to be in place of its body. Gives what is so then.
-fn put_changed_one<D: NamesParts, C: BodyChange + Sync>(
+fn put_changed_one<D: NamesParts, C: BodyChange>(
     folder: &mut D,
     place: usize,
     name: &str,
@@ -391,7 +387,7 @@ fn put_changed_one<D: NamesParts, C: BodyChange + Sync>(
 }
 
 /// The same as [`put_parts`], but each file has what is to be in place of its body. Whether all have that which got their names.
-pub fn put_changed_parts<D: NamesParts, C: BodyChange + Sync>(
+pub fn put_changed_parts<D: NamesParts, C: BodyChange>(
     folder: &mut D,
     names: &[String],
     harvest: &Harvest<Part>,
@@ -417,9 +413,8 @@ pub fn put_changed_parts<D: NamesParts, C: BodyChange + Sync>(
             so_far,
         );
     }
-    let are_others = folder.end_changes(change);
     if so_far.lost > 0 {
         return Err(WriteFault::Device(names.len().saturating_sub(so_far.lost)));
     }
-    Ok(so_far.are_all && are_others)
+    Ok(so_far.are_all)
 }
