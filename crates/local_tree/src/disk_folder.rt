@@ -23,7 +23,6 @@ mod file_changes;
 mod named_parts;
 mod originals;
 
-pub use file_changes::FileChange;
 pub use named_parts::{NamesParts, put_changed_parts, put_parts};
 use originals::Originals;
 

@@ -1,7 +1,5 @@
-//! Files that are to have other bytes in place of their bodies. What takes a file's place is prepared beside that of others, by whoever
-//! has a thread for it, and takes it when it is whole.
-ghost use Rattle.std.specs.Prelude.{◌≤◌, IfOk, vec_len};
-
+//! Files that are to have other bytes in place of their bodies. What takes a file's place is prepared elsewhere, and takes it when it is
+//! whole.
 use super::originals::ORIGINAL;
 use super::{look_for_file, path_below};
 use crate::body_change::{BodyChange, ChangeFault};
@@ -10,9 +8,9 @@ use kept_bodies::BodyKind;
 use part_keeper::Part;
 use std::alloc::Global;
 use std::fs::{File, Files, OpenFile};
+use std::io;
 use std::io::{Error, ErrorKind, Read};
 use std::time::SystemTime;
-use std::{io, mem};
 use streams::Close;
 
 // A body that is kept as it came, beside its file.
@@ -25,9 +23,8 @@ struct Original {
 
 /// What becomes of one file of a page.
 #[derive(Drop)]
-pub struct FileChange {
+pub(crate) struct FileChange {
     place: usize,
-    name: String,
     path: String,
     // Where that is prepared which takes its place.
     part: String,
@@ -35,23 +32,16 @@ pub struct FileChange {
     original: Option<Original>,
     kind: BodyKind,
     len: u64,
-    // Whether that is there, whole and closed without an error.
-    is_ready: bool,
-    // Why it couldn't be prepared.
-    error: Option<Error>,
 }
 
-// Makes room for so many bytes.
-fn make_room(room: &mut Vec<u8>, len: u64) -> io::Result<usize>
-    ensures { IfOk result (λ n. n ≤ vec_len room.new) }
-{
+// Room for so many bytes.
+fn new_room(alloc: Global, len: u64) -> io::Result<Vec<u8>> {
     let Ok(len) = usize::try_from(len) else {
         return Err(Error::from(ErrorKind::OutOfMemory));
     };
-    if room.len() < len {
-        room.resize(len, 0)?;
-    }
-    Ok(len)
+    let mut room = Vec::new(alloc);
+    room.resize(len, 0)?;
+    Ok(room)
 }
 
 // What came of reading a file that is to have so many bytes.
@@ -105,23 +95,21 @@ fn changed<C: BodyChange>(
 }
 
 impl FileChange {
-    // The change of the file of this name below a folder, prepared in a directory of the run's own, under this number. Its body is kept
-    // beside it if that is said.
+    // The change of the file of this name below a folder, prepared in a directory of the run's own. Its body is kept beside it if that
+    // is said.
     pub(crate) fn new(
         alloc: Global,
         folder: &str,
         own: &str,
-        number: usize,
         place: usize,
         name: &str,
         part: &Part,
         keeps_original: bool,
     ) -> io::Result<FileChange> {
         let path = path_below(alloc, folder, name)?;
-        let prepared = format!(in alloc; "{own}/{number}")?;
         let original = if keeps_original {
             Some(Original {
-                part: format!(in alloc; "{prepared}{ORIGINAL}")?,
+                part: format!(in alloc; "{own}/part{ORIGINAL}")?,
                 path: format!(in alloc; "{path}{ORIGINAL}")?,
             })
         } else {
@@ -129,78 +117,40 @@ impl FileChange {
         };
         Ok(FileChange {
             place,
-            name: String::from_str(alloc, name)?,
             path,
-            part: prepared,
+            part: format!(in alloc; "{own}/part")?,
             original,
             kind: part.kind,
             len: part.len,
-            is_ready: false,
-            error: None,
         })
     }
 
-    /// The name of its file.
-    pub fn name(&self) -> &str {
-        self.name.as_str()
-    }
-
     // Reads the body, and writes what is to be in its place, with its time, if that is another one. Whether it did.
-    fn prepared<R: Files, C: BodyChange>(
+    fn prepare<R: Files, C: BodyChange>(
         &self,
         rt: &R,
         alloc: Global,
-        room: &mut Vec<u8>,
         change: &C,
     ) -> io::Result<bool>
     where
         R::File: Close,
     {
         look_for_file(rt, self.path.as_str())?;
-        let len = make_room(room, self.len)?;
-        let body = &mut room.as_mut_slice()[..len];
-        let Reading::Whole(modified) = read_body(rt, self.path.as_str(), body)? else {
+        let mut body = new_room(alloc, self.len)?;
+        let Reading::Whole(modified) = read_body(rt, self.path.as_str(), body.as_mut_slice())?
+        else {
             return Ok(false);
         };
-        match changed(alloc, self.place, self.kind, body, change)? {
+        match changed(alloc, self.place, self.kind, body.as_slice(), change)? {
             Some(other) => {
                 if let Some(original) = &self.original {
-                    write_new(rt, original.part.as_str(), body, modified)?;
+                    write_new(rt, original.part.as_str(), body.as_slice(), modified)?;
                 }
                 write_new(rt, self.part.as_str(), other.as_slice(), modified)?;
                 Ok(true)
             }
             None => Ok(false),
         }
-    }
-
-    /// Prepares what takes the place of the file, if that is to have another body, and keeps how that ended. The body is read into this
-    /// room, which grows as need be and may serve many. Opens one file at a time, and takes memory for one change.
-    pub fn prepare<R: Files, C: BodyChange>(
-        &mut self,
-        rt: &R,
-        alloc: Global,
-        room: &mut Vec<u8>,
-        change: &C,
-    )
-    where
-        R::File: Close,
-    {
-        match self.prepared(rt, alloc, room, change) {
-            Ok(is_ready) => self.is_ready = is_ready,
-            Err(error) => {
-                self.error = Some(error);
-                self.remove(rt);
-            }
-        }
-    }
-
-    // Takes away what was prepared.
-    fn remove<R: Files>(&self, rt: &R) {
-        if let Some(original) = &self.original {
-            let _ = rt.remove_file(original.part.as_str());
-        }
-        let _ = rt.remove_file(self.part.as_str());
     }
 
     // Has what was prepared take its place: the body that is kept first, so that it is nowhere missing.
@@ -211,36 +161,20 @@ impl FileChange {
         rt.rename(self.part.as_str(), self.path.as_str())
     }
 
-    // Prepares it again if there was no room for it, or no memory, which others beside it may have taken.
-    fn prepare_again<R: Files, C: BodyChange>(&mut self, rt: &R, alloc: Global, change: &C)
+    // Has the file have what is to be in place of its body, if that is another one.
+    fn make<R: Files, C: BodyChange>(&self, rt: &R, alloc: Global, change: &C) -> io::Result<()>
     where
         R::File: Close,
     {
-        match mem::replace(&mut self.error, None) {
-            None => {}
-            Some(error) if error.kind() == ErrorKind::InvalidData => self.error = Some(error),
-            Some(_) => {
-                let mut room = Vec::new(alloc);
-                self.prepare(rt, alloc, &mut room, change)
-            }
+        if self.prepare(rt, alloc, change)? {
+            self.put(rt)?;
         }
+        Ok(())
     }
 
-    /// Has what was prepared take the place of the file.
-    pub fn take_place<R: Files>(&mut self, rt: &R) {
-        if !self.is_ready {
-            return;
-        }
-        self.is_ready = false;
-        if let Err(error) = self.put(rt) {
-            self.remove(rt);
-            self.error = Some(error);
-        }
-    }
-
-    // Has the file have what is to be in place of its body. The error is why it doesn't.
+    // Has the file have what is to be in place of its body. After an error it has the body as it came.
     pub(crate) fn finish<R: Files, C: BodyChange>(
-        &mut self,
+        &self,
         rt: &R,
         alloc: Global,
         change: &C,
@@ -248,12 +182,14 @@ impl FileChange {
     where
         R::File: Close,
     {
-        self.take_place(rt);
-        self.prepare_again(rt, alloc, change);
-        self.take_place(rt);
-        match mem::replace(&mut self.error, None) {
-            None => Ok(()),
-            Some(error) => Err(error),
+        let made = self.make(rt, alloc, change);
+        if made.is_err() {
+            // A part that stays is removed before the next file.
+            if let Some(original) = &self.original {
+                let _ = rt.remove_file(original.part.as_str());
+            }
+            let _ = rt.remove_file(self.part.as_str());
         }
+        made
     }
 }

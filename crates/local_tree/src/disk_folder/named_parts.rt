@@ -42,13 +42,7 @@ where
     ghost use Rattle.std.specs.Prelude.{◌≡◌};
 
     // What is to become of the file of a part that was put.
-    fn change_of(
-        &mut self,
-        number: usize,
-        place: usize,
-        name: &str,
-        part: &Part,
-    ) -> io::Result<FileChange>
+    fn change_of(&mut self, place: usize, name: &str, part: &Part) -> io::Result<FileChange>
         ensures { self.new ≡ self.old }
     {
         let keeps_original = self.originals.has(name)?;
@@ -60,7 +54,6 @@ where
             self.alloc,
             self.prefix.as_str(),
             own.path(),
-            number,
             place,
             name,
             part,
@@ -76,48 +69,21 @@ where
         self.originals = Originals::of(self.alloc, names);
     }
 
-    /// What is to become of the file of this name, whose part was put: that of the page at this place. Those with different numbers can be
-    /// prepared at a time. None if the folder failed, or memory ran out; the error is kept.
-    pub fn new_change(
+    // Has the file of this name, which has a part, have what is to be in place of the body. If that fails it stays as it is.
+    fn change_file<C: BodyChange>(
         &mut self,
-        number: usize,
         place: usize,
         name: &str,
         part: &Part,
-    ) -> Option<FileChange>
+        change: &C,
+    ) -> io::Result<()>
         ensures { self.new ≡ self.old }
     {
-        match self.change_of(number, place, name, part) {
-            Ok(file) => Some(file),
-            Err(error) => {
-                self.error = Some(error);
-                None
-            }
-        }
+        let file = self.change_of(place, name, part)?;
+        file.finish(self.rt, self.alloc, change)
     }
 
-    /// Has the file of a change that was prepared have what is to be in place of its body, which is prepared once more, without others
-    /// beside it, if it couldn't be. Whether the file has that then; if not, it has the body as it came, and the error is kept.
-    pub fn finish_change<C: BodyChange>(&mut self, file: &mut FileChange, change: &C) -> bool
-        ensures { self.new ≡ self.old }
-    {
-        match file.finish(self.rt, self.alloc, change) {
-            Ok(()) => true,
-            Err(error) => {
-                self.error = Some(error);
-                false
-            }
-        }
-    }
-
-    /// Keeps that there is no memory for a change.
-    pub fn note_memory(&mut self)
-        ensures { self.new ≡ self.old }
-    {
-        self.error = Some(Error::from(ErrorKind::OutOfMemory));
-    }
-
-    // Changes the file of this name, which has a part. Whether it has what is to be in place of its body then.
+    // The same, if bodies of that kind have links. Whether the file has that then; if not, the error is kept.
     fn is_changed<C: BodyChange>(
         &mut self,
         place: usize,
@@ -130,13 +96,12 @@ where
         if part.kind == BodyKind::Other {
             return true;
         }
-        match self.new_change(0, place, name, part) {
-            Some(mut file) => {
-                let mut room = Vec::new(self.alloc);
-                file.prepare(self.rt, self.alloc, &mut room, change);
-                self.finish_change(&mut file, change)
+        match self.change_file(place, name, part, change) {
+            Ok(()) => true,
+            Err(error) => {
+                self.error = Some(error);
+                false
             }
-            None => false,
         }
     }
 
