@@ -100,6 +100,8 @@ pub record Ordered : Type 0 where
   pub prefix : List ℕ
   pub names : Naming
   pub converts : Bool
+  pub backs_up : Bool
+  pub takes_times : Bool
   pub fields : Sent
   pub manner : Mannered
   pub retries : Retried
@@ -107,6 +109,7 @@ pub record Ordered : Type 0 where
   pub trusts : Bool
   pub resume : Option Text
   pub save : Option Text
+  pub rejected_log : Option Text
 
 -- the value that was found, or the fault, and what follows from it
 abbrev pub found_or : {X Y : Type 0} → Option X → LineFault → (X → Result Y LineFault) → Result Y LineFault
@@ -346,6 +349,8 @@ ordered found counts proxies names fields manner retries level patterns director
   prefix = prefix_of found;
   names = names;
   converts = is_set (codes "convert-links") found;
+  backs_up = is_set (codes "backup-converted") found;
+  takes_times = not (is_set (codes "no-use-server-timestamps") found);
   fields = fields;
   manner = manner;
   retries = retries;
@@ -353,6 +358,7 @@ ordered found counts proxies names fields manner retries level patterns director
   trusts = is_set (codes "trust-proxy") found;
   resume = first_of (codes "resume") found;
   save = first_of (codes "save") found;
+  rejected_log = first_of (codes "rejected-log") found;
 }
 
 -- what the options order, or the lowest fault
@@ -503,6 +509,8 @@ ordered_by order = record {
   prefix = order.prefix;
   names = naming_by order.names;
   converts = order.converts;
+  backs_up = order.backs_up;
+  takes_times = order.takes_times;
   fields = order.fields;
   manner = mannered order.manner;
   retries = retries_by order.retries;
@@ -510,6 +518,7 @@ ordered_by order = record {
   trusts = order.trusts_proxy;
   resume = order.resume;
   save = order.save;
+  rejected_log = order.rejected_log;
 }
 
 -- how many connections to a server may be open at a time, if they are kept

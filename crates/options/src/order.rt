@@ -140,6 +140,10 @@ pub struct Order {
     pub names: PageNames,
     /// Whether the links of files lead from file to file.
     pub converts: bool,
+    /// Whether the body of a file whose links change is kept beside it as it came.
+    pub backs_up: bool,
+    /// Whether a file has the time that its page's `Last-Modified` says.
+    pub takes_times: bool,
     /// What requests say besides their addresses.
     pub fields: Fields,
     /// How servers are treated.
@@ -154,6 +158,8 @@ pub struct Order {
     pub resume: Option<FilePath>,
     /// The record that is written of what was answered.
     pub save: Option<FilePath>,
+    /// The file that takes the log of the links that filters reject.
+    pub rejected_log: Option<FilePath>,
     pub ghost some_workers: { 0 < workers },
     pub ghost workers_in_range: { workers ≤ MAX_WORKERS },
 }
@@ -274,6 +280,8 @@ impl Order {
             prefix,
             names,
             converts,
+            backs_up,
+            takes_times,
             fields,
             manner,
             retries,
@@ -281,6 +289,7 @@ impl Order {
             trusts_proxy,
             resume,
             save,
+            rejected_log,
         } = self;
         Order {
             plan: with_starts(plan, others),
@@ -296,6 +305,8 @@ impl Order {
             prefix,
             names,
             converts,
+            backs_up,
+            takes_times,
             fields,
             manner,
             retries,
@@ -303,6 +314,7 @@ impl Order {
             trusts_proxy,
             resume,
             save,
+            rejected_log,
         }
     }
 
@@ -324,6 +336,8 @@ impl Order {
             prefix,
             names,
             converts,
+            backs_up,
+            takes_times,
             fields,
             manner,
             retries,
@@ -331,6 +345,7 @@ impl Order {
             trusts_proxy,
             resume,
             save,
+            rejected_log,
         } = self;
         Order {
             plan,
@@ -346,6 +361,8 @@ impl Order {
             prefix,
             names,
             converts,
+            backs_up,
+            takes_times,
             fields,
             manner,
             retries,
@@ -353,6 +370,7 @@ impl Order {
             trusts_proxy,
             resume,
             save,
+            rejected_log,
         }
     }
 

@@ -75,13 +75,14 @@ struct Settings {
     retries: Retries,
 }
 
-// The folder for the files, the records that are resumed and saved, and the file that takes the text of the run.
+// The folder for the files, the records that are resumed and saved, and the files that take the text of the run and the log of rejected links.
 #[derive(Drop)]
 struct Paths {
     prefix: Prefix,
     resume: Option<FilePath>,
     save: Option<FilePath>,
     log: Option<Log>,
+    rejected_log: Option<FilePath>,
 }
 
 // The lists of an option and of its opposite.
@@ -744,6 +745,7 @@ fn filled(
     requires resume { paths.resume ≡ first_of (codes "resume") (rows_of (found_of matches.now)) }
     requires save { paths.save ≡ first_of (codes "save") (rows_of (found_of matches.now)) }
     requires log { option_map log_by paths.log ≡ log_of (rows_of (found_of matches.now)) }
+    requires rejected { paths.rejected_log ≡ first_of (codes "rejected-log") (rows_of (found_of matches.now)) }
     ensures { ordered_by result ≡ ordered (rows_of (found_of matches.now)) (record { workers = settings.counts.workers; per_host = settings.counts.per_host; max_urls = settings.counts.max_urls; quota = settings.counts.quota })
         settings.proxies (naming_by settings.names) settings.fields (mannered settings.manner) (retries_by settings.retries) level (filters.names.given, filters.names.excluded) (filters.places.given, filters.places.excluded) (filters.hosts.given, filters.hosts.excluded) (filters.sought.accepted, filters.sought.rejected) filters.rows start }
 {
@@ -796,6 +798,8 @@ fn filled(
         prefix: paths.prefix,
         names: naming,
         converts: is_set(matches, "convert-links"),
+        backs_up: is_set(matches, "backup-converted"),
+        takes_times: !is_set(matches, "no-use-server-timestamps"),
         fields,
         manner,
         retries,
@@ -803,6 +807,7 @@ fn filled(
         trusts_proxy: is_set(matches, "trust-proxy"),
         resume: paths.resume,
         save: paths.save,
+        rejected_log: paths.rejected_log,
     }
 }
 
@@ -881,16 +886,19 @@ fn read_paths(alloc: Global, matches: &ArgMatches) -> Result<Paths, AllocError>
     ensures resume { IfOk result (λ p. p.resume ≡ first_of (codes "resume") (rows_of (found_of matches.now))) }
     ensures save { IfOk result (λ p. p.save ≡ first_of (codes "save") (rows_of (found_of matches.now))) }
     ensures log { IfOk result (λ p. option_map log_by p.log ≡ log_of (rows_of (found_of matches.now))) }
+    ensures rejected { IfOk result (λ p. p.rejected_log ≡ first_of (codes "rejected-log") (rows_of (found_of matches.now))) }
 {
     let prefix = prefix(alloc, matches)?;
     let resume = file(alloc, matches, "resume")?;
     let save = file(alloc, matches, "save")?;
     let log = log(alloc, matches)?;
+    let rejected_log = file(alloc, matches, "rejected-log")?;
     Ok(Paths {
         prefix,
         resume,
         save,
         log,
+        rejected_log,
     })
 }
 

@@ -13,7 +13,7 @@ pub(crate) struct Summary<T> {
 }
 
 // An option that isn't here isn't in the help.
-const SUMMARY: [Summary<&str>; 92] = [
+const SUMMARY: [Summary<&str>; 95] = [
     Summary {
         name: "recursive",
         says: "follow links",
@@ -307,6 +307,14 @@ const SUMMARY: [Summary<&str>; 92] = [
         says: "links in files lead from file to file",
     },
     Summary {
+        name: "backup-converted",
+        says: "keep what -k changes as it came, as NAME.orig",
+    },
+    Summary {
+        name: "no-use-server-timestamps",
+        says: "files have the time when they were written",
+    },
+    Summary {
         name: "quiet",
         says: "tell nothing, except of refused words",
     },
@@ -317,6 +325,10 @@ const SUMMARY: [Summary<&str>; 92] = [
     Summary {
         name: "append-output",
         says: "likewise, after what FILE has",
+    },
+    Summary {
+        name: "rejected-log",
+        says: "write links that filters reject into FILE",
     },
     Summary {
         name: "trace",

@@ -40,7 +40,7 @@ pub(crate) struct Row<T> {
 }
 
 /// The options. What each does is in `summary.rt`: a constant's proof takes time for each pair of a text and a byte in it.
-const TABLE: [Row<&str>; 93] = [
+const TABLE: [Row<&str>; 96] = [
     Row {
         short: "r",
         name: "recursive",
@@ -486,6 +486,18 @@ const TABLE: [Row<&str>; 93] = [
         heading: "",
     },
     Row {
+        short: "K",
+        name: "backup-converted",
+        kind: Kind::Flag,
+        heading: "",
+    },
+    Row {
+        short: "",
+        name: "no-use-server-timestamps",
+        kind: Kind::Flag,
+        heading: "",
+    },
+    Row {
         short: "q",
         name: "quiet",
         kind: Kind::Flag,
@@ -500,6 +512,12 @@ const TABLE: [Row<&str>; 93] = [
     Row {
         short: "a",
         name: "append-output",
+        kind: Kind::Value("FILE"),
+        heading: "",
+    },
+    Row {
+        short: "",
+        name: "rejected-log",
         kind: Kind::Value("FILE"),
         heading: "",
     },
@@ -612,7 +630,7 @@ pub(crate) fn option_rows() -> &'static [Row<&'static str>]
 
 /// The forms of Wget's options: all long ones, in the order of their letters, and the short ones that aren't among the options
 /// above. One of two letters is the first letter's, such as `nc`.
-const WGET: [&str; 249] = [
+const WGET: [&str; 248] = [
     "--accept",
     "--accept-regex",
     "--adjust-extension",
@@ -860,7 +878,6 @@ const WGET: [&str; 249] = [
     "-c",
     "-N",
     "-S",
-    "-K",
     "-m",
 ];
 
@@ -882,7 +899,7 @@ pub(crate) struct Instead<T> {
 }
 
 /// What to do in place of Wget's options, if there is something. None of these forms is read.
-const INSTEAD: [Instead<&str>; 71] = [
+const INSTEAD: [Instead<&str>; 68] = [
     Instead {
         form: "--background",
         advice: "& of the shell, or nohup",
@@ -942,10 +959,6 @@ const INSTEAD: [Instead<&str>; 71] = [
     Instead {
         form: "-N",
         advice: "--save FILE, then --resume FILE: a later run requests what is missing",
-    },
-    Instead {
-        form: "--no-use-server-timestamps",
-        advice: "it is so already",
     },
     Instead {
         form: "--no-if-modified-since",
@@ -1152,14 +1165,6 @@ const INSTEAD: [Instead<&str>; 71] = [
         advice: "--save FILE writes what is received, docs/RECORDS.md",
     },
     Instead {
-        form: "--backup-converted",
-        advice: "leave it out: a run without -k writes pages as they came",
-    },
-    Instead {
-        form: "-K",
-        advice: "leave it out: a run without -k writes pages as they came",
-    },
-    Instead {
         form: "--mirror",
         advice: "-r -l inf, and --save FILE and --resume FILE for -N",
     },
@@ -1224,7 +1229,7 @@ pub(crate) struct Command<T> {
 }
 
 /// The commands of wgetrc whose options are here.
-const COMMANDS: [Command<&str>; 76] = [
+const COMMANDS: [Command<&str>; 79] = [
     Command {
         name: "accept",
         option: "accept",
@@ -1248,6 +1253,10 @@ const COMMANDS: [Command<&str>; 76] = [
     Command {
         name: "cache",
         option: "cache",
+    },
+    Command {
+        name: "backupconverted",
+        option: "backup-converted",
     },
     Command {
         name: "base",
@@ -1446,6 +1455,10 @@ const COMMANDS: [Command<&str>; 76] = [
         option: "reject",
     },
     Command {
+        name: "rejectedlog",
+        option: "rejected-log",
+    },
+    Command {
         name: "rejectregex",
         option: "reject-regex",
     },
@@ -1512,6 +1525,10 @@ const COMMANDS: [Command<&str>; 76] = [
     Command {
         name: "useragent",
         option: "user-agent",
+    },
+    Command {
+        name: "useservertimestamps",
+        option: "use-server-timestamps",
     },
     Command {
         name: "verbose",

@@ -19,9 +19,12 @@ returns c = rw (
   c.is_set-8.ensures,
   c.is_set-9.ensures,
   c.is_set-10.ensures,
+  c.is_set-11.ensures,
+  c.is_set-12.ensures,
   c.requires.prefix,
   c.requires.resume,
   c.requires.save,
   c.requires.log,
+  c.requires.rejected,
   c.new.ensures.items,
 ) refl
