@@ -3,7 +3,7 @@ ghost use Rattle.std.specs.Prelude.{◌≡◌, ◌&&◌, ℕ, OnOk, OnErr, IfOk,
 ghost use Rattle.kept_bodies.specs.Bodies.{BodyValue};
 ghost use Rattle.kept_bodies.specs.declared.body_kind.BodyKind.{BodyKind};
 ghost use Rattle.local_names.specs.Names.{AreDistinct};
-ghost use Rattle.local_tree.specs.Changes.{PutsChanged, IsShelvedAs, IsHalfShelvedAsBy};
+ghost use Rattle.local_tree.specs.Changes.{AreApart, IsShelvedAs, IsHalfShelvedAsBy, KeepsBeside, PutsChanged, change_by};
 ghost use Rattle.local_tree.specs.Folders.{Puts, KeepsOthers, CountsRefusedPut, holding};
 ghost use Rattle.local_tree.specs.Shelves.{IsShelved, IsHalfShelvedBy};
 
@@ -71,6 +71,20 @@ fn put_as<D: Folder>(
     }
 }
 
+// Puts a body under the name of its backup, and then the file with what is in its place.
+fn put_both<D: Folder>(
+    folder: &mut D,
+    backup: &str,
+    name: &str,
+    body: &[u8],
+    other: &[u8],
+) -> Result<bool, FolderFault> {
+    match folder.put(backup, body) {
+        Ok(()) => put_as(folder, name, other, true),
+        Err(fault) => Err(fault),
+    }
+}
+
 /// A folder that takes kept bodies of this type. Each folder takes those in memory.
 pub trait Shelf<B: Drop>: Folder {
     // Which body a kept one may be. Of one that may be any, a folder that tells its files says nothing.
@@ -100,7 +114,8 @@ pub trait Shelf<B: Drop>: Folder {
     }
 
     /// Puts a file of this name below the folder, with what is to be in place of this body, which is that of the page at this place.
-    /// Whether that is so: if not, the file has the body as it came. All else is as of [`Folder::put`].
+    /// Whether that is so: if not, the file has the body as it came. If it has other bytes, the body is put as it came under the name of its
+    /// backup, if it has one. All else is as of [`Folder::put`].
     fn put_changed_kept<C: BodyChange + Sync>(
         &mut self,
         alloc: Global,
@@ -109,8 +124,8 @@ pub trait Shelf<B: Drop>: Folder {
         kept: &B,
         change: &C,
     ) -> Result<bool, FolderFault>
-        ensures put { IfOk result (λ all. (body : BodyValue) → holds kept.now body → PutsChanged (C.becomes change.now) all place body name.now (Self.files self.old) (Self.files self.new)) }
-        ensures torn { OnErr result (KeepsOthers (Self.files self.old) (Self.files self.new) name.now) }
+        ensures put { IfOk result (λ all. (body : BodyValue) → holds kept.now body → PutsChanged (change_by C.becomes C.backups change.now) all place body name.now (Self.files self.old) (Self.files self.new)) }
+        ensures torn { OnErr result (KeepsBeside (Self.files self.old) (Self.files self.new) name.now (C.backups change.now place)) }
         ensures counted { CountsRefusedPut (Self.failed self.old) (Self.failed self.new) result };
 
     /// Puts the kept pages of a harvest, in their order, each under its name and with what is to be in place of its body. Whether all
@@ -124,8 +139,9 @@ pub trait Shelf<B: Drop>: Folder {
     ) -> Result<bool, WriteFault>
         requires count { length names.now ≡ length harvest.now.kept }
         requires distinct { AreDistinct (map string_bytes names.now) }
-        ensures whole { IfOk result (λ all. IsShelvedAs (C.becomes change.now) all holds (map string_bytes names.now) harvest.now.bodies (holding Self.files Self.failed self.old) (holding Self.files Self.failed self.new)) }
-        ensures torn { IfErr result (IsHalfShelvedAsBy (C.becomes change.now) holds (map string_bytes names.now) harvest.now.bodies (holding Self.files Self.failed self.old) (holding Self.files Self.failed self.new)) }
+        requires apart { AreApart (map string_bytes names.now) (C.backups change.now) }
+        ensures whole { IfOk result (λ all. IsShelvedAs (change_by C.becomes C.backups change.now) all holds (map string_bytes names.now) harvest.now.bodies (holding Self.files Self.failed self.old) (holding Self.files Self.failed self.new)) }
+        ensures torn { IfErr result (IsHalfShelvedAsBy (change_by C.becomes C.backups change.now) holds (map string_bytes names.now) harvest.now.bodies (holding Self.files Self.failed self.old) (holding Self.files Self.failed self.new)) }
         ensures quiet { OnOk result (Self.failed self.new ≡ Self.failed self.old) }
     {
         let mut are_all = true;
@@ -163,7 +179,13 @@ impl<D: Folder> Shelf<Body> for D {
     ) -> Result<bool, FolderFault> {
         let body = kept.as_slice();
         match change.change(alloc, place, kept.kind(), body) {
-            Ok(Some(other)) => put_as(self, name, other.as_slice(), true),
+            Ok(Some(other)) => match change.backup(alloc, place) {
+                Ok(Some(backup)) if other.as_slice() != body => {
+                    put_both(self, backup.as_str(), name, body, other.as_slice())
+                }
+                Ok(_) => put_as(self, name, other.as_slice(), true),
+                Err(_) => put_as(self, name, body, false),
+            },
             Ok(None) => put_as(self, name, body, true),
             Err(_) => put_as(self, name, body, false),
         }

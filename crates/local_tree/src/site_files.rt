@@ -1,6 +1,6 @@
 //! The files of a retrieved site.
 ghost use Rattle.std.specs.Prelude.{◌≡◌, length, map, OnOk, IfOk, IfErr, string_bytes};
-ghost use Rattle.local_tree.specs.Changes.{IsShelvedAs, IsHalfShelvedAsBy};
+ghost use Rattle.local_tree.specs.Changes.{AreApart, IsShelvedAs, IsHalfShelvedAsBy, change_by};
 ghost use Rattle.local_tree.specs.Folders.{holding};
 ghost use Rattle.local_names.specs.Names.{AreDistinct};
 ghost use Rattle.local_tree.specs.Shelves.{IsShelved, IsHalfShelvedBy};
@@ -35,7 +35,8 @@ pub fn write_site<B: Drop, D: Shelf<B>>(
     folder.put_harvest(names, harvest)
 }
 
-/// The same, but each file has what is to be in place of its body. Whether all have that: each other one has the body as it came, since
+/// The same, but each file has what is to be in place of its body, and, if that is another one, the body as it came is in the file of its
+/// backup, if it has one. Whether all have that: each other one has the body as it came, since
 /// memory ran out, or nothing can be in its place, or the folder failed.
 pub fn write_changed_site<B: Drop, D: Shelf<B>, C: BodyChange + Sync>(
     alloc: Global,
@@ -46,8 +47,9 @@ pub fn write_changed_site<B: Drop, D: Shelf<B>, C: BodyChange + Sync>(
 ) -> Result<bool, WriteFault>
     requires count { length names.now ≡ length harvest.now.kept }
     requires distinct { AreDistinct (map string_bytes names.now) }
-    ensures whole { IfOk result (λ all. IsShelvedAs (C.becomes change.now) all D.holds (map string_bytes names.now) harvest.now.bodies (holding D.files D.failed folder.old) (holding D.files D.failed folder.new)) }
-    ensures torn { IfErr result (IsHalfShelvedAsBy (C.becomes change.now) D.holds (map string_bytes names.now) harvest.now.bodies (holding D.files D.failed folder.old) (holding D.files D.failed folder.new)) }
+    requires apart { AreApart (map string_bytes names.now) (C.backups change.now) }
+    ensures whole { IfOk result (λ all. IsShelvedAs (change_by C.becomes C.backups change.now) all D.holds (map string_bytes names.now) harvest.now.bodies (holding D.files D.failed folder.old) (holding D.files D.failed folder.new)) }
+    ensures torn { IfErr result (IsHalfShelvedAsBy (change_by C.becomes C.backups change.now) D.holds (map string_bytes names.now) harvest.now.bodies (holding D.files D.failed folder.old) (holding D.files D.failed folder.new)) }
     ensures quiet { OnOk result (D.failed folder.new ≡ D.failed folder.old) }
 {
     folder.put_changed_harvest(alloc, names, harvest, change)

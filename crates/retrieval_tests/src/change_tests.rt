@@ -6,7 +6,7 @@ use kept_bodies::BodyKind;
 use local_names::{NameRules, names};
 use local_tree::{BodyChange, ChangeFault, MemoryFolder, WriteFault, write_changed_site};
 use site_maps::MapSite;
-use std::alloc::Global;
+use std::alloc::{AllocError, Global};
 use std::process::Abort;
 use workers::retrieve_in_order;
 
@@ -19,9 +19,11 @@ const MAP: &[u8] =
 struct Digits;
 
 impl BodyChange for Digits {
-    ghost use Rattle.std.specs.Prelude.{⊤};
+    ghost use Rattle.std.specs.Prelude.{None, ⊤};
 
     ghost becomes = { λ _ _ _ _. ⊤ };
+
+    ghost backups = { λ _ _. None };
 
     fn change(
         &self,
@@ -36,6 +38,10 @@ impl BodyChange for Digits {
             3 => Ok(Some(b"3".to_vec(alloc)?)),
             _ => Ok(Some(b"0".to_vec(alloc)?)),
         }
+    }
+
+    fn backup(&self, _alloc: Global, _place: usize) -> Result<Option<String>, AllocError> {
+        Ok(None)
     }
 }
 

@@ -36,7 +36,7 @@ use Rattle.report.specs.Report.{Line, report_text}
 use Rattle.report.proofs.NamedLaws.{names_of_lines, pages_of_lines}
 use Rattle.retriever.specs.Found.{Crew, crew_of, MaySay, MaySayRules, asks_of, IsFound, IsFrontFound, IsPartFound, IsReportFound, EndsFound, Finds, Outside, LiveEnd, Finished, Torn, Unchanged, IsPutAt, IsTornAt, live_text, live_status, torn_line, unchanged_line}
 use Rattle.retriever.specs.Live.{AreOfCrew, IsFrontLive, IsReportLive, IsRetrievedLive, IsStoppedLive, EndsLive, Lives}
-use Rattle.retriever.specs.Mirrored.{IsPutAs, IsHalfPutAs, kept_as_named, kept_by, links_become}
+use Rattle.retriever.specs.Mirrored.{IsPutAs, IsHalfPutAs, kept_as_named, kept_by, changes_of, how_changed}
 use Rattle.retriever.specs.Parts.{shown_of}
 use Rattle.run_mirror.specs.Mirrors.{Kept}
 use Rattle.retriever.specs.Retrieved.{Retrieved, Stopped}
@@ -126,20 +126,20 @@ module _ {B : Type 0} (keeps : Keeping B) (naming : PageNames) (h : Harvested B)
       ap (λ (ns : List (List ℕ)). kept_as_named h ns) (given keeps.kind_of naming h names read are)
       ∙ ap (λ (pages : List (List ℕ)). record { kept = pages; names = names_in lines; records = h.records }) (sym (pages_of_lines h names read.0 read.1 read.2 long))
 
-  put_at : (converts all : Bool) (old new : Holding) → IsOnce (keys h.state.entries) → IsPutAs converts all keeps (kept_as_named h names) h.bodies old new → new.failed ≡ old.failed
-      → IsPutAt converts all keeps (answers h.state) (harvest_lines_of h names) h.bodies old new
-  put_at false false old new once put quiet = put
-  put_at false true old new once put quiet =
+  put_at : (changed : Option Bool) (all : Bool) (old new : Holding) → IsOnce (keys h.state.entries) → IsPutAs changed all keeps (kept_as_named h names) h.bodies old new → new.failed ≡ old.failed
+      → IsPutAt changed all keeps (answers h.state) (harvest_lines_of h names) h.bodies old new
+  put_at None false old new once put quiet = put
+  put_at None true old new once put quiet =
       (subst (λ (ns : List (List ℕ)). IsShelved keeps.holds ns h.bodies old.files new.files) (given keeps.kind_of naming h names read are) put, quiet)
-  put_at true all old new once put quiet =
-      (h.records, records_of h read.1 once, subst (λ (k : Kept). IsShelvedAs (links_become k) all keeps.holds k.names h.bodies old new) kept_of_lines put, quiet)
+  put_at (Some backs_up) all old new once put quiet =
+      (h.records, records_of h read.1 once, subst (λ (k : Kept). IsShelvedAs (changes_of backs_up k) all keeps.holds k.names h.bodies old new) kept_of_lines put, quiet)
 
-  torn_at : (converts : Bool) (old new : Holding) (whole : ℕ) → IsOnce (keys h.state.entries) → IsHalfPutAs converts keeps (kept_as_named h names) h.bodies old new whole
-      → IsTornAt converts keeps (answers h.state) (harvest_lines_of h names) h.bodies old new whole
-  torn_at false old new whole once torn =
+  torn_at : (changed : Option Bool) (old new : Holding) (whole : ℕ) → IsOnce (keys h.state.entries) → IsHalfPutAs changed keeps (kept_as_named h names) h.bodies old new whole
+      → IsTornAt changed keeps (answers h.state) (harvest_lines_of h names) h.bodies old new whole
+  torn_at None old new whole once torn =
       subst (λ (ns : List (List ℕ)). IsHalfShelved keeps.holds ns h.bodies old new whole) (given keeps.kind_of naming h names read are) torn
-  torn_at true old new whole once torn =
-      (h.records, records_of h read.1 once, subst (λ (k : Kept). IsHalfShelvedAs (links_become k) keeps.holds k.names h.bodies old new whole) kept_of_lines torn)
+  torn_at (Some backs_up) old new whole once torn =
+      (h.records, records_of h read.1 once, subst (λ (k : Kept). IsHalfShelvedAs (changes_of backs_up k) keeps.holds k.names h.bodies old new whole) kept_of_lines torn)
 
 -- no address is held twice
 once_held : {B : Type 0} (plan : Plan) (h : Harvested B) → IsRead h → h.plan ≡ Some plan → IsOnce (keys h.state.entries)
@@ -167,7 +167,7 @@ module _ {F B : Type 0} (crew : Crew F B) (order : Order) (old new : Holding) (I
   -- a harvest of which a report with any names is known to be so
   ended : (h : Harvested B) → AreMadeOnce (asks_of crew) → h.plan ≡ Some order.plan
       → ((names : List (List ℕ)) → IsRead h → AreNamesOf order.names h.kept (kinds_of crew.keeps.kind_of h.bodies) names → IsReportLive crew order (answers h.state) h.trace (harvest_lines_of h names) h.bodies)
-      → IsHarvestPut order.converts crew.keeps IsTold order.names order.trace h old new → EndsTold
+      → IsHarvestPut (how_changed order.converts order.backs_up) crew.keeps IsTold order.names order.trace h old new → EndsTold
   ended h once follows live (inl (same, told)) = ([], Finished (Stopped why.Memory), (once, inl refl, inl same), told)
   ended h once follows live (inr (read, names, naming, inl (true, put, quiet, told))) =
       let lines = harvest_lines_of h names in (
@@ -179,7 +179,7 @@ module _ {F B : Type 0} (crew : Crew F B) (order : Order) (old new : Holding) (I
           h.bodies,
           live names read naming,
           refl,
-          put_at crew.keeps order.names h names read naming order.converts true old new (once_held order.plan h read follows) put quiet,
+          put_at crew.keeps order.names h names read naming (how_changed order.converts order.backs_up) true old new (once_held order.plan h read follows) put quiet,
         ),
         subst (λ (wanted : ℕ). IsTold (trace_text (shown_of order.trace h.trace) ++ report_text lines) wanted) (status_of order h names read follows) told,
       )
@@ -193,7 +193,7 @@ module _ {F B : Type 0} (crew : Crew F B) (order : Order) (old new : Holding) (I
           h.bodies,
           live names read naming,
           refl,
-          put_at crew.keeps order.names h names read naming order.converts false old new (once_held order.plan h read follows) put quiet,
+          put_at crew.keeps order.names h names read naming (how_changed order.converts order.backs_up) false old new (once_held order.plan h read follows) put quiet,
         ),
         subst (λ (text : List ℕ). IsTold text 3) (append_assoc (trace_text (shown_of order.trace h.trace)) (report_text lines) unchanged_line) told,
       )
@@ -207,7 +207,7 @@ module _ {F B : Type 0} (crew : Crew F B) (order : Order) (old new : Holding) (I
           h.bodies,
           live names read naming,
           refl,
-          torn_at crew.keeps order.names h names read naming order.converts old new whole (once_held order.plan h read follows) torn,
+          torn_at crew.keeps order.names h names read naming (how_changed order.converts order.backs_up) old new whole (once_held order.plan h read follows) torn,
         ),
         subst (λ (text : List ℕ). IsTold text 3) (append_assoc (trace_text (shown_of order.trace h.trace)) (report_text lines) (torn_line whole)) told,
       )
@@ -224,7 +224,7 @@ module _ {F B : Type 0} (crew : Crew F B) (order : Order) (old new : Holding) (I
         h.bodies,
         whole,
         live names read naming,
-        torn_at crew.keeps order.names h names read naming order.converts old new whole (once_held order.plan h read follows) torn,
+        torn_at crew.keeps order.names h names read naming (how_changed order.converts order.backs_up) old new whole (once_held order.plan h read follows) torn,
       ),
     ),
     told,
@@ -238,14 +238,14 @@ module _ {F B : Type 0} (crew : Crew F B) (order : Order) (old new : Holding) (I
 
   -- a front, or nothing because memory ran out: which is no end for the quota
   fronted : (h : Harvested B) → IsStopped (MaySay crew) (MaySayRules crew) order.plan (asks_of crew) why.Quota h → IsPassed order.quota (sum_by crew.keeps.len_of h.bodies)
-      → AreOfCrew crew h.trace → IsHarvestPut order.converts crew.keeps IsTold order.names order.trace h old new → EndsTold
+      → AreOfCrew crew h.trace → IsHarvestPut (how_changed order.converts order.backs_up) crew.keeps IsTold order.names order.trace h old new → EndsTold
   fronted h (inl part) passed by put =
       ended h (made_once (asks_of crew) part.once) part.follows (λ names read naming. inr (passed, front crew order.plan order.names h names part read naming by, refl)) put
   fronted h (inr empty) passed by put = (let memory : why.Quota ≡ why.Memory = empty.memory in cc)
 
   stopped : (cause : Cause) (h : Harvested B) → (cause ≢ why.Mismatch → IsStopped (MaySay crew) (MaySayRules crew) order.plan (asks_of crew) cause h) → (cause ≡ why.Full → HasTooMany (policy order.plan) (answers h.state))
       → (length crew.first ≡ 1 → cause ≢ why.Mismatch) → (cause ≡ why.Quota → IsPassed order.quota (sum_by crew.keeps.len_of h.bodies)) → (cause ≢ why.Mismatch → AreOfCrew crew h.trace)
-      → IsStopPut order.converts crew.keeps IsTold order.names order.trace cause h old new → EndsTold
+      → IsStopPut (how_changed order.converts order.backs_up) crew.keeps IsTold order.names order.trace cause h old new → EndsTold
   stopped why.Full h stop many one passed by (same, inl told) =
       elim (stop (λ is. cc)) [
         | inl part ↦ (shown_of order.trace h.trace, Finished (Stopped why.Full), (h.trace, part_retrieved crew order.plan why.Full h part many (by (λ is. cc)), refl, same), told)
@@ -275,7 +275,7 @@ module _ {F B : Type 0} (crew : Crew F B) where
       → (length crew.first ≡ 1 → IfErr r (λ halt. halt.cause ≢ why.Mismatch))
       → IfOk r (λ h. AreOfCrew crew h.trace) × IfErr r (λ halt. halt.cause ≢ why.Mismatch → AreOfCrew crew halt.harvest.trace)
       → KeepsTo order.quota crew.keeps.len_of r
-      → IsPutOf order.converts crew.keeps IsTold order.names order.trace r old new → EndsTold crew order old new IsTold
+      → IsPutOf (how_changed order.converts order.backs_up) crew.keeps IsTold order.names order.trace r old new → EndsTold crew order old new IsTold
   crew_ends order (Ok h) old new IsTold is stop full one by keeps put =
       ended crew order old new IsTold h (made_once (asks_of crew) is.once) is.follows
       (λ names read naming. inl (keeps.within, retrieved crew order.plan order.names h names is read naming by.0, refl)) put

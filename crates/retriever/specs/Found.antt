@@ -1,6 +1,6 @@
 -- What a live retrieval found, what it writes of that and what it leaves in its folder, with no word of how it came there: which
 -- events led to it says `Live`. What a live site answers isn't known beforehand, so all is said of what was recorded.
-use Rattle.std.specs.Prelude.{◌≡◌, ◌≢◌, ◌⊎◌, ℕ, Bool, List, [], ◌++◌, length, codes, Option, Contains, true, false}
+use Rattle.std.specs.Prelude.{◌≡◌, ◌≢◌, ◌⊎◌, ℕ, Bool, List, [], ◌++◌, length, codes, Option, Some, None, Contains, true, false}
 use Rattle.std.specs.Fmt.{decimal}
 use Rattle.std.specs.List.{AllZip, sum_by}
 use Rattle.follow_filters.specs.declared.plan.Plan.{Plan}
@@ -27,7 +27,7 @@ use Rattle.local_tree.specs.Shelves.{IsShelved, IsHalfShelved}
 use Rattle.report.specs.Named.{named_pages, names_in}
 use Rattle.report.specs.Report.{Line, report_text}
 use Rattle.retriever.specs.Keeping.{Keeping, kinds_of}
-use Rattle.retriever.specs.Mirrored.{AreRecordsOf, kept_by, links_become}
+use Rattle.retriever.specs.Mirrored.{AreRecordsOf, changes_of, how_changed, kept_by}
 use Rattle.retriever.specs.Parts.{IsDelivered}
 use Rattle.retriever.specs.Retrieved.{Finish, Retrieved, Stopped}
 use Rattle.retriever.specs.Run.{finish_text, finish_status}
@@ -130,18 +130,18 @@ live_status (Unchanged lines) = 3
 
 -- so many of the files of these lines are whole, the next may hold anything, and all else is as before; if links are changed, a file is
 -- whole that has its body or that with its links changed
-abbrev pub IsTornAt : {B : Type 0} → Bool → Keeping B → Answers → List Line → List B → Holding → Holding → ℕ → Type 0
-IsTornAt false keeps m lines bodies old new whole = IsHalfShelved keeps.holds (names_in lines) bodies old new whole
-IsTornAt true keeps m lines bodies old new whole =
-    (records : List Recorded) × AreRecordsOf m records × IsHalfShelvedAs (links_become (kept_by lines records)) keeps.holds (names_in lines) bodies old new whole
+abbrev pub IsTornAt : {B : Type 0} → Option Bool → Keeping B → Answers → List Line → List B → Holding → Holding → ℕ → Type 0
+IsTornAt None keeps m lines bodies old new whole = IsHalfShelved keeps.holds (names_in lines) bodies old new whole
+IsTornAt (Some backs_up) keeps m lines bodies old new whole =
+    (records : List Recorded) × AreRecordsOf m records × IsHalfShelvedAs (changes_of backs_up (kept_by lines records)) keeps.holds (names_in lines) bodies old new whole
 
 -- all files of these lines are whole, and all else is as before; if links are changed, each has its body with its links changed, or, if not
--- all could be, some have their bodies
-abbrev pub IsPutAt : {B : Type 0} → Bool → Bool → Keeping B → Answers → List Line → List B → Holding → Holding → Type 0
-IsPutAt false false keeps m lines bodies old new = ⊥
-IsPutAt false true keeps m lines bodies old new = IsShelved keeps.holds (names_in lines) bodies old.files new.files × (new.failed ≡ old.failed)
-IsPutAt true all keeps m lines bodies old new =
-    (records : List Recorded) × AreRecordsOf m records × IsShelvedAs (links_become (kept_by lines records)) all keeps.holds (names_in lines) bodies old new
+-- all could be, some have their bodies; and with backups each body that isn't its file's is beside it as it came
+abbrev pub IsPutAt : {B : Type 0} → Option Bool → Bool → Keeping B → Answers → List Line → List B → Holding → Holding → Type 0
+IsPutAt None false keeps m lines bodies old new = ⊥
+IsPutAt None true keeps m lines bodies old new = IsShelved keeps.holds (names_in lines) bodies old.files new.files × (new.failed ≡ old.failed)
+IsPutAt (Some backs_up) all keeps m lines bodies old new =
+    (records : List Recorded) × AreRecordsOf m records × IsShelvedAs (changes_of backs_up (kept_by lines records)) all keeps.holds (names_in lines) bodies old new
     × (new.failed ≡ old.failed)
 
 -- The retrieval that is ordered found what is to be found, or a front of it as large as the quota, and this came of it. Before its end nothing is put into the folder.
@@ -149,16 +149,16 @@ IsPutAt true all keeps m lines bodies old new =
 -- and may do so when a put has failed. A check of several workers may fail; then nothing more is said.
 abbrev pub EndsFound : {F B : Type 0} → Crew F B → Order → Holding → Holding → LiveEnd → Type 0
 EndsFound {B = B} crew order old new (Finished (Retrieved lines)) =
-    (m : Answers) × (bodies : List B) × IsReportFound crew order m lines bodies × IsPutAt order.converts true crew.keeps m lines bodies old new
+    (m : Answers) × (bodies : List B) × IsReportFound crew order m lines bodies × IsPutAt (how_changed order.converts order.backs_up) true crew.keeps m lines bodies old new
 EndsFound {B = B} crew order old new (Torn lines whole) =
-    (m : Answers) × (bodies : List B) × IsReportFound crew order m lines bodies × IsTornAt order.converts crew.keeps m lines bodies old new whole
+    (m : Answers) × (bodies : List B) × IsReportFound crew order m lines bodies × IsTornAt (how_changed order.converts order.backs_up) crew.keeps m lines bodies old new whole
 EndsFound {B = B} crew order old new (Unchanged lines) =
-    (m : Answers) × (bodies : List B) × IsReportFound crew order m lines bodies × IsPutAt order.converts false crew.keeps m lines bodies old new
+    (m : Answers) × (bodies : List B) × IsReportFound crew order m lines bodies × IsPutAt (how_changed order.converts order.backs_up) false crew.keeps m lines bodies old new
 EndsFound crew order old new (Finished (Stopped cause.Full)) = (m : Answers) × IsPartFound crew order.plan m × HasTooMany (policy order.plan) m × (new ≡ old)
 EndsFound {B = B} crew order old new (Finished (Stopped cause.Memory)) =
     AreMadeOnce (asks_of crew)
     × ((new ≡ old) ⊎ ((m : Answers) × (lines : List Line) × (bodies : List B) × (whole : ℕ) × IsReportFound crew order m lines bodies
-    × IsTornAt order.converts crew.keeps m lines bodies old new whole))
+    × IsTornAt (how_changed order.converts order.backs_up) crew.keeps m lines bodies old new whole))
 EndsFound crew order old new (Finished (Stopped cause.Mismatch)) = (length crew.first ≢ 1) × (new ≡ old)
 EndsFound crew order old new (Finished (Stopped cause.Quota)) = ⊥
 

@@ -22,6 +22,7 @@ use Rattle.local_tree.specs.Folders.{Holding}
 use Rattle.report.specs.Report.{Line}
 use Rattle.retriever.specs.Found.{Crew, crew_of, asks_of, IsFound, IsFrontFound, IsPartFound, Outside, LiveEnd, Finished, Torn, Unchanged, IsTornAt, IsPutAt, live_text, live_status}
 use Rattle.retriever.specs.Keeping.{Keeping}
+use Rattle.retriever.specs.Mirrored.{how_changed}
 use Rattle.retriever.specs.Parts.{IsDelivered, shown_of}
 use Rattle.retriever.specs.Retrieved.{Retrieved, Stopped}
 use Rattle.report.specs.Trace.{trace_text}
@@ -78,19 +79,19 @@ IsReportLive crew order m events lines bodies =
 abbrev pub EndsLive : {F B : Type 0} → Crew F B → Order → Holding → Holding → List Event → LiveEnd → Type 0
 EndsLive {B = B} crew order old new shown (Finished (Retrieved lines)) =
     (events : List Event) × (m : Answers) × (bodies : List B) × IsReportLive crew order m events lines bodies × (shown ≡ shown_of order.trace events)
-    × IsPutAt order.converts true crew.keeps m lines bodies old new
+    × IsPutAt (how_changed order.converts order.backs_up) true crew.keeps m lines bodies old new
 EndsLive {B = B} crew order old new shown (Torn lines whole) =
     (events : List Event) × (m : Answers) × (bodies : List B) × IsReportLive crew order m events lines bodies × (shown ≡ shown_of order.trace events)
-    × IsTornAt order.converts crew.keeps m lines bodies old new whole
+    × IsTornAt (how_changed order.converts order.backs_up) crew.keeps m lines bodies old new whole
 EndsLive {B = B} crew order old new shown (Unchanged lines) =
     (events : List Event) × (m : Answers) × (bodies : List B) × IsReportLive crew order m events lines bodies × (shown ≡ shown_of order.trace events)
-    × IsPutAt order.converts false crew.keeps m lines bodies old new
+    × IsPutAt (how_changed order.converts order.backs_up) false crew.keeps m lines bodies old new
 EndsLive crew order old new shown (Finished (Stopped cause.Full)) =
     (events : List Event) × IsStoppedLive crew order.plan cause.Full events × (shown ≡ shown_of order.trace events) × (new ≡ old)
 EndsLive {B = B} crew order old new shown (Finished (Stopped cause.Memory)) =
     AreMadeOnce (asks_of crew) × ((shown ≡ []) ⊎ ((events : List Event) × IsStoppedLive crew order.plan cause.Memory events × (shown ≡ shown_of order.trace events)))
     × ((new ≡ old) ⊎ ((events : List Event) × (m : Answers) × (lines : List Line) × (bodies : List B) × (whole : ℕ) × IsReportLive crew order m events lines bodies
-    × IsTornAt order.converts crew.keeps m lines bodies old new whole))
+    × IsTornAt (how_changed order.converts order.backs_up) crew.keeps m lines bodies old new whole))
 EndsLive crew order old new shown (Finished (Stopped cause.Mismatch)) = (length crew.first ≢ 1) × (shown ≡ []) × (new ≡ old)
 EndsLive crew order old new shown (Finished (Stopped cause.Quota)) = ⊥
 

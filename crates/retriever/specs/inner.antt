@@ -1,4 +1,5 @@
 -- Definitions that proofs alone need: no public clause cites them.
+pub mod Backups
 pub mod Parts
 pub mod Program
 pub mod Live

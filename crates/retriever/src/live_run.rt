@@ -1,12 +1,12 @@
 //! A live retrieval: fetchers ask the site, its kept pages are put into a folder, and then the report is written.
-ghost use Rattle.std.specs.Prelude.{◌≡◌, ◌<◌, ◌≤◌, ◌++◌, IfOk, IfErr, Ok, OnOk, true, length, map, string_bytes, vec_len};
+ghost use Rattle.std.specs.Prelude.{◌≡◌, ◌<◌, ◌≤◌, ◌++◌, IfOk, IfErr, Ok, OnOk, Some, true, length, map, string_bytes, vec_len};
 ghost use Rattle.report.specs.ExitStatus.{exit_status};
 ghost use Rattle.local_tree.specs.Folders.{holding};
 ghost use Rattle.local_names.specs.Names.{AreDistinct};
 ghost use Rattle.retriever.specs.Found.{Finds, outside, torn_line, unchanged_line};
 ghost use Rattle.retriever.specs.Keeping.{kept_as};
 ghost use Rattle.retriever.specs.Live.{Lives};
-ghost use Rattle.retriever.specs.Mirrored.{IsPutAs, kept_as_named};
+ghost use Rattle.retriever.specs.Mirrored.{IsPutAs, how_changed, kept_as_named};
 ghost use Rattle.retriever.specs.inner.Live.{IsTornTold};
 ghost use Rattle.retriever.specs.inner.Parts.{IsToldAs, status_told};
 ghost use Rattle.retriever.specs.inner.Puts.{IsHalfPutBy, IsHaltTold, IsHarvestPut, IsPutAndTold, IsPutOf, IsPutTold, IsStopPut, bare_cause, files_whole};
@@ -140,39 +140,51 @@ fn tell_put<B: Drop, W: Write>(
     }
 }
 
+// Whether the links of an order's files are changed, and, if they are, whether bodies are kept beside them as they came.
+pub(crate) fn how_changed(order: &Order) -> Option<bool>
+    ensures { result ≡ how_changed order.now.converts order.now.backs_up }
+{
+    if order.converts {
+        Some(order.backs_up)
+    } else {
+        None
+    }
+}
+
 // Puts the kept pages of a harvest into the folder under these names, with their links changed. Whether all are that are to be.
 fn put_changed<B: HasKind + Drop, D: Shelf<B>>(
     alloc: Global,
+    backs_up: bool,
     names: &[String],
     harvest: &Harvest<B>,
     folder: &mut D,
 ) -> Result<bool, WriteFault>
     requires count { length names.now ≡ length harvest.now.kept }
     requires distinct { AreDistinct (map string_bytes names.now) }
-    ensures whole { IfOk result (λ all. IsPutAs true all (kept_as B.kind_of B.len_of D.holds) (kept_as_named harvest.now (map string_bytes names.now)) harvest.now.bodies (holding D.files D.failed folder.old) (holding D.files D.failed folder.new)) }
-    ensures torn { IfErr result (IsHalfPutBy true (kept_as B.kind_of B.len_of D.holds) (kept_as_named harvest.now (map string_bytes names.now)) harvest.now.bodies (holding D.files D.failed folder.old) (holding D.files D.failed folder.new)) }
+    ensures whole { IfOk result (λ all. IsPutAs (Some backs_up) all (kept_as B.kind_of B.len_of D.holds) (kept_as_named harvest.now (map string_bytes names.now)) harvest.now.bodies (holding D.files D.failed folder.old) (holding D.files D.failed folder.new)) }
+    ensures torn { IfErr result (IsHalfPutBy (Some backs_up) (kept_as B.kind_of B.len_of D.holds) (kept_as_named harvest.now (map string_bytes names.now)) harvest.now.bodies (holding D.files D.failed folder.old) (holding D.files D.failed folder.new)) }
     ensures quiet { OnOk result (D.failed folder.new ≡ D.failed folder.old) }
 {
-    let change = LinkChange::of(harvest, names);
+    let change = LinkChange::of(harvest, names, backs_up);
     write_changed_site(alloc, folder, names, harvest, &change)
 }
 
 // Puts the kept pages of a harvest into the folder under these names, with their links changed or not. Whether all are that are to be.
 fn put<B: HasKind + Drop, D: Shelf<B>>(
     alloc: Global,
-    converts: bool,
+    changed: Option<bool>,
     names: &[String],
     harvest: &Harvest<B>,
     folder: &mut D,
 ) -> Result<bool, WriteFault>
     requires count { length names.now ≡ length harvest.now.kept }
     requires distinct { AreDistinct (map string_bytes names.now) }
-    ensures whole { IfOk result (λ all. IsPutAs converts all (kept_as B.kind_of B.len_of D.holds) (kept_as_named harvest.now (map string_bytes names.now)) harvest.now.bodies (holding D.files D.failed folder.old) (holding D.files D.failed folder.new)) }
-    ensures torn { IfErr result (IsHalfPutBy converts (kept_as B.kind_of B.len_of D.holds) (kept_as_named harvest.now (map string_bytes names.now)) harvest.now.bodies (holding D.files D.failed folder.old) (holding D.files D.failed folder.new)) }
+    ensures whole { IfOk result (λ all. IsPutAs changed all (kept_as B.kind_of B.len_of D.holds) (kept_as_named harvest.now (map string_bytes names.now)) harvest.now.bodies (holding D.files D.failed folder.old) (holding D.files D.failed folder.new)) }
+    ensures torn { IfErr result (IsHalfPutBy changed (kept_as B.kind_of B.len_of D.holds) (kept_as_named harvest.now (map string_bytes names.now)) harvest.now.bodies (holding D.files D.failed folder.old) (holding D.files D.failed folder.new)) }
     ensures quiet { OnOk result (D.failed folder.new ≡ D.failed folder.old) }
 {
-    if converts {
-        return put_changed(alloc, names, harvest, folder);
+    if let Some(backs_up) = changed {
+        return put_changed(alloc, backs_up, names, harvest, folder);
     }
     match write_site(folder, names, harvest) {
         Ok(()) => Ok(true),
@@ -183,7 +195,7 @@ fn put<B: HasKind + Drop, D: Shelf<B>>(
 // Puts the kept pages of a harvest into the folder under these names, and then writes its text.
 fn put_and_tell<B: HasKind + Drop, D: Shelf<B>, W: Write>(
     alloc: Global,
-    converts: bool,
+    changed: Option<bool>,
     names: &[String],
     text: &str,
     harvest: &Harvest<B>,
@@ -192,10 +204,10 @@ fn put_and_tell<B: HasKind + Drop, D: Shelf<B>, W: Write>(
 ) -> Result<u8, WriteFailed>
     requires count { length names.now ≡ length harvest.now.kept }
     requires distinct { AreDistinct (map string_bytes names.now) }
-    ensures { IsPutAndTold converts (kept_as B.kind_of B.len_of D.holds) (IsToldAs (W.contents writer.old) (W.contents writer.new) result) (kept_as_named harvest.now (map string_bytes names.now)) harvest.now.bodies
+    ensures { IsPutAndTold changed (kept_as B.kind_of B.len_of D.holds) (IsToldAs (W.contents writer.old) (W.contents writer.new) result) (kept_as_named harvest.now (map string_bytes names.now)) harvest.now.bodies
         (text.now, exit_status (map (λ recorded. recorded.1) harvest.now.records)) (holding D.files D.failed folder.old) (holding D.files D.failed folder.new) }
 {
-    match put(alloc, converts, names, harvest, folder) {
+    match put(alloc, changed, names, harvest, folder) {
         Ok(all) => tell_put(all, harvest, text, writer),
         Err(fault) => tell_torn(alloc, text, files_whole(fault), writer),
     }
@@ -204,20 +216,20 @@ fn put_and_tell<B: HasKind + Drop, D: Shelf<B>, W: Write>(
 // Puts and writes a harvest, whose kept pages have their names by these rules; if there is no memory for its names and its text nothing is put.
 fn finish_harvest<B: HasKind + Drop, D: Shelf<B>, W: Write>(
     alloc: Global,
-    converts: bool,
+    changed: Option<bool>,
     naming: &PageNames,
     is_shown: bool,
     harvest: &Harvest<B>,
     folder: &mut D,
     writer: &mut W,
 ) -> Result<u8, WriteFailed>
-    ensures { IsHarvestPut converts (kept_as B.kind_of B.len_of D.holds) (IsToldAs (W.contents writer.old) (W.contents writer.new) result) naming.now is_shown harvest.now
+    ensures { IsHarvestPut changed (kept_as B.kind_of B.len_of D.holds) (IsToldAs (W.contents writer.old) (W.contents writer.new) result) naming.now is_shown harvest.now
         (holding D.files D.failed folder.old) (holding D.files D.failed folder.new) }
 {
     match telling_of(alloc, naming, is_shown, harvest) {
         Ok(telling) => put_and_tell(
             alloc,
-            converts,
+            changed,
             telling.names.as_slice(),
             telling.text.as_str(),
             harvest,
@@ -231,20 +243,20 @@ fn finish_harvest<B: HasKind + Drop, D: Shelf<B>, W: Write>(
 // Puts and tells what was retrieved before a stop: a front that the quota ended as a harvest, and of any other stop the cause.
 fn finish_halt<B: HasKind + Drop, D: Shelf<B>, W: Write>(
     alloc: Global,
-    converts: bool,
+    changed: Option<bool>,
     naming: &PageNames,
     is_shown: bool,
     halt: &Halt<B>,
     folder: &mut D,
     writer: &mut W,
 ) -> Result<u8, WriteFailed>
-    ensures { IsStopPut converts (kept_as B.kind_of B.len_of D.holds) (IsToldAs (W.contents writer.old) (W.contents writer.new) result) naming.now is_shown halt.now.cause halt.now.harvest
+    ensures { IsStopPut changed (kept_as B.kind_of B.len_of D.holds) (IsToldAs (W.contents writer.old) (W.contents writer.new) result) naming.now is_shown halt.now.cause halt.now.harvest
         (holding D.files D.failed folder.old) (holding D.files D.failed folder.new) }
 {
     match halt.cause {
         Cause::Quota => finish_harvest(
             alloc,
-            converts,
+            changed,
             naming,
             is_shown,
             &halt.harvest,
@@ -261,19 +273,19 @@ fn finish_halt<B: HasKind + Drop, D: Shelf<B>, W: Write>(
 /// that the writer failed.
 pub(crate) fn finish<B: HasKind + Drop, D: Shelf<B>, W: Write>(
     alloc: Global,
-    converts: bool,
+    changed: Option<bool>,
     naming: &PageNames,
     is_shown: bool,
     retrieved: &Result<Harvest<B>, Halt<B>>,
     folder: &mut D,
     writer: &mut W,
 ) -> Result<u8, WriteFailed>
-    ensures { IsPutOf converts (kept_as B.kind_of B.len_of D.holds) (IsToldAs (W.contents writer.old) (W.contents writer.new) result) naming.now is_shown retrieved.now
+    ensures { IsPutOf changed (kept_as B.kind_of B.len_of D.holds) (IsToldAs (W.contents writer.old) (W.contents writer.new) result) naming.now is_shown retrieved.now
         (holding D.files D.failed folder.old) (holding D.files D.failed folder.new) }
 {
     match retrieved {
-        Ok(harvest) => finish_harvest(alloc, converts, naming, is_shown, harvest, folder, writer),
-        Err(halt) => finish_halt(alloc, converts, naming, is_shown, halt, folder, writer),
+        Ok(harvest) => finish_harvest(alloc, changed, naming, is_shown, harvest, folder, writer),
+        Err(halt) => finish_halt(alloc, changed, naming, is_shown, halt, folder, writer),
     }
 }
 
@@ -318,7 +330,7 @@ where
     drop(left);
     let told = finish(
         alloc,
-        order.converts,
+        how_changed(order),
         &order.names,
         order.trace,
         &retrieved,

@@ -7,7 +7,7 @@ ghost use Rattle.retriever.specs.inner.Parts.{IsToldAs};
 ghost use Rattle.retriever.specs.Saving.{IsSaved, LivesResumed, LivesSaved, notes_of, outside_saved, resumes, resuming_of, save_status, save_text, unsaved_status};
 
 use crate::input_run::deliver;
-use crate::live_run::finish;
+use crate::live_run::{finish, how_changed};
 use crate::quota::ByLength;
 use answer_notes::{Noted, Recording};
 use kept_bodies::Body;
@@ -140,7 +140,7 @@ pub(crate) fn live_saved<
     drop(left);
     let told = finish(
         alloc,
-        order.converts,
+        how_changed(order),
         &order.names,
         order.trace,
         &retrieved,

@@ -1,6 +1,6 @@
 //! Bodies that a keeper has put on the disk, and that a folder gives their names.
 ghost use Rattle.std.specs.Prelude.{◌≡◌, ℕ, IfErr, OnOk, ⊤, length, map, string_bytes};
-ghost use Rattle.local_tree.specs.Changes.{IsHalfShelvedAsBy};
+ghost use Rattle.local_tree.specs.Changes.{IsHalfShelvedAsBy, change_by};
 ghost use Rattle.local_tree.specs.Folders.{CountsRefusedPut, untold};
 ghost use Rattle.local_tree.specs.Shelves.{AreNamedBy, IsHalfShelvedBy, MakesOnePut};
 
@@ -388,7 +388,7 @@ pub fn put_changed_parts<D: NamesParts, C: BodyChange + Sync>(
 ) -> Result<bool, WriteFault>
     requires { length names.now ≡ length harvest.now.kept }
     // As of a folder that tells no files.
-    ensures torn { IfErr result (IsHalfShelvedAsBy (C.becomes change.now) (λ part body. ⊤) (map string_bytes names.now) harvest.now.bodies (untold (D.failed folder.old)) (untold (D.failed folder.new))) }
+    ensures torn { IfErr result (IsHalfShelvedAsBy (change_by C.becomes C.backups change.now) (λ part body. ⊤) (map string_bytes names.now) harvest.now.bodies (untold (D.failed folder.old)) (untold (D.failed folder.new))) }
     ensures named { IfErr result (AreNamedBy (length names.now) (D.failed folder.old) (D.failed folder.new)) }
     ensures quiet { OnOk result (D.failed folder.new ≡ D.failed folder.old) }
 {

@@ -1,6 +1,6 @@
 -- What is put into a folder and written of what was retrieved, before it is said what that is. How a text is written, with the
 -- status that belongs to it, is left to who says it.
-use Rattle.std.specs.Prelude.{◌≡◌, ◌⊎◌, ◌&&◌, ℕ, Bool, true, false, List, ◌++◌, map, codes, Result, Ok, Err}
+use Rattle.std.specs.Prelude.{◌≡◌, ◌⊎◌, ◌&&◌, ℕ, Bool, true, false, List, Option, ◌++◌, map, codes, Result, Ok, Err}
 use Rattle.frontier_core.specs.declared.event.Cause.{Cause}
 use Rattle.frontier_core.specs.declared.event.Cause.TheVariants as cause
 use Rattle.harvest.specs.Harvests.{Harvested}
@@ -42,8 +42,8 @@ abbrev pub files_whole : WriteFault → ℕ
 files_whole (Device whole) = whole
 
 -- the count in a fault's place
-abbrev pub IsHalfPutBy : {B : Type 0} → Bool → Keeping B → Kept → List B → Holding → Holding → WriteFault → Type 0
-IsHalfPutBy converts keeps kept bodies old new (Device whole) = IsHalfPutAs converts keeps kept bodies old new whole
+abbrev pub IsHalfPutBy : {B : Type 0} → Option Bool → Keeping B → Kept → List B → Holding → Holding → WriteFault → Type 0
+IsHalfPutBy changed keeps kept bodies old new (Device whole) = IsHalfPutAs changed keeps kept bodies old new whole
 
 -- this text is told with this status; or, if not all were changed, with the line that says so
 abbrev pub IsPutTold : (List ℕ → ℕ → Type 0) → Bool → List ℕ × ℕ → Type 0
@@ -51,31 +51,31 @@ IsPutTold IsTold true (text, wanted) = IsTold text wanted
 IsPutTold IsTold false (text, wanted) = IsTold (text ++ unchanged_line) 3
 
 -- these files were put, with links changed or not, and then it was told; or a put failed
-abbrev pub IsPutAndTold : {B : Type 0} → Bool → Keeping B → (List ℕ → ℕ → Type 0) → Kept → List B → List ℕ × ℕ → Holding → Holding → Type 0
-IsPutAndTold converts keeps IsTold kept bodies (text, wanted) old new =
-    ((all : Bool) × IsPutAs converts all keeps kept bodies old new × (new.failed ≡ old.failed) × IsPutTold IsTold all (text, wanted))
-    ⊎ ((whole : ℕ) × IsHalfPutAs converts keeps kept bodies old new whole × IsTornTold IsTold text whole)
+abbrev pub IsPutAndTold : {B : Type 0} → Option Bool → Keeping B → (List ℕ → ℕ → Type 0) → Kept → List B → List ℕ × ℕ → Holding → Holding → Type 0
+IsPutAndTold changed keeps IsTold kept bodies (text, wanted) old new =
+    ((all : Bool) × IsPutAs changed all keeps kept bodies old new × (new.failed ≡ old.failed) × IsPutTold IsTold all (text, wanted))
+    ⊎ ((whole : ℕ) × IsHalfPutAs changed keeps kept bodies old new whole × IsTornTold IsTold text whole)
 
 -- the text of a harvest whose kept pages have these names
 abbrev pub harvest_text : {B : Type 0} → Bool → Harvested B → List (List ℕ) → List ℕ
 harvest_text is_shown h names = trace_text (shown_of is_shown h.trace) ++ report_text (harvest_lines_of h names)
 
 -- what is put and told of a harvest that was read: its kept pages and its report; or there is no memory for it, and nothing is put
-abbrev pub IsHarvestPut : {B : Type 0} → Bool → Keeping B → (List ℕ → ℕ → Type 0) → PageNames → Bool → Harvested B → Holding → Holding → Type 0
-IsHarvestPut converts keeps IsTold naming is_shown h old new =
+abbrev pub IsHarvestPut : {B : Type 0} → Option Bool → Keeping B → (List ℕ → ℕ → Type 0) → PageNames → Bool → Harvested B → Holding → Holding → Type 0
+IsHarvestPut changed keeps IsTold naming is_shown h old new =
     ((new ≡ old) × IsTold (codes "stopped memory\n") 1)
     ⊎ (IsRead h × (names : List (List ℕ)) × AreNamesOf naming h.kept (kinds_of keeps.kind_of h.bodies) names
-    × IsPutAndTold converts keeps IsTold (kept_as_named h names) h.bodies (harvest_text is_shown h names, exit_status (map (λ recorded. recorded.1) h.records)) old new)
+    × IsPutAndTold changed keeps IsTold (kept_as_named h names) h.bodies (harvest_text is_shown h names, exit_status (map (λ recorded. recorded.1) h.records)) old new)
 
 -- what is put and written of a retrieval that stopped for this cause: if that is the quota, the same as of a harvest,
 -- and else the line of the cause
-abbrev pub IsStopPut : {B : Type 0} → Bool → Keeping B → (List ℕ → ℕ → Type 0) → PageNames → Bool → Cause → Harvested B → Holding → Holding → Type 0
-IsStopPut converts keeps IsTold naming is_shown cause.Quota h old new = IsHarvestPut converts keeps IsTold naming is_shown h old new
-IsStopPut converts keeps IsTold naming is_shown cause.Full h old new = (new ≡ old) × IsHaltTold IsTold is_shown (record { cause = cause.Full; harvest = h })
-IsStopPut converts keeps IsTold naming is_shown cause.Memory h old new = (new ≡ old) × IsHaltTold IsTold is_shown (record { cause = cause.Memory; harvest = h })
-IsStopPut converts keeps IsTold naming is_shown cause.Mismatch h old new = (new ≡ old) × IsHaltTold IsTold is_shown (record { cause = cause.Mismatch; harvest = h })
+abbrev pub IsStopPut : {B : Type 0} → Option Bool → Keeping B → (List ℕ → ℕ → Type 0) → PageNames → Bool → Cause → Harvested B → Holding → Holding → Type 0
+IsStopPut changed keeps IsTold naming is_shown cause.Quota h old new = IsHarvestPut changed keeps IsTold naming is_shown h old new
+IsStopPut changed keeps IsTold naming is_shown cause.Full h old new = (new ≡ old) × IsHaltTold IsTold is_shown (record { cause = cause.Full; harvest = h })
+IsStopPut changed keeps IsTold naming is_shown cause.Memory h old new = (new ≡ old) × IsHaltTold IsTold is_shown (record { cause = cause.Memory; harvest = h })
+IsStopPut changed keeps IsTold naming is_shown cause.Mismatch h old new = (new ≡ old) × IsHaltTold IsTold is_shown (record { cause = cause.Mismatch; harvest = h })
 
 -- what is put and written of what was retrieved
-abbrev pub IsPutOf : {B : Type 0} → Bool → Keeping B → (List ℕ → ℕ → Type 0) → PageNames → Bool → Result (Harvested B) (Halt B) → Holding → Holding → Type 0
-IsPutOf converts keeps IsTold naming is_shown (Ok h) old new = IsHarvestPut converts keeps IsTold naming is_shown h old new
-IsPutOf converts keeps IsTold naming is_shown (Err halt) old new = IsStopPut converts keeps IsTold naming is_shown halt.cause halt.harvest old new
+abbrev pub IsPutOf : {B : Type 0} → Option Bool → Keeping B → (List ℕ → ℕ → Type 0) → PageNames → Bool → Result (Harvested B) (Halt B) → Holding → Holding → Type 0
+IsPutOf changed keeps IsTold naming is_shown (Ok h) old new = IsHarvestPut changed keeps IsTold naming is_shown h old new
+IsPutOf changed keeps IsTold naming is_shown (Err halt) old new = IsStopPut changed keeps IsTold naming is_shown halt.cause halt.harvest old new

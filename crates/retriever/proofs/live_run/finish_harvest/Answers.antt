@@ -22,6 +22,6 @@ returns-in-Ok g c =
       given.read,
       map string_bytes telling.names.items,
       given.naming,
-      subst (λ (text : List ℕ). IsPutAndTold c.args.converts keeps is_told (kept_as_named h (map string_bytes telling.names.items)) h.bodies (text, wanted) old new) (c.as_str.ensures.value ∙ given.text)
-          (subst (λ (names : List (String Global)). IsPutAndTold c.args.converts keeps is_told (kept_as_named h (map string_bytes names)) h.bodies (c.as_str.result.now, wanted) old new) c.as_slice.ensures.value c.put_and_tell.ensures),
+      subst (λ (text : List ℕ). IsPutAndTold c.args.changed keeps is_told (kept_as_named h (map string_bytes telling.names.items)) h.bodies (text, wanted) old new) (c.as_str.ensures.value ∙ given.text)
+          (subst (λ (names : List (String Global)). IsPutAndTold c.args.changed keeps is_told (kept_as_named h (map string_bytes names)) h.bodies (c.as_str.result.now, wanted) old new) c.as_slice.ensures.value c.put_and_tell.ensures),
     )

@@ -9,9 +9,9 @@ use Rattle.retriever.specs.inner.Puts.{IsHalfPutBy, files_whole}
 use Rattle.run_mirror.specs.Mirrors.{Kept}
 use Rattle.retriever.proofs.live_run.put_and_tell.Goals as goal
 
-torn_is : {B : Type 0} (converts : Bool) (keeps : Keeping B) (kept : Kept) (bodies : List B) (old new : Holding) (fault : WriteFault) (whole : ℕ) → whole ≡ files_whole fault
-    → IsHalfPutBy converts keeps kept bodies old new fault → IsHalfPutAs converts keeps kept bodies old new whole
-torn_is converts keeps kept bodies old new (Device k) whole is torn = subst (λ (n : ℕ). IsHalfPutAs converts keeps kept bodies old new n) (sym is) torn
+torn_is : {B : Type 0} (changed : Option Bool) (keeps : Keeping B) (kept : Kept) (bodies : List B) (old new : Holding) (fault : WriteFault) (whole : ℕ) → whole ≡ files_whole fault
+    → IsHalfPutBy changed keeps kept bodies old new fault → IsHalfPutAs changed keeps kept bodies old new whole
+torn_is changed keeps kept bodies old new (Device k) whole is torn = subst (λ (n : ℕ). IsHalfPutAs changed keeps kept bodies old new n) (sym is) torn
 
 pub returns-in-Ok : goal.returns-in-Ok
 returns-in-Ok g c = inl (c.in-Ok.all, c.in-Ok.ensures.whole, c.in-Ok.ensures.quiet, c.tell_put.ensures)

@@ -3,7 +3,7 @@ use Rattle.std.proofs.Common.{◌≡◌, List, map}
 use Rattle.std.specs.List.{AllZip}
 use Rattle.std.specs.String.{string_bytes}
 use Rattle.kept_bodies.specs.Bodies.{BodyValue}
-use Rattle.local_tree.specs.Changes.{AreChanged}
+use Rattle.local_tree.specs.Changes.{AreChanged, change_by}
 use Rattle.local_tree.specs.SiteFiles.{OfFiles}
 use Rattle.local_tree.proofs.shelf.Shelf.put_changed_harvest.Given as goal
 
@@ -11,6 +11,6 @@ abbrev pub invariant-loop-i : goal.invariant-loop-i
 invariant-loop-i g l =
     record {
       files : (bodies : List BodyValue) → AllZip g.Self.Shelf.holds l.harvest.bodies bodies
-          → OfFiles (g.Self.Folder.files l.initial.self) (g.Self.Folder.files l.self) (AreChanged (g.C.BodyChange.becomes l.change) l.are_all l.i l.i (map string_bytes l.names) bodies);
+          → OfFiles (g.Self.Folder.files l.initial.self) (g.Self.Folder.files l.self) (AreChanged (change_by g.C.BodyChange.becomes g.C.BodyChange.backups l.change) l.are_all l.i l.i (map string_bytes l.names) bodies);
       quiet : g.Self.Folder.failed l.self ≡ g.Self.Folder.failed l.initial.self;
     }
