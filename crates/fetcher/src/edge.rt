@@ -103,7 +103,7 @@ impl Edges {
     }
 
     /// Puts an equal address in the place of the target of edge k, counted from 0: then both share one text, and that of
-    /// the old target is let go. If copies share the edges nothing happens. Takes no memory.
+    /// the old target is dropped. If copies share the edges nothing happens. Takes no memory.
     pub fn share_text(&mut self, k: usize, address: &Address)
         requires { IfSome (slice_get self.old k) (λ edge. edge.target ≡ address.now) }
         ensures { self.new ≡ self.old }
