@@ -1,17 +1,17 @@
 //! What asks over TCP for one worker, and has the bodies kept in files while they arrive.
-ghost use Rattle.std.specs.Prelude.{◌≡◌, ◌++◌, ◌∷◌, [], IfOk, OnErr, OnOk, option_map};
+ghost use Rattle.std.specs.Prelude.{◌≡◌, ◌++◌, ◌∷◌, [], IfOk, OnErr, OnOk};
 ghost use Rattle.fetcher.specs.Logs.{GainedAtMost};
 ghost use Rattle.fetcher.specs.declared.fetcher.Ask.TheVariants as ask;
 ghost use Rattle.part_keeper.specs.Parts.{holds_part};
 ghost use Rattle.retries.specs.Keeping.{MayKeep, asks_of, is_worth_answer};
 ghost use Rattle.retries.specs.Tries.{IsLastOf};
-ghost use Rattle.tcp_fetcher.specs.PartsFetching.{MayAnswerIn, MayRuleIn, PartsSite, parts_site, time_said};
+ghost use Rattle.tcp_fetcher.specs.PartsFetching.{MayAnswerIn, MayRuleIn, PartsSite, parts_site};
 
 use crate::over_tcp::OverTcp;
 use address::{Address, Origin};
 use early_names::EarlyRules;
 use fetcher::{Answer, Ask, Fetcher};
-use part_keeper::{Part, PartCounter, PartKeeper, PartsDir, lacks_descriptor, time_of};
+use part_keeper::{Part, PartCounter, PartKeeper, PartsDir};
 use response_answer::PageSink;
 use robots_rules::RuleSet;
 use run_failures::LossKind;
@@ -84,9 +84,10 @@ where
     ) -> PartsOverTcp<'a, R>
         ensures { result ≡ inner.entry }
     {
+        let keeper = PartKeeper::new(rt, alloc, parts, inner.takes_times());
         PartsOverTcp {
             inner,
-            sink: PageSink::new(alloc, PartKeeper::new(rt, alloc, parts)),
+            sink: PageSink::new(alloc, keeper),
             passing: PageSink::new(alloc, PartCounter::new()),
             rules,
             rt,
@@ -95,39 +96,9 @@ where
         }
     }
 
-    // Has the file of an answer, which is of the response that was taken last, say when its page changed, if that response says so. If
-    // it needs a descriptor, connections that wait are ended. What the system refuses is left: the file says when it was written.
-    fn date(&self, answer: &Result<Answer<Part>, AllocError>) {
-        let Ok(answer) = answer else {
-            return;
-        };
-        let Some(seconds) = time_said(self.inner.takes_times(), self.sink.last_modified()) else {
-            return;
-        };
-        let keeper = self.sink.keeper();
-        match keeper.date(&answer.body, seconds) {
-            Err(error) if lacks_descriptor(&error) => {
-                self.kept.end_waiting(self.rt);
-                let _ = keeper.date(&answer.body, seconds);
-            }
-            _ => {}
-        }
-    }
-
     /// Why the last connection was lost, if it was.
     pub fn loss(&self) -> Option<LossKind> {
         self.inner.loss()
-    }
-}
-
-// The time that the file of a page gets whose response says this, if it gets one.
-fn time_said(takes_times: bool, last_modified: Option<&[u8]>) -> Option<u64>
-    ensures { result ≡ time_said takes_times (option_map (λ value. value.now) last_modified.entry) }
-{
-    if takes_times {
-        time_of(last_modified?)
-    } else {
-        None
     }
 }
 
@@ -181,7 +152,6 @@ where
             return self.inner.ask_into(&mut self.passing, at);
         }
         let answer = self.inner.ask_into(&mut self.sink, at);
-        self.date(&answer);
         write_late(self.rt, self.kept, self.parts);
         answer
     }
