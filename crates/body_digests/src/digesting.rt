@@ -1,6 +1,6 @@
-//! A keeper that knows the digest of the body that it kept last.
-ghost use Rattle.std.specs.Prelude.{◌≡◌, ◌++◌, ℕ, List, [], None, OnOk, IfOk, true};
-ghost use Rattle.body_digests.specs.Digests.{IsDigested, known_digest};
+//! A keeper that computes the digests of the bodies that it keeps.
+ghost use Rattle.std.specs.Prelude.{◌≡◌, ◌++◌, ℕ, List, [], IfOk, OnOk};
+ghost use Rattle.body_digests.specs.Digests.{HoldsDigested, IsDigested, known_digest};
 
 use kept_bodies::{BodyKind, Keeper};
 use sha2::{Digest, Sha256};
@@ -8,22 +8,29 @@ use std::alloc::AllocError;
 use std::marker::Model;
 use std::mem;
 
+/// A body that was kept, with its SHA-256, if digests are computed and there is a body.
+#[derive(Drop)]
+pub struct Digested<T> {
+    /// The body, as it is kept.
+    pub kept: T,
+    /// The SHA-256 of its bytes.
+    pub digest: Option<[u8; 32]>,
+}
+
 /// Keeps bodies by another keeper, and computes their digests on the way if it is to.
 #[derive(Drop)]
 pub struct Digesting<K: Keeper> {
     inner: K,
     is_digesting: bool,
     hasher: Sha256,
-    // Of the body that was finished last.
-    last: Option<[u8; 32]>,
 }
 
 impl<K: Keeper> Model for Digesting<K> {
-    ghost use Rattle.body_digests.specs.Digests.{Digested};
+    ghost use Rattle.body_digests.specs.Digests.{DigestState};
 
-    ghost Value = { Digested K };
+    ghost Value = { DigestState K };
 
-    ghost view = { λ d. record { inner = d.inner; is_digesting = d.is_digesting; hasher = d.hasher; last = d.last } };
+    ghost view = { λ d. record { inner = d.inner; is_digesting = d.is_digesting; hasher = d.hasher } };
 }
 
 impl<K: Keeper> Digesting<K> {
@@ -31,13 +38,11 @@ impl<K: Keeper> Digesting<K> {
     pub fn new(inner: K, is_digesting: bool) -> Digesting<K>
         ensures inner { result.inner ≡ inner }
         ensures is_digesting { result.is_digesting ≡ is_digesting }
-        ensures last { result.last ≡ None }
     {
         Digesting {
             inner,
             is_digesting,
             hasher: Sha256::new(),
-            last: None,
         }
     }
 
@@ -47,29 +52,21 @@ impl<K: Keeper> Digesting<K> {
     {
         &self.inner
     }
-
-    /// The digest of the body that was finished last, if digests are computed and no body was begun since.
-    pub fn last(&self) -> Option<[u8; 32]>
-        ensures { result ≡ self.now.last }
-    {
-        self.last
-    }
 }
 
 impl<K: Keeper> Keeper for Digesting<K> {
-    type Kept = K::Kept;
+    type Kept = Digested<K::Kept>;
 
-    ghost holds = { K.holds };
+    // The digest, if there is one, is that of the body.
+    ghost holds = { HoldsDigested K.holds };
 
     ghost begun = { λ keeper bytes. IsDigested K.begun keeper bytes };
 
     fn begin(&mut self)
         ensures begun { IsDigested K.begun self.new [] }
-        ensures last { self.new.last ≡ None }
         ensures is_digesting { self.new.is_digesting ≡ self.old.is_digesting }
     {
         self.hasher = Sha256::new();
-        self.last = None;
         self.inner.begin();
     }
 
@@ -83,23 +80,24 @@ impl<K: Keeper> Keeper for Digesting<K> {
         self.inner.add(piece)
     }
 
-    fn finish(&mut self, kind: BodyKind) -> Result<K::Kept, AllocError>
-        ensures kept { IfOk result (λ kept. (bytes : List ℕ) → IsDigested K.begun self.old bytes → K.holds kept (record { kind = kind; bytes = bytes })) }
-        // The digest is that of the body which was kept.
-        ensures last { (bytes : List ℕ) → IsDigested K.begun self.old bytes → self.new.last ≡ known_digest self.old.is_digesting bytes }
+    fn finish(&mut self, kind: BodyKind) -> Result<Digested<K::Kept>, AllocError>
+        ensures kept { IfOk result (λ d. (bytes : List ℕ) → IsDigested K.begun self.old bytes → HoldsDigested K.holds d (record { kind = kind; bytes = bytes })) }
+        // The digest of what was added is known exactly if digests are computed.
+        ensures digest { IfOk result (λ d. (bytes : List ℕ) → IsDigested K.begun self.old bytes → d.digest ≡ known_digest self.old.is_digesting bytes) }
         ensures is_digesting { self.new.is_digesting ≡ self.old.is_digesting }
     {
-        self.last = if self.is_digesting {
+        let digest = if self.is_digesting {
             let hasher = mem::replace(&mut self.hasher, Sha256::new());
             Some(hasher.finalize())
         } else {
             None
         };
-        self.inner.finish(kind)
+        let kept = self.inner.finish(kind)?;
+        Ok(Digested { kept, digest })
     }
 
-    fn empty(&mut self) -> Result<K::Kept, AllocError> {
-        self.last = None;
-        self.inner.empty()
+    fn empty(&mut self) -> Result<Digested<K::Kept>, AllocError> {
+        let kept = self.inner.empty()?;
+        Ok(Digested { kept, digest: None })
     }
 }

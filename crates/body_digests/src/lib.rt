@@ -4,4 +4,4 @@
 
 mod digesting;
 
-pub use crate::digesting::Digesting;
+pub use crate::digesting::{Digested, Digesting};
