@@ -2,6 +2,7 @@
 ghost use Rattle.std.specs.Prelude.{◌≡◌, length};
 
 use crate::early_run::EarlyRun;
+use crate::index_run::{INDEX, IndexRun};
 use crate::part_threads::PartThreads;
 use crate::shared_failures::SharedFailures;
 use address::Address;
@@ -34,6 +35,7 @@ pub struct Disk<'a, R: Net + Files + Wait> {
     pub(crate) parts: &'a PartsDir<R::File>,
     pub(crate) alloc: Global,
     pub(crate) early: &'a EarlyRun,
+    pub(crate) index: &'a IndexRun,
     pub(crate) failures: &'a SharedFailures,
     // Whether bodies are kept, as they came, beside files whose links change.
     pub(crate) keeps_originals: bool,
@@ -50,6 +52,7 @@ impl<'a, R: Net + Files + Wait> Drop for Disk<'a, R> {
             parts: _parts,
             alloc: _alloc,
             early: _early,
+            index: _index,
             failures: _failures,
             keeps_originals: _keeps_originals,
         } = self;
@@ -146,6 +149,16 @@ where
                     part,
                 );
             }
+        }
+    }
+
+    // Writes the index of these pages, if one is kept.
+    fn end_index(&self, names: &[String], harvest: &Harvest<Part>) {
+        let Ok(folder) = self.parts.folder(self.rt) else {
+            return;
+        };
+        if let Err(error) = self.index.end(self.rt, folder.as_str(), names, harvest) {
+            self.failures.fail(self.rt, INDEX, &error);
         }
     }
 
@@ -246,7 +259,9 @@ where
     fn put_harvest(&mut self, names: &[String], harvest: &Harvest<Part>) -> Result<(), WriteFault> {
         self.take_parts();
         self.take_back(names, harvest);
-        put_parts(self, names, harvest)
+        let put = put_parts(self, names, harvest);
+        self.end_index(names, harvest);
+        put
     }
 
     fn put_changed_kept<C: BodyChange>(
@@ -282,6 +297,7 @@ where
         }
         let put = put_changed_parts(self, names, harvest, change);
         self.inner.end_puts();
+        self.end_index(names, harvest);
         put
     }
 }

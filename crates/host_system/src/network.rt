@@ -2,6 +2,7 @@
 use crate::asking::Asking;
 use crate::disk::{Disk, Saved};
 use crate::early_run::EarlyRun;
+use crate::index_run::IndexRun;
 use crate::part_threads::PartThreads;
 use crate::parts_asking::PartsAsking;
 use crate::shared_failures::SharedFailures;
@@ -35,6 +36,7 @@ pub struct Network<'a, R: Net + Wait + Files + Clock + Eprint> {
     crew: &'a PartThreads<'a, R>,
     parts: &'a PartsDir<R::File>,
     early: &'a EarlyRun,
+    index: &'a IndexRun,
     failures: &'a SharedFailures,
     jar: Option<Jar>,
 }
@@ -56,6 +58,7 @@ impl<'a, R: Net + Wait + Files + Clock + Eprint> Network<'a, R> {
         crew: &'a PartThreads<'a, R>,
         parts: &'a PartsDir<R::File>,
         early: &'a EarlyRun,
+        index: &'a IndexRun,
         failures: &'a SharedFailures,
         jar: Option<Jar>,
     ) -> Network<'a, R> {
@@ -69,6 +72,7 @@ impl<'a, R: Net + Wait + Files + Clock + Eprint> Network<'a, R> {
             crew,
             parts,
             early,
+            index,
             failures,
             jar,
         }
@@ -145,12 +149,21 @@ where
         let fetcher = self.over_tcp(settings)?;
         let kept = self.early.rules(self.rt);
         Ok(PartsAsking {
-            inner: PartsOverTcp::new(self.rt, self.alloc, fetcher, self.kept, self.parts, kept),
+            inner: PartsOverTcp::new(
+                self.rt,
+                self.alloc,
+                fetcher,
+                self.kept,
+                self.parts,
+                kept,
+                self.index.earlier(self.rt),
+            ),
             rt: self.rt,
             alloc: self.alloc,
             failures: self.failures,
             parts: self.parts,
             early: self.early,
+            index: self.index,
             rules: self.early.rules(self.rt),
             folder: None,
         })
@@ -190,6 +203,10 @@ where
         self.early.begin(self.rt, rules)
     }
 
+    fn begin_index(&self, path: &str, is_asked: bool) -> Result<(), AllocError> {
+        self.index.begin(self.rt, path, is_asked)
+    }
+
     fn fetcher(&self, settings: FetcherSettings) -> Result<PartsAsking<'a, R>, AllocError> {
         self.parts_asking(settings)
     }
@@ -217,6 +234,7 @@ where
                 parts: self.parts,
                 alloc: self.alloc,
                 early: self.early,
+                index: self.index,
                 failures: self.failures,
                 keeps_originals,
             }),

@@ -1,5 +1,6 @@
 //! What asks the site for one worker and has bodies kept in parts while they arrive.
 use crate::early_run::EarlyRun;
+use crate::index_run::IndexRun;
 use crate::shared_failures::SharedFailures;
 use address::{Address, Origin};
 use early_names::{EarlyRules, is_early};
@@ -27,6 +28,7 @@ where
     pub(crate) failures: &'a SharedFailures,
     pub(crate) parts: &'a PartsDir<R::File>,
     pub(crate) early: &'a EarlyRun,
+    pub(crate) index: &'a IndexRun,
     pub(crate) rules: Option<Arc<EarlyRules>>,
     // None before a page was named.
     pub(crate) folder: Option<DiskFolder<'a, R>>,
@@ -45,6 +47,7 @@ where
             failures: _failures,
             parts: _parts,
             early: _early,
+            index: _index,
             rules: _rules,
             folder: _folder,
         } = self;
@@ -133,6 +136,13 @@ where
         }
     }
 
+    // Notes a page for the index, if one is kept and its body is. If there is no memory for it, the next run requests it without a condition.
+    fn note_kept(&self, at: &Address, answer: &Answer<Part>) {
+        if let Ok(Some(note)) = self.inner.note(at, answer) {
+            self.index.note(self.rt, note);
+        }
+    }
+
     // Keeps that the last connection was lost, which was to request this origin's robots file.
     fn note_robots(&self, of: &Origin) {
         if let Some(kind) = self.inner.loss() {
@@ -160,8 +170,10 @@ where
     ghost log = { λ f. f.inner.asks };
 
     fn ask(&mut self, at: &Address) -> Result<Answer<Part>, AllocError> {
-        let Answer { outcome, body } = self.inner.ask(at)?;
+        let answer = self.inner.ask(at)?;
         self.note_page(at);
+        self.note_kept(at, &answer);
+        let Answer { outcome, body } = answer;
         let body = self.named(at, body);
         Ok(Answer { outcome, body })
     }

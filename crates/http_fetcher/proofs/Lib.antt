@@ -4,3 +4,4 @@ pub mod MeaningLaws
 pub mod KeptLemmas
 pub mod ExitLemmas
 pub mod GivenUpLemmas
+pub mod UnaskedLaws

@@ -1,9 +1,10 @@
 -- What contracts see of a fetcher that asks over connections, and how its answers come.
-use Rattle.std.specs.Prelude.{◌≡◌, ◌⊎◌, ◌==◌, ℕ, Bool, true, false, List, Option, Some, None}
+use Rattle.std.specs.Prelude.{◌≡◌, ◌⊎◌, ◌==◌, ℕ, Bool, true, false, List, Option, Some, None, option_map}
 use Rattle.std.specs.Io.KnownBytes.{Appends, IsAtEnd, Keeps}
 use Rattle.address.specs.Address.{AddressText, OriginText, origin_of}
 use Rattle.response_reader.specs.Wire.{HasRisen, IsLostInTime, OfBytes, counted}
 use Rattle.response_reader.specs.Request.{request_text, kept_request_text}
+use Rattle.requests.specs.Conditions.{Condition}
 use Rattle.requests.specs.Requests.{Sending, request_of}
 use Rattle.response_reader.specs.Reusable.{Reusable}
 use Rattle.response_reader.specs.Limits.{Limited}
@@ -37,6 +38,10 @@ pub record Fetching (C : Type 0) : Type 0 where
   pub asks : List Ask
   pub is_recording : Bool
   pub notes : List Noted
+
+-- what is sent, with this condition; the usual fields have none
+abbrev pub with_condition : Option Condition → Option Sending → Option Sending
+with_condition condition sends = option_map (λ (s : Sending). record s { condition = condition }) sends
 
 -- an address that is asked for, which links of a page are taken, whether the connection is to be kept, what is sent, and how long the
 -- response may be

@@ -6,6 +6,7 @@ use Rattle.response_reader.specs.Limits.{Limited, standard}
 use Rattle.response_reader.specs.ReadFaults.{IsReadFault}
 use Rattle.response_reader.specs.declared.fault.ReadFault.{ReadFault}
 use Rattle.kept_bodies.specs.Bodies.{BodyValue, no_body}
+use Rattle.fetcher.specs.declared.answer.Answer.{Answer}
 use Rattle.fetcher.specs.declared.fault_kind.FaultKind.{FaultKind}
 use Rattle.fetcher.specs.declared.fault_kind.FaultKind.TheVariants as kind
 use Rattle.fetcher.specs.declared.outcome.Outcome.{Outcome}
@@ -24,6 +25,11 @@ IsNoResponse kind x body = (x ≡ Fault kind) × (body ≡ no_body)
 abbrev pub IsUnread : Limited → Outcome → BodyValue → List ℕ → Type 0
 IsUnread limits x body bytes =
     (fault : ReadFault) × (kind : FaultKind) × (kind_of_fault fault ≡ Some kind) × IsReadFault limits fault bytes × IsNoResponse kind x body
+
+-- the answer is what the bytes say, read as a response within these limits: that of the response with which they begin, or the fault by which
+-- none was read
+abbrev pub IsSaidBy : Limited → LinkRules → AddressText → Answer BodyValue → List ℕ → Type 0
+IsSaidBy limits links at answer bytes = IsDigestOf limits links at answer.outcome answer.body bytes ⊎ IsUnread limits answer.outcome answer.body bytes
 
 -- what a site may answer for an address within these limits, if these links of pages are taken: what the response that begins some bytes answers,
 -- or the fault of such bytes; or no connection was made, or the request wasn't written

@@ -19,18 +19,19 @@ ghost use Rattle.answer_notes.specs.declared.told.Told.TheVariants as told;
 ghost use Rattle.fetcher.specs.declared.outcome.Outcome.TheVariants as outcome;
 ghost use Rattle.http_fetcher.specs.Chains.{CountsHops, IsChain};
 ghost use Rattle.connect.specs.Connects.{Stays};
-ghost use Rattle.http_fetcher.specs.Fetching.{AnswersBytes, ComesOver, IsGiven, IsToldAgain, IsToldAnew, IsToldByTries, IsUnansweredOn, IsUntold, LeavesUsable, StandsBehind, StandsBy, StandsForOne, answer_told, is_given_up, question_of, request_by, usual_request};
+ghost use Rattle.http_fetcher.specs.Fetching.{AnswersBytes, ComesOver, IsGiven, IsToldAgain, IsToldAnew, IsToldByTries, IsUnansweredOn, IsUntold, LeavesUsable, StandsBehind, StandsBy, StandsForOne, answer_told, is_given_up, question_of, request_by, usual_request, with_condition};
 ghost use Rattle.http_fetcher.specs.Notes.{NotesPage, NotesChain};
 ghost use Rattle.http_fetcher.specs.Meanings.{MayAnswer, MayAnswerWithin, MayRule};
 
 use crate::chain::{Hop, read_hop};
+use crate::unasked::unread;
 use address::{Address, Origin};
 use answer_notes::{Given, Hops, MAX_REDIRECTS, Noted, Recording, Telling, Told};
 use connect::{Connect, ConnectFault};
 use fetcher::{Answer, Ask, Body, FaultKind, Fetcher, Outcome};
 use html_links::LinkRules;
 use kept_bodies::Keeper;
-use requests::{SendFault, Sending};
+use requests::{Condition, SendFault, Sending};
 use response_answer::{PageSink, kind_of_fault};
 use response_reader::{
     Limits, ReadFault, Reply, RequestFault, Room, Wire, read_if_any, read_into, read_reply,
@@ -238,6 +239,16 @@ impl<C: Connect> HttpFetcher<C> {
             is_recording,
             notes,
             room,
+        }
+    }
+
+    /// From here on the request for the page of this condition has it (RFC 9110, section 13.1), and no other request has one. A fetcher
+    /// that sends the usual fields sends none. Takes no memory.
+    pub fn set_condition(&mut self, condition: Option<Condition>)
+        ensures { self.new ≡ record self.old { sends = with_condition condition self.old.sends } }
+    {
+        if let Some(sends) = &mut self.sends {
+            sends.set_condition(condition);
         }
     }
 
@@ -607,13 +618,11 @@ impl<C: Connect> HttpFetcher<C> {
         ensures told { IfOk result (λ h. (kind : FaultKind) × (kind_of_fault fault ≡ Some kind) × (h.answer.outcome ≡ outcome.Fault kind) × K.holds h.answer.body no_body) }
         ensures serves { IfOk result (λ h. h.serves ≡ false) }
     {
-        match kind_of_fault(fault) {
-            Some(kind) => Ok(HeardPage {
-                answer: sink.fault(kind)?,
-                serves: false,
-            }),
-            None => Err(AllocError),
-        }
+        let answer = unread(fault, sink)?;
+        Ok(HeardPage {
+            answer,
+            serves: false,
+        })
     }
 
     // What comes over a wire for a page, once the request was written. Fails only if memory runs out.

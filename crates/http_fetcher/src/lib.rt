@@ -5,6 +5,8 @@
 
 mod chain;
 mod http_fetcher;
+mod unasked;
 
 pub use crate::http_fetcher::HttpFetcher;
+pub use crate::unasked::answer_over;
 pub use connect::{Connect, ConnectFault};

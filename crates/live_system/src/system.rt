@@ -95,6 +95,13 @@ pub trait System {
         Ok(())
     }
 
+    /// From now on an index of what is kept is kept below the folder at this path, for the next run. The pages that the one which is there
+    /// has, and whose files are as they were, are requested only to see if they changed, or, if `_is_asked` isn't set, not at all. The
+    /// error is that memory ran out.
+    fn begin_index(&self, _path: &str, _is_asked: bool) -> Result<(), AllocError> {
+        Ok(())
+    }
+
     /// A fetcher for one more worker, with these settings. The error is that memory ran out.
     fn fetcher(&self, settings: FetcherSettings) -> Result<Self::Fetcher, AllocError>
         ensures { IfOk result (λ fetcher. makes self.now settings fetcher) };

@@ -18,9 +18,9 @@ use std::alloc::{AllocError, Global};
 /// The most bytes of a segment of a name; an added number isn't counted.
 pub const MAX_SEGMENT: usize = 200;
 
-/// How a folder begins the name of a part: of what it writes directly below itself, and which gets a page's name when it is whole.
-/// No page has a name that begins so.
-pub const PART: &str = ".wgetr%part";
+/// How the name of what a run has of its own begins, directly below the folder: of parts, which get a page's name when they are whole,
+/// and of the index of a mirror. No page has a name that begins so.
+pub const PART: &str = ".wgetr%";
 
 // The text with its escapes decoded.
 fn decoded(alloc: Global, text: &[u8]) -> Result<Vec<u8>, AllocError>

@@ -29,6 +29,8 @@ pub struct PageSink<K: Keeper> {
     alloc: Global,
     stage: Stage,
     kind: BodyKind,
+    // Its media type, in the words of its head.
+    content_type: Option<Vec<u8>>,
     // How long the server wants to be left alone, in the words of its head.
     retry_after: Option<Vec<u8>>,
     // When the page changed, and the tag of its version, in the words of its head.
@@ -44,7 +46,7 @@ impl<K: Keeper> Model for PageSink<K> {
 
     ghost Value = { Sinking K };
 
-    ghost view = { λ s. record { stage = s.stage; kind = s.kind; retry_after = option_map vec_items s.retry_after; last_modified = option_map vec_items s.last_modified; etag = option_map vec_items s.etag; keeper = s.keeper; failed = s.failed } };
+    ghost view = { λ s. record { stage = s.stage; kind = s.kind; content_type = option_map vec_items s.content_type; retry_after = option_map vec_items s.retry_after; last_modified = option_map vec_items s.last_modified; etag = option_map vec_items s.etag; keeper = s.keeper; failed = s.failed } };
 }
 
 // The bytes of a field's value, if there is one.
@@ -74,6 +76,7 @@ impl<K: Keeper> PageSink<K> {
             alloc,
             stage: Stage::Fresh,
             kind: BodyKind::Other,
+            content_type: None,
             retry_after: None,
             last_modified: None,
             etag: None,
@@ -97,6 +100,14 @@ impl<K: Keeper> PageSink<K> {
         bytes_of(&self.retry_after)
     }
 
+    /// The value of the `Content-Type` of the response that was taken last (RFC 9110, section 8.3), if it has one, under the same
+    /// conditions.
+    pub fn content_type(&self) -> Option<&[u8]>
+        ensures { option_map (λ value. value.now) result ≡ self.now.content_type }
+    {
+        bytes_of(&self.content_type)
+    }
+
     /// The value of the `Last-Modified` of the response that was taken last (RFC 9110, section 8.8.2), if it has one, under the same
     /// conditions.
     pub fn last_modified(&self) -> Option<&[u8]>
@@ -117,6 +128,7 @@ impl<K: Keeper> PageSink<K> {
         ensures { HasSunk K.begun self.new None [] }
     {
         self.stage = Stage::Fresh;
+        self.content_type = None;
         self.retry_after = None;
         self.last_modified = None;
         self.etag = None;
@@ -128,6 +140,7 @@ impl<K: Keeper> PageSink<K> {
     fn take_head(&mut self, head: &Head) -> Result<(), AllocError>
         ensures stage { OnOk result (IsStageOf (head_parts head.now) [] self.new.stage) }
         ensures kind { OnOk result (self.new.kind ≡ kind_of (head_parts head.now)) }
+        ensures content_type { OnOk result (self.new.content_type ≡ (head_parts head.now).content_type) }
         ensures retry_after { OnOk result (self.new.retry_after ≡ (head_parts head.now).retry_after) }
         ensures last_modified { OnOk result (self.new.last_modified ≡ (head_parts head.now).last_modified) }
         ensures etag { OnOk result (self.new.etag ≡ (head_parts head.now).etag) }
@@ -145,6 +158,7 @@ impl<K: Keeper> PageSink<K> {
         };
         self.stage = Stage::of(self.alloc, &fields)?;
         self.kind = kind_of(&fields);
+        self.content_type = copy_of(self.alloc, &head.content_type)?;
         self.retry_after = copy_of(self.alloc, &head.retry_after)?;
         self.last_modified = copy_of(self.alloc, &head.last_modified)?;
         self.etag = copy_of(self.alloc, &head.etag)?;
@@ -167,6 +181,7 @@ impl<K: Keeper> PageSink<K> {
     fn finish_body(&mut self) -> Result<K::Kept, AllocError>
         ensures body { IfOk result (λ kept. (h : HeadParts) (body : List ℕ) → HasSunk K.begun self.old (Some h) body → K.holds kept (body_of h body)) }
         ensures stage { self.new.stage ≡ self.old.stage }
+        ensures content_type { self.new.content_type ≡ self.old.content_type }
         ensures retry_after { self.new.retry_after ≡ self.old.retry_after }
         ensures last_modified { self.new.last_modified ≡ self.old.last_modified }
         ensures etag { self.new.etag ≡ self.old.etag }
@@ -182,10 +197,12 @@ impl<K: Keeper> PageSink<K> {
     pub fn fault(&mut self, kind: FaultKind) -> Result<Answer<K::Kept>, AllocError>
         ensures outcome { IfOk result (λ a. a.outcome ≡ outcome.Fault kind) }
         ensures body { IfOk result (λ a. K.holds a.body no_body) }
+        ensures content_type { self.new.content_type ≡ None }
         ensures retry_after { self.new.retry_after ≡ None }
         ensures last_modified { self.new.last_modified ≡ None }
         ensures etag { self.new.etag ≡ None }
     {
+        self.content_type = None;
         self.retry_after = None;
         self.last_modified = None;
         self.etag = None;
@@ -204,6 +221,7 @@ impl<K: Keeper> PageSink<K> {
             → a.outcome ≡ digest_of rules at.now (record { head = h; body = body })) }
         ensures body { IfOk result (λ a. (h : HeadParts) (body : List ℕ) → HasSunk K.begun self.old (Some h) body
             → K.holds a.body (body_of h body)) }
+        ensures content_type { self.new.content_type ≡ self.old.content_type }
         ensures retry_after { self.new.retry_after ≡ self.old.retry_after }
         ensures last_modified { self.new.last_modified ≡ self.old.last_modified }
         ensures etag { self.new.etag ≡ self.old.etag }

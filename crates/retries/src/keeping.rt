@@ -28,6 +28,8 @@ pub fn ask_into<C: CallingConnect, K: Keeper>(
     limits: Limits,
 ) -> Result<Answer<K::Kept>, AllocError>
     ensures links { inner.new.links ≡ inner.old.links }
+    // Each try has the condition, if there is one.
+    ensures sends { inner.new.sends ≡ inner.old.sends }
     ensures told { IfOk result (MayKeep K.holds (limited limits) at.now inner.old) }
     ensures tries { IfOk result (IsLastOf asks_of (MayKeep K.holds (limited limits) at.now) (is_worth_answer (retries_by retries.now)) (ask.Page at.now) retries.now.most inner.old inner.new) }
 {

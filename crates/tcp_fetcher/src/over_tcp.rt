@@ -5,6 +5,7 @@ ghost use Rattle.fetcher.specs.declared.fetcher.Ask.TheVariants as ask;
 ghost use Rattle.answer_notes.specs.HopChains.{ChainValue, rules_of_hops};
 ghost use Rattle.answer_notes.specs.Tellings.{outcome_told, body_told};
 ghost use Rattle.answer_notes.specs.declared.told.Told.{Told};
+ghost use Rattle.http_fetcher.specs.Fetching.{with_condition};
 ghost use Rattle.http_fetcher.specs.Meanings.{MayAnswer, MayRule};
 ghost use Rattle.retries.specs.Keeping.{MayKeep, StandsForAnswer, asks_of, is_worth_answer};
 ghost use Rattle.retries.specs.Tries.{IsLastOf};
@@ -19,7 +20,7 @@ use http_fetcher::HttpFetcher;
 use kept_bodies::Keeper;
 use pacing::{Manner, Retries};
 use progress::Progress;
-use requests::{Proxies, Sending};
+use requests::{Condition, Proxies, Sending};
 use response_answer::PageSink;
 use response_reader::Limits;
 use retries::Calling;
@@ -123,11 +124,35 @@ impl<'a, R: Net + Wait + Clock + Eprint> OverTcp<'a, R> {
         }
     }
 
+    /// From here on the request for the page of this condition has it (RFC 9110, section 13.1), each try of it, and no other request has
+    /// one. Takes no memory.
+    pub fn set_condition(&mut self, condition: Option<Condition>)
+        ensures { self.new ≡ record self.old { sends = with_condition condition self.old.sends; single = record self.old.single { sends = with_condition condition self.old.single.sends } } }
+    {
+        self.inner.set_condition(condition);
+    }
+
     // Whether the file of a page gets the time at which that changed.
     pub(crate) fn takes_times(&self) -> bool
         ensures { result ≡ self.now.takes_times }
     {
         self.takes_times
+    }
+
+    // How long an answer may be whose body goes to a keeper.
+    pub(crate) fn limits(&self) -> Limits
+        ensures { limited result ≡ self.now.limits }
+    {
+        self.limits
+    }
+
+    // Notes that a page is requested, whose answer is known without the network.
+    pub(crate) fn note_ask(&mut self, at: &Address) -> Result<(), AllocError>
+        ensures asked { OnOk result (self.new ≡ record self.old { asks = self.old.asks ++ ask.Page at.now ∷ [] }) }
+        ensures refused { OnErr result (self.new ≡ self.old) }
+    {
+        self.asks.push(Ask::Page(at.try_clone()?))?;
+        Ok(())
     }
 
     /// Why the last connection was lost, if it was.
@@ -189,6 +214,7 @@ impl<'a, R: Net + Wait + Clock + Eprint> OverTcp<'a, R> {
         ensures retries { self.new.retries ≡ self.old.retries }
         ensures limits { self.new.limits ≡ self.old.limits }
         ensures takes_times { self.new.takes_times ≡ self.old.takes_times }
+        ensures sends { self.new.sends ≡ self.old.sends }
     {
         self.asks.push(Ask::Page(at.try_clone()?))?;
         retries::ask_into(&mut self.inner, sink, &self.retries, at, self.limits)

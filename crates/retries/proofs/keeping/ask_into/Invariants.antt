@@ -10,6 +10,7 @@ use Rattle.retries.proofs.keeping.ask_into.Given as goal
 abbrev pub invariant-loop-made : goal.invariant-loop-made
 invariant-loop-made g l = record {
   links : l.inner.links ≡ l.fn.inner.links;
+  sends : l.inner.sends ≡ l.fn.inner.sends;
   told : MayKeep g.K.Keeper.holds (limited l.limits) l.at l.fn.inner l.answer;
   tries : TriesSoFar asks_of (MayKeep g.K.Keeper.holds (limited l.limits) l.at) (is_worth_answer (retries_by l.retries)) (ask.Page l.at) l.made l.fn.inner l.inner l.answer;
 }

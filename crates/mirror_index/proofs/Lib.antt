@@ -1,0 +1,6 @@
+pub mod CutLaws
+pub mod EntryLaws
+pub mod FieldLaws
+pub mod IndexLaws
+pub mod ReadLaws
+pub mod StepLaws

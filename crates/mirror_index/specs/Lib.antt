@@ -1,0 +1,4 @@
+pub mod Cuts
+pub mod Entries
+pub mod Indexes
+pub mod inner

@@ -1,0 +1,2 @@
+-- Definitions that proofs alone need: no public clause cites them.
+pub mod Steps

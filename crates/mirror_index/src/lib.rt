@@ -1,0 +1,21 @@
+//! The index of a mirror that is kept up to date: which pages are kept, in which files, and what was said of them. It is a text of
+//! lines, of which nothing is trusted: it is taken whole or not at all, and whether a file is still the one that was written is
+//! seen by its length and digest. The meaning is in `specs/`.
+//!
+//! ```
+//! index.add(alloc, Entry::new(address, name, size, digest, head))?; // in the order of the addresses
+//! write_index(alloc, &mut file, &index)?;
+//! let index = MirrorIndex::read(alloc, bytes)?;
+//! let entry = index.entry(&address);
+//! ```
+#![tactic(auto)]
+
+mod cut;
+mod entry;
+mod index;
+mod line;
+mod reading;
+
+pub use crate::entry::{Entry, KeptHead, MAX_LINE, digest_of};
+pub use crate::index::{MAX_ENTRIES, MirrorIndex};
+pub use crate::reading::{IndexFault, MAX_INDEX, WriteFault, read_index, write_index};
